@@ -1,0 +1,18 @@
+//! A place to hold workers up.
+
+/// What a worker passes between taking a task and handing its result in. It answers nothing, so no
+/// promise depends on it: tests hold workers here to force an order.
+///
+/// - Rule: docs/DEFINITIONS.md, "Shelves, sinks and gates".
+pub trait Gate: Sync {
+    /// - Takes: the worker's number, and how many tasks it took before this one, both from 0.
+    fn pass(&self, worker: u32, turn: u64);
+}
+
+/// A gate that holds nobody.
+#[derive(Clone, Copy, Debug)]
+pub struct NoGate;
+
+impl Gate for NoGate {
+    fn pass(&self, _worker: u32, _turn: u64) {}
+}
