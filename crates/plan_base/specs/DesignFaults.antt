@@ -1,0 +1,75 @@
+-- What is wrong with a design, in the order in which it is looked for.
+use Rattle.std.specs.Prelude.{ℕ, ◌*◌, Bool, not, ◌&&◌, ◌||◌, List, length, take, Option, nat_lt, ◌==◌, slice_index}
+use Rattle.std.specs.List.{list_any}
+use Rattle.plan_base.specs.declared.ids.NodeId.{NodeId}
+use Rattle.plan_base.specs.declared.ids.ArcId.{ArcId}
+use Rattle.plan_base.specs.declared.ids.LinkId.{LinkId}
+use Rattle.plan_base.specs.declared.ids.DemandId.{DemandId}
+use Rattle.plan_base.specs.declared.parts.Module.{Module}
+use Rattle.plan_base.specs.declared.parts.Link.{Link}
+use Rattle.plan_base.specs.declared.parts.Demand.{Demand}
+use Rattle.plan_base.specs.declared.parts.Parts.{Parts}
+use Rattle.plan_base.specs.declared.path.Design.{Design}
+use Rattle.plan_base.specs.declared.design_fault.DesignFault.{DesignFault}
+use Rattle.plan_base.specs.declared.design_fault.DesignFault.TheVariants.{WrongCount, NotAPath, Repeats, CountShape, Short}
+use Rattle.plan_base.specs.declared.limits.TheConstants.{MAX_COUNT, MAX_COUNT_COST}
+use Rattle.plan_base.specs.First.{◌or_else◌, when, first_fault, first_in}
+use Rattle.plan_base.specs.Faults.{link_id, demand_id}
+use Rattle.plan_base.specs.Arcs.{is_arc, tail_of, head_of, demand_at, link_at}
+use Rattle.plan_base.specs.Paths.{node_at}
+use Rattle.plan_base.specs.Designs.{path_at, counts_at, load_on, capacity_with}
+
+-- the walk from the source along these arcs has met the node
+abbrev pub has_met : Parts → NodeId → List ArcId → NodeId → Bool
+has_met p source arcs node = source.0 == node.0 || list_any (λ a. is_arc p a && ((head_of p a).0 == node.0)) arcs
+
+-- what is wrong with the arc at a place of a path
+unfoldable pub step_fault : Parts → DemandId → NodeId → List ArcId → ℕ → ArcId → Option DesignFault
+step_fault p id source arcs i a =
+    when (not (is_arc p a && ((tail_of p a).0 == node_at p source arcs i))) (NotAPath id i)
+    or_else when (has_met p source (take i arcs) (head_of p a)) (Repeats id i)
+
+-- what is wrong with a path of a demand: the first bad arc, or that it ends elsewhere than at the target
+unfoldable pub path_fault : Parts → DemandId → Demand → List ArcId → Option DesignFault
+path_fault p id k arcs =
+    first_in (step_fault p id k.source arcs) arcs
+    or_else when (not (node_at p k.source arcs (length arcs) == k.target.0)) (NotAPath id (length arcs))
+
+-- a count, or its cost, is too large
+abbrev pub is_past_shape : ℕ → ℕ → Bool
+is_past_shape count cost = nat_lt MAX_COUNT count || nat_lt MAX_COUNT_COST (count * cost)
+
+-- what is wrong with the count of a module
+abbrev pub count_fault : LinkId → List ℕ → ℕ → Module → Option DesignFault
+count_fault id counts m module_ = when (is_past_shape (slice_index counts m) module_.cost) (CountShape id)
+
+-- what is wrong with the counts of a link's modules
+unfoldable pub counts_fault : LinkId → Link → List ℕ → Option DesignFault
+counts_fault id l counts =
+    when (not (length counts == length l.modules)) (CountShape id)
+    or_else first_in (count_fault id counts) l.modules
+
+-- the load, in load grains, is above the capacity
+abbrev pub load_fault : LinkId → ℕ → ℕ → Option DesignFault
+load_fault id load capacity = when (nat_lt capacity load) (Short id load capacity)
+
+-- what is wrong with a link: its counts, or else its load
+unfoldable pub carries_fault : Parts → Design → ℕ → Option DesignFault
+carries_fault p d e =
+    counts_fault (link_id e) (link_at p e) (counts_at d e)
+    or_else load_fault (link_id e) (load_on p d e) (capacity_with (link_at p e) (counts_at d e))
+
+-- there is not one path for each demand and one list of counts for each link
+abbrev pub wrong_count : Parts → Design → Option DesignFault
+wrong_count p d = when (not (length d.paths == length p.demands && (length d.counts == length p.links))) WrongCount
+
+-- what is wrong with the path of the demand of this number
+abbrev pub demand_path_fault : Parts → Design → ℕ → Option DesignFault
+demand_path_fault p d k = path_fault p (demand_id k) (demand_at p k) (path_at d k)
+
+-- the first fault: the counts of lists, then each demand's path, then each link's modules and load
+unfoldable pub design_fault : Parts → Design → Option DesignFault
+design_fault p d =
+    wrong_count p d
+    or_else first_fault (demand_path_fault p d) (length p.demands)
+    or_else first_fault (carries_fault p d) (length p.links)

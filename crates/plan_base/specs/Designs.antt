@@ -1,0 +1,81 @@
+-- Designs: what they carry, what they install and what they cost.
+use Rattle.std.specs.Prelude.{ℕ, ◌≡◌, ◌<◌, ◌≤◌, ◌+◌, ◌*◌, List, [], length, slice_index, slice_index_or, if◌then◌else◌}
+use Rattle.plan_base.specs.declared.ids.ArcId.{ArcId}
+use Rattle.plan_base.specs.declared.parts.Module.{Module}
+use Rattle.plan_base.specs.declared.parts.Link.{Link}
+use Rattle.plan_base.specs.declared.parts.Parts.{Parts}
+use Rattle.plan_base.specs.declared.path.Design.{Design}
+use Rattle.plan_base.specs.declared.limits.TheConstants.{MAX_COUNT, MAX_COUNT_COST}
+use Rattle.plan_base.specs.Sums.{sum_below}
+use Rattle.plan_base.specs.Arcs.{link_at, demand_at}
+use Rattle.plan_base.specs.Paths.{IsSimplePath, uses}
+
+-- the path of the demand of this number
+abbrev pub path_at : Design → ℕ → List ArcId
+path_at d k = slice_index_or d.paths k []
+
+-- the counts of the link of this number, one for each module
+abbrev pub counts_at : Design → ℕ → List ℕ
+counts_at d e = slice_index_or d.counts e []
+
+-- the module that is read past the end of a list
+abbrev pub no_module : Module
+no_module = record { capacity = 0; cost = 0 }
+
+-- the module of this number
+abbrev pub module_at : Link → ℕ → Module
+module_at l m = slice_index_or l.modules m no_module
+
+-- what a demand puts on a link: its load where its path uses the link, in either direction
+unfoldable pub load_from : Parts → Design → ℕ → ℕ → ℕ
+load_from p d e k = if uses e (path_at d k) then (demand_at p k).load else 0
+
+-- the load of a link
+abbrev pub load_on : Parts → Design → ℕ → ℕ
+load_on p d e = sum_below (load_from p d e) (length p.demands)
+
+-- the pre-installed capacity and that of the modules that are installed
+abbrev pub capacity_with : Link → List ℕ → ℕ
+capacity_with l counts = l.pre + sum_below (λ m. slice_index counts m * (module_at l m).capacity) (length l.modules)
+
+-- what these counts of the modules cost, in cost grains
+abbrev pub module_cost_with : Link → List ℕ → ℕ
+module_cost_with l counts = sum_below (λ m. slice_index counts m * (module_at l m).cost) (length l.modules)
+
+-- what a link costs, in cost grains: its routing cost times its load, and its modules
+abbrev pub link_cost : Parts → Design → ℕ → ℕ
+link_cost p d e = (link_at p e).routing * load_on p d e + module_cost_with (link_at p e) (counts_at d e)
+
+-- the sum over links of routing costs and of counts times module costs
+abbrev pub cost_of : Parts → Design → ℕ
+cost_of p d = sum_below (link_cost p d) (length p.links)
+
+-- one simple path for each demand, and for each link one count for each module
+pub record IsDesign (p : Parts) (d : Design) : Type 0 where
+  pub path_count : length d.paths ≡ length p.demands
+  pub list_count : length d.counts ≡ length p.links
+  pub paths : (k : ℕ) → k < length p.demands → IsSimplePath p (demand_at p k) (path_at d k)
+  pub counts : (e : ℕ) → e < length p.links → length (counts_at d e) ≡ length (link_at p e).modules
+
+-- no link carries more than its capacity
+abbrev pub IsFeasible : Parts → Design → Type 0
+IsFeasible p d = (e : ℕ) → e < length p.links → load_on p d e ≤ capacity_with (link_at p e) (counts_at d e)
+
+-- the count, and its cost in cost grains, is small enough
+pub record IsCountInShape (count cost : ℕ) : Type 0 where
+  pub count_within : count ≤ MAX_COUNT
+  pub cost_within : count * cost ≤ MAX_COUNT_COST
+
+-- each count of the link is in shape
+abbrev pub AreCountsInShape : Link → List ℕ → Type 0
+AreCountsInShape l counts = (m : ℕ) → m < length l.modules → IsCountInShape (slice_index counts m) (module_at l m).cost
+
+-- each count, and its cost, is small enough
+abbrev pub IsInShape : Parts → Design → Type 0
+IsInShape p d = (e : ℕ) → e < length p.links → AreCountsInShape (link_at p e) (counts_at d e)
+
+-- a feasible design in shape
+pub record IsGoodDesign (p : Parts) (d : Design) : Type 0 where
+  pub design : IsDesign p d
+  pub feasible : IsFeasible p d
+  pub in_shape : IsInShape p d

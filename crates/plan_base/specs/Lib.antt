@@ -1,0 +1,12 @@
+pub mod First
+pub mod Sums
+pub mod Facts
+pub mod Arcs
+pub mod Paths
+pub mod Designs
+pub mod Faults
+pub mod DesignFaults
+pub mod Claims
+pub mod Walks
+pub mod Leaving
+pub mod LeavingRows

@@ -1,0 +1,166 @@
+//! Whether a design serves an instance, and what it costs.
+
+ghost use Rattle.std.specs.Prelude.{ℕ, ◌≡◌, ◌<◌, ◌≤◌, ◌*◌, ◌^◌, ◌↔◌, ◌&&◌, ◌==◌, length, IfOk, IsOk, All, slice_index};
+ghost use Rattle.std.specs.Result.{result_err};
+ghost use Rattle.plan_base.specs.First.{first_fault};
+ghost use Rattle.plan_base.specs.Facts.{total_load, IsInstance};
+ghost use Rattle.plan_base.specs.Designs.{capacity_with, module_cost_with, load_on, link_cost, cost_of, AreCountsInShape, IsGoodDesign};
+ghost use Rattle.plan_base.specs.DesignFaults.{is_past_shape, counts_fault, carries_fault, design_fault};
+
+use crate::design_fault::DesignFault;
+use crate::ids::LinkId;
+use crate::instance::Instance;
+use crate::limits::{CAPACITY_BOUND, MAX_COUNT, MAX_COUNT_COST, MAX_LINKS};
+use crate::loads::loads_of;
+use crate::parts::Link;
+use crate::path::Design;
+use crate::walks::check_paths;
+
+/// What the design costs in cost grains, where it serves the instance.
+///
+/// - Takes: an instance; any design.
+/// - Gives: cost grains.
+/// - Errors: the first fault, in the order count of paths and of lists, each demand's path, each
+///   link's counts and then its capacity.
+/// - Rule: docs/DEFINITIONS.md, "Designs".
+/// - Time: linear in the arcs of all paths and in links times modules. Takes no memory.
+#[tactic(auto, using(crate::proofs::DesignLaws::design_laws))]
+pub fn check_design(inst: &Instance, design: &Design) -> Result<u128, DesignFault>
+    // It is accepted exactly where it is feasible and in shape.
+    ensures ok { IsOk result ↔ IsGoodDesign inst.now design.now }
+    ensures cost { IfOk result (λ cost. cost ≡ cost_of inst.now design.now) }
+    ensures fault { result_err result ≡ design_fault inst.now design.now }
+{
+    checked_cost(inst, design)
+}
+
+/// Whether there is one path for each demand and one list of counts for each link.
+fn has_right_counts(inst: &Instance, design: &Design) -> bool
+    ensures { result
+        ≡ (length design.now.paths == length inst.now.demands
+        && (length design.now.counts == length inst.now.links)) }
+{
+    let paths = design.paths.len();
+    let counts = design.counts.len();
+    paths == inst.demands() as usize && counts == inst.links() as usize
+}
+
+/// Whether a count, or its cost, is too large.
+fn is_past_shape(count: u64, cost: u128) -> bool
+    ensures { result ≡ is_past_shape count cost }
+{
+    count > MAX_COUNT
+        || match u128::from(count).checked_mul(cost) {
+            Some(together) => together > MAX_COUNT_COST,
+            None => true,
+        }
+}
+
+/// Whether there is one count for each module, and none, nor its cost, is too large.
+#[tactic(auto, using(crate::proofs::FirstFault::first_faults), unfolding(crate::specs::DesignFaults::counts_fault))]
+fn check_counts(id: LinkId, link: &Link, counts: &[u64]) -> Result<(), DesignFault>
+    ensures { result_err result ≡ counts_fault id link.now counts.now }
+{
+    let modules = link.modules.as_slice();
+    if counts.len() != modules.len() {
+        return Err(DesignFault::CountShape { link: id });
+    }
+    for (place, module) in modules.iter().enumerate() {
+        if is_past_shape(counts[place], module.cost) {
+            return Err(DesignFault::CountShape { link: id });
+        }
+    }
+    Ok(())
+}
+
+/// The capacity of the link with these counts of its modules, in load grains.
+#[tactic(auto, using(crate::proofs::SumLaws::sums))]
+fn capacity_with(link: &Link, counts: &[u64]) -> u128
+    requires pre { link.now.pre < CAPACITY_BOUND }
+    requires few { length link.now.modules ≤ 32 }
+    requires modules { All (λ m. m.capacity < CAPACITY_BOUND) link.now.modules }
+    requires length { length counts.now ≡ length link.now.modules }
+    requires shape { AreCountsInShape link.now counts.now }
+    ensures { result ≡ capacity_with link.now counts.now }
+{
+    let mut capacity = u128::from(link.pre);
+    for (place, module) in link.modules.as_slice().iter().enumerate() {
+        capacity += u128::from(counts[place]) * u128::from(module.capacity);
+    }
+    capacity
+}
+
+/// What these counts of the link's modules cost, in cost grains.
+fn module_cost_with(link: &Link, counts: &[u64]) -> u128
+    requires length { length counts.now ≡ length link.now.modules }
+    requires few { length link.now.modules ≤ 32 }
+    requires shape { AreCountsInShape link.now counts.now }
+    ensures value { result ≡ module_cost_with link.now counts.now }
+    ensures within { result ≤ 32 * MAX_COUNT_COST }
+{
+    let mut cost: u128 = 0;
+    for (place, module) in link.modules.as_slice().iter().enumerate() {
+        cost += u128::from(counts[place]) * module.cost;
+    }
+    cost
+}
+
+/// What the link costs, where it has a capacity for its load.
+#[tactic(auto, using(crate::proofs::CountLaws::count_laws), unfolding(crate::specs::DesignFaults::carries_fault))]
+fn check_link(inst: &Instance, design: &Design, id: LinkId, load: u128) -> Result<u128, DesignFault>
+    requires lawful { IsInstance inst.now }
+    requires link { id.0 < length inst.now.links }
+    requires counts { length design.now.counts ≡ length inst.now.links }
+    requires load { load ≡ load_on inst.now design.now id.0 }
+    requires within { load ≤ total_load inst.now }
+    ensures fault { result_err result ≡ carries_fault inst.now design.now id.0 }
+    ensures cost { IfOk result (λ cost. cost ≡ link_cost inst.now design.now id.0) }
+    ensures within { IfOk result (λ cost. cost ≤ 33 * 10 ^ 30) }
+{
+    let link = inst.link(id);
+    let counts = design.counts.as_slice()[id.0 as usize].as_slice();
+    check_counts(id, link, counts)?;
+    let capacity = capacity_with(link, counts);
+    if load > capacity {
+        return Err(DesignFault::Short {
+            link: id,
+            load,
+            capacity,
+        });
+    }
+    Ok(u128::from(link.routing) * load + module_cost_with(link, counts))
+}
+
+/// What the links cost, where each has a capacity for its load.
+#[tactic(auto, using(crate::proofs::FirstFault::first_faults, crate::proofs::SumLaws::sums, crate::proofs::LoadLaws::load_laws))]
+fn check_links(
+    inst: &Instance,
+    design: &Design,
+    loads: &[u128; MAX_LINKS],
+) -> Result<u128, DesignFault>
+    requires counts { length design.now.counts ≡ length inst.now.links }
+    requires loads { (e : ℕ) → e < MAX_LINKS → slice_index loads.now e ≡ load_on inst.now design.now e }
+    ensures fault { result_err result
+        ≡ first_fault (carries_fault inst.now design.now) (length inst.now.links) }
+    ensures cost { IfOk result (λ cost. cost ≡ cost_of inst.now design.now) }
+{
+    let mut cost: u128 = 0;
+    for place in 0..inst.links() {
+        cost += check_link(inst, design, LinkId(place), loads[place as usize])?;
+    }
+    Ok(cost)
+}
+
+/// What the design costs, or its first fault.
+#[tactic(auto, unfolding(crate::specs::DesignFaults::design_fault))]
+fn checked_cost(inst: &Instance, design: &Design) -> Result<u128, DesignFault>
+    ensures fault { result_err result ≡ design_fault inst.now design.now }
+    ensures cost { IfOk result (λ cost. cost ≡ cost_of inst.now design.now) }
+{
+    if !has_right_counts(inst, design) {
+        return Err(DesignFault::WrongCount);
+    }
+    check_paths(inst, design)?;
+    let loads = loads_of(inst, design);
+    check_links(inst, design, &loads)
+}

@@ -1,0 +1,102 @@
+//! What an instance is built of.
+
+ghost use Rattle.std.specs.Prelude.{◌≡◌, IfOk};
+
+use crate::ids::NodeId;
+use crate::items::Items;
+use std::alloc::AllocError;
+
+/// Whether links and demands have a direction.
+#[derive(Clone, Copy, Debug, PartialEq, Eq)]
+pub enum Orient {
+    /// Flow goes from a link's source to its target only.
+    Directed,
+    /// Flow goes both ways, and both share one capacity.
+    Undirected,
+}
+
+/// A capacity that may be installed any number of times, at a cost each time.
+#[derive(Clone, Copy, Debug, PartialEq, Eq)]
+pub struct Module {
+    /// In load grains.
+    pub capacity: u64,
+    /// In cost grains.
+    pub cost: u128,
+}
+
+/// A link between two nodes, and what may be installed on it.
+#[derive(Debug, Drop)]
+pub struct Link {
+    pub source: NodeId,
+    pub target: NodeId,
+    /// The pre-installed capacity, in load grains.
+    pub pre: u64,
+    /// The routing cost, in cost grains per load grain.
+    pub routing: u64,
+    pub modules: Items<Module>,
+}
+
+impl Link {
+    /// The same link.
+    ///
+    /// - Errors: want of memory alone.
+    /// - Time: linear in the modules.
+    pub fn copy(&self) -> Result<Link, AllocError>
+        ensures { IfOk result (λ link. link ≡ self.now) }
+    {
+        Ok(Link {
+            source: self.source,
+            target: self.target,
+            pre: self.pre,
+            routing: self.routing,
+            modules: self.modules.copy()?,
+        })
+    }
+}
+
+/// A load that goes from one node to another on one path.
+#[derive(Clone, Copy, Debug, PartialEq, Eq)]
+pub struct Demand {
+    pub source: NodeId,
+    pub target: NodeId,
+    /// In load grains.
+    pub load: u128,
+}
+
+/// What an instance is built of. Nothing is asked of it.
+#[derive(Debug, Drop)]
+pub struct Parts {
+    pub orient: Orient,
+    /// The count of nodes.
+    pub nodes: u32,
+    pub links: Items<Link>,
+    pub demands: Items<Demand>,
+}
+
+impl Parts {
+    /// The same parts.
+    ///
+    /// - Errors: want of memory alone.
+    /// - Time: linear in links, modules and demands.
+    pub fn copy(&self) -> Result<Parts, AllocError>
+        ensures { IfOk result (λ parts. parts ≡ self.now) }
+    {
+        Ok(Parts {
+            orient: self.orient,
+            nodes: self.nodes,
+            links: copy_links(&self.links)?,
+            demands: self.demands.copy()?,
+        })
+    }
+}
+
+/// The same links.
+fn copy_links(links: &Items<Link>) -> Result<Items<Link>, AllocError>
+    ensures { IfOk result (λ copy. copy ≡ links.now) }
+{
+    let mut copy = Vec::new(links.allocator());
+    for link in links.as_slice() {
+        copy.push(link.copy()?)?;
+    }
+    Ok(Items::from_vec(copy))
+}

@@ -1,0 +1,86 @@
+//! Prices of links.
+
+ghost use Rattle.std.specs.Prelude.{◌≡◌, ◌≤◌, ◌↔◌, length, All, IfOk, IsTrue};
+ghost use Rattle.plan_base.specs.Facts.{price_limit};
+
+use crate::instance::Instance;
+use std::alloc::AllocError;
+use std::marker::Model;
+
+/// One price for each link, in thousandths of a cost grain per load grain.
+///
+/// Nothing is asked of it: `fits` tells whether the prices are those of an instance.
+#[derive(Debug, Drop)]
+pub struct Prices {
+    numerators: Vec<u128>,
+}
+
+impl Model for Prices {
+    ghost use Rattle.std.specs.Prelude.{List, ℕ};
+
+    ghost Value = { List ℕ };
+
+    ghost view = { λ a. a.numerators.items };
+}
+
+impl Prices {
+    /// The same prices, in the order of the links. Takes no memory.
+    pub fn from_vec(numerators: Vec<u128>) -> Self
+        ensures { result ≡ numerators.items }
+    {
+        Prices { numerators }
+    }
+
+    /// The same prices. Takes no memory.
+    pub fn into_vec(self) -> Vec<u128>
+        ensures { result.items ≡ self }
+    {
+        self.numerators
+    }
+
+    /// The prices as a slice.
+    pub fn as_slice(&self) -> &[u128]
+        ensures value { result.now ≡ self.now }
+        ensures len { length result.now ≡ length self.now }
+    {
+        self.numerators.as_slice()
+    }
+
+    /// The same prices.
+    ///
+    /// - Errors: want of memory alone.
+    /// - Time: linear in the prices.
+    pub fn copy(&self) -> Result<Prices, AllocError>
+        ensures { IfOk result (λ prices. prices ≡ self.now) }
+    {
+        Ok(Prices {
+            numerators: self.numerators.clone()?,
+        })
+    }
+
+    /// Copies other prices over these. Takes no memory.
+    ///
+    /// - Takes: as many prices as there are here.
+    /// - Time: linear in the prices.
+    pub fn set_to(&mut self, other: &Prices)
+        requires { length other.now ≡ length self.old }
+        ensures { self.new ≡ other.now }
+    {
+        self.numerators
+            .as_mut_slice()
+            .copy_from_slice(other.as_slice());
+    }
+
+    /// Whether there is one price for each link and none is above the price limit.
+    ///
+    /// - Rule: docs/DEFINITIONS.md, "Instances".
+    /// - Time: linear in the prices. Takes no memory.
+    pub fn fits(&self, inst: &Instance) -> bool
+        ensures { IsTrue result
+            ↔ (length self.now ≡ length inst.now.links) × All (λ x. x ≤ price_limit inst.now) self.now }
+    {
+        let limit = inst.price_limit();
+        self.numerators.len() == inst.links() as usize
+            && self.numerators.iter().all(|price| *price <= limit)
+    }
+}

@@ -1,0 +1,103 @@
+//! Whether the paths of a design are simple paths of their demands.
+
+ghost use Rattle.std.specs.Prelude.{◌≡◌, ◌<◌, ◌+◌, ◌&&◌, ◌||◌, ◌==◌, ℕ, length, IfOk};
+ghost use Rattle.std.specs.Result.{result_err};
+ghost use Rattle.plan_base.specs.First.{first_fault};
+ghost use Rattle.plan_base.specs.Facts.{IsInstance};
+ghost use Rattle.plan_base.specs.Arcs.{is_arc, tail_of, head_of};
+ghost use Rattle.plan_base.specs.DesignFaults.{path_fault, demand_path_fault};
+ghost use Rattle.plan_base.specs.Walks.{is_met, AreStampsLow, walk_fault};
+
+use crate::design_fault::DesignFault;
+use crate::ids::{ArcId, DemandId, NodeId};
+use crate::instance::Instance;
+use crate::limits::{MAX_DEMANDS, MAX_NODES};
+use crate::met_nodes::MetNodes;
+use crate::parts::Demand;
+use crate::path::Design;
+
+/// Whether the arc exists and begins at the node.
+fn leaves(inst: &Instance, arc: ArcId, node: NodeId) -> bool
+    ensures { result ≡ (is_arc inst.now arc && ((tail_of inst.now arc).0 == node.0)) }
+{
+    inst.is_arc(arc) && inst.tail(arc) == node
+}
+
+/// The node that the walk goes on to along the arc at this place.
+#[tactic(auto, unfolding(crate::specs::Walks::walk_fault))]
+fn next_node(
+    inst: &Instance,
+    demand: DemandId,
+    place: u32,
+    here: NodeId,
+    arc: ArcId,
+    met: &mut MetNodes,
+) -> Result<NodeId, DesignFault>
+    requires lawful { IsInstance inst.now }
+    requires low { AreStampsLow met.old }
+    ensures fault { result_err result ≡ walk_fault inst.now demand met.old here.0 place arc }
+    ensures next { IfOk result (λ next. next ≡ head_of inst.now arc) }
+    ensures within { IfOk result (λ next. next.0 < inst.now.nodes) }
+    ensures met { IfOk result (λ next. (n : ℕ) → is_met met.new n ≡ (is_met met.old n || (next.0 == n))) }
+    ensures stamp { met.new.stamp ≡ met.old.stamp }
+    ensures low { AreStampsLow met.new }
+{
+    if !leaves(inst, arc, here) {
+        return Err(DesignFault::NotAPath { demand, place });
+    }
+    let next = inst.head(arc);
+    if met.has(next) {
+        return Err(DesignFault::Repeats { demand, place });
+    }
+    met.add(next);
+    Ok(next)
+}
+
+/// Whether the arcs are a simple path of the demand.
+#[tactic(auto, using(crate::proofs::WalkLaws::walk_laws), unfolding(crate::specs::DesignFaults::path_fault))]
+fn check_path(
+    inst: &Instance,
+    id: DemandId,
+    demand: &Demand,
+    arcs: &[ArcId],
+    met: &mut MetNodes,
+) -> Result<(), DesignFault>
+    requires lawful { IsInstance inst.now }
+    requires source { demand.now.source.0 < inst.now.nodes }
+    requires stamp { met.old.stamp < MAX_DEMANDS }
+    requires low { AreStampsLow met.old }
+    ensures fault { result_err result ≡ path_fault inst.now id demand.now arcs.now }
+    ensures stamp { IfOk result (λ _. met.new.stamp ≡ met.old.stamp + 1) }
+    ensures low { IfOk result (λ _. AreStampsLow met.new) }
+{
+    let mut here = demand.source;
+    met.begin(here);
+    for (place, arc) in arcs.iter().enumerate() {
+        here = next_node(inst, id, place as u32, here, *arc, met)?;
+    }
+    if here != demand.target {
+        return Err(DesignFault::NotAPath {
+            demand: id,
+            place: arcs.len() as u32,
+        });
+    }
+    Ok(())
+}
+
+/// Whether each path of the design is a simple path of its demand.
+///
+/// - Time: linear in the arcs of all paths, up to the first fault.
+#[tactic(auto, using(crate::proofs::FirstFault::first_faults))]
+pub(crate) fn check_paths(inst: &Instance, design: &Design) -> Result<(), DesignFault>
+    requires { length design.now.paths ≡ length inst.now.demands }
+    ensures { result_err result
+        ≡ first_fault (demand_path_fault inst.now design.now) (length inst.now.demands) }
+{
+    let mut met = MetNodes::new();
+    for place in 0..inst.demands() {
+        let id = DemandId(place);
+        let path = &design.paths.as_slice()[place as usize];
+        check_path(inst, id, inst.demand(id), path.as_slice(), &mut met)?;
+    }
+    Ok(())
+}

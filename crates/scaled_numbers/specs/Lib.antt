@@ -1,0 +1,4 @@
+pub mod Decimal
+pub mod Scanning
+pub mod Canonical
+pub mod Kept
