@@ -1,0 +1,3 @@
+mod NameSets
+mod Lists
+mod Modules
