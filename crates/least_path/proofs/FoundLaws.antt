@@ -1,0 +1,153 @@
+-- Potentials show that a path is least, and a closed set that there is none.
+use Rattle.std.proofs.Common.{◌≡◌, ◌≢◌, ℕ, zero, suc, ◌+◌, ◌*◌, ◌<◌, ◌≤◌, ◌⊎◌, inl, inr, true, false, Bool, ◌&&◌, List, [], ◌∷◌, length, get_or, take, map, Option, Some, None, IsTrue, min, arith, refl, sym, ◌∙◌, ap, subst, sum_by, if◌then◌else◌, add-one}
+use Rattle.std.proofs.lemmas.Bool.{ltb-true}
+use Rattle.std.proofs.lemmas.List.{get_or-map, length-map, get_or_past}
+use Rattle.std.proofs.lemmas.List.Sums.{sum_by_more, sum_by-take-le}
+use Rattle.plan_base.specs.declared.ids.NodeId.{NodeId}
+use Rattle.plan_base.specs.declared.ids.ArcId.{ArcId}
+use Rattle.plan_base.specs.declared.parts.Parts.{Parts}
+use Rattle.plan_base.specs.Facts.{IsInstance}
+use Rattle.plan_base.specs.Arcs.{is_arc, tail_of, head_of, link_of, is_back, no_link, no_arc}
+use Rattle.plan_base.specs.Paths.{arc_at, node_at}
+use Rattle.least_path.specs.declared.label.Label.{Label}
+use Rattle.least_path.specs.declared.label.Stop.{Stop}
+use Rattle.least_path.specs.Paths.{Weights, weight_at, weight_of, IsUsable, IsUsablePath, IsLeastPath, ArePotentials, IsIn, IsClosedSet, HasNoUsablePath, IsFound}
+use Rattle.least_path.specs.Labels.{Labels, label_at, way, is_labelled, potential_of, HasNoOpen, IsNearest, AreLabels, IsSearch}
+use Rattle.least_path.proofs.NearestLaws.{decide, label_within, some_same}
+use Rattle.least_path.proofs.WayLaws.{way-path}
+
+-- along a usable path potentials rise by at most the weights
+rises : (p : Parts) (ws : Weights) (s t : NodeId) (potential : ℕ → ℕ) (arcs : List ArcId) → potential s.0 ≡ 0 → ((a : ArcId) → IsUsable p ws a → potential (head_of p a).0 ≤ potential (tail_of p a).0 + weight_at ws a) → IsUsablePath p ws s t arcs → (i : ℕ) → i ≤ length arcs → potential (node_at p s arcs i) ≤ sum_by (λ a. weight_at ws a) (take i arcs)
+rises p ws s t potential arcs start along h zero within = omega (arith, start)
+rises p ws s t potential arcs start along h (suc i) within =
+    let a = arc_at arcs i in
+    let before = rises p ws s t potential arcs start along h i (omega arith) in
+    let step = along a (h.usable i (omega arith)) in
+    let tail : potential (tail_of p a).0 ≡ potential (node_at p s arcs i) = ap potential (h.simple.goes_on i (omega arith)) in
+    let more : sum_by (λ b. weight_at ws b) (take (suc i) arcs) ≡ sum_by (λ b. weight_at ws b) (take i arcs) + weight_at ws a = subst (λ (k : ℕ). sum_by (λ b. weight_at ws b) (take k arcs) ≡ sum_by (λ b. weight_at ws b) (take i arcs) + weight_at ws a) (let e : i + 1 ≡ suc i = omega arith in e) (sum_by_more (λ b. weight_at ws b) arcs i no_arc (omega arith)) in
+    omega (arith, before, step, tail, more)
+
+least : (p : Parts) (ws : Weights) (s t : NodeId) (weight : ℕ) (potentials : List ℕ) → ArePotentials p ws s t weight potentials → (other : List ArcId) → IsUsablePath p ws s t other → weight ≤ weight_of ws other
+least p ws s t weight potentials h other path =
+    let up = rises p ws s t (λ v. get_or potentials v 0) other h.at_source h.along path (length other) (omega arith) in
+    let end : get_or potentials (node_at p s other (length other)) 0 ≡ weight = ap (λ (v : ℕ). get_or potentials v 0) path.simple.ends_at_target ∙ h.at_target in
+    omega (arith, up, end, sum_by-take-le (λ a. weight_at ws a) other (length other))
+
+either : {X : Type 0} (b : Bool) (P : X → Type 0) {x y : X} → P x → P y → P (if b then x else y)
+either true P on_true on_false = on_true
+either false P on_true on_false = on_false
+
+first : (a b : Bool) → (a && b) ≡ true → a ≡ true
+first true b h = refl
+first false b h = h
+
+-- the ends of an arc are nodes
+head-within : (p : Parts) (a : ArcId) → IsInstance p → is_arc p a ≡ true → (head_of p a).0 < p.nodes
+head-within p a inst is =
+    let lawful = inst.links (link_of a) no_link (ltb-true (link_of a) (length p.links) (first _ _ is)) in
+    either (is_back a) (λ (n : NodeId). n.0 < p.nodes) lawful.source lawful.target
+
+tail-within : (p : Parts) (a : ArcId) → IsInstance p → is_arc p a ≡ true → (tail_of p a).0 < p.nodes
+tail-within p a inst is =
+    let lawful = inst.links (link_of a) no_link (ltb-true (link_of a) (length p.links) (first _ _ is)) in
+    either (is_back a) (λ (n : NodeId). n.0 < p.nodes) lawful.target lawful.source
+
+potential-at_most : (weight : ℕ) (x : Option Label) → potential_of weight x ≤ weight
+potential-at_most weight None = omega arith
+potential-at_most weight (Some l) = omega arith
+
+potential-at : (ls : Labels) (weight v : ℕ) → v < length ls → get_or (map (potential_of weight) ls) v 0 ≡ potential_of weight (label_at ls v)
+potential-at ls weight v within = get_or-map (potential_of weight) ls v None 0 within
+
+potential-label : (ls : Labels) (weight v : ℕ) (l : Label) → label_at ls v ≡ Some l → get_or (map (potential_of weight) ls) v 0 ≡ min l.length weight
+potential-label ls weight v l is = potential-at ls weight v (label_within ls v l is) ∙ ap (potential_of weight) is
+
+-- along an arc whose tail has this label
+along-arc : (p : Parts) (ws : Weights) (s t : NodeId) (ls : Labels) (stop : Stop) (a : ArcId) (known : Option Label) → IsSearch p ws s t ls → IsNearest ls stop → IsUsable p ws a → label_at ls (tail_of p a).0 ≡ known → (head_of p a).0 < length ls → (tail_of p a).0 < length ls → get_or (map (potential_of stop.label.length) ls) (head_of p a).0 0 ≤ get_or (map (potential_of stop.label.length) ls) (tail_of p a).0 0 + weight_at ws a
+along-arc p ws s t ls stop a None h near usable is head tail =
+    let weight = stop.label.length in
+    let at_tail : get_or (map (potential_of weight) ls) (tail_of p a).0 0 ≡ weight = potential-at ls weight (tail_of p a).0 tail ∙ ap (potential_of weight) is in
+    omega (arith, at_tail, potential-at ls weight (head_of p a).0 head, potential-at_most weight (label_at ls (head_of p a).0))
+along-arc p ws s t ls stop a (Some l) h near usable is head tail =
+    let weight = stop.label.length in
+    let at_tail = potential-label ls weight (tail_of p a).0 l is in
+    elim (decide l.settled) [
+      | inl settled ↦
+          let reached = h.relaxed a usable l is settled in
+          let at_head = potential-label ls weight (head_of p a).0 reached.label reached.is in
+          omega (arith, at_tail, at_head, reached.within)
+      | inr open_ ↦
+          let far = near.least (tail_of p a).0 l is open_ in
+          omega (arith, at_tail, far, potential-at ls weight (head_of p a).0 head, potential-at_most weight (label_at ls (head_of p a).0))
+    ]
+
+pub potentials-right : (p : Parts) (ws : Weights) (s t : NodeId) (ls : Labels) (stop : Stop) → IsInstance p → IsSearch p ws s t ls → IsNearest ls stop → stop.node.0 ≡ t.0 → ArePotentials p ws s t stop.label.length (map (potential_of stop.label.length) ls)
+potentials-right p ws s t ls stop inst h near target =
+    let weight = stop.label.length in
+    record {
+      count = length-map ls (potential_of weight) ∙ h.labels.count;
+      at_source = let at = potential-label ls weight s.0 h.labels.source_label h.labels.source_is in omega (arith, at, h.labels.source_length);
+      at_target = let at = potential-label ls weight t.0 stop.label (subst (λ (v : ℕ). label_at ls v ≡ Some stop.label) target near.is) in omega (arith, at);
+      along = λ a usable. along-arc p ws s t ls stop a (label_at ls (tail_of p a).0) h near usable refl
+          (omega (arith, head-within p a inst usable.is_an_arc, h.labels.count))
+          (omega (arith, tail-within p a inst usable.is_an_arc, h.labels.count));
+    }
+
+pub found-path : (p : Parts) (ws : Weights) (s t : NodeId) (ls : Labels) (stop : Stop) → IsInstance p → IsSearch p ws s t ls → IsNearest ls stop → stop.node.0 ≡ t.0 → IsLeastPath p ws s t (way p ls stop.label.steps stop.label) stop.label.length
+found-path p ws s t ls stop inst h near target =
+    let path = way-path p ws s t ls stop.node.0 stop.label h.labels near.is target in
+    record {
+      path = path.path;
+      weight_is = path.weight;
+      least = least p ws s t stop.label.length (map (potential_of stop.label.length) ls) (potentials-right p ws s t ls stop inst h near target);
+    }
+
+-- a set that no usable arc leaves holds each node of a path
+stays_in : (p : Parts) (ws : Weights) (s t : NodeId) (reached : List Bool) (arcs : List ArcId) → IsClosedSet p ws s t reached → IsUsablePath p ws s t arcs → (i : ℕ) → i ≤ length arcs → IsIn reached (node_at p s arcs i)
+stays_in p ws s t reached arcs set path zero within = set.has_source
+stays_in p ws s t reached arcs set path (suc i) within =
+    set.closed (arc_at arcs i) (path.usable i (omega arith))
+    (subst (IsIn reached) (sym (path.simple.goes_on i (omega arith))) (stays_in p ws s t reached arcs set path i (omega arith)))
+
+pub closed-no_path : (p : Parts) (ws : Weights) (s t : NodeId) (reached : List Bool) → IsClosedSet p ws s t reached → HasNoUsablePath p ws s t
+closed-no_path p ws s t reached set = λ arcs path.
+    let there : IsIn reached t.0 = subst (IsIn reached) path.simple.ends_at_target (stays_in p ws s t reached arcs set path (length arcs) (omega arith)) in
+    let bad : true ≡ false = sym there ∙ set.lacks_target in
+    cc
+
+record IsSomeLabel (x : Option Label) : Type 0 where
+  label : Label
+  is : x ≡ Some label
+
+some-label : (x : Option Label) → is_labelled x ≡ true → IsSomeLabel x
+some-label None h = absurd (let bad : false ≡ true = h in cc)
+some-label (Some l) h = record { label = l; is = refl }
+
+lt_or_le : (v n : ℕ) → (v < n) ⊎ (n ≤ v)
+lt_or_le v n = grind arith
+
+in-label : (ls : Labels) (v : ℕ) → IsIn (map is_labelled ls) v → IsSomeLabel (label_at ls v)
+in-label ls v h = elim (lt_or_le v (length ls)) [
+  | inl within ↦ some-label (label_at ls v) (sym (get_or-map is_labelled ls v None false within) ∙ h)
+  | inr past ↦ absurd (let bad : false ≡ true = sym (get_or_past (map is_labelled ls) v false (omega (arith, past, length-map {A = Option Label} {B = Bool} ls is_labelled))) ∙ h in cc)
+]
+
+label-in : (ls : Labels) (v : ℕ) (l : Label) → label_at ls v ≡ Some l → IsIn (map is_labelled ls) v
+label-in ls v l is = get_or-map is_labelled ls v None false (label_within ls v l is) ∙ ap (λ (x : Option Label). is_labelled x) is
+
+no_label_at : (x : Option Label) → ((l : Label) → x ≡ Some l → ⊥) → x ≡ None
+no_label_at None h = refl
+no_label_at (Some l) h = absurd (h l refl)
+
+pub reached-closed : (p : Parts) (ws : Weights) (s t : NodeId) (ls : Labels) → t.0 < p.nodes → IsSearch p ws s t ls → HasNoOpen ls → IsClosedSet p ws s t (map is_labelled ls)
+reached-closed p ws s t ls target h none = record {
+  count = length-map ls is_labelled ∙ h.labels.count;
+  has_source = label-in ls s.0 h.labels.source_label h.labels.source_is;
+  lacks_target =
+      let no : label_at ls t.0 ≡ None = no_label_at (label_at ls t.0) (λ l is. let bad : true ≡ false = sym (none t.0 l is) ∙ h.labels.target_open l is in cc) in
+      get_or-map is_labelled ls t.0 None false (omega (arith, target, h.labels.count)) ∙ ap (λ (x : Option Label). is_labelled x) no;
+  closed = λ a usable inside.
+      let from = in-label ls (tail_of p a).0 inside in
+      let to = h.relaxed a usable from.label from.is (none (tail_of p a).0 from.label from.is) in
+      label-in ls (head_of p a).0 to.label to.is;
+}

@@ -1,0 +1,5 @@
+pub mod NearestLaws
+pub mod OfferLaws
+pub mod SettleLaws
+pub mod WayLaws
+pub mod FoundLaws

@@ -1,0 +1,4 @@
+pub mod NeedLaws
+pub mod ListLaws
+pub mod PlanLaws
+pub mod SettingLaws

@@ -1,0 +1,46 @@
+//! The top call.
+
+ghost use Rattle.std.specs.Prelude.{◌≡◌, ◌≤◌, ◌⊎◌, map, string_bytes, IsSome};
+ghost use Rattle.plan_io.specs.Causes.{Rose};
+ghost use Rattle.plan_run.specs.Words.{names_in};
+ghost use Rattle.plan_run.specs.Runs.{IsRun, IsOwnAnswer};
+
+use crate::answer::make_answer;
+use crate::status::Status;
+use plan_io::{Gate, Shelf, Sink, write_whole};
+use std::alloc::Global;
+
+/// Runs the command of these words, and writes its answer. Nothing is written before the whole
+/// output is made.
+///
+/// - Takes: the words after the program's name; a shelf that has the texts that they name; the sink
+///   that the answer goes to; a gate that is passed once, between reading and planning.
+/// - Gives: how the run ended.
+/// - Rule: docs/DEFINITIONS.md, "Runs"; docs/FORMATS.md.
+/// - Time: linear in the texts' bytes, and that of one search for a cheapest path.
+pub fn run<S: Shelf, W: Sink, G: Gate>(
+    alloc: Global,
+    words: &[String],
+    shelf: &mut S,
+    out: &mut W,
+    gate: &G,
+) -> Status
+    ensures answer { IsRun (map string_bytes words.now) (S.text shelf.old)
+        (S.begins shelf.old) (S.begins shelf.new) (W.contents out.old) (W.contents out.new) result }
+    ensures read_fault { result ≡ Status.ReadFault → Rose (S.faults shelf.old) (S.faults shelf.new) }
+    ensures write_fault { result ≡ Status.WriteFault → Rose (W.faults out.old) (W.faults out.new) }
+
+    // Words that are read have no other answer, unless something outside failed.
+    ensures complete { IsSome (names_in (map string_bytes words.now)) → IsOwnAnswer result
+        ⊎ Rose (S.faults shelf.old) (S.faults shelf.new) ⊎ Rose (W.faults out.old) (W.faults out.new) }
+    ensures shelf_later { S.faults shelf.old ≤ S.faults shelf.new }
+    ensures sink_later { W.faults out.old ≤ W.faults out.new }
+{
+    let Ok(answer) = make_answer(alloc, words, shelf, gate) else {
+        return Status::OutOfMemory;
+    };
+    match write_whole(out, answer.text.as_slice()) {
+        Ok(()) => answer.status,
+        Err(_) => Status::WriteFault,
+    }
+}
