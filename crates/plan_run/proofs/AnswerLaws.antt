@@ -1,5 +1,5 @@
 -- Outcomes that were found, from what the readings ensure, and the answers that they give.
-use Rattle.std.proofs.Common.{◌≡◌, ℕ, ◌+◌, ◌^◌, ◌<◌, List, [], length, Option, Some, None, refl, sym, ap, ◌∙◌, arith, inl, inr}
+use Rattle.std.proofs.Common.{◌≡◌, ℕ, ◌+◌, ◌^◌, ◌<◌, List, [], length, Option, Some, None, refl, sym, ap, arith, inl}
 use Rattle.std.specs.Prelude.{IfSome, IsSomeAnd}
 use Rattle.std.specs.Io.KnownBytes.{Appends}
 use Rattle.std.proofs.lemmas.Grind.{common_steps}
@@ -13,7 +13,7 @@ use Rattle.plan_run.specs.declared.outcome.Outcome.TheVariants.{Usage, ReadFault
 use Rattle.plan_run.specs.declared.reading.TheConstants.{MAX_TEXT_BYTES}
 use Rattle.plan_run.specs.Words.{names_in}
 use Rattle.plan_run.specs.Lines.{read_fault_line, plan_text}
-use Rattle.plan_run.specs.Runs.{name_at, IsAt, IsAnswer, IsGoodAnswer}
+use Rattle.plan_run.specs.Runs.{name_at, IsAt, IsAnswer}
 use Rattle.plan_run.specs.declared.answer.Answer.{Answer}
 use Rattle.plan_run.specs.Answers.{IsMade}
 use Rattle.plan_run.specs.Outcomes.{number_of, status_of, text_of, IsPlanFrom, IsOutcome, IsUnread, IsFound}

@@ -6,6 +6,14 @@ use Rattle.plan_io.specs.declared.reading.ReadWhole.TheVariants as read
 use Rattle.one_demand.specs.declared.answer.Planned.{Planned}
 use Rattle.one_demand.specs.declared.answer.Planned.TheVariants.{Cheapest, NoDesign}
 use Rattle.one_demand.specs.Needs.{IsPlanned}
+use Rattle.plan_base.specs.declared.build_fault.BuildFault.{BuildFault}
+use Rattle.plan_base.specs.declared.build_fault.BuildFault.TheVariants as build
+use Rattle.snd_network.specs.declared.fault.FirstFault.{FirstFault}
+use Rattle.snd_network.specs.declared.fault.FirstFault.TheVariants as first
+use Rattle.one_demand.specs.declared.fault.PlanFault.{PlanFault}
+use Rattle.one_demand.specs.declared.fault.PlanFault.TheVariants as plan
+use Rattle.plan_run.specs.declared.planning.Stop.{Stop}
+use Rattle.plan_run.specs.declared.planning.Stop.TheVariants as stop
 use Rattle.plan_run.specs.declared.status.Status.{Status}
 use Rattle.plan_run.specs.declared.status.Status.TheVariants as status
 use Rattle.plan_run.specs.declared.outcome.NamedText.{NamedText}
@@ -64,6 +72,19 @@ IsOutcome words shelf begun Usage = (names_in words ≡ None) × (begun ≡ 0)
 IsOutcome words shelf begun (ReadFault text) = IsSomeAnd (names_in words) (λ names. IsAt shelf names begun × (begun ≡ number_of text))
 IsOutcome words shelf begun NotBuilt = IsSomeAnd (names_in words) (λ names. IsTooLong shelf names begun ⊎ AreBothRead shelf names begun)
 IsOutcome words shelf begun (WasPlanned planned) = IsSomeAnd (names_in words) (λ names. IsPlanFrom shelf names begun planned)
+
+-- why nothing is planned, where the reader, the instance or the planner refuses
+abbrev pub stop_of_reader : FirstFault → Stop
+stop_of_reader first.NotBuilt = stop.NotBuilt
+stop_of_reader first.OutOfMemory = stop.OutOfMemory
+
+abbrev pub stop_of_build : BuildFault → Stop
+stop_of_build build.OutOfMemory = stop.OutOfMemory
+stop_of_build _ = stop.NotBuilt
+
+abbrev pub stop_of_planner : PlanFault → Stop
+stop_of_planner plan.TooManyModules = stop.NotBuilt
+stop_of_planner plan.OutOfMemory = stop.OutOfMemory
 
 -- what comes of a text that was not read
 abbrev pub IsUnread : NamedText → ReadWhole → Outcome → Type 0

@@ -1,7 +1,7 @@
 //! From two texts to a plan.
 
-ghost use Rattle.std.specs.Prelude.{◌≡◌, IfOk, IfErr};
-ghost use Rattle.plan_run.specs.Outcomes.{IsPlanOf};
+ghost use Rattle.std.specs.Prelude.{◌≡◌, IfOk};
+ghost use Rattle.plan_run.specs.Outcomes.{IsPlanOf, stop_of_reader, stop_of_build, stop_of_planner};
 
 use crate::model_text::MODEL_TEXT;
 use one_demand::{PlanFault, Planned, plan_one};
@@ -19,6 +19,8 @@ pub enum Stop {
 }
 
 impl From<FirstFault> for Stop {
+    ghost from_gives = { λ fault stop. stop ≡ stop_of_reader fault };
+
     fn from(fault: FirstFault) -> Stop {
         match fault {
             FirstFault::NotBuilt => Stop::NotBuilt,
@@ -28,6 +30,8 @@ impl From<FirstFault> for Stop {
 }
 
 impl From<BuildFault> for Stop {
+    ghost from_gives = { λ fault stop. stop ≡ stop_of_build fault };
+
     fn from(fault: BuildFault) -> Stop {
         match fault {
             BuildFault::OutOfMemory => Stop::OutOfMemory,
@@ -37,6 +41,8 @@ impl From<BuildFault> for Stop {
 }
 
 impl From<PlanFault> for Stop {
+    ghost from_gives = { λ fault stop. stop ≡ stop_of_planner fault };
+
     fn from(fault: PlanFault) -> Stop {
         match fault {
             PlanFault::TooManyModules => Stop::NotBuilt,

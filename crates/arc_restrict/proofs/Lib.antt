@@ -1,0 +1,3 @@
+pub mod PathPrices
+pub mod RowLaws
+pub mod PartingLaws

@@ -1,0 +1,4 @@
+pub mod Restrictions
+pub mod Rows
+pub mod Prices
+pub mod Partings

@@ -1,0 +1,18 @@
+//! Restrictions: which arcs are forbidden to which demand, and where two paths part.
+//!
+//! Promises that a restriction forbids exactly what it was told to, and that the node where two
+//! simple paths first part is found. Begin at `Restriction`; the words for permitted paths, prices
+//! of paths and least prices stand in `specs/Restrictions.antt` and `specs/Prices.antt`. Stands on
+//! `plan_base`. How a least price or a second path is found is left to the crates above.
+#![tactic(auto)]
+
+pub mod laws;
+mod parting;
+mod restriction;
+mod shared;
+
+pub use parting::divergence;
+pub use restriction::Restriction;
+
+#[cfg(test)]
+mod tests;
