@@ -1,0 +1,51 @@
+-- How the next step is chosen, module by module.
+use Rattle.std.proofs.Common.{◌≡◌, ◌≢◌, ℕ, ◌+◌, ◌<◌, ◌≤◌, ◌⊎◌, inl, inr, List, length, Option, Some, None, IfSome, arith}
+use Rattle.std.proofs.Math.ListN.{set, length-set}
+use Rattle.std.proofs.lemmas.List.{get_or-set_same, get_or-set_other}
+use Rattle.plan_base.specs.declared.parts.Link.{Link}
+use Rattle.link_steps.specs.declared.step.Step.{Step}
+use Rattle.link_steps.specs.Steps.{IsNoWorse, IsNotWorse, Beats, IsPassedBy, AreStarts}
+use Rattle.link_steps.proofs.Order.{before_or_last, same_or_not}
+
+IsNoWorse-trans : (a b c : Step) → IsNoWorse a b → IsNoWorse b c → IsNoWorse a c
+IsNoWorse-trans a b c h k =
+    record { cost = omega (arith, h.cost, k.cost); reach = λ cheap. omega (arith, h.reach (omega (arith, k.cost)), k.reach (omega (arith, h.cost))) }
+
+-- what is no worse beats as much
+pub Beats-not_worse : (l : Link) (steps : List Step) (a b : Option Step) (m : ℕ) → IsNotWorse a b → Beats l steps b m → Beats l steps a m
+Beats-not_worse l steps None None m no_worse beats = beats
+Beats-not_worse l steps (Some x) None m no_worse beats = λ j within past. absurd (omega (arith, beats j within))
+Beats-not_worse l steps None (Some y) m no_worse beats = absurd no_worse
+Beats-not_worse l steps (Some x) (Some y) m no_worse beats = λ j within past. IsNoWorse-trans x y _ no_worse (beats j within past)
+
+-- the best so far, or of the module at hand
+pub Beats-next : (l : Link) (steps : List Step) (result best other : Option Step) (n : ℕ) → IsNotWorse result best → IsNotWorse result other → ((m : ℕ) → m < n → Beats l steps best m) → Beats l steps other n → (m : ℕ) → m < n + 1 → Beats l steps result m
+Beats-next l steps result best other n over_best over_other before here m within =
+    elim (before_or_last m n within) [
+      | inl old ↦ Beats-not_worse l steps result best m over_best (before m old)
+      | inr new ↦ rw new (Beats-not_worse l steps result other n over_other here)
+    ]
+
+pub IfSome-either : (P : Step → Type 0) (result best other : Option Step) → (result ≡ best) ⊎ (result ≡ other) → IfSome best P → IfSome other P → IfSome result P
+IfSome-either P result best other (inl is) h k = rw is h
+IfSome-either P result best other (inr is) h k = rw is k
+
+-- one place moves on
+pub AreStarts-set : (l : Link) (steps : List Step) (starts : List ℕ) (n place : ℕ) → n < length starts → place ≤ length steps → IsPassedBy l steps n place → AreStarts l steps starts → AreStarts l steps (set starts n place)
+AreStarts-set l steps starts n place within bound passed starts_ok =
+    let long : length (set starts n place) ≡ length starts = length-set starts n place in
+    record {
+      count = rw long starts_ok.count;
+      within = λ m below.
+          elim (same_or_not m n) [
+            | inl is ↦ rw (is, get_or-set_same {A = ℕ} starts n place 0 within) bound
+            | inr is_not ↦ rw (get_or-set_other {A = ℕ} starts n m place 0 is_not) (starts_ok.within m (omega arith))
+          ];
+      passed = λ m below.
+          elim (same_or_not m n) [
+            | inl is ↦ rw (is, get_or-set_same {A = ℕ} starts n place 0 within) passed
+            | inr is_not ↦ rw (get_or-set_other {A = ℕ} starts n m place 0 is_not) (starts_ok.passed m (omega arith))
+          ];
+    }
+
+pub ruleset choosing = (Beats-next, IfSome-either, AreStarts-set)

@@ -1,0 +1,15 @@
+pub mod Order
+pub mod Least
+pub mod Search
+pub mod Carrying
+pub mod LeastCosts
+pub mod Counts
+pub mod Reached
+pub mod Going
+pub mod Choosing
+pub mod Counted
+pub mod Tables
+pub mod Prices
+pub mod Made
+pub mod BestEnds
+pub mod Units

@@ -1,0 +1,82 @@
+-- What it costs to carry a load on a link, over all counts of its modules.
+use Rattle.std.specs.Prelude.{ℕ, ◌≡◌, ◌<◌, ◌≤◌, ◌+◌, ◌*◌, List, length, slice_index}
+use Rattle.plan_base.specs.declared.parts.Link.{Link}
+use Rattle.plan_base.specs.declared.parts.Parts.{Parts}
+use Rattle.plan_base.specs.Arcs.{link_at}
+use Rattle.plan_base.specs.Facts.{total_load}
+use Rattle.plan_base.specs.Designs.{capacity_with, module_cost_with}
+use Rattle.link_steps.specs.declared.limits.TheConstants.{MAX_STEPS}
+use Rattle.link_steps.specs.declared.step_fault.StepFault.{StepFault}
+use Rattle.link_steps.specs.declared.step_fault.StepFault.TheVariants.{TooManySteps, OutOfMemory}
+
+-- one count for each module of the link, together with a capacity of at least the load
+pub record Carries (l : Link) (load : ℕ) (counts : List ℕ) : Type 0 where
+  pub count : length counts ≡ length l.modules
+  pub enough : load ≤ capacity_with l counts
+
+-- some counts carry the load
+abbrev pub CanCarry : Link → ℕ → Type 0
+CanCarry l load = (counts : List ℕ) × Carries l load counts
+
+-- no counts carry the load
+abbrev pub CannotCarry : Link → ℕ → Type 0
+CannotCarry l load = (counts : List ℕ) → Carries l load counts → ⊥
+
+-- it is what some counts cost that carry the load, and all that carry it cost at least as much, in cost grains
+pub record IsLeastModuleCost (l : Link) (load cost : ℕ) : Type 0 where
+  pub counts : List ℕ
+  pub carries : Carries l load counts
+  pub attained : module_cost_with l counts ≡ cost
+  pub least : (others : List ℕ) → Carries l load others → cost ≤ module_cost_with l others
+
+-- counts that carry the load, and none that carry it cost less
+pub record AreLeastCounts (l : Link) (load : ℕ) (counts : List ℕ) : Type 0 where
+  pub carries : Carries l load counts
+  pub least : (others : List ℕ) → Carries l load others → module_cost_with l counts ≤ module_cost_with l others
+
+-- the routing cost of the load and its least module cost, in cost grains
+pub record IsStepCost (l : Link) (load cost : ℕ) : Type 0 where
+  pub module_cost : ℕ
+  pub is_least : IsLeastModuleCost l load module_cost
+  pub is_sum : cost ≡ l.routing * load + module_cost
+
+-- it is the least module cost of a load from 0 to the total load
+pub record IsCostWithin (total : ℕ) (l : Link) (cost : ℕ) : Type 0 where
+  pub load : ℕ
+  pub within : load ≤ total
+  pub is_least : IsLeastModuleCost l load cost
+
+-- some of the least module costs of the loads from 0 to the total load, in rising order
+pub record AreCostsWithin (total : ℕ) (l : Link) (costs : List ℕ) : Type 0 where
+  pub rising : (i j : ℕ) → i < j → j < length costs → slice_index costs i < slice_index costs j
+  pub each : (i : ℕ) → i < length costs → IsCostWithin total l (slice_index costs i)
+
+-- the least module costs of the loads from 0 to the total load take so many values
+pub record HasSteps (total : ℕ) (l : Link) (number : ℕ) : Type 0 where
+  pub costs : List ℕ
+  pub are_costs : AreCostsWithin total l costs
+  pub all : (cost : ℕ) → IsCostWithin total l cost → (i : ℕ) × (i < length costs) × (slice_index costs i ≡ cost)
+  pub count : length costs ≡ number
+
+-- they take at most so many values
+pub record HasAtMostSteps (total : ℕ) (l : Link) (most : ℕ) : Type 0 where
+  pub number : ℕ
+  pub has_steps : HasSteps total l number
+  pub within : number ≤ most
+
+-- they take more values than so many
+pub record HasMoreSteps (total : ℕ) (l : Link) (number : ℕ) : Type 0 where
+  pub costs : List ℕ
+  pub are_costs : AreCostsWithin total l costs
+  pub more : number < length costs
+
+-- the first link with too many steps
+pub record IsFirstPastSteps (p : Parts) (e : ℕ) : Type 0 where
+  pub within : e < length p.links
+  pub more : HasMoreSteps (total_load p) (link_at p e) MAX_STEPS
+  pub before : (i : ℕ) → i < e → HasAtMostSteps (total_load p) (link_at p i) MAX_STEPS
+
+-- when a fault comes; want of memory may always come
+abbrev pub IsFaultOf : Parts → StepFault → Type 0
+IsFaultOf p (TooManySteps link) = IsFirstPastSteps p link.0
+IsFaultOf p OutOfMemory = Unit {0}

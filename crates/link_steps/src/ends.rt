@@ -1,0 +1,132 @@
+//! The ends of steps: what is best at a price lies at one of them.
+
+ghost use Rattle.std.specs.Prelude.{ℕ, ◌≡◌, ◌<◌, ◌≤◌, ◌+◌, ◌-◌, ◌*◌, ◌^◌, ◌⊎◌, ◌-ℤ◌, pos, length, Some, IfOk, IfSome, IsTrue};
+ghost use Rattle.link_steps.specs.Steps.{step_at, AreInOrder, end_at, end_in, AreRisingEnds, IsBestSoFar, AreBestEnds, IsNotBelow, IsRestOf, IsLeastUnit};
+
+use crate::limits::MAX_STEPS;
+use crate::step::Step;
+use plan_base::limits::{MAX_PRICED_LOAD, MODULE_COST_BOUND};
+use std::alloc::{AllocError, Global};
+
+/// A load at which a step ends, and what the step costs.
+#[derive(Clone, Copy, Debug)]
+pub struct End {
+    /// In cost grains.
+    pub cost: u128,
+    /// In load grains.
+    pub load: u64,
+}
+
+/// The end of a step, for a link with this top load.
+fn end_of(step: Step, top: u64) -> End
+    ensures { result ≡ end_at top step }
+{
+    End {
+        cost: step.cost,
+        load: step.reach.min(top),
+    }
+}
+
+/// Whether the middle end is seen not to lie below the line through the others; a product past 128 bits is not looked at.
+fn is_not_below(before: End, middle: End, after: End) -> bool
+    requires first_load { before.load ≤ middle.load }
+    requires second_load { middle.load ≤ after.load }
+    requires first_cost { before.cost ≤ middle.cost }
+    requires second_cost { middle.cost ≤ after.cost }
+    ensures { IsTrue result → IsNotBelow before middle after }
+{
+    let steep = (after.cost - middle.cost).checked_mul(u128::from(middle.load - before.load));
+    let flat = (middle.cost - before.cost).checked_mul(u128::from(after.load - middle.load));
+    match (steep, flat) {
+        (Some(steep), Some(flat)) => steep <= flat,
+        _ => false,
+    }
+}
+
+/// Drops the last ends that lie on or above the line from the end before them to the next one.
+fn drop_outdone(ends: &mut Vec<End>, next: End)
+    requires rising { AreRisingEnds ends.old.items }
+    requires farther { (i : ℕ) → i < length ends.old.items → (end_in ends.old.items i).load < next.load }
+    requires dearer { (i : ℕ) → i < length ends.old.items → (end_in ends.old.items i).cost < next.cost }
+    ensures { IsRestOf ends.old.items next ends.new.items }
+{
+    while ends.len() >= 2 {
+        let last = ends.len() - 1;
+        if !is_not_below(ends[last - 1], ends[last], next) {
+            return;
+        }
+        ends.truncate(last);
+    }
+}
+
+/// Ends of which one is best at each slope: the corners of the lower hull of all ends.
+pub fn best_ends(alloc: Global, steps: &[Step], top: u64) -> Result<Vec<End>, AllocError>
+    requires in_order { AreInOrder steps.now }
+    requires low { (i : ℕ) → i + 1 < length steps.now → (step_at steps.now i).reach < top }
+    ensures { IfOk result (λ ends. AreBestEnds steps.now top (length steps.now) ends.items) }
+{
+    let mut ends = Vec::new(alloc);
+    for step in steps {
+        let end = end_of(*step, top);
+        drop_outdone(&mut ends, end);
+        ends.push(end)?;
+    }
+    Ok(ends)
+}
+
+/// The first end where a thousand costs less the slope times the load are least: the slope is in thousandths of a cost
+/// grain per load grain.
+pub fn best_end(ends: &[End], slope: u128) -> End
+    requires some { 0 < length ends.now }
+    requires rising { AreRisingEnds ends.now }
+    requires cost { (i : ℕ) → i < length ends.now → (end_in ends.now i).cost ≤ MAX_STEPS * MODULE_COST_BOUND }
+    requires slope { (i : ℕ) → i < length ends.now → slope * (end_in ends.now i).load ≤ MAX_PRICED_LOAD }
+    ensures { IsBestSoFar ends.now slope (length ends.now) result }
+{
+    let mut best = ends[0];
+    for end in ends {
+        if 1000 * end.cost + slope * u128::from(best.load)
+            < 1000 * best.cost + slope * u128::from(end.load)
+        {
+            best = *end;
+        }
+    }
+    best
+}
+
+/// A thousand costs less the slope times the load, in thousandths of a cost grain.
+pub fn value_of(end: End, slope: u128) -> i128
+    requires cost { end.cost ≤ MAX_STEPS * MODULE_COST_BOUND }
+    requires slope { slope * end.load ≤ MAX_PRICED_LOAD }
+    ensures { result ≡ (pos (1000 * end.cost) -ℤ pos (slope * end.load)) }
+{
+    (1000 * end.cost) as i128 - (slope * u128::from(end.load)) as i128
+}
+
+/// The least of a thousand costs for each load grain, rounded down, over the ends past load 0.
+pub fn least_unit(steps: &[Step], top: u64) -> Option<u128>
+    requires in_order { AreInOrder steps.now }
+    requires few { length steps.now ≤ MAX_STEPS }
+    ensures least { IsLeastUnit steps.now top (length steps.now) result }
+    ensures within { IfSome result (λ unit. unit ≤ 1000 * (MAX_STEPS * MODULE_COST_BOUND)) }
+{
+    let mut least: Option<u128> = None;
+    for step in steps {
+        let end = end_of(*step, top);
+        if end.load > 0 {
+            least = Some(smaller(least, 1000 * end.cost / u128::from(end.load)));
+        }
+    }
+    least
+}
+
+fn smaller(least: Option<u128>, unit: u128) -> u128
+    ensures either { (result ≡ unit) ⊎ (least ≡ Some result) }
+    ensures unit { result ≤ unit }
+    ensures least { IfSome least (λ other. result ≤ other) }
+{
+    match least {
+        Some(other) if other < unit => other,
+        _ => unit,
+    }
+}

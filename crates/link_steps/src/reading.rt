@@ -1,0 +1,101 @@
+//! What the steps of a link tell of loads and prices.
+
+ghost use Rattle.std.specs.Prelude.{ℕ, ◌<◌, ◌≤◌, length, IfOk};
+ghost use Rattle.link_steps.specs.Steps.{step_at, AreRising, AreStepsOf, IsMadeOf};
+
+use crate::limits::MAX_STEPS;
+use crate::step::Step;
+use plan_base::Link;
+use std::alloc::{AllocError, Global};
+
+/// The least value that prices give to a link, and the smallest load that gives it.
+#[derive(Clone, Copy, Debug, PartialEq, Eq)]
+pub struct LinkValue {
+    /// In thousandths of a cost grain.
+    pub value: i128,
+    /// In load grains.
+    pub load: u64,
+}
+
+/// The place of the first step that reaches the load, in load grains, or the count of steps where none does.
+pub fn first_reaching(steps: &[Step], load: u64) -> usize
+    requires { AreRising steps.now }
+    ensures within { result ≤ length steps.now }
+    ensures before { (j : ℕ) → j < result → (step_at steps.now j).reach < load }
+    ensures here { result < length steps.now → load ≤ (step_at steps.now result).reach }
+{
+    let mut low = 0;
+    let mut high = steps.len();
+    while low < high {
+        let middle = low + (high - low) / 2;
+        if steps[middle].reach < load {
+            low = middle + 1;
+        } else {
+            high = middle;
+        }
+    }
+    low
+}
+
+/// The counts of the modules that the steps to a place add, one after the other.
+fn added_counts(
+    alloc: Global,
+    link: &Link,
+    steps: &[Step],
+    place: usize,
+) -> Result<Vec<u64>, AllocError>
+    requires steps { AreStepsOf link.now steps.now }
+    requires few { length steps.now ≤ MAX_STEPS }
+    requires place { place < length steps.now }
+    requires added { 0 < place }
+    ensures { IfOk result (λ counts. IsMadeOf link.now (step_at steps.now place) (step_at steps.now place).reach counts.items) }
+{
+    let mut counts = vec![in alloc; 0u64; link.modules.len()]?;
+    let mut here = place;
+    while here > 0 {
+        let step = steps[here];
+        counts[step.added as usize] += 1;
+        here = step.before as usize;
+    }
+    Ok(counts)
+}
+
+/// The counts that carry a load at no cost: none, or as many free modules as it needs.
+fn free_counts(
+    alloc: Global,
+    link: &Link,
+    steps: &[Step],
+    load: u64,
+) -> Result<Vec<u64>, AllocError>
+    requires steps { AreStepsOf link.now steps.now }
+    requires load { load ≤ (step_at steps.now 0).reach }
+    ensures { IfOk result (λ counts. IsMadeOf link.now (step_at steps.now 0) load counts.items) }
+{
+    let mut counts = vec![in alloc; 0u64; link.modules.len()]?;
+    if load > link.pre {
+        let free = steps[0].added as usize;
+        counts[free] = (load - link.pre).div_ceil(link.modules.as_slice()[free].capacity);
+    }
+    Ok(counts)
+}
+
+/// One count for each module: together they reach the load, in load grains, at the cost of the step at this place.
+pub fn counts_of(
+    alloc: Global,
+    link: &Link,
+    steps: &[Step],
+    place: usize,
+    load: u64,
+) -> Result<Vec<u64>, AllocError>
+    requires steps { AreStepsOf link.now steps.now }
+    requires few { length steps.now ≤ MAX_STEPS }
+    requires place { place < length steps.now }
+    requires load { load ≤ (step_at steps.now place).reach }
+    ensures { IfOk result (λ counts. IsMadeOf link.now (step_at steps.now place) load counts.items) }
+{
+    if place == 0 {
+        free_counts(alloc, link, steps, load)
+    } else {
+        added_counts(alloc, link, steps, place)
+    }
+}

@@ -1,0 +1,207 @@
+//! The step table: the least module costs of all links of an instance.
+
+ghost use Rattle.std.specs.Prelude.{ℕ, ◌≡◌, ◌<◌, ◌≤◌, ◌-◌, ◌*◌, ◌-ℤ◌, ◌≤ℤ◌, pos, length, All, IfOk, IfErr, IfSome, IfNone};
+ghost use Rattle.plan_base.specs.Facts.{total_load, top_load, price_limit, IsInstance};
+ghost use Rattle.plan_base.specs.Arcs.{link_at};
+ghost use Rattle.plan_base.specs.Designs.{AreCountsInShape};
+ghost use Rattle.link_steps.specs.Costs.{CannotCarry, IsLeastModuleCost, AreLeastCounts, HasSteps, HasAtMostSteps, IsFaultOf};
+ghost use Rattle.link_steps.specs.Values.{IsLinkValue, IsFirstLoad, IsStartPrice, AreStartPrices};
+
+use crate::ends::{End, best_end, best_ends, least_unit, value_of};
+use crate::limits::MAX_STEPS;
+use crate::making::steps_of;
+use crate::reading::{LinkValue, counts_of, first_reaching};
+use crate::step::Step;
+use crate::step_fault::StepFault;
+use plan_base::limits::{MAX_PRICED_LOAD, MODULE_COST_BOUND};
+use plan_base::{Instance, Items, LinkId, Prices};
+use std::alloc::{AllocError, Global};
+use std::marker::Model;
+
+/// The least module costs of all links of an instance, of which it keeps a copy.
+#[derive(Debug, Drop)]
+pub struct StepTable {
+    inst: Instance,
+    tables: Vec<Items<Step>>,
+    ends: Vec<Items<End>>,
+}
+
+impl Model for StepTable {
+    ghost use Rattle.plan_base.specs.declared.parts.Parts.{Parts};
+    ghost use Rattle.link_steps.specs.Steps.{AreTables};
+
+    ghost Value = { Parts };
+
+    ghost view = { λ a. a.inst };
+
+    ghost invariant = { λ a. AreTables a.inst a.tables.items a.ends.items };
+}
+
+impl StepTable {
+    ghost use Rattle.link_steps.specs.Steps.{AreAllSteps, AreEndsOf};
+
+    /// The steps of a link.
+    fn steps_of_link(&self, link: LinkId) -> &[Step]
+        requires { link.0 < length self.now.links }
+        ensures { AreAllSteps (total_load self.now) (link_at self.now link.0) result.now }
+    {
+        self.tables[link.0 as usize].as_slice()
+    }
+
+    /// The best ends of the steps of a link.
+    fn ends_of_link(&self, link: LinkId) -> &[End]
+        requires { link.0 < length self.now.links }
+        ensures { AreEndsOf self.now (link_at self.now link.0) result.now }
+    {
+        self.ends[link.0 as usize].as_slice()
+    }
+
+    /// The table of an instance.
+    ///
+    /// - Errors: `TooManySteps`, at the first link whose least module cost takes more than `MAX_STEPS` values over the
+    ///   loads from 0 to the total load.
+    /// - Rule: docs/DEFINITIONS.md, "Least module cost".
+    /// - Time: for each link the number of its steps times that of its modules; the sizes of loads and capacities do not
+    ///   count, and a link with too many steps is left at the first one too many.
+    pub fn make(alloc: Global, inst: &Instance) -> Result<StepTable, StepFault>
+        ensures value { IfOk result (λ table. table ≡ inst.now) }
+        ensures few { IfOk result (λ _. (e : ℕ) → e < length inst.now.links → HasAtMostSteps (total_load inst.now) (link_at inst.now e) MAX_STEPS) }
+        ensures fault { IfErr result (IsFaultOf inst.now) }
+    {
+        let total = inst.total_load();
+        let mut tables = Vec::new(alloc);
+        let mut ends = Vec::new(alloc);
+        for place in 0..inst.links() {
+            let link = LinkId(place);
+            let steps = steps_of(alloc, link, inst.link(link), total)?;
+            let best = best_ends(alloc, &steps, inst.top_load(link))?;
+            tables.push(Items::from_vec(steps))?;
+            ends.push(Items::from_vec(best))?;
+        }
+        let inst = inst.copy(alloc)?;
+        Ok(StepTable { inst, tables, ends })
+    }
+
+    /// The least module cost of a load on a link, over all counts of its modules. Takes no memory.
+    ///
+    /// - Takes: a link of the instance; a load of at most the total load, in load grains.
+    /// - Gives: cost grains; None exactly where no counts carry the load.
+    /// - Rule: docs/DEFINITIONS.md, "Least module cost".
+    /// - Time: the logarithm of the number of steps.
+    pub fn at(&self, link: LinkId, load: u64) -> Option<u128>
+        requires link { link.0 < length self.now.links }
+        requires load { load ≤ total_load self.now }
+        ensures least { IfSome result (IsLeastModuleCost (link_at self.now link.0) load) }
+        ensures none { IfNone result (CannotCarry (link_at self.now link.0) load) }
+        ensures within { IfSome result (λ cost. cost ≤ (MAX_STEPS - 1) * MODULE_COST_BOUND) }
+    {
+        let steps = self.steps_of_link(link);
+        let place = first_reaching(steps, load);
+        if place < steps.len() {
+            Some(steps[place].cost)
+        } else {
+            None
+        }
+    }
+
+    /// Counts that carry a load on a link at its least module cost, each of them in shape.
+    ///
+    /// - Takes: a link of the instance; a load of at most the total load, in load grains.
+    /// - Gives: one count for each module, in the order of `link.modules`; None exactly where no counts carry the load.
+    /// - Errors: want of memory alone.
+    /// - Rule: docs/DEFINITIONS.md, "Least module cost".
+    /// - Time: at most the number of steps and that of modules.
+    pub fn counts(
+        &self,
+        alloc: Global,
+        link: LinkId,
+        load: u64,
+    ) -> Result<Option<Items<u64>>, AllocError>
+        requires link { link.0 < length self.now.links }
+        requires load { load ≤ total_load self.now }
+        ensures least { IfOk result (λ found. IfSome found (AreLeastCounts (link_at self.now link.0) load)) }
+        ensures in_shape { IfOk result (λ found. IfSome found (AreCountsInShape (link_at self.now link.0))) }
+        ensures none { IfOk result (λ found. IfNone found (CannotCarry (link_at self.now link.0) load)) }
+    {
+        let steps = self.steps_of_link(link);
+        let place = first_reaching(steps, load);
+        if place == steps.len() {
+            return Ok(None);
+        }
+        let counts = counts_of(alloc, self.inst.link(link), steps, place, load)?;
+        Ok(Some(Items::from_vec(counts)))
+    }
+
+    /// How many values the least module cost of a link takes over the loads from 0 to the total load, where it is
+    /// defined. Takes no memory.
+    ///
+    /// - Rule: docs/DEFINITIONS.md, "Steps of a link".
+    pub fn steps(&self, link: LinkId) -> u32
+        requires { link.0 < length self.now.links }
+        ensures value { HasSteps (total_load self.now) (link_at self.now link.0) result }
+        ensures within { result ≤ MAX_STEPS }
+    {
+        self.steps_of_link(link).len() as u32
+    }
+
+    /// The least that a price leaves of the step costs of a link: of a thousand step costs less the price times the
+    /// load, over the loads from 0 to the top load. Takes no memory.
+    ///
+    /// - Takes: a link of the instance; a price of at most the price limit, in thousandths of a cost grain per load grain.
+    /// - Gives: that value, in thousandths of a cost grain, and the smallest load that gives it, in load grains.
+    /// - Rule: docs/DEFINITIONS.md, "Link value".
+    /// - Time: the number of corners of the lower hull of the ends of steps, which are few.
+    pub fn link_value(&self, link: LinkId, price: u128) -> LinkValue
+        requires link { link.0 < length self.now.links }
+        requires price { price ≤ price_limit self.now }
+        ensures value { IsLinkValue self.now (link_at self.now link.0) price result.value }
+        ensures load { IsFirstLoad (link_at self.now link.0) price result.value result.load }
+        ensures load_within { result.load ≤ top_load self.now (link_at self.now link.0) }
+        ensures not_positive { result.value ≤ℤ pos 0 }
+        ensures bounded { (pos 0 -ℤ pos MAX_PRICED_LOAD) ≤ℤ result.value }
+    {
+        let ends = self.ends_of_link(link);
+        let routing = 1000 * u128::from(self.inst.link(link).routing);
+        if price <= routing {
+            return LinkValue { value: 0, load: 0 };
+        }
+        let slope = price - routing;
+        let end = best_end(ends, slope);
+        LinkValue {
+            value: value_of(end, slope),
+            load: end.load,
+        }
+    }
+
+    /// The start price of a link, in thousandths of a cost grain per load grain.
+    fn start_price(&self, link: LinkId) -> u128
+        requires lawful { IsInstance self.now }
+        requires link { link.0 < length self.now.links }
+        ensures value { IsStartPrice self.now (link_at self.now link.0) result }
+        ensures within { result ≤ price_limit self.now }
+    {
+        let steps = self.steps_of_link(link);
+        match least_unit(steps, self.inst.top_load(link)) {
+            None => self.inst.price_limit(),
+            Some(unit) => 1000 * u128::from(self.inst.link(link).routing) + unit,
+        }
+    }
+
+    /// The start prices: at each link the greatest whole price that leaves nothing negative, and the price limit where
+    /// the link may carry no load.
+    ///
+    /// - Gives: one price for each link, in order, in thousandths of a cost grain per load grain.
+    /// - Errors: want of memory alone.
+    /// - Rule: docs/DEFINITIONS.md, "Start prices".
+    /// - Time: the number of steps of all links.
+    pub fn start_prices(&self, alloc: Global) -> Result<Prices, AllocError>
+        ensures value { IfOk result (AreStartPrices self.now) }
+        ensures within { IfOk result (All (λ price. price ≤ price_limit self.now)) }
+    {
+        let mut numerators = Vec::new(alloc);
+        for place in 0..self.inst.links() {
+            numerators.push(self.start_price(LinkId(place)))?;
+        }
+        Ok(Prices::from_vec(numerators))
+    }
+}
