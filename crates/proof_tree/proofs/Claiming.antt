@@ -1,0 +1,203 @@
+-- What a valid plan claims is so.
+use Rattle.std.proofs.Common.{◌≡◌, ℕ, zero, suc, ◌*◌, ◌<◌, ◌≤◌, inl, inr, Bool, true, false, List, [], ◌∷◌, length, slice_index, slice_index_or, if◌then◌else◌, Option, Some, None, refl, sym, ap, subst, ◌∙◌, arith}
+use Rattle.std.specs.Prelude.{ℤ, pos, ◌≤ℤ◌, ◌<ℤ◌, All, IsSome, IsNone, IfSome, IsSomeAnd, MatchOption}
+use Rattle.std.specs.Option.{option_map}
+use Rattle.std.specs.List.{list_any}
+use Rattle.std.proofs.Math.Nat.{mul-le-mul_left}
+use Rattle.std.proofs.lemmas.Int.{ints, by_lt_z}
+use Rattle.plan_base.specs.declared.ids.ArcId.{ArcId}
+use Rattle.plan_base.specs.declared.ids.DemandId.{DemandId}
+use Rattle.plan_base.specs.declared.ids.LinkId.{LinkId}
+use Rattle.plan_base.specs.declared.parts.Parts.{Parts}
+use Rattle.plan_base.specs.declared.path.Design.{Design}
+use Rattle.plan_base.specs.Facts.{is_useful}
+use Rattle.plan_base.specs.Arcs.{link_at, demand_at, no_arc}
+use Rattle.plan_base.specs.Paths.{uses, arc_at, node_at, IsSimplePath}
+use Rattle.plan_base.specs.Designs.{path_at, counts_at, load_from, load_on, link_cost, cost_of, IsDesign, IsFeasible}
+use Rattle.link_steps.specs.Costs.{Carries, IsStepCost}
+use Rattle.link_steps.proofs.Carrying.{capacity-useless}
+use Rattle.arc_restrict.specs.Restrictions.{Forbidden, none_forbidden, IsPermitted, IsPermittedPath, LiesIn}
+use Rattle.proof_tree.specs.declared.tree.Evidence.{Evidence}
+use Rattle.proof_tree.specs.declared.tree.Evidence.TheVariants.{Bound, Routed, Overfull, Cut, Crowd, Open}
+use Rattle.proof_tree.specs.declared.tree.TreeNode.{TreeNode}
+use Rattle.proof_tree.specs.declared.tree.TreeNode.TheVariants.{Leaf}
+use Rattle.proof_tree.specs.declared.plan.PlanStatus.{PlanStatus}
+use Rattle.proof_tree.specs.declared.plan.PlanStatus.TheVariants.{Optimal, Infeasible, Undecided}
+use Rattle.proof_tree.specs.declared.plan.Plan.{Plan}
+use Rattle.plan_base.specs.Claims.{IsOptimal, HasNoDesign}
+use Rattle.proof_tree.specs.Evidence.{AreOnlyPaths, ClosedByRouting, ClosedByOverfull, ClosedByCut, ClosedByCrowd, HasEvidence}
+use Rattle.proof_tree.specs.Trees.{LeafAt, leaves_of, IsValidTree}
+use Rattle.proof_tree.specs.Plans.{stated_cost, is_open, IsStatedDesign, IsOpenBound, IsCandidate, IsLeastCandidate, HasStatus, IsValidPlan, IsUndercutByNone, ClaimHolds, HasItsClaim}
+use Rattle.plan_base.proofs.SumsBelow.{sum_below-same, sum_below-le}
+use Rattle.proof_tree.proofs.Covering.{tree-covers, leaves-evidence, leaves-fail}
+use Rattle.proof_tree.proofs.Duality.{price_total-le, bound-le-cost}
+use Rattle.proof_tree.proofs.Presence.{bound-not_absent}
+
+-- a feasible design in a restriction
+record IsFeasibleIn (p : Parts) (r : Forbidden) (d : Design) : Type 0 where
+  design : IsDesign p d
+  feasible : IsFeasible p d
+  lies : LiesIn p d r
+
+permitted_path : (p : Parts) (r : Forbidden) (d : Design) → IsDesign p d → LiesIn p d r → (k : ℕ) → k < length p.demands → IsPermittedPath p r k (path_at d k)
+permitted_path p r d design lies k below = record { simple = design.paths k below; permitted = lies k below }
+
+-- where only one routing is permitted, a design in the restriction has its loads
+only_paths-load : (p : Parts) (r : Forbidden) (routing d : Design) (e : ℕ) → AreOnlyPaths p r routing → IsDesign p d → LiesIn p d r → load_on p d e ≡ load_on p routing e
+unfolding load_from
+only_paths-load p r routing d e only design lies =
+    sum_below-same (load_from p d e) (load_from p routing e) (length p.demands)
+    (λ k below. ap (λ arcs. if uses e arcs then (demand_at p k).load else 0) ((only k below).only (path_at d k) (permitted_path p r d design lies k below)))
+
+Carries-load : (p : Parts) (d : Design) (e load : ℕ) → IsDesign p d → IsFeasible p d → e < length p.links → load_on p d e ≡ load → Carries (link_at p e) load (counts_at d e)
+Carries-load p d e load design feasible within same = record { count = design.counts e within; enough = rw (← same) (feasible e within) }
+
+step_cost-le : (p : Parts) (d : Design) (e load cost : ℕ) → IsDesign p d → IsFeasible p d → e < length p.links → load_on p d e ≡ load → IsStepCost (link_at p e) load cost → cost ≤ link_cost p d e
+step_cost-le p d e load cost design feasible within same is_cost =
+    let cheaper = is_cost.is_least.least (counts_at d e) (Carries-load p d e load design feasible within same) in
+    let sum = is_cost.is_sum in
+    let routed : (link_at p e).routing * load_on p d e ≡ (link_at p e).routing * load = ap (λ x. (link_at p e).routing * x) same in
+    omega arith
+
+routing-le : (p : Parts) (r : Forbidden) (cost : ℕ) (d : Design) → ClosedByRouting p r cost → IsFeasibleIn p r d → cost ≤ cost_of p d
+routing-le p r cost d closed h =
+    let each = sum_below-le closed.step_costs (link_cost p d) (length p.links) (λ e within.
+    step_cost-le p d e (load_on p closed.routing e) (closed.step_costs e) h.design h.feasible within (only_paths-load p r closed.routing d e closed.only h.design h.lies) (closed.are_costs e within)) in
+    let enough = closed.enough in
+    omega arith
+
+overfull-none : (p : Parts) (r : Forbidden) (link : LinkId) (d : Design) → ClosedByOverfull p r link → IsFeasibleIn p r d → ⊥
+overfull-none p r link d closed h =
+    closed.overfull (counts_at d link.0) (Carries-load p d link.0 _ h.design h.feasible closed.is_link (only_paths-load p r closed.routing d link.0 closed.only h.design h.lies))
+
+-- a permitted path does not leave a closed set
+stays : (p : Parts) (r : Forbidden) (id : DemandId) (reached : List Bool) (arcs : List ArcId) → ClosedByCut p r id reached → IsSimplePath p (demand_at p id.0) arcs → IsPermitted r id.0 arcs → (i : ℕ) → i ≤ length arcs → slice_index_or reached (node_at p (demand_at p id.0).source arcs i) false ≡ true
+stays p r id reached arcs closed simple permitted zero within = closed.source
+stays p r id reached arcs closed simple permitted (suc i) within =
+    closed.closed (arc_at arcs i) (simple.are_arcs i (omega arith)) (permitted i no_arc (omega arith))
+    (ap (λ n. slice_index_or reached n false) (simple.goes_on i (omega arith)) ∙ stays p r id reached arcs closed simple permitted i (omega arith))
+
+cut-none : (p : Parts) (r : Forbidden) (id : DemandId) (reached : List Bool) (d : Design) → ClosedByCut p r id reached → IsFeasibleIn p r d → ⊥
+cut-none p r id reached d closed h =
+    let simple = h.design.paths id.0 closed.demand in
+    let inside = stays p r id reached (path_at d id.0) closed simple (h.lies id.0 closed.demand) (length (path_at d id.0)) (omega arith) in
+    let bad : true ≡ false = sym inside ∙ ap (λ n. slice_index_or reached n false) simple.ends_at_target ∙ closed.target in
+    cc
+
+crowd-none : (p : Parts) (r : Forbidden) (prices : List ℕ) (d : Design) → ClosedByCrowd p r prices → IsFeasibleIn p r d → ⊥
+crowd-none p r prices d closed h =
+    let priced = price_total-le p r prices closed.least_prices d closed.are_least h.design h.lies in
+    let carried = sum_below-le (λ e. slice_index prices e * load_on p d e) (λ e. slice_index prices e * (link_at p e).pre) (length p.links) (λ e within. at_link e within (is_useful (link_at p e)) refl) in
+    let crowded = closed.crowded in
+    omega arith
+  where
+    at_link : (e : ℕ) → e < length p.links → (b : Bool) → is_useful (link_at p e) ≡ b → slice_index prices e * load_on p d e ≤ slice_index prices e * (link_at p e).pre
+    at_link e within true is = rw (closed.free e within is) (omega arith)
+    at_link e within false is =
+        let same = capacity-useless (link_at p e) (counts_at d e) is in
+        let carries = h.feasible e within in
+        mul-le-mul_left (slice_index prices e) (omega arith)
+
+-- a feasible design in a closed leaf costs at least the cost that the leaf is closed against, and there is one
+closed_leaf : (p : Parts) (cost : Option ℕ) (r : Forbidden) (evidence : Evidence) (d : Design) → HasEvidence p cost r evidence → is_open (Leaf evidence) ≡ false → IsFeasibleIn p r d → IsSomeAnd cost (λ c. c ≤ cost_of p d)
+closed_leaf p None r (Bound prices) d closed shut h = closed
+closed_leaf p (Some c) r (Bound prices) d closed shut h =
+    let enough = closed.enough in
+    let dual = bound-le-cost p r prices closed.bound d closed.is_bound h.design h.feasible h.lies in
+    omega (arith, ints)
+closed_leaf p None r Routed d closed shut h = closed
+closed_leaf p (Some c) r Routed d closed shut h = routing-le p r c d closed h
+closed_leaf p cost r (Overfull link) d closed shut h = absurd (overfull-none p r link d closed h)
+closed_leaf p cost r (Cut id reached) d closed shut h = absurd (cut-none p r id reached d closed h)
+closed_leaf p cost r (Crowd prices) d closed shut h = absurd (crowd-none p r prices d closed h)
+closed_leaf p cost r (Open prices) d closed shut h = absurd (let bad : true ≡ false = shut in cc)
+
+-- the leaf of a valid tree in which a feasible design lies
+record IsLeafOf (p : Parts) (cost : Option ℕ) (records : List TreeNode) (d : Design) : Type 0 where
+  place : ℕ
+  leaf : LeafAt
+  within : place < length (leaves_of records)
+  same : slice_index_or (leaves_of records) place leaf ≡ leaf
+  evidence : HasEvidence p cost leaf.restriction leaf.evidence
+  feasible : IsFeasibleIn p leaf.restriction d
+
+leaf_of : (p : Parts) (cost : Option ℕ) (records : List TreeNode) (d : Design) → IsValidTree p cost records → IsDesign p d → IsFeasible p d → IsLeafOf p cost records d
+leaf_of p cost records d valid design feasible =
+    let found = tree-covers p cost records d valid design in
+    record {
+      place = found.0;
+      leaf = found.1;
+      within = found.2;
+      same = found.3;
+      evidence = subst (λ (leaf : LeafAt). HasEvidence p cost leaf.restriction leaf.evidence) found.3 (leaves-evidence p cost (none_forbidden ∷ []) records valid found.0 found.1 found.2);
+      feasible = record { design = design; feasible = feasible; lies = found.4 };
+    }
+
+-- what holds of all leaves holds of this one
+IsLeafOf-All : (p : Parts) (cost : Option ℕ) (records : List TreeNode) (d : Design) (P : LeafAt → Type 0) → (h : IsLeafOf p cost records d) → All P (leaves_of records) → P h.leaf
+IsLeafOf-All p cost records d P h all = subst P h.same (all h.place h.leaf h.within)
+
+leaf-fails : (p : Parts) (cost : Option ℕ) (records : List TreeNode) (d : Design) (test : TreeNode → Bool) → (h : IsLeafOf p cost records d) → list_any test records ≡ false → test (Leaf h.leaf.evidence) ≡ false
+leaf-fails p cost records d test h none = IsLeafOf-All p cost records d (λ leaf. test (Leaf leaf.evidence) ≡ false) h (leaves-fail test (none_forbidden ∷ []) records none)
+
+optimal_claim : (p : Parts) (design : Option (ℕ × Design)) (records : List TreeNode) → IsValidTree p (option_map (λ x. x.0) design) records → IfSome design (λ x. IsStatedDesign p x.0 x.1) → IsSome design → list_any is_open records ≡ false → IsSomeAnd design (λ x. IsOptimal p x.1)
+optimal_claim p None records valid stated some shut = absurd (let bad : false ≡ true = some in cc)
+optimal_claim p (Some x) records valid stated some shut = record {
+  design = stated.good.design;
+  feasible = stated.good.feasible;
+  least = λ d design feasible.
+      (let h = leaf_of p (Some x.0) records d valid design feasible in
+      let at_least = closed_leaf p (Some x.0) h.leaf.restriction h.leaf.evidence d h.evidence (leaf-fails p (Some x.0) records d is_open h shut) h.feasible in
+      let is = stated.cost_is in
+      omega arith);
+}
+
+none_of : {X : Type 0} (o : Option X) → IsNone o → o ≡ None
+none_of None h = refl
+none_of (Some x) h = absurd (let bad : true ≡ false = h in cc)
+
+infeasible_claim : (p : Parts) (design : Option (ℕ × Design)) (records : List TreeNode) → IsValidTree p (option_map (λ x. x.0) design) records → design ≡ None → list_any is_open records ≡ false → HasNoDesign p
+infeasible_claim p (Some x) records valid none shut d design feasible = absurd (let bad : Some x ≡ None = none in cc)
+infeasible_claim p None records valid none shut d design feasible =
+    let h = leaf_of p None records d valid design feasible in
+    closed_leaf p None h.leaf.restriction h.leaf.evidence d h.evidence (leaf-fails p None records d is_open h shut) h.feasible
+
+-- a candidate at most the cost of a feasible design is not absent
+candidate-not_absent : (p : Parts) (plan : Plan) (d : Design) → IsValidTree p (stated_cost plan) plan.tree → IsDesign p d → IsFeasible p d → ((candidate : ℤ) → IsCandidate p plan candidate → candidate ≤ℤ pos (cost_of p d) → ⊥) → ⊥
+candidate-not_absent p plan d valid design feasible none =
+    let h = leaf_of p (stated_cost plan) plan.tree d valid design feasible in
+    by_evidence h.leaf.evidence h refl
+  where
+    at_cost : (cost : Option ℕ) → stated_cost plan ≡ cost → IsSomeAnd cost (λ c. c ≤ cost_of p d) → ⊥
+    at_cost None is closed = closed
+    at_cost (Some c) is closed =
+        none (pos c) (inl (subst (λ (cost : Option ℕ). IsSomeAnd cost (λ x. pos x ≡ pos c)) (sym is) refl)) (omega (arith, ints))
+
+    by_evidence : (evidence : Evidence) → (h : IsLeafOf p (stated_cost plan) plan.tree d) → h.leaf.evidence ≡ evidence → ⊥
+    by_evidence (Open prices) h is = bound-not_absent p h.leaf.restriction prices
+        (λ k below. (path_at d k, permitted_path p h.leaf.restriction d h.feasible.design h.feasible.lies k below))
+        (λ bound is_bound. none bound (inr (h.place, h.leaf, h.within, h.same, subst (λ (evidence : Evidence). IsOpenBound p h.leaf.restriction evidence bound) (sym is) is_bound)) (bound-le-cost p h.leaf.restriction prices bound d is_bound design feasible h.feasible.lies))
+    by_evidence (Bound prices) h is = at_cost (stated_cost plan) refl (closed_leaf p (stated_cost plan) h.leaf.restriction h.leaf.evidence d h.evidence (ap (λ (evidence : Evidence). is_open (Leaf evidence)) is) h.feasible)
+    by_evidence Routed h is = at_cost (stated_cost plan) refl (closed_leaf p (stated_cost plan) h.leaf.restriction h.leaf.evidence d h.evidence (ap (λ (evidence : Evidence). is_open (Leaf evidence)) is) h.feasible)
+    by_evidence (Overfull link) h is = at_cost (stated_cost plan) refl (closed_leaf p (stated_cost plan) h.leaf.restriction h.leaf.evidence d h.evidence (ap (λ (evidence : Evidence). is_open (Leaf evidence)) is) h.feasible)
+    by_evidence (Cut id reached) h is = at_cost (stated_cost plan) refl (closed_leaf p (stated_cost plan) h.leaf.restriction h.leaf.evidence d h.evidence (ap (λ (evidence : Evidence). is_open (Leaf evidence)) is) h.feasible)
+    by_evidence (Crowd prices) h is = at_cost (stated_cost plan) refl (closed_leaf p (stated_cost plan) h.leaf.restriction h.leaf.evidence d h.evidence (ap (λ (evidence : Evidence). is_open (Leaf evidence)) is) h.feasible)
+
+undecided_claim : (p : Parts) (plan : Plan) → IsValidTree p (stated_cost plan) plan.tree → (bound : Option ℤ) → MatchOption bound ((candidate : ℤ) → IsCandidate p plan candidate → ⊥) (λ candidate. IsLeastCandidate p plan candidate) → MatchOption bound (HasNoDesign p) (λ candidate. IsUndercutByNone p candidate)
+undecided_claim p plan valid None none = λ d design feasible. candidate-not_absent p plan d valid design feasible (λ candidate is_candidate le. none candidate is_candidate)
+undecided_claim p plan valid (Some bound) least = λ d design feasible.
+    by_lt_z (pos (cost_of p d)) bound
+    (λ above. absurd (candidate-not_absent p plan d valid design feasible (λ candidate is_candidate le. contradicts candidate (cost_of p d) above (least.least candidate is_candidate) le)))
+    (λ le. le)
+  where
+    contradicts : (candidate : ℤ) (cost : ℕ) → pos cost <ℤ bound → bound ≤ℤ candidate → candidate ≤ℤ pos cost → ⊥
+    contradicts candidate cost above le below = omega (arith, ints)
+
+-- what a valid plan claims is so
+pub valid_plan-claim : (p : Parts) (plan : Plan) → IsValidPlan p plan → HasItsClaim p plan
+valid_plan-claim p plan valid = by_status plan.status valid.status
+  where
+    by_status : (status : PlanStatus) → HasStatus p plan status → ClaimHolds p plan status
+    by_status Optimal is = optimal_claim p plan.design plan.tree valid.tree valid.design is.design is.closed
+    by_status Infeasible is = infeasible_claim p plan.design plan.tree valid.tree (none_of plan.design is.no_design) is.closed
+    by_status Undecided is = undecided_claim p plan valid.tree plan.bound is.bound

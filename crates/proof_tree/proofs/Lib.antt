@@ -1,0 +1,10 @@
+pub mod Covering
+pub mod SignedSums
+pub mod Duality
+pub mod Presence
+pub mod Claiming
+pub mod TriangleLaws
+pub mod Uniqueness
+pub mod TwoNodesLaws
+pub mod OpeningLaws
+pub mod ShapeLaws

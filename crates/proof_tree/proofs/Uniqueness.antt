@@ -1,0 +1,44 @@
+-- A restriction has at most one bound at given prices.
+use Rattle.std.proofs.Common.{◌≡◌, ℕ, zero, suc, ◌*◌, ◌<◌, List, length, slice_index, refl, sym, ap, subst, ◌∙◌, arith}
+use Rattle.std.specs.Prelude.{ℤ, pos, ◌+ℤ◌, ◌≤ℤ◌}
+use Rattle.std.proofs.lemmas.Int.{ints}
+use Rattle.plan_base.specs.declared.parts.Link.{Link}
+use Rattle.plan_base.specs.declared.parts.Parts.{Parts}
+use Rattle.plan_base.specs.Arcs.{link_at, demand_at}
+use Rattle.link_steps.specs.Values.{IsLinkValue}
+use Rattle.arc_restrict.specs.Restrictions.{Forbidden}
+use Rattle.arc_restrict.specs.Prices.{IsLeastPrice}
+use Rattle.proof_tree.specs.Bounds.{int_sum_below, IsThousandthUp, price_total, IsBound}
+use Rattle.plan_base.proofs.SumsBelow.{sum_below-same}
+
+least_price-unique : (p : Parts) (r : Forbidden) (prices : List ℕ) (k a b : ℕ) → IsLeastPrice p r prices k a → IsLeastPrice p r prices k b → a ≡ b
+least_price-unique p r prices k a b ha hb =
+    let to_b = ha.least hb.path hb.permitted in
+    let to_a = hb.least ha.path ha.permitted in
+    omega (arith, ha.attained, hb.attained)
+
+antisymmetric : (v w : ℤ) → v ≤ℤ w → w ≤ℤ v → v ≡ w
+antisymmetric v w h k = omega (arith, ints)
+
+link_value-unique : (p : Parts) (l : Link) (price : ℕ) (v w : ℤ) → IsLinkValue p l price v → IsLinkValue p l price w → v ≡ w
+link_value-unique p l price v w hv hw =
+    antisymmetric v w
+    (subst (λ (x : ℤ). v ≤ℤ x) hw.attained (hv.least hw.load hw.cost hw.within hw.is_cost))
+    (subst (λ (x : ℤ). w ≤ℤ x) hv.attained (hw.least hv.load hv.cost hv.within hv.is_cost))
+
+int_sum_below-same : (f g : ℕ → ℤ) (n : ℕ) → ((i : ℕ) → i < n → f i ≡ g i) → int_sum_below f n ≡ int_sum_below g n
+int_sum_below-same f g zero h = refl
+int_sum_below-same f g (suc n) h = ap (λ x. x +ℤ f n) (int_sum_below-same f g n (λ i below. h i (omega arith))) ∙ ap (λ x. int_sum_below g n +ℤ x) (h n (omega arith))
+
+thousandth-unique : (total v w : ℤ) → IsThousandthUp total v → IsThousandthUp total w → v ≡ w
+thousandth-unique total v w hv hw = antisymmetric v w (hv.least w hw.reaches) (hw.least v hv.reaches)
+
+pub bound-unique : (p : Parts) (r : Forbidden) (prices : List ℕ) (v w : ℤ) → IsBound p r prices v → IsBound p r prices w → v ≡ w
+bound-unique p r prices v w hv hw =
+    let priced : price_total p hv.least_prices ≡ price_total p hw.least_prices =
+    sum_below-same (λ k. (demand_at p k).load * hv.least_prices k) (λ k. (demand_at p k).load * hw.least_prices k) (length p.demands)
+    (λ k below. ap (λ x. (demand_at p k).load * x) (least_price-unique p r prices k _ _ (hv.are_least k below) (hw.are_least k below))) in
+    let valued = int_sum_below-same hv.values hw.values (length p.links) (λ e below. link_value-unique p (link_at p e) (slice_index prices e) _ _ (hv.are_values e below) (hw.are_values e below)) in
+    let totals : (pos (price_total p hv.least_prices) +ℤ int_sum_below hv.values (length p.links)) ≡ (pos (price_total p hw.least_prices) +ℤ int_sum_below hw.values (length p.links)) =
+    ap (λ x. pos x +ℤ int_sum_below hv.values (length p.links)) priced ∙ ap (λ x. pos (price_total p hw.least_prices) +ℤ x) valued in
+    thousandth-unique _ v w hv.rounded (subst (λ (total : ℤ). IsThousandthUp total w) (sym totals) hw.rounded)

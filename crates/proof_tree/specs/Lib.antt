@@ -1,0 +1,9 @@
+pub mod Splits
+pub mod Bounds
+pub mod Evidence
+pub mod Shapes
+pub mod Trees
+pub mod Plans
+pub mod Spellings
+pub mod Triangle
+pub mod TwoNodes
