@@ -1,0 +1,10 @@
+mod FaultSteps
+mod MetLaws
+mod PlaceLaws
+mod WalkLaws
+mod WalkEnds
+mod ShownLaws
+mod FaultLaws
+mod WeightLaws
+mod FoundLaws
+mod PriceSums

@@ -1,0 +1,8 @@
+use Rattle.std.proofs.Common.{◌≡◌, None}
+use Rattle.plan_base.specs.First.{first_fault}
+use Rattle.arc_restrict.specs.Rows.{forbids}
+use Rattle.path_pricing.specs.Faults.{arc_id, leaving_fault}
+use Rattle.path_pricing.proofs.query.Query.check_closed.Given as goal
+
+abbrev pub invariant-loop-number : goal.invariant-loop-number
+invariant-loop-number l = first_fault (λ n. leaving_fault l.self.inst.now l.self.demand.0 (forbids l.self.restriction.now) l.reached (arc_id n)) l.number ≡ None

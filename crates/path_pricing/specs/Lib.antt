@@ -1,0 +1,4 @@
+pub mod Priced
+pub mod Faults
+pub mod Weights
+pub mod Walks

@@ -1,0 +1,96 @@
+//! The search for a least price.
+
+ghost use Rattle.std.specs.Prelude.{◌≡◌, ◌<◌, ◌*◌, length, IfOk, None};
+ghost use Rattle.arc_restrict.specs.Rows.{forbids};
+ghost use Rattle.path_pricing.specs.Priced.{ArePrices, IsShown, IsPriced};
+ghost use Rattle.path_pricing.specs.Faults.{priced_fault};
+ghost use Rattle.path_pricing.specs.Weights.{open_price, weights_below, priced_of};
+
+use crate::priced::Priced;
+use crate::query::Query;
+use arc_restrict::Restriction;
+use least_path::{Search, search};
+use plan_base::{ArcId, DemandId, Instance, Prices};
+use std::alloc::{AllocError, Global};
+
+impl Query<'_> {
+    /// The price of a permitted arc, none for another.
+    #[tactic(auto, unfolding(crate::specs::Weights::open_price))]
+    fn open_price(&self, arc: ArcId) -> Option<u128>
+        requires { length self.now.prices.now ≡ length self.now.inst.now.links }
+        ensures { result
+            ≡ open_price self.now.inst.now self.now.prices.now self.now.demand.0 (forbids self.now.restriction.now) arc }
+    {
+        if self.is_open(arc) {
+            Some(self.price_at(arc))
+        } else {
+            None
+        }
+    }
+
+    /// The weight of each arc: its price, none where it is not permitted.
+    fn weights(&self, alloc: Global) -> Result<Vec<Option<u128>>, AllocError>
+        requires { length self.now.prices.now ≡ length self.now.inst.now.links }
+        ensures { IfOk result
+            (λ weights. weights.items ≡ weights_below self.now.inst.now self.now.prices.now self.now.demand.0 (forbids self.now.restriction.now) (2 * length self.now.inst.now.links)) }
+    {
+        let mut weights = Vec::with_capacity(alloc, 2 * self.inst.links() as usize)?;
+        for number in 0..2 * self.inst.links() {
+            weights.push(self.open_price(ArcId(number)))?;
+        }
+        Ok(weights)
+    }
+}
+
+/// What a search found, as what is found for a demand.
+fn priced(found: Search) -> Priced
+    ensures { result ≡ priced_of found }
+{
+    match found {
+        Search::Path {
+            path,
+            length,
+            potentials,
+        } => Priced::Path {
+            path,
+            length,
+            potentials,
+        },
+        Search::NoPath { reached } => Priced::NoPath { reached },
+    }
+}
+
+/// A permitted path of the demand with the least price, or a set that shows that there is none.
+///
+/// - Takes: where memory comes from; an instance, prices that fit it in thousandths of a cost grain per
+///   load grain, a demand of it, and a restriction.
+/// - Gives: a permitted path, its price and potentials; or, exactly where no permitted path exists, the
+///   set of nodes that permitted arcs reach from the demand's source. `check_priced` accepts either.
+/// - Errors: want of memory alone.
+/// - Rule: docs/DEFINITIONS.md, "Least prices".
+/// - Time: the square of the count of nodes, and linear in links.
+#[tactic(auto, using(crate::proofs::FoundLaws::found_laws))]
+pub fn price(
+    alloc: Global,
+    inst: &Instance,
+    prices: &Prices,
+    demand: DemandId,
+    restriction: &Restriction,
+) -> Result<Priced, AllocError>
+    requires prices { ArePrices inst.now prices.now }
+    requires demand { demand.0 < length inst.now.demands }
+    ensures least { IfOk result (IsPriced inst.now prices.now demand.0 (forbids restriction.now)) }
+    ensures shown { IfOk result (IsShown inst.now prices.now demand.0 (forbids restriction.now)) }
+    ensures accepted { IfOk result (λ found. priced_fault inst.now prices.now demand.0 (forbids restriction.now) found ≡ None) }
+{
+    let query = Query {
+        inst,
+        prices,
+        demand,
+        restriction,
+    };
+    let weights = query.weights(alloc)?;
+    let asked = inst.demand(demand);
+    let found = search(alloc, inst, &weights, asked.source, asked.target)?;
+    Ok(priced(found))
+}

@@ -1,0 +1,35 @@
+//! What is asked: the least price of one demand.
+
+ghost use Rattle.std.specs.Prelude.{◌≡◌, ◌<◌, length};
+ghost use Rattle.plan_base.specs.Arcs.{link_of};
+ghost use Rattle.arc_restrict.specs.Rows.{forbids};
+ghost use Rattle.path_pricing.specs.Priced.{is_open, price_at};
+
+use arc_restrict::Restriction;
+use plan_base::{ArcId, DemandId, Instance, Prices};
+
+/// A demand under these prices and this restriction.
+#[derive(Clone, Copy)]
+pub struct Query<'a> {
+    pub inst: &'a Instance,
+    pub prices: &'a Prices,
+    pub demand: DemandId,
+    pub restriction: &'a Restriction,
+}
+
+impl Query<'_> {
+    /// Whether the arc exists and is not forbidden to the demand.
+    pub fn is_open(&self, arc: ArcId) -> bool
+        ensures { result ≡ is_open self.now.inst.now (forbids self.now.restriction.now) self.now.demand.0 arc }
+    {
+        self.inst.is_arc(arc) && self.restriction.allows(self.demand, arc)
+    }
+
+    /// The price of the arc's link.
+    pub fn price_at(&self, arc: ArcId) -> u128
+        requires { link_of arc < length self.now.prices.now }
+        ensures { result ≡ price_at self.now.prices.now arc }
+    {
+        self.prices.as_slice()[(arc.0 / 2) as usize]
+    }
+}
