@@ -1,0 +1,4 @@
+pub mod Rounds
+pub mod RoundBounds
+pub mod Places
+pub mod Values

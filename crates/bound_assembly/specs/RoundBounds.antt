@@ -1,0 +1,30 @@
+-- The bound that prices and lengths give.
+use Rattle.std.specs.Prelude.{ℕ, ◌≡◌, ◌≤◌, ◌<◌, ◌*◌, List, length, Option, Some, All, IfSome, ℤ, pos, ◌+ℤ◌}
+use Rattle.std.specs.Option.{unwrap_or}
+use Rattle.plan_base.specs.declared.parts.Parts.{Parts}
+use Rattle.plan_base.specs.Facts.{price_limit}
+use Rattle.arc_restrict.specs.Restrictions.{Forbidden}
+use Rattle.arc_restrict.specs.Prices.{IsLeastPrice}
+use Rattle.proof_tree.specs.Bounds.{int_sum_below, IsThousandthUp, price_total, AreLinkValues}
+use Rattle.bound_assembly.specs.declared.limits.TheConstants.{MAX_PATH_LINKS}
+use Rattle.bound_assembly.specs.Rounds.{length_at, HasLength}
+
+-- the length of a demand, 0 where none was put
+abbrev pub length_of : List (Option ℕ) → ℕ → ℕ
+length_of lengths k = unwrap_or (length_at lengths k) 0
+
+-- no length is more than a simple path costs with the price limit on each link
+abbrev pub AreShort : Parts → List (Option ℕ) → Type 0
+AreShort p lengths = All (λ found. IfSome found (λ price. price ≤ MAX_PATH_LINKS * price_limit p)) lengths
+
+-- each demand has a length; loads times lengths of the demands, and the values of the links, together over 1,000,
+-- rounded up, in cost grains
+pub record IsRoundBound (p : Parts) (prices : List ℕ) (lengths : List (Option ℕ)) (bound : ℤ) : Type 0 where
+  pub complete : (k : ℕ) → k < length p.demands → HasLength lengths k
+  pub values : ℕ → ℤ
+  pub are_values : AreLinkValues p prices values
+  pub rounded : IsThousandthUp (pos (price_total p (length_of lengths)) +ℤ int_sum_below values (length p.links)) bound
+
+-- each length that was put is the least price of its demand
+abbrev pub AreLeastLengths : Parts → Forbidden → List ℕ → List (Option ℕ) → Type 0
+AreLeastLengths p r prices lengths = (k price : ℕ) → k < length p.demands → length_at lengths k ≡ Some price → IsLeastPrice p r prices k price

@@ -1,0 +1,14 @@
+//! Laws of the definitions.
+
+ghost use Rattle.std.specs.Prelude.{ℕ, List, Option, ℤ};
+ghost use Rattle.plan_base.specs.declared.parts.Parts.{Parts as AnyParts};
+ghost use Rattle.arc_restrict.specs.Restrictions.{Forbidden};
+ghost use Rattle.proof_tree.specs.Bounds.{IsBound};
+ghost use Rattle.bound_assembly.specs.RoundBounds.{AreLeastLengths, IsRoundBound};
+
+/// Where each length that was put is the least price of its demand in a restriction, a round's bound is the bound of
+/// that restriction at the round's prices.
+pub fn least_lengths()
+    ensures { (p : AnyParts) (r : Forbidden) (prices : List ℕ) (lengths : List (Option ℕ)) (bound : ℤ)
+        → AreLeastLengths p r prices lengths → IsRoundBound p prices lengths bound → IsBound p r prices bound }
+{}
