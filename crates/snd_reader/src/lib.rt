@@ -1,0 +1,20 @@
+//! Readers that the grammars of network and model texts share.
+//!
+//! Promises of each reading call that it gives what its reader of `specs/Readers.antt` gives: it passes
+//! the token that stands there, or tells what is wrong with it and where; the end of a text is a token
+//! too. Begin at `Cursor`. Stands on `snd_lexer` and `scaled_numbers`. The grammars themselves are left
+//! to the crates above, whose contracts may rest on the forms and laws that stand here.
+#![tactic(auto)]
+
+mod cursor;
+mod fault;
+mod header;
+mod lexeme;
+
+pub use cursor::Cursor;
+pub use fault::{Complaint, TextFault, Wanted};
+pub use header::behind_header;
+pub use lexeme::Lexeme;
+
+#[cfg(test)]
+mod tests;
