@@ -1,11 +1,10 @@
 -- What is found has no fault exactly where it has with it what shows it.
-use Rattle.std.proofs.Common.{◌≡◌, ℕ, ◌+◌, ◌<◌, ◌≤◌, ◌*◌, Bool, true, false, not, ◌&&◌, ◌==◌, nat_lt, List, length, Option, None, refl, sym, ap, ◌∙◌, arith, slice_index}
+use Rattle.std.proofs.Common.{◌≡◌, ℕ, ◌+◌, ◌≤◌, ◌*◌, Bool, true, false, not, ◌&&◌, ◌==◌, nat_lt, List, length, None, refl}
 use Rattle.std.proofs.lemmas.Bool.{eqb-true, eq-eqb, ltb-false, le-ltb}
-use Rattle.plan_base.specs.declared.ids.NodeId.{NodeId}
 use Rattle.plan_base.specs.declared.ids.ArcId.{ArcId}
 use Rattle.plan_base.specs.declared.parts.Parts.{Parts}
-use Rattle.plan_base.specs.First.{◌or_else◌, when, first_fault}
-use Rattle.plan_base.specs.Arcs.{is_arc, tail_of, head_of, demand_at}
+use Rattle.plan_base.specs.First.{◌or_else◌, when}
+use Rattle.plan_base.specs.Arcs.{tail_of, head_of, demand_at}
 use Rattle.plan_base.proofs.Bools.{and-first, not-false, not-true}
 use Rattle.plan_base.proofs.FirstFault.{or_else-none, when-none, none-when, none-or_else, first_fault-none, none-first_fault}
 use Rattle.arc_restrict.specs.Restrictions.{Forbidden}
@@ -13,7 +12,7 @@ use Rattle.arc_restrict.specs.Prices.{price_of}
 use Rattle.path_pricing.specs.declared.priced.Priced.{Priced}
 use Rattle.path_pricing.specs.declared.priced.Priced.TheVariants.{Path, NoPath}
 use Rattle.path_pricing.specs.declared.priced.Unfit.TheVariants.{WrongLength, BadSet, Dearer, NotClosed}
-use Rattle.path_pricing.specs.Priced.{is_open, price_at, potential_at, holds, ArePotentials, IsShownPath, IsClosedSet, IsShown, IsPriced}
+use Rattle.path_pricing.specs.Priced.{is_open, price_at, potential_at, holds, IsShownPath, IsClosedSet, IsShown, IsPriced}
 use Rattle.path_pricing.specs.Faults.{arc_id, walk_fault, dearer_fault, first_dearer, length_fault, path_fault, shape_fault, leaving_fault, first_leaving, set_fault, priced_fault}
 use Rattle.path_pricing.proofs.PlaceLaws.{arc-within, IsPermittedPath-walk_fault, walk_fault-IsPermittedPath}
 use Rattle.path_pricing.proofs.ShownLaws.{IsPriced-IsShown}

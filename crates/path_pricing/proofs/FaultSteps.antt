@@ -1,6 +1,5 @@
 -- How a loop finds the first fault, for the loops of this crate.
-use Rattle.std.proofs.Common.{◌≡◌, ℕ, ◌<◌, ◌*◌, Bool, List, length, Option, Some, None}
-use Rattle.plan_base.specs.declared.ids.ArcId.{ArcId}
+use Rattle.std.proofs.Common.{◌≡◌, ℕ, ◌<◌, ◌*◌, Bool, List, length, Some, None}
 use Rattle.plan_base.specs.declared.parts.Parts.{Parts}
 use Rattle.plan_base.specs.First.{first_fault}
 use Rattle.plan_base.proofs.FirstFault.{first_fault-next, first_fault-here}

@@ -1,7 +1,6 @@
 -- What a search finds with the prices of permitted arcs as weights is what is asked for.
-use Rattle.std.proofs.Common.{◌≡◌, ℕ, ◌+◌, ◌*◌, ◌<◌, ◌≤◌, Bool, true, false, not, ◌&&◌, List, length, Option, None, refl, sym, ap, subst, ◌∙◌, arith}
+use Rattle.std.proofs.Common.{◌≡◌, ℕ, ◌*◌, Bool, true, false, not, ◌&&◌, List, length, Option, None, refl, sym, subst, ◌∙◌, arith}
 use Rattle.std.proofs.lemmas.List.Elements.{All-from_get_or}
-use Rattle.plan_base.specs.declared.ids.NodeId.{NodeId}
 use Rattle.plan_base.specs.declared.ids.ArcId.{ArcId}
 use Rattle.plan_base.specs.declared.parts.Demand.{Demand}
 use Rattle.plan_base.specs.declared.parts.Parts.{Parts}
@@ -13,7 +12,7 @@ use Rattle.arc_restrict.specs.Prices.{price_of}
 use Rattle.least_path.specs.declared.answer.Search.{Search}
 use Rattle.least_path.specs.declared.answer.Search.TheVariants as searched
 use Rattle.least_path.specs.Paths as least
-use Rattle.path_pricing.specs.Priced.{ArePrices, is_open, price_at, potential_at, ArePotentials, IsShownPath, IsClosedSet, IsShown, IsPriced}
+use Rattle.path_pricing.specs.Priced.{ArePrices, price_at, ArePotentials, IsShown, IsPriced}
 use Rattle.path_pricing.specs.Faults.{priced_fault}
 use Rattle.path_pricing.specs.Weights.{weights_below, priced_of}
 use Rattle.path_pricing.proofs.ShownLaws.{IsPriced-IsShown}

@@ -1,11 +1,8 @@
 -- A path has no fault exactly where it is a permitted path of the demand.
-use Rattle.std.proofs.Common.{◌≡◌, ℕ, suc, ◌<◌, ◌≤◌, ◌*◌, Bool, true, false, not, ◌&&◌, ◌==◌, List, length, take, get_or, All, Option, None, slice_get, refl, sym, subst, ◌∙◌, arith}
+use Rattle.std.proofs.Common.{◌≡◌, ℕ, ◌<◌, ◌≤◌, ◌*◌, Bool, true, false, not, ◌&&◌, ◌==◌, List, length, take, None, refl, sym, ◌∙◌, arith}
 use Rattle.std.proofs.lemmas.List.Elements.{All-from_get_or, All-get_or}
-use Rattle.std.proofs.lemmas.Option.{slice_get_within, get_or_from_slice_get}
-use Rattle.std.proofs.lemmas.Bool.{eqb-true, eq-eqb, ltb-true}
-use Rattle.plan_base.specs.declared.ids.NodeId.{NodeId}
+use Rattle.std.proofs.lemmas.Bool.{ltb-true}
 use Rattle.plan_base.specs.declared.ids.ArcId.{ArcId}
-use Rattle.plan_base.specs.declared.ids.DemandId.{DemandId}
 use Rattle.plan_base.specs.declared.parts.Demand.{Demand}
 use Rattle.plan_base.specs.declared.parts.Parts.{Parts}
 use Rattle.plan_base.specs.declared.design_fault.DesignFault.TheVariants.{NotAPath, Repeats}
@@ -13,13 +10,12 @@ use Rattle.plan_base.specs.First.{◌or_else◌, when, first_fault, fault_at, fi
 use Rattle.plan_base.specs.Facts.{IsInstance}
 use Rattle.plan_base.specs.Faults.{demand_id}
 use Rattle.plan_base.specs.Arcs.{is_arc, tail_of, head_of, link_of, demand_at, no_arc}
-use Rattle.plan_base.specs.Paths.{arc_at, node_at, IsSimplePath}
+use Rattle.plan_base.specs.Paths.{arc_at, node_at}
 use Rattle.plan_base.specs.DesignFaults.{has_met, step_fault, path_fault}
-use Rattle.plan_base.proofs.Bools.{and-first, not-false, not-true, not_and-both, both-not_and}
-use Rattle.plan_base.proofs.FirstFault.{or_else-none, when-none, none-when, none-or_else, first_fault-none, none-first_fault, first_in-none, none-first_in, fault_at-get_or}
+use Rattle.plan_base.proofs.Bools.{and-first, not_and-both}
+use Rattle.plan_base.proofs.FirstFault.{or_else-none, when-none, none-when, none-or_else, first_fault-none, none-first_fault, first_in-none, fault_at-get_or}
 use Rattle.plan_base.proofs.PathLaws.{IsSimplePath-path_fault, path_fault-IsSimplePath, walk-short}
 use Rattle.arc_restrict.specs.Restrictions.{Forbidden, IsPermittedPath}
-use Rattle.path_pricing.specs.declared.priced.Unfit.{Unfit}
 use Rattle.path_pricing.specs.declared.priced.Unfit.TheVariants.{NotPermitted}
 use Rattle.path_pricing.specs.Faults.{place_fault, walk_fault}
 

@@ -1,5 +1,5 @@
 -- The price of a path so far, and how large it may be.
-use Rattle.std.proofs.Common.{◌≡◌, ℕ, ◌+◌, ◌*◌, ◌<◌, ◌≤◌, List, length, get_or, take, slice_index, All, sum_by, refl, arith}
+use Rattle.std.proofs.Common.{◌≡◌, ℕ, ◌+◌, ◌<◌, ◌≤◌, List, length, get_or, take, slice_index, All}
 use Rattle.std.proofs.lemmas.List.Sums.{sum_by_more}
 use Rattle.plan_base.specs.declared.ids.ArcId.{ArcId}
 use Rattle.plan_base.specs.declared.limits.TheConstants.{MAX_PRICED_LOAD}

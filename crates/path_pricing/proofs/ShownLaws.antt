@@ -1,17 +1,16 @@
 -- Potentials show that a price is least, and a closed set that there is no permitted path.
-use Rattle.std.proofs.Common.{◌≡◌, ℕ, zero, suc, ◌+◌, ◌<◌, ◌≤◌, Bool, true, false, not, ◌&&◌, List, length, take, get_or, slice_index, All, refl, sym, ap, ◌∙◌, arith, sum_by, add-one}
+use Rattle.std.proofs.Common.{◌≡◌, ℕ, zero, suc, ◌+◌, ◌<◌, ◌≤◌, Bool, true, false, List, length, take, get_or, slice_index, refl, sym, ap, ◌∙◌, arith, add-one}
 use Rattle.std.proofs.lemmas.List.{take_all}
 use Rattle.std.proofs.lemmas.List.Sums.{sum_by_more}
-use Rattle.plan_base.specs.declared.ids.NodeId.{NodeId}
 use Rattle.plan_base.specs.declared.ids.ArcId.{ArcId}
 use Rattle.plan_base.specs.declared.parts.Parts.{Parts}
-use Rattle.plan_base.specs.Arcs.{is_arc, tail_of, head_of, link_of, demand_at, no_arc}
+use Rattle.plan_base.specs.Arcs.{tail_of, link_of, demand_at, no_arc}
 use Rattle.plan_base.specs.Paths.{arc_at, node_at}
 use Rattle.arc_restrict.specs.Restrictions.{Forbidden, IsPermittedPath, HasNoPath}
 use Rattle.arc_restrict.specs.Prices.{price_of}
 use Rattle.path_pricing.specs.declared.priced.Priced.{Priced}
 use Rattle.path_pricing.specs.declared.priced.Priced.TheVariants.{Path, NoPath}
-use Rattle.path_pricing.specs.Priced.{is_open, price_at, ArePotentials, IsShownPath, IsClosedSet, IsShown, IsLeastPath, IsPriced}
+use Rattle.path_pricing.specs.Priced.{is_open, price_at, ArePotentials, IsClosedSet, IsShown, IsPriced}
 
 -- an arc of a permitted path is permitted
 pub is_open-path : (p : Parts) (k : ℕ) (r : Forbidden) (arcs : List ArcId) (i : ℕ) → IsPermittedPath p r k arcs → i < length arcs → is_open p r k (arc_at arcs i) ≡ true

@@ -1,19 +1,18 @@
 -- What is known of the arcs of a path without a fault, and of prices that fit.
-use Rattle.std.proofs.Common.{◌≡◌, ℕ, ◌+◌, ◌*◌, ◌^◌, ◌<◌, ◌≤◌, Bool, not, ◌==◌, List, length, get_or, All, Option, None, refl, sym, ◌∙◌, arith}
+use Rattle.std.proofs.Common.{◌≡◌, ℕ, ◌<◌, ◌≤◌, Bool, not, ◌==◌, List, length, get_or, All, None, sym, arith}
 use Rattle.std.proofs.lemmas.Bool.{ltb-true}
 use Rattle.std.proofs.lemmas.List.Elements.{All-from_get_or}
 use Rattle.plan_base.specs.declared.ids.ArcId.{ArcId}
 use Rattle.plan_base.specs.declared.parts.Demand.{Demand}
 use Rattle.plan_base.specs.declared.parts.Parts.{Parts}
 use Rattle.plan_base.specs.declared.limits.TheConstants.{MAX_NODES, MAX_PRICED_LOAD}
-use Rattle.plan_base.specs.First.{◌or_else◌, when, first_in}
+use Rattle.plan_base.specs.First.{when, first_in}
 use Rattle.plan_base.specs.Facts.{IsInstance, price_limit}
-use Rattle.plan_base.specs.Arcs.{is_arc, link_of, no_arc}
+use Rattle.plan_base.specs.Arcs.{link_of, no_arc}
 use Rattle.plan_base.specs.Paths.{arc_at, node_at}
 use Rattle.plan_base.proofs.Bools.{and-first}
 use Rattle.plan_base.proofs.FirstFault.{or_else-none}
 use Rattle.plan_base.proofs.PriceLaws.{price_limit_le}
-use Rattle.path_pricing.specs.declared.priced.Unfit.{Unfit}
 use Rattle.path_pricing.specs.declared.priced.Unfit.TheVariants.{NotPermitted}
 use Rattle.path_pricing.specs.Priced.{ArePrices}
 use Rattle.path_pricing.specs.Faults.{place_fault, walk_fault}

@@ -7,7 +7,6 @@ use Rattle.plan_base.specs.declared.ids.NodeId.{NodeId}
 use Rattle.plan_base.specs.declared.ids.ArcId.{ArcId}
 use Rattle.plan_base.specs.declared.parts.Demand.{Demand}
 use Rattle.plan_base.specs.declared.parts.Parts.{Parts}
-use Rattle.plan_base.specs.declared.limits.TheConstants.{MAX_NODES}
 use Rattle.plan_base.specs.First.{◌or_else◌, when, first_fault, fault_at, first_in}
 use Rattle.plan_base.specs.Facts.{IsInstance}
 use Rattle.plan_base.specs.Arcs.{is_arc, tail_of, head_of, no_arc}

@@ -1,5 +1,5 @@
 -- The weights that a search is told: the price of each permitted arc, none for another.
-use Rattle.std.proofs.Common.{◌≡◌, ℕ, zero, suc, ◌+◌, ◌*◌, ◌^◌, ◌<◌, ◌≤◌, ◌⊎◌, inl, inr, Bool, true, false, not, ◌&&◌, List, [], ◌∷◌, ◌++◌, length, get_or, All, Option, Some, None, IsSome, if◌then◌else◌, refl, sym, ap, subst, ◌∙◌, arith, sum_by, IsTrue}
+use Rattle.std.proofs.Common.{◌≡◌, ℕ, zero, suc, ◌*◌, ◌<◌, ◌≤◌, ◌⊎◌, inl, inr, Bool, true, false, List, [], ◌∷◌, ◌++◌, length, get_or, Option, Some, None, IsSome, refl, subst, ◌∙◌, arith, sum_by}
 use Rattle.std.specs.Option.{unwrap_or}
 use Rattle.std.proofs.lemmas.Bool.{ltb-true}
 use Rattle.std.proofs.lemmas.List.{get_or_append_left, get_or_push, length_push}
@@ -8,13 +8,13 @@ use Rattle.std.proofs.lemmas.List.Sums.{sum_by-cons}
 use Rattle.plan_base.specs.declared.ids.ArcId.{ArcId}
 use Rattle.plan_base.specs.declared.parts.Parts.{Parts}
 use Rattle.plan_base.specs.Facts.{price_limit}
-use Rattle.plan_base.specs.Arcs.{is_arc, link_of, no_arc}
+use Rattle.plan_base.specs.Arcs.{link_of}
 use Rattle.plan_base.specs.Paths.{arc_at}
 use Rattle.plan_base.proofs.Bools.{and-first}
 use Rattle.plan_base.proofs.PriceLaws.{price_limit_le}
 use Rattle.arc_restrict.specs.Restrictions.{Forbidden}
 use Rattle.least_path.specs.declared.limits.TheConstants.{MAX_WEIGHT}
-use Rattle.least_path.specs.Paths.{Weights, weight_at, AreWeights, IsUsable}
+use Rattle.least_path.specs.Paths.{weight_at, AreWeights, IsUsable}
 use Rattle.path_pricing.specs.Priced.{ArePrices, is_open, price_at}
 use Rattle.path_pricing.specs.Faults.{arc_id}
 use Rattle.path_pricing.specs.Weights.{open_price, weights_below}

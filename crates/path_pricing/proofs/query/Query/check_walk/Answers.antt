@@ -1,4 +1,4 @@
-use Rattle.std.proofs.Common.{arith, ◌∙◌}
+use Rattle.std.proofs.Common.{arith}
 use Rattle.plan_base.specs.Arcs.{no_arc}
 use Rattle.arc_restrict.specs.Rows.{forbids}
 use Rattle.path_pricing.proofs.PlaceLaws.{place-short}
