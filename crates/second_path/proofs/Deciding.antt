@@ -1,0 +1,38 @@
+-- What is held after each demand.
+use Rattle.std.proofs.Common.{◌≡◌, ℕ, ◌<◌, ◌+◌, inl, inr, List, [], length, Option, Some, None, slice_index_or, sym, subst, arith}
+use Rattle.plan_base.specs.declared.ids.ArcId.{ArcId}
+use Rattle.plan_base.specs.declared.parts.Parts.{Parts}
+use Rattle.arc_restrict.specs.Restrictions.{Forbidden, IsPermittedPath, IsOnlyPath}
+use Rattle.second_path.specs.declared.determining.Held.{Held}
+use Rattle.second_path.specs.Others.{IsOtherPath, HasPath, IsFirstTwo}
+use Rattle.second_path.proofs.Trees.{last_or_before}
+use Rattle.second_path.specs.Searching.{ArePaths, IsHeld, IsHeldTo}
+
+-- the next demand has one path
+pub held_only : (p : Parts) (r : Forbidden) (paths : List (List ArcId)) (n : ℕ) (held : Option Held) → IsOnlyPath p r n (slice_index_or paths n []) → IsHeldTo p r paths n held → IsHeldTo p r paths (n + 1) held
+held_only p r paths n None only h = λ m below. elim (last_or_before n m below) [
+  | inl earlier ↦ h m earlier
+  | inr is ↦ subst (λ i. IsOnlyPath p r i (slice_index_or paths i [])) (sym is) only
+]
+held_only p r paths n (Some held) only h = record {
+  within = omega (arith, h.within);
+  other = h.other;
+  before = λ m below first. elim (last_or_before n m below) [
+    | inl earlier ↦ h.before m earlier first
+    | inr is ↦ subst (λ i. IsOnlyPath p r i (slice_index_or paths i [])) (sym is) only
+  ];
+}
+
+-- ---- the answers
+
+pub has_paths : (p : Parts) (r : Forbidden) (n : ℕ) (paths : List (List ArcId)) → ArePaths p r n paths → (m : ℕ) → m < n → HasPath p r m
+has_paths p r n paths h m below = record { path = slice_index_or paths m []; permitted = h.permitted m below }
+
+pub is_two : (p : Parts) (r : Forbidden) (paths : List (List ArcId)) (held : Held) (first : List ArcId) → ArePaths p r (length p.demands) paths → IsHeld p r paths (length p.demands) held → first ≡ slice_index_or paths held.demand.0 [] → IsFirstTwo p r held.demand.0 first held.other
+is_two p r paths held first h is_held is_first = record {
+  is_demand = is_held.within;
+  permitted = subst (IsPermittedPath p r held.demand.0) (sym is_first) (h.permitted held.demand.0 is_held.within);
+  other = subst (λ arcs. IsOtherPath p r held.demand.0 arcs held.other) (sym is_first) is_held.other;
+  all = has_paths p r (length p.demands) paths h;
+  others = λ m below before. (slice_index_or paths m [], is_held.before m below before);
+}

@@ -1,0 +1,7 @@
+mod Trees
+mod Visits
+mod Routes
+mod Joins
+mod Closing
+mod Deciding
+mod Blocking
