@@ -1,0 +1,7 @@
+pub mod DealingSteps
+pub mod DealingLaws
+pub mod RecordLaws
+pub mod BranchLaws
+pub mod ShapeLaws
+pub mod SplitLaws
+pub mod ValidLaws

@@ -1,0 +1,172 @@
+-- The search tree: what its nodes forbid, and how they are split.
+use Rattle.std.specs.Prelude.{ℕ, suc, ◌≡◌, ◌≢◌, ◌<◌, ◌*◌, Bool, true, false, ⊤, ◌⊎◌, List, [], ◌∷◌, ◌++◌, length, All, Option, Some, None, is_some, option_and_then, slice_get, slice_index_or, slice_set, IsTrue}
+use Rattle.std.specs.List.{fold}
+use Rattle.plan_base.specs.declared.ids.NodeId.{NodeId}
+use Rattle.plan_base.specs.declared.ids.ArcId.{ArcId}
+use Rattle.plan_base.specs.declared.ids.BranchId.{BranchId}
+use Rattle.plan_base.specs.declared.ids.DemandId.{DemandId}
+use Rattle.plan_base.specs.declared.parts.Parts.{Parts}
+use Rattle.plan_base.specs.Arcs.{is_arc, tail_of, demand_at}
+use Rattle.arc_restrict.specs.Restrictions.{Forbidden, none_forbidden, is_among, with_forbidden, IsPermitted}
+use Rattle.arc_restrict.specs.Partings.{PartAt}
+use Rattle.arc_restrict.specs.Prices.{AreWithinLimit}
+use Rattle.proof_tree.specs.declared.tree.Evidence.{Evidence}
+use Rattle.proof_tree.specs.declared.tree.Evidence.TheVariants as evidence
+use Rattle.proof_tree.specs.Evidence.{HasEvidence}
+use Rattle.proof_tree.specs.Splits.{IsSplit, PartsTwoPaths}
+use Rattle.proof_tree.specs.Spellings.{IsAscending}
+use Rattle.branch_tree.specs.declared.node.Limit.{Limit}
+use Rattle.branch_tree.specs.declared.node.Division.{Division}
+use Rattle.branch_tree.specs.declared.node.Fate.{Fate}
+use Rattle.branch_tree.specs.declared.node.Fate.TheVariants.{Open, Closed, Split}
+use Rattle.branch_tree.specs.declared.node.BranchNode.{BranchNode}
+use Rattle.branch_tree.specs.declared.split_fault.SplitFault.{SplitFault}
+use Rattle.branch_tree.specs.declared.split_fault.SplitFault.TheVariants.{NotOpen, NotPermitted, SamePath, OutOfMemory}
+use Rattle.branch_tree.specs.Dealing.{AreDealt}
+
+-- one limit more
+abbrev pub restricted_by : Forbidden → Limit → Forbidden
+restricted_by r limit = with_forbidden r limit.demand limit.arcs
+
+-- the same limits, and one more
+abbrev pub with_limit : List Limit → DemandId → List ArcId → List Limit
+with_limit limits id arcs = limits ++ (record { demand = id; arcs = arcs } ∷ [])
+
+-- the restriction that these limits make
+abbrev pub restriction_by : List Limit → Forbidden
+restriction_by limits = fold restricted_by none_forbidden limits
+
+-- the node that is read past the end of the tree
+abbrev pub no_tree_node : BranchNode
+no_tree_node = record { limits = []; fate = Open [] }
+
+-- the node of this number
+abbrev pub tree_node_at : List BranchNode → ℕ → BranchNode
+tree_node_at nodes n = slice_index_or nodes n no_tree_node
+
+-- the limits of the node of this number
+abbrev pub limits_at : List BranchNode → ℕ → List Limit
+limits_at nodes n = (tree_node_at nodes n).limits
+
+-- what is forbidden at the node of this number
+abbrev pub restriction_at : List BranchNode → ℕ → Forbidden
+restriction_at nodes n = restriction_by (limits_at nodes n)
+
+-- the prices of an open node
+abbrev pub prices_by : Fate → Option (List ℕ)
+prices_by (Open prices) = Some prices
+prices_by (Closed found) = None
+prices_by (Split division) = None
+
+-- it is open
+abbrev pub is_open_fate : Fate → Bool
+is_open_fate fate = is_some (prices_by fate)
+
+-- the node is open
+abbrev pub is_open_node : BranchNode → Bool
+is_open_node node = is_open_fate node.fate
+
+-- the prices of the node of this number, where it is open
+abbrev pub prices_at : List BranchNode → ℕ → Option (List ℕ)
+prices_at nodes n = option_and_then (λ node. prices_by node.fate) (slice_get nodes n)
+
+-- there is a node of this number, and it is open
+abbrev pub is_open_at : List BranchNode → ℕ → Bool
+is_open_at nodes n = is_some (prices_at nodes n)
+
+-- evidence that closes nothing
+abbrev pub is_open_evidence : Evidence → Bool
+is_open_evidence (evidence.Open prices) = true
+is_open_evidence _ = false
+
+-- the same tree with another fate of one node
+abbrev pub with_fate : List BranchNode → ℕ → Fate → List BranchNode
+with_fate nodes n fate = slice_set nodes n (record { limits = limits_at nodes n; fate = fate })
+
+-- an arc that leaves the node and is not forbidden is on one of the two sides
+abbrev pub SharesOut : Parts → Forbidden → DemandId → NodeId → List ArcId → List ArcId → Type 0
+SharesOut p r id at left right = (a : ArcId) → IsTrue (is_arc p a) → (tail_of p a).0 ≡ at.0 → r id.0 a ≡ false → (is_among left a ≡ true) ⊎ (is_among right a ≡ true)
+
+-- a split of the restriction that parts two paths and shares out all unforbidden arcs of its node, which is not the demand's target, with ascending sides
+pub record IsBranching (p : Parts) (r : Forbidden) (id : DemandId) (at : NodeId) (left right : List ArcId) : Type 0 where
+  pub is_split : IsSplit p r id at left right
+  pub parts : PartsTwoPaths p r id left right
+  pub shares_out : SharesOut p r id at left right
+  pub off_target : at.0 ≢ (demand_at p id.0).target.0
+  pub left_ascends : IsAscending left
+  pub right_ascends : IsAscending right
+
+-- the child of a node that also forbids these arcs: open with the same prices, where the node is open
+abbrev pub child_of : BranchNode → DemandId → List ArcId → BranchNode
+child_of parent id arcs = record { limits = with_limit parent.limits id arcs; fate = parent.fate }
+
+-- the same tree with this split of one node, and its left and right child behind all nodes
+abbrev pub with_division : List BranchNode → ℕ → Division → List BranchNode
+with_division nodes n d = with_fate nodes n (Split d) ++ (child_of (tree_node_at nodes n) d.demand d.left ∷ child_of (tree_node_at nodes n) d.demand d.right ∷ [])
+
+-- an open node becomes split, and its two children are the last two nodes
+pub record IsDivided (old : List BranchNode) (node : ℕ) (id : DemandId) (at : NodeId) (left right : List ArcId) (ids : BranchId × BranchId) (new : List BranchNode) : Type 0 where
+  pub open_before : is_open_at old node ≡ true
+  pub left_id : ids.0.0 ≡ length old
+  pub right_id : ids.1.0 ≡ suc (length old)
+  pub new_is : new ≡ with_division old node (record { demand = id; at = at; left = left; right = right; left_child = ids.0; right_child = ids.1 })
+
+-- two permitted paths part at this node of the instance, along these arcs
+pub record PartAtNode (p : Parts) (r : Forbidden) (id : DemandId) (first second : List ArcId) (found : NodeId × ArcId × ArcId) : Type 0 where
+  pub first_permitted : IsPermitted r id.0 first
+  pub second_permitted : IsPermitted r id.0 second
+  pub part : PartAt p first second found.0 found.1 found.2
+  pub within : found.0.0 < p.nodes
+
+-- the node is split where the two paths part
+pub record IsSplitAt (p : Parts) (old : List BranchNode) (node : ℕ) (id : DemandId) (first second : List ArcId) (ids : BranchId × BranchId) (new : List BranchNode) : Type 0 where
+  pub found : NodeId × ArcId × ArcId
+  pub part : PartAtNode p (restriction_at old node) id first second found
+  pub left : List ArcId
+  pub right : List ArcId
+  pub dealt : AreDealt p (restriction_at old node) id found.0 found.1 found.2 left right
+  pub branching : IsBranching p (restriction_at old node) id found.0 left right
+  pub divided : IsDivided old node id found.0 left right ids new
+
+-- the first of the paths that is not permitted
+abbrev pub IsFirstForbidden : Forbidden → ℕ → List ArcId → List ArcId → ℕ → Type 0
+IsFirstForbidden r k first second which =
+    ((which ≡ 1) × (IsPermitted r k first → ⊥)) ⊎ ((which ≡ 2) × IsPermitted r k first × (IsPermitted r k second → ⊥))
+
+-- why the node is not split, the first cause in this order; want of memory may come in place of it
+abbrev pub IsSplitFault : List BranchNode → ℕ → DemandId → List ArcId → List ArcId → SplitFault → Type 0
+IsSplitFault nodes node id first second NotOpen = is_open_at nodes node ≡ false
+IsSplitFault nodes node id first second (NotPermitted which) = (is_open_at nodes node ≡ true) × IsFirstForbidden (restriction_at nodes node) id.0 first second which
+IsSplitFault nodes node id first second SamePath =
+    (is_open_at nodes node ≡ true) × IsPermitted (restriction_at nodes node) id.0 first × (first ≡ second)
+IsSplitFault nodes node id first second OutOfMemory = ⊤
+
+-- the limit names a demand and arcs of the instance
+pub record IsLimitOf (p : Parts) (limit : Limit) : Type 0 where
+  pub demand : limit.demand.0 < length p.demands
+  pub arcs : All (λ a. a.0 < 2 * length p.links) limit.arcs
+
+-- where the node is split, its split is one of this restriction that parts two paths and shares out all arcs
+abbrev pub IsFateOf : Parts → Forbidden → Fate → Type 0
+IsFateOf p r (Open prices) = ⊤
+IsFateOf p r (Closed found) = ⊤
+IsFateOf p r (Split d) = IsBranching p r d.demand d.at d.left d.right
+
+-- a node of a tree for the instance: its limits name demands and arcs of it, and its split is as it should be
+pub record IsNodeOf (p : Parts) (node : BranchNode) : Type 0 where
+  pub limits : All (IsLimitOf p) node.limits
+  pub fate : IsFateOf p (restriction_by node.limits) node.fate
+
+-- a tree for the instance
+abbrev pub IsTreeOf : Parts → List BranchNode → Type 0
+IsTreeOf p nodes = All (IsNodeOf p) nodes
+
+-- an open leaf's prices are within the limit, and a closed leaf's evidence holds, against a cost or none
+abbrev pub HasItsEvidence : Parts → Option ℕ → Forbidden → Fate → Type 0
+HasItsEvidence p cost r (Open prices) = AreWithinLimit p prices
+HasItsEvidence p cost r (Closed found) = HasEvidence p cost r found
+HasItsEvidence p cost r (Split d) = ⊤
+
+-- each leaf has its evidence at its own restriction
+abbrev pub HaveTheirEvidence : Parts → Option ℕ → List BranchNode → Type 0
+HaveTheirEvidence p cost nodes = All (λ node. HasItsEvidence p cost (restriction_by node.limits) node.fate) nodes

@@ -1,0 +1,4 @@
+pub mod Dealing
+pub mod Branches
+pub mod Records
+pub mod Waiting

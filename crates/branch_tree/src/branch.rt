@@ -1,0 +1,344 @@
+//! The search tree, and its calls.
+
+ghost use Rattle.std.specs.Prelude.{ℕ, ◌≡◌, ◌<◌, [], ◌∷◌, Option, length, count_by, false, true, IfOk, IfErr, OnOk, OnErr, IsSomeAnd, All, Some};
+ghost use Rattle.plan_base.specs.declared.parts.Parts.{Parts as AnyParts};
+ghost use Rattle.plan_base.specs.Arcs.{demand_at};
+ghost use Rattle.plan_base.specs.Paths.{IsSimplePath};
+ghost use Rattle.arc_restrict.specs.Rows.{forbids, HasSizeOf};
+ghost use Rattle.proof_tree.specs.Trees.{IsValidTree};
+ghost use Rattle.branch_tree.specs.Branches.{restriction_by, restriction_at, is_open_fate, is_open_node, prices_at, is_open_at, is_open_evidence, with_fate, child_of, IsDivided, IsSplitAt, IsSplitFault, PartAtNode, IsLimitOf, IsTreeOf, tree_node_at, with_limit, HaveTheirEvidence};
+ghost use Rattle.branch_tree.specs.Records.{records_of};
+
+use crate::dealing::deal;
+use crate::node::{BranchNode, Division, Fate, Limit};
+use crate::records::records_of;
+use crate::split_fault::SplitFault;
+use arc_restrict::{Restriction, divergence};
+use plan_base::{ArcId, BranchId, DemandId, Instance, Items, NodeId, Path, Prices};
+use proof_tree::{Evidence, Tree};
+use std::alloc::{AllocError, Global};
+use std::marker::Model;
+
+/// Whether the node is open.
+fn is_open_fate(fate: &Fate) -> bool
+    ensures { result ≡ is_open_fate fate.now }
+{
+    match fate {
+        Fate::Open(_) => true,
+        Fate::Closed(_) => false,
+        Fate::Split(_) => false,
+    }
+}
+
+/// The restriction that the limits make.
+fn restriction_by(
+    alloc: Global,
+    inst: &Instance,
+    limits: &[Limit],
+) -> Result<Restriction, AllocError>
+    requires { All (IsLimitOf inst.now) limits.now }
+    ensures value { IfOk result (λ r. forbids r ≡ restriction_by limits.now) }
+    ensures size { IfOk result (λ r. HasSizeOf inst.now r) }
+{
+    let mut restriction = Restriction::none(alloc, inst)?;
+    for limit in limits {
+        restriction.forbid(limit.demand, limit.arcs.as_slice());
+    }
+    Ok(restriction)
+}
+
+/// The same limits, and one more.
+fn limits_with(
+    alloc: Global,
+    limits: &[Limit],
+    demand: DemandId,
+    arcs: &[ArcId],
+) -> Result<Items<Limit>, AllocError>
+    ensures { IfOk result (λ more. more ≡ with_limit limits.now demand arcs.now) }
+{
+    let mut more = Vec::new(alloc);
+    for limit in limits {
+        more.push(Limit {
+            demand: limit.demand,
+            arcs: limit.arcs.copy()?,
+        })?;
+    }
+    more.push(Limit {
+        demand,
+        arcs: Items::from_vec(Vec::from_slice(alloc, arcs)?),
+    })?;
+    Ok(Items::from_vec(more))
+}
+
+/// The search tree: nodes in the order of their making, the root first.
+#[derive(Debug, Drop)]
+pub struct Branch {
+    nodes: Vec<BranchNode>,
+}
+
+impl Model for Branch {
+    ghost use Rattle.std.specs.Prelude.{List};
+    ghost use Rattle.branch_tree.specs.declared.node.BranchNode.{BranchNode};
+    ghost use Rattle.branch_tree.specs.Records.{AreNodes};
+
+    ghost Value = { List BranchNode };
+
+    ghost view = { λ a. a.nodes.items };
+
+    ghost invariant = { λ a. AreNodes a.nodes.items };
+}
+
+impl Branch {
+    /// The tree whose only node is the root, open with these prices.
+    ///
+    /// - Takes: prices in thousandths of a cost grain per load grain, one for each link.
+    /// - Errors: want of memory.
+    /// - Rule: docs/DEFINITIONS.md, "Search trees".
+    pub fn new(alloc: Global, root: Prices) -> Result<Branch, AllocError>
+        ensures value { IfOk result (λ nodes. nodes ≡ record { limits = []; fate = Fate.Open root } ∷ []) }
+        ensures of { IfOk result (λ nodes. (p : AnyParts) → IsTreeOf p nodes) }
+    {
+        let root = BranchNode {
+            limits: Items::new(alloc),
+            fate: Fate::Open(root),
+        };
+        Ok(Branch {
+            nodes: vec![in alloc; root]?,
+        })
+    }
+
+    /// Splits an open node where two paths part.
+    ///
+    /// - Takes: two simple paths of the demand, and the instance of all calls on this tree.
+    /// - Gives: the left child, which forbids the first path's arc, and the right child. Both are
+    ///   open and begin with the node's prices.
+    /// - Errors: `NotOpen`, `NotPermitted`, `SamePath`, in this order; or want of memory, which may
+    ///   come in place of any answer, and which a tree of more than 2^32 - 1 nodes counts as. The
+    ///   tree is then unchanged.
+    /// - Rule: docs/DEFINITIONS.md, "Search trees".
+    /// - Time: linear in the leaving arcs of the node and in what is forbidden there, and the size
+    ///   of a restriction.
+    pub fn split(
+        &mut self,
+        inst: &Instance,
+        node: BranchId,
+        demand: DemandId,
+        first: &Path,
+        second: &Path,
+    ) -> Result<(BranchId, BranchId), SplitFault>
+        requires demand { demand.0 < length inst.now.demands }
+        requires first { IsSimplePath inst.now (demand_at inst.now demand.0) first.now }
+        requires second { IsSimplePath inst.now (demand_at inst.now demand.0) second.now }
+        requires of { IsTreeOf inst.now self.old }
+        ensures ok { IfOk result (λ ids. IsSplitAt inst.now self.old node.0 demand first.now second.now ids self.new) }
+        ensures fault { IfErr result (IsSplitFault self.old node.0 demand first.now second.now) }
+        ensures unchanged { OnErr result (self.new ≡ self.old) }
+        ensures of { IsTreeOf inst.now self.new }
+    {
+        let (restriction, (at, one, other)) = self.parting(inst, node, demand, first, second)?;
+        let alloc = *self.nodes.allocator();
+        let sides = deal(alloc, &restriction, demand, one, other, inst.leaving(at))?;
+        let left = Items::from_vec(sides.left);
+        let right = Items::from_vec(sides.right);
+        Ok(self.divide(node, demand, at, left, right)?)
+    }
+
+    /// Copies the prices over those of an open node. Takes no memory.
+    ///
+    /// - Takes: as many prices as the node has, in thousandths of a cost grain per load grain.
+    /// - Time: linear in the prices.
+    pub fn set_prices(&mut self, node: BranchId, prices: &Prices)
+        requires { IsSomeAnd (prices_at self.old node.0) (λ held. length prices.now ≡ length held) }
+        ensures value { self.new ≡ with_fate self.old node.0 (Fate.Open prices.now) }
+        ensures of { (p : AnyParts) → IsTreeOf p self.old → IsTreeOf p self.new }
+    {
+        let node = &mut self.nodes[node.0 as usize];
+        if let Fate::Open(held) = &mut node.fate {
+            held.set_to(prices);
+        }
+    }
+
+    /// Closes an open node by evidence. Takes no memory.
+    ///
+    /// - Takes: evidence that closes a leaf.
+    pub fn close(&mut self, node: BranchId, evidence: Evidence)
+        requires open { is_open_at self.old node.0 ≡ true }
+        requires closes { is_open_evidence evidence ≡ false }
+        ensures value { self.new ≡ with_fate self.old node.0 (Fate.Closed evidence) }
+        ensures of { (p : AnyParts) → IsTreeOf p self.old → IsTreeOf p self.new }
+    {
+        let node = &mut self.nodes[node.0 as usize];
+        node.fate = Fate::Closed(evidence);
+    }
+
+    /// Whether there is a node of this number, and it is open.
+    pub fn is_open(&self, node: BranchId) -> bool
+        ensures { result ≡ is_open_at self.now node.0 }
+    {
+        match self.nodes.as_slice().get(node.0 as usize) {
+            Some(node) => is_open_fate(&node.fate),
+            None => false,
+        }
+    }
+
+    /// How many nodes are open.
+    ///
+    /// - Time: linear in the nodes.
+    pub fn open_count(&self) -> u32
+        ensures { result ≡ count_by is_open_node self.now }
+    {
+        self.nodes
+            .iter()
+            .filter(|node| is_open_fate(&node.fate))
+            .count() as u32
+    }
+
+    /// How many nodes the tree has.
+    pub fn node_count(&self) -> u32
+        ensures { result ≡ length self.now }
+    {
+        self.nodes.len() as u32
+    }
+
+    /// What the splits above the node forbid.
+    ///
+    /// - Takes: a node of the tree, and the instance of all calls on it.
+    /// - Errors: want of memory.
+    /// - Rule: docs/DEFINITIONS.md, "Search trees".
+    /// - Time: the size of a restriction, and linear in what is forbidden there.
+    pub fn restriction(&self, inst: &Instance, node: BranchId) -> Result<Restriction, AllocError>
+        requires node { node.0 < length self.now }
+        requires of { IsTreeOf inst.now self.now }
+        ensures value { IfOk result (λ r. forbids r ≡ restriction_at self.now node.0) }
+        ensures size { IfOk result (λ r. HasSizeOf inst.now r) }
+    {
+        let limits = self.nodes[node.0 as usize].limits.as_slice();
+        restriction_by(*self.nodes.allocator(), inst, limits)
+    }
+
+    /// The tree of what is known: an open node is an open leaf with its prices.
+    ///
+    /// - Gives: a valid tree, where each leaf has its evidence.
+    /// - Errors: want of memory, which a tree of 2^32 - 1 records or more counts as.
+    /// - Rule: docs/DEFINITIONS.md, "Search trees".
+    /// - Time: linear in the records and their lists.
+    pub fn into_tree(self) -> Result<Tree, AllocError>
+        ensures value { IfOk result (λ tree. tree ≡ records_of self) }
+        ensures valid { (p : AnyParts) → (cost : Option ℕ) → IsTreeOf p self → HaveTheirEvidence p cost self → IfOk result (λ tree. IsValidTree p cost tree) }
+    {
+        let records = records_of(*self.nodes.allocator(), self.nodes.as_slice())?;
+        if records.len() >= u32::MAX as usize {
+            return Err(AllocError);
+        }
+        match Tree::from_nodes(records) {
+            Ok(tree) => Ok(tree),
+            Err(_) => unreachable!(),
+        }
+    }
+
+    /// What is forbidden at the node, and where the two paths part.
+    fn parting(
+        &self,
+        inst: &Instance,
+        node: BranchId,
+        demand: DemandId,
+        first: &Path,
+        second: &Path,
+    ) -> Result<(Restriction, (NodeId, ArcId, ArcId)), SplitFault>
+        requires first { IsSimplePath inst.now (demand_at inst.now demand.0) first.now }
+        requires second { IsSimplePath inst.now (demand_at inst.now demand.0) second.now }
+        requires of { IsTreeOf inst.now self.now }
+        ensures fault { IfErr result (IsSplitFault self.now node.0 demand first.now second.now) }
+        ensures open { OnOk result (is_open_at self.now node.0 ≡ true) }
+        ensures restriction { IfOk result (λ found. forbids found.0 ≡ restriction_at self.now node.0) }
+        ensures part { IfOk result (λ found. PartAtNode inst.now (restriction_at self.now node.0) demand first.now second.now found.1) }
+    {
+        if !self.is_open(node) {
+            return Err(SplitFault::NotOpen);
+        }
+        let restriction = self.restriction(inst, node)?;
+        if !restriction.permits(demand, first) {
+            return Err(SplitFault::NotPermitted { which: 1 });
+        }
+        if !restriction.permits(demand, second) {
+            return Err(SplitFault::NotPermitted { which: 2 });
+        }
+        match divergence(inst, first, second) {
+            Some(part) => Ok((restriction, part)),
+            None => Err(SplitFault::SamePath),
+        }
+    }
+
+    /// The child of an open node that also forbids these arcs.
+    fn child(
+        &self,
+        node: BranchId,
+        demand: DemandId,
+        arcs: &[ArcId],
+    ) -> Result<BranchNode, AllocError>
+        requires { is_open_at self.now node.0 ≡ true }
+        ensures { IfOk result (λ child. child ≡ child_of (tree_node_at self.now node.0) demand arcs.now) }
+    {
+        let parent = &self.nodes[node.0 as usize];
+        let Fate::Open(prices) = &parent.fate else {
+            unreachable!()
+        };
+        let alloc = *self.nodes.allocator();
+        let limits = limits_with(alloc, parent.limits.as_slice(), demand, arcs)?;
+        Ok(BranchNode {
+            limits,
+            fate: Fate::Open(prices.copy()?),
+        })
+    }
+
+    /// The two children of an open node.
+    fn children(
+        &self,
+        node: BranchId,
+        demand: DemandId,
+        left: &[ArcId],
+        right: &[ArcId],
+    ) -> Result<Vec<BranchNode>, AllocError>
+        requires { is_open_at self.now node.0 ≡ true }
+        ensures { IfOk result (λ children. children.items
+            ≡ child_of (tree_node_at self.now node.0) demand left.now ∷ child_of (tree_node_at self.now node.0) demand right.now ∷ []) }
+    {
+        let mut children = Vec::new(*self.nodes.allocator());
+        children.push(self.child(node, demand, left)?)?;
+        children.push(self.child(node, demand, right)?)?;
+        Ok(children)
+    }
+
+    /// Gives an open node two children.
+    fn divide(
+        &mut self,
+        node: BranchId,
+        demand: DemandId,
+        at: NodeId,
+        left: Items<ArcId>,
+        right: Items<ArcId>,
+    ) -> Result<(BranchId, BranchId), AllocError>
+        requires { is_open_at self.old node.0 ≡ true }
+        ensures ok { IfOk result (λ ids. IsDivided self.old node.0 demand at left right ids self.new) }
+        ensures unchanged { OnErr result (self.new ≡ self.old) }
+    {
+        let count = self.nodes.len();
+        if count >= u32::MAX as usize - 1 {
+            return Err(AllocError);
+        }
+        let left_child = BranchId(count as u32);
+        let right_child = BranchId(count as u32 + 1);
+        let mut children = self.children(node, demand, left.as_slice(), right.as_slice())?;
+        self.nodes.append(&mut children)?;
+        let parent = &mut self.nodes[node.0 as usize];
+        parent.fate = Fate::Split(Division {
+            demand,
+            at,
+            left,
+            right,
+            left_child,
+            right_child,
+        });
+        Ok((left_child, right_child))
+    }
+}

@@ -1,0 +1,73 @@
+//! The records of a search tree, in preorder.
+
+ghost use Rattle.std.specs.Prelude.{◌≡◌, IfOk};
+ghost use Rattle.branch_tree.specs.Records.{record_by, records_of, AreNodes};
+ghost use Rattle.branch_tree.specs.Waiting.{with_children};
+
+use crate::node::{BranchNode, Fate};
+use plan_base::BranchId;
+use proof_tree::{Evidence, TreeNode};
+use std::alloc::{AllocError, Global};
+
+/// The same evidence.
+fn copy_evidence(evidence: &Evidence) -> Result<Evidence, AllocError>
+    ensures { IfOk result (λ copy. copy ≡ evidence.now) }
+{
+    Ok(match evidence {
+        Evidence::Bound(prices) => Evidence::Bound(prices.copy()?),
+        Evidence::Routed => Evidence::Routed,
+        Evidence::Overfull { link } => Evidence::Overfull { link: *link },
+        Evidence::Cut { demand, reached } => Evidence::Cut {
+            demand: *demand,
+            reached: reached.copy()?,
+        },
+        Evidence::Crowd(prices) => Evidence::Crowd(prices.copy()?),
+        Evidence::Open(prices) => Evidence::Open(prices.copy()?),
+    })
+}
+
+/// The record of a node.
+fn record_by(fate: &Fate) -> Result<TreeNode, AllocError>
+    ensures { IfOk result (λ made. made ≡ record_by fate.now) }
+{
+    Ok(match fate {
+        Fate::Open(prices) => TreeNode::Leaf(Evidence::Open(prices.copy()?)),
+        Fate::Closed(evidence) => TreeNode::Leaf(copy_evidence(evidence)?),
+        Fate::Split(division) => TreeNode::Split {
+            demand: division.demand,
+            node: division.at,
+            left: division.left.copy()?,
+            right: division.right.copy()?,
+        },
+    })
+}
+
+/// Puts the children of a node behind the nodes that wait, the left one last.
+fn await_children(waiting: &mut Vec<BranchId>, fate: &Fate) -> Result<(), AllocError>
+    ensures { IfOk result (λ _. waiting.new.items ≡ with_children waiting.old.items fate.now) }
+{
+    match fate {
+        Fate::Open(_) => {}
+        Fate::Closed(_) => {}
+        Fate::Split(division) => {
+            waiting.push(division.right_child)?;
+            waiting.push(division.left_child)?;
+        }
+    }
+    Ok(())
+}
+
+/// The records of the tree, in preorder.
+pub(crate) fn records_of(alloc: Global, nodes: &[BranchNode]) -> Result<Vec<TreeNode>, AllocError>
+    requires { AreNodes nodes.now }
+    ensures { IfOk result (λ records. records.items ≡ records_of nodes.now) }
+{
+    let mut records = Vec::new(alloc);
+    let mut waiting = vec![in alloc; BranchId(0)]?;
+    while let Some(id) = waiting.pop() {
+        let node = &nodes[id.0 as usize];
+        records.push(record_by(&node.fate)?)?;
+        await_children(&mut waiting, &node.fate)?;
+    }
+    Ok(records)
+}
