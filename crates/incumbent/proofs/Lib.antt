@@ -1,0 +1,2 @@
+pub mod CompletionLaws
+pub mod ReroutingLaws

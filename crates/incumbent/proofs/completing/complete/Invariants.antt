@@ -1,0 +1,10 @@
+use Rattle.std.proofs.Common.{◌*◌, ◌≤◌}
+use Rattle.incumbent.specs.declared.completing.TheConstants.{LINK_COST_BOUND}
+use Rattle.incumbent.specs.Links.{AreCompletedTo}
+use Rattle.incumbent.proofs.completing.complete.Given as goal
+
+abbrev pub invariant-loop-place : goal.invariant-loop-place
+invariant-loop-place l = record {
+  done : AreCompletedTo l.inst l.design.paths l.place l.cost l.counts.items;
+  within : l.cost ≤ l.place * LINK_COST_BOUND;
+}

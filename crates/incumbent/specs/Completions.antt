@@ -1,0 +1,31 @@
+-- Given paths, and what the cheapest design with them is.
+use Rattle.std.specs.Prelude.{ℕ, ◌≡◌, ◌<◌, ◌≤◌, List, [], length}
+use Rattle.plan_base.specs.declared.ids.ArcId.{ArcId}
+use Rattle.plan_base.specs.declared.parts.Parts.{Parts}
+use Rattle.plan_base.specs.declared.path.Design.{Design}
+use Rattle.plan_base.specs.Arcs.{link_at, demand_at}
+use Rattle.plan_base.specs.Paths.{IsSimplePath}
+use Rattle.plan_base.specs.Designs.{path_at, load_on, cost_of, IsDesign, IsFeasible, IsGoodDesign}
+use Rattle.link_steps.specs.Costs.{CannotCarry}
+
+-- a design with these paths; its counts do not matter
+abbrev pub with_paths : List (List ArcId) → Design
+with_paths paths = record { paths = paths; counts = [] }
+
+-- one simple path for each demand, in order
+pub record ArePaths (p : Parts) (paths : List (List ArcId)) : Type 0 where
+  pub count : length paths ≡ length p.demands
+  pub simple : (k : ℕ) → k < length p.demands → IsSimplePath p (demand_at p k) (path_at (with_paths paths) k)
+
+-- a feasible design in shape with these paths, its cost in cost grains, and no feasible design with them costs less
+pub record IsCompletion (p : Parts) (paths : List (List ArcId)) (cost : ℕ) (d : Design) : Type 0 where
+  pub same_paths : d.paths ≡ paths
+  pub good : IsGoodDesign p d
+  pub is_cost : cost ≡ cost_of p d
+  pub least : (other : Design) → other.paths ≡ paths → IsDesign p other → IsFeasible p other → cost ≤ cost_of p other
+
+-- some link cannot carry, by any counts, the load that these paths put on it
+pub record HasOverfull (p : Parts) (paths : List (List ArcId)) : Type 0 where
+  pub link : ℕ
+  pub within : link < length p.links
+  pub overfull : CannotCarry (link_at p link) (load_on p (with_paths paths) link)

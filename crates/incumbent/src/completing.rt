@@ -1,0 +1,93 @@
+//! The cheapest design for given paths.
+
+ghost use Rattle.std.specs.Prelude.{ℕ, ◌≡◌, ◌<◌, ◌≤◌, ◌*◌, length, IfOk, IfSome, IfNone};
+ghost use Rattle.plan_base.specs.Facts.{IsInstance, total_load};
+ghost use Rattle.plan_base.specs.Arcs.{link_at};
+ghost use Rattle.plan_base.specs.Designs.{load_on, counts_at};
+ghost use Rattle.link_steps.specs.Costs.{CannotCarry, AreLeastCounts};
+ghost use Rattle.incumbent.specs.Completions.{ArePaths, IsCompletion, HasOverfull};
+ghost use Rattle.incumbent.specs.Links.{IsLinkCompletion};
+
+use link_steps::StepTable;
+use plan_base::limits::MAX_ROUTING_COST;
+use plan_base::{Design, Instance, Items, LinkId, Path, loads_of};
+use std::alloc::{AllocError, Global};
+
+/// The most that one link costs where it carries at most the total load at its least cost, in cost grains.
+const LINK_COST_BOUND: u128 = 2_000_000_000_000_000_000_000_000_000_000;
+
+/// The routing cost of a load on a link, in cost grains.
+pub fn routing_cost(inst: &Instance, link: LinkId, load: u64) -> u128
+    requires lawful { IsInstance inst.now }
+    requires link { link.0 < length inst.now.links }
+    requires load { load ≤ total_load inst.now }
+    ensures value { result ≡ (link_at inst.now link.0).routing * load }
+    ensures within { result ≤ MAX_ROUTING_COST }
+{
+    u128::from(inst.link(link).routing) * u128::from(load)
+}
+
+/// The step cost of a load on a link, in cost grains, and counts that attain it; None where no counts carry the load.
+fn complete_link(
+    alloc: Global,
+    inst: &Instance,
+    table: &StepTable,
+    link: LinkId,
+    load: u64,
+) -> Result<Option<(u128, Items<u64>)>, AllocError>
+    requires lawful { IsInstance inst.now }
+    requires table { table.now ≡ inst.now }
+    requires link { link.0 < length inst.now.links }
+    requires load { load ≤ total_load inst.now }
+    ensures some { IfOk result (λ found. IfSome found (λ done. IsLinkCompletion (link_at inst.now link.0) load done.0 done.1)) }
+    ensures within { IfOk result (λ found. IfSome found (λ done. done.0 ≤ LINK_COST_BOUND)) }
+    ensures none { IfOk result (λ found. IfNone found (CannotCarry (link_at inst.now link.0) load)) }
+{
+    let Some(modules) = table.at(link, load) else {
+        return Ok(None);
+    };
+    let Some(counts) = table.counts(alloc, link, load)? else {
+        return Ok(None);
+    };
+    Ok(Some((routing_cost(inst, link, load) + modules, counts)))
+}
+
+/// The least cost of a design with these paths, and a design that has it.
+///
+/// - Takes: an instance and its step table; one simple path for each demand, in order.
+/// - Gives: the cost in cost grains and a feasible design in shape with just these paths; None exactly where some link
+///   cannot carry its load by any counts.
+/// - Errors: want of memory alone. The paths are spent.
+/// - Rule: docs/DEFINITIONS.md, "Completions".
+/// - Time: linear in the arcs of all paths and in the counts of all links.
+pub fn complete(
+    alloc: Global,
+    inst: &Instance,
+    table: &StepTable,
+    paths: Items<Path>,
+) -> Result<Option<(u128, Design)>, AllocError>
+    requires table { table.now ≡ inst.now }
+    requires paths { ArePaths inst.now paths }
+    ensures some { IfOk result (λ found. IfSome found (λ done. IsCompletion inst.now paths done.0 done.1)) }
+    ensures counts { IfOk result (λ found. IfSome found (λ done. (e : ℕ) → e < length inst.now.links
+        → AreLeastCounts (link_at inst.now e) (load_on inst.now done.1 e) (counts_at done.1 e))) }
+    ensures none { IfOk result (λ found. IfNone found (HasOverfull inst.now paths)) }
+{
+    let mut design = Design {
+        paths,
+        counts: Items::new(alloc),
+    };
+    let loads = loads_of(inst, &design);
+    let mut counts = Vec::new(alloc);
+    let mut cost = 0;
+    for place in 0..inst.links() {
+        let load = loads[place as usize] as u64;
+        let Some(done) = complete_link(alloc, inst, table, LinkId(place), load)? else {
+            return Ok(None);
+        };
+        cost += done.0;
+        counts.push(done.1)?;
+    }
+    design.counts = Items::from_vec(counts);
+    Ok(Some((cost, design)))
+}

@@ -1,0 +1,17 @@
+//! Designs that are found: the cheapest one for given paths, and a cheaper one by other paths.
+//!
+//! Promises that `complete` gives the least cost of its paths with a design that has it, and that `improve` gives a
+//! feasible design that is never dearer. Begin at `complete`; its words are in `specs/Completions.antt`. Stands on
+//! `plan_base`, `link_steps` and `least_path`. How much cheaper a design of `improve` is, no contract says: it is
+//! measured.
+#![tactic(auto)]
+
+mod completing;
+mod improving;
+mod traffic;
+
+pub use completing::complete;
+pub use improving::improve;
+
+#[cfg(test)]
+mod tests;

@@ -1,0 +1,71 @@
+-- The words of the model table are found again.
+use Rattle.std.proofs.Common.{◌≡◌, refl, Some}
+use Rattle.snd_model.specs.declared.keys.Key.{Key}
+use Rattle.snd_model.specs.declared.keys.Key.TheVariants as keys
+use Rattle.snd_model.specs.declared.setting.Setting.{Setting}
+use Rattle.snd_model.specs.declared.setting.Setting.TheVariants.{Demand, Link, Capacity, FixedCharge, Routing, Path, Hop, Survivability}
+use Rattle.snd_model.specs.declared.values.DemandModel.TheVariants as demands
+use Rattle.snd_model.specs.declared.values.LinkModel.TheVariants as links
+use Rattle.snd_model.specs.declared.values.CapacityModel.TheVariants as capacities
+use Rattle.snd_model.specs.declared.values.FixedChargeModel.TheVariants as charges
+use Rattle.snd_model.specs.declared.values.RoutingModel.TheVariants as routings
+use Rattle.snd_model.specs.declared.values.PathModel.TheVariants as paths
+use Rattle.snd_model.specs.declared.values.HopModel.TheVariants as hops
+use Rattle.snd_model.specs.declared.values.SurvivabilityModel.TheVariants as survivals
+use Rattle.snd_model.specs.Table.{key_word, key_of, spelling, key_named, setting_named}
+
+pub key-found : (k : Key) → key_named (key_word k) ≡ Some k
+key-found keys.Demand = refl
+key-found keys.Link = refl
+key-found keys.Capacity = refl
+key-found keys.FixedCharge = refl
+key-found keys.Routing = refl
+key-found keys.Path = refl
+key-found keys.Hop = refl
+key-found keys.Survivability = refl
+
+pub setting-found : (s : Setting) → setting_named (key_of s) (spelling s) ≡ Some s
+setting-found (Demand demands.Undirected) = refl
+setting-found (Demand demands.Directed) = refl
+setting-found (Link links.Undirected) = refl
+setting-found (Link links.Directed) = refl
+setting-found (Link links.Bidirected) = refl
+setting-found (Capacity capacities.Modular) = refl
+setting-found (Capacity capacities.Linear) = refl
+setting-found (Capacity capacities.SingleModular) = refl
+setting-found (Capacity capacities.Explicit) = refl
+setting-found (FixedCharge charges.No) = refl
+setting-found (FixedCharge charges.Yes) = refl
+setting-found (Routing routings.SinglePath) = refl
+setting-found (Routing routings.Continuous) = refl
+setting-found (Routing routings.Integer) = refl
+setting-found (Path paths.All) = refl
+setting-found (Path paths.Explicit) = refl
+setting-found (Hop hops.No) = refl
+setting-found (Hop hops.Yes) = refl
+setting-found (Survivability survivals.No) = refl
+setting-found (Survivability survivals.Yes) = refl
+setting-found (Survivability survivals.OnePlusOne) = refl
+setting-found (Survivability survivals.SharedPath) = refl
+setting-found (Survivability survivals.Unrestricted) = refl
+
+-- a setting of a key
+abbrev pub some_setting : Key → Setting
+some_setting keys.Demand = Demand demands.Undirected
+some_setting keys.Link = Link links.Undirected
+some_setting keys.Capacity = Capacity capacities.Modular
+some_setting keys.FixedCharge = FixedCharge charges.No
+some_setting keys.Routing = Routing routings.SinglePath
+some_setting keys.Path = Path paths.All
+some_setting keys.Hop = Hop hops.No
+some_setting keys.Survivability = Survivability survivals.No
+
+pub some-key : (k : Key) → key_of (some_setting k) ≡ k
+some-key keys.Demand = refl
+some-key keys.Link = refl
+some-key keys.Capacity = refl
+some-key keys.FixedCharge = refl
+some-key keys.Routing = refl
+some-key keys.Path = refl
+some-key keys.Hop = refl
+some-key keys.Survivability = refl

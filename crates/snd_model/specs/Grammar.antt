@@ -1,0 +1,123 @@
+-- The grammar of model texts: which lists of tokens stand for which models.
+use Rattle.std.specs.Prelude.{Bool, true, false, ◌&&◌, is_some, if◌then◌else◌, List, Option, Some, None, Result, Ok, Err}
+use Rattle.snd_reader.specs.declared.fault.Wanted.{Wanted}
+use Rattle.snd_reader.specs.declared.fault.Wanted.TheVariants as wants
+use Rattle.snd_reader.specs.declared.fault.Complaint.{Complaint}
+use Rattle.snd_reader.specs.declared.fault.Complaint.TheVariants.{Unexpected, Twice, Ended}
+use Rattle.snd_reader.specs.Readers.{Lexeme, word, open_bracket, close_bracket, equals_sign, the_end, Placed}
+use Rattle.snd_reader.specs.Forms.{Then, IsToken, IsNothing, Items}
+use Rattle.snd_reader.specs.Tests.{equals_test}
+use Rattle.snd_model.specs.declared.keys.Key.{Key}
+use Rattle.snd_model.specs.declared.keys.Key.TheVariants as keys
+use Rattle.snd_model.specs.declared.setting.Setting.{Setting}
+use Rattle.snd_model.specs.declared.setting.Setting.TheVariants.{Demand, Link, Capacity, FixedCharge, Routing, Path, Hop, Survivability}
+use Rattle.snd_model.specs.declared.draft.Draft.{Draft}
+use Rattle.snd_model.specs.declared.file.ModelFile.{ModelFile}
+use Rattle.snd_model.specs.Table.{key_named, setting_named}
+
+-- ---- settings
+
+-- the setting of a key in a model
+abbrev pub setting_of : ModelFile → Key → Setting
+setting_of file keys.Demand = Demand file.demand
+setting_of file keys.Link = Link file.link
+setting_of file keys.Capacity = Capacity file.capacity
+setting_of file keys.FixedCharge = FixedCharge file.fixed_charge
+setting_of file keys.Routing = Routing file.routing
+setting_of file keys.Path = Path file.path
+setting_of file keys.Hop = Hop file.hop
+setting_of file keys.Survivability = Survivability file.survivability
+
+-- no setting
+abbrev pub no_settings : Draft
+no_settings = record { demand = None; link = None; capacity = None; fixed_charge = None; routing = None; path = None; hop = None; survivability = None }
+
+-- all settings of a model
+abbrev pub settings_of : ModelFile → Draft
+settings_of file = record {
+  demand = Some file.demand;
+  link = Some file.link;
+  capacity = Some file.capacity;
+  fixed_charge = Some file.fixed_charge;
+  routing = Some file.routing;
+  path = Some file.path;
+  hop = Some file.hop;
+  survivability = Some file.survivability;
+}
+
+-- one setting more
+abbrev pub and_setting : Draft → Setting → Draft
+and_setting d (Demand v) = record { demand = Some v; link = d.link; capacity = d.capacity; fixed_charge = d.fixed_charge; routing = d.routing; path = d.path; hop = d.hop; survivability = d.survivability }
+and_setting d (Link v) = record { demand = d.demand; link = Some v; capacity = d.capacity; fixed_charge = d.fixed_charge; routing = d.routing; path = d.path; hop = d.hop; survivability = d.survivability }
+and_setting d (Capacity v) = record { demand = d.demand; link = d.link; capacity = Some v; fixed_charge = d.fixed_charge; routing = d.routing; path = d.path; hop = d.hop; survivability = d.survivability }
+and_setting d (FixedCharge v) = record { demand = d.demand; link = d.link; capacity = d.capacity; fixed_charge = Some v; routing = d.routing; path = d.path; hop = d.hop; survivability = d.survivability }
+and_setting d (Routing v) = record { demand = d.demand; link = d.link; capacity = d.capacity; fixed_charge = d.fixed_charge; routing = Some v; path = d.path; hop = d.hop; survivability = d.survivability }
+and_setting d (Path v) = record { demand = d.demand; link = d.link; capacity = d.capacity; fixed_charge = d.fixed_charge; routing = d.routing; path = Some v; hop = d.hop; survivability = d.survivability }
+and_setting d (Hop v) = record { demand = d.demand; link = d.link; capacity = d.capacity; fixed_charge = d.fixed_charge; routing = d.routing; path = d.path; hop = Some v; survivability = d.survivability }
+and_setting d (Survivability v) = record { demand = d.demand; link = d.link; capacity = d.capacity; fixed_charge = d.fixed_charge; routing = d.routing; path = d.path; hop = d.hop; survivability = Some v }
+
+-- the key has a value
+abbrev pub has_setting : Draft → Key → Bool
+has_setting d keys.Demand = is_some d.demand
+has_setting d keys.Link = is_some d.link
+has_setting d keys.Capacity = is_some d.capacity
+has_setting d keys.FixedCharge = is_some d.fixed_charge
+has_setting d keys.Routing = is_some d.routing
+has_setting d keys.Path = is_some d.path
+has_setting d keys.Hop = is_some d.hop
+has_setting d keys.Survivability = is_some d.survivability
+
+-- each key has a value
+abbrev pub is_complete : Draft → Bool
+is_complete d = is_some d.demand && is_some d.link && is_some d.capacity && is_some d.fixed_charge && is_some d.routing && is_some d.path && is_some d.hop && is_some d.survivability
+
+-- ---- single tokens
+
+-- what is wanted in a key's place: a key, and behind the eighth pair nothing
+abbrev pub wanted_next : Draft → Wanted
+wanted_next d = if is_complete d then wants.Nothing else wants.Key
+
+-- each key stands at most once
+abbrev pub once : Bool → Key → Result (Option Key) Complaint
+once true k = Err Twice
+once false k = Ok (Some k)
+
+-- a word in a key's place
+abbrev pub key_begun : Draft → Option Key → Result (Option Key) Complaint
+key_begun d None = Err (Unexpected (wanted_next d))
+key_begun d (Some k) = once (has_setting d k) k
+
+-- A pair begins with its key, and the text may end where each key has a value.
+abbrev pub key_head : Draft → Lexeme → Result (Option Key) Complaint
+key_head d (word bytes) = key_begun d (key_named bytes)
+key_head d open_bracket = Err (Unexpected (wanted_next d))
+key_head d close_bracket = Err (Unexpected (wanted_next d))
+key_head d equals_sign = Err (Unexpected (wanted_next d))
+key_head d the_end = if is_complete d then Ok None else Err Ended
+
+-- a word in a value's place
+abbrev pub valued : Option Setting → Result Setting Complaint
+valued None = Err (Unexpected wants.Value)
+valued (Some s) = Ok s
+
+-- a spelling of a value of this key
+abbrev pub value_test : Key → Lexeme → Result Setting Complaint
+value_test k (word bytes) = valued (setting_named k bytes)
+value_test k open_bracket = Err (Unexpected wants.Value)
+value_test k close_bracket = Err (Unexpected wants.Value)
+value_test k equals_sign = Err (Unexpected wants.Value)
+value_test k the_end = Err Ended
+
+-- ---- whole texts
+
+-- behind a key an equals sign and a value of this key
+abbrev pub PairForm : Draft → Key → List Placed → Draft → Type 0
+PairForm d k = Then (IsToken (λ t. equals_test t.is)) (λ _. Then (IsToken (λ t. value_test k t.is)) (λ s. IsNothing (and_setting d s)))
+
+-- pairs of different keys, and the end of the text behind the eighth
+abbrev pub PairsForm : List Placed → Draft → Type 0
+PairsForm = Items (λ (d : Draft) (t : Placed). key_head d t.is) PairForm no_settings
+
+-- the tokens are pairs, one for each key, and then the text ends; they are the settings of the model
+abbrev pub ModelForm : List Placed → ModelFile → Type 0
+ModelForm ts file = PairsForm ts (settings_of file)

@@ -1,0 +1,5 @@
+pub mod Table
+pub mod Grammar
+pub mod Reading
+pub mod Spelling
+pub mod Writing
