@@ -1,4 +1,1 @@
-pub mod NeedLaws
-pub mod ListLaws
-pub mod PlanLaws
-pub mod SettingLaws
+mod PlanLaws

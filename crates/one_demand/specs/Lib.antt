@@ -1,2 +1,2 @@
-pub mod Needs
-pub mod Choices
+pub mod Plans
+pub mod Costs

@@ -1,30 +1,35 @@
 use super::*;
+use link_steps::StepTable;
 use plan_base::{Demand, Instance, Items, Link, Module, NodeId, Orient, Parts, check_design};
 use std::alloc::{AllocError, Global};
 use std::test::*;
 
-fn link(
-    alloc: Global,
-    source: u32,
-    target: u32,
-    capacity: u64,
-    cost: u128,
-) -> Result<Link, AllocError> {
+/// A link with a module of 10 for 5 and one of 25 for 10, in load grains and units of cost.
+fn link(alloc: Global, source: u32, target: u32, pre: u64) -> Result<Link, AllocError> {
+    let mut modules = Vec::new(alloc);
+    modules.push(Module {
+        capacity: 10,
+        cost: 5,
+    })?;
+    modules.push(Module {
+        capacity: 25,
+        cost: 10,
+    })?;
     Ok(Link {
         source: NodeId(source),
         target: NodeId(target),
-        pre: 0,
+        pre,
         routing: 0,
-        modules: Items::from_vec(vec![in alloc; Module { capacity, cost }]?),
+        modules: Items::from_vec(modules),
     })
 }
 
-/// Nodes a, b, c, links ab and bc of cost 5 and ac of cost 12, and a demand from a to c.
-fn triangle(alloc: Global, capacity: u64, load: u128) -> Result<Parts, AllocError> {
+/// Nodes a, b, c, links ab and bc, a link ac with this pre-installed capacity, and a demand from a to c.
+fn triangle(alloc: Global, pre: u64, load: u128) -> Result<Parts, AllocError> {
     let mut links = Vec::new(alloc);
-    links.push(link(alloc, 0, 1, capacity, 5_000_000_000_000)?)?;
-    links.push(link(alloc, 1, 2, capacity, 5_000_000_000_000)?)?;
-    links.push(link(alloc, 0, 2, capacity, 12_000_000_000_000)?)?;
+    links.push(link(alloc, 0, 1, 0)?)?;
+    links.push(link(alloc, 1, 2, 0)?)?;
+    links.push(link(alloc, 0, 2, pre)?)?;
     let demand = Demand {
         source: NodeId(0),
         target: NodeId(2),
@@ -38,34 +43,27 @@ fn triangle(alloc: Global, capacity: u64, load: u128) -> Result<Parts, AllocErro
     })
 }
 
-/// The cost of the plan in cost grains, none where there is no design.
-fn planned_cost(alloc: Global, capacity: u64, load: u128) -> Result<Option<u128>, PlanFault> {
-    let Ok(inst) = Instance::build(alloc, triangle(alloc, capacity, load)?) else {
-        return Err(PlanFault::OutOfMemory);
-    };
-    if !is_simple(&inst) {
-        return Err(PlanFault::OutOfMemory);
+/// The cost of the plan in cost grains, as `check_design` tells it.
+fn planned_cost(alloc: Global, pre: u64, load: u128) -> Option<u128> {
+    let parts = triangle(alloc, pre, load).ok()?;
+    let inst = Instance::build(alloc, parts).ok()?;
+    if inst.demands() != 1 {
+        return None;
     }
-    match plan_one(alloc, &inst)? {
+    let table = StepTable::make(alloc, &inst).ok()?;
+    match plan_one(alloc, &inst, &table).ok()? {
         Planned::Cheapest { design, cost } if check_design(&inst, &design) == Ok(cost) => {
-            Ok(Some(cost))
+            Some(cost)
         }
-        Planned::Cheapest { .. } => Err(PlanFault::OutOfMemory),
-        Planned::NoDesign => Ok(None),
+        _ => None,
     }
 }
 
 #[test]
-fn plans_with_ample_memory(rt: HostRuntime) -> Result<(), Fail> {
-    let ten = planned_cost(rt.alloc(), 10_000_000, 6_000_000);
-    assert_eq!(rt; ten, Ok(Some(10_000_000_000_000)));
-    let thirty = planned_cost(rt.alloc(), 10_000_000, 25_000_000);
-    assert_eq!(rt; thirty, Ok(Some(30_000_000_000_000)));
-    let none = planned_cost(rt.alloc(), 0, 6_000_000);
-    assert_eq!(rt; none, Ok(None));
-    let last = planned_cost(rt.alloc(), 10, 40_950);
-    assert_eq!(rt; last, Ok(Some(40_950_000_000_000_000)));
-    let too_many = planned_cost(rt.alloc(), 10, 40_951);
-    assert_eq!(rt; too_many, Err(PlanFault::TooManyModules));
-    Ok(())
+fn plans_with_ample_memory(rt: HostRuntime) {
+    // The direct link carries 31 by one module of each kind; what is installed beforehand costs nothing.
+    assert_eq!(rt; planned_cost(rt.alloc(), 0, 31), Some(15));
+    assert_eq!(rt; planned_cost(rt.alloc(), 0, 36), Some(20));
+    assert_eq!(rt; planned_cost(rt.alloc(), 26, 36), Some(5));
+    assert_eq!(rt; planned_cost(rt.alloc(), 36, 36), Some(0));
 }

@@ -1,2 +1,4 @@
 mod Lists
+mod StopLaws
 mod AnswerLaws
+mod OneRefusal

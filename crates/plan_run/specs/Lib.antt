@@ -1,5 +1,6 @@
 pub mod Words
 pub mod Lines
+pub mod Refusals
 pub mod Runs
-pub mod Outcomes
-pub mod Answers
+pub mod Stops
+pub mod OneAnswer

@@ -2,12 +2,13 @@
 
 ghost use Rattle.std.specs.Prelude.{◌≡◌, ◌≤◌, map, string_bytes, IfOk};
 ghost use Rattle.plan_io.specs.Causes.{Rose};
-ghost use Rattle.plan_run.specs.Answers.{IsMade};
-ghost use Rattle.plan_run.specs.Outcomes.{RisesAtMostTwo};
+ghost use Rattle.plan_run.specs.Stops.{IsMade, RisesAtMostTwo};
 
-use crate::reading::find_outcome;
+use crate::reading::find_answer;
 use crate::status::Status;
+use crate::stop::Stop;
 use plan_io::{Gate, Shelf};
+use plan_report::fault_line;
 use std::alloc::{AllocError, Global};
 
 /// A status and the whole text that goes with it.
@@ -31,9 +32,12 @@ pub fn make_answer<S: Shelf, G: Gate>(
     ensures later { S.faults shelf.old ≤ S.faults shelf.new }
     ensures begins { RisesAtMostTwo (S.begins shelf.old) (S.begins shelf.new) }
 {
-    let outcome = find_outcome(alloc, words, shelf, gate)?;
-    Ok(Answer {
-        status: outcome.status(),
-        text: outcome.text(alloc)?,
-    })
+    match find_answer(alloc, words, shelf, gate) {
+        Ok(answer) => Ok(answer),
+        Err(Stop::Refused(fault)) => Ok(Answer {
+            status: Status::of_fault(fault),
+            text: fault_line(alloc, fault)?,
+        }),
+        Err(Stop::OutOfMemory) => Err(AllocError),
+    }
 }

@@ -1,18 +1,39 @@
 //! What the words of a command ask for.
 
 ghost use Rattle.std.specs.Prelude.{◌≡◌, map, string_bytes, option_map};
-ghost use Rattle.plan_run.specs.Words.{names_in};
+ghost use Rattle.plan_run.specs.Words.{command_named, asked_in};
 
-/// The names of the two texts, where the words are `plan NET MODEL`.
+/// What a run does with its texts.
+#[derive(Clone, Copy, Debug, PartialEq, Eq)]
+pub enum Command {
+    /// Plans the network, and writes the plan.
+    Plan,
+    /// Tells the sizes of the network.
+    Check,
+}
+
+/// The command of this word.
+fn command_named(word: &str) -> Option<Command>
+    ensures { result ≡ command_named word.now }
+{
+    match word {
+        "plan" => Some(Command::Plan),
+        "check" => Some(Command::Check),
+        _ => None,
+    }
+}
+
+/// The command, and the names of its two texts, where the words are read.
 ///
 /// - Rule: docs/DEFINITIONS.md, "Runs".
-pub fn names_in(words: &[String]) -> Option<(&str, &str)>
-    ensures { option_map (λ names. (names.0.now, names.1.now)) result
-        ≡ names_in (map string_bytes words.now) }
+pub fn asked_in(words: &[String]) -> Option<(Command, &str, &str)>
+    ensures { option_map (λ asked. (asked.0, (asked.1.now, asked.2.now))) result
+        ≡ asked_in (map string_bytes words.now) }
 {
     match words {
-        [command, network, model] if command.as_str() == "plan" => {
-            Some((network.as_str(), model.as_str()))
+        [word, network, model] => {
+            let command = command_named(word.as_str())?;
+            Some((command, network.as_str(), model.as_str()))
         }
         _ => None,
     }

@@ -1,9 +1,15 @@
 //! What follows from the contract of the top call.
 
-ghost use Rattle.std.specs.Prelude.{◌≡◌, map, string_bytes, None, Some, IsSome};
+ghost use Rattle.std.specs.Prelude.{ℕ, List, ◌≡◌, ◌≢◌, map, string_bytes, None, Some, IsSome};
 ghost use Rattle.plan_io.specs.SureShelf.{text_of, begin_count};
-ghost use Rattle.plan_run.specs.Words.{names_in};
-ghost use Rattle.plan_run.specs.Runs.{IsRun, IsOwnAnswer};
+ghost use Rattle.plan_run.specs.Words.{asked_in};
+ghost use Rattle.plan_report.specs.declared.run_fault.RunFault.{RunFault as AnyFault};
+ghost use Rattle.plan_report.specs.declared.run_fault.RunFault.TheVariants as faults;
+ghost use Rattle.plan_run.specs.declared.command.Command.{Command as AnyCommand};
+ghost use Rattle.plan_run.specs.declared.status.Status.{Status as AnyStatus};
+ghost use Rattle.plan_run.specs.Refusals.{AreRefused};
+ghost use Rattle.plan_run.specs.OneAnswer.{Below};
+ghost use Rattle.plan_run.specs.Runs.{IsRun, IsDone, IsOwnAnswer};
 
 use crate::status::Status;
 use crate::top_call::run;
@@ -22,9 +28,38 @@ pub fn run_surely<G: Gate>(
     // Over a sink that tells nothing the bytes are free, but the begins and the cause are not.
     ensures answer { IsRun (map string_bytes words.now) (λ name. Some (text_of shelf.old name))
         (begin_count shelf.old) (begin_count shelf.new) None None result }
-    ensures complete { IsSome (names_in (map string_bytes words.now)) → IsOwnAnswer result }
+    ensures complete { IsSome (asked_in (map string_bytes words.now)) → IsOwnAnswer result }
     ensures no_read_fault { result ≡ Status.ReadFault → ⊥ }
     ensures no_write_fault { result ≡ Status.WriteFault → ⊥ }
 {
     run(alloc, words, shelf, out, gate)
+}
+
+/// What the crates below say: a text, two files and a link have one answer each.
+fn one_answer_below()
+    ensures { Below }
+{
+    snd_network::laws::one_network_for_a_text();
+    snd_network::laws::no_fault_where_spelt();
+    snd_network::laws::one_fault_for_a_text();
+    model_check::laws::one_instance();
+    model_check::laws::no_refusal_of_an_instance();
+    model_check::laws::one_refusal();
+    link_steps::laws::few_or_many();
+}
+
+/// Two texts are refused in one way at most.
+pub fn one_refusal()
+    ensures { (command : AnyCommand) (network model : List ℕ) (a b : AnyFault) →
+        AreRefused command network model a → AreRefused command network model b → a ≡ b }
+{
+    one_answer_below();
+}
+
+/// Where two texts are refused, but for what is not built, no command does its work for them.
+pub fn refused_or_done()
+    ensures { (command : AnyCommand) (network model : List ℕ) (fault : AnyFault) (status : AnyStatus) (bytes : List ℕ) →
+        AreRefused command network model fault → fault ≢ faults.NotBuilt → IsDone command network model status bytes → ⊥ }
+{
+    one_answer_below();
 }

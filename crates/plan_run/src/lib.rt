@@ -10,15 +10,14 @@
 mod answer;
 mod command;
 pub mod laws;
-mod model_text;
-mod outcome;
 mod plan_lines;
 mod planning;
 mod reading;
 mod status;
+mod stop;
 mod top_call;
 
-pub use model_text::MODEL_TEXT;
+pub use command::Command;
 pub use status::Status;
 pub use top_call::run;
 

@@ -2,23 +2,16 @@
 
 ghost use Rattle.std.specs.Prelude.{◌≡◌, ◌++◌, ◌∷◌, [], length, map, OnOk, IfOk};
 ghost use Rattle.std.specs.List.{flat_map};
-ghost use Rattle.plan_run.specs.Lines.{numbers, path_line, modules_line, plan_text};
+ghost use Rattle.plan_report.specs.Lines.{numbers};
+ghost use Rattle.plan_run.specs.Lines.{path_line, modules_line, plan_text};
 
-use itoa::Buffer;
 use plan_base::{ArcId, Design, Items, Path};
+use plan_report::push_number;
 use scaled_numbers::write_grains;
 use std::alloc::{AllocError, Global};
 
 /// Decimals behind the point of a cost in cost grains.
 pub const COST_SCALE: u32 = 12;
-
-/// Writes a blank and the number.
-fn push_number(text: &mut Vec<u8>, number: u64) -> Result<(), AllocError>
-    ensures { OnOk result (text.new.items ≡ text.old.items ++ numbers (number ∷ [])) }
-{
-    text.push(b' ')?;
-    text.extend_from_slice(Buffer::new().format(number).as_bytes())
-}
 
 /// Writes the number of each arc.
 #[tactic(auto, using(crate::proofs::Lists::lists))]

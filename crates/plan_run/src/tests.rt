@@ -11,6 +11,14 @@ const USAGE: &[u8] =
 const TRIANGLE_PLAN: &[u8] =
     b"SNDPLAN 0\nSTATUS OPTIMAL\nCOST 10\nPATH 2 0 2\nMODULES 1 1\nMODULES 1 1\nMODULES 1 0\nEND\n";
 
+/// The canonical model text.
+const MODEL_TEXT: &[u8] =
+    b"?SNDlib native format; type: model; version: 1.0\nDEMAND_MODEL = UNDIRECTED\nLINK_MODEL = UNDIRECTED\nLINK_CAPACITY_MODEL = MODULAR\nFIXED_CHARGE_MODEL = NO\nROUTING_MODEL = SINGLE_PATH\nADMISSIBLE_PATH_MODEL = ALL\nHOP_LIMIT_MODEL = NO\nSURVIVABILITY_MODEL = NO\n";
+
+/// The header of a network text, and its nodes a, b, c.
+const NODES: &str =
+    "?SNDlib native format; type: network; version: 1.0\nNODES ( a ( 0 0 ) b ( 1 0 ) c )\n";
+
 /// The triangle network with these modules on its two short links and on its direct one, and a
 /// demand of this value from one end of the direct link to the other.
 fn triangle(alloc: Global, short: &str, direct: &str, value: &str) -> Result<String, AllocError> {
@@ -57,33 +65,233 @@ fn ends_with_faults(
     Ok((status, out))
 }
 
+/// A network text with these links and demands, in the words of the grammar.
+fn network(alloc: Global, links: &str, demands: &str) -> Result<String, AllocError> {
+    format!(in alloc; "{NODES}LINKS ( {links} )\nDEMANDS ( {demands} )\n")
+}
+
 #[test]
-fn plans_with_ample_memory(rt: HostRuntime) -> Result<(), Fail> {
-    let dear =
-        b"SNDPLAN 0\nSTATUS OPTIMAL\nCOST 30\nPATH 2 0 2\nMODULES 1 3\nMODULES 1 3\nMODULES 1 0\nEND\n".as_slice();
-    let none = b"SNDPLAN 0\nSTATUS INFEASIBLE\nEND\n".as_slice();
-    let not_built = b"not built\n".as_slice();
-    for (short, direct, value, want, text) in [
-        ("( 10 5 )", "( 10 12 )", "6", Status::Good, TRIANGLE_PLAN),
-        ("( 10 5 )", "( 10 12 )", "25", Status::Good, dear),
-        ("( )", "( )", "6", Status::Infeasible, none),
-        ("( 0.5 5 )", "( 10 12 )", "6", Status::NotBuilt, not_built),
-        ("( 1 5 )", "( 10 12 )", "4096", Status::NotBuilt, not_built),
+fn answers_with_ample_memory(rt: HostRuntime) -> Result<(), Fail> {
+    // The words, the links, the demands, the status and what is written.
+    for (command, links, demands, want, text) in [
+        (
+            "plan",
+            "ab ( a b ) 0 0 0 0 ( 10 5 ) bc ( b c ) 0 0 0 0 ( 10 5 ) ac ( a c ) 0 0 0 0 ( 10 12 )",
+            "k1 ( a c ) 1 6 UNLIMITED",
+            Status::Good,
+            "SNDPLAN 0\nSTATUS OPTIMAL\nCOST 10\nPATH 2 0 2\nMODULES 1 1\nMODULES 1 1\nMODULES 1 0\nEND\n",
+        ),
+        (
+            "plan",
+            "ab ( a b ) 0 0 0.25 0 ( 10 5 )",
+            "k ( a b ) 1 4 UNLIMITED",
+            Status::Good,
+            "SNDPLAN 0\nSTATUS OPTIMAL\nCOST 6\nPATH 1 0\nMODULES 1 1\nEND\n",
+        ),
+        (
+            "plan",
+            "ab ( a b ) 0 0 0 0 ( )",
+            "k ( a b ) 1 0 UNLIMITED",
+            Status::Good,
+            "SNDPLAN 0\nSTATUS OPTIMAL\nCOST 0\nPATH 1 0\nMODULES 0\nEND\n",
+        ),
+        (
+            "plan",
+            "ab ( a b ) 0 0 0 0 ( 10 5 25 10 )",
+            "k ( a b ) 31 1 UNLIMITED",
+            Status::Good,
+            "SNDPLAN 0\nSTATUS OPTIMAL\nCOST 15\nPATH 1 0\nMODULES 2 1 1\nEND\n",
+        ),
+        (
+            "plan",
+            "ab ( a b ) 0 0 0 0 ( )",
+            "k ( a b ) 1 6 UNLIMITED",
+            Status::Infeasible,
+            "SNDPLAN 0\nSTATUS INFEASIBLE\nEND\n",
+        ),
+        (
+            "plan",
+            "ab ( a b ) 0 0 0 0 ( )",
+            "",
+            Status::NotBuilt,
+            "not built\n",
+        ),
+        (
+            "check",
+            "ab ( a b ) 0 0 0 0 ( 10 5 25 10 )",
+            "k ( a b ) 36 1 UNLIMITED",
+            Status::Good,
+            "GOOD nodes 3 links 1 demands 1 load 36 steps 5\n",
+        ),
+        (
+            "check",
+            "ab ( a b ) 0 0 0 0 ( )",
+            "",
+            Status::Good,
+            "GOOD nodes 3 links 1 demands 0 load 0 steps 1\n",
+        ),
+        (
+            "plan",
+            "aa ( a a ) 0 0 0 0 ( )",
+            "k ( a b ) 1 6 UNLIMITED",
+            Status::BadText,
+            "bad text loop link 0\n",
+        ),
+        (
+            "check",
+            "ab ( a b ) 0 0 0 0 ( )",
+            "k ( a b ) 1 6 UNLIMITED m ( b b ) 1 6 UNLIMITED",
+            Status::BadText,
+            "bad text loop demand 1\n",
+        ),
+        (
+            "check",
+            "ab ( a b ) 0 0 0 0 ( )",
+            "k ( a z ) 1 6 UNLIMITED",
+            Status::BadText,
+            "bad text network 5 132\n",
+        ),
+        (
+            "check",
+            "ab ( a b ) 0 0 0 0 ( 1.0000001 1 )",
+            "",
+            Status::BadText,
+            "bad text network 3 112 2\n",
+        ),
+        (
+            "check",
+            "ab ( a b ) 0 0 0 0 ( 1.000000000 1 )",
+            "",
+            Status::Good,
+            "GOOD nodes 3 links 1 demands 0 load 0 steps 1\n",
+        ),
+        (
+            "check",
+            "ab ( a b ) 0 0 0 0 ( 0.000001 1 )",
+            "k ( a b ) 1 1 UNLIMITED",
+            Status::OverLimit,
+            "over limit 9 0\n",
+        ),
+        (
+            "check",
+            "ab ( a b ) 0 0 0 0 ( )",
+            "k ( a b ) 999999999999 999999999999 UNLIMITED",
+            Status::OverLimit,
+            "over limit 7 0\n",
+        ),
     ] {
-        let network = triangle(rt.alloc(), short, direct, value)?;
-        let network = network.as_str().as_bytes();
-        let (status, out) = ends_surely(rt.alloc(), PLAN, network, MODEL_TEXT)?;
-        assert_eq!(rt; status, want, "{short} {value}");
-        assert!(rt; out.bytes() == text, "{short} {value}");
-        let (status, _) = ends_surely(rt.alloc(), PLAN, network, &MODEL_TEXT[1..])?;
-        assert_eq!(rt; status, Status::NotBuilt, "{short} {value}");
+        let text_of_network = network(rt.alloc(), links, demands)?;
+        let given = format!(in rt.alloc(); "{command} net model")?;
+        let (status, out) = ends_surely(
+            rt.alloc(),
+            given.as_str(),
+            text_of_network.as_str().as_bytes(),
+            MODEL_TEXT,
+        )?;
+        assert_eq!(rt; status, want, "{links} {demands}");
+        assert!(rt; out.bytes() == text.as_bytes(), "{links} {demands}");
     }
+    Ok(())
+}
+
+/// The canonical model text but for these values of demands and links.
+fn model(alloc: Global, demands: &str, links: &str) -> Result<String, AllocError> {
+    format!(in alloc;
+        "?SNDlib native format; type: model; version: 1.0\nDEMAND_MODEL = {demands}\nLINK_MODEL = {links}\nLINK_CAPACITY_MODEL = MODULAR\nFIXED_CHARGE_MODEL = NO\nROUTING_MODEL = SINGLE_PATH\nADMISSIBLE_PATH_MODEL = ALL\nHOP_LIMIT_MODEL = NO\nSURVIVABILITY_MODEL = NO\n"
+    )
+}
+
+#[test]
+fn models_are_told_before_the_instance(rt: HostRuntime) -> Result<(), Fail> {
+    // The only link leads from a to b and the only demand from b to a; a loop is told after the model.
+    for (demands, links, ends, want, text) in [
+        (
+            "UNDIRECTED",
+            "UNDIRECTED",
+            "a b",
+            Status::Good,
+            "SNDPLAN 0\nSTATUS OPTIMAL\nCOST 5\nPATH 1 1\nMODULES 1 1\nEND\n",
+        ),
+        (
+            "DIRECTED",
+            "UNDIRECTED_LINKS",
+            "a b",
+            Status::Good,
+            "SNDPLAN 0\nSTATUS OPTIMAL\nCOST 5\nPATH 1 1\nMODULES 1 1\nEND\n",
+        ),
+        (
+            "DIRECTED",
+            "DIRECTED",
+            "a b",
+            Status::Infeasible,
+            "SNDPLAN 0\nSTATUS INFEASIBLE\nEND\n",
+        ),
+        (
+            "DIRECTED",
+            "DIRECTED",
+            "b a",
+            Status::Good,
+            "SNDPLAN 0\nSTATUS OPTIMAL\nCOST 5\nPATH 1 0\nMODULES 1 1\nEND\n",
+        ),
+        (
+            "UNDIRECTED",
+            "BIDIRECTED",
+            "a a",
+            Status::Unsupported,
+            "unsupported LINK_MODEL BIDIRECTED\n",
+        ),
+        (
+            "UNDIRECTED_DEMANDS",
+            "DIRECTED",
+            "a a",
+            Status::Unsupported,
+            "unsupported DEMAND_MODEL UNDIRECTED\n",
+        ),
+        (
+            "UNDIRECTED",
+            "LINEAR",
+            "a a",
+            Status::BadText,
+            "bad text model 2 88\n",
+        ),
+        (
+            "UNDIRECTED",
+            "UNDIRECTED",
+            "a a",
+            Status::BadText,
+            "bad text loop link 0\n",
+        ),
+    ] {
+        let network = format!(in rt.alloc();
+            "{NODES}LINKS ( ab ( {ends} ) 0 0 0 0 ( 10 5 ) ) DEMANDS ( k ( b a ) 1 1 UNLIMITED )"
+        )?;
+        let model = model(rt.alloc(), demands, links)?;
+        let (status, out) = ends_surely(
+            rt.alloc(),
+            PLAN,
+            network.as_str().as_bytes(),
+            model.as_str().as_bytes(),
+        )?;
+        assert_eq!(rt; status, want, "{demands} {links}");
+        assert!(rt; out.bytes() == text.as_bytes(), "{demands} {links}");
+    }
+    let short =
+        b"?SNDlib native format; type: network; version: 1.0\nNODES ( a ( 0 0 ) b ( 1 0 ) )\nLINKS ( ab ( a b ) 0 0".as_slice();
+    let (status, out) = ends_surely(rt.alloc(), PLAN, short, b"")?;
+    assert_eq!(rt; status, Status::BadText);
+    assert!(rt; out.bytes() == b"bad text network 6 103\n".as_slice());
     Ok(())
 }
 
 #[test]
 fn other_words_get_the_usage_line(rt: HostRuntime) -> Result<(), Fail> {
-    for given in ["", "plan net", "plan net model --nodes", "check net model"] {
+    for given in [
+        "",
+        "plan net",
+        "plan net model --nodes",
+        "report net model",
+        "check net",
+    ] {
         let (status, out) = ends_surely(rt.alloc(), given, b"", MODEL_TEXT)?;
         assert_eq!(rt; status, Status::Usage, "{given}");
         assert!(rt; out.bytes() == USAGE, "{given}");

@@ -2,7 +2,7 @@
 
 ghost use Rattle.std.specs.Prelude.{◌≡◌, ◌≤◌, ◌⊎◌, map, string_bytes, IsSome};
 ghost use Rattle.plan_io.specs.Causes.{Rose};
-ghost use Rattle.plan_run.specs.Words.{names_in};
+ghost use Rattle.plan_run.specs.Words.{asked_in};
 ghost use Rattle.plan_run.specs.Runs.{IsRun, IsOwnAnswer};
 
 use crate::answer::make_answer;
@@ -31,7 +31,7 @@ pub fn run<S: Shelf, W: Sink, G: Gate>(
     ensures write_fault { result ≡ Status.WriteFault → Rose (W.faults out.old) (W.faults out.new) }
 
     // Words that are read have no other answer, unless something outside failed.
-    ensures complete { IsSome (names_in (map string_bytes words.now)) → IsOwnAnswer result
+    ensures complete { IsSome (asked_in (map string_bytes words.now)) → IsOwnAnswer result
         ⊎ Rose (S.faults shelf.old) (S.faults shelf.new) ⊎ Rose (W.faults out.old) (W.faults out.new) }
     ensures shelf_later { S.faults shelf.old ≤ S.faults shelf.new }
     ensures sink_later { W.faults out.old ≤ W.faults out.new }

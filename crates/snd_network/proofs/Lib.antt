@@ -1,3 +1,22 @@
-mod NameSets
-mod Lists
-mod Modules
+pub mod NameSets
+pub mod Parts
+pub mod Skips
+pub mod SkipLoop
+pub mod Whole
+pub mod Finding
+pub mod Once
+pub mod Top
+pub mod Turns
+pub mod Through
+pub mod Counts
+pub mod Fresh
+pub mod Formed
+pub mod Endings
+pub mod Lengths
+pub mod WrittenLists
+pub mod CutTexts
+pub mod NameLists
+pub mod Pieces
+pub mod SpeltRecords
+pub mod SpeltSections
+pub mod Spelt

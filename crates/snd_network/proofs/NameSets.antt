@@ -1,34 +1,27 @@
--- Sets of names, seen as lists.
-use Rattle.std.proofs.Common.{◌≡◌, ◌≢◌, ℕ, Bool, true, false, List, [], ◌∷◌, ◌++◌, map, All, nat_eq, refl, sym, subst, if◌then◌else◌}
-use Rattle.std.specs.List.{list_any, AllPairs, AllByRecursion, IsDistinct}
-use Rattle.std.specs.Cmp.Lexicographic.{pointwise}
-use Rattle.std.proofs.lemmas.Bool.Decides.{Decides-eqb}
-use Rattle.std.proofs.lemmas.List.{map-append}
-use Rattle.std.proofs.lemmas.List.Elements.{All-append, All-cons, All-nil}
-use Rattle.std.proofs.lemmas.Map.Made.{AllPairs-from_IsDistinct}
-use Rattle.std.proofs.lemmas.Slice.Eq.{slice_eq-Decides}
+-- Sets of names, seen as lists of bytes.
+use Rattle.std.proofs.Common.{◌≡◌, ℕ, ◌+◌, Bool, false, cond, not, List, [], ◌∷◌, ◌++◌, length, map, refl, ap, ◌∙◌}
+use Rattle.std.specs.Prelude.{Option, Some, None, position, nat_lt}
+use Rattle.std.specs.List.{list_any, position_or_len}
+use Rattle.std.proofs.lemmas.List.{map-append, length-map}
 use Rattle.indexmap.specs.IndexSet.{insert_key}
-use Rattle.snd_network.specs.Names.{IsName}
 
-others-map : {X : Type 0} (view : X → List ℕ) (x : X) (ks : List X) → AllByRecursion (λ y. pointwise nat_eq (view x) (view y) ≡ false) ks → AllByRecursion (λ b. pointwise nat_eq (view x) b ≡ false) (map view ks)
-others-map view x [] h = tt
-others-map view x (k ∷ ks) h = (h.0, others-map view x ks h.1)
+pub any_viewed : {X Y : Type 0} (view : X → Y) (p : Y → Bool) (xs : List X) → list_any p (map view xs) ≡ list_any (λ x. p (view x)) xs
+any_viewed view p [] = refl
+any_viewed view p (x ∷ xs) = rw (any_viewed view p xs) refl
 
-distinct-map : {X : Type 0} (view : X → List ℕ) (ks : List X) → IsDistinct (λ a b. pointwise nat_eq (view a) (view b)) ks → IsDistinct (pointwise nat_eq) (map view ks)
-unfolding IsDistinct
-distinct-map view [] h = tt
-distinct-map view (k ∷ ks) h = (others-map view k ks h.0, distinct-map view ks h.1)
+place_viewed : {X Y : Type 0} (view : X → Y) (p : Y → Bool) (xs : List X) → position_or_len p (map view xs) ≡ position_or_len (λ x. p (view x)) xs
+place_viewed view p [] = refl
+place_viewed view p (x ∷ xs) = ap (λ (n : ℕ). cond (not (p (view x))) (1 + n) 0) (place_viewed view p xs)
 
--- the names of a set differ
-pub differ : {X : Type 0} (view : X → List ℕ) (ks : List X) → IsDistinct (λ a b. pointwise nat_eq (view a) (view b)) ks → AllPairs (λ a b. a ≢ b) (map view ks)
-differ view ks h = AllPairs-from_IsDistinct (λ a b. slice_eq-Decides Decides-eqb a b (pointwise nat_eq a b) refl) (map view ks) (distinct-map view ks h)
+-- a place, where it is one of so many
+abbrev found : ℕ → ℕ → Option ℕ
+found n count = cond (nat_lt n count) (Some n) None
 
--- a name more leaves names
-pub spelt_after : {X : Type 0} (eq : X → X → Bool) (view : X → List ℕ) (ks : List X) (k : X) {new : List X} {bytes : List ℕ} → All IsName (map view ks) → IsName bytes → view k ≡ bytes → new ≡ insert_key eq ks k → All IsName (map view new)
-spelt_after {X} eq view ks k names name is_k is_new =
-    let AreSpelt : List X → Type 0 = λ xs. All IsName (map view xs) in
-    let one : All IsName (view k ∷ []) = All-cons IsName (view k) [] (subst IsName (sym is_k) name) (All-nil IsName) in
-    subst AreSpelt (sym is_new) (elim (list_any (eq k) ks) as (λ b. AreSpelt (if b then ks else ks ++ k ∷ [])) [
-      | true ↦ names
-      | false ↦ subst (All IsName) (sym (map-append view ks (k ∷ []))) (All-append IsName (map view ks) (view k ∷ []) names one)
-    ])
+pub position_viewed : {X Y : Type 0} (view : X → Y) (p : Y → Bool) (xs : List X) → position p (map view xs) ≡ position (λ x. p (view x)) xs
+position_viewed view p xs =
+    ap (λ (n : ℕ). found n (length (map view xs))) (place_viewed view p xs) ∙ ap (found (position_or_len (λ x. p (view x)) xs)) (length-map xs view)
+
+-- a name that is new goes behind the others
+pub added : {V : Type 0} (view : V → List ℕ) (eq : V → V → Bool) (ks new : List V) (k : V) (bytes : List ℕ) → list_any (eq k) ks ≡ false → new ≡ insert_key eq ks k → view k ≡ bytes
+    → map view new ≡ map view ks ++ bytes ∷ []
+added view eq ks new k bytes fresh n v = rw (n, fresh, ← v) (map-append view ks (k ∷ []))

@@ -1,2 +1,9 @@
 pub mod Names
-pub mod FirstForm
+pub mod Tests
+pub mod Grammar
+pub mod Reading
+pub mod Ends
+pub mod Spelling
+pub mod Steps
+pub mod WellFormed
+pub mod Writing

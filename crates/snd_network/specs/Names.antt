@@ -1,18 +1,23 @@
--- Names of nodes, links and demands.
-use Rattle.std.specs.Prelude.{ℕ, ◌≢◌, ◌≤◌, Bool, ◌&&◌, not, ◌==◌, nat_lt, List, length, IsTrue, All}
-use Rattle.std.specs.List.{AllPairs}
+-- Names, and the numbers that they have among names.
+use Rattle.std.specs.Prelude.{ℕ, Bool, nat_eq, nat_lt, if◌then◌else◌, List, length, position, Option, Result, Ok, Err}
+use Rattle.std.specs.List.{list_any}
+use Rattle.std.specs.Cmp.Lexicographic.{pointwise}
+use Rattle.snd_reader.specs.declared.fault.Complaint.{Complaint}
+use Rattle.snd_reader.specs.declared.fault.Complaint.TheVariants.{Twice, LongId}
+use Rattle.snd_network.specs.declared.limits.TheConstants.{MAX_NAME_BYTES}
 
--- a byte that is no blank, no control byte, no bracket, and begins no comment
-abbrev pub is_word_byte : ℕ → Bool
-is_word_byte b = nat_lt 32 b && not (b == 127) && not (b == 35) && not (b == 40) && not (b == 41)
+-- it is one of these names
+abbrev pub is_among : List (List ℕ) → List ℕ → Bool
+is_among names bytes = list_any (λ name. pointwise nat_eq bytes name) names
 
--- a word of 1 to 64 bytes
-pub record IsName (name : List ℕ) : Type 0 where
-  pub some : 1 ≤ length name
-  pub short : length name ≤ 64
-  pub word : All (λ b. IsTrue (is_word_byte b)) name
+-- its number among names, from 0 on, if it is one of them
+abbrev pub number_of : List (List ℕ) → List ℕ → Option ℕ
+number_of names bytes = position (λ name. pointwise nat_eq bytes name) names
 
--- names of which no two are the same
-pub record AreNames (names : List (List ℕ)) : Type 0 where
-  pub spelt : All IsName names
-  pub differ : AllPairs (λ a b. a ≢ b) names
+-- a name that refers to a node has at most 64 bytes
+abbrev pub checked_length : List ℕ → Result (Unit {0}) Complaint
+checked_length bytes = if nat_lt MAX_NAME_BYTES (length bytes) then Err LongId else Ok tt
+
+-- a name of its own has at most 64 bytes, and is none of the names before it
+abbrev pub checked_name : List (List ℕ) → List ℕ → Result (Unit {0}) Complaint
+checked_name names bytes = if nat_lt MAX_NAME_BYTES (length bytes) then Err LongId else if is_among names bytes then Err Twice else Ok tt

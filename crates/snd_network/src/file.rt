@@ -1,49 +1,52 @@
-//! What a text in the first form holds, number by number as it is written.
+//! What a network text holds, number by number as it is written.
 
-use crate::names::Names;
+use crate::name::Name;
 use plan_base::{Items, NodeId};
 
-/// Numbers of a text are below it.
-pub const NUMBER_BOUND: u64 = 1_000_000_000_000;
-
-/// A capacity and its cost, in units.
-#[derive(Clone, Copy, Debug, PartialEq, Eq)]
-pub struct FirstModule {
-    pub capacity: u64,
-    pub cost: u64,
+/// A node.
+#[derive(Debug, Drop)]
+pub struct NodeRecord {
+    pub name: Name,
+    /// The words of its two coordinates, as they are written, where it has them.
+    pub place: Option<(Name, Name)>,
 }
 
-/// A link, its numbers in units.
-#[derive(Drop)]
-pub struct FirstLink {
-    pub name: Items<u8>,
+/// A link. Loads are in load grains (millionths of a unit of load), and costs in millionths of a unit of cost.
+#[derive(Debug, Drop)]
+pub struct LinkRecord {
+    pub name: Name,
     pub source: NodeId,
     pub target: NodeId,
-    pub pre_installed: u64,
-    /// Kept for the writing, and not counted.
-    pub pre_installed_cost: u64,
-    pub routing_cost: u64,
-    /// Kept for the writing, and not counted.
-    pub setup_cost: u64,
-    pub single_module: Option<FirstModule>,
+    /// The pre-installed capacity, in load grains.
+    pub pre: u64,
+    /// What the pre-installed capacity costs, in millionths of a unit of cost.
+    pub pre_cost: u64,
+    /// What routing one unit of load costs, in millionths of a unit of cost.
+    pub routing: u64,
+    /// What setting the link up costs, in millionths of a unit of cost.
+    pub setup: u64,
+    /// The capacity of each module in load grains, and its cost in millionths of a unit of cost.
+    pub modules: Items<(u64, u64)>,
 }
 
-/// The one demand, its numbers in units.
-#[derive(Drop)]
-pub struct FirstDemand {
-    pub name: Items<u8>,
+/// A demand. Its load is its value times its routing unit.
+#[derive(Debug, Drop)]
+pub struct DemandRecord {
+    pub name: Name,
     pub source: NodeId,
     pub target: NodeId,
+    /// The routing unit, a whole number.
     pub unit: u64,
+    /// The value, in millionths.
     pub value: u64,
-    /// The most links of its path, or `None` for `UNLIMITED`. Kept for the writing.
-    pub hop_limit: Option<u64>,
+    /// The most links that its path may have, or `None` for `UNLIMITED`.
+    pub hops: Option<u64>,
 }
 
-/// A network with one demand. Ends are numbers of nodes.
-#[derive(Drop)]
-pub struct FirstFile {
-    pub nodes: Names,
-    pub links: Items<FirstLink>,
-    pub demand: FirstDemand,
+/// A network. The number of a node, link or demand is its place in its section, from 0 on.
+#[derive(Debug, Drop)]
+pub struct NetworkFile {
+    pub nodes: Items<NodeRecord>,
+    pub links: Items<LinkRecord>,
+    pub demands: Items<DemandRecord>,
 }

@@ -1,22 +1,30 @@
-//! Network texts in the first form: canonical, whole numbers, one demand, at most one module a link.
-//!
-//! Promises that an accepted text is the canonical text of a file, and that the parts are those of
-//! this file. Begin at `read_first`, whose words are in `specs/FirstForm.antt`. Stands on
-//! `plan_base`. That every text in the first form is accepted is tested, and not promised.
+//! Networks as texts: which text spells which network, the reader that says so or tells the first fault,
+//! and the writer of the canonical text, which spells its network.
+//! Begin at `read_network`, whose contract is in the words of `specs/Spelling.antt`, with the grammar in
+//! `specs/Grammar.antt`, and at `write_network` and `NetworkFile::well_formed`, with `specs/Writing.antt` and
+//! `specs/WellFormed.antt`. Stands on `snd_reader` for tokens and the forms that grammars are made of.
 #![tactic(auto)]
 
-mod fault;
+mod draft;
 mod file;
-mod names;
+pub mod laws;
+mod limits;
+mod lists;
+mod name;
+mod readers;
 mod reading;
-mod top;
-mod valuing;
+mod resolve;
+mod sections;
+mod verdicts;
+mod well_formed;
 mod writing;
 
-pub use fault::FirstFault;
-pub use file::{FirstDemand, FirstFile, FirstLink, FirstModule, NUMBER_BOUND};
-pub use names::Names;
-pub use top::read_first;
+pub use file::{DemandRecord, LinkRecord, NetworkFile, NodeRecord};
+pub use limits::MAX_NAME_BYTES;
+pub use name::Name;
+pub use reading::read_network;
+pub use snd_reader::{TextFault, Wanted};
+pub use writing::write_network;
 
 #[cfg(test)]
 mod tests;

@@ -1,189 +1,85 @@
-//! Reads a file loosely: brackets and titles are looked at only by comparing the text written back.
+//! Reading a network text.
 
-ghost use Rattle.std.specs.Prelude.{◌≡◌, ◌<◌, ◌≤◌, ◌*◌, ◌∷◌, [], length, map, IfOk, IfSome, All};
-ghost use Rattle.snd_network.specs.Names.{IsName, AreNames};
-ghost use Rattle.snd_network.specs.FirstForm.{IsFirstModule, IsFirstLink, IsFirstDemand, IsFirstFile};
+ghost use Rattle.std.specs.Prelude.{◌≡◌, ◌≤◌, ◌<◌, ◌+◌, ◌-◌, ◌^◌, ℕ, List, length, true, codes, IfOk, IfErr, OnErr};
+ghost use Rattle.snd_lexer.specs.declared.limits.TheConstants.{MAX_TEXT_BYTES};
+ghost use Rattle.snd_lexer.specs.declared.token.Dialect.TheVariants.{Network};
+ghost use Rattle.snd_lexer.specs.Cutting.{Lexes, StopsAt, IsWithin};
+ghost use Rattle.std.specs.List.{All};
+ghost use Rattle.snd_reader.specs.declared.fault.TextFault.{TextFault};
+ghost use Rattle.snd_reader.specs.Header.{HasHeader};
+ghost use Rattle.snd_network.specs.declared.file.NetworkFile.{NetworkFile};
+ghost use Rattle.snd_network.specs.Tests.{is_complete};
+ghost use Rattle.snd_network.specs.Spelling.{network_header, SpellsDraft, SpellsNetwork, IsFault, OnlyFile, OnlyFault};
+ghost use Rattle.snd_network.specs.WellFormed.{IsWellFormed};
+ghost use Rattle.snd_network.specs.Ends.{names_of};
+ghost use Rattle.snd_network.specs.Steps.{IsCutFault};
 
-use crate::fault::FirstFault;
-use crate::file::{FirstDemand, FirstFile, FirstLink, FirstModule, NUMBER_BOUND};
-use crate::names::{Names, is_name};
-use plan_base::{Items, NodeId};
-use std::alloc::{AllocError, Global};
+use crate::draft::Draft;
+use crate::file::NetworkFile;
+use crate::resolve::file_of;
+use crate::sections::network;
+use snd_lexer::{Dialect, LexFault, Tokens, lex};
+use snd_reader::{Cursor, TextFault, behind_header};
+use std::alloc::Global;
 
-/// The text up to the line that closes a section, and the text behind that line.
-fn split_section(text: &[u8]) -> Option<(&[u8], &[u8])> {
-    let end = text
-        .windows(3)
-        .position(|bytes| bytes == b"\n)\n".as_slice())?;
-    Some((&text[..end], &text[end + 3..]))
-}
+/// The first line of a network text.
+const HEADER: &[u8] = b"?SNDlib native format; type: network; version: 1.0";
 
-/// The words of a line behind its two blanks.
-fn words_of(alloc: Global, line: &[u8]) -> Result<Vec<&[u8]>, AllocError> {
-    line.split(|byte| *byte == b' ').skip(2).collect(alloc)
-}
-
-/// A whole number in range.
-fn read_number(word: &[u8]) -> Option<u64>
-    ensures { IfSome result (λ number. number < NUMBER_BOUND) }
+/// Reads a network text.
+///
+/// - Takes: a text of at most `MAX_TEXT_BYTES` bytes.
+/// - Gives: the network that the text spells. Numbers are in millionths of their units; routing units and
+///   hop limits are whole.
+/// - Errors: `Header`, exactly where the first line is not the header; else `Control`, exactly where a
+///   byte that may stand in comments only stands in none, at the first; else `Unexpected`, `Number`,
+///   `Twice`, `LongId` or `Ended`, exactly at the first bad token; else `Unknown`, exactly at the first
+///   name that is no node, those of links before those of demands; `OutOfMemory` may stand in place of any answer.
+/// - Rule: docs/DEFINITIONS.md, "Network texts".
+/// - Time: linear in the text but for the look-up of names.
+pub fn read_network(alloc: Global, text: &[u8]) -> Result<NetworkFile, TextFault>
+    requires length { length text.now ≤ MAX_TEXT_BYTES }
+    // The text spells this network.
+    ensures value { IfOk result (SpellsNetwork text.now) }
+    // It spells no other, and what it spells is the answer, unless memory runs out.
+    ensures value_only { (file : NetworkFile) → SpellsNetwork text.now file → OnlyFile result file }
+    // The network is one that a text can hold.
+    ensures formed { IfOk result IsWellFormed }
+    // This is wrong with the text.
+    ensures fault { IfErr result (IsFault text.now) }
+    // Nothing else is told of a text with this fault, unless memory runs out.
+    ensures fault_only { (fault : TextFault) → IsFault text.now fault → OnlyFault result fault }
 {
-    let number = std::str::from_utf8(word).ok()?.parse::<u64>().ok()?;
-    if number < NUMBER_BOUND {
-        Some(number)
-    } else {
-        None
-    }
+    let draft = read_draft(alloc, text)?;
+    file_of(alloc, draft)
 }
 
-/// The node of this name.
-fn read_node(nodes: &Names, word: &[u8]) -> Option<NodeId>
-    ensures { IfSome result (λ node. node.0 < length nodes.now) }
+/// The sections of a network text.
+fn read_draft(alloc: Global, text: &[u8]) -> Result<Draft, TextFault>
+    requires { length text.now ≤ MAX_TEXT_BYTES }
+    ensures value { IfOk result (SpellsDraft text.now) }
+    ensures complete { IfOk result (λ draft. is_complete draft ≡ true) }
+    ensures few { IfOk result (λ draft. length (names_of draft.nodes) < 2 ^ 32) }
+    ensures fault { IfErr result (IsFault text.now) }
 {
-    let number = nodes.number_of(word)?;
-    Some(NodeId(u32::try_from(number).ok()?))
-}
-
-/// The module between a link's last brackets.
-fn read_module(words: &[&[u8]]) -> Option<Option<FirstModule>>
-    ensures { IfSome result (λ found. IfSome found IsFirstModule) }
-{
-    match words {
-        [] => Some(None),
-        [capacity, cost] => Some(Some(FirstModule {
-            capacity: read_number(capacity)?,
-            cost: read_number(cost)?,
-        })),
-        _ => None,
-    }
-}
-
-/// The routing unit and the demand value, where their product is in range.
-fn read_load(unit: &[u8], value: &[u8]) -> Option<(u64, u64)>
-    ensures { IfSome result (λ load. (load.0 < NUMBER_BOUND) × (load.1 < NUMBER_BOUND) × (load.0 * load.1 ≤ NUMBER_BOUND)) }
-{
-    let unit = read_number(unit)?;
-    let value = read_number(value)?;
-    if unit.checked_mul(value)? > NUMBER_BOUND {
-        return None;
-    }
-    Some((unit, value))
-}
-
-/// The hop limit.
-fn read_hop_limit(word: &[u8]) -> Option<Option<u64>>
-    ensures { IfSome result (λ limit. IfSome limit (λ hops. hops < NUMBER_BOUND)) }
-{
-    if word == b"UNLIMITED".as_slice() {
-        return Some(None);
-    }
-    Some(Some(read_number(word)?))
-}
-
-/// A link, named by the words of its line: name, `(`, source, target, `)`, four numbers, `(`, module, `)`.
-fn read_link(alloc: Global, nodes: &Names, line: &[u8]) -> Result<FirstLink, FirstFault>
-    ensures { IfOk result (λ link. IsFirstLink (length nodes.now) link) }
-{
-    let words = words_of(alloc, line)?;
-    let [
-        name,
-        _,
-        source,
-        target,
-        _,
-        pre_installed,
-        pre_installed_cost,
-        routing_cost,
-        setup_cost,
-        _,
-        module @ ..,
-        _,
-    ] = words.as_slice()
-    else {
-        return Err(FirstFault::NotBuilt);
+    let Some(rest) = behind_header(HEADER, text) else {
+        return Err(TextFault::Header);
     };
-    Ok(FirstLink {
-        name: Items::from_vec(Vec::from_slice(alloc, name)?),
-        source: read_node(nodes, source).ok_or(FirstFault::NotBuilt)?,
-        target: read_node(nodes, target).ok_or(FirstFault::NotBuilt)?,
-        pre_installed: read_number(pre_installed).ok_or(FirstFault::NotBuilt)?,
-        pre_installed_cost: read_number(pre_installed_cost).ok_or(FirstFault::NotBuilt)?,
-        routing_cost: read_number(routing_cost).ok_or(FirstFault::NotBuilt)?,
-        setup_cost: read_number(setup_cost).ok_or(FirstFault::NotBuilt)?,
-        single_module: read_module(module).ok_or(FirstFault::NotBuilt)?,
-    })
+    let base = (text.len() - rest.len()) as u32;
+    let tokens = cut(alloc, rest, base)?;
+    let mut cursor = Cursor::new(rest, tokens.as_slice(), base);
+    network(&mut cursor, alloc)
 }
 
-/// The demand, named by the words of its line: name, `(`, source, target, `)`, unit, value, hop limit.
-fn read_demand(alloc: Global, nodes: &Names, line: &[u8]) -> Result<FirstDemand, FirstFault>
-    ensures { IfOk result (λ demand. IsFirstDemand (length nodes.now) demand) }
+/// The tokens of a text that begins at the place `base` of the whole text.
+fn cut(alloc: Global, text: &[u8], base: u32) -> Result<Tokens, TextFault>
+    requires { base + length text.now ≤ MAX_TEXT_BYTES }
+    ensures cut { IfOk result (λ tokens. Lexes Network text.now tokens) }
+    ensures within { IfOk result (λ tokens. All (IsWithin (length text.now)) tokens) }
+    ensures fault { IfErr result (IsCutFault text.now base) }
 {
-    let words = words_of(alloc, line)?;
-    let [name, _, source, target, _, unit, value, hop_limit] = words.as_slice() else {
-        return Err(FirstFault::NotBuilt);
-    };
-    if !is_name(name) {
-        return Err(FirstFault::NotBuilt);
+    match lex(alloc, text, Dialect::Network) {
+        Ok(tokens) => Ok(tokens),
+        Err(LexFault::Control { at }) => Err(TextFault::Control { at: base + at }),
+        Err(LexFault::OutOfMemory) => Err(TextFault::OutOfMemory),
     }
-    let (unit, value) = read_load(unit, value).ok_or(FirstFault::NotBuilt)?;
-    Ok(FirstDemand {
-        name: Items::from_vec(Vec::from_slice(alloc, name)?),
-        source: read_node(nodes, source).ok_or(FirstFault::NotBuilt)?,
-        target: read_node(nodes, target).ok_or(FirstFault::NotBuilt)?,
-        unit,
-        value,
-        hop_limit: read_hop_limit(hop_limit).ok_or(FirstFault::NotBuilt)?,
-    })
-}
-
-/// The names of the nodes, one a line.
-fn read_nodes(alloc: Global, section: &[u8]) -> Result<Names, FirstFault> {
-    let mut nodes = Names::new(alloc);
-    for line in section.split(|byte| *byte == b'\n').skip(2) {
-        if !nodes.add(alloc, line.get(2..).unwrap_or(&[]))? {
-            return Err(FirstFault::NotBuilt);
-        }
-    }
-    Ok(nodes)
-}
-
-/// The links, one a line.
-fn read_links(alloc: Global, nodes: &Names, section: &[u8]) -> Result<Items<FirstLink>, FirstFault>
-    ensures links { IfOk result (λ links. All (IsFirstLink (length nodes.now)) links) }
-    ensures names { IfOk result (λ links. AreNames (map (λ l. l.name) links)) }
-{
-    let mut names = Names::new(alloc);
-    let mut links = Vec::new(alloc);
-    for line in section.split(|byte| *byte == b'\n').skip(1) {
-        let link = read_link(alloc, nodes, line)?;
-        if !names.add(alloc, link.name.as_slice())? {
-            return Err(FirstFault::NotBuilt);
-        }
-        links.push(link)?;
-    }
-    let _count = names.len();
-    Ok(Items::from_vec(links))
-}
-
-/// A file of which the text may be the canonical text.
-pub(crate) fn read_loosely(alloc: Global, text: &[u8]) -> Result<FirstFile, FirstFault>
-    ensures { IfOk result IsFirstFile }
-{
-    let (node_lines, rest) = split_section(text).ok_or(FirstFault::NotBuilt)?;
-    let (link_lines, rest) = split_section(rest).ok_or(FirstFault::NotBuilt)?;
-    let (demand_lines, _) = split_section(rest).ok_or(FirstFault::NotBuilt)?;
-    let nodes = read_nodes(alloc, node_lines)?;
-    let links = read_links(alloc, &nodes, link_lines)?;
-    let demand = demand_lines
-        .split(|byte| *byte == b'\n')
-        .nth(1)
-        .ok_or(FirstFault::NotBuilt)?;
-    let demand = read_demand(alloc, &nodes, demand)?;
-    if u32::try_from(nodes.len()).is_err() {
-        return Err(FirstFault::NotBuilt);
-    }
-    Ok(FirstFile {
-        nodes,
-        links,
-        demand,
-    })
 }

@@ -1,5 +1,5 @@
 use Rattle.std.proofs.Common.{◌≡◌, ◌++◌, take, map}
-use Rattle.plan_run.specs.Lines.{numbers}
+use Rattle.plan_report.specs.Lines.{numbers}
 use Rattle.plan_run.proofs.plan_lines.push_arcs.Given as goal
 
 -- the numbers of the arcs before this one are written

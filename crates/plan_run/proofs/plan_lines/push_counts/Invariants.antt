@@ -1,5 +1,5 @@
 use Rattle.std.proofs.Common.{◌≡◌, ◌++◌, take}
-use Rattle.plan_run.specs.Lines.{numbers}
+use Rattle.plan_report.specs.Lines.{numbers}
 use Rattle.plan_run.proofs.plan_lines.push_counts.Given as goal
 
 -- the counts before this one are written

@@ -1,0 +1,4 @@
+mod Lists
+mod Values
+mod Possible
+mod Only

@@ -1,0 +1,4 @@
+pub mod Profile
+pub mod Reading
+pub mod Refusals
+pub mod Telling

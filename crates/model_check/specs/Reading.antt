@@ -1,0 +1,41 @@
+-- The instance that a network file and a model file stand for. Numbers of the file are in millionths.
+use Rattle.std.specs.Prelude.{ℕ, ◌≡◌, ◌*◌, ◌^◌, length, map}
+use Rattle.plan_base.specs.declared.parts.Orient.{Orient}
+use Rattle.plan_base.specs.declared.parts.Orient.TheVariants.{Directed, Undirected}
+use Rattle.plan_base.specs.declared.parts.Module.{Module}
+use Rattle.plan_base.specs.declared.parts.Link.{Link}
+use Rattle.plan_base.specs.declared.parts.Demand.{Demand}
+use Rattle.plan_base.specs.declared.parts.Parts.{Parts}
+use Rattle.snd_network.specs.declared.file.LinkRecord.{LinkRecord}
+use Rattle.snd_network.specs.declared.file.DemandRecord.{DemandRecord}
+use Rattle.snd_network.specs.declared.file.NetworkFile.{NetworkFile}
+use Rattle.snd_model.specs.declared.values.LinkModel.{LinkModel}
+use Rattle.snd_model.specs.declared.values.LinkModel.TheVariants as links
+use Rattle.snd_model.specs.declared.file.ModelFile.{ModelFile}
+use Rattle.model_check.specs.Profile.{IsSupported}
+
+-- directed links are used from source to target alone, others both ways; bidirected links are refused before
+abbrev pub orient_of : LinkModel → Orient
+orient_of links.Undirected = Undirected
+orient_of links.Directed = Directed
+orient_of links.Bidirected = Undirected
+
+-- a module: a millionth of a unit of capacity is a load grain, a millionth of a unit of cost 10^6 cost grains
+abbrev pub module_of : ℕ × ℕ → Module
+module_of m = record { capacity = m.0; cost = m.1 * 10 ^ 6 }
+
+-- a link: a millionth of a unit of cost for a unit of load is a cost grain for a load grain
+abbrev pub link_of : LinkRecord → Link
+link_of l = record { source = l.source; target = l.target; pre = l.pre; routing = l.routing; modules = map module_of l.modules }
+
+-- a demand: its load in load grains is the routing unit times the value
+abbrev pub demand_of : DemandRecord → Demand
+demand_of d = record { source = d.source; target = d.target; load = d.unit * d.value }
+
+-- the model is planned, and the parts are the nodes, links and demands of the network, in the order of the file
+pub record ReadsAs (net : NetworkFile) (model : ModelFile) (parts : Parts) : Type 0 where
+  pub supported : IsSupported model
+  pub orient : parts.orient ≡ orient_of model.link
+  pub nodes : parts.nodes ≡ length net.nodes
+  pub links : parts.links ≡ map link_of net.links
+  pub demands : parts.demands ≡ map demand_of net.demands

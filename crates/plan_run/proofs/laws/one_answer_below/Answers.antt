@@ -1,0 +1,12 @@
+use Rattle.plan_run.proofs.laws.one_answer_below.Goals as goal
+
+pub returns : goal.returns
+returns c = record {
+  one_network = c.one_network_for_a_text.ensures;
+  spelt_network = c.no_fault_where_spelt.ensures;
+  one_network_fault = c.one_fault_for_a_text.ensures;
+  one_instance = c.one_instance.ensures;
+  no_refusal = c.no_refusal_of_an_instance.ensures;
+  one_check_fault = c.one_refusal.ensures;
+  few_or_many = c.few_or_many.ensures;
+}

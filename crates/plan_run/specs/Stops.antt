@@ -1,0 +1,115 @@
+-- Why a run stops, before its line is made. Only private clauses cite this module.
+use Rattle.std.specs.Prelude.{ℕ, ◌≡◌, ◌≢◌, ◌+◌, ◌^◌, ◌<◌, ◌≤◌, ◌⊎◌, List, length, Option, IfSome, Result, Ok, Err}
+use Rattle.plan_base.specs.declared.parts.Parts.{Parts}
+use Rattle.plan_base.specs.declared.build_fault.BuildFault.TheVariants as build
+use Rattle.plan_io.specs.declared.reading.ReadWhole.{ReadWhole}
+use Rattle.plan_io.specs.declared.reading.ReadWhole.TheVariants as read
+use Rattle.snd_reader.specs.declared.fault.TextFault.{TextFault}
+use Rattle.snd_reader.specs.declared.fault.TextFault.TheVariants as text_faults
+use Rattle.snd_network.specs.Spelling.{IsFault as IsNetworkFault}
+use Rattle.snd_model.specs.Spelling.{IsFault as IsModelFault}
+use Rattle.model_check.specs.declared.fault.CheckFault.{CheckFault}
+use Rattle.model_check.specs.declared.fault.CheckFault.TheVariants as check_faults
+use Rattle.link_steps.specs.declared.step_fault.StepFault.{StepFault}
+use Rattle.link_steps.specs.declared.step_fault.StepFault.TheVariants as step_faults
+use Rattle.plan_report.specs.declared.run_fault.FileKind.{FileKind}
+use Rattle.plan_report.specs.declared.run_fault.FileKind.TheVariants as files
+use Rattle.plan_report.specs.declared.run_fault.RunFault.TheVariants as faults
+use Rattle.plan_run.specs.declared.answer.Answer.{Answer}
+use Rattle.plan_run.specs.declared.command.Command.{Command}
+use Rattle.plan_run.specs.declared.command.Command.TheVariants.{Plan}
+use Rattle.plan_run.specs.declared.reading.TheConstants.{MAX_TEXT_BYTES}
+use Rattle.plan_run.specs.declared.stop.Stop.{Stop}
+use Rattle.plan_run.specs.declared.stop.Stop.TheVariants.{Refused, OutOfMemory}
+use Rattle.plan_run.specs.Refusals.{AreRefused, IsRefusal}
+use Rattle.plan_run.specs.Runs.{IsAnswer, IsDoneSo}
+
+-- where a text is not read by its grammar
+abbrev pub stop_of_text : FileKind → TextFault → Stop
+stop_of_text file text_faults.OutOfMemory = OutOfMemory
+stop_of_text file fault = Refused (faults.Text file fault)
+
+-- where two files stand for no instance
+abbrev pub stop_of_check : CheckFault → Stop
+stop_of_check (check_faults.Unsupported key value) = Refused (faults.Unsupported key value)
+stop_of_check (check_faults.Build (build.LoopLink link)) = Refused (faults.LoopLink link)
+stop_of_check (check_faults.Build (build.LoopDemand demand)) = Refused (faults.LoopDemand demand)
+stop_of_check (check_faults.Build (build.OverLimit limit at)) = Refused (faults.OverLimit limit at)
+stop_of_check (check_faults.Build fault) = OutOfMemory
+stop_of_check check_faults.OutOfMemory = OutOfMemory
+
+-- where a step table is not made
+abbrev pub stop_of_steps : StepFault → Stop
+stop_of_steps (step_faults.TooManySteps link) = Refused (faults.OverLimit 9 link.0)
+stop_of_steps step_faults.OutOfMemory = OutOfMemory
+
+-- where a text does not come in
+abbrev pub stop_of_reading : FileKind → ReadWhole → Stop
+stop_of_reading file read.ReadFault = Refused (faults.Read file)
+stop_of_reading file read.TooLong = Refused (faults.TooLong file)
+stop_of_reading file read.OutOfMemory = OutOfMemory
+
+-- the two texts are refused so, or memory ran out
+abbrev pub IsTextStop : Command → List ℕ → List ℕ → Stop → Type 0
+IsTextStop command network model (Refused fault) = AreRefused command network model fault
+IsTextStop command network model OutOfMemory = Unit {0}
+
+-- the network text is refused so
+abbrev pub IsNetworkStop : List ℕ → Stop → Type 0
+IsNetworkStop network (Refused fault) = (fault_of : TextFault) × (fault ≡ faults.Text files.Network fault_of) × IsNetworkFault network fault_of × (fault_of ≢ text_faults.OutOfMemory)
+IsNetworkStop network OutOfMemory = Unit {0}
+
+-- the model text is refused so
+abbrev pub IsModelStop : List ℕ → Stop → Type 0
+IsModelStop model (Refused fault) = (fault_of : TextFault) × (fault ≡ faults.Text files.Model fault_of) × IsModelFault model fault_of × (fault_of ≢ text_faults.OutOfMemory)
+IsModelStop model OutOfMemory = Unit {0}
+
+-- what is refused while an instance is made of the texts is refused for each command
+abbrev pub IsReadingStop : List ℕ → List ℕ → Stop → Type 0
+IsReadingStop network model stop = (command : Command) → IsTextStop command network model stop
+
+-- the instance has not exactly one demand
+abbrev pub IsPlanStop : Parts → Stop → Type 0
+IsPlanStop p (Refused fault) = (fault ≡ faults.NotBuilt) × (length p.demands ≢ 1)
+IsPlanStop p OutOfMemory = Unit {0}
+
+-- what a command does not do for an instance
+abbrev pub IsCommandStop : Command → Parts → Stop → Type 0
+IsCommandStop command p (Refused fault) = (command ≡ Plan) × (fault ≡ faults.NotBuilt) × (length p.demands ≢ 1)
+IsCommandStop command p OutOfMemory = Unit {0}
+
+-- why a text of this name does not come in
+abbrev pub IsUnread : (List ℕ → Option (List ℕ)) → List ℕ → FileKind → Stop → Type 0
+IsUnread shelf name file (Refused fault) = (fault ≡ faults.Read file) ⊎ ((fault ≡ faults.TooLong file) × IfSome (shelf name) (λ told. MAX_TEXT_BYTES < length told))
+IsUnread shelf name file OutOfMemory = Unit {0}
+
+-- the run stops since the shelf failed
+abbrev pub IsReadStop : Stop → Type 0
+IsReadStop stop = (file : FileKind) × (stop ≡ Refused (faults.Read file))
+
+-- why a run of these words that has begun so many texts stops
+abbrev pub IsStop : List (List ℕ) → (List ℕ → Option (List ℕ)) → ℕ → Stop → Type 0
+IsStop words shelf begun (Refused fault) = IsRefusal words shelf begun fault
+IsStop words shelf begun OutOfMemory = begun ≤ 2
+
+-- what was found of the words and texts of a run that has begun so many texts
+abbrev pub IsFoundOf : List (List ℕ) → (List ℕ → Option (List ℕ)) → ℕ → Result Answer Stop → Type 0
+IsFoundOf words shelf begun (Ok answer) = IsDoneSo words shelf begun answer.status answer.text.items
+IsFoundOf words shelf begun (Err stop) = IsStop words shelf begun stop
+
+-- so much was found, and the count of begins rose by the texts begun
+pub record IsFound (words : List (List ℕ)) (shelf : List ℕ → Option (List ℕ)) (begins_before begins_now : ℕ) (result : Result Answer Stop) : Type 0 where
+  pub begun : ℕ
+  pub rise : begins_before < 2 ^ 62 → begins_now ≡ begins_before + begun
+  pub found : IsFoundOf words shelf begun result
+
+-- an answer to these words and texts, and the count of begins rose by the texts begun
+pub record IsMade (words : List (List ℕ)) (shelf : List ℕ → Option (List ℕ)) (begins_before begins_now : ℕ) (answer : Answer) : Type 0 where
+  pub begun : ℕ
+  pub rise : begins_before < 2 ^ 62 → begins_now ≡ begins_before + begun
+  pub answers : IsAnswer words shelf begun answer.status answer.text.items
+
+-- the count rose by 0, 1 or 2
+pub record RisesAtMostTwo (before now : ℕ) : Type 0 where
+  pub later : before ≤ now
+  pub few : now ≤ before + 2

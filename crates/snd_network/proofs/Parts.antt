@@ -1,0 +1,127 @@
+-- The readers of the parts of a network are lawful, and each can be finished.
+use Rattle.std.proofs.Common.{◌≡◌, ℕ, List, [], ◌∷◌, ◌++◌, Some, None, refl}
+use Rattle.std.specs.Prelude.{Ok, codes}
+use Rattle.scaled_numbers.specs.Scanning.{decimal_of, run}
+use Rattle.snd_reader.specs.Readers.{Lexeme, word, open_bracket, close_bracket, Placed, Reader, done}
+use Rattle.snd_reader.specs.Forms.{IsNothing, Items}
+use Rattle.snd_reader.specs.Tests.{open_test, close_test, number_test}
+use Rattle.snd_reader.proofs.Live.{Live, live_bind, live_done, live_token, live_items}
+use Rattle.snd_reader.proofs.Many.{finish_by}
+use Rattle.snd_network.specs.declared.draft.NodeItem.{NodeItem}
+use Rattle.snd_network.specs.declared.draft.NodeItem.TheVariants as node_items
+use Rattle.snd_network.specs.declared.draft.NodeList.{NodeList}
+use Rattle.snd_network.specs.declared.draft.Named.{Named}
+use Rattle.snd_network.specs.declared.draft.Table.{Table}
+use Rattle.snd_network.specs.Tests.{end_test, node_head, coordinate_test, hops_test}
+use Rattle.snd_network.specs.Grammar.{IsOpen, IsClose, IsNumber, IsEnd, IsCoordinate, IsHopLimit, no_nodes, with_last, and_named, all_nodes, NodeForm, NodesForm, ModuleForm, ModulesForm, LinkForm, DemandForm, no_rows, and_row, ItemForm, ListForm}
+use Rattle.snd_network.specs.Reading.{opening, closing, number, end_name, coordinate, hop_limit, node_turn, node_place, node_item, node_list, nodes, module_turn, module_item, modules, link, demand, list_turn, list_item, list_of}
+
+abbrev sample : Lexeme → Placed
+sample l = record { at = 0; is = l }
+
+-- the word `0`
+abbrev zero_word : Lexeme
+zero_word = word (48 ∷ [])
+
+-- ---- single tokens
+
+pub live_opening : Live IsOpen opening
+live_opening = live_token (λ t. open_test t.is) (sample open_bracket) tt refl (λ t e. rw e refl)
+
+pub live_closing : Live IsClose closing
+live_closing = live_token (λ t. close_test t.is) (sample close_bracket) tt refl (λ t e. rw e refl)
+
+zero-whole : number_test 0 zero_word ≡ Ok 0
+unfolding decimal_of run
+zero-whole = refl
+
+zero-grains : number_test 6 zero_word ≡ Ok 0
+unfolding decimal_of run
+zero-grains = refl
+
+live_whole : Live (IsNumber 0) (number 0)
+live_whole = live_token (λ t. number_test 0 t.is) (sample zero_word) 0 zero-whole (λ t e. rw e refl)
+
+live_grains : Live (IsNumber 6) (number 6)
+live_grains = live_token (λ t. number_test 6 t.is) (sample zero_word) 0 zero-grains (λ t e. rw e refl)
+
+live_end : Live IsEnd end_name
+live_end = live_token end_test (sample zero_word) (record { at = 0; name = 48 ∷ [] }) refl (λ t e. rw e refl)
+
+zero-coordinate : coordinate_test zero_word ≡ Ok (48 ∷ [])
+unfolding decimal_of run
+zero-coordinate = refl
+
+live_coordinate : Live IsCoordinate coordinate
+live_coordinate = live_token (λ t. coordinate_test t.is) (sample zero_word) (48 ∷ []) zero-coordinate (λ t e. rw e refl)
+
+live_hops : Live IsHopLimit hop_limit
+live_hops = live_token (λ t. hops_test t.is) (sample (word (codes "UNLIMITED"))) None refl (λ t e. rw e refl)
+
+-- ---- nodes
+
+live_place : (s : NodeList) → Live (NodeForm s node_items.Place) (node_place s)
+unfolding node_place
+live_place s =
+    live_bind _ _ _ _ live_coordinate (λ x.
+    live_bind _ _ _ _ live_coordinate (λ y.
+    live_bind _ _ _ _ live_closing (λ _.
+    live_done (with_last s (Some (x, y))))))
+
+pub live_node : (s : NodeList) (i : NodeItem) → Live (NodeForm s i) (node_item s i)
+unfolding node_item
+live_node s (node_items.Name bytes) = live_done (and_named s bytes)
+live_node s node_items.Place = live_place s
+
+live_node_items : Live (Items (λ (s : NodeList) (t : Placed). node_head s t.is) NodeForm no_nodes) node_list
+live_node_items = live_items node_turn node_item NodeForm live_node (finish_by node_turn NodeForm (sample close_bracket) (λ s. refl)) (λ s t e. rw e refl) no_nodes
+
+pub live_nodes : Live NodesForm nodes
+live_nodes = live_bind _ _ _ _ live_node_items (λ s. live_done (all_nodes s))
+
+-- ---- links
+
+pub live_module : (modules : List (ℕ × ℕ)) (capacity : ℕ) → Live (ModuleForm modules capacity) (module_item modules capacity)
+unfolding module_item
+live_module modules capacity = live_bind (IsNumber 6) (λ cost. IsNothing (modules ++ (capacity, cost) ∷ [])) (number 6) (λ cost. done (modules ++ (capacity, cost) ∷ [])) live_grains (λ cost. live_done (modules ++ (capacity, cost) ∷ []))
+
+live_modules : Live ModulesForm modules
+live_modules = live_items module_turn module_item ModuleForm live_module (finish_by module_turn ModuleForm (sample close_bracket) (λ s. refl)) (λ s t e. rw e refl) []
+
+pub live_link : Live LinkForm link
+unfolding link
+live_link =
+    live_bind _ _ _ _ live_opening (λ _.
+    live_bind _ _ _ _ live_end (λ source.
+    live_bind _ _ _ _ live_end (λ target.
+    live_bind _ _ _ _ live_closing (λ _.
+    live_bind _ _ _ _ live_grains (λ pre.
+    live_bind _ _ _ _ live_grains (λ pre_cost.
+    live_bind _ _ _ _ live_grains (λ routing.
+    live_bind _ _ _ _ live_grains (λ setup.
+    live_bind _ _ _ _ live_opening (λ _.
+    live_bind _ _ _ _ live_modules (λ modules.
+    live_done _))))))))))
+
+-- ---- demands
+
+pub live_demand : Live DemandForm demand
+unfolding demand
+live_demand =
+    live_bind _ _ _ _ live_opening (λ _.
+    live_bind _ _ _ _ live_end (λ source.
+    live_bind _ _ _ _ live_end (λ target.
+    live_bind _ _ _ _ live_closing (λ _.
+    live_bind _ _ _ _ live_whole (λ unit.
+    live_bind _ _ _ _ live_grains (λ value.
+    live_bind _ _ _ _ live_hops (λ hops.
+    live_done _)))))))
+
+-- ---- lists of named things
+
+pub live_item : {T : Type 0} (F : List Placed → T → Type 0) (part : Reader T) → Live F part → (s : Table (Named T)) (name : List ℕ) → Live (ItemForm F s name) (list_item part s name)
+unfolding list_item
+live_item F part live s name = live_bind F (λ x. IsNothing (and_row s name x)) part (λ x. done (and_row s name x)) live (λ x. live_done (and_row s name x))
+
+pub live_list : {T : Type 0} (F : List Placed → T → Type 0) (part : Reader T) → Live F part → Live (ListForm F) (list_of part)
+live_list F part live = live_items list_turn (list_item part) (ItemForm F) (live_item F part live) (finish_by list_turn (ItemForm F) (sample close_bracket) (λ s. refl)) (λ s t e. rw e refl) no_rows

@@ -1,0 +1,154 @@
+//! Readers of the parts of network texts.
+
+ghost use Rattle.std.specs.Prelude.{◌≡◌, ◌<◌, ◌+◌, ◌^◌};
+ghost use Rattle.snd_reader.specs.Readers.{open_bracket, token};
+ghost use Rattle.snd_reader.specs.Faults.{Gives};
+ghost use Rattle.snd_reader.specs.Seen.{seen};
+ghost use Rattle.snd_network.specs.Tests.{module_head};
+ghost use Rattle.snd_network.specs.Reading.{end_name, coordinate, hop_limit, module_item, modules, link, demand, depth_at, skip};
+
+use crate::draft::{DemandDraft, Depth, End, LinkDraft};
+use crate::name::Name;
+use crate::verdicts::{capacity_of, coordinate_of, end_of, hops_of};
+use plan_base::Items;
+use snd_reader::{Cursor, Lexeme, TextFault};
+use std::alloc::Global;
+
+/// The end of a link or demand.
+fn end_name(cursor: &mut Cursor<'_>, alloc: Global) -> Result<End, TextFault>
+    ensures gives { Gives (λ x. (x, cursor.new)) result (end_name cursor.old) }
+{
+    let verdict = end_of(alloc, cursor.at(), cursor.first())?;
+    cursor.judge(verdict)
+}
+
+/// A coordinate, as its word.
+pub(crate) fn coordinate(cursor: &mut Cursor<'_>, alloc: Global) -> Result<Name, TextFault>
+    ensures gives { Gives (λ x. (x, cursor.new)) result (coordinate cursor.old) }
+{
+    let verdict = coordinate_of(alloc, cursor.first())?;
+    cursor.judge(verdict)
+}
+
+/// A hop limit, or none.
+fn hop_limit(cursor: &mut Cursor<'_>) -> Result<Option<u64>, TextFault>
+    ensures gives { Gives (λ x. (x, cursor.new)) result (hop_limit cursor.old) }
+{
+    let verdict = hops_of(cursor.first());
+    cursor.judge(verdict)
+}
+
+/// The capacity with which a module begins, or that the modules end.
+fn next_capacity(cursor: &mut Cursor<'_>) -> Result<Option<u64>, TextFault>
+    ensures gives { Gives (λ x. (x, cursor.new)) result (token (λ t. module_head t.is) cursor.old) }
+{
+    let verdict = capacity_of(cursor.first());
+    cursor.judge(verdict)
+}
+
+/// A module more, behind its capacity.
+#[tactic(auto, using(crate::proofs::Through::through), unfolding(crate::specs::Reading::module_item))]
+fn module_item(
+    cursor: &mut Cursor<'_>,
+    modules: &mut Vec<(u64, u64)>,
+    capacity: u64,
+) -> Result<(), TextFault>
+    ensures gives { Gives (λ _. (modules.new.items, cursor.new)) result (module_item modules.old.items capacity cursor.old) }
+{
+    let cost = cursor.number(6)?;
+    modules.push((capacity, cost))?;
+    Ok(())
+}
+
+/// The capacities and costs of modules, up to the bracket that closes them.
+fn modules(cursor: &mut Cursor<'_>, alloc: Global) -> Result<Items<(u64, u64)>, TextFault>
+    ensures gives { Gives (λ x. (x, cursor.new)) result (modules cursor.old) }
+{
+    let mut modules = Vec::new(alloc);
+    'pairs: loop {
+        let Some(capacity) = next_capacity(cursor)? else {
+            return Ok(Items::from_vec(modules));
+        };
+        module_item(cursor, &mut modules, capacity)?;
+    }
+}
+
+/// A link behind its name.
+#[tactic(auto, using(crate::proofs::Through::through), unfolding(crate::specs::Reading::link))]
+pub(crate) fn link(cursor: &mut Cursor<'_>, alloc: Global) -> Result<LinkDraft, TextFault>
+    ensures gives { Gives (λ x. (x, cursor.new)) result (link cursor.old) }
+{
+    cursor.open()?;
+    let source = end_name(cursor, alloc)?;
+    let target = end_name(cursor, alloc)?;
+    cursor.close()?;
+    let pre = cursor.number(6)?;
+    let pre_cost = cursor.number(6)?;
+    let routing = cursor.number(6)?;
+    let setup = cursor.number(6)?;
+    cursor.open()?;
+    let modules = modules(cursor, alloc)?;
+    Ok(LinkDraft {
+        source,
+        target,
+        pre,
+        pre_cost,
+        routing,
+        setup,
+        modules,
+    })
+}
+
+/// A demand behind its name.
+#[tactic(auto, using(crate::proofs::Through::through), unfolding(crate::specs::Reading::demand))]
+pub(crate) fn demand(cursor: &mut Cursor<'_>, alloc: Global) -> Result<DemandDraft, TextFault>
+    ensures gives { Gives (λ x. (x, cursor.new)) result (demand cursor.old) }
+{
+    cursor.open()?;
+    let source = end_name(cursor, alloc)?;
+    let target = end_name(cursor, alloc)?;
+    cursor.close()?;
+    let unit = cursor.number(0)?;
+    let value = cursor.number(6)?;
+    let hops = hop_limit(cursor)?;
+    Ok(DemandDraft {
+        source,
+        target,
+        unit,
+        value,
+        hops,
+    })
+}
+
+/// How many brackets are open behind a token, where so many are open before it.
+fn depth_behind(depth: usize, lexeme: Lexeme<'_>) -> Depth
+    requires { seen lexeme ≡ open_bracket → depth + 1 < 2 ^ 64 }
+    ensures { result ≡ depth_at depth (seen lexeme.entry) }
+{
+    match lexeme {
+        Lexeme::Word(_) | Lexeme::Equals => Depth::Deep(depth),
+        Lexeme::Open => Depth::Deep(depth + 1),
+        Lexeme::Close if depth == 0 => Depth::Closed,
+        Lexeme::Close => Depth::Deep(depth - 1),
+        Lexeme::End => Depth::Over,
+    }
+}
+
+/// Goes past tokens with balanced brackets and the bracket that closes them.
+pub(crate) fn skip(cursor: &mut Cursor<'_>) -> Result<(), TextFault>
+    ensures gives { Gives (λ x. (x, cursor.new)) result (skip 0 cursor.old) }
+{
+    let _left = cursor.count();
+    let mut depth = 0usize;
+    'tokens: loop {
+        match depth_behind(depth, cursor.first()) {
+            Depth::Closed => {
+                cursor.pass();
+                return Ok(());
+            }
+            Depth::Deep(behind) => depth = behind,
+            Depth::Over => return Err(TextFault::Ended { at: cursor.at() }),
+        }
+        cursor.pass();
+    }
+}
