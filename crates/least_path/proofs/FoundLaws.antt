@@ -1,5 +1,5 @@
 -- Potentials show that a path is least, and a closed set that there is none.
-use Rattle.std.proofs.Common.{◌≡◌, ◌≢◌, ℕ, zero, suc, ◌+◌, ◌*◌, ◌<◌, ◌≤◌, ◌⊎◌, inl, inr, true, false, Bool, ◌&&◌, List, [], ◌∷◌, length, get_or, take, map, Option, Some, None, IsTrue, min, arith, refl, sym, ◌∙◌, ap, subst, sum_by, if◌then◌else◌, add-one}
+use Rattle.std.proofs.Common.{◌≡◌, ℕ, zero, suc, ◌+◌, ◌<◌, ◌≤◌, ◌⊎◌, inl, inr, true, false, Bool, ◌&&◌, List, length, get_or, take, map, Option, Some, None, min, arith, refl, sym, ◌∙◌, ap, subst, sum_by, if◌then◌else◌}
 use Rattle.std.proofs.lemmas.Bool.{ltb-true}
 use Rattle.std.proofs.lemmas.List.{get_or-map, length-map, get_or_past}
 use Rattle.std.proofs.lemmas.List.Sums.{sum_by_more, sum_by-take-le}
@@ -11,9 +11,9 @@ use Rattle.plan_base.specs.Arcs.{is_arc, tail_of, head_of, link_of, is_back, no_
 use Rattle.plan_base.specs.Paths.{arc_at, node_at}
 use Rattle.least_path.specs.declared.label.Label.{Label}
 use Rattle.least_path.specs.declared.label.Stop.{Stop}
-use Rattle.least_path.specs.Paths.{Weights, weight_at, weight_of, IsUsable, IsUsablePath, IsLeastPath, ArePotentials, IsIn, IsClosedSet, HasNoUsablePath, IsFound}
-use Rattle.least_path.specs.Labels.{Labels, label_at, way, is_labelled, potential_of, HasNoOpen, IsNearest, AreLabels, IsSearch}
-use Rattle.least_path.proofs.NearestLaws.{decide, label_within, some_same}
+use Rattle.least_path.specs.Paths.{Weights, weight_at, weight_of, IsUsable, IsUsablePath, IsLeastPath, ArePotentials, IsIn, IsClosedSet, HasNoUsablePath}
+use Rattle.least_path.specs.Labels.{Labels, label_at, way, is_labelled, potential_of, HasNoOpen, IsNearest, IsSearch}
+use Rattle.least_path.proofs.NearestLaws.{decide, label_within}
 use Rattle.least_path.proofs.WayLaws.{way-path}
 
 -- along a usable path potentials rise by at most the weights

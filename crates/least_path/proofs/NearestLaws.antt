@@ -1,5 +1,5 @@
 -- What the nearer of two says of the nodes so far.
-use Rattle.std.proofs.Common.{◌≡◌, ℕ, suc, ◌+◌, ◌<◌, ◌≤◌, ◌⊎◌, inl, inr, true, false, Bool, not, ◌&&◌, nat_lt, length, Option, Some, None, MatchOption, arith, refl, sym, ◌∙◌, ap, subst, ◌≢◌}
+use Rattle.std.proofs.Common.{◌≡◌, ℕ, suc, ◌+◌, ◌<◌, ◌≤◌, ◌⊎◌, inl, inr, true, false, Bool, not, ◌&&◌, nat_lt, length, Option, Some, None, MatchOption, arith, refl, sym, ◌∙◌, subst, ◌≢◌}
 use Rattle.std.proofs.lemmas.Bool.{ltb-true, ltb-false}
 use Rattle.std.proofs.lemmas.List.{get_or_past}
 use Rattle.plan_base.specs.declared.ids.NodeId.{NodeId}

@@ -1,5 +1,5 @@
 -- What changes where a label is offered, and where a node is settled.
-use Rattle.std.proofs.Common.{◌≡◌, ◌≢◌, ℕ, zero, suc, ◌+◌, ◌*◌, ◌<◌, ◌≤◌, ◌⊎◌, inl, inr, true, false, Bool, List, [], length, get_or, Option, Some, None, IsTrue, arith, refl, sym, ◌∙◌, ap, subst, if◌then◌else◌}
+use Rattle.std.proofs.Common.{◌≡◌, ◌≢◌, ℕ, suc, ◌+◌, ◌<◌, ◌≤◌, ◌⊎◌, inl, inr, true, false, List, length, get_or, Option, Some, None, arith, refl, sym, ◌∙◌, ap, subst}
 use Rattle.std.proofs.Math.ListN.{set, length-set}
 use Rattle.std.proofs.lemmas.Bool.{ltb-true, ltb-false}
 use Rattle.std.proofs.lemmas.List.{get_or-set_same, get_or-set_other, get_or_default, get_or_past}
@@ -14,8 +14,8 @@ use Rattle.least_path.specs.declared.label.Label.{Label}
 use Rattle.least_path.specs.declared.label.Stop.{Stop}
 use Rattle.least_path.specs.declared.limits.TheConstants.{MAX_WEIGHT}
 use Rattle.least_path.specs.Paths.{Weights, weight_at, AreWeights, IsUsable}
-use Rattle.least_path.specs.Labels.{Labels, label_at, is_better, offered, open_one, open_count, IsReached, IsLabel, AreLabels, HasAtMost, IsRelaxed, IsSearch, IsSpread}
-use Rattle.least_path.proofs.NearestLaws.{decide, lt_or_le, same_or_not, below_cases, label_within, some_same}
+use Rattle.least_path.specs.Labels.{Labels, label_at, is_better, offered, open_one, open_count, IsReached, IsLabel, AreLabels, HasAtMost, IsRelaxed, IsSpread}
+use Rattle.least_path.proofs.NearestLaws.{decide, lt_or_le, same_or_not, below_cases, some_same}
 
 offered-better : (ls : Labels) (v : ℕ) (l : Label) → is_better l (label_at ls v) ≡ true → offered ls v l ≡ set ls v (Some l)
 unfolding offered

@@ -1,20 +1,19 @@
 -- The search before its first node, where a node is settled, and when all its arcs are done.
-use Rattle.std.proofs.Common.{◌≡◌, ◌≢◌, ℕ, zero, suc, ◌+◌, ◌*◌, ◌<◌, ◌≤◌, ◌⊎◌, inl, inr, true, false, Bool, List, [], ◌∷◌, length, get_or, Option, Some, None, arith, refl, sym, ◌∙◌, ap, subst, replicate}
+use Rattle.std.proofs.Common.{◌≡◌, ◌≢◌, ℕ, ◌+◌, ◌<◌, ◌≤◌, inl, inr, true, false, Bool, List, [], ◌∷◌, length, Option, Some, None, arith, refl, sym, ◌∙◌, subst, replicate}
 use Rattle.std.proofs.Math.ListN.{set, length-set}
-use Rattle.std.proofs.lemmas.List.{get_or-set_same, get_or-set_other, get_or-replicate, length-replicate}
+use Rattle.std.proofs.lemmas.List.{get_or-set_same, get_or-replicate, length-replicate}
 use Rattle.std.proofs.lemmas.List.Sums.{sum_by-set, sum_by-append}
 use Rattle.plan_base.specs.declared.ids.NodeId.{NodeId}
 use Rattle.plan_base.specs.declared.ids.ArcId.{ArcId}
 use Rattle.plan_base.specs.declared.parts.Parts.{Parts}
 use Rattle.plan_base.specs.Arcs.{tail_of, head_of}
-use Rattle.plan_base.specs.Paths.{arc_at}
 use Rattle.plan_base.specs.Leaving.{AreLeaving}
 use Rattle.least_path.specs.declared.label.Label.{Label}
 use Rattle.least_path.specs.declared.label.Stop.{Stop}
 use Rattle.least_path.specs.Paths.{Weights, weight_at, IsUsable}
-use Rattle.least_path.specs.Labels.{Labels, label_at, open_one, open_count, IsNearest, IsReached, IsLabel, AreLabels, HasAtMost, IsRelaxed, IsSearch, IsSpread, first_label_of, first_labels_of}
+use Rattle.least_path.specs.Labels.{Labels, label_at, open_one, open_count, IsNearest, IsLabel, AreLabels, HasAtMost, IsRelaxed, IsSearch, IsSpread, first_label_of, first_labels_of}
 use Rattle.least_path.proofs.NearestLaws.{same_or_not, label_within, some_same}
-use Rattle.least_path.proofs.OfferLaws.{new_or_old, kept, settled-other, reached-kept, old-label, open_one-unsettled}
+use Rattle.least_path.proofs.OfferLaws.{new_or_old, kept, reached-kept, old-label, open_one-unsettled}
 
 -- the label once its node is settled
 abbrev pub settled_label : Label → Label

@@ -1,5 +1,5 @@
 -- The way of a label is a simple path of usable arcs, and its weight is the label's length.
-use Rattle.std.proofs.Common.{◌≡◌, ◌≢◌, ℕ, zero, suc, ◌+◌, ◌*◌, ◌<◌, ◌≤◌, ◌⊎◌, inl, inr, true, false, List, [], ◌∷◌, ◌++◌, length, get_or, take, Option, Some, None, arith, refl, sym, ◌∙◌, ap, subst, length-append, reverse, sum_by, append_assoc}
+use Rattle.std.proofs.Common.{◌≡◌, ℕ, zero, suc, ◌+◌, ◌<◌, ◌≤◌, inl, inr, List, [], ◌∷◌, ◌++◌, length, Option, Some, arith, refl, sym, ◌∙◌, ap, subst, length-append, reverse, append_assoc}
 use Rattle.std.proofs.lemmas.List.{get_or_append_left, reverse-append}
 use Rattle.std.proofs.Math.Seq.{get_or-append_seam}
 use Rattle.std.proofs.lemmas.List.Sums.{sum_by-append}
@@ -8,10 +8,10 @@ use Rattle.plan_base.specs.declared.ids.NodeId.{NodeId}
 use Rattle.plan_base.specs.declared.ids.ArcId.{ArcId}
 use Rattle.plan_base.specs.declared.parts.Parts.{Parts}
 use Rattle.plan_base.specs.Arcs.{tail_of, head_of, no_arc}
-use Rattle.plan_base.specs.Paths.{arc_at, node_at, IsSimplePath}
+use Rattle.plan_base.specs.Paths.{arc_at, node_at}
 use Rattle.least_path.specs.declared.label.Label.{Label}
-use Rattle.least_path.specs.Paths.{Weights, weight_at, weight_of, from_to, IsUsable, IsUsablePath}
-use Rattle.least_path.specs.Labels.{Labels, label_at, no_label, way, IsReached, IsLabel, AreLabels, IsSearch}
+use Rattle.least_path.specs.Paths.{Weights, weight_at, weight_of, IsUsable, IsUsablePath}
+use Rattle.least_path.specs.Labels.{Labels, label_at, no_label, way, IsReached, AreLabels}
 use Rattle.least_path.proofs.NearestLaws.{below_cases, some_same}
 
 -- the way goes on from that of the label's parent

@@ -4,7 +4,7 @@ use Rattle.std.specs.Option.{unwrap_or}
 use Rattle.plan_base.specs.declared.ids.NodeId.{NodeId}
 use Rattle.plan_base.specs.declared.ids.ArcId.{ArcId}
 use Rattle.plan_base.specs.declared.parts.Parts.{Parts}
-use Rattle.plan_base.specs.Arcs.{is_arc, tail_of, head_of, no_arc}
+use Rattle.plan_base.specs.Arcs.{tail_of, head_of, no_arc}
 use Rattle.plan_base.specs.Paths.{arc_at}
 use Rattle.least_path.specs.declared.label.Label.{Label}
 use Rattle.least_path.specs.declared.label.Stop.{Stop}

@@ -1,6 +1,6 @@
 -- Which loads a link can carry.
-use Rattle.std.proofs.Common.{◌≡◌, ℕ, zero, suc, ◌*◌, ◌<◌, ◌≤◌, inl, inr, Bool, true, false, List, length, slice_index, replicate, min, nat_lt, refl, ◌∙◌, arith}
-use Rattle.std.proofs.lemmas.Bool.{ltb-true, ltb-false}
+use Rattle.std.proofs.Common.{◌≡◌, ℕ, ◌*◌, ◌<◌, ◌≤◌, Bool, true, false, List, length, slice_index, replicate, min, nat_lt, refl, ◌∙◌, arith}
+use Rattle.std.proofs.lemmas.Bool.{ltb-true}
 use Rattle.std.proofs.lemmas.List.{get_or-replicate, length-replicate, get_or_default}
 use Rattle.std.proofs.lemmas.List.Folds.{Any-from_list_any}
 use Rattle.std.proofs.Math.Nat.{mul-le-mul_left}
@@ -10,7 +10,6 @@ use Rattle.plan_base.specs.declared.parts.Parts.{Parts}
 use Rattle.plan_base.specs.Sums.{sum_below}
 use Rattle.plan_base.specs.Facts.{total_load, top_load, is_useful}
 use Rattle.plan_base.specs.Designs.{module_at, no_module, capacity_with}
-use Rattle.plan_base.proofs.Bools.{list_any-false_at}
 use Rattle.plan_base.proofs.SumsBelow.{term-le-sum_below}
 pub use Rattle.plan_base.proofs.TopLoads.{capacity-useless}
 use Rattle.link_steps.specs.Costs.{Carries, CanCarry}

@@ -4,7 +4,7 @@ mod PlaceLaws
 mod WalkLaws
 mod WalkEnds
 mod ShownLaws
-mod FaultLaws
+pub mod FaultLaws
 mod WeightLaws
 mod FoundLaws
 mod PriceSums

@@ -20,13 +20,13 @@ least_price-unique p r prices k a b ha hb =
 antisymmetric : (v w : ℤ) → v ≤ℤ w → w ≤ℤ v → v ≡ w
 antisymmetric v w h k = omega (arith, ints)
 
-link_value-unique : (p : Parts) (l : Link) (price : ℕ) (v w : ℤ) → IsLinkValue p l price v → IsLinkValue p l price w → v ≡ w
+pub link_value-unique : (p : Parts) (l : Link) (price : ℕ) (v w : ℤ) → IsLinkValue p l price v → IsLinkValue p l price w → v ≡ w
 link_value-unique p l price v w hv hw =
     antisymmetric v w
     (subst (λ (x : ℤ). v ≤ℤ x) hw.attained (hv.least hw.load hw.cost hw.within hw.is_cost))
     (subst (λ (x : ℤ). w ≤ℤ x) hv.attained (hw.least hv.load hv.cost hv.within hv.is_cost))
 
-int_sum_below-same : (f g : ℕ → ℤ) (n : ℕ) → ((i : ℕ) → i < n → f i ≡ g i) → int_sum_below f n ≡ int_sum_below g n
+pub int_sum_below-same : (f g : ℕ → ℤ) (n : ℕ) → ((i : ℕ) → i < n → f i ≡ g i) → int_sum_below f n ≡ int_sum_below g n
 int_sum_below-same f g zero h = refl
 int_sum_below-same f g (suc n) h = ap (λ x. x +ℤ f n) (int_sum_below-same f g n (λ i below. h i (omega arith))) ∙ ap (λ x. int_sum_below g n +ℤ x) (h n (omega arith))
 

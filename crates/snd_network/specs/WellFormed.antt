@@ -48,6 +48,7 @@ IsLimit (Some n) = IsWhole n
 abbrev pub IsModule : ℕ × ℕ → Type 0
 IsModule m = IsGrains m.0 × IsGrains m.1
 
+-- the name can be read back, and so can the coordinates
 pub record IsGoodNode (node : NodeRecord) : Type 0 where
   pub name : IsName node.name
   pub place : IsPlace node.place
@@ -80,9 +81,11 @@ AreDifferent names = AllPairs (λ a b. a ≢ b) names
 abbrev pub node_names : List NodeRecord → List (List ℕ)
 node_names nodes = map (λ (n : NodeRecord). n.name) nodes
 
+-- the names of the links
 abbrev pub link_names : List LinkRecord → List (List ℕ)
 link_names links = map (λ (l : LinkRecord). l.name) links
 
+-- the names of the demands
 abbrev pub demand_names : List DemandRecord → List (List ℕ)
 demand_names demands = map (λ (d : DemandRecord). d.name) demands
 

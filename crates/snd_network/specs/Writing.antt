@@ -76,13 +76,15 @@ demand_tokens nodes d =
 
 -- ---- the text
 
--- the lines of the records
+-- the lines of the nodes
 abbrev pub node_lines : List NodeRecord → List ℕ
 node_lines nodes = flat_map (λ n. line_of (node_tokens n)) nodes
 
+-- the lines of the links
 abbrev pub link_lines : List NodeRecord → List LinkRecord → List ℕ
 link_lines nodes links = flat_map (λ l. line_of (link_tokens nodes l)) links
 
+-- the lines of the demands
 abbrev pub demand_lines : List NodeRecord → List DemandRecord → List ℕ
 demand_lines nodes demands = flat_map (λ d. line_of (demand_tokens nodes d)) demands
 

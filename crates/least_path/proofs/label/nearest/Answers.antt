@@ -1,4 +1,4 @@
-use Rattle.std.proofs.Common.{arith, refl, sym, ◌≡◌, length, subst, ℕ}
+use Rattle.std.proofs.Common.{arith, refl, ◌≡◌, length, subst, ℕ}
 use Rattle.least_path.proofs.NearestLaws.{found-more, found-all, IsFoundBelow}
 use Rattle.least_path.proofs.label.nearest.Goals as goal
 

@@ -1,4 +1,3 @@
-use Rattle.std.proofs.Common.{◌≡◌}
 use Rattle.least_path.proofs.OfferLaws.{offered-taken, offered-left}
 use Rattle.least_path.proofs.label.offer.Goals as goal
 

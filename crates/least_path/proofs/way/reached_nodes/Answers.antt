@@ -1,4 +1,4 @@
-use Rattle.std.proofs.Common.{arith, ap, sym, ◌≡◌, ◌∙◌, ◌++◌, ◌∷◌, [], get_or, length, map, take, None, Option, List, Bool}
+use Rattle.std.proofs.Common.{arith, ap, sym, ◌∙◌, ◌++◌, ◌∷◌, [], get_or, map, take, None, Option, List, Bool}
 use Rattle.std.proofs.lemmas.List.{take_more, take_all, map-append}
 use Rattle.least_path.specs.declared.label.Label.{Label}
 use Rattle.least_path.specs.Labels.{is_labelled}

@@ -1,5 +1,4 @@
-use Rattle.std.proofs.Common.{arith, subst, sym, ap, ◌≡◌, ◌∙◌, Option, MatchOption, List, Bool, map, ℕ}
-use Rattle.least_path.specs.declared.label.Label.{Label}
+use Rattle.std.proofs.Common.{subst, sym, ap, ◌≡◌, ◌∙◌, Option, MatchOption, List, Bool, map, ℕ}
 use Rattle.least_path.specs.declared.label.Stop.{Stop}
 use Rattle.least_path.specs.Paths.{IsClosedSet}
 use Rattle.least_path.specs.Labels.{Labels, IsSearch, IsNearest, HasNoOpen, is_labelled, first_labels_of}

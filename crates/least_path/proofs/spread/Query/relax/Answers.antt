@@ -1,11 +1,10 @@
-use Rattle.std.proofs.Common.{arith, refl, subst, sym, ap, ◌≡◌, ◌+◌, ◌∙◌, ◌<◌, Some, None, Option, IsSome, suc, get_or, length, Vec, Global, true, false, ℕ}
+use Rattle.std.proofs.Common.{arith, refl, subst, sym, ap, ◌≡◌, ◌+◌, ◌∙◌, ◌<◌, Option, IsSome, get_or, length, Vec, Global, true, false, ℕ}
 use Rattle.std.specs.Option.{unwrap_or}
 use Rattle.plan_base.specs.Arcs.{no_arc, head_of}
 use Rattle.plan_base.specs.declared.ids.NodeId.{NodeId}
 use Rattle.least_path.specs.declared.label.Label.{Label}
 use Rattle.least_path.specs.Paths.{weight_at}
 use Rattle.least_path.specs.Labels.{Labels, IsSpread, open_count, offered}
-use Rattle.least_path.proofs.SettleLaws.{spread-arcs, spread-end}
 use Rattle.least_path.proofs.OfferLaws.{GoesOn, spread-offered, count-offered, spread-same, spread-next, length-fits}
 use Rattle.least_path.proofs.spread.Query.relax.Goals as goal
 use Rattle.least_path.proofs.spread.Query.relax.Goals.{in-Some, in_default}

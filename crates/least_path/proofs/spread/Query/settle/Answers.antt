@@ -1,4 +1,4 @@
-use Rattle.std.proofs.Common.{arith, ◌≡◌}
+use Rattle.std.proofs.Common.{arith}
 use Rattle.least_path.proofs.SettleLaws.{spread-start, count-settled}
 use Rattle.least_path.proofs.spread.Query.settle.Goals as goal
 

@@ -1,11 +1,11 @@
-use Rattle.std.proofs.Common.{arith, subst, refl, sym, ap, ◌≡◌, ◌∙◌, ◌<◌, Some, Option, IsSome, ◌++◌, ◌∷◌, [], List, ℕ}
+use Rattle.std.proofs.Common.{arith, subst, refl, sym, ap, ◌≡◌, Some, Option, IsSome, List}
 use Rattle.plan_base.specs.declared.ids.ArcId.{ArcId}
 use Rattle.plan_base.specs.declared.ids.NodeId.{NodeId}
 use Rattle.plan_base.specs.Arcs.{tail_of}
 use Rattle.least_path.specs.declared.label.Label.{Label}
 use Rattle.least_path.specs.Labels.{label_at}
 use Rattle.least_path.proofs.NearestLaws.{some_same}
-use Rattle.least_path.proofs.WayLaws.{back-reached, back-more, back-end, IsReadBack}
+use Rattle.least_path.proofs.WayLaws.{back-reached, back-more, IsReadBack}
 use Rattle.least_path.proofs.spread.Query.way_to.Goals as goal
 
 pub tail-requires : goal.tail-requires
