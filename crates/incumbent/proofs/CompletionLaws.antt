@@ -1,5 +1,5 @@
 -- Links completed one by one make the cheapest design.
-use Rattle.std.proofs.Common.{◌≡◌, ℕ, ◌+◌, ◌*◌, ◌<◌, ◌≤◌, inl, inr, List, [], ◌∷◌, ◌++◌, length, slice_index_or, if◌then◌else◌, refl, sym, ap, ◌∙◌, arith}
+use Rattle.std.proofs.Common.{◌≡◌, ℕ, ◌+◌, ◌*◌, ◌<◌, ◌≤◌, inl, inr, List, [], ◌∷◌, ◌++◌, length, slice_index_or, if◌then◌else◌, refl, sym, ap, subst, ◌∙◌, arith}
 use Rattle.std.proofs.Math.Seq.{get_or-append_seam}
 use Rattle.std.proofs.Math.Nat.{mul-le-mul_left}
 use Rattle.std.proofs.lemmas.List.{length-append, get_or_append_left}
@@ -14,9 +14,9 @@ use Rattle.plan_base.specs.Paths.{uses}
 use Rattle.plan_base.specs.Designs.{load_from, load_on, counts_at, module_cost_with, link_cost, cost_of, IsDesign, IsFeasible}
 use Rattle.plan_base.proofs.SumLaws.{sum_below-next}
 use Rattle.plan_base.proofs.SumsBelow.{sum_below-same, sum_below-le}
-use Rattle.link_steps.specs.Costs.{Carries, AreLeastCounts}
+use Rattle.link_steps.specs.Costs.{Carries, CanCarry, CannotCarry, AreLeastCounts}
 use Rattle.link_steps.proofs.Order.{before_or_last}
-use Rattle.incumbent.specs.Completions.{with_paths, ArePaths, IsCompletion}
+use Rattle.incumbent.specs.Completions.{with_paths, ArePaths, IsCompletion, CarryLoads, IsFirstOverfull}
 use Rattle.incumbent.specs.Links.{IsLinkCompletion, counts_in, cost_with, AreCompletedTo}
 
 -- the routing cost of a load up to the total load is small
@@ -34,6 +34,19 @@ load_from-paths p d other e k same =
 pub load_on-paths : (p : Parts) (d other : Design) (e : ℕ) → d.paths ≡ other.paths → load_on p d e ≡ load_on p other e
 load_on-paths p d other e same =
     sum_below-same (load_from p d e) (load_from p other e) (length p.demands) (λ k within. load_from-paths p d other e k same)
+
+-- the link here is the first one that cannot carry its load
+pub overfull-here : (p : Parts) (d : Design) (e load : ℕ) → e < length p.links → load ≡ load_on p d e → CannotCarry (link_at p e) load → CarryLoads p d.paths e → IsFirstOverfull p d.paths e
+overfull-here p d e load within is cannot before =
+    record { within = within; overfull = subst (CannotCarry (link_at p e)) (is ∙ load_on-paths p d (with_paths d.paths) e refl) cannot; before = before }
+
+-- the link here can carry its load too
+pub carry-next : (p : Parts) (d : Design) (e load : ℕ) → load ≡ load_on p d e → CanCarry (link_at p e) load → CarryLoads p d.paths e → CarryLoads p d.paths (e + 1)
+carry-next p d e load is can before = λ other below.
+    elim (before_or_last other e below) [
+      | inl earlier ↦ before other earlier
+      | inr here ↦ rw here (subst (CanCarry (link_at p e)) (is ∙ load_on-paths p d (with_paths d.paths) e refl) can)
+    ]
 
 pub AreCompletedTo-none : (p : Parts) (paths : List (List ArcId)) → AreCompletedTo p paths 0 0 []
 AreCompletedTo-none p paths =

@@ -1,2 +1,3 @@
 pub mod CompletionLaws
 pub mod ReroutingLaws
+pub mod TrafficLaws

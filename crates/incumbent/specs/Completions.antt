@@ -6,7 +6,7 @@ use Rattle.plan_base.specs.declared.path.Design.{Design}
 use Rattle.plan_base.specs.Arcs.{link_at, demand_at}
 use Rattle.plan_base.specs.Paths.{IsSimplePath}
 use Rattle.plan_base.specs.Designs.{path_at, load_on, cost_of, IsDesign, IsFeasible, IsGoodDesign}
-use Rattle.link_steps.specs.Costs.{CannotCarry}
+use Rattle.link_steps.specs.Costs.{CanCarry, CannotCarry}
 
 -- a design with these paths; its counts do not matter
 abbrev pub with_paths : List (List ArcId) → Design
@@ -24,8 +24,22 @@ pub record IsCompletion (p : Parts) (paths : List (List ArcId)) (cost : ℕ) (d 
   pub is_cost : cost ≡ cost_of p d
   pub least : (other : Design) → other.paths ≡ paths → IsDesign p other → IsFeasible p other → cost ≤ cost_of p other
 
+-- the link of this number cannot carry, by any counts, the load that these paths put on it
+abbrev pub IsOverfull : Parts → List (List ArcId) → ℕ → Type 0
+IsOverfull p paths e = CannotCarry (link_at p e) (load_on p (with_paths paths) e)
+
+-- each link before this number can carry, by some counts, the load that these paths put on it
+abbrev pub CarryLoads : Parts → List (List ArcId) → ℕ → Type 0
+CarryLoads p paths link = (e : ℕ) → e < link → CanCarry (link_at p e) (load_on p (with_paths paths) e)
+
 -- some link cannot carry, by any counts, the load that these paths put on it
 pub record HasOverfull (p : Parts) (paths : List (List ArcId)) : Type 0 where
   pub link : ℕ
   pub within : link < length p.links
-  pub overfull : CannotCarry (link_at p link) (load_on p (with_paths paths) link)
+  pub overfull : IsOverfull p paths link
+
+-- the first link that cannot carry, by any counts, the load that these paths put on it
+pub record IsFirstOverfull (p : Parts) (paths : List (List ArcId)) (link : ℕ) : Type 0 where
+  pub within : link < length p.links
+  pub overfull : IsOverfull p paths link
+  pub before : CarryLoads p paths link

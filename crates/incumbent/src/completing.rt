@@ -1,11 +1,11 @@
 //! The cheapest design for given paths.
 
-ghost use Rattle.std.specs.Prelude.{ℕ, ◌≡◌, ◌<◌, ◌≤◌, ◌*◌, length, IfOk, IfSome, IfNone};
+ghost use Rattle.std.specs.Prelude.{ℕ, ◌≡◌, ◌<◌, ◌≤◌, ◌*◌, length, IfOk, IfSome, IfNone, IsTrue, IsFalse};
 ghost use Rattle.plan_base.specs.Facts.{IsInstance, total_load};
 ghost use Rattle.plan_base.specs.Arcs.{link_at};
 ghost use Rattle.plan_base.specs.Designs.{load_on, counts_at};
-ghost use Rattle.link_steps.specs.Costs.{CannotCarry, AreLeastCounts};
-ghost use Rattle.incumbent.specs.Completions.{ArePaths, IsCompletion, HasOverfull};
+ghost use Rattle.link_steps.specs.Costs.{CanCarry, CannotCarry, AreLeastCounts};
+ghost use Rattle.incumbent.specs.Completions.{ArePaths, IsCompletion, HasOverfull, CarryLoads, IsFirstOverfull};
 ghost use Rattle.incumbent.specs.Links.{IsLinkCompletion};
 
 use link_steps::StepTable;
@@ -14,7 +14,7 @@ use plan_base::{Design, Instance, Items, LinkId, Path, loads_of};
 use std::alloc::{AllocError, Global};
 
 /// The most that one link costs where it carries at most the total load at its least cost, in cost grains.
-const LINK_COST_BOUND: u128 = 2_000_000_000_000_000_000_000_000_000_000;
+pub const LINK_COST_BOUND: u128 = 2_000_000_000_000_000_000_000_000_000_000;
 
 /// The routing cost of a load on a link, in cost grains.
 pub fn routing_cost(inst: &Instance, link: LinkId, load: u64) -> u128
@@ -90,4 +90,38 @@ pub fn complete(
     }
     design.counts = Items::from_vec(counts);
     Ok(Some((cost, design)))
+}
+
+/// Whether some counts carry a load on a link.
+fn can_carry(inst: &Instance, table: &StepTable, link: LinkId, load: u64) -> bool
+    requires table { table.now ≡ inst.now }
+    requires link { link.0 < length inst.now.links }
+    requires load { load ≤ total_load inst.now }
+    ensures yes { IsTrue result → CanCarry (link_at inst.now link.0) load }
+    ensures no { IsFalse result → CannotCarry (link_at inst.now link.0) load }
+{
+    table.at(link, load).is_some()
+}
+
+/// The first link that cannot carry, by any counts, the load that the paths of a design put on it. `complete` gives None
+/// for these paths exactly where there is one. Takes no memory.
+///
+/// - Takes: an instance and its step table; a design with one simple path for each demand, in order. Its counts are not
+///   read.
+/// - Rule: docs/DEFINITIONS.md, "Completions".
+/// - Time: linear in the arcs of all paths, and for each link the logarithm of the number of its steps.
+pub fn overfull_link(inst: &Instance, table: &StepTable, design: &Design) -> Option<LinkId>
+    requires table { table.now ≡ inst.now }
+    requires paths { ArePaths inst.now design.now.paths }
+    ensures some { IfSome result (λ link. IsFirstOverfull inst.now design.now.paths link.0) }
+    ensures none { IfNone result (CarryLoads inst.now design.now.paths (length inst.now.links)) }
+{
+    let loads = loads_of(inst, design);
+    for place in 0..inst.links() {
+        let link = LinkId(place);
+        if !can_carry(inst, table, link, loads[place as usize] as u64) {
+            return Some(link);
+        }
+    }
+    None
 }

@@ -10,7 +10,7 @@ mod completing;
 mod improving;
 mod traffic;
 
-pub use completing::complete;
+pub use completing::{complete, overfull_link};
 pub use improving::improve;
 
 #[cfg(test)]

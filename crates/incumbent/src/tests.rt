@@ -7,8 +7,8 @@ use super::*;
 use least_path::{Search, are_weights, search};
 use link_steps::StepTable;
 use plan_base::{
-    ArcId, Demand, DemandId, Design, Instance, Items, Link, Module, NodeId, Orient, Parts, Path,
-    check_design,
+    ArcId, Demand, DemandId, Design, Instance, Items, Link, LinkId, Module, NodeId, Orient, Parts,
+    Path, check_design,
 };
 use std::alloc::Global;
 use std::test::*;
@@ -180,16 +180,22 @@ fn only_path(alloc: Global, inst: &Instance) -> Option<Items<Path>>
     Some(Items::from_vec(paths))
 }
 
-/// Whether the first of the two links completes nothing, with ample memory.
-fn is_too_full(alloc: Global) -> Option<bool> {
+/// The overfull link of the only path over the first of two links, where the path completes nothing, with ample memory.
+fn too_full(alloc: Global) -> Option<LinkId> {
     let inst = two_links(alloc)?;
     let table = StepTable::make(alloc, &inst).ok()?;
-    let paths = only_path(alloc, &inst)?;
-    let found = complete(alloc, &inst, &table, paths).ok()?;
-    Some(found.is_none())
+    let design = Design {
+        paths: only_path(alloc, &inst)?,
+        counts: Items::new(alloc),
+    };
+    let overfull = overfull_link(&inst, &table, &design);
+    if complete(alloc, &inst, &table, design.paths).ok()?.is_some() {
+        return None;
+    }
+    overfull
 }
 
 #[test]
 fn a_full_link_completes_nothing(rt: HostRuntime) {
-    assert!(rt; is_too_full(rt.alloc()) == Some(true));
+    assert!(rt; too_full(rt.alloc()) == Some(LinkId(0)));
 }
