@@ -1,8 +1,10 @@
 -- The bound that prices and lengths give.
-use Rattle.std.specs.Prelude.{ℕ, ◌≡◌, ◌≤◌, ◌<◌, ◌*◌, List, length, Option, Some, All, IfSome, ℤ, pos, ◌+ℤ◌}
+use Rattle.std.specs.Prelude.{ℕ, ◌≡◌, ◌≤◌, ◌<◌, ◌*◌, List, length, slice_index, Option, Some, All, IfSome, IsTrue, ℤ, pos, ◌+ℤ◌}
 use Rattle.std.specs.Option.{unwrap_or}
 use Rattle.plan_base.specs.declared.parts.Parts.{Parts}
-use Rattle.plan_base.specs.Facts.{price_limit}
+use Rattle.plan_base.specs.Sums.{sum_below}
+use Rattle.plan_base.specs.Facts.{is_useful, price_limit}
+use Rattle.plan_base.specs.Arcs.{link_at}
 use Rattle.arc_restrict.specs.Restrictions.{Forbidden}
 use Rattle.arc_restrict.specs.Prices.{IsLeastPrice}
 use Rattle.proof_tree.specs.Bounds.{int_sum_below, IsThousandthUp, price_total, AreLinkValues}
@@ -24,6 +26,21 @@ pub record IsRoundBound (p : Parts) (prices : List ℕ) (lengths : List (Option 
   pub values : ℕ → ℤ
   pub are_values : AreLinkValues p prices values
   pub rounded : IsThousandthUp (pos (price_total p (length_of lengths)) +ℤ int_sum_below values (length p.links)) bound
+
+-- the price of each useful link before a count is 0
+abbrev pub AreFree : Parts → List ℕ → ℕ → Type 0
+AreFree p prices count = (e : ℕ) → e < count → IsTrue (is_useful (link_at p e)) → slice_index prices e ≡ 0
+
+-- the sum of prices times pre-installed capacities over the links before a count
+abbrev pub priced_capacity : Parts → List ℕ → ℕ → ℕ
+priced_capacity p prices count = sum_below (λ e. slice_index prices e * (link_at p e).pre) count
+
+-- each demand has a length; useful links are free, and loads times lengths exceed the pre-installed capacities times
+-- their links' prices
+pub record IsRoundCrowd (p : Parts) (prices : List ℕ) (lengths : List (Option ℕ)) : Type 0 where
+  pub complete : (k : ℕ) → k < length p.demands → HasLength lengths k
+  pub free : AreFree p prices (length p.links)
+  pub crowded : priced_capacity p prices (length p.links) < price_total p (length_of lengths)
 
 -- each length that was put is the least price of its demand
 abbrev pub AreLeastLengths : Parts → Forbidden → List ℕ → List (Option ℕ) → Type 0

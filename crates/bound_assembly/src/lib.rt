@@ -7,12 +7,14 @@
 //! the prices, is left to the crates above.
 #![tactic(auto)]
 
+mod crowds;
 pub mod laws;
 pub mod limits;
 mod round;
 mod shared;
 mod totals;
 
+pub use crowds::is_crowded;
 pub use round::Round;
 
 #[cfg(test)]

@@ -3,9 +3,10 @@
 ghost use Rattle.std.specs.Prelude.{◌≡◌, ◌<◌, ◌≤◌, ◌↔◌, ◌^◌, length, replicate, false, None, IfOk, IfSome, IsTrue, IsFalse};
 ghost use Rattle.arc_restrict.specs.Prices.{AreWithinLimit};
 ghost use Rattle.bound_assembly.specs.Rounds.{HasLength, left_in, IsFirstLeft, restarted, with_length};
-ghost use Rattle.bound_assembly.specs.RoundBounds.{AreShort, IsRoundBound};
+ghost use Rattle.bound_assembly.specs.RoundBounds.{AreShort, IsRoundBound, IsRoundCrowd};
 ghost use Rattle.bound_assembly.specs.Places.{AreFullBefore, IsNextLeft};
 
+use crate::crowds::is_crowded;
 use crate::totals::bound_of;
 use link_steps::StepTable;
 use plan_base::{BranchId, DemandId, Instance, Prices};
@@ -189,5 +190,23 @@ impl Round {
             return None;
         }
         Some(bound_of(inst, table, &self.prices, &self.lengths))
+    }
+
+    /// Whether the round shows that the pre-installed capacities are too small: each demand has a length, links with
+    /// useful modules are free, and loads times lengths exceed the pre-installed capacities times prices. Takes no memory.
+    ///
+    /// - Takes: the instance; the round has begun, its prices fit the instance, and there is room for one length for each
+    ///   demand, none of them above what a simple path costs with the price limit on each link.
+    /// - Rule: docs/DEFINITIONS.md, "Evidence of a leaf".
+    /// - Time: linear in the demands, the links and their modules.
+    #[tactic(auto, using(crate::proofs::LeastLengths::crowd_full))]
+    pub fn is_crowded(&self, inst: &Instance) -> bool
+        requires begun { IsTrue self.now.begun }
+        requires price_count { length self.now.prices ≡ length inst.now.links }
+        requires length_count { length self.now.lengths ≡ length inst.now.demands }
+        requires short { AreShort inst.now self.now.lengths }
+        ensures { IsTrue result ↔ IsRoundCrowd inst.now self.now.prices self.now.lengths }
+    {
+        self.left() == 0 && is_crowded(inst, &self.prices, &self.lengths)
     }
 }

@@ -14,7 +14,7 @@ use plan_base::{DemandId, Instance, LinkId, Prices};
 use scaled_numbers::up_to_grain;
 
 /// The sum of loads times lengths over the demands, in thousandths of a cost grain.
-fn price_total(inst: &Instance, lengths: &[Option<u128>]) -> u128
+pub fn price_total(inst: &Instance, lengths: &[Option<u128>]) -> u128
     requires count { length lengths.now ≡ length inst.now.demands }
     requires short { AreShort inst.now lengths.now }
     ensures value { result ≡ total_of_prices inst.now (length_of lengths.now) }

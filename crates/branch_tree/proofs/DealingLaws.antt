@@ -183,6 +183,20 @@ path_with p r k arcs path i a permitted within is among = (path, permitted, (i, 
 off_target : (p : Parts) (k : Demand) (path : List ArcId) (i : ℕ) → IsSimplePath p k path → i < length path → (tail_of p (arc_at path i)).0 ≢ k.target.0
 off_target p k path i simple within same = simple.no_node_twice i (length path) within (omega arith) (sym (simple.goes_on i within) ∙ same ∙ sym simple.ends_at_target)
 
+-- where two permitted paths part, the sides that are dealt part them too: the first path's arc is on the left, the second path's on the right
+pub dealt-parted : (p : Parts) (r : Forbidden) (id : DemandId) (at : NodeId) (one other : ArcId) (first second left right : List ArcId) → IsPermittedPath p r id.0 first → IsPermittedPath p r id.0 second
+    → PartAt p first second at one other → AreDealt p r id at one other left right → (is_among left one ≡ true) × (is_among right other ≡ true)
+dealt-parted p r id at one other first second left right first_is second_is part dealt =
+    let one_in = one_left p r id at one other dealt.leaving dealt.are_leaving part.differ
+    (subst (λ (a : ArcId). IsTrue (is_arc p a)) part.one_is (first_is.simple.are_arcs part.place part.in_first))
+    (ap (λ (n : NodeId). n.0) part.from_node)
+    (subst (λ (a : ArcId). r id.0 a ≡ false) part.one_is (first_is.permitted part.place no_arc part.in_first)) in
+    let other_in = other_right p r id at one other dealt.leaving dealt.are_leaving part.differ
+    (subst (λ (a : ArcId). IsTrue (is_arc p a)) part.other_is (second_is.simple.are_arcs part.place part.in_second))
+    (ap (λ (n : NodeId). n.0) part.other_from_node)
+    (subst (λ (a : ArcId). r id.0 a ≡ false) part.other_is (second_is.permitted part.place no_arc part.in_second)) in
+    (ap (λ (arcs : List ArcId). is_among arcs one) dealt.left_is ∙ one_in, ap (λ (arcs : List ArcId). is_among arcs other) dealt.right_is ∙ other_in)
+
 -- arcs that are dealt where two permitted paths part make a split there
 pub dealt-branching : (p : Parts) (r : Forbidden) (id : DemandId) (at : NodeId) (one other : ArcId) (first second left right : List ArcId) → id.0 < length p.demands → at.0 < p.nodes
     → IsPermittedPath p r id.0 first → IsPermittedPath p r id.0 second → PartAt p first second at one other → AreDealt p r id at one other left right → IsBranching p r id at left right
@@ -208,14 +222,11 @@ dealt-branching p r id at one other first second left right demand node first_is
     are : AreLeaving p at.0 leaving
     are = dealt.are_leaving
 
+    among : (is_among left one ≡ true) × (is_among right other ≡ true)
+    among = dealt-parted p r id at one other first second left right first_is second_is part dealt
+
     one_in : is_among (picked (goes_left r id.0 one other leaving) leaving (length leaving)) one ≡ true
-    one_in = one_left p r id at one other leaving are part.differ
-        (subst (λ (a : ArcId). IsTrue (is_arc p a)) part.one_is (first_is.simple.are_arcs part.place part.in_first))
-        (ap (λ (n : NodeId). n.0) part.from_node)
-        (subst (λ (a : ArcId). r id.0 a ≡ false) part.one_is (first_is.permitted part.place no_arc part.in_first))
+    one_in = ap (λ (arcs : List ArcId). is_among arcs one) (sym dealt.left_is) ∙ among.0
 
     other_in : is_among (picked (goes_right r id.0 one other leaving) leaving (length leaving)) other ≡ true
-    other_in = other_right p r id at one other leaving are part.differ
-        (subst (λ (a : ArcId). IsTrue (is_arc p a)) part.other_is (second_is.simple.are_arcs part.place part.in_second))
-        (ap (λ (n : NodeId). n.0) part.other_from_node)
-        (subst (λ (a : ArcId). r id.0 a ≡ false) part.other_is (second_is.permitted part.place no_arc part.in_second))
+    other_in = ap (λ (arcs : List ArcId). is_among arcs other) (sym dealt.right_is) ∙ among.1

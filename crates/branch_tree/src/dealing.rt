@@ -8,10 +8,12 @@ use arc_restrict::Restriction;
 use plan_base::{ArcId, DemandId};
 use std::alloc::{AllocError, Global};
 
-/// Two sides of a split, while arcs are dealt out to them.
+/// Two sides of a split, and whose turn it is while arcs are dealt out to them.
 #[derive(Debug, Drop)]
-pub(crate) struct Sides {
+pub struct Sides {
+    /// The arcs that the left child forbids, ascending.
     pub left: Vec<ArcId>,
+    /// The arcs that the right child forbids, ascending.
     pub right: Vec<ArcId>,
     /// Whether the next arc that is neither path's goes to the left.
     is_left_turn: bool,
@@ -45,7 +47,13 @@ impl Sides {
 
 /// The arcs that are not forbidden to the demand, dealt out in turn: the first path's arc to the
 /// left, the second path's arc to the right, and of the others the first to the left.
-pub(crate) fn deal(
+///
+/// - Takes: the arcs of the two paths where they part, and the arcs that leave the node there,
+///   ascending.
+/// - Errors: want of memory alone.
+/// - Rule: docs/DEFINITIONS.md, "Search trees".
+/// - Time: linear in the arcs and in what is forbidden to the demand.
+pub fn deal(
     alloc: Global,
     restriction: &Restriction,
     demand: DemandId,

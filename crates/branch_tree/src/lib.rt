@@ -15,6 +15,7 @@ mod shared;
 mod split_fault;
 
 pub use branch::Branch;
+pub use dealing::{Sides, deal};
 pub use node::{BranchNode, Division, Fate, Limit};
 pub use split_fault::SplitFault;
 

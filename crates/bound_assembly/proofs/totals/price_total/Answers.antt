@@ -1,4 +1,4 @@
-use Rattle.std.proofs.Common.{◌≡◌, ◌*◌, suc, ap, refl, arith, rules}
+use Rattle.std.proofs.Common.{◌≡◌, suc, ap, arith, rules}
 use Rattle.plan_base.specs.declared.parts.Demand.{Demand}
 use Rattle.plan_base.specs.Arcs.{demand_at}
 use Rattle.bound_assembly.specs.RoundBounds.{length_of}

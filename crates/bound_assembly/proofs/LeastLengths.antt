@@ -1,0 +1,51 @@
+-- What a round shows of a restriction, where each length that was put is the least price of its demand there.
+use Rattle.std.proofs.Common.{◌≡◌, ℕ, ◌*◌, ◌<◌, ◌≤◌, List, length, Option, Some, None, true, false, refl, arith}
+use Rattle.std.specs.Prelude.{ℤ, ◌↔◌}
+use Rattle.std.proofs.Math.Nat.{mul-le-mul_left}
+use Rattle.plan_base.specs.declared.parts.Parts.{Parts}
+use Rattle.plan_base.specs.Arcs.{demand_at}
+use Rattle.plan_base.proofs.SumsBelow.{sum_below-le}
+use Rattle.arc_restrict.specs.Restrictions.{Forbidden}
+use Rattle.arc_restrict.specs.Prices.{AreWithinLimit, IsLeastPrice}
+use Rattle.proof_tree.specs.Bounds.{AreLeastPrices, IsBound}
+use Rattle.proof_tree.specs.Evidence.{ClosedByCrowd}
+use Rattle.bound_assembly.specs.Rounds.{length_at, HasLength, left_in}
+use Rattle.bound_assembly.proofs.Gaps.{left-none}
+use Rattle.bound_assembly.specs.RoundBounds.{length_of, AreLeastLengths, IsRoundBound, IsRoundCrowd}
+
+-- where a round crowds the links, no demand is left
+pub crowd_full : (p : Parts) (prices : List ℕ) (lengths : List (Option ℕ)) → IsRoundCrowd p prices lengths → length lengths ≡ length p.demands → left_in lengths ≡ 0
+crowd_full p prices lengths is same = left-none lengths (λ k below. is.complete k (omega arith))
+
+module _ (p : Parts) (r : Forbidden) (prices : List ℕ) (lengths : List (Option ℕ)) where
+  -- the lengths of all demands are their least prices
+  pub are_least_prices : ((k : ℕ) → k < length p.demands → HasLength lengths k) → AreLeastLengths p r prices lengths → AreLeastPrices p r prices (length_of lengths)
+  are_least_prices complete least k below = by_cases (length_at lengths k) refl (complete k below)
+    where
+      by_cases : (found : Option ℕ) → length_at lengths k ≡ found → HasLength lengths k → IsLeastPrice p r prices k (length_of lengths k)
+      by_cases None is has = absurd (let bad : false ≡ true = rw is at has in cc)
+      by_cases (Some price) is has = rw is (least k price below is)
+
+  -- a round's bound is the bound of the restriction
+  pub round_bound-bound : (bound : ℤ) → AreLeastLengths p r prices lengths → IsRoundBound p prices lengths bound → IsBound p r prices bound
+  round_bound-bound bound least is =
+      record { least_prices = length_of lengths; values = is.values; are_least = are_least_prices is.complete least; are_values = is.are_values; rounded = is.rounded }
+
+  -- a round that crowds the links closes a leaf of the restriction
+  pub round_crowd-closed : AreWithinLimit p prices → AreLeastLengths p r prices lengths → IsRoundCrowd p prices lengths → ClosedByCrowd p r prices
+  round_crowd-closed within least is =
+      record { within_limit = within; free = is.free; least_prices = length_of lengths; are_least = are_least_prices is.complete least; crowded = is.crowded }
+
+  -- prices that close a leaf of the restriction crowd the links
+  pub closed-round_crowd : ((k : ℕ) → k < length p.demands → HasLength lengths k) → AreLeastLengths p r prices lengths → ClosedByCrowd p r prices → IsRoundCrowd p prices lengths
+  closed-round_crowd complete least is =
+      let mine = are_least_prices complete least in
+      let each : (k : ℕ) → k < length p.demands → (demand_at p k).load * is.least_prices k ≤ (demand_at p k).load * length_of lengths k = λ k below.
+      (let mine_k = mine k below in
+      let lower : is.least_prices k ≤ length_of lengths k = omega (arith, (is.are_least k below).least mine_k.path mine_k.permitted, mine_k.attained) in
+      mul-le-mul_left (demand_at p k).load lower) in
+      let total = sum_below-le (λ k. (demand_at p k).load * is.least_prices k) (λ k. (demand_at p k).load * length_of lengths k) (length p.demands) each in
+      record { complete = complete; free = is.free; crowded = omega (arith, total, is.crowded) }
+
+  pub round_crowd-both : AreWithinLimit p prices → ((k : ℕ) → k < length p.demands → HasLength lengths k) → AreLeastLengths p r prices lengths → IsRoundCrowd p prices lengths ↔ ClosedByCrowd p r prices
+  round_crowd-both within complete least = (round_crowd-closed within least, closed-round_crowd complete least)
