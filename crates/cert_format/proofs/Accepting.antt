@@ -1,0 +1,187 @@
+-- What one line says of a reader, and what stops a reader stops the whole.
+use Rattle.std.proofs.Common.{◌≡◌, ℕ, zero, suc, ◌-◌, ◌<◌, ◌≤◌, ◌⊎◌, ◌==◌, inl, inr, Bool, true, false, List, [], ◌∷◌, ◌++◌, length, Option, Some, None, refl, sym, ap, subst, ◌∙◌, append_assoc, arith, if◌then◌else◌}
+use Rattle.std.specs.Prelude.{Result, Ok, Err}
+use Rattle.std.proofs.lemmas.List.{append-nil}
+use Rattle.proof_tree.specs.declared.tree.TreeNode.{TreeNode}
+use Rattle.cert_format.specs.declared.stop.Stop.{Stop}
+use Rattle.cert_format.specs.declared.stop.Stop.TheVariants.{Memory, At}
+use Rattle.cert_format.specs.declared.fault.PlanFault.TheVariants as faults
+use Rattle.cert_format.specs.Lines.{Line, whole, unfinished, onto, text_of, lines_of}
+use Rattle.cert_format.proofs.Cutting.{text_of_lines}
+use Rattle.std.proofs.lemmas.Bool.{cases_Bool}
+use Rattle.proof_tree.specs.declared.plan.Plan.{Plan}
+use Rattle.cert_format.specs.Grammar.{end_line}
+use Rattle.cert_format.specs.Bodies.{only_if, fixed_of, number_row, record_of}
+use Rattle.cert_format.proofs.BodyLaws.{number_row_takes}
+use Rattle.cert_format.proofs.ReadingLaws.{one_line}
+use Rattle.cert_format.specs.Reading.{◌>>=◌, bind, done, judged, one, many, records, place_of, nothing_behind, last_line, ending}
+use Rattle.cert_format.specs.Drafts.{left_open, is_complete}
+use Rattle.cert_format.specs.Answers.{StopsAt, Stops, HasNoLine, IsNoLine}
+
+-- ---- one line
+
+pub one_read : {A : Type 0} (f : List ℕ → Option A) (ls : List Line) (body : List ℕ) (rest : List Line) (x : A) → ls ≡ whole body ∷ rest → f body ≡ Some x → one f ls ≡ Ok (x, rest)
+unfolding one
+one_read f ls body rest x is e = ap (one f) is ∙ ap (judged (whole body) rest) e
+
+pub one_refused : {A : Type 0} (f : List ℕ → Option A) (ls : List Line) (body : List ℕ) (rest : List Line) → ls ≡ whole body ∷ rest → f body ≡ None → one f ls ≡ Err ls
+unfolding one
+one_refused f ls body rest is e = ap (one f) is ∙ ap (judged (whole body) rest) e ∙ ap (λ us. Err us) (sym is)
+
+one-none : {A : Type 0} (f : List ℕ → Option A) (ls : List Line) → HasNoLine ls → one f ls ≡ Err ls
+unfolding one
+one-none f [] h = refl
+one-none f (whole body ∷ ls) h = absurd h
+one-none f (unfinished bytes ∷ ls) h = refl
+
+pub no_first_line : {A : Type 0} (f : List ℕ → Option A) (text : List ℕ) (e : Stop) → IsNoLine text e → Stops e (one f (lines_of text))
+no_first_line f text e n = rw n.is (record { bytes = text; stops = one-none f (lines_of text) n.none; count = n.count })
+
+pub stops_memory : {A : Type 0} (read : Result A (List Line)) (e : Stop) → e ≡ Memory → Stops e read
+stops_memory read e is = rw is tt
+
+-- ---- one after the other
+
+pub through : {A B : Type 0} (e : Stop) (read : Result A (List Line)) (k : A → Result B (List Line)) → Stops e read → Stops e (read >>= k)
+through Memory read k s = tt
+through (At left) read k s = record { bytes = s.bytes; stops = ap (λ r. r >>= k) s.stops; count = s.count }
+
+pub stops_same : {A : Type 0} (e : Stop) (read other : Result A (List Line)) → read ≡ other → Stops e read → Stops e other
+stops_same e read other is s = subst (Stops e) is s
+
+-- ---- many lines of a kind
+
+-- what was read, with items in front
+abbrev pub in_front_of : {A : Type 0} → List A → List A × List Line → Result (List A × List Line) (List Line)
+in_front_of front p = Ok (front ++ p.0, p.1)
+
+-- what was read, with an item more
+abbrev pub consed : {A : Type 0} → A → List A × List Line → Result (List A × List Line) (List Line)
+consed x p = Ok (x ∷ p.0, p.1)
+
+-- items in front of those that are read
+abbrev pub in_front : {A : Type 0} → List A → Result (List A × List Line) (List Line) → Result (List A × List Line) (List Line)
+in_front front read = read >>= in_front_of front
+
+abbrev ok-with : {A : Type 0} → List Line → List A → Result (List A × List Line) (List Line)
+ok-with rest items = Ok (items, rest)
+
+pub front_more : {A : Type 0} (front : List A) (x : A) (read : Result (List A × List Line) (List Line)) → in_front front (read >>= consed x) ≡ in_front (front ++ x ∷ []) read
+front_more front x (Err ls) = refl
+front_more {A} front x (Ok p) = ap (ok-with p.1) (sym (append_assoc front (x ∷ []) p.0))
+
+pub front_none : {A : Type 0} (read : Result (List A × List Line) (List Line)) → in_front [] read ≡ read
+front_none (Ok p) = refl
+front_none (Err ls) = refl
+
+pub many_more : {A : Type 0} (f : List ℕ → Option A) (left : ℕ) (front : List A) (ls : List Line) (x : A) (rest : List Line) → 0 < left → one f ls ≡ Ok (x, rest) → in_front front (many left f ls) ≡ in_front (front ++ x ∷ []) (many (left - 1) f rest)
+unfolding many bind done
+many_more f zero front ls x rest some e = absurd (omega arith)
+many_more f (suc n) front ls x rest some e =
+    let less : suc n - 1 ≡ n = omega arith in
+    ap (λ r. in_front front (r >>= λ p. bind (many n f) (λ xs. done (p.0 ∷ xs)) p.1)) e ∙ front_more front x (many n f rest) ∙ ap (λ k. in_front (front ++ x ∷ []) (many k f rest)) (sym less)
+
+pub many_stop : {A : Type 0} (f : List ℕ → Option A) (left : ℕ) (front : List A) (ls : List Line) (e : Stop) → 0 < left → Stops e (one f ls) → Stops e (in_front front (many left f ls))
+unfolding many bind done
+many_stop f zero front ls e some s = absurd (omega arith)
+many_stop f (suc n) front ls e some s =
+    through e (one f ls >>= λ p. bind (many n f) (λ xs. done (p.0 ∷ xs)) p.1) (in_front_of front) (through e (one f ls) (λ p. bind (many n f) (λ xs. done (p.0 ∷ xs)) p.1) s)
+
+pub many_end : {A : Type 0} (f : List ℕ → Option A) (left : ℕ) (front : List A) (ls : List Line) → left ≡ 0 → in_front front (many left f ls) ≡ Ok (front, ls)
+unfolding many bind done
+many_end f zero front ls none = ap (ok-with ls) (append-nil front)
+many_end f (suc n) front ls none = absurd (omega arith)
+
+-- ---- the records of a tree
+
+module _ (nodes links : ℕ) where
+  pub records_more : (left trees : ℕ) (front : List TreeNode) (ls : List Line) (node : TreeNode) (rest : List Line) → 0 < left → 0 < trees → one (record_of nodes links) ls ≡ Ok (node, rest)
+      → in_front front (records nodes links left trees ls) ≡ in_front (front ++ node ∷ []) (records nodes links (left - 1) (left_open node (trees - 1)) rest)
+  unfolding records bind done
+  records_more zero trees front ls node rest some grows e = absurd (omega arith)
+  records_more (suc n) zero front ls node rest some grows e = absurd (omega arith)
+  records_more (suc n) (suc others) front ls node rest some grows e =
+      let less : suc n - 1 ≡ n = omega arith in
+      let fewer : suc others - 1 ≡ others = omega arith in
+      ap (λ r. in_front front (r >>= λ p. bind (records nodes links n (left_open p.0 others)) (λ more. done (p.0 ∷ more)) p.1)) e
+      ∙ front_more front node (records nodes links n (left_open node others) rest)
+      ∙ ap (λ k. in_front (front ++ node ∷ []) (records nodes links k (left_open node others) rest)) (sym less)
+      ∙ ap (λ k. in_front (front ++ node ∷ []) (records nodes links (suc n - 1) (left_open node k) rest)) (sym fewer)
+
+  pub records_stop : (left trees : ℕ) (front : List TreeNode) (ls : List Line) (e : Stop) → 0 < left → 0 < trees → Stops e (one (record_of nodes links) ls) → Stops e (in_front front (records nodes links left trees ls))
+  unfolding records bind done
+  records_stop zero trees front ls e some grows s = absurd (omega arith)
+  records_stop (suc n) zero front ls e some grows s = absurd (omega arith)
+  records_stop (suc n) (suc others) front ls e some grows s =
+      through e (one (record_of nodes links) ls >>= λ p. bind (records nodes links n (left_open p.0 others)) (λ more. done (p.0 ∷ more)) p.1) (in_front_of front)
+      (through e (one (record_of nodes links) ls) (λ p. bind (records nodes links n (left_open p.0 others)) (λ more. done (p.0 ∷ more)) p.1) s)
+
+  pub records_end : (left trees : ℕ) (front : List TreeNode) (ls : List Line) → (left ≡ 0) ⊎ (trees ≡ 0) → in_front front (records nodes links left trees ls) ≡ Ok (front, ls)
+  unfolding records bind done
+  records_end zero trees front ls none = ap (ok-with ls) (append-nil front)
+  records_end (suc n) zero front ls none = ap (ok-with ls) (append-nil front)
+  records_end (suc n) (suc others) front ls none = absurd (no none)
+    where
+      no : (suc n ≡ 0) ⊎ (suc others ≡ 0) → ⊥
+      no (inl e) = omega arith
+      no (inr e) = omega arith
+
+-- ---- where reading stops
+
+some-line : (b : ℕ) (bytes : List ℕ) → (l : Line) × (ls : List Line) × (lines_of (b ∷ bytes) ≡ l ∷ ls)
+unfolding lines_of
+some-line b bytes =
+    elim (cases_Bool (b == 10)) [
+      | inl t ↦ rw t (whole [], lines_of bytes, refl)
+      | inr f ↦ rw f (by (lines_of bytes))
+    ]
+  where
+    by : (ls : List Line) → (l : Line) × (us : List Line) × (onto b ls ≡ l ∷ us)
+    by [] = (unfinished (b ∷ []), [], refl)
+    by (whole body ∷ ls) = (whole (b ∷ body), ls, refl)
+    by (unfinished more ∷ ls) = (unfinished (b ∷ more), ls, refl)
+
+pub ended_at : (whole_length : ℕ) (bytes : List ℕ) → 0 ≡ length bytes → faults.Ended whole_length ≡ place_of whole_length (lines_of bytes)
+unfolding lines_of
+ended_at whole_length [] e = refl
+ended_at whole_length (b ∷ bytes) e = absurd (omega arith)
+
+pub line_at : (whole_length left : ℕ) (bytes : List ℕ) → 0 < left → left ≡ length bytes → faults.Line (whole_length - left) ≡ place_of whole_length (lines_of bytes)
+line_at whole_length left [] some e = absurd (omega arith)
+line_at whole_length left (b ∷ bytes) some e =
+    let (l, ls, is) = some-line b bytes in
+    let all : length (text_of (l ∷ ls)) ≡ left = ap (λ us. length (text_of us)) (sym is) ∙ ap length (text_of_lines (b ∷ bytes)) ∙ sym e in
+    ap (λ n. faults.Line (whole_length - n)) (sym all) ∙ ap (place_of whole_length) (sym is)
+
+-- ---- the last line
+
+nothing-there : (plan : Plan) (rest : List ℕ) → 0 ≡ length rest → nothing_behind plan (lines_of rest) ≡ Ok plan
+unfolding lines_of
+nothing-there plan [] e = refl
+nothing-there plan (b ∷ rest) e = absurd (omega arith)
+
+something-there : (plan : Plan) (rest : List ℕ) → 0 < length rest → nothing_behind plan (lines_of rest) ≡ Err (lines_of rest)
+something-there plan [] some = absurd (omega arith)
+something-there plan (b ∷ rest) some =
+    let (l, ls, is) = some-line b rest in
+    ap (nothing_behind plan) is ∙ ap (λ us. Err us) (sym is)
+
+whole-ending : (d : ℕ × Plan) (plan : Plan) (ls rest : List Line) (u : Unit {0}) → Some plan ≡ only_if (is_complete d.0 d.1) d.1 → one (fixed_of end_line) ls ≡ Ok (u, rest) → ending (d, ls) ≡ nothing_behind plan rest
+whole-ending d plan ls rest u found e = by (is_complete d.0 d.1) refl found
+  where
+    by : (b : Bool) → is_complete d.0 d.1 ≡ b → Some plan ≡ only_if b d.1 → ending (d, ls) ≡ nothing_behind plan rest
+    by true t is = (let same : plan ≡ d.1 = cc in ap (λ b. if b then last_line d.1 (one (fixed_of end_line) ls) else Err ls) t ∙ ap (last_line d.1) e ∙ ap (λ p. nothing_behind p rest) (sym same))
+    by false t is = absurd cc
+
+pub ending_read : (d : ℕ × Plan) (plan : Plan) (ls : List Line) (rest : List ℕ) (u : Unit {0}) → Some plan ≡ only_if (is_complete d.0 d.1) d.1 → one (fixed_of end_line) ls ≡ Ok (u, lines_of rest) → 0 ≡ length rest → ending (d, ls) ≡ Ok plan
+ending_read d plan ls rest u found e none = whole-ending d plan ls (lines_of rest) u found e ∙ nothing-there plan rest none
+
+pub ending_refused : (d : ℕ × Plan) (plan : Plan) (ls : List Line) (rest : List ℕ) (u : Unit {0}) → Some plan ≡ only_if (is_complete d.0 d.1) d.1 → one (fixed_of end_line) ls ≡ Ok (u, lines_of rest) → 0 < length rest → StopsAt (length rest) (ending (d, ls))
+ending_refused d plan ls rest u found e some = record { bytes = rest; stops = whole-ending d plan ls (lines_of rest) u found e ∙ something-there plan rest some; count = refl }
+
+-- ---- numbers within their limits
+
+pub row_most : (word : List ℕ) (low high : ℕ) (ls : List Line) (n : ℕ) (rest : List Line) → one (number_row word low high) ls ≡ Ok (n, rest) → n ≤ high
+row_most word low high ls n rest e =
+    let (body, is, read) = one_line (number_row word low high) ls n rest e in
+    (number_row_takes word low high body n read).1

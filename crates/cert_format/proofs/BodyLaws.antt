@@ -1,0 +1,328 @@
+-- Each line is read exactly where it is written so.
+use Rattle.std.proofs.Common.{◌≡◌, ℕ, zero, suc, ◌^◌, ◌<◌, ◌≤◌, ◌==◌, ◌&&◌, ◌⊎◌, inl, inr, nat_lt, nat_le, Bool, true, false, cond, List, [], ◌∷◌, ◌++◌, length, map, codes, Option, Some, None, refl, sym, ap, subst, ◌∙◌, ℤ, pos, negsuc, arith}
+use Rattle.std.specs.Prelude.{IfSome, MatchOption}
+use Rattle.std.specs.Option.{option_map}
+use Rattle.std.specs.List.{AllByRecursion}
+use Rattle.std.specs.Str.{bytes_eq}
+use Rattle.std.proofs.lemmas.Bool.{ne_eqb, eqb-true, eq-eqb, cases_Bool, and_parts, and_from, ltb-true, lt-ltb, leb-true, le-leb}
+use Rattle.std.proofs.lemmas.List.{length-map}
+use Rattle.std.proofs.lemmas.Option.{cond_some}
+use Rattle.std.proofs.lemmas.Slice.Eq.{bytes_eq-Decides}
+use Rattle.scaled_numbers.specs.Canonical.{grains_text}
+use Rattle.plan_base.specs.declared.ids.ArcId.{ArcId}
+use Rattle.plan_base.specs.declared.limits.TheConstants.{MAX_NODES, MAX_LINKS, MAX_DEMANDS, MAX_MODULES}
+use Rattle.proof_tree.specs.declared.limits.TheConstants.{MAX_PATH_ARCS}
+use Rattle.proof_tree.specs.declared.plan.PlanStatus.{PlanStatus}
+use Rattle.proof_tree.specs.declared.plan.PlanStatus.TheVariants.{Optimal, Infeasible, Undecided}
+use Rattle.cert_format.specs.Words.{◌>>=◌, numerals, row, behind, each, numbers_of, grains_of, row_of}
+use Rattle.cert_format.specs.Grammar.{size_line, status_line, number_line, cost_line, signed_text, bound_line, arc_numbers, counted, path_line, modules_line, AreArcs, IsBoundField}
+use Rattle.cert_format.specs.Bodies.{only_if, choose, fixed_of, one_in, number_row, sizes_with, sizes_in, size_row, status_of, none_or, cost_allowed, cost_of, positive, negative, signed_of, bound_of, numbered_arc, arc_of, count_of, uncounted, path_of, modules_of}
+use Rattle.cert_format.proofs.NumberWords.{then-some, map-some, behind_found, behind_takes, numbers_found, numbers_takes, each_takes, each_found}
+use Rattle.cert_format.proofs.Digits.{grains_found, grains_takes, grains_first}
+
+-- numbers that a row can have
+abbrev pub AreSmall : List ℕ → Type 0
+AreSmall ns = AllByRecursion (λ n. n < 2 ^ 128) ns
+
+-- ---- parts
+
+pub row_takes : (word body ns : List ℕ) → row_of word body ≡ Some ns → AreSmall ns × (body ≡ row word ns)
+row_takes word body ns e =
+    let (rest, first, later) = then-some (behind word body) numbers_of ns e in
+    let more = numbers_takes rest ns later in
+    (more.0, behind_takes word body rest first ∙ ap (λ bs. word ++ bs) more.1)
+
+pub row_again : (word ns : List ℕ) → AreSmall ns → row_of word (row word ns) ≡ Some ns
+row_again word ns h = ap (λ o. o >>= numbers_of) (behind_found word (numerals ns)) ∙ numbers_found ns h
+
+pub only_true : {A : Type 0} (t : Bool) (x : A) → t ≡ true → only_if t x ≡ Some x
+only_true t x e = ap (λ b. cond b (Some x) None) e
+
+pub chosen : {A B : Type 0} (o : Option A) (f : A → Option B) (other : Option B) (y : B) → choose o f other ≡ Some y → ((x : A) × (o ≡ Some x) × (f x ≡ Some y)) ⊎ (other ≡ Some y)
+chosen None f other y e = inr e
+chosen (Some x) f other y e = inl (x, refl, e)
+
+pub fixed_takes : (line body : List ℕ) (x : Unit {0}) → fixed_of line body ≡ Some x → body ≡ line
+unfolding fixed_of
+fixed_takes line body x e = (bytes_eq-Decides body line).0 (cond_some (bytes_eq body line) tt x e).0
+
+pub fixed_again : (line : List ℕ) → fixed_of line line ≡ Some tt
+unfolding fixed_of
+fixed_again line = only_true (bytes_eq line line) tt ((bytes_eq-Decides line line).1 refl)
+
+-- ---- a number within bounds
+
+pub one_takes : (low high : ℕ) (ns : List ℕ) (n : ℕ) → one_in low high ns ≡ Some n → (low ≤ n) × (n ≤ high) × (ns ≡ n ∷ [])
+unfolding one_in
+one_takes low high [] n e = absurd cc
+one_takes low high (m ∷ []) n e =
+    let (test, is) = cond_some (nat_le low m && nat_le m high) m n e in
+    let both = and_parts (nat_le low m) (nat_le m high) test in
+    (subst (λ k. low ≤ k) is (leb-true low m both.0), subst (λ k. k ≤ high) is (leb-true m high both.1), ap (λ k. k ∷ []) is)
+one_takes low high (m ∷ k ∷ ns) n e = absurd cc
+
+pub one_again : (low high n : ℕ) → low ≤ n → n ≤ high → one_in low high (n ∷ []) ≡ Some n
+unfolding one_in
+one_again low high n above below = only_true (nat_le low n && nat_le n high) n (and_from (nat_le low n) (nat_le n high) (le-leb low n above) (le-leb n high below))
+
+pub number_row_takes : (word : List ℕ) (low high : ℕ) (body : List ℕ) (n : ℕ) → number_row word low high body ≡ Some n → (low ≤ n) × (n ≤ high) × (body ≡ number_line word n)
+unfolding number_row
+number_row_takes word low high body n e =
+    let (ns, first, later) = then-some (row_of word body) (one_in low high) n e in
+    let one = one_takes low high ns n later in
+    (one.0, one.1, (row_takes word body ns first).1 ∙ ap (row word) one.2)
+
+pub number_row_again : (word : List ℕ) (low high n : ℕ) → high < 2 ^ 128 → low ≤ n → n ≤ high → number_row word low high (number_line word n) ≡ Some n
+unfolding number_row
+number_row_again word low high n fits above below = ap (λ o. o >>= one_in low high) (row_again word (n ∷ []) (omega arith, tt)) ∙ one_again low high n above below
+
+-- ---- the sizes
+
+pub record AreSizes (x : ℕ × ℕ × ℕ) : Type 0 where
+  pub nodes : x.0 ≤ MAX_NODES
+  pub links : x.1 ≤ MAX_LINKS
+  pub demands : x.2 ≤ MAX_DEMANDS
+
+sizes-test : (n l d : ℕ) → (nat_le n MAX_NODES && nat_le l MAX_LINKS && nat_le d MAX_DEMANDS) ≡ true → AreSizes (n, l, d)
+sizes-test n l d t =
+    let outer = and_parts (nat_le n MAX_NODES && nat_le l MAX_LINKS) (nat_le d MAX_DEMANDS) t in
+    let inner = and_parts (nat_le n MAX_NODES) (nat_le l MAX_LINKS) outer.0 in
+    record { nodes = leb-true n MAX_NODES inner.0; links = leb-true l MAX_LINKS inner.1; demands = leb-true d MAX_DEMANDS outer.1 }
+
+sizes-takes : (ns : List ℕ) (x : ℕ × ℕ × ℕ) → sizes_in ns ≡ Some x → AreSizes x × (ns ≡ x.0 ∷ x.1 ∷ x.2 ∷ [])
+unfolding sizes_in
+sizes-takes [] x e = absurd cc
+sizes-takes (n ∷ []) x e = absurd cc
+sizes-takes (n ∷ l ∷ []) x e = absurd cc
+sizes-takes (n ∷ l ∷ d ∷ []) x e =
+    let (test, is) = cond_some (nat_le n MAX_NODES && nat_le l MAX_LINKS && nat_le d MAX_DEMANDS) (sizes_with n l d) x e in
+    (subst AreSizes is (sizes-test n l d test), ap (λ (y : ℕ × ℕ × ℕ). y.0 ∷ y.1 ∷ y.2 ∷ []) is)
+sizes-takes (n ∷ l ∷ d ∷ k ∷ ns) x e = absurd cc
+
+pub size_takes : (body : List ℕ) (x : ℕ × ℕ × ℕ) → size_row body ≡ Some x → AreSizes x × (body ≡ size_line x.0 x.1 x.2)
+unfolding size_row
+size_takes body x e =
+    let (ns, first, later) = then-some (row_of (codes "SIZE") body) sizes_in x e in
+    let sizes = sizes-takes ns x later in
+    (sizes.0, (row_takes (codes "SIZE") body ns first).1 ∙ ap (row (codes "SIZE")) sizes.1)
+
+pub size_again : (n l d : ℕ) → AreSizes (n, l, d) → size_row (size_line n l d) ≡ Some (n, l, d)
+unfolding size_row sizes_in
+size_again n l d s =
+    ap (λ o. o >>= sizes_in) (row_again (codes "SIZE") (n ∷ l ∷ d ∷ []) (omega (arith, s.nodes), (omega (arith, s.links), (omega (arith, s.demands), tt))))
+    ∙ only_true (nat_le n MAX_NODES && nat_le l MAX_LINKS && nat_le d MAX_DEMANDS) (sizes_with n l d)
+    (and_from (nat_le n MAX_NODES && nat_le l MAX_LINKS) (nat_le d MAX_DEMANDS) (and_from (nat_le n MAX_NODES) (nat_le l MAX_LINKS) (le-leb n MAX_NODES s.nodes) (le-leb l MAX_LINKS s.links)) (le-leb d MAX_DEMANDS s.demands))
+
+-- ---- the status
+
+told : (body : List ℕ) (one s : PlanStatus) → bytes_eq body (status_line one) ≡ true → Some one ≡ Some s → body ≡ status_line s
+told body one s t is = (bytes_eq-Decides body (status_line one)).0 t ∙ ap status_line (let e : one ≡ s = cc in e)
+
+-- the first of two answers where the test holds, else the second
+two-ways : (t : Bool) (x : PlanStatus) (o : Option PlanStatus) (s : PlanStatus) → cond t (Some x) o ≡ Some s → ((t ≡ true) × (Some x ≡ Some s)) ⊎ (o ≡ Some s)
+two-ways true x o s e = inl (refl, e)
+two-ways false x o s e = inr e
+
+pub status_takes : (body : List ℕ) (s : PlanStatus) → status_of body ≡ Some s → body ≡ status_line s
+unfolding status_of
+status_takes body s e =
+    elim (two-ways (bytes_eq body (status_line Optimal)) Optimal (cond (bytes_eq body (status_line Infeasible)) (Some Infeasible) (cond (bytes_eq body (status_line Undecided)) (Some Undecided) None)) s e) [
+      | inl (t, is) ↦ told body Optimal s t is
+      | inr f ↦ elim (two-ways (bytes_eq body (status_line Infeasible)) Infeasible (cond (bytes_eq body (status_line Undecided)) (Some Undecided) None) s f) [
+        | inl (t, is) ↦ told body Infeasible s t is
+        | inr g ↦ elim (two-ways (bytes_eq body (status_line Undecided)) Undecided None s g) [
+          | inl (t, is) ↦ told body Undecided s t is
+          | inr h ↦ absurd cc
+        ]
+      ]
+    ]
+
+pub status_again : (s : PlanStatus) → status_of (status_line s) ≡ Some s
+unfolding status_of
+status_again Optimal = refl
+status_again Infeasible = refl
+status_again Undecided = refl
+
+-- ---- the cost and the bound
+
+-- what a word none, or something that f reads, is read as
+pub none_takes : {A : Type 0} (f : List ℕ → Option A) (bytes : List ℕ) (o : Option A) → none_or f bytes ≡ Some o → MatchOption o (bytes ≡ codes "none") (λ x. f bytes ≡ Some x)
+none_takes {A} f bytes o e =
+    elim (cases_Bool (bytes_eq bytes (codes "none"))) [
+      | inl t ↦ (let is : Some None ≡ Some o = sym (ap (λ b. cond b (Some None) (option_map (λ x. Some x) (f bytes))) t) ∙ e in none o is ((bytes_eq-Decides bytes (codes "none")).0 t))
+      | inr g ↦ (let (x, first, is) = map-some (f bytes) (λ x. Some x) o (sym (ap (λ b. cond b (Some None) (option_map (λ x. Some x) (f bytes))) g) ∙ e) in subst (λ o. MatchOption o (bytes ≡ codes "none") (λ x. f bytes ≡ Some x)) is first)
+    ]
+  where
+    none : (o : Option A) → Some None ≡ Some o → bytes ≡ codes "none" → MatchOption o (bytes ≡ codes "none") (λ x. f bytes ≡ Some x)
+    none None is t = t
+    none (Some x) is t = absurd cc
+
+pub some_again : {A : Type 0} (f : List ℕ → Option A) (bytes : List ℕ) (x : A) → bytes_eq bytes (codes "none") ≡ false → f bytes ≡ Some x → none_or f bytes ≡ Some (Some x)
+some_again f bytes x other e = ap (λ b. cond b (Some None) (option_map (λ x. Some x) (f bytes))) other ∙ ap (option_map (λ x. Some x)) e
+
+-- a digit begins no word none
+pub not_none : (v : ℕ) → v < 2 ^ 128 → bytes_eq (grains_text v 12) (codes "none") ≡ false
+not_none v small =
+    let (c, rest, is, range) = grains_first v small in
+    let differs : (c == 110) ≡ false = ne_eqb c 110 (λ e. absurd (omega arith)) in
+    ap (λ bs. bytes_eq bs (codes "none")) is ∙ ap (λ b. b && bytes_eq rest (111 ∷ 110 ∷ 101 ∷ [])) differs
+
+-- the cost that the status allows
+pub record IsCost (status : PlanStatus) (cost : Option ℕ) : Type 0 where
+  pub allowed : cost_allowed status cost ≡ true
+  pub small : IfSome cost (λ c. c < 2 ^ 128)
+
+pub cost_takes : (status : PlanStatus) (body : List ℕ) (cost : Option ℕ) → cost_of status body ≡ Some cost → IsCost status cost × (body ≡ cost_line cost)
+unfolding cost_of
+cost_takes status body cost e =
+    let (found, before, test) = then-some (behind (codes "COST ") body >>= none_or grains_of) (λ cost. only_if (cost_allowed status cost) cost) cost e in
+    let (rest, first, later) = then-some (behind (codes "COST ") body) (none_or grains_of) found before in
+    let (allowed, is) = cond_some (cost_allowed status found) found cost test in
+    let line : body ≡ codes "COST " ++ rest = behind_takes (codes "COST ") body rest first in
+    by cost rest (subst (λ c. cost_allowed status c ≡ true) is allowed) (none_takes grains_of rest cost (later ∙ ap (λ c. Some c) is)) line
+  where
+    by : (cost : Option ℕ) (rest : List ℕ) → cost_allowed status cost ≡ true → MatchOption cost (rest ≡ codes "none") (λ c. grains_of rest ≡ Some c) → body ≡ codes "COST " ++ rest → IsCost status cost × (body ≡ cost_line cost)
+    by None rest allowed m line = (record { allowed = allowed; small = tt }, line ∙ ap (λ bs. codes "COST " ++ bs) m)
+    by (Some c) rest allowed m line = (let g = grains_takes rest c m in (record { allowed = allowed; small = g.0 }, line ∙ ap (λ bs. codes "COST " ++ bs) g.1))
+
+pub cost_again : (status : PlanStatus) (cost : Option ℕ) → IsCost status cost → cost_of status (cost_line cost) ≡ Some cost
+unfolding cost_of behind
+cost_again status None c = only_true (cost_allowed status None) None c.allowed
+cost_again status (Some cost) c =
+    ap (λ o. o >>= none_or grains_of >>= λ cost. only_if (cost_allowed status cost) cost) (behind_found (codes "COST ") (grains_text cost 12))
+    ∙ ap (λ o. o >>= λ cost. only_if (cost_allowed status cost) cost) (some_again grains_of (grains_text cost 12) cost (not_none cost c.small) (grains_found (grains_text cost 12) cost c.small refl))
+    ∙ only_true (cost_allowed status (Some cost)) (Some cost) c.allowed
+
+pub signed_takes : (bytes : List ℕ) (b : ℤ) → signed_of bytes ≡ Some b → IsBoundField b × (bytes ≡ signed_text b)
+unfolding signed_of
+signed_takes bytes b e =
+    elim (chosen (behind (codes "-") bytes) (λ rest. grains_of rest >>= negative) (grains_of bytes >>= positive) b e) [
+      | inl (rest, first, later) ↦ (let (n, grains, sign) = then-some (grains_of rest) negative b later in below n rest (behind_takes (codes "-") bytes rest first) (grains_takes rest n grains).1 sign)
+      | inr other ↦ (let (n, grains, sign) = then-some (grains_of bytes) positive b other in above n (grains_takes bytes n grains).1 sign)
+    ]
+  where
+    below : (n : ℕ) (rest : List ℕ) → bytes ≡ codes "-" ++ rest → rest ≡ grains_text n 12 → negative n ≡ Some b → IsBoundField b × (bytes ≡ signed_text b)
+    below zero rest line text sign = absurd cc
+    below (suc n) rest line text sign =
+        let (test, is) = cond_some (nat_lt n (2 ^ 127)) (negsuc n) b sign in
+        subst (λ b. IsBoundField b × (bytes ≡ signed_text b)) is (ltb-true n (2 ^ 127) test, line ∙ ap (λ bs. 45 ∷ bs) text)
+
+    above : (n : ℕ) → bytes ≡ grains_text n 12 → positive n ≡ Some b → IsBoundField b × (bytes ≡ signed_text b)
+    above n text sign =
+        let (test, is) = cond_some (nat_lt n (2 ^ 127)) (pos n) b sign in
+        subst (λ b. IsBoundField b × (bytes ≡ signed_text b)) is (ltb-true n (2 ^ 127) test, text)
+
+no-minus : (v : ℕ) → v < 2 ^ 128 → behind (codes "-") (grains_text v 12) ≡ None
+unfolding behind
+no-minus v small =
+    let (c, rest, is, range) = grains_first v small in
+    let differs : (c == 45) ≡ false = ne_eqb c 45 (λ e. absurd (omega arith)) in
+    ap (behind (codes "-")) is ∙ ap (λ b. cond b (Some rest) None) differs
+
+pub signed_again : (b : ℤ) → IsBoundField b → signed_of (signed_text b) ≡ Some b
+unfolding signed_of behind
+signed_again (pos n) small =
+    ap (λ o. choose o (λ rest. grains_of rest >>= negative) (grains_of (grains_text n 12) >>= positive)) (no-minus n (omega arith))
+    ∙ ap (λ o. o >>= positive) (grains_found (grains_text n 12) n (omega arith) refl)
+    ∙ only_true (nat_lt n (2 ^ 127)) (pos n) (lt-ltb n (2 ^ 127) small)
+signed_again (negsuc n) small =
+    ap (λ o. o >>= negative) (grains_found (grains_text (suc n) 12) (suc n) (omega arith) refl)
+    ∙ only_true (nat_lt n (2 ^ 127)) (negsuc n) (lt-ltb n (2 ^ 127) small)
+
+pub bound_takes : (body : List ℕ) (b : Option ℤ) → bound_of body ≡ Some b → IfSome b IsBoundField × (body ≡ bound_line b)
+unfolding bound_of
+bound_takes body b e =
+    let (rest, first, later) = then-some (behind (codes "BOUND ") body) (none_or signed_of) b e in
+    by b rest (none_takes signed_of rest b later) (behind_takes (codes "BOUND ") body rest first)
+  where
+    by : (b : Option ℤ) (rest : List ℕ) → MatchOption b (rest ≡ codes "none") (λ x. signed_of rest ≡ Some x) → body ≡ codes "BOUND " ++ rest → IfSome b IsBoundField × (body ≡ bound_line b)
+    by None rest m line = (tt, line ∙ ap (λ bs. codes "BOUND " ++ bs) m)
+    by (Some x) rest m line = (let g = signed_takes rest x m in (g.0, line ∙ ap (λ bs. codes "BOUND " ++ bs) g.1))
+
+signed-not-none : (b : ℤ) → IsBoundField b → bytes_eq (signed_text b) (codes "none") ≡ false
+signed-not-none (pos n) small = not_none n (omega arith)
+signed-not-none (negsuc n) small = refl
+
+pub bound_again : (b : Option ℤ) → IfSome b IsBoundField → bound_of (bound_line b) ≡ Some b
+unfolding bound_of behind
+bound_again None h = refl
+bound_again (Some b) h =
+    ap (λ o. o >>= none_or signed_of) (behind_found (codes "BOUND ") (signed_text b))
+    ∙ some_again signed_of (signed_text b) b (signed-not-none b h) (signed_again b h)
+
+-- ---- paths and counts
+
+pub uncounted_takes : (most : ℕ) (ns ms : List ℕ) → uncounted most ns ≡ Some ms → (length ms ≤ most) × (ns ≡ counted ms)
+uncounted_takes most [] ms e = absurd cc
+uncounted_takes most (m ∷ ns) ms e =
+    let (test, is) = cond_some (m == length ns && nat_le m most) ns ms e in
+    let both = and_parts (m == length ns) (nat_le m most) test in
+    let same : m ≡ length ns = eqb-true m (length ns) both.0 in
+    (subst (λ xs. length xs ≤ most) is (subst (λ k. k ≤ most) same (leb-true m most both.1)), ap (λ k. k ∷ ns) same ∙ ap counted is)
+
+pub uncounted_again : (most : ℕ) (ms : List ℕ) → length ms ≤ most → uncounted most (counted ms) ≡ Some ms
+uncounted_again most ms few = only_true (length ms == length ms && nat_le (length ms) most) ms (and_from (length ms == length ms) (nat_le (length ms) most) (eq-eqb (length ms) (length ms) refl) (le-leb (length ms) most few))
+
+pub arc_takes : (n : ℕ) (a : ArcId) → arc_of n ≡ Some a → (a.0 < 2 ^ 32) × (n ≡ a.0)
+arc_takes n a e =
+    let (test, is) = cond_some (nat_lt n (2 ^ 32)) (numbered_arc n) a e in
+    let same : n ≡ a.0 = ap (λ (x : ArcId). x.0) is in
+    (subst (λ k. k < 2 ^ 32) same (ltb-true n (2 ^ 32) test), same)
+
+pub arc_again : (a : ArcId) → a.0 < 2 ^ 32 → arc_of a.0 ≡ Some a
+arc_again a small = only_true (nat_lt a.0 (2 ^ 32)) a (lt-ltb a.0 (2 ^ 32) small)
+
+count-takes : (n c : ℕ) → count_of n ≡ Some c → (c < 2 ^ 64) × (n ≡ c)
+count-takes n c e =
+    let (test, same) = cond_some (nat_lt n (2 ^ 64)) n c e in
+    (subst (λ k. k < 2 ^ 64) same (ltb-true n (2 ^ 64) test), same)
+
+count-again : (c : ℕ) → c < 2 ^ 64 → count_of c ≡ Some c
+count-again c small = only_true (nat_lt c (2 ^ 64)) c (lt-ltb c (2 ^ 64) small)
+
+map-same : (ns : List ℕ) → map (λ n. n) ns ≡ ns
+map-same [] = refl
+map-same (n ∷ ns) = ap (λ ms. n ∷ ms) (map-same ns)
+
+pub arcs_small : (arcs : List ArcId) → AreArcs arcs → AreSmall (arc_numbers arcs)
+arcs_small [] h = tt
+arcs_small (a ∷ arcs) h = (omega (arith, h.0), arcs_small arcs h.1)
+
+pub counts_small : (counts : List ℕ) → AllByRecursion (λ c. c < 2 ^ 64) counts → AreSmall counts
+counts_small [] h = tt
+counts_small (c ∷ counts) h = (omega (arith, h.0), counts_small counts h.1)
+
+pub path_takes : (body : List ℕ) (arcs : List ArcId) → path_of body ≡ Some arcs → (length arcs ≤ MAX_PATH_ARCS) × AreArcs arcs × (body ≡ path_line arcs)
+unfolding path_of
+path_takes body arcs e =
+    let (ms, before, last) = then-some (row_of (codes "PATH") body >>= uncounted MAX_PATH_ARCS) (each arc_of) arcs e in
+    let (ns, first, middle) = then-some (row_of (codes "PATH") body) (uncounted MAX_PATH_ARCS) ms before in
+    let few = uncounted_takes MAX_PATH_ARCS ns ms middle in
+    let each_arc = each_takes arc_of (λ (a : ArcId). a.0 < 2 ^ 32) (λ (a : ArcId). a.0) arc_takes ms arcs last in
+    (omega (arith, few.0, ap length each_arc.1, length-map arcs (λ (a : ArcId). a.0)), each_arc.0, (row_takes (codes "PATH") body ns first).1 ∙ ap (row (codes "PATH")) (few.1 ∙ ap counted each_arc.1))
+
+pub path_again : (arcs : List ArcId) → length arcs ≤ MAX_PATH_ARCS → AreArcs arcs → path_of (path_line arcs) ≡ Some arcs
+unfolding path_of
+path_again arcs few h =
+    let long : length (arc_numbers arcs) ≤ MAX_PATH_ARCS = omega (arith, few, length-map arcs (λ (a : ArcId). a.0)) in
+    ap (λ o. o >>= uncounted MAX_PATH_ARCS >>= each arc_of) (row_again (codes "PATH") (counted (arc_numbers arcs)) (omega (arith, long), arcs_small arcs h))
+    ∙ ap (λ o. o >>= each arc_of) (uncounted_again MAX_PATH_ARCS (arc_numbers arcs) long)
+    ∙ each_found arc_of (λ (a : ArcId). a.0 < 2 ^ 32) (λ (a : ArcId). a.0) arc_again arcs h
+
+pub modules_takes : (body counts : List ℕ) → modules_of body ≡ Some counts → (length counts ≤ MAX_MODULES) × AllByRecursion (λ c. c < 2 ^ 64) counts × (body ≡ modules_line counts)
+unfolding modules_of
+modules_takes body counts e =
+    let (ms, before, last) = then-some (row_of (codes "MODULES") body >>= uncounted MAX_MODULES) (each count_of) counts e in
+    let (ns, first, middle) = then-some (row_of (codes "MODULES") body) (uncounted MAX_MODULES) ms before in
+    let few = uncounted_takes MAX_MODULES ns ms middle in
+    let each_count = each_takes count_of (λ c. c < 2 ^ 64) (λ c. c) count-takes ms counts last in
+    let same : ms ≡ counts = each_count.1 ∙ map-same counts in
+    (subst (λ xs. length xs ≤ MAX_MODULES) same few.0, each_count.0, (row_takes (codes "MODULES") body ns first).1 ∙ ap (row (codes "MODULES")) (few.1 ∙ ap counted same))
+
+pub modules_again : (counts : List ℕ) → length counts ≤ MAX_MODULES → AllByRecursion (λ c. c < 2 ^ 64) counts → modules_of (modules_line counts) ≡ Some counts
+unfolding modules_of
+modules_again counts few h =
+    ap (λ o. o >>= uncounted MAX_MODULES >>= each count_of) (row_again (codes "MODULES") (counted counts) (omega (arith, few), counts_small counts h))
+    ∙ ap (λ o. o >>= each count_of) (uncounted_again MAX_MODULES counts few)
+    ∙ ap (each count_of) (sym (map-same counts))
+    ∙ each_found count_of (λ c. c < 2 ^ 64) (λ c. c) count-again counts h

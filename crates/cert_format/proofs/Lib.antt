@@ -1,0 +1,15 @@
+pub mod Cutting
+pub mod NumberWords
+pub mod Digits
+pub mod Accepting
+pub mod Flags
+pub mod WrittenPieces
+pub mod BodyLaws
+pub mod RecordLaws
+pub mod ReadingLaws
+pub mod Lacking
+pub mod PlanLaws
+pub mod Tidy
+pub mod Places
+pub mod OneFault
+pub mod FieldsSoFar

@@ -1,0 +1,380 @@
+-- Each record is read exactly where it is written so.
+use Rattle.std.proofs.Common.{◌≡◌, ℕ, zero, suc, ◌+◌, ◌-◌, ◌^◌, ◌<◌, ◌≤◌, ◌==◌, ◌&&◌, ◌⊎◌, inl, inr, nat_lt, nat_le, Bool, true, false, cond, List, [], ◌∷◌, ◌++◌, length, take, drop, codes, Option, Some, None, refl, sym, ap, subst, ◌∙◌, length-append, arith}
+use Rattle.std.specs.Option.{option_map}
+use Rattle.std.proofs.lemmas.Bool.{ne_eqb, eqb-true, eq-eqb, and_parts, and_from, ltb-true, lt-ltb, leb-true, le-leb}
+use Rattle.std.proofs.lemmas.List.{length-map, take_at, drop_at, length-take-le, take-append-drop, append-nil}
+use Rattle.std.proofs.lemmas.Option.{cond_some}
+use Rattle.plan_base.specs.declared.ids.ArcId.{ArcId}
+use Rattle.plan_base.specs.declared.limits.TheConstants.{MAX_NODES}
+use Rattle.plan_base.specs.Paths.{arc_at}
+use Rattle.proof_tree.specs.declared.limits.TheConstants.{MAX_SIDE_ARCS}
+use Rattle.proof_tree.specs.declared.tree.Evidence.{Evidence}
+use Rattle.proof_tree.specs.declared.tree.Evidence.TheVariants.{Bound, Routed, Overfull, Cut, Crowd, Open}
+use Rattle.proof_tree.specs.declared.tree.TreeNode.{TreeNode}
+use Rattle.proof_tree.specs.declared.tree.TreeNode.TheVariants.{Split, Leaf}
+use Rattle.proof_tree.specs.Spellings.{IsAscending, IsWrittenSide, FitsEvidence, FitsRecord}
+use Rattle.cert_format.specs.Words.{◌>>=◌, numerals, row, behind, each, numbers_of}
+use Rattle.cert_format.specs.Grammar.{arc_numbers, counted, members, leaf_line, record_line, AreArcs, HasLeafFields, HasRecordFields}
+use Rattle.cert_format.specs.Bodies.{only_if, choose, fixed_of, one_in, arc_of, uncounted, ascends, side_arcs, with_rest, side_of, two_sides, right_side, behind_left, sides_of, split_with, split_in, cut_with, overfull_with, behind_number, flags_of, cut_in, overfull_in, prices_of, priced_of, leaf_of, record_of}
+use Rattle.cert_format.proofs.NumberWords.{then-some, map-some, behind_found, behind_takes, numbers_found, numbers_takes, each_takes, each_found, no-length}
+use Rattle.cert_format.proofs.BodyLaws.{AreSmall, only_true, chosen, fixed_takes, one_takes, one_again, uncounted_takes, uncounted_again, arc_takes, arc_again, arcs_small}
+
+pub when_some : {A : Type 0} (t : Bool) (o : Option A) (y : A) → cond t o None ≡ Some y → (t ≡ true) × (o ≡ Some y)
+when_some true o y e = (refl, e)
+when_some false o y e = absurd cc
+
+-- ---- ascending arcs
+
+ascends-at : (arcs : List ArcId) → ascends (arc_numbers arcs) ≡ true → (i : ℕ) → suc i < length arcs → (arc_at arcs i).0 < (arc_at arcs (suc i)).0
+unfolding ascends
+ascends-at [] e i lt = absurd (omega arith)
+ascends-at (a ∷ []) e i lt = absurd (omega arith)
+ascends-at (a ∷ b ∷ arcs) e zero lt = ltb-true a.0 b.0 (and_parts (nat_lt a.0 b.0) (ascends (b.0 ∷ arc_numbers arcs)) e).0
+ascends-at (a ∷ b ∷ arcs) e (suc i) lt = ascends-at (b ∷ arcs) (and_parts (nat_lt a.0 b.0) (ascends (b.0 ∷ arc_numbers arcs)) e).1 i (omega (arith, lt))
+
+ascends-from : (arcs : List ArcId) → ascends (arc_numbers arcs) ≡ true → IsAscending arcs
+ascends-from arcs e = ascends-at arcs e
+
+ascends-again : (arcs : List ArcId) → IsAscending arcs → ascends (arc_numbers arcs) ≡ true
+unfolding ascends
+ascends-again [] h = refl
+ascends-again (a ∷ []) h = refl
+ascends-again (a ∷ b ∷ arcs) h =
+    and_from (nat_lt a.0 b.0) (ascends (b.0 ∷ arc_numbers arcs)) (lt-ltb a.0 b.0 (h 0 (omega arith)))
+    (ascends-again (b ∷ arcs) (λ i lt. h (suc i) (omega (arith, lt))))
+
+-- ---- one side of a split
+
+pub record IsSide (arcs : List ArcId) (ns rest : List ℕ) : Type 0 where
+  pub side : IsWrittenSide arcs
+  pub fields : AreArcs arcs
+  pub numbers : ns ≡ counted (arc_numbers arcs) ++ rest
+
+pub side_takes : (ns : List ℕ) (x : List ArcId × List ℕ) → side_of ns ≡ Some x → IsSide x.0 ns x.1
+unfolding side_of
+side_takes [] x e = absurd cc
+side_takes (m ∷ ns) x e =
+    let (test, made) = when_some (nat_le m MAX_SIDE_ARCS && nat_le m (length ns)) (option_map (with_rest (drop m ns)) (side_arcs (take m ns))) x e in
+    let both = and_parts (nat_le m MAX_SIDE_ARCS) (nat_le m (length ns)) test in
+    let few : m ≤ MAX_SIDE_ARCS = leb-true m MAX_SIDE_ARCS both.0 in
+    let within : m ≤ length ns = leb-true m (length ns) both.1 in
+    let (arcs, found, is) = map-some (side_arcs (take m ns)) (with_rest (drop m ns)) x made in
+    let (rises, numbers) = when_some (ascends (take m ns)) (each arc_of (take m ns)) arcs found in
+    let all = each_takes arc_of (λ (a : ArcId). a.0 < 2 ^ 32) (λ (a : ArcId). a.0) arc_takes (take m ns) arcs numbers in
+    let long : length (arc_numbers arcs) ≡ m = ap length (sym all.1) ∙ length-take-le m ns within in
+    let count : length arcs ≡ m = sym (length-map arcs (λ (a : ArcId). a.0)) ∙ long in
+    subst (λ (y : List ArcId × List ℕ). IsSide y.0 (m ∷ ns) y.1) is (record {
+      side = record { few = omega (arith, count, few); ascending = ascends-from arcs (ap ascends (sym all.1) ∙ rises) };
+      fields = all.0;
+      numbers = ap (λ xs. m ∷ xs) (sym (take-append-drop m ns) ∙ ap (λ xs. xs ++ drop m ns) all.1) ∙ ap (λ k. k ∷ (arc_numbers arcs ++ drop m ns)) (sym long);
+    })
+
+pub side_again : (arcs : List ArcId) (rest : List ℕ) → IsWrittenSide arcs → AreArcs arcs → side_of (counted (arc_numbers arcs) ++ rest) ≡ Some (arcs, rest)
+unfolding side_of
+side_again arcs rest s h =
+    let ns : List ℕ = arc_numbers arcs in
+    let count : length ns ≡ length arcs = length-map arcs (λ (a : ArcId). a.0) in
+    let few : length ns ≤ MAX_SIDE_ARCS = omega (arith, count, s.few) in
+    let within : length ns ≤ length (ns ++ rest) = omega (arith, length-append ns rest) in
+    let test : (nat_le (length ns) MAX_SIDE_ARCS && nat_le (length ns) (length (ns ++ rest))) ≡ true =
+    and_from (nat_le (length ns) MAX_SIDE_ARCS) (nat_le (length ns) (length (ns ++ rest))) (le-leb (length ns) MAX_SIDE_ARCS few) (le-leb (length ns) (length (ns ++ rest)) within) in
+    ap (λ t. cond t (option_map (with_rest (drop (length ns) (ns ++ rest))) (side_arcs (take (length ns) (ns ++ rest)))) None) test
+    ∙ ap (λ xs. option_map (with_rest (drop (length ns) (ns ++ rest))) (side_arcs xs)) (take_at ns rest (length ns) refl)
+    ∙ ap (λ xs. option_map (with_rest xs) (side_arcs ns)) (drop_at ns rest (length ns) refl)
+    ∙ ap (λ t. option_map (with_rest rest) (cond t (each arc_of ns) None)) (ascends-again arcs s.ascending)
+    ∙ ap (option_map (with_rest rest)) (each_found arc_of (λ (a : ArcId). a.0 < 2 ^ 32) (λ (a : ArcId). a.0) arc_again arcs h)
+
+-- ---- a split
+
+pub record AreSides (left right : List ArcId) (ns : List ℕ) : Type 0 where
+  pub left_side : IsWrittenSide left
+  pub right_side : IsWrittenSide right
+  pub left_fields : AreArcs left
+  pub right_fields : AreArcs right
+  pub numbers : ns ≡ counted (arc_numbers left) ++ counted (arc_numbers right)
+
+sides-takes : (ns : List ℕ) (x : List ArcId × List ArcId) → sides_of ns ≡ Some x → AreSides x.0 x.1 ns
+unfolding sides_of
+sides-takes ns x e =
+    let (l, first, later) = then-some (side_of ns) behind_left x e in
+    let (r, second, test) = then-some (side_of l.1) (right_side l) x later in
+    let (none, is) = cond_some (length r.1 == 0) (two_sides l.0 r.0) x test in
+    let left = side_takes ns l first in
+    let right = side_takes l.1 r second in
+    let end : l.1 ≡ counted (arc_numbers r.0) = right.numbers ∙ ap (λ xs. counted (arc_numbers r.0) ++ xs) (no-length r.1 none) ∙ append-nil (counted (arc_numbers r.0)) in
+    subst (λ (y : List ArcId × List ArcId). AreSides y.0 y.1 ns) is (record {
+      left_side = left.side;
+      right_side = right.side;
+      left_fields = left.fields;
+      right_fields = right.fields;
+      numbers = left.numbers ∙ ap (λ xs. counted (arc_numbers l.0) ++ xs) end;
+    })
+
+sides-again : (left right : List ArcId) → IsWrittenSide left → IsWrittenSide right → AreArcs left → AreArcs right → sides_of (counted (arc_numbers left) ++ counted (arc_numbers right)) ≡ Some (left, right)
+unfolding sides_of
+sides-again left right l r lf rf =
+    ap (λ o. o >>= behind_left) (side_again left (counted (arc_numbers right)) l lf)
+    ∙ ap (λ xs. side_of xs >>= right_side (with_rest (counted (arc_numbers right)) left)) (sym (append-nil (counted (arc_numbers right))))
+    ∙ ap (λ o. o >>= right_side (with_rest (counted (arc_numbers right)) left)) (side_again right [] r rf)
+
+-- the line of a record
+pub record IsRecordLine (nodes links : ℕ) (node : TreeNode) (body : List ℕ) : Type 0 where
+  pub fits : FitsRecord nodes links node
+  pub fields : HasRecordFields node
+  pub line : body ≡ record_line node
+
+split-takes : (nodes links : ℕ) (ns : List ℕ) (node : TreeNode) → split_in ns ≡ Some node → (body : List ℕ) → body ≡ row (codes "SPLIT") ns → IsRecordLine nodes links node body
+unfolding split_in record_line
+split-takes nodes links [] node e body line = absurd cc
+split-takes nodes links (d ∷ []) node e body line = absurd cc
+split-takes nodes links (d ∷ v ∷ ns) node e body line =
+    let (test, made) = when_some (nat_lt d (2 ^ 32) && nat_lt v (2 ^ 32)) (option_map (split_with d v) (sides_of ns)) node e in
+    let both = and_parts (nat_lt d (2 ^ 32)) (nat_lt v (2 ^ 32)) test in
+    let (x, found, is) = map-some (sides_of ns) (split_with d v) node made in
+    let sides = sides-takes ns x found in
+    subst (λ (n : TreeNode). IsRecordLine nodes links n body) is (record {
+      fits = (sides.left_side, sides.right_side);
+      fields = (ltb-true d (2 ^ 32) both.0, ltb-true v (2 ^ 32) both.1, sides.left_fields, sides.right_fields);
+      line = line ∙ ap (λ xs. row (codes "SPLIT") (d ∷ v ∷ xs)) sides.numbers;
+    })
+
+-- ---- the nodes of a cut
+
+next-takes : (at : ℕ) (ns rest : List ℕ) → behind_number at ns ≡ Some rest → ns ≡ at ∷ rest
+unfolding behind_number
+next-takes at [] rest e = absurd cc
+next-takes at (n ∷ ns) rest e =
+    let (test, is) = cond_some (n == at) ns rest e in
+    ap (λ k. k ∷ ns) (eqb-true n at test) ∙ ap (λ xs. at ∷ xs) is
+
+pub flags_takes : (at left : ℕ) (ns : List ℕ) (fs : List Bool) → flags_of at left ns ≡ Some fs → (length fs ≡ left) × (ns ≡ members at fs)
+unfolding flags_of members
+flags_takes at zero ns fs e =
+    let (none, is) = cond_some (length ns == 0) [] fs e in
+    (ap length (sym is), no-length ns none ∙ ap (members at) is)
+flags_takes at (suc left) ns fs e =
+    elim (chosen (behind_number at ns) (λ rest. option_map (λ flags. true ∷ flags) (flags_of (suc at) left rest)) (option_map (λ flags. false ∷ flags) (flags_of (suc at) left ns)) fs e) [
+      | inl (rest, first, later) ↦
+          (let (more, found, is) = map-some (flags_of (suc at) left rest) (λ flags. true ∷ flags) fs later in
+          let h = flags_takes (suc at) left rest more found in
+          (ap length (sym is) ∙ ap (λ k. suc k) h.0, next-takes at ns rest first ∙ ap (λ xs. at ∷ xs) h.1 ∙ ap (members at) is))
+      | inr other ↦
+          (let (more, found, is) = map-some (flags_of (suc at) left ns) (λ flags. false ∷ flags) fs other in
+          let h = flags_takes (suc at) left ns more found in
+          (ap length (sym is) ∙ ap (λ k. suc k) h.0, h.1 ∙ ap (members at) is))
+    ]
+
+later-none : (at b : ℕ) (fs : List Bool) → at < b → behind_number at (members b fs) ≡ None
+unfolding behind_number members
+later-none at b [] lt = refl
+later-none at b (true ∷ fs) lt = ap (λ t. only_if t (members (suc b) fs)) (ne_eqb b at (λ e. absurd (omega arith)))
+later-none at b (false ∷ fs) lt = later-none at (suc b) fs (omega arith)
+
+next-again : (at : ℕ) (rest : List ℕ) → behind_number at (at ∷ rest) ≡ Some rest
+unfolding behind_number
+next-again at rest = only_true (at == at) rest (eq-eqb at at refl)
+
+pub flags_again : (at : ℕ) (fs : List Bool) → flags_of at (length fs) (members at fs) ≡ Some fs
+unfolding flags_of members
+flags_again at [] = refl
+flags_again at (true ∷ fs) =
+    ap (λ o. choose o (λ rest. option_map (λ flags. true ∷ flags) (flags_of (suc at) (length fs) rest)) (option_map (λ flags. false ∷ flags) (flags_of (suc at) (length fs) (at ∷ members (suc at) fs)))) (next-again at (members (suc at) fs))
+    ∙ ap (option_map (λ flags. true ∷ flags)) (flags_again (suc at) fs)
+flags_again at (false ∷ fs) =
+    ap (λ o. choose o (λ rest. option_map (λ flags. true ∷ flags) (flags_of (suc at) (length fs) rest)) (option_map (λ flags. false ∷ flags) (flags_of (suc at) (length fs) (members (suc at) fs)))) (later-none at (suc at) fs (omega arith))
+    ∙ ap (option_map (λ flags. false ∷ flags)) (flags_again (suc at) fs)
+
+members-few : (at : ℕ) (fs : List Bool) → length (members at fs) ≤ length fs
+unfolding members
+members-few at [] = omega arith
+members-few at (true ∷ fs) = omega (arith, members-few (suc at) fs)
+members-few at (false ∷ fs) = omega (arith, members-few (suc at) fs)
+
+members-small : (at most : ℕ) (fs : List Bool) → at + length fs ≤ most → most ≤ 2 ^ 128 → AreSmall (members at fs)
+unfolding members
+members-small at most [] within small = tt
+members-small at most (true ∷ fs) within small = (omega arith, members-small (suc at) most fs (omega arith) small)
+members-small at most (false ∷ fs) within small = members-small (suc at) most fs (omega arith) small
+
+-- ---- leaves
+
+-- the line of a leaf
+pub record IsLeafLine (nodes links : ℕ) (e : Evidence) (body : List ℕ) : Type 0 where
+  pub fits : FitsEvidence nodes links e
+  pub fields : HasLeafFields e
+  pub line : body ≡ leaf_line e
+
+cut-takes : (nodes links : ℕ) (ns : List ℕ) (e : Evidence) → cut_in nodes ns ≡ Some e → (body : List ℕ) → body ≡ row (codes "CUT") ns → IsLeafLine nodes links e body
+unfolding cut_in leaf_line
+cut-takes nodes links [] e h body line = absurd cc
+cut-takes nodes links (d ∷ ns) e h body line =
+    let (test, made) = when_some (nat_lt d (2 ^ 32)) (option_map (cut_with d) (uncounted nodes ns >>= flags_of 0 nodes)) e h in
+    let (fs, found, is) = map-some (uncounted nodes ns >>= flags_of 0 nodes) (cut_with d) e made in
+    let (ms, first, later) = then-some (uncounted nodes ns) (flags_of 0 nodes) fs found in
+    let count = uncounted_takes nodes ns ms first in
+    let flags = flags_takes 0 nodes ms fs later in
+    subst (λ (x : Evidence). IsLeafLine nodes links x body) is (record {
+      fits = flags.0;
+      fields = ltb-true d (2 ^ 32) test;
+      line = line ∙ ap (λ xs. row (codes "CUT") (d ∷ xs)) (count.1 ∙ ap counted flags.1);
+    })
+
+overfull-takes : (nodes links : ℕ) (ns : List ℕ) (e : Evidence) → overfull_in ns ≡ Some e → (body : List ℕ) → body ≡ row (codes "OVERFULL") ns → IsLeafLine nodes links e body
+unfolding overfull_in leaf_line
+overfull-takes nodes links ns e h body line =
+    let (n, found, is) = map-some (one_in 0 (2 ^ 32 - 1) ns) overfull_with e h in
+    let one = one_takes 0 (2 ^ 32 - 1) ns n found in
+    subst (λ (x : Evidence). IsLeafLine nodes links x body) is (record {
+      fits = tt;
+      fields = omega (arith, one.1);
+      line = line ∙ ap (row (codes "OVERFULL")) one.2;
+    })
+
+record ArePrices (links : ℕ) (word ps body : List ℕ) : Type 0 where
+  count : length ps ≡ links
+  small : AreSmall ps
+  line : body ≡ row word ps
+
+priced-one : (links : ℕ) (word : List ℕ) (make : List ℕ → Evidence) (body : List ℕ) (e : Evidence) (other : Option Evidence)
+    → choose (behind word body) (λ rest. option_map make (prices_of links rest)) other ≡ Some e → ((ps : List ℕ) × (make ps ≡ e) × ArePrices links word ps body) ⊎ (other ≡ Some e)
+unfolding prices_of
+priced-one links word make body e other h =
+    elim (chosen (behind word body) (λ rest. option_map make (prices_of links rest)) other e h) [
+      | inr more ↦ inr more
+      | inl (rest, first, later) ↦
+          (let (ps, found, is) = map-some (prices_of links rest) make e later in
+          let (ns, numbers, test) = then-some (numbers_of rest) (λ ns. only_if (length ns == links) ns) ps found in
+          let (count, same) = cond_some (length ns == links) ns ps test in
+          let all = numbers_takes rest ns numbers in
+          inl (
+            ps,
+            is,
+            record {
+              count = subst (λ xs. length xs ≡ links) same (eqb-true (length ns) links count);
+              small = subst AreSmall same all.0;
+              line = behind_takes word body rest first ∙ ap (λ bs. word ++ bs) (all.1 ∙ ap numerals same);
+            },
+          ))
+    ]
+
+priced-takes : (nodes links : ℕ) (body : List ℕ) (e : Evidence) → priced_of links body ≡ Some e → IsLeafLine nodes links e body
+unfolding priced_of leaf_line
+priced-takes nodes links body e h =
+    elim (priced-one links (codes "PRICED") (λ prices. Bound prices) body e (choose (behind (codes "CROWD") body) (λ rest. option_map (λ prices. Crowd prices) (prices_of links rest)) (choose (behind (codes "OPEN") body) (λ rest. option_map (λ prices. Open prices) (prices_of links rest)) None)) h) [
+      | inl (ps, is, p) ↦ subst (λ (x : Evidence). IsLeafLine nodes links x body) is (record { fits = p.count; fields = p.small; line = p.line })
+      | inr more ↦ elim (priced-one links (codes "CROWD") (λ prices. Crowd prices) body e (choose (behind (codes "OPEN") body) (λ rest. option_map (λ prices. Open prices) (prices_of links rest)) None) more) [
+        | inl (ps, is, p) ↦ subst (λ (x : Evidence). IsLeafLine nodes links x body) is (record { fits = p.count; fields = p.small; line = p.line })
+        | inr last ↦ elim (priced-one links (codes "OPEN") (λ prices. Open prices) body e None last) [
+          | inl (ps, is, p) ↦ subst (λ (x : Evidence). IsLeafLine nodes links x body) is (record { fits = p.count; fields = p.small; line = p.line })
+          | inr none ↦ absurd cc
+        ]
+      ]
+    ]
+
+routed-takes : (nodes links : ℕ) (body : List ℕ) (e : Evidence) → body ≡ codes "ROUTED" → Some Routed ≡ Some e → IsLeafLine nodes links e body
+unfolding leaf_line
+routed-takes nodes links body e line same =
+    let is : Routed ≡ e = cc in
+    subst (λ (x : Evidence). IsLeafLine nodes links x body) is (record { fits = tt; fields = tt; line = line })
+
+abbrev from_cut : ℕ → ℕ → List ℕ → Option Evidence
+from_cut nodes links body = choose (behind (codes "CUT") body) (λ rest. numbers_of rest >>= cut_in nodes) (priced_of links body)
+
+abbrev from_overfull : ℕ → ℕ → List ℕ → Option Evidence
+from_overfull nodes links body = choose (behind (codes "OVERFULL") body) (λ rest. numbers_of rest >>= overfull_in) (from_cut nodes links body)
+
+pub leaf_takes : (nodes links : ℕ) (body : List ℕ) (e : Evidence) → leaf_of nodes links body ≡ Some e → IsLeafLine nodes links e body
+unfolding leaf_of
+leaf_takes nodes links body e h =
+    elim (chosen (fixed_of (codes "ROUTED") body) (λ _. Some Routed) (from_overfull nodes links body) e h) [
+      | inl (x, first, later) ↦ routed-takes nodes links body e (fixed_takes (codes "ROUTED") body x first) later
+      | inr more ↦ elim (chosen (behind (codes "OVERFULL") body) (λ rest. numbers_of rest >>= overfull_in) (from_cut nodes links body) e more) [
+        | inl (rest, first, later) ↦
+            (let (ns, numbers, found) = then-some (numbers_of rest) overfull_in e later in
+            overfull-takes nodes links ns e found body (behind_takes (codes "OVERFULL") body rest first ∙ ap (λ bs. codes "OVERFULL" ++ bs) (numbers_takes rest ns numbers).1))
+        | inr other ↦ elim (chosen (behind (codes "CUT") body) (λ rest. numbers_of rest >>= cut_in nodes) (priced_of links body) e other) [
+          | inl (rest, first, later) ↦
+              (let (ns, numbers, found) = then-some (numbers_of rest) (cut_in nodes) e later in
+              cut-takes nodes links ns e found body (behind_takes (codes "CUT") body rest first ∙ ap (λ bs. codes "CUT" ++ bs) (numbers_takes rest ns numbers).1))
+          | inr last ↦ priced-takes nodes links body e last
+        ]
+      ]
+    ]
+
+pub record_takes : (nodes links : ℕ) (body : List ℕ) (node : TreeNode) → record_of nodes links body ≡ Some node → IsRecordLine nodes links node body
+unfolding record_of record_line
+record_takes nodes links body node h =
+    elim (chosen (behind (codes "SPLIT") body) (λ rest. numbers_of rest >>= split_in) (option_map (λ evidence. Leaf evidence) (leaf_of nodes links body)) node h) [
+      | inl (rest, first, later) ↦
+          (let (ns, numbers, found) = then-some (numbers_of rest) split_in node later in
+          split-takes nodes links ns node found body (behind_takes (codes "SPLIT") body rest first ∙ ap (λ bs. codes "SPLIT" ++ bs) (numbers_takes rest ns numbers).1))
+      | inr more ↦
+          (let (e, found, is) = map-some (leaf_of nodes links body) (λ (evidence : Evidence). Leaf evidence) node more in
+          let l = leaf_takes nodes links body e found in
+          subst (λ (n : TreeNode). IsRecordLine nodes links n body) is (record { fits = l.fits; fields = l.fields; line = l.line }))
+    ]
+
+-- ---- written records are read again
+
+prices-again : (links : ℕ) (ps : List ℕ) → length ps ≡ links → AreSmall ps → prices_of links (numerals ps) ≡ Some ps
+unfolding prices_of
+prices-again links ps count small = ap (λ o. o >>= λ ns. only_if (length ns == links) ns) (numbers_found ps small) ∙ only_true (length ps == links) ps (eq-eqb (length ps) links count)
+
+overfull-again : (n : ℕ) → n < 2 ^ 32 → (numbers_of (numerals (n ∷ [])) >>= overfull_in) ≡ Some (overfull_with n)
+unfolding overfull_in
+overfull-again n small = ap (λ o. o >>= overfull_in) (numbers_found (n ∷ []) (omega arith, tt)) ∙ ap (option_map overfull_with) (one_again 0 (2 ^ 32 - 1) n (omega arith) (omega arith))
+
+pub cut_small : (nodes d : ℕ) (fs : List Bool) → nodes ≤ MAX_NODES → d < 2 ^ 32 → length fs ≡ nodes → AreSmall (d ∷ counted (members 0 fs))
+cut_small nodes d fs small fits long =
+    let few : length (members 0 fs) ≤ nodes = omega (arith, members-few 0 fs, long) in
+    (omega (arith, fits), (omega (arith, few, small), members-small 0 nodes fs (omega (arith, long)) (omega (arith, small))))
+
+cut-again : (nodes d : ℕ) (fs : List Bool) → nodes ≤ MAX_NODES → d < 2 ^ 32 → length fs ≡ nodes → (numbers_of (numerals (d ∷ counted (members 0 fs))) >>= cut_in nodes) ≡ Some (cut_with d fs)
+unfolding cut_in
+cut-again nodes d fs small fits long =
+    let few : length (members 0 fs) ≤ nodes = omega (arith, members-few 0 fs, long) in
+    let below : AreSmall (d ∷ counted (members 0 fs)) = cut_small nodes d fs small fits long in
+    ap (λ o. o >>= cut_in nodes) (numbers_found (d ∷ counted (members 0 fs)) below)
+    ∙ ap (λ t. cond t (option_map (cut_with d) (uncounted nodes (counted (members 0 fs)) >>= flags_of 0 nodes)) None) (lt-ltb d (2 ^ 32) fits)
+    ∙ ap (λ o. option_map (cut_with d) (o >>= flags_of 0 nodes)) (uncounted_again nodes (members 0 fs) few)
+    ∙ ap (λ k. option_map (cut_with d) (flags_of 0 k (members 0 fs))) (sym long)
+    ∙ ap (option_map (cut_with d)) (flags_again 0 fs)
+
+pub leaf_again : (nodes links : ℕ) (e : Evidence) → nodes ≤ MAX_NODES → FitsEvidence nodes links e → HasLeafFields e → leaf_of nodes links (leaf_line e) ≡ Some e
+unfolding leaf_of priced_of fixed_of behind leaf_line
+leaf_again nodes links (Bound ps) small fits fields = ap (option_map (λ prices. Bound prices)) (prices-again links ps fits fields)
+leaf_again nodes links Routed small fits fields = refl
+leaf_again nodes links (Overfull link) small fits fields = overfull-again link.0 fields
+leaf_again nodes links (Cut demand reached) small fits fields = cut-again nodes demand.0 reached small fields fits
+leaf_again nodes links (Crowd ps) small fits fields = ap (option_map (λ prices. Crowd prices)) (prices-again links ps fits fields)
+leaf_again nodes links (Open ps) small fits fields = ap (option_map (λ prices. Open prices)) (prices-again links ps fits fields)
+
+-- a leaf's line is no split's
+no-split : (e : Evidence) → behind (codes "SPLIT") (leaf_line e) ≡ None
+unfolding behind leaf_line
+no-split (Bound ps) = refl
+no-split Routed = refl
+no-split (Overfull link) = refl
+no-split (Cut demand reached) = refl
+no-split (Crowd ps) = refl
+no-split (Open ps) = refl
+
+pub small_append : (xs ys : List ℕ) → AreSmall xs → AreSmall ys → AreSmall (xs ++ ys)
+small_append [] ys h k = k
+small_append (x ∷ xs) ys h k = (h.0, small_append xs ys h.1 k)
+
+pub side_small : (arcs : List ArcId) → IsWrittenSide arcs → AreArcs arcs → AreSmall (counted (arc_numbers arcs))
+side_small arcs s h = (omega (arith, s.few, length-map arcs (λ (a : ArcId). a.0)), arcs_small arcs h)
+
+pub record_again : (nodes links : ℕ) (node : TreeNode) → nodes ≤ MAX_NODES → FitsRecord nodes links node → HasRecordFields node → record_of nodes links (record_line node) ≡ Some node
+unfolding record_of record_line split_in
+record_again nodes links (Split demand at left right) small fits fields =
+    let ns : List ℕ = demand.0 ∷ at.0 ∷ (counted (arc_numbers left) ++ counted (arc_numbers right)) in
+    let below : AreSmall ns = (omega (arith, fields.0), (omega (arith, fields.1), small_append (counted (arc_numbers left)) (counted (arc_numbers right)) (side_small left fits.0 fields.2) (side_small right fits.1 fields.3))) in
+    ap (λ o. choose o (λ rest. numbers_of rest >>= split_in) (option_map (λ (evidence : Evidence). Leaf evidence) (leaf_of nodes links (row (codes "SPLIT") ns)))) (behind_found (codes "SPLIT") (numerals ns))
+    ∙ ap (λ o. o >>= split_in) (numbers_found ns below)
+    ∙ ap (λ t. cond t (option_map (split_with demand.0 at.0) (sides_of (counted (arc_numbers left) ++ counted (arc_numbers right)))) None) (and_from (nat_lt demand.0 (2 ^ 32)) (nat_lt at.0 (2 ^ 32)) (lt-ltb demand.0 (2 ^ 32) fields.0) (lt-ltb at.0 (2 ^ 32) fields.1))
+    ∙ ap (option_map (split_with demand.0 at.0)) (sides-again left right fits.0 fits.1 fields.2 fields.3)
+record_again nodes links (Leaf e) small fits fields =
+    ap (λ o. choose o (λ rest. numbers_of rest >>= split_in) (option_map (λ (evidence : Evidence). Leaf evidence) (leaf_of nodes links (leaf_line e)))) (no-split e)
+    ∙ ap (option_map (λ (evidence : Evidence). Leaf evidence)) (leaf_again nodes links e small fits fields)

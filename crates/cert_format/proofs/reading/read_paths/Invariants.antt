@@ -1,0 +1,12 @@
+use Rattle.std.proofs.Common.{◌≡◌}
+use Rattle.cert_format.specs.Lines.{lines_of}
+use Rattle.cert_format.specs.Bodies.{path_of}
+use Rattle.cert_format.specs.Reading.{many}
+use Rattle.cert_format.proofs.Accepting.{in_front}
+use Rattle.cert_format.proofs.reading.read_paths.Given as goal
+
+abbrev pub invariant-loop-left : goal.invariant-loop-left
+invariant-loop-left l = in_front l.paths.items (many l.left path_of (lines_of l.rest)) ≡ many l.demands path_of (lines_of l.text)
+
+abbrev pub decreases-loop-left : goal.decreases-loop-left
+decreases-loop-left l = l.left

@@ -1,0 +1,118 @@
+-- What the answers of the code say of what is read. No public clause cites this module.
+use Rattle.std.specs.Str.Parse.{AllDigits, digits_value}
+use Rattle.std.specs.Prelude.{◌≡◌, ◌≤◌, ◌+◌, ◌-◌, ◌*◌, ◌^◌, ℕ, List, [], ◌∷◌, ◌++◌, length, Result, Ok, Err, Option, Vec}
+use Rattle.std.specs.Borrow.{Bor}
+use Rattle.std.specs.Option.{option_map}
+use Rattle.plan_base.specs.declared.ids.ArcId.{ArcId}
+use Rattle.proof_tree.specs.declared.tree.TreeNode.{TreeNode}
+use Rattle.proof_tree.specs.declared.plan.Plan.{Plan}
+use Rattle.cert_format.specs.declared.fault.PlanFault.{PlanFault}
+use Rattle.cert_format.specs.declared.fault.PlanFault.TheVariants as faults
+use Rattle.cert_format.specs.declared.reading.Draft.{Draft}
+use Rattle.cert_format.specs.declared.stop.Stop.{Stop}
+use Rattle.cert_format.specs.declared.stop.Stop.TheVariants.{Memory, At}
+use Rattle.cert_format.specs.Lines.{Line, whole, unfinished, lines_of}
+use Rattle.cert_format.specs.Reading.{plan_with}
+
+-- reading stops at these bytes, of which so many are left
+pub record StopsAt {Y : Type 0} (left : ℕ) (read : Result Y (List Line)) : Type 0 where
+  pub bytes : List ℕ
+  pub stops : read ≡ Err (lines_of bytes)
+  pub count : left ≡ length bytes
+
+-- reading stops there, where memory did not run out
+abbrev pub Stops : {Y : Type 0} → Stop → Result Y (List Line) → Type 0
+Stops Memory read = Unit {0}
+Stops (At left) read = StopsAt left read
+
+-- the answer is what is read, or where reading stops
+abbrev pub Reads : {X Y : Type 0} → (X → Y) → Result X Stop → Result Y (List Line) → Type 0
+Reads view (Ok x) read = read ≡ Ok (view x)
+Reads view (Err e) read = Stops e read
+
+-- the fault is the one that is read, where memory did not run out
+abbrev pub Fails : PlanFault → Result Plan PlanFault → Type 0
+Fails faults.OutOfMemory read = Unit {0}
+Fails (faults.Line at) read = read ≡ Err (faults.Line at)
+Fails (faults.Ended at) read = read ≡ Err (faults.Ended at)
+
+-- the answer is what is read, or memory ran out
+abbrev pub Gives : Result Plan PlanFault → Result Plan PlanFault → Type 0
+Gives (Ok plan) read = read ≡ Ok plan
+Gives (Err e) read = Fails e read
+
+-- ---- what is seen of values of the code
+
+-- what is found behind a reference
+abbrev pub found_now : {A : Type 0} → Option (Bor A) → Option A
+found_now found = option_map (λ x. x.now) found
+
+-- the items of a list that was found
+abbrev pub items_of : {A Z : Type 0} → Option (Vec A Z) → Option (List A)
+items_of found = option_map (λ v. v.items) found
+
+-- arcs that were found, and the numbers behind them
+abbrev pub side_view : {Z : Type 0} → Option (Vec ArcId Z × Bor (List ℕ)) → Option (List ArcId × List ℕ)
+side_view found = option_map (λ x. (x.0.items, x.1.now)) found
+
+-- arcs of two sides
+abbrev pub sides_view : {Z : Type 0} → Option (Vec ArcId Z × Vec ArcId Z) → Option (List ArcId × List ArcId)
+sides_view found = option_map (λ x. (x.0.items, x.1.items)) found
+
+-- a value, and the lines of the text behind it
+abbrev pub seen : {A : Type 0} → A × Bor (List ℕ) → A × List Line
+seen x = (x.0, lines_of x.1.now)
+
+-- items, and the lines of the text behind them
+abbrev pub seen_items : {A Z : Type 0} → Vec A Z × Bor (List ℕ) → List A × List Line
+seen_items x = (x.0.items, lines_of x.1.now)
+
+-- a stated count, records, and the lines of the text behind them
+abbrev pub seen_tree : {Z : Type 0} → ℕ × Vec TreeNode Z × Bor (List ℕ) → (ℕ × List TreeNode) × List Line
+seen_tree x = ((x.0, x.1.items), lines_of x.2.now)
+
+-- the stated count of records and the plan of a draft
+abbrev pub drafted : Draft → ℕ × Plan
+drafted d = (d.count, plan_with d.head d.design d.bound d.records.items)
+
+-- a draft, and the lines of the text behind it
+abbrev pub seen_draft : Draft × Bor (List ℕ) → (ℕ × Plan) × List Line
+seen_draft x = (drafted x.0, lines_of x.1.now)
+
+-- ---- cutting a text
+
+-- the byte does not stand among these
+abbrev pub Lacks : ℕ → List ℕ → Type 0
+Lacks at [] = Unit {0}
+Lacks at (byte ∷ bytes) = (byte ≡ at → ⊥) × Lacks at bytes
+
+-- the bytes are none, or begin with this one
+abbrev pub StartsWith : ℕ → List ℕ → Type 0
+StartsWith at [] = Unit {0}
+StartsWith at (byte ∷ bytes) = byte ≡ at
+
+-- the bytes, cut where this byte stands first
+pub record IsCutAt (at : ℕ) (bytes front rest : List ℕ) : Type 0 where
+  pub parts : bytes ≡ front ++ rest
+  pub none_before : Lacks at front
+  pub begins : StartsWith at rest
+
+-- no whole line stands first
+abbrev pub HasNoLine : List Line → Type 0
+HasNoLine [] = Unit {0}
+HasNoLine (whole body ∷ lines) = ⊥
+HasNoLine (unfinished bytes ∷ lines) = Unit {0}
+
+-- no whole line stands first, and reading stops at the first byte
+pub record IsNoLine (text : List ℕ) (e : Stop) : Type 0 where
+  pub left : ℕ
+  pub is : e ≡ At left
+  pub count : left ≡ length text
+  pub none : HasNoLine (lines_of text)
+
+-- digits before and behind a point that come to this value in units of 10^-12
+pub record IsScaledParts (value : ℕ) (whole_part fraction : List ℕ) : Type 0 where
+  pub short : length fraction ≤ 12
+  pub whole_digits : AllDigits 10 whole_part
+  pub fraction_digits : AllDigits 10 fraction
+  pub sum : digits_value 10 whole_part * 10 ^ 12 + digits_value 10 fraction * 10 ^ (12 - length fraction) ≡ value

@@ -1,0 +1,216 @@
+-- What a line is read as, without its line end. No public clause cites this module.
+use Rattle.std.specs.Prelude.{ℕ, zero, suc, ◌-◌, ◌^◌, Bool, true, false, if◌then◌else◌, ◌==◌, ◌&&◌, nat_lt, nat_le, List, [], ◌∷◌, length, take, drop, codes, Option, Some, None, ℤ, pos, negsuc}
+use Rattle.std.specs.Option.{option_map}
+use Rattle.std.specs.Str.{bytes_eq}
+use Rattle.plan_base.specs.declared.ids.ArcId.{ArcId}
+use Rattle.plan_base.specs.declared.limits.TheConstants.{MAX_NODES, MAX_LINKS, MAX_DEMANDS, MAX_MODULES}
+use Rattle.proof_tree.specs.declared.limits.TheConstants.{MAX_PATH_ARCS, MAX_SIDE_ARCS}
+use Rattle.proof_tree.specs.declared.tree.Evidence.{Evidence}
+use Rattle.proof_tree.specs.declared.tree.Evidence.TheVariants.{Bound, Routed, Overfull, Cut, Crowd, Open}
+use Rattle.proof_tree.specs.declared.tree.TreeNode.{TreeNode}
+use Rattle.proof_tree.specs.declared.tree.TreeNode.TheVariants.{Split, Leaf}
+use Rattle.proof_tree.specs.declared.plan.PlanStatus.{PlanStatus}
+use Rattle.proof_tree.specs.declared.plan.PlanStatus.TheVariants.{Optimal, Infeasible, Undecided}
+use Rattle.cert_format.specs.Words.{◌>>=◌, behind, each, numbers_of, grains_of, row_of}
+
+-- the value, where the test holds
+abbrev pub only_if : {A : Type 0} → Bool → A → Option A
+only_if test x = if test then Some x else None
+
+-- what the first finds, read by f; where it finds nothing, the other
+abbrev pub choose : {A B : Type 0} → Option A → (A → Option B) → Option B → Option B
+choose (Some x) f other = f x
+choose None f other = other
+
+-- nothing but these bytes
+unfoldable pub fixed_of : List ℕ → List ℕ → Option (Unit {0})
+fixed_of line body = only_if (bytes_eq body line) tt
+
+-- a list of one number from low to high
+unfoldable pub one_in : ℕ → ℕ → List ℕ → Option ℕ
+one_in low high [] = None
+one_in low high (n ∷ []) = only_if (nat_le low n && nat_le n high) n
+one_in low high (n ∷ m ∷ ns) = None
+
+-- a word and a number from low to high
+unfoldable pub number_row : List ℕ → ℕ → ℕ → List ℕ → Option ℕ
+number_row word low high body = row_of word body >>= one_in low high
+
+-- these three sizes
+abbrev pub sizes_with : ℕ → ℕ → ℕ → ℕ × ℕ × ℕ
+sizes_with nodes links demands = (nodes, links, demands)
+
+-- three numbers that are sizes of an instance
+unfoldable pub sizes_in : List ℕ → Option (ℕ × ℕ × ℕ)
+sizes_in (nodes ∷ links ∷ demands ∷ []) = only_if (nat_le nodes MAX_NODES && nat_le links MAX_LINKS && nat_le demands MAX_DEMANDS) (sizes_with nodes links demands)
+sizes_in _ = None
+
+-- the sizes
+unfoldable pub size_row : List ℕ → Option (ℕ × ℕ × ℕ)
+size_row body = row_of (codes "SIZE") body >>= sizes_in
+
+-- the status
+unfoldable pub status_of : List ℕ → Option PlanStatus
+status_of body =
+    if bytes_eq body (codes "STATUS OPTIMAL") then Some Optimal else
+    if bytes_eq body (codes "STATUS INFEASIBLE") then Some Infeasible else
+    if bytes_eq body (codes "STATUS UNDECIDED") then Some Undecided else None
+
+-- the word none, or what the bytes are read as
+abbrev pub none_or : {A : Type 0} → (List ℕ → Option A) → List ℕ → Option (Option A)
+none_or f bytes = if bytes_eq bytes (codes "none") then Some None else option_map (λ x. Some x) (f bytes)
+
+-- an optimal plan has a cost, and an infeasible one has none
+abbrev pub cost_allowed : PlanStatus → Option ℕ → Bool
+cost_allowed Optimal None = false
+cost_allowed Optimal (Some cost) = true
+cost_allowed Infeasible None = true
+cost_allowed Infeasible (Some cost) = false
+cost_allowed Undecided cost = true
+
+-- the cost
+unfoldable pub cost_of : PlanStatus → List ℕ → Option (Option ℕ)
+cost_of status body = behind (codes "COST ") body >>= none_or grains_of >>= λ cost. only_if (cost_allowed status cost) cost
+
+-- a bound that is not negative
+abbrev pub positive : ℕ → Option ℤ
+positive n = only_if (nat_lt n (2 ^ 127)) (pos n)
+
+-- a negative bound of this size
+abbrev pub negative : ℕ → Option ℤ
+negative zero = None
+negative (suc n) = only_if (nat_lt n (2 ^ 127)) (negsuc n)
+
+-- a canonical decimal, perhaps with a minus in front
+unfoldable pub signed_of : List ℕ → Option ℤ
+signed_of bytes = choose (behind (codes "-") bytes) (λ rest. grains_of rest >>= negative) (grains_of bytes >>= positive)
+
+-- the bound
+unfoldable pub bound_of : List ℕ → Option (Option ℤ)
+bound_of body = behind (codes "BOUND ") body >>= none_or signed_of
+
+-- an arc of this number
+abbrev pub numbered_arc : ℕ → ArcId
+numbered_arc n = record { 0 = n }
+
+-- an arc of this number, where it fits
+abbrev pub arc_of : ℕ → Option ArcId
+arc_of n = only_if (nat_lt n (2 ^ 32)) (numbered_arc n)
+
+-- a count, where it fits
+abbrev pub count_of : ℕ → Option ℕ
+count_of n = only_if (nat_lt n (2 ^ 64)) n
+
+-- the numbers behind their count, at most so many
+abbrev pub uncounted : ℕ → List ℕ → Option (List ℕ)
+uncounted most [] = None
+uncounted most (m ∷ ns) = only_if (m == length ns && nat_le m most) ns
+
+-- a path
+unfoldable pub path_of : List ℕ → Option (List ArcId)
+path_of body = row_of (codes "PATH") body >>= uncounted MAX_PATH_ARCS >>= each arc_of
+
+-- the counts of a link's modules
+unfoldable pub modules_of : List ℕ → Option (List ℕ)
+modules_of body = row_of (codes "MODULES") body >>= uncounted MAX_MODULES >>= each count_of
+
+-- ---- records
+
+-- each number is greater than the one before it
+unfoldable pub ascends : List ℕ → Bool
+ascends [] = true
+ascends (n ∷ []) = true
+ascends (n ∷ m ∷ ns) = nat_lt n m && ascends (m ∷ ns)
+
+-- arcs of a side
+abbrev pub side_arcs : List ℕ → Option (List ArcId)
+side_arcs ns = if ascends ns then each arc_of ns else None
+
+-- arcs, and the numbers behind them
+abbrev pub with_rest : List ℕ → List ArcId → List ArcId × List ℕ
+with_rest rest arcs = (arcs, rest)
+
+-- one side of a split, and the numbers behind it
+unfoldable pub side_of : List ℕ → Option (List ArcId × List ℕ)
+side_of [] = None
+side_of (m ∷ ns) = if nat_le m MAX_SIDE_ARCS && nat_le m (length ns) then option_map (with_rest (drop m ns)) (side_arcs (take m ns)) else None
+
+-- both sides
+abbrev pub two_sides : List ArcId → List ArcId → List ArcId × List ArcId
+two_sides left right = (left, right)
+
+-- the right side, and no number behind it
+abbrev pub right_side : List ArcId × List ℕ → List ArcId × List ℕ → Option (List ArcId × List ArcId)
+right_side left right = only_if (length right.1 == 0) (two_sides left.0 right.0)
+
+-- the right side behind the left one
+abbrev pub behind_left : List ArcId × List ℕ → Option (List ArcId × List ArcId)
+behind_left left = side_of left.1 >>= right_side left
+
+-- both sides of a split, and no number behind them
+unfoldable pub sides_of : List ℕ → Option (List ArcId × List ArcId)
+sides_of ns = side_of ns >>= behind_left
+
+-- a split of this demand, node and sides
+abbrev pub split_with : ℕ → ℕ → List ArcId × List ArcId → TreeNode
+split_with demand at sides = Split (record { 0 = demand }) (record { 0 = at }) sides.0 sides.1
+
+-- the numbers of a split
+unfoldable pub split_in : List ℕ → Option TreeNode
+split_in [] = None
+split_in (demand ∷ []) = None
+split_in (demand ∷ at ∷ ns) = if nat_lt demand (2 ^ 32) && nat_lt at (2 ^ 32)
+    then option_map (split_with demand at) (sides_of ns) else None
+
+-- the numbers behind the first, where that is this one
+unfoldable pub behind_number : ℕ → List ℕ → Option (List ℕ)
+behind_number at [] = None
+behind_number at (n ∷ ns) = only_if (n == at) ns
+
+-- for each node from a place on, so many, whether it is in the ascending list
+unfoldable pub flags_of : ℕ → ℕ → List ℕ → Option (List Bool)
+flags_of at zero ns = only_if (length ns == 0) []
+flags_of at (suc left) ns = choose (behind_number at ns) (λ rest. option_map (λ flags. true ∷ flags) (flags_of (suc at) left rest)) (option_map (λ flags. false ∷ flags) (flags_of (suc at) left ns))
+
+-- a cut of this demand
+abbrev pub cut_with : ℕ → List Bool → Evidence
+cut_with demand reached = Cut (record { 0 = demand }) reached
+
+-- an overfull link of this number
+abbrev pub overfull_with : ℕ → Evidence
+overfull_with link = Overfull (record { 0 = link })
+
+-- the numbers of a cut
+unfoldable pub cut_in : ℕ → List ℕ → Option Evidence
+cut_in nodes [] = None
+cut_in nodes (demand ∷ ns) = if nat_lt demand (2 ^ 32)
+    then option_map (cut_with demand) (uncounted nodes ns >>= flags_of 0 nodes) else None
+
+-- the number of an overfull link
+unfoldable pub overfull_in : List ℕ → Option Evidence
+overfull_in ns = option_map overfull_with (one_in 0 (2 ^ 32 - 1) ns)
+
+-- one price for each link
+unfoldable pub prices_of : ℕ → List ℕ → Option (List ℕ)
+prices_of links bytes = numbers_of bytes >>= λ ns. only_if (length ns == links) ns
+
+-- a leaf that is closed or open by prices
+unfoldable pub priced_of : ℕ → List ℕ → Option Evidence
+priced_of links body =
+    choose (behind (codes "PRICED") body) (λ rest. option_map (λ prices. Bound prices) (prices_of links rest))
+    (choose (behind (codes "CROWD") body) (λ rest. option_map (λ prices. Crowd prices) (prices_of links rest))
+    (choose (behind (codes "OPEN") body) (λ rest. option_map (λ prices. Open prices) (prices_of links rest)) None))
+
+-- the evidence of a leaf
+unfoldable pub leaf_of : ℕ → ℕ → List ℕ → Option Evidence
+leaf_of nodes links body =
+    choose (fixed_of (codes "ROUTED") body) (λ _. Some Routed)
+    (choose (behind (codes "OVERFULL") body) (λ rest. numbers_of rest >>= overfull_in)
+    (choose (behind (codes "CUT") body) (λ rest. numbers_of rest >>= cut_in nodes)
+    (priced_of links body)))
+
+-- a record
+unfoldable pub record_of : ℕ → ℕ → List ℕ → Option TreeNode
+record_of nodes links body =
+    choose (behind (codes "SPLIT") body) (λ rest. numbers_of rest >>= split_in)
+    (option_map (λ evidence. Leaf evidence) (leaf_of nodes links body))

@@ -1,0 +1,166 @@
+-- The text of a plan, line by line.
+use Rattle.std.specs.Prelude.{ℕ, suc, ◌≡◌, ◌<◌, ◌^◌, Bool, true, false, List, [], ◌∷◌, ◌++◌, length, map, codes, ⊤, Option, Some, None, IfSome, ℤ, pos, negsuc}
+use Rattle.std.specs.List.{AllByRecursion}
+use Rattle.plan_base.specs.declared.ids.ArcId.{ArcId}
+use Rattle.plan_base.specs.declared.path.Design.{Design}
+use Rattle.proof_tree.specs.declared.tree.Evidence.{Evidence}
+use Rattle.proof_tree.specs.declared.tree.Evidence.TheVariants.{Bound, Routed, Overfull, Cut, Crowd, Open}
+use Rattle.proof_tree.specs.declared.tree.TreeNode.{TreeNode}
+use Rattle.proof_tree.specs.declared.tree.TreeNode.TheVariants.{Split, Leaf}
+use Rattle.proof_tree.specs.declared.plan.PlanStatus.{PlanStatus}
+use Rattle.proof_tree.specs.declared.plan.PlanStatus.TheVariants.{Optimal, Infeasible, Undecided}
+use Rattle.proof_tree.specs.declared.plan.Plan.{Plan}
+use Rattle.proof_tree.specs.Spellings.{IsSpellable}
+use Rattle.scaled_numbers.specs.Canonical.{grains_text}
+use Rattle.cert_format.specs.Lines.{whole, text_of}
+use Rattle.cert_format.specs.Words.{row}
+
+-- the first line
+abbrev pub header_line : List ℕ
+header_line = codes "SNDPLAN 1"
+
+-- the counts of nodes, links and demands
+abbrev pub size_line : ℕ → ℕ → ℕ → List ℕ
+size_line nodes links demands = row (codes "SIZE") (nodes ∷ links ∷ demands ∷ [])
+
+-- the status
+abbrev pub status_line : PlanStatus → List ℕ
+status_line Optimal = codes "STATUS OPTIMAL"
+status_line Infeasible = codes "STATUS INFEASIBLE"
+status_line Undecided = codes "STATUS UNDECIDED"
+
+-- a line with one number
+abbrev pub number_line : List ℕ → ℕ → List ℕ
+number_line word n = row word (n ∷ [])
+
+-- the cost as a canonical decimal in units of cost, or none
+abbrev pub cost_line : Option ℕ → List ℕ
+cost_line None = codes "COST none"
+cost_line (Some cost) = codes "COST " ++ grains_text cost 12
+
+-- a bound as a canonical decimal, with a minus where it is negative
+abbrev pub signed_text : ℤ → List ℕ
+signed_text (pos n) = grains_text n 12
+signed_text (negsuc n) = 45 ∷ grains_text (suc n) 12
+
+-- the bound, or none
+abbrev pub bound_line : Option ℤ → List ℕ
+bound_line None = codes "BOUND none"
+bound_line (Some bound) = codes "BOUND " ++ signed_text bound
+
+-- the numbers of arcs
+abbrev pub arc_numbers : List ArcId → List ℕ
+arc_numbers arcs = map (λ arc. arc.0) arcs
+
+-- a list of numbers with its length in front
+abbrev pub counted : List ℕ → List ℕ
+counted ns = length ns ∷ ns
+
+-- a path
+abbrev pub path_line : List ArcId → List ℕ
+path_line arcs = row (codes "PATH") (counted (arc_numbers arcs))
+
+-- the counts of a link's modules
+abbrev pub modules_line : List ℕ → List ℕ
+modules_line counts = row (codes "MODULES") (counted counts)
+
+-- the places of true, the list beginning at this place
+unfoldable pub members : ℕ → List Bool → List ℕ
+members at [] = []
+members at (true ∷ flags) = at ∷ members (suc at) flags
+members at (false ∷ flags) = members (suc at) flags
+
+-- a leaf
+unfoldable pub leaf_line : Evidence → List ℕ
+leaf_line (Bound prices) = row (codes "PRICED") prices
+leaf_line Routed = codes "ROUTED"
+leaf_line (Overfull link) = number_line (codes "OVERFULL") link.0
+leaf_line (Cut demand reached) = row (codes "CUT") (demand.0 ∷ counted (members 0 reached))
+leaf_line (Crowd prices) = row (codes "CROWD") prices
+leaf_line (Open prices) = row (codes "OPEN") prices
+
+-- a record of the tree
+unfoldable pub record_line : TreeNode → List ℕ
+record_line (Split demand at left right) = row (codes "SPLIT") (demand.0 ∷ at.0 ∷ (counted (arc_numbers left) ++ counted (arc_numbers right)))
+record_line (Leaf evidence) = leaf_line evidence
+
+-- the cost, and with it a line for each path and each list of counts
+unfoldable pub design_lines : Option (ℕ × Design) → List (List ℕ)
+design_lines None = cost_line None ∷ []
+design_lines (Some design) = cost_line (Some design.0) ∷ (map path_line design.1.paths ++ map modules_line design.1.counts)
+
+-- the bound stands in the text of an undecided plan alone
+unfoldable pub bound_lines : PlanStatus → Option ℤ → List (List ℕ)
+bound_lines Optimal bound = []
+bound_lines Infeasible bound = []
+bound_lines Undecided bound = bound_line bound ∷ []
+
+-- the five lines that begin each text
+unfoldable pub head_lines : Plan → List (List ℕ)
+head_lines plan = header_line ∷ size_line plan.nodes plan.links plan.demands ∷ status_line plan.status
+    ∷ number_line (codes "BUDGET") plan.budget ∷ number_line (codes "EXAMINED") plan.examined ∷ []
+
+-- the lines before the last, where so many records are stated
+unfoldable pub lines_before_end : ℕ → Plan → List (List ℕ)
+lines_before_end count plan = head_lines plan ++ (design_lines plan.design ++ (bound_lines plan.status plan.bound
+    ++ (number_line (codes "TREE") count ∷ map record_line plan.tree)))
+
+-- the last line
+abbrev pub end_line : List ℕ
+end_line = codes "END"
+
+-- the lines of a plan
+abbrev pub plan_lines : Plan → List (List ℕ)
+plan_lines plan = lines_before_end (length plan.tree) plan ++ end_line ∷ []
+
+-- the text of a plan: its lines, each with its line end
+unfoldable pub plan_text : Plan → List ℕ
+plan_text plan = text_of (map whole (plan_lines plan))
+
+-- ---- the numbers of a plan, within their fields
+
+-- numbers of so many bits
+abbrev pub AreWithin : ℕ → List ℕ → Type 0
+AreWithin bits ns = AllByRecursion (λ n. n < 2 ^ bits) ns
+
+-- numbers of arcs
+abbrev pub AreArcs : List ArcId → Type 0
+AreArcs arcs = AllByRecursion (λ arc. arc.0 < 2 ^ 32) arcs
+
+-- the numbers of a leaf
+abbrev pub HasLeafFields : Evidence → Type 0
+HasLeafFields (Bound prices) = AreWithin 128 prices
+HasLeafFields Routed = ⊤
+HasLeafFields (Overfull link) = link.0 < 2 ^ 32
+HasLeafFields (Cut demand reached) = demand.0 < 2 ^ 32
+HasLeafFields (Crowd prices) = AreWithin 128 prices
+HasLeafFields (Open prices) = AreWithin 128 prices
+
+-- the numbers of a record
+abbrev pub HasRecordFields : TreeNode → Type 0
+HasRecordFields (Split demand at left right) = (demand.0 < 2 ^ 32) × (at.0 < 2 ^ 32) × AreArcs left × AreArcs right
+HasRecordFields (Leaf evidence) = HasLeafFields evidence
+
+-- the numbers of a design and its cost
+pub record HasDesignFields (cost : ℕ) (d : Design) : Type 0 where
+  pub cost_within : cost < 2 ^ 128
+  pub arcs : AllByRecursion AreArcs d.paths
+  pub counts_within : AllByRecursion (AreWithin 64) d.counts
+
+-- a bound fits an i128
+abbrev pub IsBoundField : ℤ → Type 0
+IsBoundField (pos n) = n < 2 ^ 127
+IsBoundField (negsuc n) = n < 2 ^ 127
+
+-- each number of the plan is within its field, as it is in each plan of the code
+pub record HasFields (plan : Plan) : Type 0 where
+  pub examined_within : plan.examined < 2 ^ 32
+  pub design_fields : IfSome plan.design (λ design. HasDesignFields design.0 design.1)
+  pub bound_field : IfSome plan.bound IsBoundField
+  pub record_fields : AllByRecursion HasRecordFields plan.tree
+
+-- the text spells the plan
+pub record SpellsPlan (text : List ℕ) (plan : Plan) : Type 0 where
+  pub spellable : IsSpellable plan
+  pub fields : HasFields plan
+  pub is_text : text ≡ plan_text plan

@@ -1,0 +1,9 @@
+pub mod Lines
+pub mod Words
+pub mod Grammar
+pub mod Bodies
+pub mod Reading
+pub mod Drafts
+pub mod Faults
+pub mod Answers
+pub mod Written

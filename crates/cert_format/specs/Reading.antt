@@ -1,0 +1,157 @@
+-- Reading a plan line by line: the first line that cannot stand where it stands stops it. No public clause cites this module.
+use Rattle.std.specs.Prelude.{ℕ, zero, suc, ◌-◌, ◌^◌, if◌then◌else◌, List, [], ◌∷◌, length, codes, Option, Some, None, Result, Ok, Err, ℤ}
+use Rattle.plan_base.specs.declared.path.Design.{Design}
+use Rattle.plan_base.specs.declared.ids.ArcId.{ArcId}
+use Rattle.proof_tree.specs.declared.limits.TheConstants.{MAX_BUDGET, MAX_RECORDS}
+use Rattle.proof_tree.specs.declared.tree.TreeNode.{TreeNode}
+use Rattle.proof_tree.specs.declared.plan.PlanStatus.{PlanStatus}
+use Rattle.proof_tree.specs.declared.plan.PlanStatus.TheVariants.{Optimal, Infeasible, Undecided}
+use Rattle.proof_tree.specs.declared.plan.Plan.{Plan}
+use Rattle.cert_format.specs.declared.fault.PlanFault.{PlanFault}
+use Rattle.cert_format.specs.declared.fault.PlanFault.TheVariants as faults
+use Rattle.cert_format.specs.declared.reading.Head.{Head}
+use Rattle.cert_format.specs.Lines.{Line, whole, unfinished, text_of, lines_of}
+use Rattle.cert_format.specs.Grammar.{header_line, end_line}
+use Rattle.cert_format.specs.Drafts.{left_open, is_complete}
+use Rattle.cert_format.specs.Bodies.{fixed_of, number_row, size_row, status_of, cost_of, bound_of, path_of, modules_of, record_of}
+
+-- a value and the lines behind it, or the lines from the first one on that cannot stand there
+abbrev pub Reader : Type 0 → Type 0
+Reader A = List Line → Result (A × List Line) (List Line)
+
+-- goes on where nothing is wrong yet
+infixl 10 ◌>>=◌
+abbrev pub ◌>>=◌ : {A B : Type 0} → Result A (List Line) → (A → Result B (List Line)) → Result B (List Line)
+(Ok x) >>= f = f x
+(Err e) >>= f = Err e
+
+-- reads one thing, and then another that may depend on it
+unfoldable pub bind : {A B : Type 0} → Reader A → (A → Reader B) → Reader B
+bind r s ls = r ls >>= λ p. s p.0 p.1
+
+-- reads nothing
+unfoldable pub done : {A : Type 0} → A → Reader A
+done x ls = Ok (x, ls)
+
+-- goes past a line that was read
+abbrev pub judged : {A : Type 0} → Line → List Line → Option A → Result (A × List Line) (List Line)
+judged l ls (Some x) = Ok (x, ls)
+judged l ls None = Err (l ∷ ls)
+
+-- reads one line
+unfoldable pub one : {A : Type 0} → (List ℕ → Option A) → Reader A
+one f [] = Err []
+one f (whole body ∷ ls) = judged (whole body) ls (f body)
+one f (unfinished bytes ∷ ls) = Err (unfinished bytes ∷ ls)
+
+-- reads so many lines of a kind
+unfoldable pub many : {A : Type 0} → ℕ → (List ℕ → Option A) → Reader (List A)
+many zero f = done []
+many (suc n) f = bind (one f) (λ x. bind (many n f) (λ xs. done (x ∷ xs)))
+
+-- the parts of these lines
+abbrev pub head_with : ℕ × ℕ × ℕ → PlanStatus → ℕ → ℕ → Head
+head_with sizes status budget examined = record { nodes = sizes.0; links = sizes.1; demands = sizes.2; status = status; budget = budget; examined = examined }
+
+-- the five lines that begin each text
+unfoldable pub head : Reader Head
+head = bind (one (fixed_of header_line)) λ _.
+    bind (one size_row) λ sizes.
+    bind (one status_of) λ status.
+    bind (one (number_row (codes "BUDGET") 1 MAX_BUDGET)) λ budget.
+    bind (one (number_row (codes "EXAMINED") 0 (2 ^ 32 - 1))) λ examined.
+    done (head_with sizes status budget examined)
+
+-- a design of this cost
+abbrev pub design_with : ℕ → List (List ArcId) → List (List ℕ) → Option (ℕ × Design)
+design_with cost paths counts = Some (cost, record { paths = paths; counts = counts })
+
+-- the paths and the counts of modules, where there is a cost
+unfoldable pub design_of : ℕ → ℕ → Option ℕ → Reader (Option (ℕ × Design))
+design_of demands links None = done None
+design_of demands links (Some cost) = bind (many demands path_of) λ paths.
+    bind (many links modules_of) λ counts.
+    done (design_with cost paths counts)
+
+-- the cost, and the design that has it
+unfoldable pub design : Head → Reader (Option (ℕ × Design))
+design h = bind (one (cost_of h.status)) (design_of h.demands h.links)
+
+-- the bound of an undecided plan
+unfoldable pub bound : PlanStatus → Reader (Option ℤ)
+bound Optimal = done None
+bound Infeasible = done None
+bound Undecided = one bound_of
+
+-- reads records until the tree is whole, but no more than so many
+unfoldable pub records : ℕ → ℕ → ℕ → ℕ → Reader (List TreeNode)
+records nodes links zero trees = done []
+records nodes links (suc count) zero = done []
+records nodes links (suc count) (suc others) = bind (one (record_of nodes links)) λ node.
+    bind (records nodes links count (left_open node others)) λ more.
+    done (node ∷ more)
+
+-- a stated count, and records
+abbrev pub tree_with : ℕ → List TreeNode → ℕ × List TreeNode
+tree_with count nodes = (count, nodes)
+
+-- how many records are stated, and those that were read
+unfoldable pub tree : ℕ → ℕ → Reader (ℕ × List TreeNode)
+tree nodes links = bind (one (number_row (codes "TREE") 1 MAX_RECORDS)) λ count.
+    bind (records nodes links count 1) λ nodes.
+    done (tree_with count nodes)
+
+-- the plan of these parts
+abbrev pub plan_with : Head → Option (ℕ × Design) → Option ℤ → List TreeNode → Plan
+plan_with h d b nodes = record {
+  nodes = h.nodes;
+  links = h.links;
+  demands = h.demands;
+  status = h.status;
+  budget = h.budget;
+  examined = h.examined;
+  design = d;
+  bound = b;
+  tree = nodes;
+}
+
+-- the stated count, and the plan of these parts
+abbrev pub draft_with : Head → Option (ℕ × Design) → Option ℤ → ℕ × List TreeNode → ℕ × Plan
+draft_with h d b t = (t.0, plan_with h d b t.1)
+
+-- all lines before the last: the stated count of records, and a plan whose tree need not be whole
+unfoldable pub before_end : Reader (ℕ × Plan)
+before_end = bind head λ h. bind (design h) λ d. bind (bound h.status) λ b.
+    bind (tree h.nodes h.links) λ t. done (draft_with h d b t)
+
+-- nothing stands behind the last line
+abbrev pub nothing_behind : Plan → List Line → Result Plan (List Line)
+nothing_behind plan [] = Ok plan
+nothing_behind plan (l ∷ ls) = Err (l ∷ ls)
+
+-- the last line, and nothing behind it
+abbrev pub last_line : Plan → Result ((Unit {0}) × List Line) (List Line) → Result Plan (List Line)
+last_line plan (Ok p) = nothing_behind plan p.1
+last_line plan (Err ls) = Err ls
+
+-- the end of the text, which only a whole tree may have
+abbrev pub ending : (ℕ × Plan) × List Line → Result Plan (List Line)
+ending d = if is_complete d.0.0 d.0.1 then last_line d.0.1 (one (fixed_of end_line) d.1) else Err d.1
+
+-- the plan of all lines
+unfoldable pub whole_plan : List Line → Result Plan (List Line)
+whole_plan ls = before_end ls >>= ending
+
+-- where reading stops: at a line, or at the end of the text
+abbrev pub place_of : ℕ → List Line → PlanFault
+place_of length_is [] = faults.Ended length_is
+place_of length_is (l ∷ ls) = faults.Line (length_is - length (text_of (l ∷ ls)))
+
+-- what a text is read as
+abbrev pub read_as : ℕ → Result Plan (List Line) → Result Plan PlanFault
+read_as length_is (Ok plan) = Ok plan
+read_as length_is (Err ls) = Err (place_of length_is ls)
+
+-- the plan that a text spells, or the fault of the text
+unfoldable pub plan_of : List ℕ → Result Plan PlanFault
+plan_of text = read_as (length text) (whole_plan (lines_of text))

@@ -1,0 +1,149 @@
+//! What the line of a leaf is read as, without its line end.
+
+ghost use Rattle.std.specs.Prelude.{◌≡◌, ◌≤◌, ◌+◌, ◌^◌, length, Some, None, IfOk, option_and_then};
+ghost use Rattle.cert_format.specs.Words.{numbers_of};
+ghost use Rattle.cert_format.specs.Bodies.{behind_number, flags_of, cut_in, prices_of, priced_of, overfull_in, leaf_of};
+ghost use Rattle.cert_format.specs.Answers.{found_now, items_of};
+
+use crate::bodies::{fixed, one_in, uncounted};
+use crate::words::{behind, numbers};
+use plan_base::{DemandId, Items, LinkId, Prices};
+use proof_tree::Evidence;
+use std::alloc::{AllocError, Global};
+
+/// The numbers behind the first, where that is this one.
+#[tactic(auto, unfolding(crate::specs::Bodies::behind_number))]
+fn behind_number(numbers: &[u128], at: u32) -> Option<&[u128]>
+    ensures { found_now result ≡ behind_number at numbers.now }
+{
+    match numbers {
+        [first, rest @ ..] => {
+            if *first == u128::from(at) {
+                Some(rest)
+            } else {
+                None
+            }
+        }
+        [] => None,
+    }
+}
+
+/// For each of so many nodes whether it is in the ascending list, where the list is one.
+#[tactic(auto, using(crate::proofs::NumberWords::with_nothing, crate::proofs::Flags::flags_in, crate::proofs::Flags::flags_out, crate::proofs::Flags::flags_end))]
+fn flags(alloc: Global, nodes: u32, numbers: &[u128]) -> Result<Option<Vec<bool>>, AllocError>
+    ensures { IfOk result (λ found. items_of found ≡ flags_of 0 nodes numbers.now) }
+{
+    let mut flags = Vec::new(alloc);
+    let mut rest = numbers;
+    for node in 0..nodes {
+        match behind_number(rest, node) {
+            Some(behind) => {
+                flags.push(true)?;
+                rest = behind;
+            }
+            None => flags.push(false)?,
+        }
+    }
+    if rest.is_empty() {
+        Ok(Some(flags))
+    } else {
+        Ok(None)
+    }
+}
+
+/// The numbers of a cut.
+#[tactic(auto, unfolding(crate::specs::Bodies::cut_in))]
+fn cut_in(alloc: Global, nodes: u32, numbers: &[u128]) -> Result<Option<Evidence>, AllocError>
+    ensures { IfOk result (λ found. found ≡ cut_in nodes numbers.now) }
+{
+    let [demand, rest @ ..] = numbers else {
+        return Ok(None);
+    };
+    if *demand >= 1 << 32 {
+        return Ok(None);
+    }
+    let Some(members) = uncounted(nodes as usize, rest) else {
+        return Ok(None);
+    };
+    match flags(alloc, nodes, members)? {
+        Some(reached) => Ok(Some(Evidence::Cut {
+            demand: DemandId(*demand as u32),
+            reached: Items::from_vec(reached),
+        })),
+        None => Ok(None),
+    }
+}
+
+/// One price for each link.
+#[tactic(auto, unfolding(crate::specs::Bodies::prices_of))]
+fn prices(alloc: Global, links: u32, bytes: &[u8]) -> Result<Option<Prices>, AllocError>
+    ensures { IfOk result (λ found. found ≡ prices_of links bytes.now) }
+{
+    match numbers(alloc, bytes)? {
+        Some(prices) if prices.len() == links as usize => Ok(Some(Prices::from_vec(prices))),
+        _ => Ok(None),
+    }
+}
+
+/// A leaf that is closed or open by prices.
+#[tactic(auto, unfolding(crate::specs::Bodies::priced_of))]
+fn priced(alloc: Global, links: u32, body: &[u8]) -> Result<Option<Evidence>, AllocError>
+    ensures { IfOk result (λ found. found ≡ priced_of links body.now) }
+{
+    if let Some(rest) = behind(b"PRICED", body) {
+        return Ok(prices(alloc, links, rest)?.map(Evidence::Bound));
+    }
+    if let Some(rest) = behind(b"CROWD", body) {
+        return Ok(prices(alloc, links, rest)?.map(Evidence::Crowd));
+    }
+    if let Some(rest) = behind(b"OPEN", body) {
+        return Ok(prices(alloc, links, rest)?.map(Evidence::Open));
+    }
+    Ok(None)
+}
+
+/// A cut, behind its word.
+fn cut(alloc: Global, nodes: u32, bytes: &[u8]) -> Result<Option<Evidence>, AllocError>
+    ensures { IfOk result (λ found. found ≡ option_and_then (cut_in nodes) (numbers_of bytes.now)) }
+{
+    match numbers(alloc, bytes)? {
+        Some(numbers) => cut_in(alloc, nodes, numbers.as_slice()),
+        None => Ok(None),
+    }
+}
+
+/// An overfull link, behind the word.
+#[tactic(auto, unfolding(crate::specs::Bodies::overfull_in))]
+fn overfull(alloc: Global, bytes: &[u8]) -> Result<Option<Evidence>, AllocError>
+    ensures { IfOk result (λ found. found ≡ option_and_then (overfull_in) (numbers_of bytes.now)) }
+{
+    match numbers(alloc, bytes)? {
+        Some(numbers) => match one_in(0, u32::MAX, numbers.as_slice()) {
+            Some(link) => Ok(Some(Evidence::Overfull { link: LinkId(link) })),
+            None => Ok(None),
+        },
+        None => Ok(None),
+    }
+}
+
+/// The evidence of a leaf.
+#[tactic(auto, unfolding(crate::specs::Bodies::leaf_of))]
+pub(crate) fn leaf(
+    alloc: Global,
+    nodes: u32,
+    links: u32,
+    body: &[u8],
+) -> Result<Option<Evidence>, AllocError>
+    ensures { IfOk result (λ found. found ≡ leaf_of nodes links body.now) }
+{
+    if fixed(b"ROUTED", body).is_some() {
+        return Ok(Some(Evidence::Routed));
+    }
+    if let Some(rest) = behind(b"OVERFULL", body) {
+        return overfull(alloc, rest);
+    }
+    if let Some(rest) = behind(b"CUT", body) {
+        return cut(alloc, nodes, rest);
+    }
+    priced(alloc, links, body)
+}

@@ -1,0 +1,425 @@
+//! Reading a plan text line by line.
+
+ghost use Rattle.std.specs.Prelude.{◌≡◌, ◌≤◌, ◌<◌, ◌+◌, ◌^◌, ℕ, List, length, codes, IfOk, IfErr};
+ghost use Rattle.proof_tree.specs.declared.plan.Plan.{Plan as AnyPlan};
+ghost use Rattle.cert_format.specs.Lines.{lines_of};
+ghost use Rattle.cert_format.specs.Grammar.{header_line, end_line, SpellsPlan};
+ghost use Rattle.cert_format.specs.Faults.{IsFault, OnlyPlan, OnlyFault};
+ghost use Rattle.cert_format.specs.Bodies.{fixed_of, number_row, size_row, status_of, cost_of, bound_of, path_of, modules_of, record_of};
+ghost use Rattle.cert_format.specs.Reading.{one, many, head, design_of, design, bound, records, tree, before_end, ending, whole_plan, place_of, plan_of};
+ghost use Rattle.cert_format.specs.Drafts.{left_open};
+ghost use Rattle.cert_format.specs.Answers.{Reads, Gives, seen, seen_items, seen_tree, seen_draft, drafted};
+ghost use Rattle.cert_format.specs.declared.limits.TheConstants.{MAX_PLAN_BYTES};
+
+use crate::fault::PlanFault;
+use crate::limits::MAX_PLAN_BYTES;
+use crate::lines::{accept, first_line};
+use crate::stop::Stop;
+use crate::{bodies, records};
+use plan_base::{Design, Items, Path};
+use proof_tree::limits::{MAX_BUDGET, MAX_RECORDS};
+use proof_tree::{Plan, PlanStatus, Tree, TreeNode};
+use std::alloc::Global;
+
+/// The sizes, the status, the budget and the count of examined nodes.
+#[derive(Clone, Copy)]
+pub(crate) struct Head {
+    pub(crate) nodes: u32,
+    pub(crate) links: u32,
+    pub(crate) demands: u32,
+    pub(crate) status: PlanStatus,
+    pub(crate) budget: u32,
+    pub(crate) examined: u32,
+}
+
+/// All that stands before the last line: the records need not be a whole tree.
+#[derive(Drop)]
+struct Draft {
+    head: Head,
+    design: Option<(u128, Design)>,
+    bound: Option<i128>,
+    count: u32,
+    records: Vec<TreeNode>,
+}
+
+/// A line of nothing but these bytes.
+#[tactic(auto, using(crate::proofs::Accepting::no_first_line, crate::proofs::Accepting::stops_memory))]
+fn fixed_line<'a>(line: &[u8], text: &'a [u8]) -> Result<((), &'a [u8]), Stop>
+    ensures { Reads seen result (one (fixed_of line.now) (lines_of text.now)) }
+{
+    let (body, rest) = first_line(text)?;
+    accept(bodies::fixed(line, body), text, rest)
+}
+
+/// A line of a word and a number from low to high.
+#[tactic(auto, using(crate::proofs::Accepting::no_first_line, crate::proofs::Accepting::stops_memory))]
+fn number_line<'a>(
+    alloc: Global,
+    word: &[u8],
+    low: u32,
+    high: u32,
+    text: &'a [u8],
+) -> Result<(u32, &'a [u8]), Stop>
+    ensures { Reads seen result (one (number_row word.now low high) (lines_of text.now)) }
+{
+    let (body, rest) = first_line(text)?;
+    accept(
+        bodies::number_row(alloc, word, low, high, body)?,
+        text,
+        rest,
+    )
+}
+
+/// The line of the sizes.
+#[tactic(auto, using(crate::proofs::Accepting::no_first_line, crate::proofs::Accepting::stops_memory))]
+fn size_line(alloc: Global, text: &[u8]) -> Result<((u32, u32, u32), &[u8]), Stop>
+    ensures { Reads seen result (one size_row (lines_of text.now)) }
+{
+    let (body, rest) = first_line(text)?;
+    accept(bodies::sizes(alloc, body)?, text, rest)
+}
+
+/// The line of the status.
+#[tactic(auto, using(crate::proofs::Accepting::no_first_line, crate::proofs::Accepting::stops_memory))]
+fn status_line(text: &[u8]) -> Result<(PlanStatus, &[u8]), Stop>
+    ensures { Reads seen result (one status_of (lines_of text.now)) }
+{
+    let (body, rest) = first_line(text)?;
+    accept(bodies::status(body), text, rest)
+}
+
+/// The line of the cost.
+#[tactic(auto, using(crate::proofs::Accepting::no_first_line, crate::proofs::Accepting::stops_memory))]
+fn cost_line(alloc: Global, status: PlanStatus, text: &[u8]) -> Result<(Option<u128>, &[u8]), Stop>
+    ensures { Reads seen result (one (cost_of status) (lines_of text.now)) }
+{
+    let (body, rest) = first_line(text)?;
+    accept(bodies::cost(alloc, status, body)?, text, rest)
+}
+
+/// The line of the bound.
+#[tactic(auto, using(crate::proofs::Accepting::no_first_line, crate::proofs::Accepting::stops_memory))]
+fn bound_line(alloc: Global, text: &[u8]) -> Result<(Option<i128>, &[u8]), Stop>
+    ensures { Reads seen result (one bound_of (lines_of text.now)) }
+{
+    let (body, rest) = first_line(text)?;
+    accept(bodies::bound(alloc, body)?, text, rest)
+}
+
+/// The line of a path.
+#[tactic(auto, using(crate::proofs::Accepting::no_first_line, crate::proofs::Accepting::stops_memory))]
+fn path_line(alloc: Global, text: &[u8]) -> Result<(Path, &[u8]), Stop>
+    ensures { Reads seen result (one path_of (lines_of text.now)) }
+{
+    let (body, rest) = first_line(text)?;
+    accept(bodies::path(alloc, body)?, text, rest)
+}
+
+/// The line of a link's counts of modules.
+#[tactic(auto, using(crate::proofs::Accepting::no_first_line, crate::proofs::Accepting::stops_memory))]
+fn modules_line(alloc: Global, text: &[u8]) -> Result<(Items<u64>, &[u8]), Stop>
+    ensures { Reads seen result (one modules_of (lines_of text.now)) }
+{
+    let (body, rest) = first_line(text)?;
+    accept(bodies::modules(alloc, body)?, text, rest)
+}
+
+/// The line of a record.
+#[tactic(auto, using(crate::proofs::Accepting::no_first_line, crate::proofs::Accepting::stops_memory))]
+fn record_line(
+    alloc: Global,
+    nodes: u32,
+    links: u32,
+    text: &[u8],
+) -> Result<(TreeNode, &[u8]), Stop>
+    ensures { Reads seen result (one (record_of nodes links) (lines_of text.now)) }
+{
+    let (body, rest) = first_line(text)?;
+    accept(records::record(alloc, nodes, links, body)?, text, rest)
+}
+
+/// The five lines that begin each text.
+#[tactic(auto, using(crate::proofs::Accepting::through, crate::proofs::Accepting::stops_memory), unfolding(crate::specs::Reading::head, crate::specs::Reading::bind, crate::specs::Reading::done))]
+fn read_head(alloc: Global, text: &[u8]) -> Result<(Head, &[u8]), Stop>
+    ensures { Reads seen result (head (lines_of text.now)) }
+{
+    let (_, text) = fixed_line(b"SNDPLAN 1", text)?;
+    let ((nodes, links, demands), text) = size_line(alloc, text)?;
+    let (status, text) = status_line(text)?;
+    let (budget, text) = number_line(alloc, b"BUDGET", 1, MAX_BUDGET, text)?;
+    let (examined, text) = number_line(alloc, b"EXAMINED", 0, u32::MAX, text)?;
+    let head = Head {
+        nodes,
+        links,
+        demands,
+        status,
+        budget,
+        examined,
+    };
+    Ok((head, text))
+}
+
+/// So many paths.
+#[tactic(auto, using(crate::proofs::Accepting::many_more, crate::proofs::Accepting::many_stop, crate::proofs::Accepting::many_end, crate::proofs::Accepting::front_none, crate::proofs::Accepting::stops_memory))]
+fn read_paths(alloc: Global, demands: u32, text: &[u8]) -> Result<(Vec<Path>, &[u8]), Stop>
+    ensures { Reads seen_items result (many demands path_of (lines_of text.now)) }
+{
+    let mut paths = Vec::new(alloc);
+    let mut rest = text;
+    let mut left = demands;
+    while left > 0 {
+        let (path, behind) = path_line(alloc, rest)?;
+        paths.push(path)?;
+        rest = behind;
+        left -= 1;
+    }
+    Ok((paths, rest))
+}
+
+/// So many lists of counts.
+#[tactic(auto, using(crate::proofs::Accepting::many_more, crate::proofs::Accepting::many_stop, crate::proofs::Accepting::many_end, crate::proofs::Accepting::front_none, crate::proofs::Accepting::stops_memory))]
+fn read_counts(alloc: Global, links: u32, text: &[u8]) -> Result<(Vec<Items<u64>>, &[u8]), Stop>
+    ensures { Reads seen_items result (many links modules_of (lines_of text.now)) }
+{
+    let mut counts = Vec::new(alloc);
+    let mut rest = text;
+    let mut left = links;
+    while left > 0 {
+        let (list, behind) = modules_line(alloc, rest)?;
+        counts.push(list)?;
+        rest = behind;
+        left -= 1;
+    }
+    Ok((counts, rest))
+}
+
+/// The paths and the counts of modules, where there is a cost.
+#[tactic(auto, using(crate::proofs::Accepting::through, crate::proofs::Accepting::stops_memory), unfolding(crate::specs::Reading::design_of, crate::specs::Reading::bind, crate::specs::Reading::done))]
+fn read_design_of(
+    alloc: Global,
+    demands: u32,
+    links: u32,
+    cost: Option<u128>,
+    text: &[u8],
+) -> Result<(Option<(u128, Design)>, &[u8]), Stop>
+    ensures { Reads seen result (design_of demands links cost (lines_of text.now)) }
+{
+    let Some(cost) = cost else {
+        return Ok((None, text));
+    };
+    let (paths, text) = read_paths(alloc, demands, text)?;
+    let (counts, text) = read_counts(alloc, links, text)?;
+    let design = Design {
+        paths: Items::from_vec(paths),
+        counts: Items::from_vec(counts),
+    };
+    Ok((Some((cost, design)), text))
+}
+
+/// The cost, and the design that has it.
+#[tactic(auto, using(crate::proofs::Accepting::through, crate::proofs::Accepting::stops_memory), unfolding(crate::specs::Reading::design, crate::specs::Reading::bind, crate::specs::Reading::done))]
+fn read_design(
+    alloc: Global,
+    head: Head,
+    text: &[u8],
+) -> Result<(Option<(u128, Design)>, &[u8]), Stop>
+    ensures { Reads seen result (design head (lines_of text.now)) }
+{
+    let (cost, text) = cost_line(alloc, head.status, text)?;
+    read_design_of(alloc, head.demands, head.links, cost, text)
+}
+
+/// The bound of an undecided plan.
+#[tactic(auto, unfolding(crate::specs::Reading::bound, crate::specs::Reading::bind, crate::specs::Reading::done))]
+fn read_bound(alloc: Global, status: PlanStatus, text: &[u8]) -> Result<(Option<i128>, &[u8]), Stop>
+    ensures { Reads seen result (bound status (lines_of text.now)) }
+{
+    match status {
+        PlanStatus::Optimal | PlanStatus::Infeasible => Ok((None, text)),
+        PlanStatus::Undecided => bound_line(alloc, text),
+    }
+}
+
+/// How many trees are left to come behind a record, where so many others were to come.
+#[tactic(auto, unfolding(crate::specs::Drafts::left_open))]
+fn left_open(node: &TreeNode, others: u32) -> u32
+    requires { others < 2 ^ 31 }
+    ensures value { result ≡ left_open node.now others }
+    ensures within { result ≤ others + 2 }
+{
+    match node {
+        TreeNode::Leaf(_) => others,
+        TreeNode::Split { .. } => others + 2,
+    }
+}
+
+/// The records of a tree, but no more than so many.
+#[tactic(auto, using(crate::proofs::Accepting::records_more, crate::proofs::Accepting::records_stop, crate::proofs::Accepting::records_end, crate::proofs::Accepting::front_none, crate::proofs::Accepting::stops_memory))]
+fn read_records(
+    alloc: Global,
+    nodes: u32,
+    links: u32,
+    count: u32,
+    text: &[u8],
+) -> Result<(Vec<TreeNode>, &[u8]), Stop>
+    requires { count ≤ 8193 }
+    ensures reads { Reads seen_items result (records nodes links count 1 (lines_of text.now)) }
+    ensures few { IfOk result (λ x. length x.0.items ≤ count) }
+{
+    let mut records = Vec::new(alloc);
+    let mut rest = text;
+    let mut left = count;
+    let mut trees: u32 = 1;
+    while left > 0 && trees > 0 {
+        let (node, behind) = record_line(alloc, nodes, links, rest)?;
+        trees = left_open(&node, trees - 1);
+        records.push(node)?;
+        rest = behind;
+        left -= 1;
+    }
+    Ok((records, rest))
+}
+
+/// How many records are stated, and those that were read.
+#[tactic(auto, using(crate::proofs::Accepting::through, crate::proofs::Accepting::stops_memory, crate::proofs::Accepting::row_most), unfolding(crate::specs::Reading::tree, crate::specs::Reading::bind, crate::specs::Reading::done))]
+fn read_tree(
+    alloc: Global,
+    nodes: u32,
+    links: u32,
+    text: &[u8],
+) -> Result<(u32, Vec<TreeNode>, &[u8]), Stop>
+    ensures reads { Reads seen_tree result (tree nodes links (lines_of text.now)) }
+    ensures few { IfOk result (λ x. length x.1.items ≤ 8193) }
+{
+    let (count, text) = number_line(alloc, b"TREE", 1, MAX_RECORDS as u32, text)?;
+    let (records, text) = read_records(alloc, nodes, links, count, text)?;
+    Ok((count, records, text))
+}
+
+/// All lines before the last.
+#[tactic(auto, using(crate::proofs::Accepting::through, crate::proofs::Accepting::stops_memory), unfolding(crate::specs::Reading::before_end, crate::specs::Reading::bind, crate::specs::Reading::done))]
+fn read_before_end(alloc: Global, text: &[u8]) -> Result<(Draft, &[u8]), Stop>
+    ensures reads { Reads seen_draft result (before_end (lines_of text.now)) }
+    ensures few { IfOk result (λ x. length x.0.records.items ≤ 8193) }
+{
+    let (head, text) = read_head(alloc, text)?;
+    let (design, text) = read_design(alloc, head, text)?;
+    let (bound, text) = read_bound(alloc, head.status, text)?;
+    let (count, records, text) = read_tree(alloc, head.nodes, head.links, text)?;
+    let draft = Draft {
+        head,
+        design,
+        bound,
+        count,
+        records,
+    };
+    Ok((draft, text))
+}
+
+impl Draft {
+    ghost use Rattle.std.specs.Prelude.{◌≡◌, ◌≤◌, ◌<◌, ◌^◌, length, IfOk};
+    ghost use Rattle.cert_format.specs.Bodies.{only_if};
+    ghost use Rattle.cert_format.specs.Drafts.{is_complete};
+    ghost use Rattle.cert_format.specs.Answers.{drafted};
+
+    /// The plan, where the tree is whole and has as many records as stated.
+    fn into_plan(self) -> Option<Plan>
+        requires { length self.records.items ≤ 8193 }
+        ensures { result ≡ only_if (is_complete (drafted self).0 (drafted self).1) (drafted self).1 }
+    {
+        if self.records.len() != self.count as usize {
+            return None;
+        }
+        match Tree::from_nodes(self.records) {
+            Ok(tree) => Some(Plan {
+                nodes: self.head.nodes,
+                links: self.head.links,
+                demands: self.head.demands,
+                status: self.head.status,
+                budget: self.head.budget,
+                examined: self.head.examined,
+                design: self.design,
+                bound: self.bound,
+                tree,
+            }),
+            Err(_) => None,
+        }
+    }
+}
+
+/// The last line, which only a whole tree may have, and nothing behind it.
+fn read_ending(draft: Draft, text: &[u8]) -> Result<Plan, Stop>
+    requires { length draft.records.items ≤ 8193 }
+    ensures { Reads (λ plan. plan) result (ending (drafted draft, lines_of text.now)) }
+{
+    let Some(plan) = draft.into_plan() else {
+        return Err(Stop::At(text.len()));
+    };
+    let (_, rest) = fixed_line(b"END", text)?;
+    if rest.is_empty() {
+        Ok(plan)
+    } else {
+        Err(Stop::At(rest.len()))
+    }
+}
+
+/// The plan of all lines.
+#[tactic(auto, using(crate::proofs::Accepting::through, crate::proofs::Accepting::stops_memory), unfolding(crate::specs::Reading::whole_plan, crate::specs::Reading::bind, crate::specs::Reading::done))]
+fn whole_plan(alloc: Global, text: &[u8]) -> Result<Plan, Stop>
+    ensures { Reads (λ plan. plan) result (whole_plan (lines_of text.now)) }
+{
+    let (draft, text) = read_before_end(alloc, text)?;
+    read_ending(draft, text)
+}
+
+/// Reads the plan that a text spells.
+///
+/// - Takes: a text of at most `MAX_PLAN_BYTES` bytes.
+/// - Gives: the plan; whether it is valid is not asked.
+/// - Errors: `Line`, exactly where a line cannot stand where it stands, at the first such line, a last
+///   line without its end too; `Ended`, exactly where all lines can stand and a further one must
+///   follow; `OutOfMemory` may stand in place of any answer.
+/// - Rule: docs/DEFINITIONS.md, "Plan texts".
+/// - Time: linear in the text.
+#[tactic(auto, using(crate::proofs::OneFault::answers_plan, crate::proofs::OneFault::answers_fault, crate::proofs::OneFault::answers_only_plan, crate::proofs::OneFault::answers_only_fault))]
+pub fn read_plan(alloc: Global, text: &[u8]) -> Result<Plan, PlanFault>
+    requires length { length text.now ≤ MAX_PLAN_BYTES }
+    // The text spells this plan.
+    ensures value { IfOk result (SpellsPlan text.now) }
+    // It spells no other, and what it spells is the answer, unless memory runs out.
+    ensures value_only { (plan : AnyPlan) → SpellsPlan text.now plan → OnlyPlan result plan }
+    // This is wrong with the text.
+    ensures fault { IfErr result (IsFault text.now) }
+    // Nothing else is told of a text with this fault, unless memory runs out.
+    ensures fault_only { (fault : PlanFault) → IsFault text.now fault → OnlyFault result fault }
+{
+    plan_or_fault(alloc, text)
+}
+
+/// The plan of all lines, or the place where reading stops.
+#[tactic(auto, unfolding(crate::specs::Reading::plan_of))]
+fn plan_or_fault(alloc: Global, text: &[u8]) -> Result<Plan, PlanFault>
+    requires { length text.now ≤ MAX_PLAN_BYTES }
+    ensures { Gives result (plan_of text.now) }
+{
+    match whole_plan(alloc, text) {
+        Ok(plan) => Ok(plan),
+        Err(Stop::Memory) => Err(PlanFault::OutOfMemory),
+        Err(Stop::At(left)) => Err(fault_at(text.len(), left)),
+    }
+}
+
+/// The fault of a text of this length in which reading stops where so many bytes are left.
+#[tactic(auto, using(crate::proofs::Accepting::ended_at, crate::proofs::Accepting::line_at))]
+fn fault_at(whole: usize, left: usize) -> PlanFault
+    requires { whole ≤ MAX_PLAN_BYTES }
+    ensures { (bytes : List ℕ) → left ≡ length bytes → result ≡ place_of whole (lines_of bytes) }
+{
+    if left == 0 {
+        PlanFault::Ended { at: whole as u32 }
+    } else {
+        PlanFault::Line {
+            at: whole.saturating_sub(left) as u32,
+        }
+    }
+}

@@ -1,0 +1,113 @@
+//! What the line of a record is read as, without its line end.
+
+ghost use Rattle.std.specs.Prelude.{◌≡◌, ◌^◌, length, Some, None, IfOk, option_and_then};
+ghost use Rattle.cert_format.specs.Words.{numbers_of};
+ghost use Rattle.cert_format.specs.Bodies.{ascends, side_of, sides_of, split_in, record_of};
+ghost use Rattle.cert_format.specs.Answers.{side_view, sides_view};
+
+use crate::bodies::arcs;
+use crate::evidence::leaf;
+use crate::words::{behind, numbers};
+use plan_base::{ArcId, DemandId, Items, NodeId};
+use proof_tree::TreeNode;
+use proof_tree::limits::MAX_SIDE_ARCS;
+use std::alloc::{AllocError, Global};
+
+/// Whether each number is greater than the one before it.
+#[tactic(auto, using(crate::proofs::Flags::ascends_more, crate::proofs::Flags::ascends_stop, crate::proofs::Flags::ascends_end))]
+fn ascends(numbers: &[u128]) -> bool
+    ensures { result ≡ ascends numbers.now }
+{
+    for place in 1..numbers.len() {
+        if numbers[place] <= numbers[place - 1] {
+            return false;
+        }
+    }
+    true
+}
+
+/// One side of a split, and the numbers behind it.
+#[tactic(auto, unfolding(crate::specs::Bodies::side_of))]
+fn side(alloc: Global, numbers: &[u128]) -> Result<Option<(Vec<ArcId>, &[u128])>, AllocError>
+    ensures { IfOk result (λ found. side_view found ≡ side_of numbers.now) }
+{
+    let [count, rest @ ..] = numbers else {
+        return Ok(None);
+    };
+    if *count > MAX_SIDE_ARCS as u128 || *count > rest.len() as u128 {
+        return Ok(None);
+    }
+    let (set, behind) = rest.split_at(*count as usize);
+    if !ascends(set) {
+        return Ok(None);
+    }
+    match arcs(alloc, set)? {
+        Some(arcs) => Ok(Some((arcs, behind))),
+        None => Ok(None),
+    }
+}
+
+/// Both sides of a split.
+#[tactic(auto, unfolding(crate::specs::Bodies::sides_of))]
+fn sides(alloc: Global, numbers: &[u128]) -> Result<Option<(Vec<ArcId>, Vec<ArcId>)>, AllocError>
+    ensures { IfOk result (λ found. sides_view found ≡ sides_of numbers.now) }
+{
+    let Some((left, rest)) = side(alloc, numbers)? else {
+        return Ok(None);
+    };
+    match side(alloc, rest)? {
+        Some((right, [])) => Ok(Some((left, right))),
+        _ => Ok(None),
+    }
+}
+
+/// The numbers of a split.
+#[tactic(auto, unfolding(crate::specs::Bodies::split_in))]
+fn split_in(alloc: Global, numbers: &[u128]) -> Result<Option<TreeNode>, AllocError>
+    ensures { IfOk result (λ found. found ≡ split_in numbers.now) }
+{
+    let [demand, node, rest @ ..] = numbers else {
+        return Ok(None);
+    };
+    if *demand >= 1 << 32 || *node >= 1 << 32 {
+        return Ok(None);
+    }
+    match sides(alloc, rest)? {
+        Some((left, right)) => Ok(Some(TreeNode::Split {
+            demand: DemandId(*demand as u32),
+            node: NodeId(*node as u32),
+            left: Items::from_vec(left),
+            right: Items::from_vec(right),
+        })),
+        None => Ok(None),
+    }
+}
+
+/// A split, behind its word.
+fn split(alloc: Global, bytes: &[u8]) -> Result<Option<TreeNode>, AllocError>
+    ensures { IfOk result (λ found. found ≡ option_and_then (split_in) (numbers_of bytes.now)) }
+{
+    match numbers(alloc, bytes)? {
+        Some(numbers) => split_in(alloc, numbers.as_slice()),
+        None => Ok(None),
+    }
+}
+
+/// A record.
+#[tactic(auto, unfolding(crate::specs::Bodies::record_of))]
+pub(crate) fn record(
+    alloc: Global,
+    nodes: u32,
+    links: u32,
+    body: &[u8],
+) -> Result<Option<TreeNode>, AllocError>
+    ensures { IfOk result (λ found. found ≡ record_of nodes links body.now) }
+{
+    if let Some(rest) = behind(b"SPLIT", body) {
+        return split(alloc, rest);
+    }
+    match leaf(alloc, nodes, links, body)? {
+        Some(evidence) => Ok(Some(TreeNode::Leaf(evidence))),
+        None => Ok(None),
+    }
+}

@@ -1,0 +1,383 @@
+//! Writing the text of a plan.
+
+ghost use Rattle.std.specs.Prelude.{◌≡◌, ◌<◌, ◌^◌, ◌++◌, ◌∷◌, [], length, map, decimal, codes, IfOk, OnOk, IfSome, Some};
+ghost use Rattle.std.specs.List.{AllByRecursion};
+ghost use Rattle.proof_tree.specs.Spellings.{IsSpellable, FitsStatus};
+ghost use Rattle.cert_format.specs.Lines.{whole, line_text};
+ghost use Rattle.cert_format.specs.Words.{numerals, row};
+ghost use Rattle.cert_format.specs.Grammar.{arc_numbers, counted, status_line, cost_line, signed_text, bound_line, path_line, modules_line, members, leaf_line, record_line, design_lines, bound_lines, head_lines, AreWithin, AreArcs, HasLeafFields, HasRecordFields, HasDesignFields, IsBoundField, HasFields, SpellsPlan, plan_text};
+ghost use Rattle.scaled_numbers.specs.Canonical.{grains_text};
+ghost use Rattle.cert_format.specs.Written.{lines_text, Appends};
+
+use itoa::Buffer;
+use plan_base::{ArcId, Design, Items, Path};
+use proof_tree::{Evidence, Plan, PlanStatus, TreeNode};
+use scaled_numbers::write_grains;
+use std::alloc::{AllocError, Global};
+
+/// Appends a blank and a number.
+fn push_number(n: u128, out: &mut Vec<u8>) -> Result<(), AllocError>
+    ensures text { Appends result out.old.items out.new.items (32 ∷ decimal n) }
+    ensures field { OnOk result (n < 2 ^ 128) }
+{
+    let mut buffer = Buffer::new();
+    out.push(b' ')?;
+    out.extend_from_slice(buffer.format(n).as_bytes())
+}
+
+/// Appends numbers, a blank in front of each.
+fn push_numbers(numbers: &[u128], out: &mut Vec<u8>) -> Result<(), AllocError>
+    ensures text { Appends result out.old.items out.new.items (numerals numbers.now) }
+    ensures fields { OnOk result (AreWithin 128 numbers.now) }
+{
+    for n in numbers {
+        push_number(*n, out)?;
+    }
+    Ok(())
+}
+
+/// Appends a line of these bytes.
+fn push_fixed(line: &[u8], out: &mut Vec<u8>) -> Result<(), AllocError>
+    ensures { Appends result out.old.items out.new.items (line_text (whole line.now)) }
+{
+    out.extend_from_slice(line)?;
+    out.push(b'\n')?;
+    Ok(())
+}
+
+/// Appends a line of a word and numbers.
+#[tactic(auto, using(crate::proofs::WrittenPieces::row_pieces))]
+fn push_row(word: &[u8], numbers: &[u128], out: &mut Vec<u8>) -> Result<(), AllocError>
+    ensures text { Appends result out.old.items out.new.items (line_text (whole (row word.now numbers.now))) }
+    ensures fields { OnOk result (AreWithin 128 numbers.now) }
+{
+    out.extend_from_slice(word)?;
+    push_numbers(numbers, out)?;
+    out.push(b'\n')?;
+    Ok(())
+}
+
+/// Appends a line of a word and a number.
+fn push_number_row(word: &[u8], n: u32, out: &mut Vec<u8>) -> Result<(), AllocError>
+    ensures text { Appends result out.old.items out.new.items (line_text (whole (row word.now (n ∷ [])))) }
+    ensures fields { OnOk result (n < 2 ^ 32) }
+{
+    push_row(word, &[u128::from(n)], out)
+}
+
+/// Appends how many arcs there are, and their numbers.
+#[tactic(auto, using(crate::proofs::WrittenPieces::items_more, crate::proofs::FieldsSoFar::fields_more))]
+fn push_arcs(arcs: &[ArcId], numbers: &mut Vec<u128>) -> Result<(), AllocError>
+    ensures text { Appends result numbers.old.items numbers.new.items (counted (arc_numbers arcs.now)) }
+    ensures fields { OnOk result (AreArcs arcs.now) }
+{
+    numbers.push(arcs.len() as u128)?;
+    for arc in arcs {
+        numbers.push(u128::from(arc.0))?;
+    }
+    Ok(())
+}
+
+/// Appends how many counts there are, and the counts.
+#[tactic(auto, using(crate::proofs::WrittenPieces::items_more, crate::proofs::FieldsSoFar::fields_more))]
+fn push_counts(counts: &[u64], numbers: &mut Vec<u128>) -> Result<(), AllocError>
+    ensures text { Appends result numbers.old.items numbers.new.items (counted counts.now) }
+    ensures fields { OnOk result (AreWithin 64 counts.now) }
+{
+    numbers.push(counts.len() as u128)?;
+    for count in counts {
+        numbers.push(u128::from(*count))?;
+    }
+    Ok(())
+}
+
+/// The nodes that are reached.
+#[tactic(auto, using(crate::proofs::WrittenPieces::members_in, crate::proofs::WrittenPieces::members_out, crate::proofs::WrittenPieces::members_end))]
+fn members(alloc: Global, reached: &[bool]) -> Result<Vec<u128>, AllocError>
+    ensures { IfOk result (λ nodes. nodes.items ≡ members 0 reached.now) }
+{
+    let mut nodes = Vec::new(alloc);
+    for (node, is_reached) in reached.iter().enumerate() {
+        if *is_reached {
+            nodes.push(node as u128)?;
+        }
+    }
+    Ok(nodes)
+}
+
+/// Appends the line of the status.
+fn push_status(status: PlanStatus, out: &mut Vec<u8>) -> Result<(), AllocError>
+    ensures { Appends result out.old.items out.new.items (line_text (whole (status_line status))) }
+{
+    match status {
+        PlanStatus::Optimal => push_fixed(b"STATUS OPTIMAL", out),
+        PlanStatus::Infeasible => push_fixed(b"STATUS INFEASIBLE", out),
+        PlanStatus::Undecided => push_fixed(b"STATUS UNDECIDED", out),
+    }
+}
+
+/// Appends the line of the cost.
+fn push_cost(cost: u128, out: &mut Vec<u8>) -> Result<(), AllocError>
+    ensures { Appends result out.old.items out.new.items (line_text (whole (cost_line (Some cost)))) }
+{
+    out.extend_from_slice(b"COST ")?;
+    write_grains(cost, 12, out)?;
+    out.push(b'\n')?;
+    Ok(())
+}
+
+/// Appends a bound.
+fn push_signed(bound: i128, out: &mut Vec<u8>) -> Result<(), AllocError>
+    ensures text { Appends result out.old.items out.new.items (signed_text bound) }
+    ensures fields { OnOk result (IsBoundField bound) }
+{
+    if bound < 0 {
+        out.push(b'-')?;
+    }
+    write_grains(bound.unsigned_abs(), 12, out)
+}
+
+/// Appends the line of the bound.
+fn push_bound_line(bound: Option<i128>, out: &mut Vec<u8>) -> Result<(), AllocError>
+    ensures text { Appends result out.old.items out.new.items (line_text (whole (bound_line bound))) }
+    ensures fields { OnOk result (IfSome bound IsBoundField) }
+{
+    let Some(bound) = bound else {
+        return push_fixed(b"BOUND none", out);
+    };
+    out.extend_from_slice(b"BOUND ")?;
+    push_signed(bound, out)?;
+    out.push(b'\n')?;
+    Ok(())
+}
+
+/// Appends the five lines that begin each text.
+#[tactic(auto, using(crate::proofs::WrittenPieces::head_pieces))]
+fn push_head(plan: &Plan, out: &mut Vec<u8>) -> Result<(), AllocError>
+    ensures text { Appends result out.old.items out.new.items (lines_text (head_lines plan.now)) }
+    ensures fields { OnOk result (plan.now.examined < 2 ^ 32) }
+{
+    let sizes = [
+        u128::from(plan.nodes),
+        u128::from(plan.links),
+        u128::from(plan.demands),
+    ];
+    push_fixed(b"SNDPLAN 1", out)?;
+    push_row(b"SIZE", &sizes, out)?;
+    push_status(plan.status, out)?;
+    push_number_row(b"BUDGET", plan.budget, out)?;
+    push_number_row(b"EXAMINED", plan.examined, out)
+}
+
+/// Appends the line of a path.
+fn push_path(alloc: Global, path: &Path, out: &mut Vec<u8>) -> Result<(), AllocError>
+    ensures text { Appends result out.old.items out.new.items (line_text (whole (path_line path.now))) }
+    ensures fields { OnOk result (AreArcs path.now) }
+{
+    let mut numbers = Vec::new(alloc);
+    push_arcs(path.as_slice(), &mut numbers)?;
+    push_row(b"PATH", numbers.as_slice(), out)
+}
+
+/// Appends the lines of the paths.
+#[tactic(auto, using(crate::proofs::WrittenPieces::lines_more, crate::proofs::FieldsSoFar::fields_more))]
+fn push_paths(alloc: Global, paths: &[Path], out: &mut Vec<u8>) -> Result<(), AllocError>
+    ensures text { Appends result out.old.items out.new.items (lines_text (map path_line paths.now)) }
+    ensures fields { OnOk result (AllByRecursion AreArcs paths.now) }
+{
+    for path in paths {
+        push_path(alloc, path, out)?;
+    }
+    Ok(())
+}
+
+/// Appends the line of a link's counts of modules.
+fn push_modules(alloc: Global, counts: &[u64], out: &mut Vec<u8>) -> Result<(), AllocError>
+    ensures text { Appends result out.old.items out.new.items (line_text (whole (modules_line counts.now))) }
+    ensures fields { OnOk result (AreWithin 64 counts.now) }
+{
+    let mut numbers = Vec::new(alloc);
+    push_counts(counts, &mut numbers)?;
+    push_row(b"MODULES", numbers.as_slice(), out)
+}
+
+/// Appends the lines of the counts of modules.
+#[tactic(auto, using(crate::proofs::WrittenPieces::lines_more, crate::proofs::FieldsSoFar::fields_more))]
+fn push_count_lists(
+    alloc: Global,
+    lists: &[Items<u64>],
+    out: &mut Vec<u8>,
+) -> Result<(), AllocError>
+    ensures text { Appends result out.old.items out.new.items (lines_text (map modules_line lists.now)) }
+    ensures fields { OnOk result (AllByRecursion (AreWithin 64) lists.now) }
+{
+    for counts in lists {
+        push_modules(alloc, counts.as_slice(), out)?;
+    }
+    Ok(())
+}
+
+/// Appends the cost, the paths and the counts of modules of a design.
+#[tactic(auto, using(crate::proofs::WrittenPieces::design_pieces))]
+fn push_design(
+    alloc: Global,
+    cost: u128,
+    design: &Design,
+    out: &mut Vec<u8>,
+) -> Result<(), AllocError>
+    ensures text { Appends result out.old.items out.new.items (lines_text (design_lines (Some (cost, design.now)))) }
+    ensures fields { OnOk result (HasDesignFields cost design.now) }
+{
+    push_cost(cost, out)?;
+    push_paths(alloc, design.paths.as_slice(), out)?;
+    push_count_lists(alloc, design.counts.as_slice(), out)
+}
+
+/// Appends the cost and the design, or that there is none.
+#[tactic(auto, unfolding(crate::specs::Grammar::design_lines))]
+fn push_design_lines(alloc: Global, plan: &Plan, out: &mut Vec<u8>) -> Result<(), AllocError>
+    ensures text { Appends result out.old.items out.new.items (lines_text (design_lines plan.now.design)) }
+    ensures fields { OnOk result (IfSome plan.now.design (λ design. HasDesignFields design.0 design.1)) }
+{
+    match &plan.design {
+        Some((cost, design)) => push_design(alloc, *cost, design, out),
+        None => push_fixed(b"COST none", out),
+    }
+}
+
+/// Appends the bound of an undecided plan.
+#[tactic(auto, unfolding(crate::specs::Grammar::bound_lines))]
+fn push_bound(plan: &Plan, out: &mut Vec<u8>) -> Result<(), AllocError>
+    requires status { FitsStatus plan.now.status plan.now.design plan.now.bound }
+    ensures text { Appends result out.old.items out.new.items (lines_text (bound_lines plan.now.status plan.now.bound)) }
+    ensures fields { OnOk result (IfSome plan.now.bound IsBoundField) }
+{
+    match plan.status {
+        PlanStatus::Optimal | PlanStatus::Infeasible => Ok(()),
+        PlanStatus::Undecided => push_bound_line(plan.bound, out),
+    }
+}
+
+/// Appends the line of a cut.
+fn push_cut(
+    alloc: Global,
+    demand: u32,
+    reached: &[bool],
+    out: &mut Vec<u8>,
+) -> Result<(), AllocError>
+    ensures { Appends result out.old.items out.new.items
+        (line_text (whole (row (codes "CUT") (demand ∷ counted (members 0 reached.now))))) }
+{
+    let nodes = members(alloc, reached)?;
+    let mut numbers = Vec::new(alloc);
+    numbers.push(u128::from(demand))?;
+    numbers.push(nodes.len() as u128)?;
+    numbers.extend_from_slice(nodes.as_slice())?;
+    push_row(b"CUT", numbers.as_slice(), out)
+}
+
+/// Appends the line of a leaf.
+#[tactic(auto, unfolding(crate::specs::Grammar::leaf_line))]
+fn push_leaf(alloc: Global, evidence: &Evidence, out: &mut Vec<u8>) -> Result<(), AllocError>
+    ensures text { Appends result out.old.items out.new.items (line_text (whole (leaf_line evidence.now))) }
+    ensures fields { OnOk result (HasLeafFields evidence.now) }
+{
+    match evidence {
+        Evidence::Bound(prices) => push_row(b"PRICED", prices.as_slice(), out),
+        Evidence::Routed => push_fixed(b"ROUTED", out),
+        Evidence::Overfull { link } => push_number_row(b"OVERFULL", link.0, out),
+        Evidence::Cut { demand, reached } => push_cut(alloc, demand.0, reached.as_slice(), out),
+        Evidence::Crowd(prices) => push_row(b"CROWD", prices.as_slice(), out),
+        Evidence::Open(prices) => push_row(b"OPEN", prices.as_slice(), out),
+    }
+}
+
+/// Appends the line of a split.
+fn push_split(
+    alloc: Global,
+    ids: (u32, u32),
+    left: &[ArcId],
+    right: &[ArcId],
+    out: &mut Vec<u8>,
+) -> Result<(), AllocError>
+    ensures text { Appends result out.old.items out.new.items
+        (line_text (whole (row (codes "SPLIT")
+        (ids.0 ∷ ids.1 ∷ (counted (arc_numbers left.now) ++ counted (arc_numbers right.now)))))) }
+    ensures fields { OnOk result ((ids.0 < 2 ^ 32) × (ids.1 < 2 ^ 32) × AreArcs left.now × AreArcs right.now) }
+{
+    let mut numbers = Vec::new(alloc);
+    numbers.push(u128::from(ids.0))?;
+    numbers.push(u128::from(ids.1))?;
+    push_arcs(left, &mut numbers)?;
+    push_arcs(right, &mut numbers)?;
+    push_row(b"SPLIT", numbers.as_slice(), out)
+}
+
+/// Appends the line of a record.
+#[tactic(auto, unfolding(crate::specs::Grammar::record_line))]
+fn push_record(alloc: Global, node: &TreeNode, out: &mut Vec<u8>) -> Result<(), AllocError>
+    ensures text { Appends result out.old.items out.new.items (line_text (whole (record_line node.now))) }
+    ensures fields { OnOk result (HasRecordFields node.now) }
+{
+    match node {
+        TreeNode::Split {
+            demand,
+            node,
+            left,
+            right,
+        } => push_split(
+            alloc,
+            (demand.0, node.0),
+            left.as_slice(),
+            right.as_slice(),
+            out,
+        ),
+        TreeNode::Leaf(evidence) => push_leaf(alloc, evidence, out),
+    }
+}
+
+/// Appends the lines of the records.
+#[tactic(auto, using(crate::proofs::WrittenPieces::lines_more, crate::proofs::FieldsSoFar::fields_more))]
+fn push_records(alloc: Global, nodes: &[TreeNode], out: &mut Vec<u8>) -> Result<(), AllocError>
+    ensures text { Appends result out.old.items out.new.items (lines_text (map record_line nodes.now)) }
+    ensures fields { OnOk result (AllByRecursion HasRecordFields nodes.now) }
+{
+    for node in nodes {
+        push_record(alloc, node, out)?;
+    }
+    Ok(())
+}
+
+/// Writes the one text of a plan.
+///
+/// - Takes: a plan whose `fits` holds.
+/// - Gives: the lines of the plan, each with its line end; `read_plan` answers this plan for them.
+/// - Errors: want of memory alone.
+/// - Rule: docs/DEFINITIONS.md, "Plan texts".
+/// - Time: linear in the text.
+pub fn write_plan(alloc: Global, plan: &Plan) -> Result<Vec<u8>, AllocError>
+    requires fits { IsSpellable plan.now }
+    ensures text { IfOk result (λ text. text.items ≡ plan_text plan.now) }
+    // It spells the plan.
+    ensures spelt { IfOk result (λ text. SpellsPlan text.items plan.now) }
+{
+    whole_text(alloc, plan)
+}
+
+/// All lines of a plan.
+#[tactic(auto, using(crate::proofs::WrittenPieces::plan_pieces))]
+fn whole_text(alloc: Global, plan: &Plan) -> Result<Vec<u8>, AllocError>
+    requires fits { IsSpellable plan.now }
+    ensures text { IfOk result (λ text. text.items ≡ plan_text plan.now) }
+    ensures fields { IfOk result (λ text. HasFields plan.now) }
+{
+    let mut out = Vec::new(alloc);
+    let nodes = plan.tree.nodes();
+    push_head(plan, &mut out)?;
+    push_design_lines(alloc, plan, &mut out)?;
+    push_bound(plan, &mut out)?;
+    push_row(b"TREE", &[nodes.len() as u128], &mut out)?;
+    push_records(alloc, nodes, &mut out)?;
+    push_fixed(b"END", &mut out)?;
+    Ok(out)
+}
