@@ -1,0 +1,197 @@
+-- What each kind of leaf finds, rule by rule.
+use Rattle.std.proofs.Common.{◌≡◌, ℕ, ◌<◌, ◌≤◌, ◌*◌, ◌&&◌, inl, inr, Bool, true, false, not, List, length, slice_index, Option, Some, None, Result, Ok, Err, refl, sym, ap, subst, ◌∙◌, arith}
+use Rattle.std.specs.Prelude.{◌↔◌, IfOk, IfNone, IsSomeAnd, IsTrue, IsFalse, ℤ, pos, ◌≤ℤ◌}
+use Rattle.std.proofs.lemmas.Bool.{true≢false}
+use Rattle.plan_base.specs.declared.ids.LinkId.{LinkId}
+use Rattle.plan_base.specs.declared.ids.DemandId.{DemandId}
+use Rattle.plan_base.specs.declared.parts.Parts.{Parts}
+use Rattle.plan_base.specs.declared.path.Design.{Design}
+use Rattle.plan_base.specs.Arcs.{is_arc, tail_of, head_of, link_at, demand_at}
+use Rattle.plan_base.proofs.SumsBelow.{sum_below-same}
+use Rattle.link_steps.specs.Costs.{CannotCarry, IsLeastModuleCost}
+use Rattle.arc_restrict.specs.Restrictions.{Forbidden}
+use Rattle.arc_restrict.specs.Prices.{AreWithinLimit, IsLeastPrice}
+use Rattle.proof_tree.specs.declared.tree.Evidence.TheVariants.{Bound, Routed, Overfull, Cut, Crowd, Open}
+use Rattle.proof_tree.specs.Bounds.{IsBound, AreLeastPrices, price_total}
+use Rattle.proof_tree.specs.Evidence.{AreOnlyPaths, holds, ClosedByCrowd}
+use Rattle.proof_tree.specs.Plans.{IsOpenBound}
+use Rattle.proof_tree.proofs.Uniqueness.{bound-unique}
+use Rattle.cert_verifier.specs.declared.rejected.Rejected.{Rejected}
+use Rattle.cert_verifier.specs.declared.rejected.Rejected.TheVariants.{Leaf}
+use Rattle.cert_verifier.specs.Leaving.{IsNoWayOut}
+use Rattle.cert_verifier.specs.Totals.{IsPriceTotal, capacity_price}
+use Rattle.cert_verifier.specs.Routings.{IsCostOfLoads, HasOverfull}
+use Rattle.cert_verifier.specs.LeafRules.{HavePaths, AreFreeOnUseful, Closes, LeafFinds}
+use Rattle.cert_verifier.proofs.LeafLaws.{leaf_finds_none}
+use Rattle.cert_verifier.proofs.RoutingLaws.{AreLoadsOf, only_paths, only_carry, only_overfull, routing_closes, routing_cost, overfull_closes, carried_stays}
+
+-- the prices do not fit
+pub not_within : (fits : Bool) (A B : Type 0) → (IsTrue fits ↔ (A × B)) → A → fits ≡ false → B → ⊥
+not_within fits A B both a is b = true≢false (sym (both.1 (a, b)) ∙ is)
+
+-- a test that fails tells that the fact fails
+pub not_so : (test : Bool) (A : Type 0) → (IsTrue test ↔ A) → test ≡ false → A → ⊥
+not_so test A both is a = true≢false (sym (both.1 a) ∙ is)
+
+paths_of_prices : (p : Parts) (r : Forbidden) (prices : List ℕ) (least_prices : ℕ → ℕ) → AreLeastPrices p r prices least_prices → HavePaths p r
+paths_of_prices p r prices least_prices are_least k below = let least = are_least k below in (least.path, least.permitted)
+
+bound_is_above : (p : Parts) (cost : Option ℕ) (r : Forbidden) (prices : List ℕ) (bound : ℤ) → IsBound p r prices bound → Closes p cost r (Bound prices) → IsSomeAnd cost (λ c. pos c ≤ℤ bound)
+bound_is_above p None r prices bound is closed = closed
+bound_is_above p (Some c) r prices bound is closed = subst (λ (b : ℤ). pos c ≤ℤ b) (bound-unique p r prices closed.bound bound closed.is_bound is) closed.enough
+
+bound_closes : (p : Parts) (cost : Option ℕ) (r : Forbidden) (prices : List ℕ) (bound : ℤ) → AreWithinLimit p prices → IsBound p r prices bound → IsSomeAnd cost (λ c. pos c ≤ℤ bound) → Closes p cost r (Bound prices)
+bound_closes p None r prices bound within is enough = enough
+bound_closes p (Some c) r prices bound within is enough = record { within_limit = within; bound = bound; is_bound = is; enough = enough }
+
+-- the bound is below the cost
+pub bound_too_low : (p : Parts) (cost : Option ℕ) (r : Forbidden) (index : ℕ) (prices : List ℕ) (bound : ℤ) → AreWithinLimit p prices → IsBound p r prices bound → (IsSomeAnd cost (λ c. pos c ≤ℤ bound) → ⊥)
+    → LeafFinds p cost r index (Bound prices) (Some (Leaf index 3))
+unfolding LeafFinds
+bound_too_low p cost r index prices bound within is low =
+    inr (inl (within, refl), inr (inl (paths_of_prices p r prices is.least_prices is.are_least, refl), inr ((λ closed. low (bound_is_above p cost r prices bound is closed)), refl)))
+
+-- what is told of a leaf with a bound
+pub bound_decided : (p : Parts) (cost : Option ℕ) (r : Forbidden) (index : ℕ) (prices : List ℕ) (bound : ℤ) (above : Bool) (found : Option Rejected) → AreWithinLimit p prices → IsBound p r prices bound
+    → (IsTrue above ↔ IsSomeAnd cost (λ c. pos c ≤ℤ bound)) → (IsTrue above → found ≡ None) → (IsFalse above → found ≡ Some (Leaf index 3)) → LeafFinds p cost r index (Bound prices) found
+bound_decided p cost r index prices bound true found within is enough ok broken = rw (ok refl) (leaf_finds_none p cost r index (Bound prices) (bound_closes p cost r prices bound within is (enough.0 refl)))
+bound_decided p cost r index prices bound false found within is enough ok broken = rw (broken refl) (bound_too_low p cost r index prices bound within is (λ above. true≢false (sym (enough.1 above))))
+
+-- a link cannot carry its load
+pub routed_overfull : (p : Parts) (cost : Option ℕ) (r : Forbidden) (index : ℕ) (d : Design) (loads : List ℕ) → AreOnlyPaths p r d → AreLoadsOf p d loads → HasOverfull p loads → LeafFinds p cost r index Routed (Some (Leaf index 3))
+unfolding LeafFinds
+routed_overfull p cost r index d loads only are_loads over =
+    inr (inl (only_paths p r d only, refl), inr (inl ((d, only), refl), inl (refl, inr (only_overfull p r d loads only are_loads over, refl))))
+
+routed_cost : (p : Parts) (cost : Option ℕ) (r : Forbidden) (d : Design) (loads : List ℕ) (total : ℕ) → AreOnlyPaths p r d → AreLoadsOf p d loads → IsCostOfLoads p loads total → Closes p cost r Routed → IsSomeAnd cost (λ c. c ≤ total)
+routed_cost p None r d loads total only are_loads is closed = closed
+routed_cost p (Some c) r d loads total only are_loads is closed = routing_cost p r d loads total c only are_loads is closed
+
+routed_closes : (p : Parts) (cost : Option ℕ) (r : Forbidden) (d : Design) (loads : List ℕ) (total : ℕ) → AreOnlyPaths p r d → AreLoadsOf p d loads → IsCostOfLoads p loads total → IsSomeAnd cost (λ c. c ≤ total) → Closes p cost r Routed
+routed_closes p None r d loads total only are_loads is enough = enough
+routed_closes p (Some c) r d loads total only are_loads is enough = routing_closes p r d loads total c only are_loads is enough
+
+-- the only paths cost too little
+pub routed_too_cheap : (p : Parts) (cost : Option ℕ) (r : Forbidden) (index : ℕ) (d : Design) (loads : List ℕ) (total : ℕ) → AreOnlyPaths p r d → AreLoadsOf p d loads → IsCostOfLoads p loads total
+    → (IsSomeAnd cost (λ c. c ≤ total) → ⊥) → LeafFinds p cost r index Routed (Some (Leaf index 4))
+unfolding LeafFinds
+routed_too_cheap p cost r index d loads total only are_loads is cheap =
+    inr (inl (only_paths p r d only, refl), inr (inl ((d, only), refl), inr (inl (only_carry p r d loads total only are_loads is, refl), inr ((λ closed. cheap (routed_cost p cost r d loads total only are_loads is closed)), refl))))
+
+-- what is told of a leaf with only paths that the links carry
+pub routed_decided : (p : Parts) (cost : Option ℕ) (r : Forbidden) (index : ℕ) (d : Design) (loads : List ℕ) (total : ℕ) (enough : Bool) (found : Option Rejected) → AreOnlyPaths p r d → AreLoadsOf p d loads
+    → IsCostOfLoads p loads total → (IsTrue enough ↔ IsSomeAnd cost (λ c. c ≤ total)) → (IsTrue enough → found ≡ None) → (IsFalse enough → found ≡ Some (Leaf index 4)) → LeafFinds p cost r index Routed found
+routed_decided p cost r index d loads total true found only are_loads is costs ok broken = rw (ok refl) (leaf_finds_none p cost r index Routed (routed_closes p cost r d loads total only are_loads is (costs.0 refl)))
+routed_decided p cost r index d loads total false found only are_loads is costs ok broken = rw (broken refl) (routed_too_cheap p cost r index d loads total only are_loads is (λ enough. true≢false (sym (costs.1 enough))))
+
+-- the link carries its load
+pub overfull_carried : (p : Parts) (cost : Option ℕ) (r : Forbidden) (index : ℕ) (link : LinkId) (d : Design) (loads : List ℕ) (least : ℕ) → link.0 < length p.links → AreOnlyPaths p r d → AreLoadsOf p d loads
+    → IsLeastModuleCost (link_at p link.0) (slice_index loads link.0) least → LeafFinds p cost r index (Overfull link) (Some (Leaf index 4))
+unfolding LeafFinds
+overfull_carried p cost r index link d loads least within only are_loads is =
+    inr (inl (within, refl), inr (inl (only_paths p r d only, refl), inr (inl ((d, only), refl), inr ((carried_stays p r d loads link least only are_loads is), refl))))
+
+pub overfull_found : (p : Parts) (cost : Option ℕ) (r : Forbidden) (index : ℕ) (link : LinkId) (d : Design) (loads : List ℕ) → link.0 < length p.links → AreOnlyPaths p r d → AreLoadsOf p d loads
+    → CannotCarry (link_at p link.0) (slice_index loads link.0) → LeafFinds p cost r index (Overfull link) None
+overfull_found p cost r index link d loads within only are_loads cannot = leaf_finds_none p cost r index (Overfull link) (overfull_closes p r d loads link only are_loads within cannot)
+
+-- of a leaf that is closed by a cut: there is no such demand
+pub cut_no_demand : (p : Parts) (cost : Option ℕ) (r : Forbidden) (index : ℕ) (id : DemandId) (reached : List Bool) → (id.0 < length p.demands → ⊥) → LeafFinds p cost r index (Cut id reached) (Some (Leaf index 1))
+unfolding LeafFinds
+cut_no_demand p cost r index id reached broken = inl (refl, inr (broken, refl))
+
+-- the source is outside
+pub cut_without_source : (p : Parts) (cost : Option ℕ) (r : Forbidden) (index : ℕ) (id : DemandId) (reached : List Bool) → id.0 < length p.demands → (IsTrue (holds reached (demand_at p id.0).source) → ⊥)
+    → LeafFinds p cost r index (Cut id reached) (Some (Leaf index 2))
+unfolding LeafFinds
+cut_without_source p cost r index id reached within broken = inr (inl (within, refl), inl (refl, inr (broken, refl)))
+
+-- the target is inside
+pub cut_with_target : (p : Parts) (cost : Option ℕ) (r : Forbidden) (index : ℕ) (id : DemandId) (reached : List Bool) → id.0 < length p.demands → IsTrue (holds reached (demand_at p id.0).source)
+    → (holds reached (demand_at p id.0).target ≡ false → ⊥) → LeafFinds p cost r index (Cut id reached) (Some (Leaf index 3))
+unfolding LeafFinds
+cut_with_target p cost r index id reached within source broken = inr (inl (within, refl), inr (inl (source, refl), inl (refl, inr (broken, refl))))
+
+stays_in : (arc forbidden tail head : Bool) → (arc && (not forbidden && (tail && not head))) ≡ false → IsTrue arc → forbidden ≡ false → IsTrue tail → IsTrue head
+stays_in true false true true none x y z = refl
+stays_in true false true false none x y z = absurd (let bad : true ≡ false = none in cc)
+stays_in true false false head none x y z = absurd (let bad : false ≡ true = z in cc)
+stays_in true true tail head none x y z = absurd (let bad : true ≡ false = y in cc)
+stays_in false forbidden tail head none x y z = absurd (let bad : false ≡ true = x in cc)
+
+leads_nowhere : (arc forbidden tail head : Bool) → (IsTrue arc → forbidden ≡ false → IsTrue tail → IsTrue head) → (arc && (not forbidden && (tail && not head))) ≡ false
+leads_nowhere true false true true inside = refl
+leads_nowhere true false true false inside = sym (inside refl refl refl)
+leads_nowhere true false false head inside = refl
+leads_nowhere true true tail head inside = refl
+leads_nowhere false forbidden tail head inside = refl
+
+-- a permitted arc leads out
+pub cut_way_out : (p : Parts) (cost : Option ℕ) (r : Forbidden) (index : ℕ) (id : DemandId) (reached : List Bool) → id.0 < length p.demands → IsTrue (holds reached (demand_at p id.0).source)
+    → holds reached (demand_at p id.0).target ≡ false → (IsNoWayOut p r id reached → ⊥) → LeafFinds p cost r index (Cut id reached) (Some (Leaf index 4))
+unfolding LeafFinds
+cut_way_out p cost r index id reached within source target way =
+    inr (inl (within, refl), inr (inl (source, refl), inr (inl (target, refl), inr ((λ closed. way (λ a. leads_nowhere (is_arc p a) (r id.0 a) (holds reached (tail_of p a)) (holds reached (head_of p a)) (closed.closed a))), refl))))
+
+pub cut_closed : (p : Parts) (cost : Option ℕ) (r : Forbidden) (index : ℕ) (id : DemandId) (reached : List Bool) → id.0 < length p.demands → IsTrue (holds reached (demand_at p id.0).source)
+    → holds reached (demand_at p id.0).target ≡ false → IsNoWayOut p r id reached → LeafFinds p cost r index (Cut id reached) None
+cut_closed p cost r index id reached within source target none =
+    leaf_finds_none p cost r index (Cut id reached) (record {
+      demand = within;
+      source = source;
+      target = target;
+      closed = λ a. stays_in (is_arc p a) (r id.0 a) (holds reached (tail_of p a)) (holds reached (head_of p a)) (none a);
+    })
+
+least_price-one : (p : Parts) (r : Forbidden) (prices : List ℕ) (k a b : ℕ) → IsLeastPrice p r prices k a → IsLeastPrice p r prices k b → a ≡ b
+least_price-one p r prices k a b ha hb =
+    let to_b = ha.least hb.path hb.permitted in
+    let to_a = hb.least ha.path ha.permitted in
+    omega (arith, ha.attained, hb.attained)
+
+price_total-one : (p : Parts) (r : Forbidden) (prices : List ℕ) (f g : ℕ → ℕ) → AreLeastPrices p r prices f → AreLeastPrices p r prices g → price_total p f ≡ price_total p g
+price_total-one p r prices f g hf hg =
+    sum_below-same (λ k. (demand_at p k).load * f k) (λ k. (demand_at p k).load * g k) (length p.demands)
+    (λ k below. ap (λ x. (demand_at p k).load * x) (least_price-one p r prices k (f k) (g k) (hf k below) (hg k below)))
+
+-- the demands ask for no more than there is
+pub crowd_too_small : (p : Parts) (cost : Option ℕ) (r : Forbidden) (index : ℕ) (prices : List ℕ) (total : ℕ) → AreWithinLimit p prices → AreFreeOnUseful p prices → IsPriceTotal p r prices total
+    → (capacity_price p prices < total → ⊥) → LeafFinds p cost r index (Crowd prices) (Some (Leaf index 4))
+unfolding LeafFinds
+crowd_too_small p cost r index prices total within free is small =
+    inr (inl (within, refl), inr (inl (free, refl), inr (inl (paths_of_prices p r prices is.least_prices is.are_least, refl), inr ((λ closed. small (subst (λ (t : ℕ). capacity_price p prices < t) (price_total-one p r prices closed.least_prices is.least_prices closed.are_least is.are_least ∙ sym is.is_total) closed.crowded)), refl))))
+
+crowd_closes : (p : Parts) (r : Forbidden) (prices : List ℕ) (total : ℕ) → AreWithinLimit p prices → AreFreeOnUseful p prices → IsPriceTotal p r prices total → capacity_price p prices < total → ClosedByCrowd p r prices
+crowd_closes p r prices total within free is more =
+    record {
+      within_limit = within;
+      free = free;
+      least_prices = is.least_prices;
+      are_least = is.are_least;
+      crowded = subst (λ (t : ℕ). capacity_price p prices < t) is.is_total more;
+    }
+
+-- what is told of a leaf with a price total
+pub crowd_decided : (p : Parts) (cost : Option ℕ) (r : Forbidden) (index : ℕ) (prices : List ℕ) (total : ℕ) (crowded : Bool) (found : Option Rejected) → AreWithinLimit p prices → AreFreeOnUseful p prices → IsPriceTotal p r prices total
+    → (IsTrue crowded ↔ (capacity_price p prices < total)) → (IsTrue crowded → found ≡ None) → (IsFalse crowded → found ≡ Some (Leaf index 4)) → LeafFinds p cost r index (Crowd prices) found
+crowd_decided p cost r index prices total true found within free is more ok broken = rw (ok refl) (leaf_finds_none p cost r index (Crowd prices) (crowd_closes p r prices total within free is (more.0 refl)))
+crowd_decided p cost r index prices total false found within free is more ok broken = rw (broken refl) (crowd_too_small p cost r index prices total within free is (λ crowded. true≢false (sym (more.1 crowded))))
+
+-- of an open leaf: the prices are above the limit
+pub open_above_limit : (p : Parts) (cost : Option ℕ) (r : Forbidden) (index : ℕ) (prices : List ℕ) → (AreWithinLimit p prices → ⊥) → LeafFinds p cost r index (Open prices) (Some (Leaf index 1))
+unfolding LeafFinds
+open_above_limit p cost r index prices broken = inr (broken, refl)
+
+pub open_within : (p : Parts) (cost : Option ℕ) (r : Forbidden) (index : ℕ) (prices : List ℕ) → AreWithinLimit p prices → LeafFinds p cost r index (Open prices) None
+open_within p cost r index prices within = leaf_finds_none p cost r index (Open prices) within
+
+-- without a path an open leaf has no bound
+pub open_unbounded : {E : Type 0} (p : Parts) (r : Forbidden) (prices : List ℕ) (found : Result (Option ℤ) E) → IfOk found (λ bound. IfNone bound (HavePaths p r → ⊥))
+    → IfOk found (λ bound. IfNone bound ((b : ℤ) → IsOpenBound p r (Open prices) b → ⊥))
+open_unbounded p r prices (Ok None) none = λ b is. none (paths_of_prices p r prices is.least_prices is.are_least)
+open_unbounded p r prices (Ok (Some b)) none = none
+open_unbounded p r prices (Err e) none = none
+
+pub ruleset cut_findings = (cut_no_demand, cut_without_source, cut_with_target, cut_way_out, cut_closed)
+
+pub ruleset open_findings = (open_above_limit, open_within)

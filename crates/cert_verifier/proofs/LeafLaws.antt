@@ -1,0 +1,75 @@
+-- A leaf breaks no rule exactly where it has its evidence.
+use Rattle.std.proofs.Common.{None, Some, inl, inr, refl}
+use Rattle.std.specs.Prelude.{ℕ, List, Option}
+use Rattle.plan_base.specs.declared.parts.Parts.{Parts}
+use Rattle.plan_base.specs.declared.path.Design.{Design}
+use Rattle.arc_restrict.specs.Restrictions.{Forbidden}
+use Rattle.proof_tree.specs.declared.tree.Evidence.{Evidence}
+use Rattle.proof_tree.specs.declared.tree.Evidence.TheVariants.{Bound, Routed, Overfull, Cut, Crowd, Open}
+use Rattle.proof_tree.specs.Bounds.{AreLeastPrices}
+use Rattle.proof_tree.specs.Evidence.{AreOnlyPaths, HasEvidence}
+use Rattle.cert_verifier.specs.LeafRules.{LeafFinds, HavePaths, CanCarryAll}
+use Rattle.cert_verifier.specs.Bounds.{IsOpenWithin}
+use Rattle.cert_verifier.proofs.FirstRules.{unless-none}
+use Rattle.cert_verifier.proofs.OnlyLoads.{only_loads}
+use Rattle.cert_verifier.proofs.RuleLaws.{then_by-none, FindsOne, unless-one, then_by-one}
+
+-- where no rule is broken the leaf has its evidence
+pub leaf_found_none : (p : Parts) (cost : Option ℕ) (r : Forbidden) (index : ℕ) (evidence : Evidence) → LeafFinds p cost r index evidence None → HasEvidence p cost r evidence
+unfolding LeafFinds
+leaf_found_none p cost r index (Bound prices) h = unless-none _ _ (then_by-none (then_by-none h).1).1
+leaf_found_none p cost r index Routed h = unless-none _ _ (then_by-none (then_by-none (then_by-none h).1).1).1
+leaf_found_none p cost r index (Overfull link) h = unless-none _ _ (then_by-none (then_by-none (then_by-none h).1).1).1
+leaf_found_none p cost r index (Cut demand reached) h = unless-none _ _ (then_by-none (then_by-none (then_by-none h).1).1).1
+leaf_found_none p cost r index (Crowd prices) h = unless-none _ _ (then_by-none (then_by-none (then_by-none h).1).1).1
+leaf_found_none p cost r index (Open prices) h = unless-none _ _ h
+
+-- and the prices of an open leaf are within the limit
+pub leaf_found_none-open : (p : Parts) (cost : Option ℕ) (r : Forbidden) (index : ℕ) (evidence : Evidence) → LeafFinds p cost r index evidence None → IsOpenWithin p evidence
+unfolding LeafFinds
+leaf_found_none-open p cost r index (Bound prices) h = tt
+leaf_found_none-open p cost r index Routed h = tt
+leaf_found_none-open p cost r index (Overfull link) h = tt
+leaf_found_none-open p cost r index (Cut demand reached) h = tt
+leaf_found_none-open p cost r index (Crowd prices) h = tt
+leaf_found_none-open p cost r index (Open prices) h = unless-none _ _ h
+
+least_prices-paths : (p : Parts) (r : Forbidden) (prices : List ℕ) (least_prices : ℕ → ℕ) → AreLeastPrices p r prices least_prices → HavePaths p r
+least_prices-paths p r prices least_prices h k within = ((h k within).path, (h k within).permitted)
+
+only-paths : (p : Parts) (r : Forbidden) (d : Design) → AreOnlyPaths p r d → HavePaths p r
+only-paths p r d h k within = (_, (h k within).permitted)
+
+-- a leaf of a cost that has its evidence breaks no rule
+bound_rules : (p : Parts) (cost : Option ℕ) (r : Forbidden) (index : ℕ) (prices : List ℕ) → HasEvidence p cost r (Bound prices) → LeafFinds p cost r index (Bound prices) None
+unfolding LeafFinds
+bound_rules p None r index prices h = absurd h
+bound_rules p (Some c) r index prices h =
+    inr (inl (h.within_limit, refl), inr (inl (least_prices-paths p r prices _ h.is_bound.are_least, refl), inl (h, refl)))
+
+routed_rules : (p : Parts) (cost : Option ℕ) (r : Forbidden) (index : ℕ) → HasEvidence p cost r Routed → LeafFinds p cost r index Routed None
+unfolding LeafFinds
+routed_rules p None r index h = absurd h
+routed_rules p (Some c) r index h =
+    let carries : CanCarryAll p r = λ d only e within. ((h.are_costs e within).is_least.counts, rw (only_loads p r d h.routing e only h.only) (h.are_costs e within).is_least.carries) in
+    inr (inl (only-paths p r h.routing h.only, refl), inr (inl ((h.routing, h.only), refl), inr (inl (carries, refl), inl (h, refl))))
+
+pub leaf_finds_none : (p : Parts) (cost : Option ℕ) (r : Forbidden) (index : ℕ) (evidence : Evidence) → HasEvidence p cost r evidence → LeafFinds p cost r index evidence None
+unfolding LeafFinds
+leaf_finds_none p cost r index (Bound prices) h = bound_rules p cost r index prices h
+leaf_finds_none p cost r index Routed h = routed_rules p cost r index h
+leaf_finds_none p cost r index (Overfull link) h =
+    inr (inl (h.is_link, refl), inr (inl (only-paths p r h.routing h.only, refl), inr (inl ((h.routing, h.only), refl), inl (h, refl))))
+leaf_finds_none p cost r index (Cut demand reached) h = inr (inl (h.demand, refl), inr (inl (h.source, refl), inr (inl (h.target, refl), inl (h, refl))))
+leaf_finds_none p cost r index (Crowd prices) h =
+    inr (inl (h.within_limit, refl), inr (inl (h.free, refl), inr (inl (least_prices-paths p r prices _ h.are_least, refl), inl (h, refl))))
+leaf_finds_none p cost r index (Open prices) h = inl (h, refl)
+
+pub leaf_finds_one : (p : Parts) (cost : Option ℕ) (r : Forbidden) (index : ℕ) (evidence : Evidence) → FindsOne (LeafFinds p cost r index evidence)
+unfolding LeafFinds
+leaf_finds_one p cost r index (Bound prices) = then_by-one _ _ (unless-one _ _) (then_by-one _ _ (unless-one _ _) (unless-one _ _))
+leaf_finds_one p cost r index Routed = then_by-one _ _ (unless-one _ _) (then_by-one _ _ (unless-one _ _) (then_by-one _ _ (unless-one _ _) (unless-one _ _)))
+leaf_finds_one p cost r index (Overfull link) = then_by-one _ _ (unless-one _ _) (then_by-one _ _ (unless-one _ _) (then_by-one _ _ (unless-one _ _) (unless-one _ _)))
+leaf_finds_one p cost r index (Cut demand reached) = then_by-one _ _ (unless-one _ _) (then_by-one _ _ (unless-one _ _) (then_by-one _ _ (unless-one _ _) (unless-one _ _)))
+leaf_finds_one p cost r index (Crowd prices) = then_by-one _ _ (unless-one _ _) (then_by-one _ _ (unless-one _ _) (then_by-one _ _ (unless-one _ _) (unless-one _ _)))
+leaf_finds_one p cost r index (Open prices) = unless-one _ _

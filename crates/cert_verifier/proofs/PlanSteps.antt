@@ -1,0 +1,35 @@
+-- The groups of rules of a plan, one after the other, as a check goes through them.
+use Rattle.std.proofs.Common.{Option, Some, None, inl, inr, refl}
+use Rattle.plan_base.specs.declared.parts.Parts.{Parts}
+use Rattle.proof_tree.specs.declared.plan.Plan.{Plan}
+use Rattle.proof_tree.specs.Plans.{HasSizes}
+use Rattle.cert_verifier.specs.declared.rejected.Rejected.{Rejected}
+use Rattle.cert_verifier.specs.declared.rejected.Rejected.TheVariants.{Size}
+use Rattle.cert_verifier.specs.RecordRules.{TreeFinds}
+use Rattle.cert_verifier.specs.PlanRules.{DesignFinds, CountsFind, BoundFinds, PlanFinds}
+
+pub plan-size : (p : Parts) (plan : Plan) → (HasSizes p plan → ⊥) → PlanFinds p plan (Some Size)
+unfolding PlanFinds
+plan-size p plan broken = inl (refl, inr (broken, refl))
+
+pub plan-design : (p : Parts) (plan : Plan) (fault : Rejected) → HasSizes p plan → DesignFinds p plan.design (Some fault) → PlanFinds p plan (Some fault)
+unfolding PlanFinds
+plan-design p plan fault sizes found = inr (inl (sizes, refl), inl (refl, found))
+
+pub plan-tree : (p : Parts) (plan : Plan) (fault : Rejected) → HasSizes p plan → DesignFinds p plan.design None → TreeFinds p plan plan.tree (Some fault) → PlanFinds p plan (Some fault)
+unfolding PlanFinds
+plan-tree p plan fault sizes design found = inr (inl (sizes, refl), inr (design, inl (refl, found)))
+
+-- what is before the count breaks no rule
+pub record IsSoundTree (p : Parts) (plan : Plan) : Type 0 where
+  pub sizes : HasSizes p plan
+  pub design : DesignFinds p plan.design None
+  pub tree : TreeFinds p plan plan.tree None
+
+pub plan-counts : (p : Parts) (plan : Plan) (fault : Rejected) → IsSoundTree p plan → CountsFind plan (Some fault) → PlanFinds p plan (Some fault)
+unfolding PlanFinds
+plan-counts p plan fault h found = inr (inl (h.sizes, refl), inr (h.design, inr (h.tree, inl (refl, found))))
+
+pub plan-bound : (p : Parts) (plan : Plan) (found : Option Rejected) → IsSoundTree p plan → CountsFind plan None → BoundFinds p plan plan.status found → PlanFinds p plan found
+unfolding PlanFinds
+plan-bound p plan found h counts bound = inr (inl (h.sizes, refl), inr (h.design, inr (h.tree, inr (counts, bound))))

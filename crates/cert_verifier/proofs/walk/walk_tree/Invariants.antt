@@ -1,0 +1,10 @@
+use Rattle.std.proofs.Common.{reverse}
+use Rattle.cert_verifier.specs.Kept.{forbidden_by, HasRows}
+use Rattle.cert_verifier.proofs.StepLaws.{IsSoFar}
+use Rattle.cert_verifier.proofs.walk.walk_tree.Given as goal
+
+abbrev pub invariant-loop-index : goal.invariant-loop-index
+invariant-loop-index l = record {
+  rows : HasRows l.against.inst.now l.walk.forbidden;
+  so_far : IsSoFar l.against.inst.now l.against.plan.now l.index (reverse l.walk.turns.items) (forbidden_by l.walk.forbidden) l.walk.least;
+}

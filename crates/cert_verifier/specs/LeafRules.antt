@@ -1,0 +1,71 @@
+-- The rules of each kind of leaf, in their order. The last rule of a kind is that the leaf has its evidence.
+use Rattle.std.specs.Prelude.{ℕ, ◌≡◌, ◌<◌, false, List, length, slice_index, IsTrue, Option}
+use Rattle.plan_base.specs.declared.ids.ArcId.{ArcId}
+use Rattle.plan_base.specs.declared.parts.Parts.{Parts}
+use Rattle.plan_base.specs.declared.path.Design.{Design}
+use Rattle.plan_base.specs.Facts.{is_useful}
+use Rattle.plan_base.specs.Arcs.{link_at, demand_at}
+use Rattle.plan_base.specs.Designs.{load_on}
+use Rattle.link_steps.specs.Costs.{CanCarry}
+use Rattle.arc_restrict.specs.Restrictions.{Forbidden, IsPermittedPath}
+use Rattle.arc_restrict.specs.Prices.{AreWithinLimit}
+use Rattle.proof_tree.specs.declared.tree.Evidence.{Evidence}
+use Rattle.proof_tree.specs.declared.tree.Evidence.TheVariants.{Bound, Routed, Overfull, Cut, Crowd, Open}
+use Rattle.proof_tree.specs.Evidence.{AreOnlyPaths, holds, HasEvidence}
+use Rattle.cert_verifier.specs.declared.rejected.Rejected.{Rejected}
+use Rattle.cert_verifier.specs.declared.rejected.Rejected.TheVariants.{Leaf}
+use Rattle.cert_verifier.specs.Rules.{unless, ◌then_by◌}
+
+-- each demand has a permitted path
+abbrev pub HavePaths : Parts → Forbidden → Type 0
+HavePaths p r = (k : ℕ) → k < length p.demands → (arcs : List ArcId) × IsPermittedPath p r k arcs
+
+-- each demand has one permitted path and no second one
+abbrev pub HaveOnlyPaths : Parts → Forbidden → Type 0
+HaveOnlyPaths p r = (d : Design) × AreOnlyPaths p r d
+
+-- each link can carry its load of the only paths
+abbrev pub CanCarryAll : Parts → Forbidden → Type 0
+CanCarryAll p r = (d : Design) → AreOnlyPaths p r d → (e : ℕ) → e < length p.links → CanCarry (link_at p e) (load_on p d e)
+
+-- the prices of useful links are 0
+abbrev pub AreFreeOnUseful : Parts → List ℕ → Type 0
+AreFreeOnUseful p prices = (e : ℕ) → e < length p.links → IsTrue (is_useful (link_at p e)) → slice_index prices e ≡ 0
+
+-- the leaf has its evidence
+abbrev pub Closes : Parts → Option ℕ → Forbidden → Evidence → Type 0
+Closes p cost r evidence = HasEvidence p cost r evidence
+
+-- the first rule that a leaf of a record of this index breaks.
+-- Bound: 1 prices within the limit, 2 paths, 3 the bound is at least the cost.
+-- Routed: 1 paths, 2 no second ones, 3 links carry them, 4 they cost at least the cost.
+-- Overfull: 1 the link exists, 2 paths, 3 no second ones, 4 the link cannot carry them.
+-- Cut: 1 the demand exists, 2 its source is in the set, 3 its target is not, 4 no permitted arc leaves the set.
+-- Crowd: 1 prices within the limit, 2 free useful links, 3 paths, 4 the demands ask for more than there is.
+-- Open: 1 prices within the limit.
+unfoldable pub LeafFinds : Parts → Option ℕ → Forbidden → ℕ → Evidence → Option Rejected → Type 0
+LeafFinds p cost r index (Bound prices) =
+    unless (AreWithinLimit p prices) (Leaf index 1)
+    then_by unless (HavePaths p r) (Leaf index 2)
+    then_by unless (Closes p cost r (Bound prices)) (Leaf index 3)
+LeafFinds p cost r index Routed =
+    unless (HavePaths p r) (Leaf index 1)
+    then_by unless (HaveOnlyPaths p r) (Leaf index 2)
+    then_by unless (CanCarryAll p r) (Leaf index 3)
+    then_by unless (Closes p cost r Routed) (Leaf index 4)
+LeafFinds p cost r index (Overfull link) =
+    unless (link.0 < length p.links) (Leaf index 1)
+    then_by unless (HavePaths p r) (Leaf index 2)
+    then_by unless (HaveOnlyPaths p r) (Leaf index 3)
+    then_by unless (Closes p cost r (Overfull link)) (Leaf index 4)
+LeafFinds p cost r index (Cut demand reached) =
+    unless (demand.0 < length p.demands) (Leaf index 1)
+    then_by unless (IsTrue (holds reached (demand_at p demand.0).source)) (Leaf index 2)
+    then_by unless (holds reached (demand_at p demand.0).target ≡ false) (Leaf index 3)
+    then_by unless (Closes p cost r (Cut demand reached)) (Leaf index 4)
+LeafFinds p cost r index (Crowd prices) =
+    unless (AreWithinLimit p prices) (Leaf index 1)
+    then_by unless (AreFreeOnUseful p prices) (Leaf index 2)
+    then_by unless (HavePaths p r) (Leaf index 3)
+    then_by unless (Closes p cost r (Crowd prices)) (Leaf index 4)
+LeafFinds p cost r index (Open prices) = unless (AreWithinLimit p prices) (Leaf index 1)

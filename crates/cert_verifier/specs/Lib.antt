@@ -1,0 +1,15 @@
+pub mod Rules
+pub mod Told
+pub mod Kinds
+pub mod SplitRules
+pub mod LeafRules
+pub mod RecordRules
+pub mod PlanRules
+pub mod Kept
+pub mod Labels
+pub mod OnlyPaths
+pub mod Totals
+pub mod Leaving
+pub mod Routings
+pub mod Walks
+pub mod Bounds

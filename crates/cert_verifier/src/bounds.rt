@@ -1,0 +1,136 @@
+//! What prices prove of a restriction: its bound, and that the demands ask for more than there is.
+
+ghost use Rattle.std.specs.Prelude.{◌≡◌, ◌≤◌, ◌<◌, ◌*◌, ◌^◌, ◌↔◌, ℤ, pos, ◌≤ℤ◌, ◌+ℤ◌, ◌-ℤ◌, ◌*ℤ◌, length, IsTrue, IfOk, IfSome, IfNone};
+ghost use Rattle.arc_restrict.specs.Prices.{AreWithinLimit};
+ghost use Rattle.proof_tree.specs.Bounds.{IsBound};
+ghost use Rattle.cert_verifier.specs.Kept.{forbidden_by};
+ghost use Rattle.cert_verifier.specs.LeafRules.{HavePaths};
+ghost use Rattle.cert_verifier.specs.Totals.{IsPriceTotal, IsSumOfValues, capacity_price};
+
+use crate::marks::Forbidden;
+use crate::rounds::{Ways, least_price};
+use link_steps::StepTable;
+use plan_base::limits::{MAX_LINKS, MAX_PRICED_LOAD};
+use plan_base::{DemandId, Instance, LinkId};
+use std::alloc::{AllocError, Global};
+
+/// The sum of loads times least prices over the demands, in thousandths of a cost grain, and none where a demand has no
+/// permitted path.
+pub(crate) fn price_total(
+    alloc: Global,
+    inst: &Instance,
+    forbidden: &Forbidden,
+    prices: &[u128],
+) -> Result<Option<u128>, AllocError>
+    requires count { length prices.now ≡ length inst.now.links }
+    requires limit { AreWithinLimit inst.now prices.now }
+    ensures total { IfOk result (λ total. IfSome total (IsPriceTotal inst.now (forbidden_by forbidden.now) prices.now)) }
+    ensures none { IfOk result (λ total. IfNone total (HavePaths inst.now (forbidden_by forbidden.now) → ⊥)) }
+    ensures within { IfOk result (λ total. IfSome total (λ total. total ≤ 511 * MAX_PRICED_LOAD)) }
+{
+    let mut total = 0;
+    for place in 0..inst.demands() {
+        let demand = DemandId(place);
+        let ways = Ways {
+            inst,
+            forbidden,
+            demand,
+            left_out: None,
+        };
+        match least_price(alloc, &ways, prices)? {
+            Some(price) => total += inst.demand(demand).load * price,
+            None => return Ok(None),
+        }
+    }
+    Ok(Some(total))
+}
+
+/// The sum of the values of all links, in thousandths of a cost grain.
+fn value_total(inst: &Instance, table: &StepTable, prices: &[u128]) -> i128
+    requires table { table.now ≡ inst.now }
+    requires count { length prices.now ≡ length inst.now.links }
+    requires limit { AreWithinLimit inst.now prices.now }
+    ensures { IsSumOfValues inst.now prices.now (length inst.now.links) result }
+{
+    let _links = inst.links();
+    let mut total = 0;
+    for (place, price) in prices.iter().enumerate() {
+        total += table.link_value(LinkId(place as u32), *price).value;
+    }
+    total
+}
+
+/// The two sums together, in thousandths of a cost grain.
+fn total_of(priced: u128, values: i128) -> i128
+    requires priced { priced ≤ 511 * MAX_PRICED_LOAD }
+    requires not_positive { values ≤ℤ pos 0 }
+    requires bounded { (pos 0 -ℤ pos (MAX_LINKS * MAX_PRICED_LOAD)) ≤ℤ values }
+    ensures { result ≡ (pos priced +ℤ values) }
+{
+    priced as i128 + values
+}
+
+/// A thousandth of the total, rounded up: cost grains, from thousandths of one.
+fn thousandth_up(total: i128) -> i128
+    ensures reaches { total ≤ℤ (pos 1000 *ℤ result) }
+    ensures least { (other : ℤ) → total ≤ℤ (pos 1000 *ℤ other) → result ≤ℤ other }
+{
+    let grains = total / 1000;
+    if total % 1000 > 0 { grains + 1 } else { grains }
+}
+
+/// The bound of the restriction at these prices, in cost grains, and none where a demand has no permitted path.
+pub(crate) fn bound_at(
+    alloc: Global,
+    inst: &Instance,
+    table: &StepTable,
+    forbidden: &Forbidden,
+    prices: &[u128],
+) -> Result<Option<i128>, AllocError>
+    requires table { table.now ≡ inst.now }
+    requires count { length prices.now ≡ length inst.now.links }
+    requires limit { AreWithinLimit inst.now prices.now }
+    ensures bound { IfOk result (λ bound. IfSome bound (IsBound inst.now (forbidden_by forbidden.now) prices.now)) }
+    ensures none { IfOk result (λ bound. IfNone bound (HavePaths inst.now (forbidden_by forbidden.now) → ⊥)) }
+{
+    let _links = inst.links();
+    match price_total(alloc, inst, forbidden, prices)? {
+        Some(total) => {
+            let values = value_total(inst, table, prices);
+            Ok(Some(thousandth_up(total_of(total, values))))
+        }
+        None => Ok(None),
+    }
+}
+
+/// Whether the bound is at least the cost, both in cost grains.
+pub(crate) fn is_enough(bound: i128, cost: u128) -> bool
+    ensures { IsTrue result ↔ (pos cost ≤ℤ bound) }
+{
+    bound >= 0 && cost <= bound as u128
+}
+
+/// The sum of prices times pre-installed capacities, in thousandths of a cost grain, and none where it is `2^128` or more.
+fn capacity_price(inst: &Instance, prices: &[u128]) -> Option<u128>
+    requires count { length prices.now ≡ length inst.now.links }
+    ensures value { IfSome result (λ total. total ≡ capacity_price inst.now prices.now) }
+    ensures large { IfNone result (2 ^ 128 ≤ capacity_price inst.now prices.now) }
+{
+    let mut total: u128 = 0;
+    for place in 0..inst.links() {
+        let pre = u128::from(inst.link(LinkId(place)).pre);
+        total = total.checked_add(prices[place as usize].checked_mul(pre)?)?;
+    }
+    Some(total)
+}
+
+/// Whether the demands' total is above what the pre-installed capacities come to at these prices.
+pub(crate) fn is_crowded(inst: &Instance, prices: &[u128], total: u128) -> bool
+    requires count { length prices.now ≡ length inst.now.links }
+    ensures { IsTrue result ↔ (capacity_price inst.now prices.now < total) }
+{
+    match capacity_price(inst, prices) {
+        Some(given) => given < total,
+        None => false,
+    }
+}

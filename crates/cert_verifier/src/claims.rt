@@ -1,0 +1,139 @@
+//! What a plan's status asks of its tree, its count and its budget.
+
+ghost use Rattle.std.specs.Prelude.{◌≡◌, ◌↔◌, ◌<◌, ◌^◌, Some, IsTrue, length};
+ghost use Rattle.std.specs.List.{list_any};
+ghost use Rattle.std.specs.Result.{result_err};
+ghost use Rattle.plan_base.specs.Facts.{IsInstance};
+ghost use Rattle.proof_tree.specs.Plans.{is_open, needs_cost, stated_cost, HasSizes};
+ghost use Rattle.cert_verifier.specs.Kinds.{asks_closed, asks_without_cost, is_wrong_kind};
+ghost use Rattle.cert_verifier.specs.PlanRules.{DesignFinds, HasItsOpen, KeepsBudget, examined_in};
+
+use crate::rejected::Rejected;
+use plan_base::{Design, Instance, check_design};
+use proof_tree::{Evidence, Plan, PlanStatus, TreeNode};
+
+/// Whether the record is a leaf that is left open.
+pub(crate) fn is_open(node: &TreeNode) -> bool
+    ensures { result ≡ is_open node.now }
+{
+    matches!(node, TreeNode::Leaf(Evidence::Open(_)))
+}
+
+/// Whether the record is a leaf that is closed against a cost.
+fn needs_cost(node: &TreeNode) -> bool
+    ensures { result ≡ needs_cost node.now }
+{
+    matches!(
+        node,
+        TreeNode::Leaf(Evidence::Bound(_)) | TreeNode::Leaf(Evidence::Routed)
+    )
+}
+
+/// Whether a plan of this status leaves no leaf open.
+fn asks_closed(status: PlanStatus) -> bool
+    ensures { result ≡ asks_closed status }
+{
+    match status {
+        PlanStatus::Optimal | PlanStatus::Infeasible => true,
+        PlanStatus::Undecided => false,
+    }
+}
+
+/// Whether the plan closes no leaf against a cost.
+fn asks_without_cost(plan: &Plan) -> bool
+    ensures { result ≡ asks_without_cost plan.now.status plan.now.design }
+{
+    match plan.status {
+        PlanStatus::Optimal => false,
+        PlanStatus::Infeasible => true,
+        PlanStatus::Undecided => plan.design.is_none(),
+    }
+}
+
+/// Whether the record is a leaf that a plan of this status may not have.
+pub(crate) fn is_wrong_kind(plan: &Plan, node: &TreeNode) -> bool
+    ensures { result ≡ is_wrong_kind plan.now node.now }
+{
+    (asks_closed(plan.status) && is_open(node)) || (asks_without_cost(plan) && needs_cost(node))
+}
+
+/// The cost that the plan states for its design, in cost grains.
+pub(crate) fn stated_cost(plan: &Plan) -> Option<u128>
+    ensures { result ≡ stated_cost plan.now }
+{
+    match &plan.design {
+        Some((cost, _)) => Some(*cost),
+        None => None,
+    }
+}
+
+/// Whether the plan states the sizes of the instance.
+pub(crate) fn has_sizes(inst: &Instance, plan: &Plan) -> bool
+    ensures tells { IsTrue result ↔ HasSizes inst.now plan.now }
+    ensures lawful { IsInstance inst.now }
+{
+    let links = inst.links();
+    plan.nodes == inst.nodes() && plan.links == links && plan.demands == inst.demands()
+}
+
+/// What is wrong with a design, or with its cost in cost grains.
+fn check_stated(inst: &Instance, stated: u128, design: &Design) -> Result<(), Rejected>
+    ensures { DesignFinds inst.now (Some (stated, design.now)) (result_err result) }
+{
+    match check_design(inst, design) {
+        Ok(found) if found == stated => Ok(()),
+        Ok(found) => Err(Rejected::Cost { stated, found }),
+        Err(fault) => Err(Rejected::Design(fault)),
+    }
+}
+
+/// What is wrong with the plan's design, where there is one, or with its cost.
+pub(crate) fn check_plan_design(inst: &Instance, plan: &Plan) -> Result<(), Rejected>
+    ensures { DesignFinds inst.now plan.now.design (result_err result) }
+{
+    match &plan.design {
+        Some((stated, design)) => check_stated(inst, *stated, design),
+        None => Ok(()),
+    }
+}
+
+/// Whether one of the records is a leaf that is left open.
+fn has_open(nodes: &[TreeNode]) -> bool
+    ensures { result ≡ list_any is_open nodes.now }
+{
+    nodes.iter().any(is_open)
+}
+
+/// Whether an undecided plan has an open leaf.
+pub(crate) fn has_its_open(plan: &Plan) -> bool
+    ensures { IsTrue result ↔ HasItsOpen plan.now.status plan.now.tree }
+{
+    match plan.status {
+        PlanStatus::Optimal | PlanStatus::Infeasible => true,
+        PlanStatus::Undecided => has_open(plan.tree.nodes()),
+    }
+}
+
+/// How many records are splits or closed leaves.
+pub(crate) fn examined_in(nodes: &[TreeNode]) -> u32
+    requires few { length nodes.now < 2 ^ 32 }
+    ensures { result ≡ examined_in nodes.now }
+{
+    let mut count = 0;
+    for node in nodes {
+        if !is_open(node) {
+            count += 1;
+        }
+    }
+    count
+}
+
+/// Whether no more is examined than the budget, and all of it in an undecided plan.
+pub(crate) fn keeps_budget(plan: &Plan) -> bool
+    ensures { IsTrue result ↔ KeepsBudget plan.now.status plan.now.examined plan.now.budget }
+{
+    match plan.status {
+        PlanStatus::Optimal | PlanStatus::Infeasible => plan.examined <= plan.budget,
+        PlanStatus::Undecided => plan.examined == plan.budget,
+    }
+}

@@ -1,0 +1,309 @@
+//! The rules of each kind of leaf.
+
+ghost use Rattle.std.specs.Prelude.{◌≡◌, ◌<◌, ◌≤◌, ◌+◌, ◌-◌, ◌*◌, ◌↔◌, ℕ, Some, None, IsTrue, IsFalse, ℤ, pos, ◌≤ℤ◌, length, slice_index, IfOk, IfSome, IfNone, IsSomeAnd};
+ghost use Rattle.std.specs.Result.{result_err};
+ghost use Rattle.link_steps.specs.Costs.{CannotCarry, IsStepCost};
+ghost use Rattle.plan_base.specs.Facts.{total_load};
+ghost use Rattle.plan_base.specs.Arcs.{link_at, demand_at};
+ghost use Rattle.plan_base.specs.Paths.{IsSimplePath};
+ghost use Rattle.plan_base.specs.Designs.{load_on};
+ghost use Rattle.proof_tree.specs.declared.tree.Evidence.TheVariants as kind;
+ghost use Rattle.proof_tree.specs.Evidence.{holds};
+ghost use Rattle.proof_tree.specs.Plans.{IsOpenBound};
+ghost use Rattle.proof_tree.specs.Spellings.{FitsEvidence};
+ghost use Rattle.cert_verifier.specs.declared.rejected.Rejected.TheVariants.{Leaf};
+ghost use Rattle.cert_verifier.specs.Kept.{forbidden_by};
+ghost use Rattle.cert_verifier.specs.Told.{Tells};
+ghost use Rattle.cert_verifier.specs.Leaving.{leads_out, IsNoWayOut};
+ghost use Rattle.cert_verifier.specs.OnlyPaths.{path_in};
+ghost use Rattle.cert_verifier.specs.Routings.{design_of, IsCostOfLoads, HasOverfull};
+ghost use Rattle.cert_verifier.specs.Bounds.{IsOpenWithin};
+ghost use Rattle.cert_verifier.specs.LeafRules.{AreFreeOnUseful, LeafFinds};
+
+use crate::bounds::{bound_at, is_crowded, is_enough, price_total};
+use crate::marks::Forbidden;
+use crate::only_paths::{OnlyPaths, only_paths};
+use crate::rejected::Rejected;
+use link_steps::StepTable;
+use link_steps::limits::MAX_STEPS;
+use plan_base::limits::{MAX_LINKS, MAX_ROUTING_COST, MODULE_COST_BOUND};
+use plan_base::{ArcId, DemandId, Design, Instance, Items, LinkId, NodeId, Path, Prices, loads_of};
+use proof_tree::Evidence;
+use std::alloc::{AllocError, Global};
+
+/// Where a leaf stands: the restriction there, and the index of its record.
+#[derive(Clone, Copy)]
+pub(crate) struct Place<'a> {
+    pub(crate) inst: &'a Instance,
+    pub(crate) table: &'a StepTable,
+    pub(crate) forbidden: &'a Forbidden,
+    /// The cost that the plan states for its design, in cost grains.
+    pub(crate) cost: Option<u128>,
+    pub(crate) index: u32,
+}
+
+/// The leaf of this index breaks this rule.
+fn broken(index: u32, rule: u8) -> Result<(), Rejected>
+    ensures { result_err result ≡ Some (Leaf index rule) }
+{
+    Err(Rejected::Leaf { index, rule })
+}
+
+/// The leaf of this index breaks this rule where it does not hold.
+fn holds_or(holds: bool, index: u32, rule: u8) -> Result<(), Rejected>
+    ensures ok { IsTrue holds → result_err result ≡ None }
+    ensures broken { IsFalse holds → result_err result ≡ Some (Leaf index rule) }
+{
+    if holds { Ok(()) } else { broken(index, rule) }
+}
+
+/// Whether there is a cost, and the bound is at least that.
+fn is_above(bound: i128, cost: Option<u128>) -> bool
+    ensures { IsTrue result ↔ IsSomeAnd cost (λ c. pos c ≤ℤ bound) }
+{
+    match cost {
+        Some(cost) => is_enough(bound, cost),
+        None => false,
+    }
+}
+
+/// The rules of a leaf that is closed by its bound.
+fn check_bound(alloc: Global, at: &Place, prices: &Prices) -> Result<(), Rejected>
+    requires table { at.now.table.now ≡ at.now.inst.now }
+    requires count { length prices.now ≡ length at.now.inst.now.links }
+    ensures { Tells (LeafFinds at.now.inst.now at.now.cost (forbidden_by at.now.forbidden.now) at.now.index (kind.Bound prices.now)) (result_err result) }
+{
+    if !prices.fits(at.inst) {
+        return broken(at.index, 1);
+    }
+    match bound_at(alloc, at.inst, at.table, at.forbidden, prices.as_slice())? {
+        Some(bound) => holds_or(is_above(bound, at.cost), at.index, 3),
+        None => broken(at.index, 2),
+    }
+}
+
+/// What the link costs at this load, in cost grains, and none where it cannot carry it.
+fn cost_of_link(inst: &Instance, table: &StepTable, link: LinkId, load: u64) -> Option<u128>
+    requires table { table.now ≡ inst.now }
+    requires link { link.0 < length inst.now.links }
+    requires load { load ≤ total_load inst.now }
+    ensures cost { IfSome result (IsStepCost (link_at inst.now link.0) load) }
+    ensures none { IfNone result (CannotCarry (link_at inst.now link.0) load) }
+    ensures within { IfSome result (λ cost. cost ≤ MAX_ROUTING_COST + (MAX_STEPS - 1) * MODULE_COST_BOUND) }
+{
+    let _links = inst.links();
+    match table.at(link, load) {
+        Some(modules) => { Some(u128::from(inst.link(link).routing) * u128::from(load) + modules) }
+        None => None,
+    }
+}
+
+/// What the only paths cost, in cost grains, and none where a link cannot carry its load.
+fn cost_of_paths(inst: &Instance, table: &StepTable, loads: &[u128; MAX_LINKS]) -> Option<u128>
+    requires table { table.now ≡ inst.now }
+    requires loads { (e : ℕ) → e < length inst.now.links → slice_index loads.now e ≤ total_load inst.now }
+    ensures cost { IfSome result (IsCostOfLoads inst.now loads.now) }
+    ensures none { IfNone result (HasOverfull inst.now loads.now) }
+{
+    let mut total = 0;
+    for place in 0..inst.links() {
+        let load = loads[place as usize] as u64;
+        match cost_of_link(inst, table, LinkId(place), load) {
+            Some(cost) => total += cost,
+            None => return None,
+        }
+    }
+    Some(total)
+}
+
+/// The loads of the only paths, in load grains.
+fn loads_of_paths(alloc: Global, inst: &Instance, paths: Items<Path>) -> [u128; MAX_LINKS]
+    requires count { length paths ≡ length inst.now.demands }
+    requires simple { (k : ℕ) → k < length inst.now.demands → IsSimplePath inst.now (demand_at inst.now k) (path_in paths k) }
+    ensures value { (e : ℕ) → e < MAX_LINKS → slice_index result e ≡ load_on inst.now (design_of paths) e }
+    ensures within { (e : ℕ) → e < MAX_LINKS → slice_index result e ≤ total_load inst.now }
+{
+    let design = Design {
+        paths,
+        counts: Items::new(alloc),
+    };
+    loads_of(inst, &design)
+}
+
+/// Whether there is a cost, and the total is at least that.
+fn costs_enough(total: u128, cost: Option<u128>) -> bool
+    ensures { IsTrue result ↔ IsSomeAnd cost (λ c. c ≤ total) }
+{
+    match cost {
+        Some(cost) => cost <= total,
+        None => false,
+    }
+}
+
+/// The rules of a leaf that is closed by its routing.
+fn check_routed(alloc: Global, at: &Place) -> Result<(), Rejected>
+    requires table { at.now.table.now ≡ at.now.inst.now }
+    ensures { Tells (LeafFinds at.now.inst.now at.now.cost (forbidden_by at.now.forbidden.now) at.now.index kind.Routed) (result_err result) }
+{
+    let _links = at.inst.links();
+    match only_paths(alloc, at.inst, at.forbidden)? {
+        OnlyPaths::Missing => broken(at.index, 1),
+        OnlyPaths::Second => broken(at.index, 2),
+        OnlyPaths::Only(paths) => {
+            let loads = loads_of_paths(alloc, at.inst, paths);
+            match cost_of_paths(at.inst, at.table, &loads) {
+                Some(total) => holds_or(costs_enough(total, at.cost), at.index, 4),
+                None => broken(at.index, 3),
+            }
+        }
+    }
+}
+
+/// The rules of a leaf that is closed by a link that cannot carry its load.
+fn check_overfull(alloc: Global, at: &Place, link: LinkId) -> Result<(), Rejected>
+    requires table { at.now.table.now ≡ at.now.inst.now }
+    ensures { Tells (LeafFinds at.now.inst.now at.now.cost (forbidden_by at.now.forbidden.now) at.now.index (kind.Overfull link)) (result_err result) }
+{
+    if link.0 >= at.inst.links() {
+        return broken(at.index, 1);
+    }
+    match only_paths(alloc, at.inst, at.forbidden)? {
+        OnlyPaths::Missing => broken(at.index, 2),
+        OnlyPaths::Second => broken(at.index, 3),
+        OnlyPaths::Only(paths) => {
+            let loads = loads_of_paths(alloc, at.inst, paths);
+            match at.table.at(link, loads[link.0 as usize] as u64) {
+                Some(_) => broken(at.index, 4),
+                None => Ok(()),
+            }
+        }
+    }
+}
+
+/// Whether the set holds the node.
+fn holds(reached: &[bool], node: NodeId) -> bool
+    ensures { result ≡ holds reached.now node }
+{
+    (node.0 as usize) < reached.len() && reached[node.0 as usize]
+}
+
+/// Whether the arc is permitted to the demand and leaves the set.
+fn leads_out(at: &Place, demand: DemandId, reached: &[bool], arc: ArcId) -> bool
+    ensures { result ≡ leads_out at.now.inst.now (forbidden_by at.now.forbidden.now) demand reached.now arc }
+{
+    at.inst.is_arc(arc)
+        && !at.forbidden.forbids(demand, arc)
+        && holds(reached, at.inst.tail(arc))
+        && !holds(reached, at.inst.head(arc))
+}
+
+/// Whether no arc that is permitted to the demand leaves the set.
+fn is_closed(at: &Place, demand: DemandId, reached: &[bool]) -> bool
+    ensures { IsTrue result ↔ IsNoWayOut at.now.inst.now (forbidden_by at.now.forbidden.now) demand reached.now }
+{
+    for arc in 0..2 * at.inst.links() {
+        if leads_out(at, demand, reached, ArcId(arc)) {
+            return false;
+        }
+    }
+    true
+}
+
+/// The rules of a leaf that is closed by a cut.
+#[tactic(auto, using(crate::proofs::LeafFindings::cut_findings))]
+fn check_cut(at: &Place, demand: DemandId, reached: &[bool]) -> Result<(), Rejected>
+    ensures { LeafFinds at.now.inst.now at.now.cost (forbidden_by at.now.forbidden.now) at.now.index (kind.Cut demand reached.now) (result_err result) }
+{
+    if demand.0 >= at.inst.demands() {
+        return broken(at.index, 1);
+    }
+    if !holds(reached, at.inst.demand(demand).source) {
+        return broken(at.index, 2);
+    }
+    if holds(reached, at.inst.demand(demand).target) {
+        return broken(at.index, 3);
+    }
+    if !is_closed(at, demand, reached) {
+        return broken(at.index, 4);
+    }
+    Ok(())
+}
+
+/// Whether the prices of useful links are 0.
+fn are_free_on_useful(inst: &Instance, prices: &[u128]) -> bool
+    requires count { length prices.now ≡ length inst.now.links }
+    ensures { IsTrue result ↔ AreFreeOnUseful inst.now prices.now }
+{
+    for place in 0..inst.links() {
+        if inst.useful(LinkId(place)) && prices[place as usize] > 0 {
+            return false;
+        }
+    }
+    true
+}
+
+/// The rules of a leaf that is closed by a crowd.
+fn check_crowd(alloc: Global, at: &Place, prices: &Prices) -> Result<(), Rejected>
+    requires count { length prices.now ≡ length at.now.inst.now.links }
+    ensures { Tells (LeafFinds at.now.inst.now at.now.cost (forbidden_by at.now.forbidden.now) at.now.index (kind.Crowd prices.now)) (result_err result) }
+{
+    if !prices.fits(at.inst) {
+        return broken(at.index, 1);
+    }
+    let numerators = prices.as_slice();
+    if !are_free_on_useful(at.inst, numerators) {
+        return broken(at.index, 2);
+    }
+    match price_total(alloc, at.inst, at.forbidden, numerators)? {
+        Some(total) => holds_or(is_crowded(at.inst, numerators, total), at.index, 4),
+        None => broken(at.index, 3),
+    }
+}
+
+/// The rule of a leaf that is left open.
+#[tactic(auto, using(crate::proofs::LeafFindings::open_findings))]
+fn check_open(at: &Place, prices: &Prices) -> Result<(), Rejected>
+    requires count { length prices.now ≡ length at.now.inst.now.links }
+    ensures { LeafFinds at.now.inst.now at.now.cost (forbidden_by at.now.forbidden.now) at.now.index (kind.Open prices.now) (result_err result) }
+{
+    if !prices.fits(at.inst) {
+        return broken(at.index, 1);
+    }
+    Ok(())
+}
+
+/// The first rule that the leaf breaks.
+pub(crate) fn check_leaf(alloc: Global, at: &Place, evidence: &Evidence) -> Result<(), Rejected>
+    requires table { at.now.table.now ≡ at.now.inst.now }
+    requires fits { FitsEvidence at.now.inst.now.nodes (length at.now.inst.now.links) evidence.now }
+    ensures { Tells (LeafFinds at.now.inst.now at.now.cost (forbidden_by at.now.forbidden.now) at.now.index evidence.now) (result_err result) }
+{
+    match evidence {
+        Evidence::Bound(prices) => check_bound(alloc, at, prices),
+        Evidence::Routed => check_routed(alloc, at),
+        Evidence::Overfull { link } => check_overfull(alloc, at, *link),
+        Evidence::Cut { demand, reached } => check_cut(at, *demand, reached.as_slice()),
+        Evidence::Crowd(prices) => check_crowd(alloc, at, prices),
+        Evidence::Open(prices) => check_open(at, prices),
+    }
+}
+
+/// The bound of an open leaf, in cost grains, where it is one and each demand has a permitted path.
+pub(crate) fn open_bound(
+    alloc: Global,
+    at: &Place,
+    evidence: &Evidence,
+) -> Result<Option<i128>, AllocError>
+    requires table { at.now.table.now ≡ at.now.inst.now }
+    requires fits { FitsEvidence at.now.inst.now.nodes (length at.now.inst.now.links) evidence.now }
+    requires limit { IsOpenWithin at.now.inst.now evidence.now }
+    ensures bound { IfOk result (λ bound. IfSome bound (IsOpenBound at.now.inst.now (forbidden_by at.now.forbidden.now) evidence.now)) }
+    ensures none { IfOk result (λ bound. IfNone bound ((bound : ℤ) → IsOpenBound at.now.inst.now (forbidden_by at.now.forbidden.now) evidence.now bound → ⊥)) }
+{
+    match evidence {
+        Evidence::Open(prices) => {
+            bound_at(alloc, at.inst, at.table, at.forbidden, prices.as_slice())
+        }
+        _ => Ok(None),
+    }
+}
