@@ -1,6 +1,11 @@
 use super::*;
+use cert_verifier::Rejected;
 use link_steps::StepTable;
-use plan_base::{Demand, DemandId, Instance, Items, Link, LinkId, Module, NodeId, Orient, Parts};
+use plan_base::{
+    Demand, DemandId, Design, DesignFault, Instance, Items, Link, LinkId, Module, NodeId, Orient,
+    Parts,
+};
+use proof_tree::{Evidence, Plan, PlanStatus, Tree, TreeNode};
 use scaled_numbers::NumberFault;
 use snd_model::Key;
 use snd_reader::{TextFault, Wanted};
@@ -181,6 +186,158 @@ fn fault_lines_are_those_of_the_format(rt: HostRuntime) -> Result<(), Fail> {
     ] {
         let text = fault_line(rt.alloc(), fault)?;
         assert!(rt; text.as_slice() == line.as_bytes(), "{line}");
+    }
+    Ok(())
+}
+
+/// A plan of this status and cost in cost grains, with one leaf.
+fn plan(alloc: Global, status: PlanStatus, cost: Option<u128>) -> Option<Plan> {
+    let leaf = TreeNode::Leaf(Evidence::Routed);
+    let tree = Tree::from_nodes(vec![in alloc; leaf].ok()?).ok()?;
+    let design = match cost {
+        Some(cost) => {
+            let nothing = Design {
+                paths: Items::from_vec(Vec::new(alloc)),
+                counts: Items::from_vec(Vec::new(alloc)),
+            };
+            Some((cost, nothing))
+        }
+        None => None,
+    };
+    Some(Plan {
+        nodes: 2,
+        links: 1,
+        demands: 0,
+        status,
+        budget: 1000,
+        examined: 1,
+        design,
+        bound: None,
+        tree,
+    })
+}
+
+#[test]
+fn verdict_lines_are_those_of_the_format(rt: HostRuntime) -> Result<(), Fail> {
+    let demand = DemandId(0);
+    let link = LinkId(0);
+    let ten = Some(10_000_000_000_000);
+    for (status, cost, verdict, line) in [
+        (PlanStatus::Optimal, ten, Ok(()), "ACCEPTED OPTIMAL 10\n"),
+        (
+            PlanStatus::Infeasible,
+            None,
+            Ok(()),
+            "ACCEPTED INFEASIBLE\n",
+        ),
+        (
+            PlanStatus::Undecided,
+            Some(8_500_000_000_000),
+            Ok(()),
+            "ACCEPTED UNDECIDED 8.5\n",
+        ),
+        (
+            PlanStatus::Optimal,
+            ten,
+            Err(Rejected::Design(DesignFault::WrongCount)),
+            "REJECTED 1 1\n",
+        ),
+        (
+            PlanStatus::Optimal,
+            ten,
+            Err(Rejected::Design(DesignFault::NotAPath { demand, place: 3 })),
+            "REJECTED 1 2\n",
+        ),
+        (
+            PlanStatus::Optimal,
+            ten,
+            Err(Rejected::Design(DesignFault::Repeats { demand, place: 3 })),
+            "REJECTED 1 3\n",
+        ),
+        (
+            PlanStatus::Optimal,
+            ten,
+            Err(Rejected::Design(DesignFault::CountShape { link })),
+            "REJECTED 1 4\n",
+        ),
+        (
+            PlanStatus::Optimal,
+            ten,
+            Err(Rejected::Design(DesignFault::Short {
+                link,
+                load: 6,
+                capacity: 5,
+            })),
+            "REJECTED 1 5\n",
+        ),
+        (
+            PlanStatus::Optimal,
+            ten,
+            Err(Rejected::Cost {
+                stated: 9_000_000_000_000,
+                found: 10_000_000_000_000,
+            }),
+            "REJECTED 2 9 10\n",
+        ),
+        (
+            PlanStatus::Optimal,
+            ten,
+            Err(Rejected::Split { index: 0, rule: 5 }),
+            "REJECTED 3 0 5\n",
+        ),
+        (
+            PlanStatus::Optimal,
+            ten,
+            Err(Rejected::Leaf { index: 1, rule: 3 }),
+            "REJECTED 4 1 3\n",
+        ),
+        (
+            PlanStatus::Optimal,
+            ten,
+            Err(Rejected::Counts {
+                stated: 4,
+                found: 3,
+            }),
+            "REJECTED 5 4 3\n",
+        ),
+        (
+            PlanStatus::Undecided,
+            ten,
+            Err(Rejected::Bound {
+                stated: Some(-1_500_000_000_000),
+                found: None,
+            }),
+            "REJECTED 6 -1.5 none\n",
+        ),
+        (
+            PlanStatus::Undecided,
+            ten,
+            Err(Rejected::Kind { index: 3 }),
+            "REJECTED 7 3\n",
+        ),
+        (
+            PlanStatus::Optimal,
+            ten,
+            Err(Rejected::Size),
+            "REJECTED 9\n",
+        ),
+        (
+            PlanStatus::Optimal,
+            ten,
+            Err(Rejected::Budget {
+                examined: 1001,
+                budget: 1000,
+            }),
+            "REJECTED 10 1001 1000\n",
+        ),
+    ] {
+        match plan(rt.alloc(), status, cost) {
+            Some(plan) => {
+                let text = verdict_line(rt.alloc(), &plan, &verdict)?;
+                assert!(rt; text.as_slice() == line.as_bytes(), "{line}");
+            }
+            None => assert!(rt; false, "{line}"),
+        }
     }
     Ok(())
 }

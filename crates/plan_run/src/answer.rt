@@ -1,8 +1,8 @@
 //! The whole output of a run, made before anything is written.
 
-ghost use Rattle.std.specs.Prelude.{◌≡◌, ◌≤◌, map, string_bytes, IfOk};
+ghost use Rattle.std.specs.Prelude.{◌≡◌, ◌≤◌, ◌-◌, length, map, string_bytes, IfOk};
 ghost use Rattle.plan_io.specs.Causes.{Rose};
-ghost use Rattle.plan_run.specs.Stops.{IsMade, RisesAtMostTwo};
+ghost use Rattle.plan_run.specs.Stops.{IsMade, RisesAtMost};
 
 use crate::reading::find_answer;
 use crate::status::Status;
@@ -30,7 +30,7 @@ pub fn make_answer<S: Shelf, G: Gate>(
     ensures read_fault { IfOk result (λ answer. answer.status ≡ Status.ReadFault →
         Rose (S.faults shelf.old) (S.faults shelf.new)) }
     ensures later { S.faults shelf.old ≤ S.faults shelf.new }
-    ensures begins { RisesAtMostTwo (S.begins shelf.old) (S.begins shelf.new) }
+    ensures begins { RisesAtMost (length words.now - 1) (S.begins shelf.old) (S.begins shelf.new) }
 {
     match find_answer(alloc, words, shelf, gate) {
         Ok(answer) => Ok(answer),

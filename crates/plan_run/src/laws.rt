@@ -1,13 +1,19 @@
 //! What follows from the contract of the top call.
 
-ghost use Rattle.std.specs.Prelude.{ℕ, List, ◌≡◌, ◌≢◌, map, string_bytes, None, Some, IsSome};
+ghost use Rattle.std.specs.Prelude.{ℕ, List, ◌≡◌, ◌≢◌, ◌↔◌, map, string_bytes, None, Some, IsSome};
 ghost use Rattle.plan_io.specs.SureShelf.{text_of, begin_count};
 ghost use Rattle.plan_run.specs.Words.{asked_in};
 ghost use Rattle.plan_report.specs.declared.run_fault.RunFault.{RunFault as AnyFault};
 ghost use Rattle.plan_report.specs.declared.run_fault.RunFault.TheVariants as faults;
+ghost use Rattle.plan_base.specs.declared.parts.Parts.{Parts as AnyParts};
+ghost use Rattle.proof_tree.specs.declared.plan.Plan.{Plan as AnyPlan};
+ghost use Rattle.proof_tree.specs.Plans.{IsValidPlan};
+ghost use Rattle.cert_format.specs.Grammar.{SpellsPlan};
 ghost use Rattle.plan_run.specs.declared.command.Command.{Command as AnyCommand};
+ghost use Rattle.plan_run.specs.declared.command.Command.TheVariants as commands;
 ghost use Rattle.plan_run.specs.declared.status.Status.{Status as AnyStatus};
-ghost use Rattle.plan_run.specs.Refusals.{AreRefused};
+ghost use Rattle.plan_run.specs.declared.status.Status.TheVariants as statuses;
+ghost use Rattle.plan_run.specs.Refusals.{Reads, SpellsItsPlan, HasFewSteps, AreRefused};
 ghost use Rattle.plan_run.specs.OneAnswer.{Below};
 ghost use Rattle.plan_run.specs.Runs.{IsRun, IsDone, IsOwnAnswer};
 
@@ -16,8 +22,8 @@ use crate::top_call::run;
 use plan_io::{Gate, SureShelf, SureSink};
 use std::alloc::Global;
 
-/// Over a shelf and a sink that never fail, a run whose words are read ends with a plan, with no
-/// design, with what is not built, or with want of memory.
+/// Over a shelf and a sink that never fail, a run whose words are read ends with the work done, with a
+/// refusal of its texts, or with want of memory.
 pub fn run_surely<G: Gate>(
     alloc: Global,
     words: &[String],
@@ -35,7 +41,7 @@ pub fn run_surely<G: Gate>(
     run(alloc, words, shelf, out, gate)
 }
 
-/// What the crates below say: a text, two files and a link have one answer each.
+/// What the crates below say: a text, two files, a link and a plan have one answer each.
 fn one_answer_below()
     ensures { Below }
 {
@@ -46,20 +52,46 @@ fn one_answer_below()
     model_check::laws::no_refusal_of_an_instance();
     model_check::laws::one_refusal();
     link_steps::laws::few_or_many();
+    cert_format::laws::one_plan_for_a_text();
+    cert_format::laws::no_fault_where_spelt();
+    cert_format::laws::one_fault_for_a_text();
+    cert_verifier::laws::one_fault();
 }
 
-/// Two texts are refused in one way at most.
+/// The texts of a command are refused in one way at most.
 pub fn one_refusal()
-    ensures { (command : AnyCommand) (network model : List ℕ) (a b : AnyFault) →
+    ensures { (command : AnyCommand (List ℕ)) (network model : List ℕ) (a b : AnyFault) →
         AreRefused command network model a → AreRefused command network model b → a ≡ b }
 {
     one_answer_below();
 }
 
-/// Where two texts are refused, but for what is not built, no command does its work for them.
+/// Where the texts of a command are refused, but for what is not built, they do not read as an instance
+/// within its limits and as a plan, and no command does its work for them.
 pub fn refused_or_done()
-    ensures { (command : AnyCommand) (network model : List ℕ) (fault : AnyFault) (status : AnyStatus) (bytes : List ℕ) →
+    ensures read { (command : AnyCommand (List ℕ)) (network model : List ℕ) (made : AnyCommand AnyPlan)
+        (parts : AnyParts) (fault : AnyFault) → AreRefused command network model fault → fault ≢ faults.NotBuilt
+        → Reads network model parts → SpellsItsPlan command made → HasFewSteps parts → ⊥ }
+    ensures done { (command : AnyCommand (List ℕ)) (network model : List ℕ) (fault : AnyFault) (status : AnyStatus) (bytes : List ℕ) →
         AreRefused command network model fault → fault ≢ faults.NotBuilt → IsDone command network model status bytes → ⊥ }
+{
+    one_answer_below();
+}
+
+/// Where texts read as an instance and a plan, the plan is accepted exactly if it is a valid one of the instance.
+pub fn accepted_where_valid()
+    ensures { (text network model : List ℕ) (parts : AnyParts) (plan : AnyPlan) (status : AnyStatus) (bytes : List ℕ) →
+        Reads network model parts → SpellsPlan text plan → IsDone (commands.Verify text) network model status bytes
+        → (status ≡ statuses.Good) ↔ IsValidPlan parts plan }
+{
+    one_answer_below();
+}
+
+/// Three texts get one verdict: its status and its line.
+pub fn one_verdict()
+    ensures { (text network model : List ℕ) (status other : AnyStatus) (bytes more : List ℕ) →
+        IsDone (commands.Verify text) network model status bytes → IsDone (commands.Verify text) network model other more
+        → (status ≡ other) × (bytes ≡ more) }
 {
     one_answer_below();
 }

@@ -1,26 +1,34 @@
-//! From two texts to the answer of a command.
+//! From texts to the answer of a command.
 
 ghost use Rattle.std.specs.Prelude.{◌≡◌, ◌≤◌, length, IfOk, IfErr};
+ghost use Rattle.plan_base.specs.Facts.{IsInstance};
 ghost use Rattle.snd_network.specs.Spelling.{SpellsNetwork};
 ghost use Rattle.snd_network.specs.WellFormed.{IsWellFormed};
 ghost use Rattle.snd_model.specs.Spelling.{SpellsModel};
 ghost use Rattle.plan_run.specs.declared.command.Command.TheVariants as commands;
 ghost use Rattle.plan_run.specs.declared.stop.Stop.TheVariants as stops;
-ghost use Rattle.plan_run.specs.Refusals.{Reads};
+ghost use Rattle.model_check.specs.Reading.{ReadsAs};
+ghost use Rattle.proof_tree.specs.Spellings.{IsSpellable};
+ghost use Rattle.cert_format.specs.Grammar.{SpellsPlan};
+ghost use Rattle.plan_run.specs.Refusals.{SpellsItsPlan};
 ghost use Rattle.plan_run.specs.Runs.{IsDone, Writes};
-ghost use Rattle.plan_run.specs.Stops.{IsNetworkStop, IsModelStop, IsReadingStop, IsTextStop, IsPlanStop, IsCommandStop};
+ghost use Rattle.plan_run.specs.Stops.{command_bytes, IsShortEnough, FitsItsPlan, AreSpelling, IsNetworkStop, IsModelStop, IsPlanTextStop, IsCommandTextStop, IsFileStop, IsTextStop, IsPlanStop, IsCommandStop};
 
 use crate::answer::Answer;
 use crate::command::Command;
 use crate::plan_lines::plan_text;
 use crate::reading::MAX_TEXT_BYTES;
 use crate::status::Status;
-use crate::stop::{Stop, stop_of_check, stop_of_text};
+use crate::stop::{Stop, stop_of_check, stop_of_plan, stop_of_text};
+use cert_format::limits::MAX_PLAN_BYTES;
+use cert_format::read_plan;
+use cert_verifier::{Rejected, verify};
 use link_steps::StepTable;
 use model_check::to_instance;
 use one_demand::{Planned, plan_one};
 use plan_base::Instance;
-use plan_report::{FileKind, RunFault, check_line};
+use plan_report::{FileKind, RunFault, check_line, verdict_line};
+use proof_tree::Plan;
 use snd_model::{ModelFile, read_model};
 use snd_network::{NetworkFile, read_network};
 use std::alloc::Global;
@@ -50,16 +58,62 @@ fn model_of(alloc: Global, text: &[u8]) -> Result<ModelFile, Stop>
     }
 }
 
-/// The instance that two texts stand for.
-fn instance_of(alloc: Global, network: &[u8], model: &[u8]) -> Result<Instance, Stop>
+/// The plan that a text spells.
+fn plan_of(alloc: Global, text: &[u8]) -> Result<Plan, Stop>
+    requires { length text.now ≤ MAX_PLAN_BYTES }
+    ensures value { IfOk result (SpellsPlan text.now) }
+    ensures stop { IfErr result (IsPlanTextStop text.now) }
+{
+    match read_plan(alloc, text) {
+        Ok(plan) => Ok(plan),
+        Err(fault) => Err(stop_of_plan(fault)),
+    }
+}
+
+/// The command with the plan that its text spells, where it has one.
+fn command_of(alloc: Global, command: &Command<Vec<u8>>) -> Result<Command<Plan>, Stop>
+    requires { IsShortEnough (command_bytes command.now) }
+    ensures value { IfOk result (SpellsItsPlan (command_bytes command.now)) }
+    ensures stop { IfErr result (IsCommandTextStop (command_bytes command.now)) }
+{
+    match command {
+        Command::Plan => Ok(Command::Plan),
+        Command::Check => Ok(Command::Check),
+        Command::Verify(text) => match plan_of(alloc, text.as_slice()) {
+            Ok(plan) => Ok(Command::Verify(plan)),
+            Err(stop) => Err(stop),
+        },
+    }
+}
+
+/// What the texts of a command spell.
+fn files_of(
+    alloc: Global,
+    command: &Command<Vec<u8>>,
+    network: &[u8],
+    model: &[u8],
+) -> Result<(NetworkFile, ModelFile, Command<Plan>), Stop>
     requires network { length network.now ≤ MAX_TEXT_BYTES }
     requires model { length model.now ≤ MAX_TEXT_BYTES }
-    ensures value { IfOk result (Reads network.now model.now) }
-    ensures stop { IfErr result (IsReadingStop network.now model.now) }
+    requires plan { IsShortEnough (command_bytes command.now) }
+    ensures value { IfOk result (λ files. AreSpelling (command_bytes command.now) network.now model.now
+        files.0 files.1 files.2) }
+    ensures stop { IfErr result (IsTextStop (command_bytes command.now) network.now model.now) }
 {
     let network = network_of(alloc, network)?;
     let model = model_of(alloc, model)?;
-    match to_instance(alloc, &network, &model) {
+    let command = command_of(alloc, command)?;
+    Ok((network, model, command))
+}
+
+/// The instance that two files stand for.
+fn instance_of(alloc: Global, network: &NetworkFile, model: &ModelFile) -> Result<Instance, Stop>
+    requires { IsWellFormed network.now }
+    ensures read { IfOk result (ReadsAs network.now model.now) }
+    ensures lawful { IfOk result IsInstance }
+    ensures stop { IfErr result (IsFileStop network.now model.now) }
+{
+    match to_instance(alloc, network, model) {
         Ok(inst) => Ok(inst),
         Err(fault) => Err(stop_of_check(fault)),
     }
@@ -98,36 +152,61 @@ fn check(alloc: Global, inst: &Instance, table: &StepTable) -> Result<Answer, St
     })
 }
 
+/// What is written of a plan of an instance.
+fn verdict(alloc: Global, inst: &Instance, table: &StepTable, plan: &Plan) -> Result<Answer, Stop>
+    requires table { table.now ≡ inst.now }
+    requires fits { IsSpellable plan.now }
+    ensures done { IfOk result (λ answer. Writes (commands.Verify plan.now) inst.now answer.status answer.text.items) }
+    ensures stop { IfErr result (λ stop. stop ≡ stops.OutOfMemory) }
+{
+    match verify(alloc, inst, table, plan) {
+        Ok(()) => Ok(Answer {
+            status: Status::Good,
+            text: verdict_line(alloc, plan, &Ok(()))?,
+        }),
+        Err(Rejected::OutOfMemory) => Err(Stop::OutOfMemory),
+        Err(fault) => Ok(Answer {
+            status: Status::Rejected,
+            text: verdict_line(alloc, plan, &Err(fault))?,
+        }),
+    }
+}
+
 /// What a command writes of an instance.
 fn write_of(
     alloc: Global,
-    command: Command,
+    command: &Command<Plan>,
     inst: &Instance,
     table: &StepTable,
 ) -> Result<Answer, Stop>
-    requires { table.now ≡ inst.now }
-    ensures done { IfOk result (λ answer. Writes command inst.now answer.status answer.text.items) }
-    ensures stop { IfErr result (IsCommandStop command inst.now) }
+    requires table { table.now ≡ inst.now }
+    requires fits { FitsItsPlan command.now }
+    ensures done { IfOk result (λ answer. Writes command.now inst.now answer.status answer.text.items) }
+    ensures stop { IfErr result (IsCommandStop command.now inst.now) }
 {
     match command {
         Command::Plan => plan(alloc, inst, table),
         Command::Check => check(alloc, inst, table),
+        Command::Verify(plan) => verdict(alloc, inst, table, plan),
     }
 }
 
-/// The answer of a command to two texts.
+/// The answer of a command to its texts.
 pub fn do_command(
     alloc: Global,
-    command: Command,
+    command: &Command<Vec<u8>>,
     network: &[u8],
     model: &[u8],
 ) -> Result<Answer, Stop>
     requires network { length network.now ≤ MAX_TEXT_BYTES }
     requires model { length model.now ≤ MAX_TEXT_BYTES }
-    ensures done { IfOk result (λ answer. IsDone command network.now model.now answer.status answer.text.items) }
-    ensures stop { IfErr result (IsTextStop command network.now model.now) }
+    requires plan { IsShortEnough (command_bytes command.now) }
+    ensures done { IfOk result (λ answer. IsDone (command_bytes command.now) network.now model.now
+        answer.status answer.text.items) }
+    ensures stop { IfErr result (IsTextStop (command_bytes command.now) network.now model.now) }
 {
-    let inst = instance_of(alloc, network, model)?;
+    let (network, model, command) = files_of(alloc, command, network, model)?;
+    let inst = instance_of(alloc, &network, &model)?;
     let table = StepTable::make(alloc, &inst)?;
-    write_of(alloc, command, &inst, &table)
+    write_of(alloc, &command, &inst, &table)
 }

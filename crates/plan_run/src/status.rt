@@ -8,7 +8,7 @@ use plan_report::RunFault;
 /// How a run ends, with the number that the program exits with.
 #[derive(Clone, Copy, Debug, PartialEq, Eq)]
 pub enum Status {
-    /// An optimal design, or the line of a checked network, was written.
+    /// An optimal design, the line of a checked network, or that of a valid plan was written.
     Good = 0,
     /// The words are not read.
     Usage = 2,
@@ -26,6 +26,8 @@ pub enum Status {
     OutOfMemory = 8,
     /// No design exists.
     Infeasible = 10,
+    /// The plan is no valid one of the network.
+    Rejected = 12,
     /// The texts ask for what is not built yet.
     NotBuilt = 13,
 }

@@ -2,8 +2,9 @@
 
 ghost use Rattle.std.specs.Prelude.{◌≡◌};
 ghost use Rattle.model_check.specs.Refusals.{CanCome};
-ghost use Rattle.plan_run.specs.Stops.{stop_of_text, stop_of_check, stop_of_steps, stop_of_reading};
+ghost use Rattle.plan_run.specs.Stops.{stop_of_text, stop_of_plan, stop_of_check, stop_of_steps, stop_of_reading};
 
+use cert_format::PlanFault;
 use link_steps::StepFault;
 use model_check::CheckFault;
 use plan_base::BuildFault;
@@ -79,6 +80,17 @@ pub fn stop_of_text(file: FileKind, fault: TextFault) -> Stop
     match fault {
         TextFault::OutOfMemory => Stop::OutOfMemory,
         fault => Stop::Refused(RunFault::Text { file, fault }),
+    }
+}
+
+/// Why a run stops where a plan text is not read.
+pub fn stop_of_plan(fault: PlanFault) -> Stop
+    ensures { result ≡ stop_of_plan fault }
+{
+    match fault {
+        PlanFault::Line { at } => Stop::Refused(RunFault::PlanText { rule: 1, at }),
+        PlanFault::Ended { at } => Stop::Refused(RunFault::PlanText { rule: 2, at }),
+        PlanFault::OutOfMemory => Stop::OutOfMemory,
     }
 }
 

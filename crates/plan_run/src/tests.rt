@@ -3,6 +3,9 @@ use plan_io::{FileShelf, MemShelf, MemSink, NoGate, OutSink, SureShelf};
 use std::alloc::{AllocError, Global};
 use std::test::*;
 
+mod model_table;
+mod verdicts;
+
 const PLAN: &str = "plan net model";
 
 const USAGE: &[u8] =
@@ -289,7 +292,9 @@ fn other_words_get_the_usage_line(rt: HostRuntime) -> Result<(), Fail> {
         "",
         "plan net",
         "plan net model --nodes",
-        "report net model",
+        "report net model plan",
+        "verify net model",
+        "plan net model plan",
         "check net",
     ] {
         let (status, out) = ends_surely(rt.alloc(), given, b"", MODEL_TEXT)?;

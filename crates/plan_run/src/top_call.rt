@@ -14,10 +14,11 @@ use std::alloc::Global;
 /// output is made.
 ///
 /// - Takes: the words after the program's name; a shelf that has the texts that they name; the sink
-///   that the answer goes to; a gate that is passed once, between reading and planning.
+///   that the answer goes to; a gate that is passed once, between reading and the work.
 /// - Gives: how the run ended.
 /// - Rule: docs/DEFINITIONS.md, "Runs"; docs/FORMATS.md.
-/// - Time: linear in the texts' bytes, and that of one search for a cheapest path.
+/// - Time: linear in the texts' bytes, and that of one search for a cheapest path, or of verifying the plan.
+#[tactic(auto, using(crate::proofs::AnswerLaws::says_answer))]
 pub fn run<S: Shelf, W: Sink, G: Gate>(
     alloc: Global,
     words: &[String],

@@ -9,4 +9,8 @@ returns c = record {
   no_refusal = c.no_refusal_of_an_instance.ensures;
   one_check_fault = c.one_refusal.ensures;
   few_or_many = c.few_or_many.ensures;
+  one_plan = c.one_plan_for_a_text.ensures;
+  spelt_plan = c.no_fault_where_spelt-2.ensures;
+  one_plan_fault = c.one_fault_for_a_text-2.ensures;
+  one_rejection = c.one_fault.ensures;
 }
