@@ -15,11 +15,9 @@ use Rattle.proof_tree.specs.declared.plan.Plan.{Plan}
 use Rattle.proof_tree.specs.Trees.{LeafAt, leaves_of}
 use Rattle.proof_tree.specs.Plans.{IsOpenBound, IsCandidate, stated_cost}
 use Rattle.proof_tree.proofs.Uniqueness.{bound-unique}
+use Rattle.cert_verifier.proofs.WalkLaws.{some_same}
 use Rattle.cert_verifier.specs.Bounds.{IsBoundIn, IsLeastBoundIn, IsLowerOf}
 use Rattle.cert_verifier.specs.PlanRules.{IsLeastOfAll}
-
-some_one : {A : Type 0} (x y : A) → Some x ≡ Some y → x ≡ y
-some_one x y h = cc
 
 -- a leaf has at most one bound
 pub open_bound-unique : (p : Parts) (r : Forbidden) (evidence : Evidence) (a b : ℤ) → IsOpenBound p r evidence a → IsOpenBound p r evidence b → a ≡ b
@@ -68,7 +66,7 @@ bound-parts p leaves leaf found some b (inr is) = Any-push (λ l. IsOpenBound p 
 -- what is least of the known leaves is one of their bounds, and no other is lower
 known-bound : (p : Parts) (leaves : List LeafAt) (known : Option ℤ) (b : ℤ) → IsLeastBoundIn p leaves known → known ≡ Some b → IsBoundIn p leaves b
 known-bound p leaves None b least is = absurd (let bad : None ≡ Some b = is in cc)
-known-bound p leaves (Some k) b least is = subst (IsBoundIn p leaves) (some_one k b is) least.0
+known-bound p leaves (Some k) b least is = subst (IsBoundIn p leaves) (some_same k b is) least.0
 
 -- a bound of the leaves is at least the known one
 known-least : (p : Parts) (leaves : List LeafAt) (known : Option ℤ) (other : ℤ) → IsLeastBoundIn p leaves known → IsBoundIn p leaves other → (k : ℤ) × (known ≡ Some k) × (k ≤ℤ other)
@@ -114,7 +112,7 @@ cost-candidate p plan b h = inl (cases (stated_cost plan) h)
   where
     cases : (cost : Option ℕ) → option_map (λ cost. pos cost) cost ≡ Some b → IsSomeAnd cost (λ cost. pos cost ≡ b)
     cases None h = absurd (let bad : None ≡ Some b = h in cc)
-    cases (Some c) h = some_one (pos c) b h
+    cases (Some c) h = some_same (pos c) b h
 
 -- the lower of the stated cost and the least bound of open leaves is the least of all
 pub least_of_both : (p : Parts) (plan : Plan) (lowest result : Option ℤ) → IsLeastBoundIn p (leaves_of plan.tree) lowest → IsLowerOf (cost_bound plan) lowest result → IsLeastOfAll p plan result

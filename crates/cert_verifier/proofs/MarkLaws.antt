@@ -1,7 +1,7 @@
 -- What marks forbid, arc by arc, and what becomes of it when a mark is set or taken away.
 use Rattle.std.proofs.Common.{◌≡◌, ◌≢◌, ℕ, ◌*◌, ◌+◌, ◌<◌, ◌≤◌, inl, inr, Bool, true, false, ◌==◌, ◌&&◌, ◌||◌, not, List, [], ◌∷◌, length, get_or, set, replicate, slice_index_or, nat_lt, if◌then◌else◌, refl, sym, ap, ◌∙◌, arith, All}
 use Rattle.std.proofs.Math.Path.{fun_ext}
-use Rattle.std.proofs.lemmas.Bool.{lt-ltb, le-ltb, eq-eqb, ne_eqb, eqb-true, and_left, and_right, and_from, or_right, cases_lt, cases_eq}
+use Rattle.std.proofs.lemmas.Bool.{lt-ltb, le-ltb, eq-eqb, ne_eqb, eqb-true, and_left, and_right, and_parts, and_from, or_right, cases_lt, cases_eq}
 use Rattle.std.proofs.lemmas.List.{get_or-set_same, get_or-set_other, get_or-replicate, get_or_past, length-replicate}
 use Rattle.std.proofs.lemmas.List.Folds.{Any-from_list_any}
 use Rattle.std.proofs.lemmas.Nat.{same_from_place, mul-add-lt}
@@ -141,10 +141,6 @@ forbidden_by-none demands arcs n = fun_ext (λ k. fun_ext (λ a. at k a))
 pub undo_forbid : (r : Forbidden) (id : DemandId) (arcs : List ArcId) → All (λ a. r id.0 a ≡ false) arcs → without_forbidden (with_forbidden r id arcs) id arcs ≡ r
 undo_forbid r id arcs free = fun_ext (λ k. fun_ext (λ a. at k a))
   where
-    and_right_true : (x y : Bool) → (x && y) ≡ true → y ≡ true
-    and_right_true true y h = h
-    and_right_true false y h = absurd (let bad : false ≡ true = h in cc)
-
     free_among : (a : ArcId) → is_among arcs a ≡ true → r id.0 a ≡ false
     free_among a is =
         let hit = Any-from_list_any (λ b. b.0 == a.0) arcs is in
@@ -159,6 +155,6 @@ undo_forbid r id arcs free = fun_ext (λ k. fun_ext (λ a. at k a))
 
     at : (k : ℕ) (a : ArcId) → without_forbidden (with_forbidden r id arcs) id arcs k a ≡ r k a
     at k a = elim (cases_eq k id.0) [
-      | inl here ↦ turned (r k a) _ (λ both. ap (λ (j : ℕ). r j a) here ∙ free_among a (and_right_true _ _ both))
+      | inl here ↦ turned (r k a) _ (λ both. ap (λ (j : ℕ). r j a) here ∙ free_among a (and_parts _ _ both).1)
       | inr apart ↦ turned (r k a) _ (λ both. absurd (let bad : false ≡ true = sym (and_left _ _ (ne_eqb _ _ apart)) ∙ both in cc))
     ]

@@ -6,6 +6,7 @@ use Rattle.std.specs.List.{list_any}
 use Rattle.std.proofs.Common.{arith}
 use Rattle.std.proofs.lemmas.Int.{ints}
 use Rattle.plan_base.specs.declared.parts.Parts.{Parts}
+use Rattle.plan_base.proofs.Bools.{or-false_both}
 use Rattle.plan_base.specs.declared.path.Design.{Design}
 use Rattle.plan_base.specs.DesignFaults.{design_fault}
 use Rattle.plan_base.proofs.DesignLaws.{IsGoodDesign-design_fault, design_fault-IsGoodDesign}
@@ -25,10 +26,6 @@ use Rattle.cert_verifier.proofs.FirstRules.{unless-none}
 use Rattle.cert_verifier.proofs.RuleLaws.{then_by-none, FindsOne, unless-one, then_by-one}
 use Rattle.cert_verifier.proofs.TreeLaws.{records_found_none, records_find_none, records_find_one}
 
-none_or : (a b : Bool) → (a || b) ≡ false → (a ≡ false) × (b ≡ false)
-none_or true b h = absurd (let bad : true ≡ false = h in cc)
-none_or false b h = (refl, h)
-
 -- leaves of a wrong kind: open ones where none may be, and such as need a cost where there is none
 abbrev wrong : Bool → Bool → TreeNode → Bool
 wrong closed without node = (closed && is_open node) || (without && needs_cost node)
@@ -36,8 +33,8 @@ wrong closed without node = (closed && is_open node) || (without && needs_cost n
 none-wrong : (closed without : Bool) (nodes : List TreeNode) → (closed ≡ true → list_any is_open nodes ≡ false) → (without ≡ true → list_any needs_cost nodes ≡ false) → list_any (wrong closed without) nodes ≡ false
 none-wrong closed without [] open' needs = refl
 none-wrong closed without (node ∷ nodes) open' needs =
-    ap (λ b. b || list_any (wrong closed without) nodes) (here closed without (λ is. (none_or _ _ (open' is)).0) (λ is. (none_or _ _ (needs is)).0))
-    ∙ none-wrong closed without nodes (λ is. (none_or _ _ (open' is)).1) (λ is. (none_or _ _ (needs is)).1)
+    ap (λ b. b || list_any (wrong closed without) nodes) (here closed without (λ is. (or-false_both _ _ (open' is)).0) (λ is. (or-false_both _ _ (needs is)).0))
+    ∙ none-wrong closed without nodes (λ is. (or-false_both _ _ (open' is)).1) (λ is. (or-false_both _ _ (needs is)).1)
   where
     here : (c w : Bool) → (c ≡ true → is_open node ≡ false) → (w ≡ true → needs_cost node ≡ false) → wrong c w node ≡ false
     here true true a b = ap (λ x. x || needs_cost node) (a refl) ∙ b refl
@@ -48,14 +45,14 @@ none-wrong closed without (node ∷ nodes) open' needs =
 wrong-open : (without : Bool) (nodes : List TreeNode) → list_any (wrong true without) nodes ≡ false → list_any is_open nodes ≡ false
 wrong-open without [] h = refl
 wrong-open without (node ∷ nodes) h =
-    let both = none_or _ _ h in
-    ap (λ b. b || list_any is_open nodes) (none_or _ _ both.0).0 ∙ wrong-open without nodes both.1
+    let both = or-false_both _ _ h in
+    ap (λ b. b || list_any is_open nodes) (or-false_both _ _ both.0).0 ∙ wrong-open without nodes both.1
 
 wrong-needs : (closed : Bool) (nodes : List TreeNode) → list_any (wrong closed true) nodes ≡ false → list_any needs_cost nodes ≡ false
 wrong-needs closed [] h = refl
 wrong-needs closed (node ∷ nodes) h =
-    let both = none_or _ _ h in
-    ap (λ b. b || list_any needs_cost nodes) (none_or _ _ both.0).1 ∙ wrong-needs closed nodes both.1
+    let both = or-false_both _ _ h in
+    ap (λ b. b || list_any needs_cost nodes) (or-false_both _ _ both.0).1 ∙ wrong-needs closed nodes both.1
 
 -- the design
 pub stated_found_none : (p : Parts) (design : Option (ℕ × Design)) → DesignFinds p design None → IfSome design (λ design. IsStatedDesign p design.0 design.1)

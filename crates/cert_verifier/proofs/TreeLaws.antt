@@ -1,8 +1,9 @@
 -- Records break no rule exactly where they are valid trees and of the kinds that the plan may have.
-use Rattle.std.proofs.Common.{◌≡◌, ℕ, suc, inl, inr, Bool, true, false, ◌||◌, ◌&&◌, List, [], ◌∷◌, length, None, refl, sym, ap, ◌∙◌}
+use Rattle.std.proofs.Common.{◌≡◌, ℕ, suc, inl, inr, Bool, true, false, ◌||◌, ◌&&◌, List, [], ◌∷◌, length, None, refl, sym, ◌∙◌}
 use Rattle.std.specs.Prelude.{IsTrue}
 use Rattle.std.specs.List.{list_any}
 use Rattle.plan_base.specs.declared.parts.Parts.{Parts}
+use Rattle.plan_base.proofs.Bools.{or-false_both, or-both_false}
 use Rattle.arc_restrict.specs.Restrictions.{Forbidden, with_forbidden}
 use Rattle.proof_tree.specs.declared.tree.TreeNode.{TreeNode}
 use Rattle.proof_tree.specs.declared.tree.TreeNode.TheVariants.{Split, Leaf}
@@ -27,13 +28,6 @@ split-kind plan node = both _ _
     both false true = refl
     both false false = refl
 
-or_none : (a b : Bool) → a ≡ false → b ≡ false → (a || b) ≡ false
-or_none a b first second = ap (λ x. x || b) first ∙ second
-
-none_or : (a b : Bool) → (a || b) ≡ false → (a ≡ false) × (b ≡ false)
-none_or true b h = absurd (let bad : true ≡ false = h in cc)
-none_or false b h = (refl, h)
-
 -- what it says of records that no rule is broken
 pub record AreSound (p : Parts) (plan : Plan) (rs : List Forbidden) (nodes : List TreeNode) : Type 0 where
   pub valid : AreValidTrees p (stated_cost plan) rs nodes
@@ -49,14 +43,14 @@ records_found_none p plan (Leaf evidence ∷ nodes) (r ∷ rs) index whole h =
     let rest = records_found_none p plan nodes rs (suc index) whole both.1 in
     record {
       valid = (leaf_found_none p (stated_cost plan) r index evidence leaf.1, rest.valid);
-      kinds = or_none _ _ (unless-none _ _ leaf.0) rest.kinds;
+      kinds = or-both_false _ _ (unless-none _ _ leaf.0) rest.kinds;
     }
 records_found_none p plan (Split id at left right ∷ nodes) (r ∷ rs) index whole h =
     let both = then_by-none h in
     let rest = records_found_none p plan nodes (with_forbidden r id left ∷ with_forbidden r id right ∷ rs) (suc index) whole both.1 in
     record {
       valid = (split_found_none p r index id at left right both.0, rest.valid);
-      kinds = or_none _ _ (split-kind plan (Split id at left right)) rest.kinds;
+      kinds = or-both_false _ _ (split-kind plan (Split id at left right)) rest.kinds;
     }
 
 pub records_find_none : (p : Parts) (plan : Plan) (nodes : List TreeNode) (rs : List Forbidden) (index : ℕ) → AreValidTrees p (stated_cost plan) rs nodes → list_any (is_wrong_kind plan) nodes ≡ false → RecordsFind p plan rs index nodes None
@@ -64,10 +58,10 @@ records_find_none p plan [] [] index valid kinds = refl
 records_find_none p plan (node ∷ nodes) [] index valid kinds = absurd valid
 records_find_none p plan [] (r ∷ rs) index valid kinds = absurd valid
 records_find_none p plan (Leaf evidence ∷ nodes) (r ∷ rs) index valid kinds =
-    let both = none_or _ _ kinds in
+    let both = or-false_both _ _ kinds in
     inr (inr (inl (both.0, refl), leaf_finds_none p (stated_cost plan) r index evidence valid.0), records_find_none p plan nodes rs (suc index) valid.1 both.1)
 records_find_none p plan (Split id at left right ∷ nodes) (r ∷ rs) index valid kinds =
-    inr (split_finds_none p r index id at left right valid.0, records_find_none p plan nodes (with_forbidden r id left ∷ with_forbidden r id right ∷ rs) (suc index) valid.1 (none_or _ _ kinds).1)
+    inr (split_finds_none p r index id at left right valid.0, records_find_none p plan nodes (with_forbidden r id left ∷ with_forbidden r id right ∷ rs) (suc index) valid.1 (or-false_both _ _ kinds).1)
 
 record_finds_one : (p : Parts) (plan : Plan) (r : Forbidden) (index : ℕ) (node : TreeNode) → FindsOne (RecordFinds p plan r index node)
 record_finds_one p plan r index (Split id at left right) = split_finds_one p r index id at left right

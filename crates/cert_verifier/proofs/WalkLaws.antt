@@ -41,7 +41,8 @@ abbrev pub IsSplitWithin : Parts → TreeNode → Type 0
 IsSplitWithin p (Split id at left right) = AreWithin p id left right
 IsSplitWithin p (Leaf evidence) = ⊥
 
-some_same : {A : Type 0} (x y : A) → Some x ≡ Some y → x ≡ y
+-- what is in equal options is equal
+pub some_same : {A : Type 0} (x y : A) → Some x ≡ Some y → x ≡ y
 some_same x y h = cc
 
 -- the record of the last turn is a split within the instance
@@ -137,10 +138,6 @@ reverse_push turns turn = reverse-append turns (turn ∷ [])
 pub not_right : (b : Bool) → not b ≡ true → b ≡ false
 not_right true h = sym h
 not_right false h = refl
-
-pub is_right : (b : Bool) → not b ≡ false → b ≡ true
-is_right true h = refl
-is_right false h = sym h
 
 -- a record that is read at a place is the one there
 pub record-is : (nodes read : List TreeNode) (i : ℕ) (here : TreeNode) → read ≡ nodes → here ≡ get_or read i here → (node : TreeNode) → slice_get nodes i ≡ Some node → here ≡ node

@@ -4,6 +4,7 @@ use Rattle.plan_base.specs.declared.ids.ArcId.{ArcId}
 use Rattle.plan_base.specs.declared.parts.Parts.{Parts}
 use Rattle.plan_base.specs.Arcs.{is_arc, tail_of, head_of, link_of}
 use Rattle.plan_base.specs.declared.limits.TheConstants.{MAX_PRICED_LOAD}
+use Rattle.cert_verifier.specs.declared.limits.TheConstants.{MAX_WAY_ARCS}
 use Rattle.arc_restrict.specs.Restrictions.{Forbidden}
 
 -- the arc is the one that is left out
@@ -43,9 +44,9 @@ first_labels nodes source = slice_set (replicate nodes None) source (Some 0)
 abbrev pub IsAtMost : Option ℕ → ℕ → Type 0
 IsAtMost label bound = MatchOption label ⊥ (λ price. price ≤ bound)
 
--- no price is above that of 511 arcs at the greatest price limit that an instance can have
+-- no price is above that of a way of the most arcs at the greatest price limit that an instance can have
 abbrev pub AreSmall : List (Option ℕ) → Type 0
-AreSmall labels = All (λ label. IfSome label (λ price. price ≤ 511 * MAX_PRICED_LOAD)) labels
+AreSmall labels = All (λ label. IfSome label (λ price. price ≤ MAX_WAY_ARCS * MAX_PRICED_LOAD)) labels
 
 -- a way from one node to another: arcs that may be taken, each from where the last one led
 abbrev pub IsWay : Parts → (ArcId → Bool) → ℕ → ℕ → List ArcId → Type 0

@@ -3,6 +3,7 @@
 ghost use Rattle.std.specs.Prelude.{◌≡◌, ◌≤◌, ◌<◌, ◌*◌, ◌^◌, ◌↔◌, ℤ, pos, ◌≤ℤ◌, ◌+ℤ◌, ◌-ℤ◌, ◌*ℤ◌, length, IsTrue, IfOk, IfSome, IfNone};
 ghost use Rattle.arc_restrict.specs.Prices.{AreWithinLimit};
 ghost use Rattle.proof_tree.specs.Bounds.{IsBound};
+ghost use Rattle.cert_verifier.specs.declared.limits.TheConstants.{MAX_WAY_ARCS};
 ghost use Rattle.cert_verifier.specs.Kept.{forbidden_by};
 ghost use Rattle.cert_verifier.specs.LeafRules.{HavePaths};
 ghost use Rattle.cert_verifier.specs.Totals.{IsPriceTotal, IsSumOfValues, capacity_price};
@@ -26,7 +27,7 @@ pub(crate) fn price_total(
     requires limit { AreWithinLimit inst.now prices.now }
     ensures total { IfOk result (λ total. IfSome total (IsPriceTotal inst.now (forbidden_by forbidden.now) prices.now)) }
     ensures none { IfOk result (λ total. IfNone total (HavePaths inst.now (forbidden_by forbidden.now) → ⊥)) }
-    ensures within { IfOk result (λ total. IfSome total (λ total. total ≤ 511 * MAX_PRICED_LOAD)) }
+    ensures within { IfOk result (λ total. IfSome total (λ total. total ≤ MAX_WAY_ARCS * MAX_PRICED_LOAD)) }
 {
     let mut total = 0;
     for place in 0..inst.demands() {
@@ -62,7 +63,7 @@ fn value_total(inst: &Instance, table: &StepTable, prices: &[u128]) -> i128
 
 /// The two sums together, in thousandths of a cost grain.
 fn total_of(priced: u128, values: i128) -> i128
-    requires priced { priced ≤ 511 * MAX_PRICED_LOAD }
+    requires priced { priced ≤ MAX_WAY_ARCS * MAX_PRICED_LOAD }
     requires not_positive { values ≤ℤ pos 0 }
     requires bounded { (pos 0 -ℤ pos (MAX_LINKS * MAX_PRICED_LOAD)) ≤ℤ values }
     ensures { result ≡ (pos priced +ℤ values) }

@@ -11,6 +11,7 @@ mod bounds;
 mod claims;
 pub mod laws;
 mod leaves;
+pub mod limits;
 mod marks;
 mod only_paths;
 mod rejected;

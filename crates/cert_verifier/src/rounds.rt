@@ -6,6 +6,7 @@ ghost use Rattle.plan_base.specs.Facts.{IsInstance, total_load};
 ghost use Rattle.plan_base.specs.declared.limits.TheConstants.{MAX_PRICED_LOAD};
 ghost use Rattle.arc_restrict.specs.Restrictions.{HasNoPath};
 ghost use Rattle.arc_restrict.specs.Prices.{price_of, AreWithinLimit, IsLeastPrice};
+ghost use Rattle.cert_verifier.specs.declared.limits.TheConstants.{MAX_WAY_ARCS};
 ghost use Rattle.cert_verifier.specs.Kept.{forbidden_by};
 ghost use Rattle.cert_verifier.specs.Labels.{may_take, AreLeast, AreSmall, IsRelaxed, IsRound, lower_of, first_labels};
 
@@ -157,7 +158,7 @@ pub(crate) fn least_price(
     ensures value { IfOk result (λ price. MatchOption price
         (HasNoPath ways.now.inst.now (forbidden_by ways.now.forbidden.now) ways.now.demand.0)
         (λ price. IsLeastPrice ways.now.inst.now (forbidden_by ways.now.forbidden.now) prices.now ways.now.demand.0 price)) }
-    ensures within { IfOk result (λ price. IfSome price (λ price. price * total_load ways.now.inst.now ≤ 511 * MAX_PRICED_LOAD)) }
+    ensures within { IfOk result (λ price. IfSome price (λ price. price * total_load ways.now.inst.now ≤ MAX_WAY_ARCS * MAX_PRICED_LOAD)) }
 {
     let labels = least_prices(alloc, ways, prices)?;
     Ok(labels[ways.inst.demand(ways.demand).target.0 as usize])

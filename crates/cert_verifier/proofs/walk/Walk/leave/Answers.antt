@@ -5,7 +5,8 @@ use Rattle.plan_base.specs.declared.ids.ArcId.{ArcId}
 use Rattle.arc_restrict.specs.Restrictions.{with_forbidden}
 use Rattle.cert_verifier.specs.Kept.{forbidden_by, without_forbidden}
 use Rattle.cert_verifier.specs.Walks.{IsPlace, AreLeft}
-use Rattle.cert_verifier.proofs.WalkLaws.{turn-read, turn-split, leave_left, leave_right, reverse_push, not_right, is_right}
+use Rattle.plan_base.proofs.Bools.{not-false}
+use Rattle.cert_verifier.proofs.WalkLaws.{turn-read, turn-split, leave_left, leave_right, reverse_push, not_right}
 use Rattle.cert_verifier.proofs.walk.Walk.leave.Goals as goal
 
 pub undo-requires-clause-demand : goal.undo-requires-clause-demand
@@ -34,7 +35,7 @@ returns-then-not-turn-clause-after c = λ rs place.
 pub returns-else-not-turn-clause-after : goal.returns-else-not-turn-clause-after
 returns-else-not-turn-clause-after c = λ rs place.
     let is = turn-read _ _ _ _ _ _ c.requires.stands c.nodes.ensures.value c.index-nodes-turn.result c.index-nodes-turn.is ∙ ap (λ (x : TreeNode). Some x) c.in-Split.is in
-    let right_one : c.args.turn.is_right ≡ true = is_right c.args.turn.is_right c.if-not-turn.false in
+    let right_one : c.args.turn.is_right ≡ true = not-false c.args.turn.is_right c.if-not-turn.false in
     let up = leave_right c.args.against.now.inst.now c.args.against.now.plan.now.tree c.args.turn (reverse c.args.self.now.turns.items) (forbidden_by c.args.self.now.forbidden) rs _ _ _ _ is right_one place in
     let marks = c.undo.ensures.value ∙ ap (λ (l : List ArcId). without_forbidden (forbidden_by c.args.self.now.forbidden) c.in-Split.demand l) c.as_slice-in-Split.ensures.value in
     subst (λ r. IsPlace c.args.against.now.inst.now c.args.against.now.plan.now.tree (reverse c.args.self.now.turns.items) r rs) (sym marks) up
