@@ -10,7 +10,7 @@
 mod draft;
 mod file;
 mod keys;
-mod laws;
+pub mod laws;
 mod pairs;
 mod reading;
 mod setting;
@@ -20,7 +20,6 @@ mod writing;
 
 pub use file::ModelFile;
 pub use keys::Key;
-pub use laws::{spells_one, written_spells};
 pub use reading::read_model;
 pub use setting::Setting;
 pub use snd_reader::{TextFault, Wanted};
