@@ -1,0 +1,165 @@
+-- Where no fault is found, the event may come.
+use Rattle.std.proofs.Common.{◌≡◌, ℕ, ◌*◌, ◌<◌, ◌≤◌, inl, inr, Bool, true, false, not, List, length, get_or, Option, Some, None, slice_get, refl, sym, ap, subst, ◌∙◌, arith}
+use Rattle.std.specs.Prelude.{option_map, option_and_then, IsSomeAnd}
+use Rattle.std.proofs.lemmas.Bool.{eqb-true}
+use Rattle.std.proofs.lemmas.Bool.Decides.{nat_tests}
+use Rattle.std.proofs.lemmas.List.Sums.{sum_by-le}
+use Rattle.std.proofs.lemmas.Option.{slice_get_within, get_or_from_slice_get}
+use Rattle.plan_base.specs.declared.ids.DemandId.{DemandId}
+use Rattle.plan_base.specs.declared.ids.BranchId.{BranchId}
+use Rattle.plan_base.specs.First.{◌or_else◌, when, first_in}
+use Rattle.plan_base.proofs.Bools.{not-false}
+use Rattle.plan_base.proofs.FirstFault.{or_else-none, when-none, first_in-none}
+use Rattle.pool_core.specs.declared.answers.Settle.{Settle}
+use Rattle.pool_core.specs.declared.answers.Settle.TheVariants as settle
+use Rattle.pool_core.specs.State.{Found, Round, Node, State, gap_of, left_of, round_of, rounds_by, rounds_in}
+use Rattle.pool_core.specs.Machine.{is_spent, version_in, is_version, gap_at, first_gap, stale_fault, settle_fault, IsTaken, with_node, Settles, SettleStep, Settling, to_settling}
+use Rattle.pool_core.specs.declared.limits.TheConstants.{MAX_BUDGET}
+use Rattle.pool_core.specs.Views.{HasPlaces, IsPool}
+use Rattle.pool_core.proofs.Lists.{sum_by-set_at, slice_get-set_same, slice_get-set_other, slice_get-set_cases}
+use Rattle.pool_core.proofs.Frames.{same_or_other, one_at}
+use Rattle.pool_core.proofs.Runs.{IsReachable-step}
+
+pub is_spent-false : (s : State) → is_spent s ≡ false → s.examined < s.budget
+is_spent-false s h = grind (arith, nat_tests)
+
+-- the node with an active round of the version
+pub record HasVersion (s : State) (id : BranchId) (version : ℕ) : Type 0 where
+  pub node : Node
+  pub round : Round
+  pub is_node : slice_get s.nodes id.0 ≡ Some node
+  pub is_round : node.round ≡ Some round
+  pub is_version : round.version ≡ version
+
+version_of-round : (o : Option Round) (version : ℕ) → is_version (version_in o) version ≡ true → (round : Round) × (o ≡ Some round) × (round.version ≡ version)
+version_of-round None version h = let bad : false ≡ true = h in absurd (cc)
+version_of-round (Some round) version h = (round, refl, eqb-true _ _ h)
+
+version_of-node : (o : Option Node) (version : ℕ) → is_version (version_in (option_and_then (λ node. node.round) o)) version ≡ true
+    → (node : Node) × (round : Round) × (o ≡ Some node) × (node.round ≡ Some round) × (round.version ≡ version)
+version_of-node None version h = let bad : false ≡ true = h in absurd (cc)
+version_of-node (Some node) version h = let r = version_of-round node.round version h in (node, r.0, refl, r.1, r.2)
+
+-- not stale: the budget is not spent, and the version is active
+pub record IsCurrent (s : State) (id : BranchId) (version : ℕ) : Type 0 where
+  pub not_spent : s.examined < s.budget
+  pub has_version : HasVersion s id version
+
+pub stale_fault-none : {F : Type 0} (spent : ℕ → F) (stale : Option ℕ → F) (s : State) (id : BranchId) (version : ℕ) → stale_fault spent stale s id version ≡ None → IsCurrent s id version
+stale_fault-none spent stale s id version h =
+    let both = or_else-none (when (is_spent s) (spent s.examined)) (when (not (is_version (version_in (round_of s id)) version)) (stale (version_in (round_of s id)))) h in
+    let v = version_of-node (slice_get s.nodes id.0) version (not-false _ (when-none _ _ both.1)) in
+    record {
+      not_spent = is_spent-false s (when-none _ _ both.0);
+      has_version = record { node = v.0; round = v.1; is_node = v.2; is_round = v.3; is_version = v.4 };
+    }
+
+gap_at-none : (k : ℕ) (o : Option Found) → gap_at k o ≡ None → gap_of o ≤ 0
+gap_at-none k None h = absurd (cc)
+gap_at-none k (Some found) h = omega arith
+
+-- where no demand is left, the round is complete
+pub first_gap-none : (round : Round) → first_in gap_at round.found ≡ None → left_of round ≡ 0
+first_gap-none round h =
+    let most : left_of round ≤ length round.found * 0 = sum_by-le gap_of 0 round.found (λ k d within. gap_at-none k (get_or round.found k d) (first_in-none gap_at round.found h k d within)) in
+    omega arith
+
+option_map-none : {A B : Type 0} (f : A → B) (o : Option A) → option_map f o ≡ None → o ≡ None
+option_map-none f None h = refl
+option_map-none f (Some x) h = absurd (cc)
+
+-- no fault: the settling may come
+pub settle_fault-none : (s t : State) (id : BranchId) (version : ℕ) → settle_fault s id version ≡ None
+    → ((node : Node) → slice_get s.nodes id.0 ≡ Some node → t ≡ with_node s id (record node { settled = true })) → Settles s id version t
+unfolding settle_fault
+settle_fault-none s t id version h becomes =
+    let both = or_else-none (stale_fault settle.Spent settle.Stale s id version) (option_map settle.Incomplete (first_gap (round_of s id))) h in
+    let is = stale_fault-none settle.Spent settle.Stale s id version both.0 in
+    let v = is.has_version in
+    let at : round_of s id ≡ Some v.round = ap (option_and_then (λ (node : Node). node.round)) v.is_node ∙ v.is_round in
+    let none : first_gap (round_of s id) ≡ None = option_map-none settle.Incomplete (first_gap (round_of s id)) both.1 in
+    record {
+      not_spent = is.not_spent;
+      node = v.node;
+      round = v.round;
+      is_node = v.is_node;
+      is_round = v.is_round;
+      is_version = v.is_version;
+      complete = first_gap-none v.round (sym (ap first_gap at) ∙ none);
+      becomes = becomes v.node v.is_node;
+    }
+
+-- a fault is a refusal
+pub settle_fault-refusal : (s : State) (id : BranchId) (version : ℕ) (refusal : Settle) → settle_fault s id version ≡ Some refusal → SettleStep s id version refusal s
+unfolding settle_fault
+settle_fault-refusal s id version (settle.Spent x) h = (h, refl)
+settle_fault-refusal s id version (settle.Stale x) h = (h, refl)
+settle_fault-refusal s id version (settle.Incomplete x) h = (h, refl)
+settle_fault-refusal s id version settle.Done h = absurd (never_done h)
+  where
+    never : (a b : Bool) (x : ℕ) (y : Option ℕ) (o : Option DemandId) → ((when a (settle.Spent x) or_else when b (settle.Stale y)) or_else option_map settle.Incomplete o) ≡ Some settle.Done → ⊥
+    never true b x y o h = cc
+    never false true x y o h = cc
+    never false false x y None h = cc
+    never false false x y (Some k) h = cc
+
+    never_done : settle_fault s id version ≡ Some settle.Done → ⊥
+    never_done h = never (is_spent s) (not (is_version (version_in (round_of s id)) version)) s.examined (version_in (round_of s id)) (first_gap (round_of s id)) h
+
+-- Places
+
+-- a slot is taken as before where a node is replaced that keeps its round
+IsTaken-there : (s : State) (id : BranchId) (old new : Node) → slice_get s.nodes id.0 ≡ Some old → new.round ≡ old.round → (slot : ℕ) → IsTaken s slot → IsTaken (with_node s id new) slot
+IsTaken-there s id old new is same slot t = elim (same_or_other t.0 id.0) [
+  | inr ne ↦ (t.0, t.1, slice_get-set_other s.nodes id.0 t.0 new ne ∙ t.2, t.3)
+  | inl e ↦
+      let at : slice_get s.nodes id.0 ≡ Some t.1 = subst (λ (k : ℕ). slice_get s.nodes k ≡ Some t.1) e t.2 in
+      let node : t.1 ≡ old = one_at s.nodes id.0 t.1 old at is in
+      let had : IsSomeAnd old.round (λ r. r.slot ≡ slot) = subst (λ (x : Node). IsSomeAnd x.round (λ r. r.slot ≡ slot)) node t.3 in
+      (id.0, new, slice_get-set_same s.nodes id.0 old new is, subst (λ (o : Option Round). IsSomeAnd o (λ r. r.slot ≡ slot)) (sym same) had)
+]
+
+IsTaken-back : (s : State) (id : BranchId) (old new : Node) → slice_get s.nodes id.0 ≡ Some old → new.round ≡ old.round → (slot : ℕ) → IsTaken (with_node s id new) slot → IsTaken s slot
+IsTaken-back s id old new is same slot t = elim (slice_get-set_cases s.nodes id.0 t.0 new t.1 t.2) [
+  | inr w ↦ (t.0, t.1, w.1, t.3)
+  | inl w ↦
+      let has : IsSomeAnd new.round (λ r. r.slot ≡ slot) = subst (λ (x : Node). IsSomeAnd x.round (λ r. r.slot ≡ slot)) w.1 t.3 in
+      (id.0, old, is, subst (λ (o : Option Round). IsSomeAnd o (λ r. r.slot ≡ slot)) same has)
+]
+
+-- a node is replaced that keeps its round: the places stay
+pub HasPlaces-set : (s : State) (places : List (Option Round)) (id : BranchId) (old new : Node) → slice_get s.nodes id.0 ≡ Some old → new.round ≡ old.round
+    → HasPlaces s places → HasPlaces (with_node s id new) places
+HasPlaces-set s places id old new is same h = record {
+  count = h.count;
+  total = (let e = sum_by-set_at rounds_in s.nodes id.0 old new is in let r : rounds_in new ≡ rounds_in old = ap rounds_by same in let t = h.total in omega arith);
+  taken = λ slot x. IsTaken-there s id old new is same slot (h.taken slot x);
+  free = λ slot place x t. h.free slot place x (IsTaken-back s id old new is same slot t);
+  slot_is = h.slot_is;
+  demands = h.demands;
+  prices = h.prices;
+}
+
+pub settle-IsPool : (s t : State) (places : List (Option Round)) (id : BranchId) (version : ℕ) → IsPool s places → Settles s id version t → IsPool t places
+settle-IsPool s t places id version h e = record {
+  some_budget = subst (λ (x : State). 0 < x.budget) (sym e.becomes) h.some_budget;
+  budget = subst (λ (x : State). x.budget ≤ MAX_BUDGET) (sym e.becomes) h.budget;
+  reachable = IsReachable-step s t (Settling id version) (to_settling settle.Done) h.reachable e;
+  has_places = subst (λ (x : State). HasPlaces x places) (sym e.becomes) (HasPlaces-set s places id e.node (record e.node { settled = true }) e.is_node refl h.has_places);
+}
+
+pub settle_fault-within : (s : State) (id : BranchId) (version : ℕ) → settle_fault s id version ≡ None → id.0 < length s.nodes
+unfolding settle_fault
+settle_fault-within s id version h =
+    let both = or_else-none (stale_fault settle.Spent settle.Stale s id version) (option_map settle.Incomplete (first_gap (round_of s id))) h in
+    let v = (stale_fault-none settle.Spent settle.Stale s id version both.0).has_version in
+    slice_get_within s.nodes id.0 v.node v.is_node
+
+-- the event, where the node that was read is written back with its mark
+pub settle_fault-settles : (s : State) (id : BranchId) (version : ℕ) (item new : Node) → settle_fault s id version ≡ None
+    → item ≡ get_or s.nodes id.0 item → new ≡ record item { settled = true } → Settles s id version (with_node s id new)
+settle_fault-settles s id version item new h read written =
+    settle_fault-none s (with_node s id new) id version h
+    (λ node is.
+    let same : item ≡ node = read ∙ get_or_from_slice_get s.nodes id.0 node item is in
+    ap (with_node s id) (written ∙ ap (λ (x : Node). let y : Node = record x { settled = true } in y) same))

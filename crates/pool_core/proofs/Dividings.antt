@@ -1,0 +1,255 @@
+-- A division on the pool's own fields is the event, and keeps what the pool is.
+use Rattle.std.proofs.Common.{◌≡◌, ℕ, zero, suc, ◌+◌, ◌*◌, ◌/◌, ◌<◌, ◌≤◌, inl, inr, List, [], ◌∷◌, ◌++◌, length, set, get_or, Option, Some, None, slice_get, All, IsTrue, refl, sym, ap, ap₂, subst, ◌∙◌, arith, length-append}
+use Rattle.std.specs.Prelude.{IfSome, Ok}
+use Rattle.std.proofs.lemmas.Bool.{or_left, or_right, ltb-true}
+use Rattle.plan_base.proofs.Bools.{and-first}
+use Rattle.std.proofs.lemmas.List.{get_or_append_left, set-append_left}
+use Rattle.std.proofs.lemmas.Option.{slice_get_within, get_or_from_slice_get}
+use Rattle.plan_base.specs.declared.ids.ArcId.{ArcId}
+use Rattle.plan_base.specs.declared.ids.BranchId.{BranchId}
+use Rattle.plan_base.specs.declared.ids.DemandId.{DemandId}
+use Rattle.plan_base.specs.declared.ids.NodeId.{NodeId}
+use Rattle.plan_base.specs.declared.parts.Parts.{Parts}
+use Rattle.plan_base.specs.Arcs.{is_arc}
+use Rattle.arc_restrict.specs.Restrictions.{Forbidden, with_forbidden, is_among}
+use Rattle.arc_restrict.specs.Rows.{Rows, forbids, HasSizeOf}
+use Rattle.arc_restrict.specs.Partings.{AreOfOneDemand, PartAt}
+use Rattle.proof_tree.specs.Splits.{IsSide}
+use Rattle.branch_tree.specs.Dealing.{AreDealt}
+use Rattle.branch_tree.proofs.DealingLaws.{dealt-branching, dealt-parted}
+use Rattle.second_path.specs.Others.{IsFirstTwo}
+use Rattle.pool_core.specs.declared.answers.Examined.TheVariants as examined
+use Rattle.pool_core.specs.State.{Round, Division, Undone, Node, State, restriction_of}
+use Rattle.pool_core.specs.Machine.{PartsAt, child_of, divided_by, Divides, Examining, to_examining, IsReachable}
+use Rattle.pool_core.specs.Views.{HasPlaces, IsGroundOf, HasGrounds, IsKeptPool}
+use Rattle.pool_core.specs.Rounds.{given_back}
+use Rattle.pool_core.specs.Examining.{IsReadyAt, HasTwoPaths, IsChildAt, IsDivisionAt, AreChildrenAt}
+use Rattle.pool_core.proofs.Lists.{slice_get-append_left, slice_get-append_right, slice_get-append_cases}
+use Rattle.pool_core.proofs.Frames.{one_at}
+use Rattle.pool_core.proofs.Runs.{IsReachable-step, IsReachable-sound}
+use Rattle.pool_core.proofs.Small.{IsSound-nodes}
+use Rattle.pool_core.proofs.EndedRounds.{HasEnded, HasPlaces-ended, round-within, HasGrounds-cleared}
+
+-- both paths are of the demand
+pub of_one_demand : (p : Parts) (r : Forbidden) (k : ℕ) (first second : List ArcId) → IsFirstTwo p r k first second → AreOfOneDemand p first second
+of_one_demand p r k first second two = record { demand = k; first_is = two.permitted.simple; second_is = two.other.permitted.simple }
+
+-- what is dealt where two permitted paths part is a division there
+pub parts-at : (p : Parts) (r : Forbidden) (d : Division) (one other : ArcId) (first second : List ArcId) → d.at.0 < p.nodes → IsFirstTwo p r d.demand.0 first second
+    → PartAt p first second d.at one other → AreDealt p r d.demand d.at one other d.left d.right → PartsAt p r d
+parts-at p r d one other first second node two part dealt =
+    let branching = dealt-branching p r d.demand d.at one other first second d.left d.right two.is_demand node two.permitted two.other.permitted part dealt in
+    let parted = dealt-parted p r d.demand d.at one other first second d.left d.right two.permitted two.other.permitted part dealt in
+    record {
+      is_split = branching.is_split;
+      first = first;
+      second = second;
+      first_path = two.permitted;
+      second_path = two.other.permitted;
+      place = part.place;
+      in_first = part.in_first;
+      in_second = part.in_second;
+      together = part.same;
+      on_left = ap (is_among d.left) part.one_is ∙ parted.0;
+      on_right = ap (is_among d.right) part.other_is ∙ parted.1;
+      shared = λ a exists from allowed. elim (branching.shares_out a exists from allowed) [ inl goes ↦ or_left _ _ goes | inr goes ↦ or_right _ _ goes ];
+      left_ascends = branching.left_ascends;
+      right_ascends = branching.right_ascends;
+    }
+
+-- two more nodes with what is forbidden there
+HasGrounds-append : (p : Parts) (nodes : List Node) (grounds : List (Option Rows)) (one other : Node) (one_ground other_ground : Option Rows) → HasGrounds p nodes grounds
+    → IsGroundOf p (restriction_of one) one.fate one_ground → IsGroundOf p (restriction_of other) other.fate other_ground
+    → HasGrounds p (nodes ++ (one ∷ other ∷ [])) (grounds ++ (one_ground ∷ other_ground ∷ []))
+HasGrounds-append p nodes grounds one other one_ground other_ground h is_one is_other = record {
+  count = (let a = length-append nodes (one ∷ other ∷ []) in let b = length-append grounds (one_ground ∷ other_ground ∷ []) in let same = h.count in omega arith);
+  each = λ n node at. elim (slice_get-append_cases nodes (one ∷ other ∷ []) n node at) [
+    | inl w ↦ let g = h.each n node w in (g.0, slice_get-append_left grounds (one_ground ∷ other_ground ∷ []) n g.0 g.1, g.2)
+    | inr w ↦
+        let new = fresh w.0 node w.2 in
+        let here : length grounds + w.0 ≡ n = (let same = h.count in let is = w.1 in omega arith) in
+        (new.0, subst (λ (i : ℕ). slice_get (grounds ++ (one_ground ∷ other_ground ∷ [])) i ≡ Some new.0) here (slice_get-append_right grounds (one_ground ∷ other_ground ∷ []) w.0 ∙ new.1), new.2)
+  ];
+}
+  where
+    fresh : (j : ℕ) (node : Node) → slice_get (one ∷ other ∷ []) j ≡ Some node → (ground : Option Rows) × (slice_get (one_ground ∷ other_ground ∷ []) j ≡ Some ground) × IsGroundOf p (restriction_of node) node.fate ground
+    fresh zero node is = let same : one ≡ node = cc in (one_ground, refl, subst (λ (x : Node). IsGroundOf p (restriction_of x) x.fate one_ground) same is_one)
+    fresh (suc zero) node is = let same : other ≡ node = cc in (other_ground, refl, subst (λ (x : Node). IsGroundOf p (restriction_of x) x.fate other_ground) same is_other)
+    fresh (suc (suc j)) node is = let bad : ◌≡◌ {A = Option Node} None (Some node) = is in absurd (cc)
+
+module _ (s : State) (table : Parts) (grounds : List (Option Rows)) (places : List (Option Round)) (id : BranchId) (d : Division)
+    (h : IsKeptPool s table grounds places) (div : IsDivisionAt s id d) where
+  is_node : slice_get s.nodes id.0 ≡ Some div.node
+  is_node = div.ready.open_node.is_node
+
+  abbrev new : Node
+  new = divided_by d div.node
+
+  abbrev more : List Node
+  more = child_of div.node d.demand d.left ∷ child_of div.node d.demand d.right ∷ []
+
+  abbrev after : State
+  after = record s { nodes = set s.nodes id.0 new ++ more; examined = suc s.examined }
+
+  divides : Divides s id d.left_child d.right_child after
+  divides = record {
+    node = div.node;
+    ready = div.ready;
+    division = d;
+    parts = div.parts;
+    left_is = refl;
+    right_is = refl;
+    left_next = div.left_next;
+    right_next = div.right_next;
+    becomes = refl;
+  }
+
+  after-reachable : IsReachable after
+  after-reachable = IsReachable-step s after (Examining id) (to_examining (Ok (examined.Divided d.left_child d.right_child))) h.pool.reachable divides
+
+  has_ended : HasEnded s after id.0 div.node new more
+  has_ended = record { is_node = is_node; no_round = refl; none_more = idle; nodes = refl; problem = refl }
+    where
+      idle : (j : ℕ) (m : Node) → slice_get more j ≡ Some m → m.round ≡ None
+      idle zero m is = let same : child_of div.node d.demand d.left ≡ m = cc in ap (λ (x : Node). x.round) (sym same)
+      idle (suc zero) m is = let same : child_of div.node d.demand d.right ≡ m = cc in ap (λ (x : Node). x.round) (sym same)
+      idle (suc (suc j)) m is = let bad : ◌≡◌ {A = Option Node} None (Some m) = is in absurd (cc)
+
+  pub divided-place : (round : Option Round) → round ≡ div.node.round → IfSome round (λ r. r.slot < length places)
+  divided-place None is = tt
+  divided-place (Some round) is = round-within s after id.0 div.node new more has_ended (IsReachable-sound s h.pool.reachable) places h.pool.has_places round (sym is)
+
+  after-places : HasPlaces after (given_back places div.node.round)
+  after-places = HasPlaces-ended s after id.0 div.node new more has_ended (IsReachable-sound s h.pool.reachable) places h.pool.has_places
+
+  -- a child of the node is the one that the division makes
+  is_child : (arcs : List ArcId) (child : Node) (ground : Option Rows) → IsChildAt s id d.demand arcs child ground → child ≡ child_of div.node d.demand arcs
+  is_child arcs child ground made = made.is_child ∙ ap (λ (x : Node). child_of x d.demand arcs) (one_at s.nodes id.0 made.node div.node made.is_node is_node)
+
+  child-ground : (arcs : List ArcId) (child : Node) (ground : Option Rows) → IsChildAt s id d.demand arcs child ground
+      → IsGroundOf s.problem (restriction_of (child_of div.node d.demand arcs)) Undone ground
+  child-ground arcs child ground made =
+      let same : made.node ≡ div.node = one_at s.nodes id.0 made.node div.node made.is_node is_node in
+      let forbids_more = made.below.forbids_more ∙ ap (λ (x : Node). restriction_of (child_of x d.demand arcs)) same in
+      subst (IsGroundOf s.problem (restriction_of (child_of div.node d.demand arcs)) Undone) (sym made.is_ground) (forbids_more, made.below.size)
+
+  module _ (children : List Node) (below : List (Option Rows)) (made : AreChildrenAt s id d children below) where
+    are_more : children ≡ more
+    are_more = made.children_are ∙ ap₂ (λ (x y : Node). x ∷ y ∷ []) (is_child d.left made.left made.left_ground made.is_left) (is_child d.right made.right made.right_ground made.is_right)
+
+    node-within : id.0 < length s.nodes
+    node-within = slice_get_within s.nodes id.0 div.node is_node
+
+    pub ground-within : id.0 < length (grounds ++ below)
+    ground-within = let a = node-within in let same = h.has_grounds.count in let long = length-append grounds below in omega arith
+
+    pub item-within : id.0 < length (s.nodes ++ children)
+    item-within = let a = node-within in let long = length-append s.nodes children in omega arith
+
+    after-grounds : HasGrounds s.problem after.nodes (set (grounds ++ below) id.0 None)
+    after-grounds =
+        let cleared = HasGrounds-cleared s.problem s.nodes grounds id.0 div.node new is_node refl h.has_grounds in
+        let both = HasGrounds-append s.problem (set s.nodes id.0 new) (set grounds id.0 None) (child_of div.node d.demand d.left) (child_of div.node d.demand d.right) made.left_ground made.right_ground cleared
+        (child-ground d.left made.left made.left_ground made.is_left) (child-ground d.right made.right made.right_ground made.is_right) in
+        let within : id.0 < length grounds = (let a = node-within in let same = h.has_grounds.count in omega arith) in
+        let split : set (grounds ++ below) id.0 None ≡ set grounds id.0 None ++ (made.left_ground ∷ made.right_ground ∷ []) =
+        set-append_left grounds below id.0 None within ∙ ap (λ (xs : List (Option Rows)). set grounds id.0 None ++ xs) made.grounds_are in
+        subst (HasGrounds s.problem after.nodes) (sym split) both
+
+    module _ (item : Node) (read : item ≡ get_or (s.nodes ++ children) id.0 item) where
+      pub is_item : item ≡ div.node
+      is_item = read ∙ (get_or_append_left s.nodes children item id.0 node-within ∙ get_or_from_slice_get s.nodes id.0 div.node item is_node)
+
+      pub item-undone : item.fate ≡ Undone
+      item-undone = ap (λ (x : Node). x.fate) is_item ∙ div.ready.open_node.undone
+
+      pub item-place : (round : Option Round) → round ≡ item.round → IfSome round (λ r. r.slot < length places)
+      item-place round is = divided-place round (is ∙ ap (λ (x : Node). x.round) is_item)
+
+      is_after : (written : Node) (examined : ℕ) → written ≡ divided_by d item → examined ≡ suc s.examined → record s { nodes = set (s.nodes ++ children) id.0 written; examined = examined } ≡ after
+      is_after written examined wrote more_by_one =
+          let nodes : set (s.nodes ++ children) id.0 written ≡ set s.nodes id.0 new ++ more =
+          set-append_left s.nodes children id.0 written node-within
+          ∙ ap₂ (λ (x : Node) (xs : List Node). set s.nodes id.0 x ++ xs) (wrote ∙ ap (divided_by d) is_item) are_more in
+          let make : List Node → ℕ → State = λ xs n. record s { nodes = xs; examined = n } in
+          ap₂ make nodes more_by_one
+
+      pub divided-step : (written : Node) (examined : ℕ) → written ≡ divided_by d item → examined ≡ suc s.examined
+          → Divides s id d.left_child d.right_child (record s { nodes = set (s.nodes ++ children) id.0 written; examined = examined })
+      divided-step written examined wrote more_by_one = subst (Divides s id d.left_child d.right_child) (sym (is_after written examined wrote more_by_one)) divides
+
+      pub divided-kept : (written : Node) (examined : ℕ) (left : Option Rows) (back : List (Option Round)) → written ≡ divided_by d item → examined ≡ suc s.examined → left ≡ None
+          → back ≡ given_back places item.round
+          → IsKeptPool (record s { nodes = set (s.nodes ++ children) id.0 written; examined = examined }) table (set (grounds ++ below) id.0 left) back
+      divided-kept written examined left back wrote more_by_one none returned =
+          let kept : IsKeptPool after table (set (grounds ++ below) id.0 None) (given_back places div.node.round) = record {
+            pool = record { some_budget = h.pool.some_budget; budget = h.pool.budget; reachable = after-reachable; has_places = after-places };
+            table_is = h.table_is;
+            has_grounds = after-grounds;
+          } in
+          let give_back : back ≡ given_back places div.node.round = returned ∙ ap (λ (x : Node). given_back places x.round) is_item in
+          subst (λ (x : State). IsKeptPool x table (set (grounds ++ below) id.0 left) back) (sym (is_after written examined wrote more_by_one))
+          (subst (λ (o : Option Rows). IsKeptPool after table (set (grounds ++ below) id.0 o) back) (sym none)
+          (subst (λ (xs : List (Option Round)). IsKeptPool after table (set (grounds ++ below) id.0 None) xs) (sym give_back) kept))
+
+  pub examined-small : s.examined < 4096
+  examined-small = let spent = div.ready.open_node.not_spent in let budget = h.pool.budget in omega arith
+
+-- node numbers are small
+pub numbers-small : (s : State) → IsReachable s → s.budget ≤ 4096 → length s.nodes ≤ 8193
+numbers-small s h budget = let most = IsSound-nodes s (IsReachable-sound s h) in omega arith
+
+-- Children
+
+arc-within : (p : Parts) (a : ArcId) → IsTrue (is_arc p a) → a.0 < 2 * length p.links
+arc-within p a h = let link = ltb-true _ _ (and-first _ _ h) in below a.0 (length p.links) link
+  where
+    below : (n m : ℕ) → n / 2 < m → n < 2 * m
+    below n m h = grind arith
+
+-- the arcs of a side exist
+pub side-within : (p : Parts) (r : Forbidden) (id : DemandId) (node : NodeId) (arcs : List ArcId) → IsSide p r id node arcs → All (λ a. a.0 < 2 * length p.links) arcs
+side-within p r id node arcs side = λ i d within. arc-within p (get_or arcs i d) (side.are_arcs i d within)
+
+module _ (s : State) (id : BranchId) (at : IsReadyAt s id) (demand : DemandId) (arcs : List ArcId) (before : Rows) (same : forbids before ≡ restriction_of at.node) (size : HasSizeOf s.problem before) where
+  pub forbid-demand : demand.0 < length s.problem.demands → demand.0 < before.demands
+  forbid-demand within = let e = size.demands in omega arith
+
+  pub forbid-arcs : All (λ a. a.0 < 2 * length s.problem.links) arcs → All (λ a. a.0 < before.arcs) arcs
+  forbid-arcs within = subst (λ (n : ℕ). All (λ (a : ArcId). a.0 < n) arcs) (sym size.arcs) within
+
+  -- what is made is a child of the node
+  pub child-made : (item child : Node) (ground : Option Rows) (after : Rows) (copied : List ArcId) → item ≡ at.node → child ≡ child_of item demand copied → copied ≡ arcs
+      → forbids after ≡ with_forbidden (forbids before) demand arcs → after.demands ≡ before.demands → after.arcs ≡ before.arcs → ground ≡ Some after → IsChildAt s id demand arcs child ground
+  child-made item child ground after copied is_item made is_copy forbids_more demands_same arcs_same is_ground = record {
+    node = at.node;
+    is_node = at.ready.open_node.is_node;
+    is_child = made ∙ ap₂ (λ (x : Node) (xs : List ArcId). child_of x demand xs) is_item is_copy;
+    rows = after;
+    is_ground = is_ground;
+    below = record {
+      forbids_more = forbids_more ∙ ap (λ (r : Forbidden). with_forbidden r demand arcs) same;
+      size = record { demands = demands_same ∙ size.demands; arcs = arcs_same ∙ size.arcs };
+    };
+  }
+
+-- the two children that were made are those of the division
+pub children-made : (s : State) (id : BranchId) (d : Division) (demand : DemandId) (left right : Node) (left_ground right_ground : Option Rows) (children : List Node) (grounds : List (Option Rows))
+    → d.demand ≡ demand → IsChildAt s id demand d.left left left_ground → IsChildAt s id demand d.right right right_ground
+    → children ≡ left ∷ right ∷ [] → grounds ≡ left_ground ∷ right_ground ∷ [] → AreChildrenAt s id d children grounds
+children-made s id d demand left right left_ground right_ground children grounds same is_left is_right are_children are_grounds = record {
+  left = left;
+  right = right;
+  left_ground = left_ground;
+  right_ground = right_ground;
+  is_left = subst (λ (k : DemandId). IsChildAt s id k d.left left left_ground) (sym same) is_left;
+  is_right = subst (λ (k : DemandId). IsChildAt s id k d.right right right_ground) (sym same) is_right;
+  children_are = are_children;
+  grounds_are = are_grounds;
+}
+
+pub division-ready : (s : State) (id : BranchId) (d : Division) → IsDivisionAt s id d → IsReadyAt s id
+division-ready s id d h = record { node = h.node; ready = h.ready }
+
+pub two-ready : (s : State) (id : BranchId) (demand : DemandId) (first second : List ArcId) → HasTwoPaths s id demand first second → IsReadyAt s id
+two-ready s id demand first second h = record { node = h.node; ready = h.ready }

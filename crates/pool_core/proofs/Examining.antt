@@ -1,0 +1,228 @@
+-- Where no fault is found, an examination may come.
+use Rattle.std.proofs.Common.{◌≡◌, ℕ, ◌<◌, ◌≤◌, ◌⊎◌, inl, inr, Bool, true, false, not, ◌&&◌, ◌==◌, List, [], length, get_or, Option, Some, None, slice_get, refl, sym, ap, subst, ◌∙◌, arith}
+use Rattle.std.specs.Prelude.{IfSome, IsTrue, IfOk, is_some, nat_lt, option_map, if◌then◌else◌, Result, Ok, Err}
+use Rattle.std.proofs.lemmas.Bool.{ltb-false}
+use Rattle.std.proofs.lemmas.Bool.Decides.{nat_tests}
+use Rattle.plan_base.specs.declared.ids.BranchId.{BranchId}
+use Rattle.plan_base.specs.declared.ids.ArcId.{ArcId}
+use Rattle.plan_base.specs.declared.parts.Parts.{Parts}
+use Rattle.plan_base.specs.Arcs.{is_arc}
+use Rattle.plan_base.specs.First.{◌or_else◌, when}
+use Rattle.plan_base.proofs.Bools.{not-false}
+use Rattle.plan_base.proofs.FirstFault.{or_else-none, when-none}
+use Rattle.arc_restrict.specs.Restrictions.{Forbidden, HasNoPath}
+use Rattle.std.proofs.lemmas.Option.{slice_get_within, get_or_from_slice_get}
+use Rattle.arc_restrict.specs.Rows.{Rows, forbids, HasSizeOf}
+use Rattle.path_pricing.specs.Priced.{is_open, IsClosedSet}
+use Rattle.path_pricing.specs.declared.priced.Priced.TheVariants as priced
+use Rattle.path_pricing.proofs.FaultLaws.{priced_fault-IsShown, IsPriced-priced_fault}
+use Rattle.second_path.specs.Others.{IsCutOff, IsFirstEmpty, IsDetermined}
+use Rattle.second_path.specs.declared.determined.Determined.{Determined}
+use Rattle.second_path.specs.declared.determined.Determined.TheVariants as determined
+use Rattle.proof_tree.specs.declared.tree.Evidence.{Evidence}
+use Rattle.pool_core.specs.declared.limits.TheConstants.{MAX_VERSIONS}
+use Rattle.pool_core.specs.declared.answers.ExamineFault.{ExamineFault}
+use Rattle.pool_core.specs.declared.answers.ExamineFault.TheVariants as examine_fault
+use Rattle.pool_core.specs.declared.answers.Examined.TheVariants as examined
+use Rattle.pool_core.specs.declared.tree.Reason.TheVariants as reason
+use Rattle.pool_core.specs.State.{HeldCut, Round, Best, Fate, Undone, Node, State, restriction_of, cutoff_of, state_by, state_in, state_of}
+use Rattle.pool_core.specs.Machine.{is_spent, is_open_state, has_cut, is_closable, bound_or_zero, bound_in, ready_fault, examine_refusal, closed_by, examined_with, IsExamined, IsReady, ClosesByCut, ExamineStep, Examining, to_examining, IsReachable}
+use Rattle.pool_core.specs.Soundness.{IsSoundNode, IsSoundBest}
+use Rattle.pool_core.specs.Views.{IsGroundOf, IsKeptPool}
+use Rattle.pool_core.specs.Rounds.{cut_proof, HasReason, closed_at}
+use Rattle.pool_core.specs.Examining.{IsReadyAt, IsDeterminedAt}
+use Rattle.pool_core.proofs.Runs.{IsReachable-step, IsReachable-sound}
+use Rattle.pool_core.proofs.Replacing.{node_at}
+use Rattle.pool_core.proofs.Answering.{is_spent-false}
+use Rattle.pool_core.proofs.Closings.{open_state-leaf}
+
+-- the node is an open leaf and the budget is not spent
+pub record MayExamine (s : State) (id : BranchId) : Type 0 where
+  pub is_open : is_open_state (state_of s id) ≡ true
+  pub node : Node
+  pub open_node : IsExamined s id node
+  pub rest : (if has_cut (slice_get s.nodes id.0) then None else ready_fault s (slice_get s.nodes id.0)) ≡ None
+
+pub examine_refusal-none : (s : State) (id : BranchId) → examine_refusal s id ≡ None → MayExamine s id
+unfolding examine_refusal
+examine_refusal-none s id h =
+    let a = when (is_spent s) (examine_fault.Spent s.examined) in
+    let b = when (not (is_open_state (state_of s id))) (examine_fault.NotOpen (state_of s id)) in
+    let c : Option ExamineFault = if has_cut (slice_get s.nodes id.0) then None else ready_fault s (slice_get s.nodes id.0) in
+    let one = or_else-none a (b or_else c) h in
+    let two = or_else-none b c one.1 in
+    let is_open = not-false _ (when-none _ _ two.0) in
+    let leaf = open_state-leaf s id is_open in
+    record {
+      is_open = is_open;
+      node = leaf.node;
+      open_node = record { not_spent = is_spent-false s (when-none _ _ one.0); is_node = leaf.is_node; undone = leaf.undone };
+      rest = two.1;
+    }
+
+-- a fault is a refusal
+pub examine_refusal-refusal : (s : State) (id : BranchId) (refusal : ExamineFault) → examine_refusal s id ≡ Some refusal → ExamineStep s id (Err refusal) s
+examine_refusal-refusal s id (examine_fault.Spent x) h = (h, refl)
+examine_refusal-refusal s id (examine_fault.NotOpen x) h = (h, refl)
+examine_refusal-refusal s id examine_fault.Unpriced h = (h, refl)
+examine_refusal-refusal s id (examine_fault.Closable x y) h = (h, refl)
+examine_refusal-refusal s id (examine_fault.Unsettled x) h = (h, refl)
+examine_refusal-refusal s id examine_fault.OutOfMemory h = refl
+
+-- Cuts
+
+cut-there : (cut : Option HeldCut) → is_some cut ≡ true → (held : HeldCut) × (cut ≡ Some held)
+cut-there None h = absurd (let bad : false ≡ true = h in cc)
+cut-there (Some held) h = (held, refl)
+
+cut-none : (cut : Option HeldCut) → is_some cut ≡ false → cut ≡ None
+cut-none None h = refl
+cut-none (Some held) h = absurd (let bad : true ≡ false = h in cc)
+
+cut-at : (o : Option Node) (node : Node) (b : Bool) → o ≡ Some node → has_cut o ≡ b → is_some node.cut ≡ b
+cut-at o node b is h = subst (λ (x : Option Node). has_cut x ≡ b) is h
+
+module _ (s : State) (id : BranchId) (may : MayExamine s id) (cut : has_cut (slice_get s.nodes id.0) ≡ true) where
+  held : (held : HeldCut) × (may.node.cut ≡ Some held)
+  held = cut-there may.node.cut (cut-at (slice_get s.nodes id.0) may.node true may.open_node.is_node cut)
+
+  pub cut-reason : IfSome (slice_get s.nodes id.0) (λ x. HasReason x reason.HeldCut)
+  cut-reason = subst (λ (o : Option Node). IfSome o (λ x. HasReason x reason.HeldCut)) (sym may.open_node.is_node) (cut-at (slice_get s.nodes id.0) may.node true may.open_node.is_node cut)
+
+  pub cut-closes : ClosesByCut s id (closed_at s id reason.HeldCut (slice_get s.nodes id.0))
+  cut-closes = record {
+    node = may.node;
+    open_node = may.open_node;
+    cut = held.0;
+    is_cut = held.1;
+    becomes = ap (closed_at s id reason.HeldCut) may.open_node.is_node ∙ ap (λ (o : Option HeldCut). examined_with s id (closed_by (cut_proof o) may.node)) held.1;
+  }
+
+  pub cut-reachable : IsReachable s → IsReachable (closed_at s id reason.HeldCut (slice_get s.nodes id.0))
+  cut-reachable h = IsReachable-step s (closed_at s id reason.HeldCut (slice_get s.nodes id.0)) (Examining id) (to_examining (Ok examined.Cut)) h cut-closes
+
+-- Nodes without a cut
+
+settled-cases : (settled : Bool) (completed : ℕ) → (not settled && nat_lt completed MAX_VERSIONS) ≡ false → (settled ≡ true) ⊎ (MAX_VERSIONS ≤ completed)
+settled-cases true completed h = inl refl
+settled-cases false completed h = inr (ltb-false completed MAX_VERSIONS h)
+
+some-completed : (completed : ℕ) → (completed == 0) ≡ false → 0 < completed
+some-completed completed h = grind (arith, nat_tests)
+
+ready-node : (s : State) (id : BranchId) (node : Node) → IsExamined s id node → node.cut ≡ None → ready_fault s (Some node) ≡ None → IsReady s id node
+ready-node s id node open_node none h =
+    let a = when (node.completed == 0) examine_fault.Unpriced in
+    let b = when (is_closable (cutoff_of s) node) (examine_fault.Closable (bound_or_zero (bound_in (Some node))) (cutoff_of s)) in
+    let c = when (not node.settled && nat_lt node.completed MAX_VERSIONS) (examine_fault.Unsettled node.completed) in
+    let one = or_else-none a (b or_else c) h in
+    let two = or_else-none b c one.1 in
+    record {
+      open_node = open_node;
+      no_cut = none;
+      priced = some-completed node.completed (when-none _ _ one.0);
+      not_closable = when-none _ _ two.0;
+      settled = settled-cases node.settled node.completed (when-none _ _ two.1);
+    }
+
+pub ready-at : (s : State) (id : BranchId) → MayExamine s id → has_cut (slice_get s.nodes id.0) ≡ false → IsReadyAt s id
+ready-at s id may none =
+    let no_cut = cut-none may.node.cut (cut-at (slice_get s.nodes id.0) may.node false may.open_node.is_node none) in
+    let rest : ready_fault s (slice_get s.nodes id.0) ≡ None = subst (λ (b : Bool). (if b then None else ready_fault s (slice_get s.nodes id.0)) ≡ None) none may.rest in
+    record { node = may.node; ready = ready-node s id may.node may.open_node no_cut (subst (λ (o : Option Node). ready_fault s o ≡ None) may.open_node.is_node rest) }
+
+-- Closings by what was shown
+
+pub shown-reason : (s : State) (id : BranchId) (found : Evidence) → IfSome (slice_get s.nodes id.0) (λ x. HasReason x (reason.Shown found))
+shown-reason s id found = by_cases (slice_get s.nodes id.0)
+  where
+    by_cases : (o : Option Node) → IfSome o (λ x. HasReason x (reason.Shown found))
+    by_cases None = tt
+    by_cases (Some node) = tt
+
+pub shown-closed : (s : State) (id : BranchId) (node : Node) (found : Evidence) → slice_get s.nodes id.0 ≡ Some node
+    → closed_at s id (reason.Shown found) (slice_get s.nodes id.0) ≡ examined_with s id (closed_by found node)
+shown-closed s id node found is = ap (closed_at s id (reason.Shown found)) is
+
+pub open-at : (s : State) (id : BranchId) (node : Node) → IsExamined s id node → is_open_state (state_of s id) ≡ true
+open-at s id node h = subst (λ (o : Option Node). is_open_state (state_in o) ≡ true) (sym h.is_node) (undone-open node.fate node.round h.undone)
+  where
+    undone-open : (fate : Fate) (round : Option Round) → fate ≡ Undone → is_open_state (state_by fate round) ≡ true
+    undone-open fate None is = subst (λ (f : Fate). is_open_state (state_by f None) ≡ true) (sym is) refl
+    undone-open fate (Some round) is = subst (λ (f : Fate). is_open_state (state_by f (Some round)) ≡ true) (sym is) refl
+
+-- What is determined
+
+open-arc : (p : Parts) (r : Forbidden) (k : ℕ) (a : ArcId) → IsTrue (is_open p r k a) → IsTrue (is_arc p a) × (r k a ≡ false)
+open-arc p r k a h = by_cases (is_arc p a) (r k a) h
+  where
+    by_cases : (x y : Bool) → (x && not y) ≡ true → (x ≡ true) × (y ≡ false)
+    by_cases true false h = (refl, refl)
+    by_cases true true h = absurd (let bad : false ≡ true = h in cc)
+    by_cases false y h = absurd (let bad : false ≡ true = h in cc)
+
+-- a demand that is cut off has no path
+cut_off-none : (p : Parts) (r : Forbidden) (k : ℕ) (set : List Bool) → IsCutOff p r k set → HasNoPath p r k
+cut_off-none p r k set h =
+    let closed : IsClosedSet p k r set = record {
+      count = h.nodes;
+      source = h.source;
+      target = h.target;
+      closed = λ a free at_tail. let both = open-arc p r k a free in h.closed a both.0 both.1 at_tail;
+    } in
+    IsPriced-priced_fault p [] k r (priced.NoPath set) (priced_fault-IsShown p [] k r (priced.NoPath set) closed)
+
+best-there : (best : Option Best) (completed : ℕ) → (best ≡ None → completed ≡ 0) → 0 < completed → (b : Best) × (best ≡ Some b)
+best-there None completed none some = absurd (let zero_ = none refl in omega arith)
+best-there (Some b) completed none some = (b, refl)
+
+-- a node with a complete version leaves each demand a path
+never-empty : (p : Parts) (node : Node) (k : ℕ) (set : List Bool) → IsSoundNode p node → 0 < node.completed → IsFirstEmpty p (restriction_of node) k set → ⊥
+never-empty p node k set sound some empty =
+    let best = best-there node.best node.completed sound.no_best some in
+    let b : IsSoundBest p (restriction_of node) node.first_prices node.completed best.0 = rw best.1 at (sound.best) in
+    let least = b.is_bound.are_least k empty.is_demand in
+    cut_off-none p (restriction_of node) k set empty.cut_off least.path least.permitted
+
+pub determined-at : (s : State) (id : BranchId) (found : Determined) (r : Forbidden) → IsReachable s → (at : IsReadyAt s id) → r ≡ restriction_of at.node
+    → IsDetermined s.problem r found → IsDeterminedAt s id found
+determined-at s id (determined.Empty demand set) r reachable at same h =
+    let is = at.ready.open_node in
+    never-empty s.problem at.node demand.0 set (node_at s id.0 at.node (IsReachable-sound s reachable) is.is_node) at.ready.priced (rw same at h)
+determined-at s id (determined.Two demand first second) r reachable at same h = record { node = at.node; ready = at.ready; two = rw same at h }
+determined-at s id (determined.One paths) r reachable at same h = record { node = at.node; ready = at.ready; only = rw same at h }
+
+-- The ground of a node that may be examined
+module _ (s : State) (table : Parts) (grounds : List (Option Rows)) (places : List (Option Round)) (h : IsKeptPool s table grounds places) (id : BranchId) (at : IsReadyAt s id) where
+  pub ready-node-within : id.0 < length s.nodes
+  ready-node-within = slice_get_within s.nodes id.0 at.node at.ready.open_node.is_node
+
+  pub ready-ground-within : id.0 < length grounds
+  ready-ground-within = subst (λ (n : ℕ). id.0 < n) (sym h.has_grounds.count) (slice_get_within s.nodes id.0 at.node at.ready.open_node.is_node)
+
+  -- it has its restriction in rows of the instance's size
+  pub ready-ground : (ground : Option Rows) → ground ≡ get_or grounds id.0 ground → (rows : Rows) × (ground ≡ Some rows) × (forbids rows ≡ restriction_of at.node) × HasSizeOf s.problem rows
+  ready-ground ground read =
+      let g = h.has_grounds.each id.0 at.node at.ready.open_node.is_node in
+      let same : ground ≡ g.0 = read ∙ get_or_from_slice_get grounds id.0 g.0 ground g.1 in
+      by_cases ground (subst (λ (o : Option Rows). IsGroundOf s.problem (restriction_of at.node) Undone o) (sym same)
+      (subst (λ (f : Fate). IsGroundOf s.problem (restriction_of at.node) f g.0) at.ready.open_node.undone g.2))
+    where
+      by_cases : (o : Option Rows) → IsGroundOf s.problem (restriction_of at.node) Undone o → (rows : Rows) × (o ≡ Some rows) × (forbids rows ≡ restriction_of at.node) × HasSizeOf s.problem rows
+      by_cases None is = absurd is
+      by_cases (Some rows) is = (rows, refl, is.0, is.1)
+
+  pub ready-item : (item : Node) → item ≡ get_or s.nodes id.0 item → item ≡ at.node
+  ready-item item read = read ∙ get_or_from_slice_get s.nodes id.0 at.node item at.ready.open_node.is_node
+
+pub determined-ok : {E : Type 0} (s : State) (id : BranchId) (result : Result Determined E) (r : Forbidden) → IsReachable s → (at : IsReadyAt s id) → r ≡ restriction_of at.node
+    → IfOk result (IsDetermined s.problem r) → IfOk result (IsDeterminedAt s id)
+determined-ok s id (Ok found) r reachable at same h = determined-at s id found r reachable at same h
+determined-ok s id (Err fault) r reachable at same h = tt
+
+-- a ground that is there is not read as none
+pub ground-none : {X Y : Type 0} (f : X → Y) (o : Option X) (ground : Option Y) (y : Y) → option_map f o ≡ ground → ground ≡ Some y → o ≡ None → ⊥
+ground-none {X} {Y} f o ground y mapped is none = let bad : ◌≡◌ {A = Option Y} None (Some y) = sym (ap (option_map f) none) ∙ (mapped ∙ is) in absurd (cc)
+
+pub ground-some : {X Y : Type 0} (f : X → Y) (o : Option X) (ground : Option Y) (y : Y) (x : X) → option_map f o ≡ ground → ground ≡ Some y → o ≡ Some x → f x ≡ y
+ground-some {X} {Y} f o ground y x mapped is there = let both : ◌≡◌ {A = Option Y} (Some (f x)) (Some y) = sym (ap (option_map f) there) ∙ (mapped ∙ is) in cc

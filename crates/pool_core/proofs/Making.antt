@@ -1,0 +1,139 @@
+-- What makes a new pool an opening state.
+use Rattle.std.proofs.Common.{◌≡◌, ℕ, zero, suc, ◌+◌, ◌<◌, ◌≤◌, ◌⊎◌, inl, inr, List, [], ◌∷◌, ◌++◌, length, Option, Some, None, slice_get, refl, sym, ap, subst, ◌∙◌, arith, sum_by, count_by, cond, length-append}
+use Rattle.std.specs.Prelude.{IsSomeAnd, is_some}
+use Rattle.std.proofs.lemmas.Option.{slice_get_within}
+use Rattle.std.proofs.lemmas.List.Sums.{sum_by-cons}
+use Rattle.plan_base.specs.declared.parts.Parts.{Parts}
+use Rattle.plan_base.specs.Facts.{IsInstance}
+use Rattle.link_steps.specs.Values.{AreStartPrices}
+use Rattle.arc_restrict.specs.Restrictions.{none_forbidden}
+use Rattle.arc_restrict.specs.Prices.{AreWithinLimit}
+use Rattle.arc_restrict.specs.Rows.{Rows, forbids, HasSizeOf}
+use Rattle.pool_core.specs.declared.limits.TheConstants.{MAX_ROUNDS, MAX_BUDGET}
+use Rattle.pool_core.specs.State.{Round, Node, State, rounds_in, restriction_of}
+use Rattle.pool_core.specs.Machine.{root_with, IsTaken, IsOpeningState}
+use Rattle.pool_core.specs.Views.{AreFreePlaces, HasPlaces, IsGroundOf, HasGrounds, IsKeptPool}
+use Rattle.pool_core.proofs.Lists.{slice_get-append_left, slice_get-append_right}
+use Rattle.pool_core.proofs.Frames.{one_at}
+
+pub free_places-none : (demands links : ℕ) → AreFreePlaces 0 demands links []
+free_places-none demands links = record { length_is = refl; each = λ slot below. absurd (omega arith) }
+
+below-or-last : (i n : ℕ) → i < n + 1 → (i < n) ⊎ (i ≡ n)
+below-or-last i n h = grind arith
+
+-- one more place
+pub free_places-next : (count demands links : ℕ) (places : List (Option Round)) (place : Round) → AreFreePlaces count demands links places
+    → place.slot ≡ count → length place.found ≡ demands → length place.prices ≡ links → AreFreePlaces (count + 1) demands links (places ++ (Some place ∷ []))
+free_places-next count demands links places place h slot found prices =
+    let long = length-append places (Some place ∷ []) in
+    let size = h.length_is in
+    record {
+      length_is = omega arith;
+      each = λ n below. elim (below-or-last n count below) [
+        | inl before ↦ let e = h.each n before in (e.0, slice_get-append_left places (Some place ∷ []) n (Some e.0) e.1, e.2, e.3, e.4)
+        | inr last ↦
+            let at : slice_get (places ++ (Some place ∷ [])) (length places + 0) ≡ Some (Some place) = slice_get-append_right places (Some place ∷ []) 0 in
+            let here : length places + 0 ≡ n = omega arith in
+            (place, subst (λ (i : ℕ). slice_get (places ++ (Some place ∷ [])) i ≡ Some (Some place)) here at, slot ∙ sym last, found, prices)
+      ];
+    }
+
+pub ruleset free_places = (free_places-none, free_places-next)
+
+-- where each place is free, all are counted
+all_free : (places : List (Option Round)) → ((k : ℕ) → k < length places → (place : Round) × (slice_get places k ≡ Some (Some place))) → count_by is_some places ≡ length places
+all_free [] each = refl
+all_free (o ∷ places) each =
+    let first = each 0 (omega arith) in
+    let is : o ≡ Some first.0 = (let e = first.1 in cc) in
+    let one : ◌≡◌ {A = ℕ} (cond (is_some o) 1 0) 1 = ap (λ (x : Option Round). cond {A = ℕ} (is_some x) 1 0) is in
+    omega (arith, one, sum_by-cons (λ (x : Option Round). cond (is_some x) 1 0) o places, all_free places (λ k below. each (suc k) (omega arith)))
+
+module _ (s : State) (prices : List ℕ) (nodes : s.nodes ≡ root_with prices ∷ []) where
+  none_taken : (slot : ℕ) → IsTaken s slot → ⊥
+  none_taken slot taken = at_root taken.0 taken.1 (subst (λ (xs : List Node). slice_get xs taken.0 ≡ Some taken.1) nodes taken.2) taken.3
+    where
+      at_root : (n : ℕ) (node : Node) → slice_get (root_with prices ∷ []) n ≡ Some node → IsSomeAnd node.round (λ r. r.slot ≡ slot) → ⊥
+      at_root zero node is has = let same : root_with prices ≡ node = cc in subst (λ (x : Node). IsSomeAnd x.round (λ r. r.slot ≡ slot)) (sym same) has
+      at_root (suc n) node is has = let bad : ◌≡◌ {A = Option Node} None (Some node) = is in absurd (cc)
+
+  pub opening-places : (places : List (Option Round)) → AreFreePlaces MAX_ROUNDS (length s.problem.demands) (length s.problem.links) places → HasPlaces s places
+  opening-places places h =
+      let free : (k : ℕ) (o : Option Round) → slice_get places k ≡ Some o → (place : Round) × (o ≡ Some place) × (place.slot ≡ k) × (length place.found ≡ length s.problem.demands) × (length place.prices ≡ length s.problem.links)
+      = λ k o is.
+      let size = h.length_is in
+      let within = slice_get_within places k o is in
+      let e = h.each k (omega arith) in
+      (e.0, one_at places k o (Some e.0) is e.1, e.2, e.3, e.4) in
+      let same : (k : ℕ) (place : Round) (is : slice_get places k ≡ Some (Some place)) → (free k (Some place) is).0 ≡ place = λ k place is. let e = (free k (Some place) is).1 in cc in
+      record {
+        count = h.length_is;
+        total = (
+            let all = all_free places (λ k below. let size = h.length_is in let e = h.each k (omega arith) in (e.0, e.1)) in
+            let size = h.length_is in
+            let idle : sum_by (λ (x : Node). rounds_in x) s.nodes ≡ 0 = ap (sum_by (λ (x : Node). rounds_in x)) nodes in
+            omega arith
+            );
+        taken = λ k is. let e = (free k None is).1 in absurd (cc);
+        free = λ k place is taken. none_taken k taken;
+        slot_is = λ k place is. ap (λ (r : Round). r.slot) (sym (same k place is)) ∙ (free k (Some place) is).2;
+        demands = λ k place is. ap (λ (r : Round). length r.found) (sym (same k place is)) ∙ (free k (Some place) is).3;
+        prices = λ k place is. ap (λ (r : Round). length r.prices) (sym (same k place is)) ∙ (free k (Some place) is).4;
+      }
+
+  pub opening-grounds : (rows : Rows) → forbids rows ≡ none_forbidden → HasSizeOf s.problem rows → HasGrounds s.problem s.nodes (Some rows ∷ [])
+  opening-grounds rows none size = subst (λ (xs : List Node). HasGrounds s.problem xs (Some rows ∷ [])) (sym nodes) (record {
+    count = refl;
+    each = at_root;
+  })
+    where
+      at_root : (n : ℕ) (node : Node) → slice_get (root_with prices ∷ []) n ≡ Some node → (ground : Option Rows) × (slice_get (Some rows ∷ []) n ≡ Some ground) × IsGroundOf s.problem (restriction_of node) node.fate ground
+      at_root zero node is =
+          let same : root_with prices ≡ node = cc in
+          (Some rows, refl, subst (λ (x : Node). IsGroundOf s.problem (restriction_of x) x.fate (Some rows)) same (none, size))
+      at_root (suc n) node is = let bad : ◌≡◌ {A = Option Node} None (Some node) = is in absurd (cc)
+
+-- the state before any event
+abbrev pub opening_with : Parts → ℕ → List ℕ → State
+opening_with p budget prices = record {
+  problem = p;
+  nodes = root_with prices ∷ [];
+  incumbent = None;
+  examined = 0;
+  budget = budget;
+  next_version = 1;
+  accepted = 0;
+}
+
+module _ (p : Parts) (budget : ℕ) (prices : List ℕ) (lawful : IsInstance p) (start : AreStartPrices p prices) (within : AreWithinLimit p prices) where
+  pub opening-state : IsOpeningState p budget (opening_with p budget prices)
+  opening-state = record { lawful = lawful; prices = prices; are_start = start; within_limit = within; is_state = refl }
+
+  pub opening-kept : (table : Parts) (rows : Rows) (places : List (Option Round)) → 0 < budget → budget ≤ MAX_BUDGET → table ≡ p
+      → AreFreePlaces MAX_ROUNDS (length p.demands) (length p.links) places → forbids rows ≡ none_forbidden → HasSizeOf p rows
+      → IsKeptPool (opening_with p budget prices) table (Some rows ∷ []) places
+  opening-kept table rows places some most same free none size = record {
+    pool = record {
+      some_budget = some;
+      budget = most;
+      reachable = record { opening = opening_with p budget prices; entries = []; is_opening = opening-state; run = refl };
+      has_places = opening-places (opening_with p budget prices) prices refl places free;
+    };
+    table_is = same;
+    has_grounds = opening-grounds (opening_with p budget prices) prices refl rows none size;
+  }
+
+  -- the same on the pool's own fields
+  pub opening-kept-at : (table : Parts) (none rows : Rows) (nodes : List Node) (grounds : List (Option Rows)) (places : List (Option Round)) → 0 < budget → budget ≤ MAX_BUDGET → table ≡ p
+      → AreFreePlaces MAX_ROUNDS (length p.demands) (length p.links) places → forbids none ≡ none_forbidden → HasSizeOf p none → rows ≡ none
+      → nodes ≡ root_with prices ∷ [] → grounds ≡ Some rows ∷ []
+      → IsKeptPool (record (opening_with p budget prices) { nodes = nodes }) table grounds places
+  opening-kept-at table none rows nodes grounds places some most same free empty size is_none is_nodes is_grounds =
+      let kept = opening-kept table none places some most same free empty size in
+      let ground : grounds ≡ Some none ∷ [] = is_grounds ∙ ap (λ (r : Rows). Some r ∷ []) is_none in
+      subst (λ (xs : List Node). IsKeptPool (record (opening_with p budget prices) { nodes = xs }) table grounds places) (sym is_nodes)
+      (subst (λ (xs : List (Option Rows)). IsKeptPool (opening_with p budget prices) table xs places) (sym ground) kept)
+
+  pub opening-state-at : (nodes : List Node) → nodes ≡ root_with prices ∷ [] → IsOpeningState p budget (record (opening_with p budget prices) { nodes = nodes })
+  opening-state-at nodes is = subst (λ (xs : List Node). IsOpeningState p budget (record (opening_with p budget prices) { nodes = xs })) (sym is) opening-state

@@ -1,0 +1,238 @@
+-- An opening on the pool's own fields is the event, and keeps what the pool is.
+use Rattle.std.proofs.Common.{◌≡◌, ◌≢◌, ℕ, suc, ◌<◌, ◌≤◌, inl, inr, true, false, not, List, length, set, get_or, replicate, Option, Some, None, slice_get, refl, sym, ap, ap₂, subst, ◌∙◌, arith, count_by, cond, length-set}
+use Rattle.std.specs.Prelude.{IfSome, IsSomeAnd, is_some, nat_le, Ok}
+use Rattle.std.proofs.lemmas.Bool.Decides.{nat_tests}
+use Rattle.std.proofs.lemmas.Option.{slice_get_within, get_or_from_slice_get}
+use Rattle.std.proofs.lemmas.List.Sums.{sum_by-le}
+use Rattle.std.proofs.lemmas.List.{length-replicate}
+use Rattle.plan_base.specs.declared.ids.BranchId.{BranchId}
+use Rattle.plan_base.specs.declared.parts.Parts.{Parts}
+use Rattle.plan_base.specs.First.{◌or_else◌, when}
+use Rattle.plan_base.proofs.Bools.{not-false}
+use Rattle.plan_base.proofs.FirstFault.{or_else-none, when-none}
+use Rattle.pool_core.specs.declared.limits.TheConstants.{MAX_ROUNDS}
+use Rattle.pool_core.specs.declared.answers.RoundFault.TheVariants as round_fault
+use Rattle.pool_core.specs.State.{Round, Fate, Undone, ClosedBy, DividedBy, Node, State, restriction_of, rounds_by, rounds_in, active_count, state_by, state_in, state_of}
+use Rattle.pool_core.specs.Machine.{is_spent, is_waiting, open_fault, HasSlot, IsTaken, empty_round, Opens, TakesRound, Opening, to_opening}
+use Rattle.pool_core.specs.Soundness.{IsSoundRound, IsSoundNode}
+use Rattle.pool_core.specs.Views.{HasPlaces, IsFirstFree, IsPool, IsKeptPool}
+use Rattle.pool_core.proofs.Lists.{sum_by-set_at, slice_get-set_same, slice_get-set_other, slice_get-set_cases}
+use Rattle.pool_core.proofs.Frames.{same_or_other, one_at}
+use Rattle.pool_core.proofs.Replacing.{node_at}
+use Rattle.pool_core.proofs.Runs.{IsReachable-step, IsReachable-sound}
+use Rattle.pool_core.proofs.Small.{IsSound-next_version}
+use Rattle.pool_core.proofs.Answering.{is_spent-false}
+use Rattle.pool_core.proofs.Grounds.{HasGrounds-set}
+use Rattle.pool_core.proofs.Opening.{none_found}
+use Rattle.pool_core.proofs.Completing.{TakesRound-round, TakesRound-limits, TakesRound-fate, TakesRound-from}
+use Rattle.arc_restrict.specs.Rows.{Rows}
+use Rattle.pool_core.specs.Rounds.{MayComplete}
+
+-- the node waits, and there is room
+pub record MayOpen (s : State) (id : BranchId) : Type 0 where
+  pub not_spent : s.examined < s.budget
+  pub node : Node
+  pub is_node : slice_get s.nodes id.0 ≡ Some node
+  pub undone : node.fate ≡ Undone
+  pub no_round : node.round ≡ None
+  pub room : active_count s < MAX_ROUNDS
+
+waits-by : (fate : Fate) (round : Option Round) → is_waiting (state_by fate round) ≡ true → (fate ≡ Undone) × (round ≡ None)
+waits-by Undone None h = (refl, refl)
+waits-by Undone (Some round) h = absurd (let bad : false ≡ true = h in cc)
+waits-by (ClosedBy found) round h = absurd (let bad : false ≡ true = h in cc)
+waits-by (DividedBy d) round h = absurd (let bad : false ≡ true = h in cc)
+
+waits-in : (o : Option Node) → is_waiting (state_in o) ≡ true → (node : Node) × (o ≡ Some node) × (node.fate ≡ Undone) × (node.round ≡ None)
+waits-in None h = absurd (let bad : false ≡ true = h in cc)
+waits-in (Some node) h = let w = waits-by node.fate node.round h in (node, refl, w.0, w.1)
+
+pub open_fault-none : (s : State) (id : BranchId) → open_fault s id ≡ None → MayOpen s id
+unfolding open_fault
+open_fault-none s id h =
+    let a = when (is_spent s) (round_fault.Spent s.examined) in
+    let b = when (not (is_waiting (state_of s id))) (round_fault.NotOpen (state_of s id)) in
+    let c = when (nat_le MAX_ROUNDS (active_count s)) (round_fault.Crowded (active_count s)) in
+    let one = or_else-none a (b or_else c) h in
+    let two = or_else-none b c one.1 in
+    let w = waits-in (slice_get s.nodes id.0) (not-false _ (when-none _ _ two.0)) in
+    let few : nat_le MAX_ROUNDS (active_count s) ≡ false = when-none _ _ two.1 in
+    record { not_spent = is_spent-false s (when-none _ _ one.0); node = w.0; is_node = w.1; undone = w.2; no_round = w.3; room = grind (arith, nat_tests) }
+
+-- where no place is free, none is counted
+pub none_free : (places : List (Option Round)) → ((k : ℕ) → k < length places → slice_get places k ≡ Some None) → count_by is_some places ≡ 0
+none_free places h =
+    let most = sum_by-le (λ (o : Option Round). cond (is_some o) 1 0) 0 places
+    (λ k d within. subst (λ (o : Option Round). cond (is_some o) 1 0 ≤ 0) (sym (get_or_from_slice_get places k None d (h k within))) (omega arith)) in
+    omega arith
+
+module _ (s : State) (places : List (Option Round)) (id : BranchId) (slot : ℕ) (h : IsPool s places) (may : MayOpen s id) (first : IsFirstFree places slot) where
+  -- the round that a place is begun as
+  abbrev begun_round : Round → List ℕ → Round
+  begun_round place prices = record { slot = place.slot; version = s.next_version; prices = prices; found = replicate (length place.found) None }
+
+  abbrev empty : Round
+  empty = empty_round s slot may.node.first_prices
+
+  slot_is : first.place.slot ≡ slot
+  slot_is = h.has_places.slot_is slot first.place first.is_free
+
+  pub slot-within : slot < MAX_ROUNDS
+  slot-within = let w = slice_get_within places slot (Some first.place) first.is_free in let c = h.has_places.count in omega arith
+
+  is_empty : begun_round first.place may.node.first_prices ≡ empty
+  is_empty =
+      let make : ℕ → ℕ → Round = λ (a b : ℕ). record { slot = a; version = s.next_version; prices = may.node.first_prices; found = replicate b None } in
+      ap₂ make slot_is (h.has_places.demands slot first.place first.is_free)
+
+  at_node : IsSoundNode s.problem may.node
+  at_node = node_at s id.0 may.node (IsReachable-sound s h.reachable) may.is_node
+
+  empty-sound : IsSoundRound s.problem (restriction_of may.node) empty
+  empty-sound = record {
+    slot = slot-within;
+    count = length-replicate (length s.problem.demands) None;
+    prices = at_node.first_prices;
+    least = λ j found is. absurd (none_found (length s.problem.demands) j found is);
+  }
+
+  prices-fit : length may.node.first_prices ≡ length first.place.prices
+  prices-fit = at_node.first_prices.count ∙ sym (h.has_places.prices slot first.place first.is_free)
+
+  pub version-small : s.next_version ≤ 139282
+  version-small = IsSound-next_version s (IsReachable-sound s h.reachable) h.budget
+
+  -- the place that is read is free
+  pub read-free : (read : Option Round) → read ≡ get_or places slot read → read ≡ None → ⊥
+  read-free read at_place none =
+      let same : Some first.place ≡ None = sym (at_place ∙ get_or_from_slice_get places slot (Some first.place) read first.is_free) ∙ none in
+      cc
+
+  -- The node and the place as they are read, and the node when its round has begun
+
+  module _ (item : Node) (place : Round) (read : Option Round) (at_item : item ≡ get_or s.nodes id.0 item) (at_place : read ≡ get_or places slot read) (is : read ≡ Some place) where
+    item_is : item ≡ may.node
+    item_is = at_item ∙ get_or_from_slice_get s.nodes id.0 may.node item may.is_node
+
+    place_is : place ≡ first.place
+    place_is = let same : Some place ≡ Some first.place = sym is ∙ (at_place ∙ get_or_from_slice_get places slot (Some first.place) read first.is_free) in cc
+
+    pub place-fits : length item.first_prices ≡ length place.prices
+    place-fits = ap (λ (x : Node). length x.first_prices) item_is ∙ (prices-fit ∙ sym (ap (λ (r : Round). length r.prices) place_is))
+
+    module _ (mid : Node) (begun : mid ≡ record item { round = Some (begun_round place item.first_prices) }) where
+      mid_is : mid ≡ record may.node { round = Some empty }
+      mid_is =
+          let make : Node → Round → Node = λ x r. record x { round = Some r } in
+          begun ∙ (ap₂ (λ (x : Node) (r : Round). make x (begun_round r x.first_prices)) item_is place_is ∙ ap (make may.node) is_empty)
+
+      pub begun-ready : MayComplete s.problem mid
+      begun-ready = subst (MayComplete s.problem) (sym mid_is) (record {
+        undone = may.undone;
+        price_count = at_node.first_prices.count;
+        version_count = at_node.version_count;
+        is_sound = empty-sound;
+      })
+
+      pub begun-takes : (new : Node) → IfSome mid.round (λ r. TakesRound s.problem mid r new) → TakesRound s.problem may.node empty new
+      begun-takes new takes = TakesRound-from s.problem may.node mid new empty mid_is takes
+
+  -- The state after
+
+  module _ (after : Node) (takes : TakesRound s.problem may.node empty after) (version : ℕ) (version_is : version ≡ suc s.next_version) where
+    abbrev next : State
+    next = record s { nodes = set s.nodes id.0 after; next_version = version }
+
+    pub opens : Opens s id (record { slot = slot; version = s.next_version }) next
+    opens = record {
+      not_spent = may.not_spent;
+      node = may.node;
+      is_node = may.is_node;
+      undone = may.undone;
+      no_round = may.no_round;
+      room = may.room;
+      slot = record {
+        within = slot-within;
+        free = λ taken. h.has_places.free slot first.place first.is_free taken;
+        lowest = λ other below. h.has_places.taken other (first.lower other below);
+      };
+      version = refl;
+      after = after;
+      takes = takes;
+      becomes = ap (λ (n : ℕ). let t : State = record s { nodes = set s.nodes id.0 after; next_version = n } in t) version_is;
+    }
+
+    after-round : after.round ≡ Some empty
+    after-round = TakesRound-round s.problem may.node empty after takes
+
+    taken-there : (k : ℕ) → IsTaken s k → IsTaken next k
+    taken-there k t = elim (same_or_other t.0 id.0) [
+      | inr ne ↦ (t.0, t.1, slice_get-set_other s.nodes id.0 t.0 after ne ∙ t.2, t.3)
+      | inl e ↦
+          let at : slice_get s.nodes id.0 ≡ Some t.1 = subst (λ (i : ℕ). slice_get s.nodes i ≡ Some t.1) e t.2 in
+          let node : t.1 ≡ may.node = one_at s.nodes id.0 t.1 may.node at may.is_node in
+          let none : t.1.round ≡ None = ap (λ (x : Node). x.round) node ∙ may.no_round in
+          let bad : ⊥ = subst (λ (o : Option Round). IsSomeAnd o (λ r. r.slot ≡ k)) none t.3 in
+          absurd bad
+    ]
+
+    has_slot : HasSlot slot after
+    has_slot = subst (λ (o : Option Round). IsSomeAnd o (λ r. r.slot ≡ slot)) (sym after-round) refl
+
+    taken-back : (k : ℕ) → k ≢ slot → IsTaken next k → IsTaken s k
+    taken-back k ne t = elim (slice_get-set_cases s.nodes id.0 t.0 after t.1 t.2) [
+      | inr w ↦ (t.0, t.1, w.1, t.3)
+      | inl w ↦
+          let has : slot ≡ k = subst (λ (o : Option Round). IsSomeAnd o (λ r. r.slot ≡ k)) after-round (subst (HasSlot k) w.1 t.3) in
+          absurd (ne (sym has))
+    ]
+
+    -- a place that is free afterwards was free before, and is another one
+    was_free : (k : ℕ) (place : Round) → slice_get (set places slot None) k ≡ Some (Some place) → (k ≢ slot) × (slice_get places k ≡ Some (Some place))
+    was_free k place is = elim (slice_get-set_cases places slot k None (Some place) is) [ inl w ↦ absurd (let bad = w.1 in cc) | inr w ↦ w ]
+
+    has_places : HasPlaces next (set places slot None)
+    has_places =
+        let p = h.has_places in
+        record {
+          count = length-set places slot None ∙ p.count;
+          total = (
+              let c = sum_by-set_at (λ (o : Option Round). cond (is_some o) 1 0) places slot (Some first.place) None first.is_free in
+              let a = sum_by-set_at rounds_in s.nodes id.0 may.node after may.is_node in
+              let none : rounds_in may.node ≡ 0 = ap rounds_by may.no_round in
+              let one : rounds_in after ≡ 1 = ap rounds_by after-round in
+              let t = p.total in
+              omega arith
+              );
+          taken = λ k is. elim (slice_get-set_cases places slot k None None is) [
+            | inl w ↦ (id.0, after, slice_get-set_same s.nodes id.0 may.node after may.is_node, subst (λ (i : ℕ). HasSlot i after) (sym w.0) has_slot)
+            | inr w ↦ taken-there k (p.taken k w.1)
+          ];
+          free = λ k place is t. let w = was_free k place is in p.free k place w.1 (taken-back k w.0 t);
+          slot_is = λ k place is. p.slot_is k place (was_free k place is).1;
+          demands = λ k place is. p.demands k place (was_free k place is).1;
+          prices = λ k place is. p.prices k place (was_free k place is).1;
+        }
+
+    opened-IsPool : IsPool next (set places slot None)
+    opened-IsPool = record {
+      some_budget = h.some_budget;
+      budget = h.budget;
+      reachable = IsReachable-step s next (Opening id) (to_opening (Ok (record { slot = slot; version = s.next_version }))) h.reachable opens;
+      has_places = has_places;
+    }
+
+    pub opened-kept : (table : Parts) (grounds : List (Option Rows)) (item : Node) (left : Option Round) → item ≡ get_or s.nodes id.0 item → left ≡ None → IsKeptPool s table grounds places
+        → IsKeptPool next table grounds (set places slot left)
+    opened-kept table grounds item left at_item none kept =
+        let same : item ≡ may.node = at_item ∙ get_or_from_slice_get s.nodes id.0 may.node item may.is_node in
+        record {
+          pool = subst (λ (o : Option Round). IsPool next (set places slot o)) (sym none) opened-IsPool;
+          table_is = kept.table_is;
+          has_grounds = HasGrounds-set s.problem s.nodes grounds id.0 item after (slice_get_within s.nodes id.0 may.node may.is_node) at_item
+              (TakesRound-limits s.problem may.node empty after takes ∙ ap (λ (x : Node). x.limits) (sym same))
+              (TakesRound-fate s.problem may.node empty after takes ∙ ap (λ (x : Node). x.fate) (sym same)) kept.has_grounds;
+        }
+
+pub some_free : (s : State) (places : List (Option Round)) (id : BranchId) → IsPool s places → MayOpen s id → 0 < count_by is_some places
+some_free s places id h may = let t = h.has_places.total in let r = may.room in omega arith

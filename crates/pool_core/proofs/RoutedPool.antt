@@ -1,0 +1,76 @@
+-- An examination of a node that leaves each demand one path is one event, whichever way it closes the node.
+use Rattle.std.proofs.Common.{◌≡◌, ℕ, ◌<◌, true, List, length, slice_get, sym, ap, subst, ◌∙◌}
+use Rattle.std.specs.Prelude.{Ok, Result}
+use Rattle.plan_base.specs.declared.ids.ArcId.{ArcId}
+use Rattle.plan_base.specs.declared.ids.BranchId.{BranchId}
+use Rattle.plan_base.specs.declared.ids.LinkId.{LinkId}
+use Rattle.plan_base.specs.declared.path.Design.{Design}
+use Rattle.plan_base.specs.declared.design_fault.DesignFault.{DesignFault}
+use Rattle.plan_base.specs.Arcs.{link_at}
+use Rattle.plan_base.specs.Designs.{load_on, counts_at}
+use Rattle.link_steps.specs.Costs.{AreLeastCounts}
+use Rattle.incumbent.specs.Completions.{ArePaths, IsCompletion, IsFirstOverfull}
+use Rattle.proof_tree.specs.declared.tree.Evidence.TheVariants as evidence
+use Rattle.pool_core.specs.declared.answers.Better.{Better}
+use Rattle.pool_core.specs.declared.answers.Examined.TheVariants as examined
+use Rattle.pool_core.specs.declared.tree.Reason.TheVariants as reason
+use Rattle.pool_core.specs.State.{State, restriction_of, state_of}
+use Rattle.pool_core.specs.Machine.{is_open_state, ClosesOverfull, ClosesRouted, BetterStep, Examining, to_examining, IsReachable}
+use Rattle.pool_core.specs.Rounds.{closed_at}
+use Rattle.pool_core.specs.Examining.{HasOnlyPaths}
+use Rattle.pool_core.proofs.Examining.{open-at, shown-closed}
+use Rattle.pool_core.proofs.Routings.{are-paths, overfull-closed, completion-routed, with_cheaper, better-holds}
+use Rattle.pool_core.proofs.Runs.{IsReachable-step}
+
+module _ (s : State) (id : BranchId) (paths : List (List ArcId)) (at : HasOnlyPaths s id paths) where
+  pub paths-are : ArePaths s.problem paths
+  paths-are = are-paths s.problem (restriction_of at.node) paths at.only
+
+  pub paths-open : is_open_state (state_of s id) ≡ true
+  paths-open = open-at s id at.node at.ready.open_node
+
+  pub paths-not_spent : s.examined < s.budget
+  paths-not_spent = at.ready.open_node.not_spent
+
+  pub overfull-closes : (link : LinkId) → IsFirstOverfull s.problem paths link.0
+      → ClosesOverfull s id (closed_at s id (reason.Shown (evidence.Overfull link)) (slice_get s.nodes id.0))
+  overfull-closes link first = record {
+    node = at.node;
+    ready = at.ready;
+    link = link;
+    overfull = overfull-closed s.problem (restriction_of at.node) paths at.only link first;
+    becomes = shown-closed s id at.node (evidence.Overfull link) at.ready.open_node.is_node;
+  }
+
+  pub overfull-reachable : (link : LinkId) → IsFirstOverfull s.problem paths link.0 → IsReachable s
+      → IsReachable (closed_at s id (reason.Shown (evidence.Overfull link)) (slice_get s.nodes id.0))
+  overfull-reachable link first h =
+      IsReachable-step s (closed_at s id (reason.Shown (evidence.Overfull link)) (slice_get s.nodes id.0)) (Examining id) (to_examining (Ok examined.Overfull)) h (overfull-closes link first)
+
+  -- the design of the paths is handed in first
+  module _ (cost : ℕ) (design : Design) (done : IsCompletion s.problem paths cost design)
+      (counts : (e : ℕ) → e < length s.problem.links → AreLeastCounts (link_at s.problem e) (load_on s.problem design e) (counts_at design e))
+      (t : State) (answer : Result Better DesignFault) (step : BetterStep s design answer t) where
+    held : t ≡ with_cheaper s cost design
+    held = better-holds s t cost design answer step done.good (sym done.is_cost)
+
+    pub routed-open : is_open_state (state_of t id) ≡ true
+    routed-open = subst (λ (x : State). is_open_state (state_of x id) ≡ true) (sym held) paths-open
+
+    pub routed-not_spent : t.examined < t.budget
+    routed-not_spent = subst (λ (x : State). x.examined < x.budget) (sym held) paths-not_spent
+
+    pub routed-closes : ClosesRouted s id (closed_at t id (reason.Shown evidence.Routed) (slice_get t.nodes id.0))
+    routed-closes = record {
+      node = at.node;
+      ready = at.ready;
+      cost = cost;
+      design = design;
+      routed = completion-routed s.problem (restriction_of at.node) paths at.only cost design done counts;
+      becomes = ap (λ (x : State). closed_at x id (reason.Shown evidence.Routed) (slice_get x.nodes id.0)) held
+          ∙ ap (closed_at (with_cheaper s cost design) id (reason.Shown evidence.Routed)) at.ready.open_node.is_node;
+    }
+
+    pub routed-reachable : IsReachable s → IsReachable (closed_at t id (reason.Shown evidence.Routed) (slice_get t.nodes id.0))
+    routed-reachable h =
+        IsReachable-step s (closed_at t id (reason.Shown evidence.Routed) (slice_get t.nodes id.0)) (Examining id) (to_examining (Ok examined.Routed)) h routed-closes

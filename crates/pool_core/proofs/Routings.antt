@@ -1,0 +1,79 @@
+-- What an examination of the only paths shows.
+use Rattle.std.proofs.Common.{◌≡◌, ℕ, ◌<◌, true, false, List, [], length, Option, Some, None, slice_index_or, refl, sym, ap, subst, ◌∙◌}
+use Rattle.std.specs.Prelude.{Ok, Err, Result}
+use Rattle.plan_base.specs.declared.ids.ArcId.{ArcId}
+use Rattle.plan_base.specs.declared.ids.LinkId.{LinkId}
+use Rattle.plan_base.specs.declared.parts.Parts.{Parts}
+use Rattle.plan_base.specs.declared.path.Design.{Design}
+use Rattle.plan_base.specs.declared.design_fault.DesignFault.{DesignFault}
+use Rattle.plan_base.specs.Arcs.{link_at}
+use Rattle.plan_base.specs.Designs.{counts_at, load_on, module_cost_with, link_cost, cost_of, IsGoodDesign}
+use Rattle.plan_base.proofs.DesignLaws.{design_fault-IsGoodDesign}
+use Rattle.link_steps.specs.Costs.{AreLeastCounts}
+use Rattle.arc_restrict.specs.Restrictions.{Forbidden, IsOnlyPath}
+use Rattle.second_path.specs.Others.{AreOnlyPaths as AreOnlyOnes}
+use Rattle.proof_tree.specs.Evidence.{AreOnlyPaths, ClosedByOverfull}
+use Rattle.incumbent.specs.Completions.{with_paths, ArePaths, IsCompletion, CarryLoads, HasOverfull, IsFirstOverfull}
+use Rattle.pool_core.specs.declared.answers.Better.{Better}
+use Rattle.pool_core.specs.declared.answers.Better.TheVariants as better
+use Rattle.pool_core.specs.State.{Incumbent, State}
+use Rattle.pool_core.specs.Machine.{cheaper_of, is_cheaper, BetterStep, IsRouted}
+
+module _ (p : Parts) (r : Forbidden) (paths : List (List ArcId)) (only : AreOnlyOnes p r paths) where
+  pub are-paths : ArePaths p paths
+  are-paths = record { count = only.count; simple = λ k within. (only.only k within).permitted.simple }
+
+  only-of : (d : Design) → d.paths ≡ paths → AreOnlyPaths p r d
+  only-of d same k within = subst (λ (xs : List (List ArcId)). IsOnlyPath p r k (slice_index_or xs k [])) (sym same) (only.only k within)
+
+  pub overfull-closed : (link : LinkId) → IsFirstOverfull p paths link.0 → ClosedByOverfull p r link
+  overfull-closed link first = record { routing = with_paths paths; only = only-of (with_paths paths) refl; is_link = first.within; overfull = first.overfull }
+
+  pub completion-routed : (cost : ℕ) (d : Design) → IsCompletion p paths cost d
+      → ((e : ℕ) → e < length p.links → AreLeastCounts (link_at p e) (load_on p d e) (counts_at d e)) → IsRouted p r cost d
+  completion-routed cost d done counts = record {
+    only = only-of d done.same_paths;
+    good = done.good;
+    is_cost = sym done.is_cost;
+    step_costs = link_cost p d;
+    are_costs = λ e within. record {
+      module_cost = module_cost_with (link_at p e) (counts_at d e);
+      is_least = record { counts = counts_at d e; carries = (counts e within).carries; attained = refl; least = (counts e within).least };
+      is_sum = refl;
+    };
+    is_least = done.is_cost;
+  }
+
+-- where each link carries its load, none is overfull
+pub carry-overfull : (p : Parts) (paths : List (List ArcId)) → CarryLoads p paths (length p.links) → HasOverfull p paths → ⊥
+carry-overfull p paths carry over = let can = carry over.link over.within in over.overfull can.0 can.1
+
+cheaper-taken : (held : Option Incumbent) (cost : ℕ) (design : Design) → is_cheaper held cost ≡ true → cheaper_of held cost design ≡ record { cost = cost; design = design }
+cheaper-taken None cost design h = refl
+cheaper-taken (Some held) cost design h = rw h refl
+
+not_cheaper-held : (held : Option Incumbent) (cost : ℕ) (design : Design) → is_cheaper held cost ≡ false → Some (cheaper_of held cost design) ≡ held
+not_cheaper-held None cost design h = absurd (let bad : true ≡ false = h in cc)
+not_cheaper-held (Some held) cost design h = rw h refl
+
+-- the state that holds the cheaper of the held design and of this one
+abbrev pub with_cheaper : State → ℕ → Design → State
+with_cheaper s cost design = record s { incumbent = Some (cheaper_of s.incumbent cost design) }
+
+-- after a good design is handed in, the cheaper one is held
+pub better-holds : (s t : State) (cost : ℕ) (design : Design) (answer : Result Better DesignFault) → BetterStep s design answer t → IsGoodDesign s.problem design → cost_of s.problem design ≡ cost
+    → t ≡ with_cheaper s cost design
+better-holds s t cost design (Ok (better.Taken c)) step good is =
+    let same : c ≡ cost = sym step.is_cost ∙ is in
+    let cheaper : is_cheaper s.incumbent cost ≡ true = subst (λ (n : ℕ). is_cheaper s.incumbent n ≡ true) same step.cheaper in
+    let make : Incumbent → State = λ held. record s { incumbent = Some held } in
+    step.becomes ∙ (ap (λ (n : ℕ). make (record { cost = n; design = design })) same ∙ ap make (sym (cheaper-taken s.incumbent cost design cheaper)))
+better-holds s t cost design (Ok (better.NotLess c held)) step good is =
+    let same : c ≡ cost = sym step.is_cost ∙ is in
+    let dearer : is_cheaper s.incumbent cost ≡ false = subst (λ (n : ℕ). is_cheaper s.incumbent n ≡ false) same step.not_cheaper in
+    let make : Option Incumbent → State = λ held. record s { incumbent = held } in
+    step.unchanged ∙ ap make (sym (not_cheaper-held s.incumbent cost design dearer))
+better-holds s t cost design (Err fault) step good is =
+    let none = design_fault-IsGoodDesign s.problem design good in
+    let bad : ◌≡◌ {A = Option DesignFault} None (Some fault) = sym none ∙ step.0 in
+    absurd (cc)

@@ -1,0 +1,81 @@
+use Rattle.std.proofs.Common.{◌≡◌, ◌<◌, ◌+◌, ◌≤◌, List, Option, None, Some, length, rules, add-one, sym, subst, ◌∙◌}
+use Rattle.std.specs.Prelude.{IfSome}
+use Rattle.std.proofs.lemmas.Option.{slice_get_within}
+use Rattle.plan_base.specs.declared.parts.Parts.{Parts}
+use Rattle.pool_core.specs.contracts.pool.Pool.{the_view}
+use Rattle.pool_core.specs.State.{State, Round}
+use Rattle.pool_core.specs.Machine.{open_fault, Opens, TakesRound, with_node}
+use Rattle.pool_core.specs.Rounds.{MayComplete}
+use Rattle.pool_core.specs.Views.{IsFirstFree}
+use Rattle.pool_core.proofs.OpenPool.{MayOpen, open_fault-none, some_free, read-free, place-fits, version-small, slot-within, begun-ready, begun-takes, opens, opened-kept}
+use Rattle.pool_core.proofs.pool.Pool.open_round.Goals as goal
+
+pub first_free-slot-requires : goal.first_free-slot-requires
+first_free-slot-requires c =
+    let may : MayOpen (the_view c.self.inside) c.args.node = open_fault-none (the_view c.self.inside) c.args.node (subst (λ (s : State). open_fault s c.args.node ≡ None) (sym c.self.view_is) (sym c.open_refusal.ensures ∙ c.in_default.is)) in
+    rw c.as_slice.ensures.value (some_free (the_view c.self.inside) c.self.inside.places.items c.args.node c.self.invariant.pool may)
+
+pub index_mut-free-requires : goal.index_mut-free-requires
+index_mut-free-requires c =
+    let first : IsFirstFree c.self.inside.places.items c.first_free-slot.result = subst (λ (xs : List (Option Round)). IsFirstFree xs c.first_free-slot.result) c.as_slice.ensures.value c.first_free-slot.ensures in
+    let within : c.first_free-slot.result < length c.self.inside.places.items = slice_get_within c.self.inside.places.items c.first_free-slot.result (Some first.place) first.is_free in
+    search rules
+
+pub returns-in_default-take : goal.returns-in_default-take
+returns-in_default-take c =
+    let may : MayOpen (the_view c.self.inside) c.args.node = open_fault-none (the_view c.self.inside) c.args.node (subst (λ (s : State). open_fault s c.args.node ≡ None) (sym c.self.view_is) (sym c.open_refusal.ensures ∙ c.in_default.is)) in
+    let first : IsFirstFree c.self.inside.places.items c.first_free-slot.result = subst (λ (xs : List (Option Round)). IsFirstFree xs c.first_free-slot.result) c.as_slice.ensures.value c.first_free-slot.ensures in
+    absurd (read-free (the_view c.self.inside) c.self.inside.places.items c.args.node c.first_free-slot.result c.self.invariant.pool may first c.index_mut-free.result.now c.index_mut-free.ensures.value (sym c.take.ensures.value ∙ c.in_default-take.is))
+
+pub index_mut-opened-requires : goal.index_mut-opened-requires
+index_mut-opened-requires c =
+    let may : MayOpen (the_view c.self.inside) c.args.node = open_fault-none (the_view c.self.inside) c.args.node (subst (λ (s : State). open_fault s c.args.node ≡ None) (sym c.self.view_is) (sym c.open_refusal.ensures ∙ c.in_default.is)) in
+    let within : c.args.node.0 < length c.self.inside.nodes.items = slice_get_within c.self.inside.nodes.items c.args.node.0 may.node may.is_node in
+    search rules
+
+pub begin-requires : goal.begin-requires
+begin-requires c =
+    let may : MayOpen (the_view c.self.inside) c.args.node = open_fault-none (the_view c.self.inside) c.args.node (subst (λ (s : State). open_fault s c.args.node ≡ None) (sym c.self.view_is) (sym c.open_refusal.ensures ∙ c.in_default.is)) in
+    let first : IsFirstFree c.self.inside.places.items c.first_free-slot.result = subst (λ (xs : List (Option Round)). IsFirstFree xs c.first_free-slot.result) c.as_slice.ensures.value c.first_free-slot.ensures in
+    place-fits (the_view c.self.inside) c.self.inside.places.items c.args.node c.first_free-slot.result c.self.invariant.pool may first c.index_mut-opened.result.now c.in-Some-take.place c.index_mut-free.result.now c.index_mut-opened.ensures.value c.index_mut-free.ensures.value (sym c.take.ensures.value ∙ c.in-Some-take.is)
+
+pub complete-requires-clause-ready : goal.complete-requires-clause-ready
+complete-requires-clause-ready c =
+    let may : MayOpen (the_view c.self.inside) c.args.node = open_fault-none (the_view c.self.inside) c.args.node (subst (λ (s : State). open_fault s c.args.node ≡ None) (sym c.self.view_is) (sym c.open_refusal.ensures ∙ c.in_default.is)) in
+    let first : IsFirstFree c.self.inside.places.items c.first_free-slot.result = subst (λ (xs : List (Option Round)). IsFirstFree xs c.first_free-slot.result) c.as_slice.ensures.value c.first_free-slot.ensures in
+    subst (λ (p : Parts). MayComplete p c.begin.new.self) (sym c.deref.ensures)
+    (begun-ready (the_view c.self.inside) c.self.inside.places.items c.args.node c.first_free-slot.result c.self.invariant.pool may first c.index_mut-opened.result.now c.in-Some-take.place c.index_mut-free.result.now c.index_mut-opened.ensures.value c.index_mut-free.ensures.value (sym c.take.ensures.value ∙ c.in-Some-take.is) c.begin.new.self c.begin.ensures)
+
+pub overflow_add-self : goal.overflow_add-self
+overflow_add-self c =
+    let may : MayOpen (the_view c.self.inside) c.args.node = open_fault-none (the_view c.self.inside) c.args.node (subst (λ (s : State). open_fault s c.args.node ≡ None) (sym c.self.view_is) (sym c.open_refusal.ensures ∙ c.in_default.is)) in
+    let first : IsFirstFree c.self.inside.places.items c.first_free-slot.result = subst (λ (xs : List (Option Round)). IsFirstFree xs c.first_free-slot.result) c.as_slice.ensures.value c.first_free-slot.ensures in
+    let small : c.self.inside.next_version ≤ 139282 = version-small (the_view c.self.inside) c.self.inside.places.items c.args.node c.first_free-slot.result c.self.invariant.pool may first in
+    search rules
+
+pub overflow_cast-result : goal.overflow_cast-result
+overflow_cast-result c =
+    let may : MayOpen (the_view c.self.inside) c.args.node = open_fault-none (the_view c.self.inside) c.args.node (subst (λ (s : State). open_fault s c.args.node ≡ None) (sym c.self.view_is) (sym c.open_refusal.ensures ∙ c.in_default.is)) in
+    let first : IsFirstFree c.self.inside.places.items c.first_free-slot.result = subst (λ (xs : List (Option Round)). IsFirstFree xs c.first_free-slot.result) c.as_slice.ensures.value c.first_free-slot.ensures in
+    let small : c.first_free-slot.result < 64 = slot-within (the_view c.self.inside) c.self.inside.places.items c.args.node c.first_free-slot.result c.self.invariant.pool may first in
+    search rules
+
+pub invariant_of-self-2 : goal.invariant_of-self-2
+invariant_of-self-2 c =
+    let may : MayOpen (the_view c.self.inside) c.args.node = open_fault-none (the_view c.self.inside) c.args.node (subst (λ (s : State). open_fault s c.args.node ≡ None) (sym c.self.view_is) (sym c.open_refusal.ensures ∙ c.in_default.is)) in
+    let first : IsFirstFree c.self.inside.places.items c.first_free-slot.result = subst (λ (xs : List (Option Round)). IsFirstFree xs c.first_free-slot.result) c.as_slice.ensures.value c.first_free-slot.ensures in
+    let takes = begun-takes (the_view c.self.inside) c.self.inside.places.items c.args.node c.first_free-slot.result c.self.invariant.pool may first c.index_mut-opened.result.now c.in-Some-take.place c.index_mut-free.result.now c.index_mut-opened.ensures.value c.index_mut-free.ensures.value (sym c.take.ensures.value ∙ c.in-Some-take.is) c.begin.new.self c.begin.ensures c.complete.new.self
+    (subst (λ (p : Parts). IfSome c.begin.new.self.round (λ r. TakesRound p c.begin.new.self r c.complete.new.self)) c.deref.ensures c.complete.ensures) in
+    opened-kept (the_view c.self.inside) c.self.inside.places.items c.args.node c.first_free-slot.result c.self.invariant.pool may first c.complete.new.self takes (c.self.inside.next_version + 1) (add-one c.self.inside.next_version) _ c.self.inside.grounds.items
+    c.index_mut-opened.result.now c.take.new.self c.index_mut-opened.ensures.value c.take.ensures.after c.self.invariant
+
+pub returns : goal.returns
+returns c =
+    let may : MayOpen (the_view c.self.inside) c.args.node = open_fault-none (the_view c.self.inside) c.args.node (subst (λ (s : State). open_fault s c.args.node ≡ None) (sym c.self.view_is) (sym c.open_refusal.ensures ∙ c.in_default.is)) in
+    let first : IsFirstFree c.self.inside.places.items c.first_free-slot.result = subst (λ (xs : List (Option Round)). IsFirstFree xs c.first_free-slot.result) c.as_slice.ensures.value c.first_free-slot.ensures in
+    let takes = begun-takes (the_view c.self.inside) c.self.inside.places.items c.args.node c.first_free-slot.result c.self.invariant.pool may first c.index_mut-opened.result.now c.in-Some-take.place c.index_mut-free.result.now c.index_mut-opened.ensures.value c.index_mut-free.ensures.value (sym c.take.ensures.value ∙ c.in-Some-take.is) c.begin.new.self c.begin.ensures c.complete.new.self
+    (subst (λ (p : Parts). IfSome c.begin.new.self.round (λ r. TakesRound p c.begin.new.self r c.complete.new.self)) c.deref.ensures c.complete.ensures) in
+    record {
+      event = subst (λ (s : State). Opens s c.args.node (record { slot = c.first_free-slot.result; version = c.self.inside.next_version }) (record (the_view c.self.inside) { nodes = (with_node (the_view c.self.inside) c.args.node c.complete.new.self).nodes; next_version = c.self.inside.next_version + 1 })) c.self.view_is
+          (opens (the_view c.self.inside) c.self.inside.places.items c.args.node c.first_free-slot.result c.self.invariant.pool may first c.complete.new.self takes (c.self.inside.next_version + 1) (add-one c.self.inside.next_version));
+    }

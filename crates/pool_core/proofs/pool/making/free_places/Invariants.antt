@@ -1,0 +1,6 @@
+use Rattle.std.proofs.Common.{length}
+use Rattle.pool_core.specs.Views.{AreFreePlaces}
+use Rattle.pool_core.proofs.pool.making.free_places.Given as goal
+
+abbrev pub invariant-loop-slot : goal.invariant-loop-slot
+invariant-loop-slot l = AreFreePlaces l.slot (length l.inst.demands) (length l.inst.links) l.places.items

@@ -1,0 +1,11 @@
+pub mod State
+pub mod Machine
+pub mod Soundness
+pub mod Views
+pub mod PlanOf
+pub mod Depth
+pub mod Tasks
+pub mod Rounds
+pub mod Examining
+pub mod PlanParts
+pub mod Work

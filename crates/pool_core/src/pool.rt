@@ -1,0 +1,242 @@
+//! The pool: each call is one event of the machine.
+
+ghost use Rattle.std.specs.Prelude.{◌≡◌, ◌<◌, ◌≤◌, ◌↔◌, IsTrue, true, false, None, Some, length, slice_get, is_some, count_by};
+ghost use Rattle.pool_core.specs.State.{State, Node, Round, state_of, round_of, cutoff_of, active_count};
+ghost use Rattle.pool_core.specs.Views.{IsFirstFree};
+ghost use Rattle.pool_core.specs.Machine.{open_fault, OpenStep, is_waiting, is_spent, version_in, is_version, first_gap, settle_fault, SettleStep};
+
+mod closing;
+mod dividing;
+mod examining;
+mod making;
+mod offering;
+mod planning;
+mod reading;
+mod running;
+mod tasks;
+
+use crate::answers::{NodeState, Opened, RoundFault, Settle};
+use crate::ground::Ground;
+use crate::known::KnownAbove;
+use crate::limits::MAX_ROUNDS;
+use crate::node::PoolNode;
+use crate::round::PoolRound;
+use crate::tree::Incumbent;
+use link_steps::StepTable;
+use plan_base::{BranchId, DemandId, Instance};
+use std::alloc::Global;
+use std::marker::Model;
+use std::sync::Arc;
+
+/// The state of the search, and what its calls work with.
+///
+/// Contracts see it as the state of the machine.
+#[derive(Drop)]
+pub struct Pool {
+    /// Where memory comes from.
+    alloc: Global,
+    problem: Arc<Instance>,
+    table: Arc<StepTable>,
+    nodes: Vec<PoolNode>,
+    /// For each node what is forbidden there, while it is an open leaf.
+    grounds: Vec<Ground>,
+    /// A free slot has its place here; an active round has taken it along.
+    places: Vec<Option<PoolRound>>,
+    incumbent: Option<Incumbent>,
+    examined: u32,
+    budget: u32,
+    next_version: u64,
+    accepted: u64,
+    /// What is known above nodes that wait, so that their bounds are found sooner.
+    known: KnownAbove,
+}
+
+impl Model for Pool {
+    ghost use Rattle.std.specs.Arc.{arc_value};
+    ghost use Rattle.pool_core.specs.State.{State};
+    ghost use Rattle.pool_core.specs.Views.{IsKeptPool};
+
+    ghost Value = { State };
+
+    ghost view = { λ a. record {
+      problem = arc_value a.problem;
+      nodes = a.nodes.items;
+      incumbent = a.incumbent;
+      examined = a.examined;
+      budget = a.budget;
+      next_version = a.next_version;
+      accepted = a.accepted;
+    } };
+
+    ghost invariant = { λ a. IsKeptPool (record {
+      problem = arc_value a.problem;
+      nodes = a.nodes.items;
+      incumbent = a.incumbent;
+      examined = a.examined;
+      budget = a.budget;
+      next_version = a.next_version;
+      accepted = a.accepted;
+    }) (arc_value a.table) a.grounds.items a.places.items };
+}
+
+impl Pool {
+    /// How many nodes are examined: splits and closed leaves. At most the budget.
+    pub fn examined(&self) -> u32
+        ensures { result ≡ self.now.examined }
+    {
+        self.examined
+    }
+
+    /// What a node is now; `Unknown` where there is no node of this number.
+    pub fn state(&self, node: BranchId) -> NodeState
+        ensures { result ≡ state_of self.now node }
+    {
+        match self.nodes.get(node.0 as usize) {
+            Some(node) => node.state(),
+            None => NodeState::Unknown,
+        }
+    }
+
+    fn is_spent(&self) -> bool
+        ensures { result ≡ is_spent self.now }
+    {
+        self.budget <= self.examined
+    }
+
+    /// The version of the active round of a node.
+    fn current(&self, node: BranchId) -> Option<u64>
+        ensures { result ≡ version_in (round_of self.now node) }
+    {
+        match self.nodes.get(node.0 as usize) {
+            Some(node) => node.version(),
+            None => None,
+        }
+    }
+
+    /// How many rounds are active.
+    fn active(&self) -> u32
+        ensures { result ≡ active_count self.now }
+    {
+        MAX_ROUNDS - free_count(self.places.as_slice()) as u32
+    }
+
+    #[tactic(auto, unfolding(crate::specs::Machine::open_fault))]
+    fn open_refusal(&self, node: BranchId) -> Option<RoundFault>
+        ensures { result ≡ open_fault self.now node }
+    {
+        if self.is_spent() {
+            return Some(RoundFault::Spent {
+                examined: self.examined,
+            });
+        }
+        let state = self.state(node);
+        if !is_waiting(state) {
+            return Some(RoundFault::NotOpen { state });
+        }
+        let active = self.active();
+        if active >= MAX_ROUNDS {
+            return Some(RoundFault::Crowded { active });
+        }
+        None
+    }
+
+    /// Puts a node that waits into the lowest free slot. Without demands its version is complete at once. Takes no
+    /// memory.
+    pub fn open_round(&mut self, node: BranchId) -> Result<Opened, RoundFault>
+        ensures event { OpenStep self.old node result self.new }
+    {
+        if let Some(fault) = self.open_refusal(node) {
+            return Err(fault);
+        }
+        let slot = first_free(self.places.as_slice());
+        let free = &mut self.places[slot];
+        let Some(place) = free.take() else {
+            return Err(RoundFault::Crowded { active: MAX_ROUNDS });
+        };
+        let version = self.next_version;
+        let opened = &mut self.nodes[node.0 as usize];
+        opened.begin(place, version);
+        opened.complete(&*self.problem, &*self.table);
+        self.next_version = version + 1;
+        Ok(Opened {
+            slot: slot as u32,
+            version,
+        })
+    }
+
+    /// The first demand that the active round of a node has not priced.
+    fn first_gap(&self, node: BranchId) -> Option<DemandId>
+        ensures { result ≡ first_gap (round_of self.now node) }
+    {
+        match self.nodes.get(node.0 as usize) {
+            Some(node) => node.first_gap(),
+            None => None,
+        }
+    }
+
+    #[tactic(auto, unfolding(crate::specs::Machine::settle_fault))]
+    fn settle_refusal(&self, node: BranchId, version: u64) -> Option<Settle>
+        ensures { result ≡ settle_fault self.now node version }
+    {
+        if self.is_spent() {
+            return Some(Settle::Spent {
+                examined: self.examined,
+            });
+        }
+        let current = self.current(node);
+        if !is_version(current, version) {
+            return Some(Settle::Stale { current });
+        }
+        self.first_gap(node)
+            .map(|demand| Settle::Incomplete { demand })
+    }
+
+    /// No further version of the node is published.
+    pub fn settle(&mut self, node: BranchId, version: u64) -> Settle
+        ensures event { SettleStep self.old node version result self.new }
+    {
+        if let Some(refusal) = self.settle_refusal(node, version) {
+            return refusal;
+        }
+        let settled = &mut self.nodes[node.0 as usize];
+        settled.settle();
+        Settle::Done
+    }
+}
+
+fn free_count(places: &[Option<PoolRound>]) -> usize
+    ensures { result ≡ count_by is_some places.now }
+{
+    places.iter().filter(|place| place.is_some()).count()
+}
+
+/// The first place that is free.
+fn first_free(places: &[Option<PoolRound>]) -> usize
+    requires { 0 < count_by is_some places.now }
+    ensures { IsFirstFree places.now result }
+{
+    for (slot, place) in places.iter().enumerate() {
+        if place.is_some() {
+            return slot;
+        }
+    }
+    0
+}
+
+fn is_waiting(state: NodeState) -> bool
+    ensures { result ≡ is_waiting state }
+{
+    match state {
+        NodeState::Waiting => true,
+        _ => false,
+    }
+}
+
+fn is_version(current: Option<u64>, version: u64) -> bool
+    ensures { result ≡ is_version current version }
+{
+    match current {
+        Some(current) => current == version,
+        None => false,
+    }
+}

@@ -1,0 +1,129 @@
+//! Closings by a bound or a crowd proof, and better designs.
+
+ghost use Rattle.std.specs.Prelude.{◌≡◌, ◌<◌, true, false, Some, IfSome, IfNone, length, slice_get};
+ghost use Rattle.pool_core.specs.State.{state_of, cutoff_of};
+ghost use Rattle.pool_core.specs.Machine.{close_fault, CloseStep, BetterStep, is_cheaper, closable_in, is_open_state, IsReachable};
+ghost use Rattle.pool_core.specs.Rounds.{HasReason, closed_at, given_back};
+
+use super::Pool;
+use crate::answers::{Better, Closing, NodeState};
+use crate::round::PoolRound;
+use crate::tree::{Incumbent, Reason};
+use plan_base::{BranchId, Design, DesignFault, check_design};
+
+/// Whether the node is an open leaf.
+pub fn is_open_state(state: NodeState) -> bool
+    ensures { result ≡ is_open_state state }
+{
+    match state {
+        NodeState::Waiting => true,
+        NodeState::Active => true,
+        _ => false,
+    }
+}
+
+/// Puts the place of a round that has ended back into its slot. Takes no memory.
+pub fn give_back(places: &mut Vec<Option<PoolRound>>, round: Option<PoolRound>)
+    requires { IfSome round (λ r. r.slot < length places.old.items) }
+    ensures { places.new.items ≡ given_back places.old.items round }
+{
+    if let Some(place) = round {
+        let slot = place.slot() as usize;
+        places[slot] = Some(place);
+    }
+}
+
+impl Pool {
+    /// Whether the node has a crowd proof, or a bound that is at least the cost of the best design.
+    pub(crate) fn is_closable(&self, node: BranchId) -> bool
+        ensures { result ≡ closable_in (cutoff_of self.now) (slice_get self.now.nodes node.0) }
+    {
+        match self.nodes.get(node.0 as usize) {
+            Some(node) => node.is_closable(self.incumbent()),
+            None => false,
+        }
+    }
+
+    /// Why a closing is refused, if it is.
+    #[tactic(auto, unfolding(crate::specs::Machine::close_fault))]
+    fn close_refusal(&self, node: BranchId) -> Option<Closing>
+        ensures { result ≡ close_fault self.now node }
+    {
+        if self.is_spent() {
+            return Some(Closing::Spent {
+                examined: self.examined,
+            });
+        }
+        let state = self.state(node);
+        if !is_open_state(state) {
+            return Some(Closing::NotOpen { state });
+        }
+        if !self.is_closable(node) {
+            return Some(Closing::Weak {
+                bound: self.bound(node),
+                cutoff: self.incumbent(),
+            });
+        }
+        None
+    }
+
+    /// Closes an open leaf for a reason: the place of its round is free again, and its restriction is let go. Takes
+    /// no memory.
+    pub(crate) fn close(&mut self, node: BranchId, reason: Reason)
+        requires leaf { is_open_state (state_of self.old node) ≡ true }
+        requires not_spent { self.old.examined < self.old.budget }
+        requires reason { IfSome (slice_get self.old.nodes node.0) (λ x. HasReason x reason) }
+        requires event { IsReachable (closed_at self.old node reason (slice_get self.old.nodes node.0)) }
+        ensures { self.new ≡ closed_at self.old node reason (slice_get self.old.nodes node.0) }
+    {
+        let closed = &mut self.nodes[node.0 as usize];
+        let round = closed.close(reason);
+        give_back(&mut self.places, round);
+        let ground = &mut self.grounds[node.0 as usize];
+        ground.clear();
+        self.examined += 1;
+    }
+
+    /// Closes an open leaf whose bound is at least the cost of the best design, or which has a crowd proof. Takes
+    /// no memory.
+    ///
+    /// - Gives: in this order, `Spent` where the budget is spent; `NotOpen` where the node is no open leaf;
+    ///   `Closed` where it is closed now, by the crowd proof if there is one; else `Weak` with what is recorded.
+    /// - Rule: docs/DEFINITIONS.md, "The search as a machine".
+    pub fn close_by_bound(&mut self, node: BranchId) -> Closing
+        ensures event { CloseStep self.old node result self.new }
+    {
+        let _ = &self.nodes;
+        if let Some(refusal) = self.close_refusal(node) {
+            return refusal;
+        }
+        self.close(node, Reason::Recorded);
+        Closing::Closed
+    }
+
+    /// The cost of the best design so far, where it is at most this one.
+    fn held_within(&self, cost: u128) -> Option<u128>
+        ensures some { IfSome result (λ held. (cutoff_of self.now ≡ Some held) × (is_cheaper self.now.incumbent cost ≡ false)) }
+        ensures none { IfNone result (is_cheaper self.now.incumbent cost ≡ true) }
+    {
+        match &self.incumbent {
+            Some(held) if held.cost <= cost => Some(held.cost),
+            _ => None,
+        }
+    }
+
+    /// Takes a design that costs less than the best one so far. Takes no memory.
+    ///
+    /// - Errors: the first fault of the design, as `check_design` tells it.
+    /// - Rule: docs/DEFINITIONS.md, "The search as a machine".
+    pub fn better(&mut self, design: Design) -> Result<Better, DesignFault>
+        ensures event { BetterStep self.old design result self.new }
+    {
+        let cost = check_design(&*self.problem, &design)?;
+        if let Some(held) = self.held_within(cost) {
+            return Ok(Better::NotLess { cost, held });
+        }
+        self.incumbent = Some(Incumbent { cost, design });
+        Ok(Better::Taken { cost })
+    }
+}

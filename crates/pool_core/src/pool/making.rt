@@ -1,0 +1,80 @@
+//! The pool before its first event.
+
+ghost use Rattle.std.specs.Prelude.{◌≡◌, ◌<◌, ◌≤◌, length, IfOk};
+ghost use Rattle.std.specs.Arc.{arc_value};
+ghost use Rattle.pool_core.specs.declared.limits.TheConstants.{MAX_BUDGET, MAX_ROUNDS};
+ghost use Rattle.pool_core.specs.Machine.{IsOpeningState};
+ghost use Rattle.pool_core.specs.Views.{AreFreePlaces};
+
+use super::Pool;
+use crate::ground::Ground;
+use crate::known::KnownAbove;
+use crate::limits::MAX_ROUNDS;
+use crate::node::PoolNode;
+use crate::round::PoolRound;
+use arc_restrict::Restriction;
+use link_steps::StepTable;
+use plan_base::{Instance, Items, Prices};
+use std::alloc::{AllocError, Global};
+use std::sync::Arc;
+
+/// A free place for each slot.
+///
+/// - Takes: one price for each link, which are put into each place.
+fn free_places(
+    alloc: Global,
+    inst: &Instance,
+    prices: &Prices,
+) -> Result<Vec<Option<PoolRound>>, AllocError>
+    requires { length prices.now ≡ length inst.now.links }
+    ensures { IfOk result (λ places. AreFreePlaces MAX_ROUNDS (length inst.now.demands) (length inst.now.links) places.items) }
+{
+    let mut places = Vec::new(alloc);
+    for slot in 0..MAX_ROUNDS {
+        let place = PoolRound::new(alloc, slot, inst, prices)?;
+        places.push(Some(place))?;
+    }
+    Ok(places)
+}
+
+impl Pool {
+    /// A pool whose root waits with the start prices. All places of rounds are taken here.
+    ///
+    /// - Takes: an instance and its step table; how many nodes may be examined.
+    /// - Errors: want of memory alone.
+    /// - Rule: docs/DEFINITIONS.md, "The search as a machine".
+    pub fn new(
+        alloc: Global,
+        inst: Arc<Instance>,
+        table: Arc<StepTable>,
+        budget: u32,
+    ) -> Result<Pool, AllocError>
+        requires some_budget { 0 < budget }
+        requires budget { budget ≤ MAX_BUDGET }
+        requires table { arc_value table ≡ arc_value inst }
+        ensures opening { IfOk result (λ pool. IsOpeningState (arc_value inst) budget pool) }
+    {
+        let _links = inst.links();
+        let prices = table.start_prices(alloc)?;
+        let places = free_places(alloc, &*inst, &prices)?;
+        let none = Restriction::none(alloc, &*inst)?;
+        let rows = Arc::new(alloc, none)?;
+        let root = PoolNode::new(Items::new(alloc), prices)?;
+        let nodes = vec![in alloc; root]?;
+        let grounds = vec![in alloc; Ground::of(rows)]?;
+        Ok(Pool {
+            alloc,
+            problem: inst,
+            table,
+            nodes,
+            grounds,
+            places,
+            incumbent: None,
+            examined: 0,
+            budget,
+            next_version: 1,
+            accepted: 0,
+            known: KnownAbove::nothing(alloc),
+        })
+    }
+}

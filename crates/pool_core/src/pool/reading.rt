@@ -1,0 +1,100 @@
+//! What the pool tells without an event.
+
+ghost use Rattle.std.specs.Prelude.{◌≡◌, ◌↔◌, true, IsSome, IfSome, IfOk, slice_get, option_map};
+ghost use Rattle.std.specs.Arc.{arc_value};
+ghost use Rattle.arc_restrict.specs.Rows.{forbids};
+ghost use Rattle.pool_core.specs.State.{state_of, cutoff_of, restriction_of};
+ghost use Rattle.pool_core.specs.Machine.{bound_in, is_waiting, is_open_state};
+ghost use Rattle.pool_core.specs.Views.{IsPublishedAt};
+
+use super::Pool;
+use arc_restrict::Restriction;
+use dual_versions::Published;
+use link_steps::StepTable;
+use plan_base::{BranchId, Instance, Prices};
+use std::alloc::AllocError;
+use std::sync::Arc;
+
+impl Pool {
+    /// How many paths were accepted.
+    pub fn accepted(&self) -> u64
+        ensures { result ≡ self.now.accepted }
+    {
+        self.accepted
+    }
+
+    /// The greatest bound of a complete version of the node, in cost grains.
+    pub fn bound(&self, node: BranchId) -> Option<i128>
+        ensures { result ≡ bound_in (slice_get self.now.nodes node.0) }
+    {
+        match self.nodes.get(node.0 as usize) {
+            Some(node) => node.bound(),
+            None => None,
+        }
+    }
+
+    /// The cost of the best design so far, in cost grains.
+    pub fn incumbent(&self) -> Option<u128>
+        ensures { result ≡ cutoff_of self.now }
+    {
+        match &self.incumbent {
+            Some(held) => Some(held.cost),
+            None => None,
+        }
+    }
+
+    /// The prices with which a node that waits begins.
+    pub fn first_prices(&self, node: BranchId) -> Option<&Prices>
+        ensures waits { IsSome result ↔ (is_waiting (state_of self.now node) ≡ true) }
+        ensures value { IfSome result (λ prices. IfSome (slice_get self.now.nodes node.0) (λ x. prices.now ≡ x.first_prices)) }
+    {
+        if !super::is_waiting(self.state(node)) {
+            return None;
+        }
+        match self.nodes.get(node.0 as usize) {
+            Some(node) => Some(node.first_prices()),
+            None => None,
+        }
+    }
+
+    /// What is forbidden at an open leaf.
+    pub fn restriction(&self, node: BranchId) -> Option<&Arc<Restriction>>
+        ensures leaf { IsSome result ↔ (is_open_state (state_of self.now node) ≡ true) }
+        ensures value { IfSome result (λ rows. IfSome (slice_get self.now.nodes node.0) (λ x. forbids (arc_value rows.now) ≡ restriction_of x)) }
+    {
+        match self.grounds.get(node.0 as usize) {
+            Some(ground) => ground.rows(),
+            None => None,
+        }
+    }
+
+    /// A copy of the prices of the round in the slot, with its node and its version; None exactly where no round
+    /// has the slot.
+    ///
+    /// - Errors: want of memory alone.
+    pub fn prices(&self, slot: u32) -> Result<Option<Published>, AllocError>
+        ensures { IfOk result (IsPublishedAt self.now slot) }
+    {
+        for place in 0..self.nodes.len() {
+            let node = BranchId(place as u32);
+            if let Some(published) = self.nodes[place].published(node, slot)? {
+                return Ok(Some(published));
+            }
+        }
+        Ok(None)
+    }
+
+    /// The instance.
+    pub fn instance(&self) -> &Arc<Instance>
+        ensures { arc_value result.now ≡ self.now.problem }
+    {
+        &self.problem
+    }
+
+    /// The step table of the instance.
+    pub fn table(&self) -> &Arc<StepTable>
+        ensures { arc_value result.now ≡ self.now.problem }
+    {
+        &self.table
+    }
+}

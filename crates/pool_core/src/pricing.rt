@@ -1,0 +1,59 @@
+//! What a demand finds under prices, at a restriction: tried from what is known, or found anew.
+
+ghost use Rattle.std.specs.Prelude.{◌≡◌, ◌<◌, None, length, IfOk};
+ghost use Rattle.std.specs.Arc.{arc_value};
+ghost use Rattle.arc_restrict.specs.Rows.{forbids};
+ghost use Rattle.path_pricing.specs.Priced.{ArePrices, IsPriced};
+ghost use Rattle.path_pricing.specs.Faults.{priced_fault};
+
+use arc_restrict::Restriction;
+use path_pricing::{Priced, check_priced, price};
+use plan_base::{DemandId, Instance, Prices};
+use std::alloc::{AllocError, Global};
+use std::sync::Arc;
+
+/// A least path of the demand, or a set that shows that it has none. What is known is taken where it still shows
+/// this; that takes a look at each arc, and no search.
+pub fn find(
+    alloc: Global,
+    inst: &Instance,
+    prices: &Prices,
+    demand: DemandId,
+    restriction: &Restriction,
+    known: Option<&Arc<Priced>>,
+) -> Result<Arc<Priced>, AllocError>
+    requires prices { ArePrices inst.now prices.now }
+    requires demand { demand.0 < length inst.now.demands }
+    ensures least { IfOk result (λ found. IsPriced inst.now prices.now demand.0 (forbids restriction.now) (arc_value found)) }
+    ensures accepted { IfOk result (λ found. priced_fault inst.now prices.now demand.0 (forbids restriction.now) (arc_value found) ≡ None) }
+{
+    if let Some(known) = known {
+        if check_priced(inst, prices, demand, restriction, &**known).is_ok() {
+            return Ok(known.clone()?);
+        }
+    }
+    let found = price(alloc, inst, prices, demand, restriction)?;
+    Ok(Arc::new(alloc, found)?)
+}
+
+/// The same, not shared.
+///
+/// - Errors: want of memory alone.
+pub fn copy_of(found: &Priced) -> Result<Priced, AllocError>
+    ensures { IfOk result (λ copy. copy ≡ found.now) }
+{
+    match found {
+        Priced::Path {
+            path,
+            length,
+            potentials,
+        } => Ok(Priced::Path {
+            path: path.copy()?,
+            length: *length,
+            potentials: potentials.copy()?,
+        }),
+        Priced::NoPath { reached } => Ok(Priced::NoPath {
+            reached: reached.copy()?,
+        }),
+    }
+}
