@@ -16,7 +16,7 @@ use Rattle.snd_model.specs.Table.{key_word, row, spelling}
 use Rattle.plan_report.specs.declared.run_fault.FileKind.{FileKind}
 use Rattle.plan_report.specs.declared.run_fault.FileKind.TheVariants as files
 use Rattle.plan_report.specs.declared.run_fault.RunFault.{RunFault}
-use Rattle.plan_report.specs.declared.run_fault.RunFault.TheVariants.{Usage, Text, PlanText, LoopLink, LoopDemand, Unsupported, TooLong, OverLimit, Read, NotBuilt}
+use Rattle.plan_report.specs.declared.run_fault.RunFault.TheVariants.{Usage, Text, PlanText, LoopLink, LoopDemand, Unsupported, TooLong, OverLimit, Read}
 use Rattle.plan_report.specs.declared.check_lines.TheConstants.{LOAD_SCALE}
 
 -- each number behind a blank
@@ -97,7 +97,6 @@ fault_line (Unsupported key value) = unsupported_line key value
 fault_line (TooLong file) = too_long_line file
 fault_line (OverLimit limit at) = line (codes "over limit") (limit ∷ at ∷ [])
 fault_line (Read file) = read_line file
-fault_line NotBuilt = codes "not built\n"
 
 -- ---- checked networks
 

@@ -125,6 +125,5 @@ pub fn fault_line(alloc: Global, fault: RunFault) -> Result<Vec<u8>, AllocError>
             line(alloc, b"over limit", &[u64::from(limit), u64::from(at)])
         }
         RunFault::Read { file } => Vec::from_slice(alloc, read_line(file)),
-        RunFault::NotBuilt => Vec::from_slice(alloc, b"not built\n"),
     }
 }

@@ -34,6 +34,4 @@ pub enum RunFault {
     OverLimit { limit: u8, at: u32 },
     /// The shelf failed while this text was read.
     Read { file: FileKind },
-    /// The texts ask for what is not built yet.
-    NotBuilt,
 }

@@ -182,7 +182,6 @@ fn fault_lines_are_those_of_the_format(rt: HostRuntime) -> Result<(), Fail> {
             "over limit 5 4097\n",
         ),
         (RunFault::Read { file: model }, "read fault model\n"),
-        (RunFault::NotBuilt, "not built\n"),
     ] {
         let text = fault_line(rt.alloc(), fault)?;
         assert!(rt; text.as_slice() == line.as_bytes(), "{line}");

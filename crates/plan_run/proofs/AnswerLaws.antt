@@ -15,14 +15,17 @@ use Rattle.plan_run.specs.declared.command.Command.{Command}
 use Rattle.plan_run.specs.declared.command.Command.TheVariants.{Plan, Check, Verify}
 use Rattle.plan_run.specs.declared.stop.Stop.{Stop}
 use Rattle.plan_run.specs.declared.stop.Stop.TheVariants as stops
-use Rattle.plan_run.specs.Words.{asked_in, text_count}
+use Rattle.plan_run.specs.Words.{budget_of, command_named, command_on_plan, asked_in, text_count}
+use Rattle.plan_run.specs.declared.command.TheConstants.{DEFAULT_BUDGET}
 use Rattle.plan_run.specs.Refusals.{IsRead, IsPlanRead, AreRead, HoldsOfTexts, AreRefused, IsRefusal, status_of}
 use Rattle.plan_run.specs.declared.status.Status.{Status}
-use Rattle.plan_run.specs.declared.status.Status.TheVariants.{Good, Usage, BadText, Unsupported, OverLimit, ReadFault, WriteFault, OutOfMemory, Infeasible, Rejected, NotBuilt}
+use Rattle.plan_run.specs.declared.status.Status.TheVariants.{Good, Usage, BadText, Unsupported, OverLimit, ReadFault, WriteFault, OutOfMemory, Infeasible, Undecided, Rejected}
 use Rattle.proof_tree.specs.declared.plan.Plan.{Plan as AnyPlan}
+use Rattle.proof_tree.specs.declared.plan.PlanStatus.{PlanStatus}
+use Rattle.proof_tree.specs.declared.plan.PlanStatus.TheVariants as claims
 use Rattle.plan_base.specs.declared.parts.Parts.{Parts}
-use Rattle.plan_run.specs.Runs.{Writes, IsDone, IsAnswer, Says}
-use Rattle.plan_run.specs.Stops.{RisesAtMost, IsUnread, IsPlanUnread, plan_count, IsShortEnough, IsTextStop, IsStop, IsFoundOf}
+use Rattle.plan_run.specs.Runs.{status_of_plan, Writes, IsDone, IsDoneSo, IsAnswer, Says}
+use Rattle.plan_run.specs.Stops.{RisesAtMost, IsUnread, IsPlanUnread, plan_count, IsTextStop, IsStop, IsFoundOf}
 
 -- ---- how many texts are named
 
@@ -31,31 +34,43 @@ abbrev counted : Option (Command (List ℕ) × (List ℕ × List ℕ)) → ℕ
 counted None = 0
 counted (Some asked) = text_count asked.0 + 1
 
-two-named : (is_plan is_check : Bool) (names : List ℕ × List ℕ) (asked : Command (List ℕ) × (List ℕ × List ℕ)) → option_map (λ (command : Command (List ℕ)). (command, names)) (if is_plan then Some Plan else if is_check then Some Check else None) ≡ Some asked → 3 ≡ text_count asked.0 + 1
-two-named true is_check names asked is = ap counted is
-two-named false true names asked is = ap counted is
-two-named false false names asked is = absurd cc
+two-named : (budget : ℕ) (is_plan is_check : Bool) (names : List ℕ × List ℕ) (asked : Command (List ℕ) × (List ℕ × List ℕ)) → option_map (λ (command : Command (List ℕ)). (command, names)) (if is_plan then Some (Plan budget) else if is_check then Some Check else None) ≡ Some asked → text_count asked.0 + 1 ≡ 3
+two-named budget true is_check names asked is = sym (ap counted is)
+two-named budget false true names asked is = sym (ap counted is)
+two-named budget false false names asked is = absurd cc
 
-three-named : (is_verify : Bool) (plan : List ℕ) (names : List ℕ × List ℕ) (asked : Command (List ℕ) × (List ℕ × List ℕ)) → option_map (λ (command : Command (List ℕ)). (command, names)) (if is_verify then Some (Verify plan) else None) ≡ Some asked → 4 ≡ text_count asked.0 + 1
-three-named true plan names asked is = ap counted is
+three-named : (is_verify : Bool) (plan : List ℕ) (names : List ℕ × List ℕ) (asked : Command (List ℕ) × (List ℕ × List ℕ)) → option_map (λ (command : Command (List ℕ)). (command, names)) (if is_verify then Some (Verify plan) else None) ≡ Some asked → text_count asked.0 + 1 ≡ 4
+three-named true plan names asked is = sym (ap counted is)
 three-named false plan names asked is = absurd cc
 
--- the words are the command and the names of its texts
-pub word-count : (words : List (List ℕ)) (asked : Command (List ℕ) × (List ℕ × List ℕ)) → asked_in words ≡ Some asked → length words ≡ text_count asked.0 + 1
+within-named : (is_plan : Bool) (budget : Option ℕ) (names : List ℕ × List ℕ) (asked : Command (List ℕ) × (List ℕ × List ℕ)) → option_map (λ (command : Command (List ℕ)). (command, names)) (if is_plan then option_map (λ number. Plan number) budget else None) ≡ Some asked → text_count asked.0 + 1 ≡ 3
+within-named true (Some budget) names asked is = sym (ap counted is)
+within-named true None names asked is = absurd cc
+within-named false budget names asked is = absurd cc
+
+at-most : (count all : ℕ) → count ≡ all → count ≤ all
+at-most count all is = omega (arith, is)
+
+three-of-five : (count : ℕ) → count ≡ 3 → count ≤ 5
+three-of-five count is = omega (arith, is)
+
+-- the words are the command, the names of its texts, and maybe an option
+pub word-count : (words : List (List ℕ)) (asked : Command (List ℕ) × (List ℕ × List ℕ)) → asked_in words ≡ Some asked → text_count asked.0 + 1 ≤ length words
 word-count [] asked is = absurd cc
 word-count (a ∷ []) asked is = absurd cc
 word-count (a ∷ b ∷ []) asked is = absurd cc
-word-count (word ∷ network ∷ model ∷ []) asked is = two-named (bytes_eq word (codes "plan")) (bytes_eq word (codes "check")) (network, model) asked is
-word-count (word ∷ network ∷ model ∷ plan ∷ []) asked is = three-named (bytes_eq word (codes "verify")) plan (network, model) asked is
-word-count (a ∷ b ∷ c ∷ d ∷ e ∷ more) asked is = absurd cc
+word-count (word ∷ network ∷ model ∷ []) asked is = at-most (text_count asked.0 + 1) 3 (two-named DEFAULT_BUDGET (bytes_eq word (codes "plan")) (bytes_eq word (codes "check")) (network, model) asked is)
+word-count (word ∷ network ∷ model ∷ plan ∷ []) asked is = at-most (text_count asked.0 + 1) 4 (three-named (bytes_eq word (codes "verify")) plan (network, model) asked is)
+word-count (word ∷ network ∷ model ∷ option ∷ number ∷ []) asked is = three-of-five (text_count asked.0 + 1) (within-named (bytes_eq word (codes "plan")) (budget_of option number) (network, model) asked is)
+word-count (a ∷ b ∷ c ∷ d ∷ e ∷ f ∷ more) asked is = absurd cc
 
 pub all-texts : (command : Command (List ℕ)) → text_count command ≡ 2 + plan_count command
-all-texts Plan = refl
+all-texts (Plan budget) = refl
 all-texts Check = refl
 all-texts (Verify plan) = refl
 
--- the words of a run are one more than the texts that they name
-pub names-count : {X : Type 0} (f : X → List ℕ) (words : List X) (asked : Command (List ℕ) × (List ℕ × List ℕ)) → asked_in (map f words) ≡ Some asked → length words ≡ 3 + plan_count asked.0
+-- the words of a run are more than the texts that they name
+pub names-count : {X : Type 0} (f : X → List ℕ) (words : List X) (asked : Command (List ℕ) × (List ℕ × List ℕ)) → asked_in (map f words) ≡ Some asked → 3 + plan_count asked.0 ≤ length words
 names-count f words asked is = omega (arith, word-count (map f words) asked is, length-map words f, all-texts asked.0)
 
 counts-up : (before now : ℕ) → CountsUp before now → (before < 2 ^ 63) ⊎ (2 ^ 63 ≤ before) → (before ≤ now) × (now ≤ before + 1)
@@ -63,7 +78,7 @@ counts-up before now up (inl below) = let is : now ≡ before + 1 = up.below bel
 counts-up before now up (inr above) = let is : now ≡ before = up.at_end above in (omega arith, omega arith)
 
 -- two texts and the plan's are as many as are named
-pub all-begun : (count words first second third last : ℕ) → CountsUp first second → CountsUp second third → RisesAtMost count third last → words ≡ 3 + count → RisesAtMost (words - 1) first last
+pub all-begun : (count words first second third last : ℕ) → CountsUp first second → CountsUp second third → RisesAtMost count third last → 3 + count ≤ words → RisesAtMost (words - 1) first last
 all-begun count words first second third last one other rest named =
     let a : (first ≤ second) × (second ≤ first + 1) = counts-up first second one (cases_lt first (2 ^ 63)) in
     let b : (second ≤ third) × (third ≤ second + 1) = counts-up second third other (cases_lt second (2 ^ 63)) in
@@ -82,7 +97,7 @@ unread-model words shelf asked network (stops.Refused fault) is first (inr long)
 unread-model words shelf asked network stops.OutOfMemory is first unread = omega (arith, word-count words asked is, all-texts asked.0)
 
 pub unread-plan : (words : List (List ℕ)) (shelf : List ℕ → Option (List ℕ)) (command : Command (List ℕ)) (names : List ℕ × List ℕ) (network model : List ℕ) (stop : Stop) → asked_in words ≡ Some (command, names) → IsRead shelf files.Network names.0 network → IsRead shelf files.Model names.1 model → IsPlanUnread shelf command stop → IsStop words shelf (2 + plan_count command) stop
-unread-plan words shelf Plan names network model stop is first second unread = absurd unread
+unread-plan words shelf (Plan budget) names network model stop is first second unread = absurd unread
 unread-plan words shelf Check names network model stop is first second unread = absurd unread
 unread-plan words shelf (Verify name) names network model (stops.Refused fault) is first second (inl read) = rw (read, is) record { name = name; named = refl; place = (refl, (network, first), (model, second)) }
 unread-plan words shelf (Verify name) names network model (stops.Refused fault) is first second (inr long) = rw (long.0, is) record { name = name; named = refl; place = (refl, (network, first), (model, second)); longer = long.1 }
@@ -98,24 +113,11 @@ refused-found words shelf asked begun command network model (faults.LoopLink lin
 refused-found words shelf asked begun command network model (faults.LoopDemand demand) is read refused = rw is record { command = command; network = network; model = model; read = read; holds = refused }
 refused-found words shelf asked begun command network model (faults.Unsupported key value) is read refused = rw is record { command = command; network = network; model = model; read = read; holds = refused }
 refused-found words shelf asked begun command network model (faults.OverLimit limit at) is read refused = rw is record { command = command; network = network; model = model; read = read; holds = refused }
-refused-found words shelf asked begun command network model faults.NotBuilt is read refused = rw is record { command = command; network = network; model = model; read = read; holds = refused }
 
 pub done-found : (words : List (List ℕ)) (shelf : List ℕ → Option (List ℕ)) (asked : Command (List ℕ) × (List ℕ × List ℕ)) (begun : ℕ) (command : Command (List ℕ)) (network model : List ℕ) (result : Result Answer Stop) → asked_in words ≡ Some asked → AreRead shelf asked begun command network model → IfOk result (λ answer. IsDone command network model answer.status answer.text.items) → IfErr result (IsTextStop command network model) → IsFoundOf words shelf begun result
 done-found words shelf asked begun command network model (Ok answer) is read done stop = rw is record { command = command; network = network; model = model; read = read; holds = done }
 done-found words shelf asked begun command network model (Err (stops.Refused fault)) is read done stop = refused-found words shelf asked begun command network model fault is read stop
 done-found words shelf asked begun command network model (Err stops.OutOfMemory) is read done stop = omega (arith, word-count words asked is, read.all)
-
--- a plan text that was read is within its limit
-pub short-enough : (shelf : List ℕ → Option (List ℕ)) (named command : Command (List ℕ)) → IsPlanRead shelf named command → IsShortEnough command
-short-enough shelf Plan Plan read = tt
-short-enough shelf Plan Check read = absurd read
-short-enough shelf Plan (Verify text) read = absurd read
-short-enough shelf Check Plan read = absurd read
-short-enough shelf Check Check read = tt
-short-enough shelf Check (Verify text) read = absurd read
-short-enough shelf (Verify name) Plan read = absurd read
-short-enough shelf (Verify name) Check read = absurd read
-short-enough shelf (Verify name) (Verify text) read = read.within
 
 pub Appends-nothing : (held : Option (List ℕ)) → Appends held held []
 Appends-nothing None = tt
@@ -134,11 +136,16 @@ refused-status (faults.Unsupported key value) = (λ same. cc, λ same. cc)
 refused-status (faults.TooLong file) = (λ same. cc, λ same. cc)
 refused-status (faults.OverLimit limit at) = (λ same. cc, λ same. cc)
 refused-status (faults.Read file) = (λ same. cc, λ same. cc)
-refused-status faults.NotBuilt = (λ same. cc, λ same. cc)
+
+-- no plan has the status of a write fault or of want of memory
+plan-status : (claimed : PlanStatus) → (WriteFault ≡ status_of_plan claimed → ⊥) × (OutOfMemory ≡ status_of_plan claimed → ⊥)
+plan-status claims.Optimal = (λ same. cc, λ same. cc)
+plan-status claims.Infeasible = (λ same. cc, λ same. cc)
+plan-status claims.Undecided = (λ same. cc, λ same. cc)
 
 -- no command ends with a write fault or with want of memory
 done-status : (made : Command AnyPlan) (parts : Parts) (bytes : List ℕ) → (Writes made parts WriteFault bytes → ⊥) × (Writes made parts OutOfMemory bytes → ⊥)
-done-status Plan parts bytes = (λ no. no, λ no. no)
+done-status (Plan budget) parts bytes = (λ planned. (plan-status planned.plan.status).0 planned.is_status, λ planned. (plan-status planned.plan.status).1 planned.is_status)
 done-status Check parts bytes = (λ no. no, λ no. no)
 done-status (Verify plan) parts bytes = (λ no. no, λ no. no)
 
@@ -160,7 +167,7 @@ says_answer words shelf begun OverLimit bytes is = is
 says_answer words shelf begun ReadFault bytes is = is
 says_answer words shelf begun Infeasible bytes is = is
 says_answer words shelf begun Rejected bytes is = is
-says_answer words shelf begun NotBuilt bytes is = is
+says_answer words shelf begun Undecided bytes is = is
 says_answer words shelf begun WriteFault bytes (inl refused) = absurd ((refused-status refused.fault).0 (sym refused.is_status))
 says_answer words shelf begun WriteFault bytes (inr done) = absurd (no-write-fault words shelf begun (asked_in words) bytes done)
 says_answer words shelf begun OutOfMemory bytes (inl refused) = absurd ((refused-status refused.fault).1 (sym refused.is_status))

@@ -1,4 +1,6 @@
-mod Lists
+mod Budgets
+mod SearchLaws
+mod Supported
 mod StopLaws
 mod AnswerLaws
 mod OneRefusal

@@ -1,5 +1,5 @@
 -- Why two texts are refused, from what the readers and the checks ensure.
-use Rattle.std.proofs.Common.{ℕ, ◌≡◌, List, Result, Ok, Err, refl, inl, inr}
+use Rattle.std.proofs.Common.{ℕ, ◌≡◌, List, Result, Ok, Err, refl, subst, inl, inr}
 use Rattle.std.specs.Prelude.{IfOk, IfErr}
 use Rattle.plan_base.specs.declared.parts.Parts.{Parts}
 use Rattle.plan_base.specs.declared.build_fault.BuildFault.TheVariants as build
@@ -28,10 +28,11 @@ use Rattle.plan_run.specs.declared.command.Command.{Command}
 use Rattle.plan_run.specs.declared.command.Command.TheVariants.{Plan, Check, Verify}
 use Rattle.plan_run.specs.declared.stop.Stop.{Stop}
 use Rattle.plan_run.specs.declared.stop.Stop.TheVariants as stops
-use Rattle.plan_run.specs.Refusals.{Reads, SpellsItsPlan, HasFewSteps, misplaced, ended}
-use Rattle.plan_run.specs.declared.answer.Answer.{Answer}
+use Rattle.plan_run.specs.Refusals.{Reads, SpellsItsPlan, HasItsPlan, HasFewSteps, misplaced, ended}
+use Rattle.plan_run.specs.declared.status.Status.{Status}
+use Rattle.plan_run.specs.Searches.{IsBudget}
 use Rattle.plan_run.specs.Runs.{Writes, IsDone}
-use Rattle.plan_run.specs.Stops.{FitsItsPlan, AreSpelling, stop_of_text, stop_of_plan, stop_of_check, stop_of_steps, IsTextStop, IsNetworkStop, IsModelStop, IsPlanTextStop, IsCommandTextStop, IsFileStop, IsCommandStop}
+use Rattle.plan_run.specs.Stops.{IsWithinLimits, FitsItsPlan, AreSpelling, stop_of_text, stop_of_plan, stop_of_check, stop_of_steps, IsTextStop, IsNetworkStop, IsModelStop, IsPlanTextStop, IsCommandTextStop, IsFileStop}
 
 pub network-stop : (text : List ℕ) (fault : TextFault) → IsNetworkFault text fault → IsNetworkStop text (stop_of_text files.Network fault)
 network-stop text OutOfMemory is = tt
@@ -72,7 +73,7 @@ model-refused command network model stops.OutOfMemory net spelt is = tt
 
 -- a refused plan text refuses the texts, where the others are spelt
 pub plan-refused : (command : Command (List ℕ)) (network model : List ℕ) (stop : Stop) (net : NetworkFile) (options : ModelFile) → SpellsNetwork network net → SpellsModel model options → IsCommandTextStop command stop → IsTextStop command network model stop
-plan-refused Plan network model stop net options first second is = rw is tt
+plan-refused (Plan budget) network model stop net options first second is = rw is tt
 plan-refused Check network model stop net options first second is = rw is tt
 plan-refused (Verify text) network model (stops.Refused fault) net options first second (rule, at, is, bad) = rw is (record { net = net; options = options; network_text = first; model_text = second }, bad)
 plan-refused (Verify text) network model stops.OutOfMemory net options first second is = tt
@@ -98,31 +99,17 @@ pub steps-refused : (command : Command (List ℕ)) (network model : List ℕ) (m
 steps-refused command network model made parts (step_faults.TooManySteps link) reads plan first = inr record { ninth = refl; parts = parts; reads = reads; plan_text = (made, plan); first = first }
 steps-refused command network model made parts step_faults.OutOfMemory reads plan is = tt
 
--- a command that plans is one in its text
-same-command : (command : Command (List ℕ)) (made : Command AnyPlan) → SpellsItsPlan command made → made ≡ Plan → command ≡ Plan
-same-command Plan made spelt is = refl
-same-command Check Plan spelt is = absurd spelt
-same-command Check Check spelt is = absurd cc
-same-command Check (Verify plan) spelt is = absurd spelt
-same-command (Verify text) Plan spelt is = absurd spelt
-same-command (Verify text) Check spelt is = absurd spelt
-same-command (Verify text) (Verify plan) spelt is = absurd cc
-
-pub command-refused : (command : Command (List ℕ)) (network model : List ℕ) (made : Command AnyPlan) (parts : Parts) (stop : Stop) → Reads network model parts → SpellsItsPlan command made → HasFewSteps parts → IsCommandStop made parts stop → IsTextStop command network model stop
-command-refused command network model made parts (stops.Refused fault) reads plan few (planned, is, demands) = rw is record { planned = same-command command made plan planned; parts = parts; reads = reads; few_steps = few; demands = demands }
-command-refused command network model made parts stops.OutOfMemory reads plan few is = tt
-
--- a plan that a text spells is of the sizes that a text can spell
-pub spelt-fits : (command : Command (List ℕ)) (made : Command AnyPlan) → SpellsItsPlan command made → FitsItsPlan made
-spelt-fits Plan Plan spelt = tt
-spelt-fits Plan Check spelt = absurd spelt
-spelt-fits Plan (Verify plan) spelt = absurd spelt
-spelt-fits Check Plan spelt = absurd spelt
-spelt-fits Check Check spelt = tt
-spelt-fits Check (Verify plan) spelt = absurd spelt
-spelt-fits (Verify text) Plan spelt = absurd spelt
-spelt-fits (Verify text) Check spelt = absurd spelt
-spelt-fits (Verify text) (Verify plan) spelt = spelt.spellable
+-- a plan that a text spells is of the sizes that a text can spell, and a budget stays the same
+pub spelt_fits : (command : Command (List ℕ)) (made : Command AnyPlan) → IsWithinLimits command → SpellsItsPlan command made → FitsItsPlan made
+spelt_fits (Plan budget) (Plan other) within same = subst IsBudget same within
+spelt_fits (Plan budget) Check within spelt = absurd spelt
+spelt_fits (Plan budget) (Verify plan) within spelt = absurd spelt
+spelt_fits Check (Plan budget) within spelt = absurd spelt
+spelt_fits Check Check within spelt = tt
+spelt_fits Check (Verify plan) within spelt = absurd spelt
+spelt_fits (Verify text) (Plan budget) within spelt = absurd spelt
+spelt_fits (Verify text) Check within spelt = absurd spelt
+spelt_fits (Verify text) (Verify plan) within spelt = spelt.spellable
 
 -- ---- where a step ends a run
 
@@ -145,11 +132,6 @@ pub steps-end : {T : Type 0} (command : Command (List ℕ)) (network model : Lis
 steps-end command network model made parts (Ok x) reads plan h = tt
 steps-end command network model made parts (Err stop) reads plan h = steps-stop command network model made parts stop reads plan h
 
-pub command-ends : {T : Type 0} (command : Command (List ℕ)) (network model : List ℕ) (made : Command AnyPlan) (parts : Parts) (result : Result T Stop) → Reads network model parts → SpellsItsPlan command made → HasFewSteps parts → IfErr result (IsCommandStop made parts) → IfErr result (IsTextStop command network model)
-command-ends command network model made parts (Ok x) reads plan few h = tt
-command-ends command network model made parts (Err stop) reads plan few h = command-refused command network model made parts stop reads plan few h
-
 -- what is written of an instance and a plan is what is done for the texts
-pub work-done : (command : Command (List ℕ)) (network model : List ℕ) (made : Command AnyPlan) (parts : Parts) (result : Result Answer Stop) → Reads network model parts → SpellsItsPlan command made → HasFewSteps parts → IfOk result (λ answer. Writes made parts answer.status answer.text.items) → IfOk result (λ answer. IsDone command network model answer.status answer.text.items)
-work-done command network model made parts (Ok answer) reads plan few h = record { made = made; parts = parts; reads = reads; plan_text = plan; few_steps = few; writes = h }
-work-done command network model made parts (Err stop) reads plan few h = tt
+pub work-done : (command : Command (List ℕ)) (network model : List ℕ) (made : Command AnyPlan) (parts : Parts) (status : Status) (bytes : List ℕ) → Reads network model parts → SpellsItsPlan command made → HasFewSteps parts → Writes made parts status bytes → IsDone command network model status bytes
+work-done command network model made parts status bytes reads plan few writes = record { made = made; parts = parts; reads = reads; plan_text = plan; few_steps = few; writes = writes }

@@ -1,6 +1,7 @@
 pub mod Words
-pub mod Lines
+pub mod Searches
 pub mod Refusals
 pub mod Runs
+pub mod Supports
 pub mod Stops
 pub mod OneAnswer

@@ -44,7 +44,6 @@ status_of (faults.Unsupported key value) = statuses.Unsupported
 status_of (faults.TooLong file) = statuses.OverLimit
 status_of (faults.OverLimit limit at) = statuses.OverLimit
 status_of (faults.Read file) = statuses.ReadFault
-status_of faults.NotBuilt = statuses.NotBuilt
 
 -- ---- what texts stand for
 
@@ -57,9 +56,9 @@ pub record Reads (network model : List ℕ) (parts : Parts) : Type 0 where
   pub stands : ReadsAs net options parts
   pub lawful : IsInstance parts
 
--- the plan text of a command, where it has one, spells the plan of the other
+-- the plan text of a command, where it has one, spells the plan of the other; a budget is the same
 abbrev pub SpellsItsPlan : Command (List ℕ) → Command AnyPlan → Type 0
-SpellsItsPlan Plan Plan = Unit {0}
+SpellsItsPlan (Plan budget) (Plan same) = budget ≡ same
 SpellsItsPlan Check Check = Unit {0}
 SpellsItsPlan (Verify text) (Verify plan) = SpellsPlan text plan
 SpellsItsPlan command made = ⊥
@@ -108,14 +107,6 @@ pub record IsPastSteps (command : Command (List ℕ)) (network model : List ℕ)
   pub plan_text : HasItsPlan command
   pub first : IsFirstPastSteps parts at
 
--- the texts spell an instance within its limits, which is to be planned and has not exactly one demand
-pub record IsNotBuilt (command : Command (List ℕ)) (network model : List ℕ) : Type 0 where
-  pub planned : command ≡ Plan
-  pub parts : Parts
-  pub reads : Reads network model parts
-  pub few_steps : HasFewSteps parts
-  pub demands : length parts.demands ≢ 1
-
 -- the texts of a command are refused so
 abbrev pub AreRefused : Command (List ℕ) → List ℕ → List ℕ → RunFault → Type 0
 AreRefused command network model (faults.Text files.Network fault) = IsNetworkFault network fault × (fault ≢ text_faults.OutOfMemory)
@@ -125,7 +116,6 @@ AreRefused command network model (faults.LoopLink link) = IsMisfit command netwo
 AreRefused command network model (faults.LoopDemand demand) = IsMisfit command network model (check_faults.Build (build.LoopDemand demand))
 AreRefused command network model (faults.Unsupported key value) = IsMisfit command network model (check_faults.Unsupported key value)
 AreRefused command network model (faults.OverLimit limit at) = IsMisfit command network model (check_faults.Build (build.OverLimit limit at)) ⊎ IsPastSteps command network model limit at
-AreRefused command network model faults.NotBuilt = IsNotBuilt command network model
 AreRefused command network model fault = ⊥
 
 -- ---- how texts come in
@@ -141,9 +131,9 @@ pub record IsRead (shelf : List ℕ → Option (List ℕ)) (file : FileKind) (na
   pub told : IfSome (shelf name) (λ told. text ≡ told)
   pub within : length text ≤ most_bytes file
 
--- the plan text was read, where the command names one
+-- the plan text was read, where the command names one; a budget is the same
 abbrev pub IsPlanRead : (List ℕ → Option (List ℕ)) → Command (List ℕ) → Command (List ℕ) → Type 0
-IsPlanRead shelf Plan Plan = Unit {0}
+IsPlanRead shelf (Plan budget) (Plan same) = budget ≡ same
 IsPlanRead shelf Check Check = Unit {0}
 IsPlanRead shelf (Verify name) (Verify text) = IsRead shelf files.Plan name text
 IsPlanRead shelf named command = ⊥

@@ -2,11 +2,11 @@
 use Rattle.std.specs.Prelude.{ℕ, ◌≡◌, ◌≢◌, ◌+◌, ◌-◌, ◌^◌, ◌<◌, ◌≤◌, ◌⊎◌, List, [], length, take, Option, Some, IsSomeAnd}
 use Rattle.std.specs.Io.KnownBytes.{Appends}
 use Rattle.plan_base.specs.declared.parts.Parts.{Parts}
-use Rattle.plan_base.specs.declared.path.Design.{Design}
-use Rattle.plan_base.specs.Designs.{IsInShape, cost_of}
-use Rattle.plan_base.specs.Claims.{IsOptimal, HasNoDesign}
 use Rattle.proof_tree.specs.declared.plan.Plan.{Plan as AnyPlan}
+use Rattle.proof_tree.specs.declared.plan.PlanStatus.{PlanStatus}
+use Rattle.proof_tree.specs.declared.plan.PlanStatus.TheVariants as claims
 use Rattle.proof_tree.specs.Plans.{IsValidPlan, HasItsClaim}
+use Rattle.cert_format.specs.Grammar.{SpellsPlan}
 use Rattle.cert_verifier.specs.declared.rejected.Rejected.{Rejected as Rejection}
 use Rattle.cert_verifier.specs.declared.rejected.Rejected.TheVariants as rejections
 use Rattle.cert_verifier.specs.PlanRules.{PlanFinds}
@@ -16,19 +16,25 @@ use Rattle.plan_report.specs.Verdicts.{accepted_line, rejected_line}
 use Rattle.plan_run.specs.declared.command.Command.{Command}
 use Rattle.plan_run.specs.declared.command.Command.TheVariants.{Plan, Check, Verify}
 use Rattle.plan_run.specs.declared.status.Status.{Status}
-use Rattle.plan_run.specs.declared.status.Status.TheVariants.{Good, BadText, Unsupported, OverLimit, WriteFault, OutOfMemory, Infeasible, Rejected, NotBuilt}
+use Rattle.plan_run.specs.declared.status.Status.TheVariants.{Good, BadText, Unsupported, OverLimit, WriteFault, OutOfMemory, Infeasible, Undecided, Rejected}
 use Rattle.plan_run.specs.Words.{asked_in}
-use Rattle.plan_run.specs.Lines.{plan_text, infeasible_text}
+use Rattle.plan_run.specs.Searches.{IsSearched}
 use Rattle.plan_run.specs.Refusals.{status_of, Reads, SpellsItsPlan, HasFewSteps, HoldsOfTexts, IsRefusal}
 
 -- ---- what the commands write
 
--- the first text of an optimal design of the instance, and of its cost
-pub record IsOptimalText (parts : Parts) (bytes : List ℕ) : Type 0 where
-  pub design : Design
-  pub optimal : IsOptimal parts design
-  pub in_shape : IsInShape parts design
-  pub text : bytes ≡ plan_text design (cost_of parts design)
+-- how a run ends that writes a plan of this status
+abbrev pub status_of_plan : PlanStatus → Status
+status_of_plan claims.Optimal = Good
+status_of_plan claims.Infeasible = Infeasible
+status_of_plan claims.Undecided = Undecided
+
+-- the text of a plan that a search gives for the instance and the budget, with the status of that plan
+pub record IsPlanned (parts : Parts) (budget : ℕ) (status : Status) (bytes : List ℕ) : Type 0 where
+  pub plan : AnyPlan
+  pub text : SpellsPlan bytes plan
+  pub searched : IsSearched parts budget plan
+  pub is_status : status ≡ status_of_plan plan.status
 
 -- the plan is a valid one of the instance, so what it claims is so, and this line says it
 pub record IsAcceptance (parts : Parts) (plan : AnyPlan) (bytes : List ℕ) : Type 0 where
@@ -46,8 +52,7 @@ pub record IsRejection (parts : Parts) (plan : AnyPlan) (bytes : List ℕ) : Typ
 
 -- what a command writes of an instance, and the status that goes with it
 abbrev pub Writes : Command AnyPlan → Parts → Status → List ℕ → Type 0
-Writes Plan parts Good bytes = IsOptimalText parts bytes
-Writes Plan parts Infeasible bytes = HasNoDesign parts × (bytes ≡ infeasible_text)
+Writes (Plan budget) parts status bytes = IsPlanned parts budget status bytes
 Writes Check parts Good bytes = IsCheckLine parts bytes
 Writes (Verify plan) parts Good bytes = IsAcceptance parts plan bytes
 Writes (Verify plan) parts Rejected bytes = IsRejection parts plan bytes
@@ -106,4 +111,4 @@ pub record IsRun (words : List (List ℕ)) (shelf : List ℕ → Option (List �
 
 -- an answer to words that are read, where nothing outside fails
 abbrev pub IsOwnAnswer : Status → Type 0
-IsOwnAnswer status = (status ≡ Good) ⊎ (status ≡ Infeasible) ⊎ (status ≡ Rejected) ⊎ (status ≡ BadText) ⊎ (status ≡ Unsupported) ⊎ (status ≡ OverLimit) ⊎ (status ≡ NotBuilt) ⊎ (status ≡ OutOfMemory)
+IsOwnAnswer status = (status ≡ Good) ⊎ (status ≡ Infeasible) ⊎ (status ≡ Undecided) ⊎ (status ≡ Rejected) ⊎ (status ≡ BadText) ⊎ (status ≡ Unsupported) ⊎ (status ≡ OverLimit) ⊎ (status ≡ OutOfMemory)

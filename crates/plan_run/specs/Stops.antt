@@ -30,8 +30,9 @@ use Rattle.plan_run.specs.declared.command.Command.{Command}
 use Rattle.plan_run.specs.declared.command.Command.TheVariants.{Plan, Check, Verify}
 use Rattle.plan_run.specs.declared.stop.Stop.{Stop}
 use Rattle.plan_run.specs.declared.stop.Stop.TheVariants.{Refused, OutOfMemory}
-use Rattle.plan_run.specs.Refusals.{SpellsItsPlan, IsPlanFault, AreRefused, most_bytes, IsRefusal}
+use Rattle.plan_run.specs.Refusals.{SpellsItsPlan, IsPlanFault, AreRefused, IsPlanRead, most_bytes, IsRefusal}
 use Rattle.plan_run.specs.Runs.{IsAnswer, IsDoneSo}
+use Rattle.plan_run.specs.Searches.{IsBudget}
 
 -- where a text is not read by its grammar
 abbrev pub stop_of_text : FileKind → TextFault → Stop
@@ -68,19 +69,25 @@ stop_of_reading file read.OutOfMemory = OutOfMemory
 
 -- the command with the bytes of its plan text
 abbrev pub command_bytes : {Z : Type 0} → Command (Vec ℕ Z) → Command (List ℕ)
-command_bytes Plan = Plan
+command_bytes (Plan budget) = Plan budget
 command_bytes Check = Check
 command_bytes (Verify text) = Verify text.items
 
--- the plan text of a command, where it has one, is within its limit
-abbrev pub IsShortEnough : Command (List ℕ) → Type 0
-IsShortEnough Plan = Unit {0}
-IsShortEnough Check = Unit {0}
-IsShortEnough (Verify text) = length text ≤ most_bytes files.Plan
+-- the budget of a command, where it has one, may be given
+abbrev pub HasBudget : {P : Type 0} → Command P → Type 0
+HasBudget (Plan budget) = IsBudget budget
+HasBudget Check = Unit {0}
+HasBudget (Verify plan) = Unit {0}
 
--- the plan of a command, where it has one, is of the sizes that a text can spell
+-- the budget of a command, where it has one, may be given, and the plan text, where it has one, is within its limit
+abbrev pub IsWithinLimits : Command (List ℕ) → Type 0
+IsWithinLimits (Plan budget) = IsBudget budget
+IsWithinLimits Check = Unit {0}
+IsWithinLimits (Verify text) = length text ≤ most_bytes files.Plan
+
+-- the budget of a command, where it has one, may be given, and its plan, where it has one, is of the sizes that a text can spell
 abbrev pub FitsItsPlan : Command AnyPlan → Type 0
-FitsItsPlan Plan = Unit {0}
+FitsItsPlan (Plan budget) = IsBudget budget
 FitsItsPlan Check = Unit {0}
 FitsItsPlan (Verify plan) = IsSpellable plan
 
@@ -113,23 +120,13 @@ IsPlanTextStop text OutOfMemory = Unit {0}
 
 -- the plan text of a command is refused so
 abbrev pub IsCommandTextStop : Command (List ℕ) → Stop → Type 0
-IsCommandTextStop Plan stop = stop ≡ OutOfMemory
+IsCommandTextStop (Plan budget) stop = stop ≡ OutOfMemory
 IsCommandTextStop Check stop = stop ≡ OutOfMemory
 IsCommandTextStop (Verify text) stop = IsPlanTextStop text stop
 
 -- the files stand for no instance
 abbrev pub IsFileStop : NetworkFile → ModelFile → Stop → Type 0
 IsFileStop net options stop = (fault : CheckFault) × (stop ≡ stop_of_check fault) × CanCome fault × IsCheckFault net options fault
-
--- the instance has not exactly one demand
-abbrev pub IsPlanStop : Parts → Stop → Type 0
-IsPlanStop p (Refused fault) = (fault ≡ faults.NotBuilt) × (length p.demands ≢ 1)
-IsPlanStop p OutOfMemory = Unit {0}
-
--- what a command does not do for an instance
-abbrev pub IsCommandStop : Command AnyPlan → Parts → Stop → Type 0
-IsCommandStop made p (Refused fault) = (made ≡ Plan) × (fault ≡ faults.NotBuilt) × (length p.demands ≢ 1)
-IsCommandStop made p OutOfMemory = Unit {0}
 
 -- ---- how texts come in
 
@@ -140,13 +137,13 @@ IsUnread shelf name file OutOfMemory = Unit {0}
 
 -- why the plan text of a command does not come in
 abbrev pub IsPlanUnread : (List ℕ → Option (List ℕ)) → Command (List ℕ) → Stop → Type 0
-IsPlanUnread shelf Plan stop = ⊥
+IsPlanUnread shelf (Plan budget) stop = ⊥
 IsPlanUnread shelf Check stop = ⊥
 IsPlanUnread shelf (Verify name) stop = IsUnread shelf name files.Plan stop
 
 -- how many texts were begun for the plan of a command
 abbrev pub plan_count : {P : Type 0} → Command P → ℕ
-plan_count Plan = 0
+plan_count (Plan budget) = 0
 plan_count Check = 0
 plan_count (Verify plan) = 1
 

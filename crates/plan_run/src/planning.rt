@@ -6,32 +6,32 @@ ghost use Rattle.snd_network.specs.Spelling.{SpellsNetwork};
 ghost use Rattle.snd_network.specs.WellFormed.{IsWellFormed};
 ghost use Rattle.snd_model.specs.Spelling.{SpellsModel};
 ghost use Rattle.plan_run.specs.declared.command.Command.TheVariants as commands;
-ghost use Rattle.plan_run.specs.declared.stop.Stop.TheVariants as stops;
 ghost use Rattle.model_check.specs.Reading.{ReadsAs};
 ghost use Rattle.proof_tree.specs.Spellings.{IsSpellable};
 ghost use Rattle.cert_format.specs.Grammar.{SpellsPlan};
 ghost use Rattle.plan_run.specs.Refusals.{SpellsItsPlan};
 ghost use Rattle.plan_run.specs.Runs.{IsDone, Writes};
-ghost use Rattle.plan_run.specs.Stops.{command_bytes, IsShortEnough, FitsItsPlan, AreSpelling, IsNetworkStop, IsModelStop, IsPlanTextStop, IsCommandTextStop, IsFileStop, IsTextStop, IsPlanStop, IsCommandStop};
+ghost use Rattle.plan_run.specs.Stops.{command_bytes, IsWithinLimits, FitsItsPlan, AreSpelling, IsNetworkStop, IsModelStop, IsPlanTextStop, IsCommandTextStop, IsFileStop, IsTextStop};
+ghost use Rattle.plan_run.specs.Searches.{IsBudget};
 
 use crate::answer::Answer;
 use crate::command::Command;
-use crate::plan_lines::plan_text;
 use crate::reading::MAX_TEXT_BYTES;
+use crate::searching::search;
 use crate::status::Status;
 use crate::stop::{Stop, stop_of_check, stop_of_plan, stop_of_text};
 use cert_format::limits::MAX_PLAN_BYTES;
-use cert_format::read_plan;
+use cert_format::{read_plan, write_plan};
 use cert_verifier::{Rejected, verify};
 use link_steps::StepTable;
 use model_check::to_instance;
-use one_demand::{Planned, plan_one};
 use plan_base::Instance;
-use plan_report::{FileKind, RunFault, check_line, verdict_line};
+use plan_report::{FileKind, check_line, verdict_line};
 use proof_tree::Plan;
 use snd_model::{ModelFile, read_model};
 use snd_network::{NetworkFile, read_network};
-use std::alloc::Global;
+use std::alloc::{AllocError, Global};
+use std::sync::Arc;
 
 /// The network that a text spells.
 fn network_of(alloc: Global, text: &[u8]) -> Result<NetworkFile, Stop>
@@ -72,12 +72,12 @@ fn plan_of(alloc: Global, text: &[u8]) -> Result<Plan, Stop>
 
 /// The command with the plan that its text spells, where it has one.
 fn command_of(alloc: Global, command: &Command<Vec<u8>>) -> Result<Command<Plan>, Stop>
-    requires { IsShortEnough (command_bytes command.now) }
+    requires { IsWithinLimits (command_bytes command.now) }
     ensures value { IfOk result (SpellsItsPlan (command_bytes command.now)) }
     ensures stop { IfErr result (IsCommandTextStop (command_bytes command.now)) }
 {
     match command {
-        Command::Plan => Ok(Command::Plan),
+        Command::Plan { budget } => Ok(Command::Plan { budget: *budget }),
         Command::Check => Ok(Command::Check),
         Command::Verify(text) => match plan_of(alloc, text.as_slice()) {
             Ok(plan) => Ok(Command::Verify(plan)),
@@ -95,7 +95,7 @@ fn files_of(
 ) -> Result<(NetworkFile, ModelFile, Command<Plan>), Stop>
     requires network { length network.now ≤ MAX_TEXT_BYTES }
     requires model { length model.now ≤ MAX_TEXT_BYTES }
-    requires plan { IsShortEnough (command_bytes command.now) }
+    requires limits { IsWithinLimits (command_bytes command.now) }
     ensures value { IfOk result (λ files. AreSpelling (command_bytes command.now) network.now model.now
         files.0 files.1 files.2) }
     ensures stop { IfErr result (IsTextStop (command_bytes command.now) network.now model.now) }
@@ -120,31 +120,25 @@ fn instance_of(alloc: Global, network: &NetworkFile, model: &ModelFile) -> Resul
 }
 
 /// What is written of the plan of an instance.
-fn plan(alloc: Global, inst: &Instance, table: &StepTable) -> Result<Answer, Stop>
-    requires { table.now ≡ inst.now }
-    ensures done { IfOk result (λ answer. Writes commands.Plan inst.now answer.status answer.text.items) }
-    ensures stop { IfErr result (IsPlanStop inst.now) }
+fn plan(alloc: Global, inst: Instance, table: StepTable, budget: u32) -> Result<Answer, AllocError>
+    requires table { table ≡ inst }
+    requires budget { IsBudget budget }
+    ensures { IfOk result (λ answer. Writes (commands.Plan budget) inst answer.status answer.text.items) }
 {
-    if inst.demands() != 1 {
-        return Err(Stop::Refused(RunFault::NotBuilt));
-    }
-    match plan_one(alloc, inst, table)? {
-        Planned::Cheapest { design, cost } => Ok(Answer {
-            status: Status::Good,
-            text: plan_text(alloc, &design, cost)?,
-        }),
-        Planned::NoDesign => Ok(Answer {
-            status: Status::Infeasible,
-            text: Vec::from_slice(alloc, b"SNDPLAN 0\nSTATUS INFEASIBLE\nEND\n")?,
-        }),
-    }
+    let inst = Arc::new(alloc, inst)?;
+    let table = Arc::new(alloc, table)?;
+    let plan = search(alloc, inst, table, budget)?;
+    let text = write_plan(alloc, &plan)?;
+    Ok(Answer {
+        status: Status::of_plan(plan.status),
+        text,
+    })
 }
 
 /// What is written of the sizes of an instance.
-fn check(alloc: Global, inst: &Instance, table: &StepTable) -> Result<Answer, Stop>
+fn check(alloc: Global, inst: &Instance, table: &StepTable) -> Result<Answer, AllocError>
     requires { table.now ≡ inst.now }
-    ensures done { IfOk result (λ answer. Writes commands.Check inst.now answer.status answer.text.items) }
-    ensures stop { IfErr result (λ stop. stop ≡ stops.OutOfMemory) }
+    ensures { IfOk result (λ answer. Writes commands.Check inst.now answer.status answer.text.items) }
 {
     Ok(Answer {
         status: Status::Good,
@@ -153,18 +147,22 @@ fn check(alloc: Global, inst: &Instance, table: &StepTable) -> Result<Answer, St
 }
 
 /// What is written of a plan of an instance.
-fn verdict(alloc: Global, inst: &Instance, table: &StepTable, plan: &Plan) -> Result<Answer, Stop>
+fn verdict(
+    alloc: Global,
+    inst: &Instance,
+    table: &StepTable,
+    plan: &Plan,
+) -> Result<Answer, AllocError>
     requires table { table.now ≡ inst.now }
     requires fits { IsSpellable plan.now }
-    ensures done { IfOk result (λ answer. Writes (commands.Verify plan.now) inst.now answer.status answer.text.items) }
-    ensures stop { IfErr result (λ stop. stop ≡ stops.OutOfMemory) }
+    ensures { IfOk result (λ answer. Writes (commands.Verify plan.now) inst.now answer.status answer.text.items) }
 {
     match verify(alloc, inst, table, plan) {
         Ok(()) => Ok(Answer {
             status: Status::Good,
             text: verdict_line(alloc, plan, &Ok(()))?,
         }),
-        Err(Rejected::OutOfMemory) => Err(Stop::OutOfMemory),
+        Err(Rejected::OutOfMemory) => Err(AllocError),
         Err(fault) => Ok(Answer {
             status: Status::Rejected,
             text: verdict_line(alloc, plan, &Err(fault))?,
@@ -176,22 +174,22 @@ fn verdict(alloc: Global, inst: &Instance, table: &StepTable, plan: &Plan) -> Re
 fn write_of(
     alloc: Global,
     command: &Command<Plan>,
-    inst: &Instance,
-    table: &StepTable,
-) -> Result<Answer, Stop>
-    requires table { table.now ≡ inst.now }
+    inst: Instance,
+    table: StepTable,
+) -> Result<Answer, AllocError>
+    requires table { table ≡ inst }
     requires fits { FitsItsPlan command.now }
-    ensures done { IfOk result (λ answer. Writes command.now inst.now answer.status answer.text.items) }
-    ensures stop { IfErr result (IsCommandStop command.now inst.now) }
+    ensures { IfOk result (λ answer. Writes command.now inst answer.status answer.text.items) }
 {
     match command {
-        Command::Plan => plan(alloc, inst, table),
-        Command::Check => check(alloc, inst, table),
-        Command::Verify(plan) => verdict(alloc, inst, table, plan),
+        Command::Plan { budget } => plan(alloc, inst, table, *budget),
+        Command::Check => check(alloc, &inst, &table),
+        Command::Verify(plan) => verdict(alloc, &inst, &table, plan),
     }
 }
 
 /// The answer of a command to its texts.
+#[tactic(auto, using(crate::proofs::StopLaws::spelt_fits))]
 pub fn do_command(
     alloc: Global,
     command: &Command<Vec<u8>>,
@@ -200,7 +198,7 @@ pub fn do_command(
 ) -> Result<Answer, Stop>
     requires network { length network.now ≤ MAX_TEXT_BYTES }
     requires model { length model.now ≤ MAX_TEXT_BYTES }
-    requires plan { IsShortEnough (command_bytes command.now) }
+    requires limits { IsWithinLimits (command_bytes command.now) }
     ensures done { IfOk result (λ answer. IsDone (command_bytes command.now) network.now model.now
         answer.status answer.text.items) }
     ensures stop { IfErr result (IsTextStop (command_bytes command.now) network.now model.now) }
@@ -208,5 +206,6 @@ pub fn do_command(
     let (network, model, command) = files_of(alloc, command, network, model)?;
     let inst = instance_of(alloc, &network, &model)?;
     let table = StepTable::make(alloc, &inst)?;
-    write_of(alloc, &command, &inst, &table)
+    let answer = write_of(alloc, &command, inst, table)?;
+    Ok(answer)
 }

@@ -4,7 +4,7 @@ ghost use Rattle.std.specs.Prelude.{◌≡◌, ◌≤◌, ◌<◌, ◌+◌, ◌-
 ghost use Rattle.plan_io.specs.Causes.{Rose, CountsUp};
 ghost use Rattle.plan_run.specs.Words.{command_now};
 ghost use Rattle.plan_run.specs.Refusals.{most_bytes, IsRead, IsPlanRead};
-ghost use Rattle.plan_run.specs.Stops.{IsUnread, IsPlanUnread, plan_count, command_bytes, IsFound, RisesAtMost, IsReadStop};
+ghost use Rattle.plan_run.specs.Stops.{IsUnread, IsPlanUnread, plan_count, command_bytes, HasBudget, IsWithinLimits, IsFound, RisesAtMost, IsReadStop};
 
 use crate::answer::Answer;
 use crate::command::{Command, asked_in};
@@ -55,7 +55,9 @@ fn read_plan_text<S: Shelf>(
     shelf: &mut S,
     command: Command<&str>,
 ) -> Result<Command<Vec<u8>>, Stop>
+    requires budget { HasBudget (command_now command) }
     ensures read { IfOk result (λ read. IsPlanRead (S.text shelf.old) (command_now command.entry) (command_bytes read)) }
+    ensures limits { IfOk result (λ read. IsWithinLimits (command_bytes read)) }
     ensures stop { IfErr result (IsPlanUnread (S.text shelf.old) (command_now command.entry)) }
     ensures read_fault { IfErr result (λ stop. IsReadStop stop → Rose (S.faults shelf.old) (S.faults shelf.new)) }
     ensures later { S.faults shelf.old ≤ S.faults shelf.new }
@@ -63,7 +65,7 @@ fn read_plan_text<S: Shelf>(
     ensures few { RisesAtMost (plan_count (command_now command.entry)) (S.begins shelf.old) (S.begins shelf.new) }
 {
     match command {
-        Command::Plan => Ok(Command::Plan),
+        Command::Plan { budget } => Ok(Command::Plan { budget }),
         Command::Check => Ok(Command::Check),
         Command::Verify(name) => match read_text(alloc, shelf, name, FileKind::Plan) {
             Ok(text) => Ok(Command::Verify(text)),

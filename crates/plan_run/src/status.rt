@@ -2,13 +2,15 @@
 
 ghost use Rattle.std.specs.Prelude.{◌≡◌};
 ghost use Rattle.plan_run.specs.Refusals.{status_of};
+ghost use Rattle.plan_run.specs.Runs.{status_of_plan};
 
 use plan_report::RunFault;
+use proof_tree::PlanStatus;
 
 /// How a run ends, with the number that the program exits with.
 #[derive(Clone, Copy, Debug, PartialEq, Eq)]
 pub enum Status {
-    /// An optimal design, the line of a checked network, or that of a valid plan was written.
+    /// An optimal plan, the line of a checked network, or that of a valid plan was written.
     Good = 0,
     /// The words are not read.
     Usage = 2,
@@ -24,12 +26,12 @@ pub enum Status {
     WriteFault = 7,
     /// There is no memory left. Nothing was written.
     OutOfMemory = 8,
-    /// No design exists.
+    /// A plan was written that shows that no design exists.
     Infeasible = 10,
+    /// A plan was written that has spent its budget and leaves something open.
+    Undecided = 11,
     /// The plan is no valid one of the network.
     Rejected = 12,
-    /// The texts ask for what is not built yet.
-    NotBuilt = 13,
 }
 
 impl Status {
@@ -46,7 +48,17 @@ impl Status {
             RunFault::Unsupported { .. } => Status::Unsupported,
             RunFault::TooLong { .. } | RunFault::OverLimit { .. } => Status::OverLimit,
             RunFault::Read { .. } => Status::ReadFault,
-            RunFault::NotBuilt => Status::NotBuilt,
+        }
+    }
+
+    /// How a run ends that writes a plan of this status.
+    pub(crate) fn of_plan(status: PlanStatus) -> Status
+        ensures { result ≡ status_of_plan status }
+    {
+        match status {
+            PlanStatus::Optimal => Status::Good,
+            PlanStatus::Infeasible => Status::Infeasible,
+            PlanStatus::Undecided => Status::Undecided,
         }
     }
 }

@@ -4,6 +4,7 @@ use std::alloc::{AllocError, Global};
 use std::test::*;
 
 mod model_table;
+mod plans;
 mod verdicts;
 
 const PLAN: &str = "plan net model";
@@ -11,8 +12,11 @@ const PLAN: &str = "plan net model";
 const USAGE: &[u8] =
     b"usage: sndplan plan NET MODEL [--workers N] [--nodes B] | verify NET MODEL PLAN | report NET MODEL PLAN | check NET MODEL | sample NUMBER NODES DEMANDS | trial NUMBER NODES DEMANDS\n";
 
-const TRIANGLE_PLAN: &[u8] =
-    b"SNDPLAN 0\nSTATUS OPTIMAL\nCOST 10\nPATH 2 0 2\nMODULES 1 1\nMODULES 1 1\nMODULES 1 0\nEND\n";
+const CHECK: &str = "check net model";
+
+const VERIFY: &str = "verify net model plan";
+
+const TRIANGLE_LINE: &[u8] = b"GOOD nodes 3 links 3 demands 1 load 6 steps 6\n";
 
 /// The canonical model text.
 const MODEL_TEXT: &[u8] =
@@ -45,13 +49,45 @@ fn ends_surely(
     model: &[u8],
 ) -> Result<(Status, MemSink), AllocError> {
     let mut shelf = SureShelf::new(alloc, &[("net", network), ("model", model)])?;
+    let mut out = MemSink::new(alloc, 10_000, &[])?;
+    let words = words(alloc, given)?;
+    let status = run(alloc, words.as_slice(), &mut shelf, &mut out, &NoGate);
+    Ok((status, out))
+}
+
+/// The status and the bytes written, of a run of these words over a shelf with three texts.
+fn ends_with_plan(
+    alloc: Global,
+    given: &str,
+    network: &[u8],
+    model: &[u8],
+    plan: &[u8],
+) -> Result<(Status, MemSink), AllocError> {
+    let texts = [("net", network), ("model", model), ("plan", plan)];
+    let mut shelf = SureShelf::new(alloc, &texts)?;
     let mut out = MemSink::new(alloc, 1000, &[])?;
     let words = words(alloc, given)?;
     let status = run(alloc, words.as_slice(), &mut shelf, &mut out, &NoGate);
     Ok((status, out))
 }
 
-/// The status and the bytes written, of a run over the triangle, where these calls of the shelf and
+/// Whether `plan` writes a plan where it ends so.
+fn is_plan(status: Status) -> bool {
+    match status {
+        Status::Good | Status::Infeasible | Status::Undecided => true,
+        _ => false,
+    }
+}
+
+/// Whether a text has this part.
+fn has(text: &[u8], part: &str) -> bool {
+    match str::from_utf8(text) {
+        Ok(text) => text.contains(part),
+        Err(_) => false,
+    }
+}
+
+/// The status and the bytes written, of a check of the triangle, where these calls of the shelf and
 /// of the sink fail and the sink has this room.
 fn ends_with_faults(
     alloc: Global,
@@ -63,7 +99,7 @@ fn ends_with_faults(
     let texts = [("net", network.as_str().as_bytes()), ("model", MODEL_TEXT)];
     let mut shelf = MemShelf::new(alloc, &texts, shelf_fails)?;
     let mut out = MemSink::new(alloc, room, sink_fails)?;
-    let words = words(alloc, PLAN)?;
+    let words = words(alloc, CHECK)?;
     let status = run(alloc, words.as_slice(), &mut shelf, &mut out, &NoGate);
     Ok((status, out))
 }
@@ -74,51 +110,9 @@ fn network(alloc: Global, links: &str, demands: &str) -> Result<String, AllocErr
 }
 
 #[test]
-fn answers_with_ample_memory(rt: HostRuntime) -> Result<(), Fail> {
+fn texts_are_checked_in_order(rt: HostRuntime) -> Result<(), Fail> {
     // The words, the links, the demands, the status and what is written.
     for (command, links, demands, want, text) in [
-        (
-            "plan",
-            "ab ( a b ) 0 0 0 0 ( 10 5 ) bc ( b c ) 0 0 0 0 ( 10 5 ) ac ( a c ) 0 0 0 0 ( 10 12 )",
-            "k1 ( a c ) 1 6 UNLIMITED",
-            Status::Good,
-            "SNDPLAN 0\nSTATUS OPTIMAL\nCOST 10\nPATH 2 0 2\nMODULES 1 1\nMODULES 1 1\nMODULES 1 0\nEND\n",
-        ),
-        (
-            "plan",
-            "ab ( a b ) 0 0 0.25 0 ( 10 5 )",
-            "k ( a b ) 1 4 UNLIMITED",
-            Status::Good,
-            "SNDPLAN 0\nSTATUS OPTIMAL\nCOST 6\nPATH 1 0\nMODULES 1 1\nEND\n",
-        ),
-        (
-            "plan",
-            "ab ( a b ) 0 0 0 0 ( )",
-            "k ( a b ) 1 0 UNLIMITED",
-            Status::Good,
-            "SNDPLAN 0\nSTATUS OPTIMAL\nCOST 0\nPATH 1 0\nMODULES 0\nEND\n",
-        ),
-        (
-            "plan",
-            "ab ( a b ) 0 0 0 0 ( 10 5 25 10 )",
-            "k ( a b ) 31 1 UNLIMITED",
-            Status::Good,
-            "SNDPLAN 0\nSTATUS OPTIMAL\nCOST 15\nPATH 1 0\nMODULES 2 1 1\nEND\n",
-        ),
-        (
-            "plan",
-            "ab ( a b ) 0 0 0 0 ( )",
-            "k ( a b ) 1 6 UNLIMITED",
-            Status::Infeasible,
-            "SNDPLAN 0\nSTATUS INFEASIBLE\nEND\n",
-        ),
-        (
-            "plan",
-            "ab ( a b ) 0 0 0 0 ( )",
-            "",
-            Status::NotBuilt,
-            "not built\n",
-        ),
         (
             "check",
             "ab ( a b ) 0 0 0 0 ( 10 5 25 10 )",
@@ -213,28 +207,28 @@ fn models_are_told_before_the_instance(rt: HostRuntime) -> Result<(), Fail> {
             "UNDIRECTED",
             "a b",
             Status::Good,
-            "SNDPLAN 0\nSTATUS OPTIMAL\nCOST 5\nPATH 1 1\nMODULES 1 1\nEND\n",
+            "STATUS OPTIMAL\nBUDGET 1000\nEXAMINED 1\nCOST 5\nPATH 1 1\nMODULES 1 1\nTREE 1\n",
         ),
         (
             "DIRECTED",
             "UNDIRECTED_LINKS",
             "a b",
             Status::Good,
-            "SNDPLAN 0\nSTATUS OPTIMAL\nCOST 5\nPATH 1 1\nMODULES 1 1\nEND\n",
+            "STATUS OPTIMAL\nBUDGET 1000\nEXAMINED 1\nCOST 5\nPATH 1 1\nMODULES 1 1\nTREE 1\n",
         ),
         (
             "DIRECTED",
             "DIRECTED",
             "a b",
             Status::Infeasible,
-            "SNDPLAN 0\nSTATUS INFEASIBLE\nEND\n",
+            "SNDPLAN 1\nSIZE 3 1 1\nSTATUS INFEASIBLE\nBUDGET 1000\nEXAMINED 1\nCOST none\nTREE 1\nCUT 0 1 1\nEND\n",
         ),
         (
             "DIRECTED",
             "DIRECTED",
             "b a",
             Status::Good,
-            "SNDPLAN 0\nSTATUS OPTIMAL\nCOST 5\nPATH 1 0\nMODULES 1 1\nEND\n",
+            "STATUS OPTIMAL\nBUDGET 1000\nEXAMINED 1\nCOST 5\nPATH 1 0\nMODULES 1 1\nTREE 1\n",
         ),
         (
             "UNDIRECTED",
@@ -269,14 +263,16 @@ fn models_are_told_before_the_instance(rt: HostRuntime) -> Result<(), Fail> {
             "{NODES}LINKS ( ab ( {ends} ) 0 0 0 0 ( 10 5 ) ) DEMANDS ( k ( b a ) 1 1 UNLIMITED )"
         )?;
         let model = model(rt.alloc(), demands, links)?;
-        let (status, out) = ends_surely(
-            rt.alloc(),
-            PLAN,
-            network.as_str().as_bytes(),
-            model.as_str().as_bytes(),
-        )?;
+        let net = network.as_str().as_bytes();
+        let options = model.as_str().as_bytes();
+        let (status, out) = ends_surely(rt.alloc(), PLAN, net, options)?;
         assert_eq!(rt; status, want, "{demands} {links}");
-        assert!(rt; out.bytes() == text.as_bytes(), "{demands} {links}");
+        assert!(rt; has(out.bytes(), text), "{demands} {links}");
+        // Each plan that is written is accepted.
+        if is_plan(want) {
+            let (status, _line) = ends_with_plan(rt.alloc(), VERIFY, net, options, out.bytes())?;
+            assert_eq!(rt; status, Status::Good, "{demands} {links}");
+        }
     }
     let short =
         b"?SNDlib native format; type: network; version: 1.0\nNODES ( a ( 0 0 ) b ( 1 0 ) )\nLINKS ( ab ( a b ) 0 0".as_slice();
@@ -292,6 +288,12 @@ fn other_words_get_the_usage_line(rt: HostRuntime) -> Result<(), Fail> {
         "",
         "plan net",
         "plan net model --nodes",
+        "plan net model --nodes 0",
+        "plan net model --nodes 4097",
+        "plan net model --nodes +1",
+        "plan net model --nodes 1 1",
+        "plan net model --node 1",
+        "check net model --nodes 1",
         "report net model plan",
         "verify net model",
         "plan net model plan",
@@ -312,15 +314,15 @@ fn each_call_and_each_byte_fails(rt: HostRuntime) -> Result<(), Fail> {
         let (want, line) = match failing {
             0..=2 => (Status::ReadFault, b"read fault network\n".as_slice()),
             3..=5 => (Status::ReadFault, b"read fault model\n".as_slice()),
-            _ => (Status::Good, TRIANGLE_PLAN),
+            _ => (Status::Good, TRIANGLE_LINE),
         };
         assert_eq!(rt; status, want, "call {failing}");
         assert!(rt; out.bytes() == line, "call {failing}");
     }
-    for room in 0..TRIANGLE_PLAN.len() {
+    for room in 0..TRIANGLE_LINE.len() {
         let (status, out) = ends_with_faults(rt.alloc(), &[], &[], room)?;
         assert_eq!(rt; status, Status::WriteFault, "room {room}");
-        assert!(rt; out.bytes() == &TRIANGLE_PLAN[..room], "room {room}");
+        assert!(rt; out.bytes() == &TRIANGLE_LINE[..room], "room {room}");
     }
     let (status, out) = ends_with_faults(rt.alloc(), &[1], &[0], 1000)?;
     assert_eq!(rt; status, Status::WriteFault);

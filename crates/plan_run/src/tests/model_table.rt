@@ -1,7 +1,7 @@
 use super::*;
 
-/// What is written where the model is planned: the demand goes over the only link, against its direction.
-const PLANNED: &str = "SNDPLAN 0\nSTATUS OPTIMAL\nCOST 5\nPATH 1 1\nMODULES 1 1\nEND\n";
+/// What is written where the model is planned.
+const PLANNED: &str = "GOOD nodes 3 links 1 demands 1 load 1 steps 2\n";
 
 /// What is written where undirected demands meet directed links.
 const PAIR: &str = "unsupported DEMAND_MODEL UNDIRECTED\n";
@@ -238,7 +238,7 @@ fn each_spelling_of_each_value_has_its_answer(rt: HostRuntime) -> Result<(), Fai
         let model = model_with(rt.alloc(), key, spelling)?;
         let (status, out) = ends_surely(
             rt.alloc(),
-            PLAN,
+            CHECK,
             network.as_str().as_bytes(),
             model.as_str().as_bytes(),
         )?;

@@ -1,7 +1,5 @@
 use super::*;
 
-const VERIFY: &str = "verify net model plan";
-
 /// The plan text of the triangle, with these lines in the place of its count of examined nodes, of its cost, of
 /// the closed left child and of the end.
 fn plan_text(
@@ -14,22 +12,6 @@ fn plan_text(
     format!(in alloc;
         "SNDPLAN 1\nSIZE 3 3 1\nSTATUS OPTIMAL\nBUDGET 1000\n{examined}\n{cost}\nPATH 2 0 2\nMODULES 1 1\nMODULES 1 1\nMODULES 1 0\nTREE 3\nSPLIT 0 0 1 0 1 4\n{left}\nROUTED\n{end}"
     )
-}
-
-/// The status and the bytes written, of a run of these words over a shelf with three texts.
-fn ends_with_plan(
-    alloc: Global,
-    given: &str,
-    network: &[u8],
-    model: &[u8],
-    plan: &[u8],
-) -> Result<(Status, MemSink), AllocError> {
-    let texts = [("net", network), ("model", model), ("plan", plan)];
-    let mut shelf = SureShelf::new(alloc, &texts)?;
-    let mut out = MemSink::new(alloc, 1000, &[])?;
-    let words = words(alloc, given)?;
-    let status = run(alloc, words.as_slice(), &mut shelf, &mut out, &NoGate);
-    Ok((status, out))
 }
 
 #[test]
@@ -117,6 +99,14 @@ fn the_plan_text_is_told_last_and_before_the_instance(rt: HostRuntime) -> Result
             "",
             Status::BadText,
             "bad text plan 2 0\n",
+        ),
+        (
+            VERIFY,
+            plain,
+            MODEL_TEXT,
+            "SNDPLAN 0\nSTATUS INFEASIBLE\nEND\n",
+            Status::BadText,
+            "bad text plan 1 0\n",
         ),
         (
             VERIFY,

@@ -1,0 +1,103 @@
+//! Plans made networks through the top call, each with several budgets, and looks over what comes out.
+//!
+//! The networks have 4 to 12 nodes and come from a small generator (`made`), the same ones in each run: with directed
+//! and undirected links, none to three modules on a link, whole and decimal numbers, and some that have no design.
+//! Each plan must be accepted by `verify`, and state its status and its budget. The plans of one network must agree:
+//! a greater budget never knows less. Where few paths can be chosen from, the least cost of all choices, which
+//! `choices` finds by trying them, must lie where each plan says. The program writes a line for each network, and ends
+//! with an error at the first plan that is not as it must be; the error names the network and the budget. Begin at
+//! `plan_network`. Stands on `plan_run` and promises nothing of its own.
+#![tactic(auto)]
+
+mod choices;
+mod claims;
+mod draws;
+mod made;
+mod network;
+mod texts;
+mod trials;
+
+use anyhow::{Context, Result, ensure};
+use choices::{Tried, least_cost};
+use claims::Range;
+use made::made_network;
+use std::alloc::Global;
+use std::io;
+use std::io::Write;
+use texts::Texts;
+use trials::plan_within;
+
+/// How many networks are planned.
+const NETWORKS: u32 = 100;
+
+/// With how many nodes of the search tree each network is planned, in turn, until its best design is known.
+const BUDGETS: [u32; 6] = [1, 2, 3, 10, 100, 1_000];
+
+/// The most nodes of the search tree. Each network whose best design is known is planned with them too.
+const MOST_NODES: u32 = 4_096;
+
+/// Of so many networks, one is planned with the most nodes whatever is known.
+const ONE_OF: u32 = 10;
+
+/// Looks whether a plan may claim this, where the one with the budget before claimed the former.
+fn compare(former: Range, claimed: Range, tried: Tried) -> Result<()> {
+    ensure!(
+        claimed.lower <= claimed.upper,
+        "the bound is above the cost"
+    );
+    ensure!(former.lower <= claimed.lower, "the bound fell");
+    ensure!(claimed.upper <= former.upper, "the cost rose");
+    if let Tried::All { least, .. } = tried {
+        ensure!(claimed.lower <= least, "a choice of paths costs less");
+        ensure!(least <= claimed.upper, "no choice of paths costs so little");
+    }
+    Ok(())
+}
+
+/// Plans a network with this budget. Gives what the plan claims.
+fn claimed_within(
+    alloc: Global,
+    texts: &Texts,
+    budget: u32,
+    former: Range,
+    tried: Tried,
+) -> Result<Range> {
+    let claimed = plan_within(alloc, texts, budget).context(format_args!("budget {budget}"))?;
+    compare(former, claimed, tried).context(format_args!("budget {budget}"))?;
+    Ok(claimed)
+}
+
+/// Plans the network of this number with its budgets. Gives what the last plan claims.
+fn plan_network(alloc: Global, number: u32, texts: &Texts, tried: Tried) -> Result<Range> {
+    let mut known = Range::any();
+    for budget in BUDGETS.iter() {
+        known = claimed_within(alloc, texts, *budget, known, tried)?;
+        if known.is_decided() {
+            break;
+        }
+    }
+    if known.is_decided() || number % ONE_OF == 0 {
+        known = claimed_within(alloc, texts, MOST_NODES, known, tried)?;
+    }
+    Ok(known)
+}
+
+/// Plans the network of this number, and writes its line.
+fn write_network<W: Write>(alloc: Global, number: u32, out: &mut W) -> Result<()> {
+    let network = made_network(alloc, number)?;
+    let texts = Texts::of(alloc, &network)?;
+    let tried = least_cost(alloc, &network)?;
+    let known = plan_network(alloc, number, &texts, tried).context(format_args!(
+        "network {number}"
+    ))?;
+    writeln!(out, "{number}: {network}, {known}, {tried}")?;
+    Ok(())
+}
+
+fn main(rt: HostRuntime) -> Result<()> {
+    let mut out = io::writer(&rt);
+    for number in 0..NETWORKS {
+        write_network(rt.alloc(), number, &mut out)?;
+    }
+    Ok(())
+}

@@ -1,0 +1,63 @@
+//! A network, in numbers that are easy to add up: loads in tenths of a unit, costs in hundredths.
+
+use std::fmt;
+
+/// Modules of one kind.
+#[derive(Clone, Copy)]
+pub(crate) struct Module {
+    /// Capacity of one module, in tenths of a unit of load.
+    pub(crate) capacity: u32,
+    /// Cost of one module, in hundredths of a unit of cost.
+    pub(crate) cost: u32,
+}
+
+#[derive(Drop)]
+pub(crate) struct Link {
+    pub(crate) source: u32,
+    pub(crate) target: u32,
+    /// Pre-installed capacity, in tenths of a unit of load.
+    pub(crate) pre: u32,
+    /// Cost of one unit of load, in hundredths of a unit of cost.
+    pub(crate) routing: u32,
+    pub(crate) modules: Vec<Module>,
+}
+
+#[derive(Clone, Copy)]
+pub(crate) struct Demand {
+    pub(crate) source: u32,
+    pub(crate) target: u32,
+    /// By which the value is multiplied.
+    pub(crate) unit: u32,
+    /// In tenths of a unit of load.
+    pub(crate) value: u32,
+}
+
+#[derive(Drop)]
+pub(crate) struct Network {
+    /// Whether links and demands lead from their source to their target alone.
+    pub(crate) directed: bool,
+    pub(crate) nodes: u32,
+    pub(crate) links: Vec<Link>,
+    pub(crate) demands: Vec<Demand>,
+}
+
+impl Demand {
+    /// In tenths of a unit of load.
+    pub(crate) fn load(self) -> u64 {
+        u64::from(self.unit) * u64::from(self.value)
+    }
+}
+
+impl fmt::Display for Network {
+    fn fmt<W: fmt::Write>(&self, f: &mut fmt::Formatter<W>) -> fmt::Result {
+        let nodes = self.nodes;
+        let links = self.links.len();
+        let demands = self.demands.len();
+        let kind = if self.directed {
+            "directed"
+        } else {
+            "undirected"
+        };
+        write!(f, "nodes {nodes}, {kind} links {links}, demands {demands}")
+    }
+}

@@ -1,0 +1,117 @@
+//! The texts of a network and of its model.
+
+use crate::network::{Demand, Link, Network};
+use std::alloc::{AllocError, Global};
+use std::fmt;
+
+const HEADER: &str = "?SNDlib native format; type: network; version: 1.0\n";
+
+const MODEL_HEADER: &str = "?SNDlib native format; type: model; version: 1.0\n";
+
+/// The rows of a model that are the same for all networks.
+const MODEL_ROWS: &str =
+    "LINK_CAPACITY_MODEL = MODULAR\nFIXED_CHARGE_MODEL = NO\nROUTING_MODEL = SINGLE_PATH\nADMISSIBLE_PATH_MODEL = ALL\nHOP_LIMIT_MODEL = NO\nSURVIVABILITY_MODEL = NO\n";
+
+/// Tenths, written as a decimal.
+#[derive(Clone, Copy)]
+struct Tenths(u32);
+
+/// Hundredths, written as a decimal.
+#[derive(Clone, Copy)]
+struct Hundredths(u32);
+
+impl fmt::Display for Tenths {
+    fn fmt<W: fmt::Write>(&self, f: &mut fmt::Formatter<W>) -> fmt::Result {
+        let whole = self.0 / 10;
+        let part = self.0 % 10;
+        if part == 0 {
+            write!(f, "{whole}")
+        } else {
+            write!(f, "{whole}.{part}")
+        }
+    }
+}
+
+impl fmt::Display for Hundredths {
+    fn fmt<W: fmt::Write>(&self, f: &mut fmt::Formatter<W>) -> fmt::Result {
+        let whole = self.0 / 100;
+        let part = self.0 % 100;
+        if part == 0 {
+            write!(f, "{whole}")
+        } else {
+            write!(f, "{whole}.{part:02}")
+        }
+    }
+}
+
+/// A network and its model, as texts.
+#[derive(Drop)]
+pub(crate) struct Texts {
+    pub(crate) network: String,
+    pub(crate) model: String,
+}
+
+impl Texts {
+    /// The texts of this network.
+    pub(crate) fn of(alloc: Global, network: &Network) -> Result<Texts, AllocError> {
+        Ok(Texts {
+            network: network_text(alloc, network)?,
+            model: model_text(alloc, network.directed)?,
+        })
+    }
+}
+
+/// Adds a link.
+fn push_link(text: &mut String, number: usize, link: &Link) -> Result<(), AllocError> {
+    let source = link.source;
+    let target = link.target;
+    let pre = Tenths(link.pre);
+    let routing = Hundredths(link.routing);
+    write!(
+        text,
+        "  l{number} ( n{source} n{target} ) {pre} 0 {routing} 0 ("
+    )?;
+    for module in link.modules.iter() {
+        let capacity = Tenths(module.capacity);
+        let cost = Hundredths(module.cost);
+        write!(text, " {capacity} {cost}")?;
+    }
+    text.push_str(" )\n")
+}
+
+/// Adds a demand.
+fn push_demand(text: &mut String, number: usize, demand: Demand) -> Result<(), AllocError> {
+    let source = demand.source;
+    let target = demand.target;
+    let unit = demand.unit;
+    let value = Tenths(demand.value);
+    write!(
+        text,
+        "  d{number} ( n{source} n{target} ) {unit} {value} UNLIMITED\n"
+    )
+}
+
+/// The text of a network.
+fn network_text(alloc: Global, network: &Network) -> Result<String, AllocError> {
+    let mut text = String::from_str(alloc, HEADER)?;
+    text.push_str("NODES (\n")?;
+    for node in 0..network.nodes {
+        write!(text, "  n{node}\n")?;
+    }
+    text.push_str(")\nLINKS (\n")?;
+    for (number, link) in network.links.iter().enumerate() {
+        push_link(&mut text, number, link)?;
+    }
+    text.push_str(")\nDEMANDS (\n")?;
+    for (number, demand) in network.demands.iter().enumerate() {
+        push_demand(&mut text, number, *demand)?;
+    }
+    text.push_str(")\n")?;
+    Ok(text)
+}
+
+/// The text of the model of networks whose links and demands are directed, or not.
+fn model_text(alloc: Global, directed: bool) -> Result<String, AllocError> {
+    let kind = if directed { "DIRECTED" } else { "UNDIRECTED" };
+    format!(in alloc; "{MODEL_HEADER}DEMAND_MODEL = {kind}\nLINK_MODEL = {kind}\n{MODEL_ROWS}")
+}

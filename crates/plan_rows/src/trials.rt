@@ -1,0 +1,78 @@
+//! Runs of `plan`, each with a run of `verify` on what it wrote.
+
+use crate::claims::{Claim, Range, claim_of};
+use crate::texts::Texts;
+use anyhow::{Result, ensure};
+use plan_io::{MemSink, NoGate, SureShelf};
+use plan_run::{Status, run};
+use std::alloc::{AllocError, Global};
+
+/// How many bytes a plan may have here.
+const PLAN_ROOM: usize = 4_000_000;
+
+/// How many bytes a line may have.
+const LINE_ROOM: usize = 1_000;
+
+/// The words of a line.
+fn words_of(alloc: Global, line: &str) -> Result<Vec<String>, AllocError> {
+    line.split(' ')
+        .map(|word| String::from_str(alloc, word))
+        .try_collect(alloc)
+}
+
+/// How a run of this line's words over these texts ends, and what it writes.
+fn ends(
+    alloc: Global,
+    line: &str,
+    named: &[(&str, &[u8])],
+    room: usize,
+) -> Result<(Status, MemSink), AllocError> {
+    let words = words_of(alloc, line)?;
+    let mut shelf = SureShelf::new(alloc, named)?;
+    let mut out = MemSink::new(alloc, room, &[])?;
+    let status = run(alloc, words.as_slice(), &mut shelf, &mut out, &NoGate);
+    Ok((status, out))
+}
+
+/// The line of `verify` on a plan that claims this and is accepted.
+fn accepting_line(alloc: Global, claim: &Claim<'_>) -> Result<String, AllocError> {
+    let status = claim.status;
+    let cost = claim.cost;
+    if cost == "none" {
+        format!(in alloc; "ACCEPTED {status}\n")
+    } else {
+        format!(in alloc; "ACCEPTED {status} {cost}\n")
+    }
+}
+
+/// Has `verify` look at the text of this plan, which claims this.
+fn verify_plan(alloc: Global, texts: &Texts, plan: &str, claim: &Claim<'_>) -> Result<()> {
+    let named = [
+        ("net", texts.network.as_bytes()),
+        ("model", texts.model.as_bytes()),
+        ("plan", plan.as_bytes()),
+    ];
+    let (status, line) = ends(alloc, "verify net model plan", &named, LINE_ROOM)?;
+    let written = str::from_utf8(line.bytes())?;
+    ensure!(status == Status::Good, "verify: {written}");
+    let wanted = accepting_line(alloc, claim)?;
+    ensure!(written == wanted.as_str(), "verify: {written}");
+    Ok(())
+}
+
+/// Plans a network with this budget, and has the plan verified. Gives what it claims of the cost of the best design.
+pub(crate) fn plan_within(alloc: Global, texts: &Texts, budget: u32) -> Result<Range> {
+    let named = [
+        ("net", texts.network.as_bytes()),
+        ("model", texts.model.as_bytes()),
+    ];
+    let line = format!(in alloc; "plan net model --nodes {budget}")?;
+    let (status, out) = ends(alloc, line.as_str(), &named, PLAN_ROOM)?;
+    let plan = str::from_utf8(out.bytes())?;
+    let claim = claim_of(plan)?;
+    ensure!(status == claim.ends_with()?, "another status");
+    ensure!(claim.budget == budget, "another budget");
+    ensure!(claim.keeps_budget(), "examined: {}", claim.examined);
+    verify_plan(alloc, texts, plan, &claim)?;
+    Ok(claim.range)
+}
