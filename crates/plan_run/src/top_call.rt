@@ -17,7 +17,7 @@ use std::alloc::Global;
 ///   that the answer goes to; a gate that is passed once, between reading and the work.
 /// - Gives: how the run ended.
 /// - Rule: docs/DEFINITIONS.md, "Runs"; docs/FORMATS.md.
-/// - Time: linear in the texts' bytes, and that of one search for a cheapest path, or of verifying the plan.
+/// - Time: linear in the texts' bytes, and that of the search or of verifying the plan.
 #[tactic(auto, using(crate::proofs::AnswerLaws::says_answer))]
 pub fn run<S: Shelf, W: Sink, G: Gate>(
     alloc: Global,
