@@ -15,16 +15,16 @@ use Rattle.plan_run.specs.declared.command.Command.{Command}
 use Rattle.plan_run.specs.declared.command.Command.TheVariants.{Plan, Check, Verify}
 use Rattle.plan_run.specs.declared.stop.Stop.{Stop}
 use Rattle.plan_run.specs.declared.stop.Stop.TheVariants as stops
-use Rattle.plan_run.specs.Words.{budget_of, command_named, command_on_plan, asked_in, text_count}
+use Rattle.plan_run.specs.Words.{budget_of, asked_in, text_count}
 use Rattle.plan_run.specs.declared.command.TheConstants.{DEFAULT_BUDGET}
-use Rattle.plan_run.specs.Refusals.{IsRead, IsPlanRead, AreRead, HoldsOfTexts, AreRefused, IsRefusal, status_of}
+use Rattle.plan_run.specs.Refusals.{IsRead, AreRead, HoldsOfTexts, AreRefused, IsRefusal, status_of}
 use Rattle.plan_run.specs.declared.status.Status.{Status}
 use Rattle.plan_run.specs.declared.status.Status.TheVariants.{Good, Usage, BadText, Unsupported, OverLimit, ReadFault, WriteFault, OutOfMemory, Infeasible, Undecided, Rejected}
 use Rattle.proof_tree.specs.declared.plan.Plan.{Plan as AnyPlan}
 use Rattle.proof_tree.specs.declared.plan.PlanStatus.{PlanStatus}
 use Rattle.proof_tree.specs.declared.plan.PlanStatus.TheVariants as claims
 use Rattle.plan_base.specs.declared.parts.Parts.{Parts}
-use Rattle.plan_run.specs.Runs.{status_of_plan, Writes, IsDone, IsDoneSo, IsAnswer, Says}
+use Rattle.plan_run.specs.Runs.{status_of_plan, Writes, IsDone, IsAnswer, Says}
 use Rattle.plan_run.specs.Stops.{RisesAtMost, IsUnread, IsPlanUnread, plan_count, IsTextStop, IsStop, IsFoundOf}
 
 -- ---- how many texts are named

@@ -34,7 +34,7 @@ use Rattle.plan_run.specs.declared.command.Command.{Command}
 use Rattle.plan_run.specs.declared.command.Command.TheVariants.{Plan, Check, Verify}
 use Rattle.plan_run.specs.declared.status.Status.{Status}
 use Rattle.plan_run.specs.declared.status.Status.TheVariants.{Good, Usage, BadText, Unsupported, OverLimit, ReadFault, WriteFault, OutOfMemory, Infeasible, Undecided, Rejected}
-use Rattle.plan_run.specs.Refusals.{Reads, SpellsItsPlan, HasItsPlan, HasFewSteps, IsPlanFault, misplaced, ended, IsPlanRefused, AreSpelt, IsMisfit, IsPastSteps, AreRefused}
+use Rattle.plan_run.specs.Refusals.{Reads, SpellsItsPlan, HasItsPlan, HasFewSteps, misplaced, ended, IsPlanRefused, AreSpelt, IsMisfit, IsPastSteps, AreRefused}
 use Rattle.plan_run.specs.Runs.{IsRejection, Writes, IsDone}
 use Rattle.plan_run.specs.OneAnswer.{Below}
 

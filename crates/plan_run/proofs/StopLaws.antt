@@ -1,6 +1,6 @@
 -- Why two texts are refused, from what the readers and the checks ensure.
 use Rattle.std.proofs.Common.{ℕ, ◌≡◌, List, Result, Ok, Err, refl, subst, inl, inr}
-use Rattle.std.specs.Prelude.{IfOk, IfErr}
+use Rattle.std.specs.Prelude.{IfErr}
 use Rattle.plan_base.specs.declared.parts.Parts.{Parts}
 use Rattle.plan_base.specs.declared.build_fault.BuildFault.TheVariants as build
 use Rattle.snd_reader.specs.declared.fault.TextFault.{TextFault}
@@ -28,7 +28,7 @@ use Rattle.plan_run.specs.declared.command.Command.{Command}
 use Rattle.plan_run.specs.declared.command.Command.TheVariants.{Plan, Check, Verify}
 use Rattle.plan_run.specs.declared.stop.Stop.{Stop}
 use Rattle.plan_run.specs.declared.stop.Stop.TheVariants as stops
-use Rattle.plan_run.specs.Refusals.{Reads, SpellsItsPlan, HasItsPlan, HasFewSteps, misplaced, ended}
+use Rattle.plan_run.specs.Refusals.{Reads, SpellsItsPlan, HasFewSteps, misplaced, ended}
 use Rattle.plan_run.specs.declared.status.Status.{Status}
 use Rattle.plan_run.specs.Searches.{IsBudget}
 use Rattle.plan_run.specs.Runs.{Writes, IsDone}

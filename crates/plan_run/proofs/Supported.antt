@@ -16,8 +16,8 @@ use Rattle.plan_run.specs.declared.status.Status.{Status}
 use Rattle.plan_run.specs.declared.status.Status.TheVariants.{Good, Usage, BadText, Unsupported, OverLimit, ReadFault, WriteFault, OutOfMemory, Infeasible, Undecided, Rejected}
 use Rattle.plan_run.specs.Words.{asked_in}
 use Rattle.plan_run.specs.Refusals.{most_bytes, Reads, SpellsItsPlan, HasItsPlan, AreRefused, IsPlanRead, HoldsOfTexts, IsTooLong, IsRefusal, status_of}
-use Rattle.plan_run.specs.Runs.{status_of_plan, Writes, IsDone, IsRefusedSo, IsDoneSo, IsAnswer, Says}
-use Rattle.plan_run.specs.Supports.{IsTold, TellsItsPlan, AreSupported, EndsWith}
+use Rattle.plan_run.specs.Runs.{status_of_plan, Writes, IsDone, IsDoneSo, IsAnswer, Says}
+use Rattle.plan_run.specs.Supports.{TellsItsPlan, AreSupported, EndsWith}
 use Rattle.plan_run.specs.OneAnswer.{Below}
 use Rattle.plan_run.proofs.OneRefusal.{refused_or_read}
 

@@ -1,6 +1,5 @@
 -- Why a run stops, before its line is made. Only private clauses cite this module.
 use Rattle.std.specs.Prelude.{ℕ, ◌≡◌, ◌≢◌, ◌+◌, ◌-◌, ◌^◌, ◌<◌, ◌≤◌, ◌⊎◌, List, length, Option, IfSome, Result, Ok, Err, Vec}
-use Rattle.plan_base.specs.declared.parts.Parts.{Parts}
 use Rattle.plan_base.specs.declared.build_fault.BuildFault.TheVariants as build
 use Rattle.plan_io.specs.declared.reading.ReadWhole.{ReadWhole}
 use Rattle.plan_io.specs.declared.reading.ReadWhole.TheVariants as read
@@ -30,7 +29,7 @@ use Rattle.plan_run.specs.declared.command.Command.{Command}
 use Rattle.plan_run.specs.declared.command.Command.TheVariants.{Plan, Check, Verify}
 use Rattle.plan_run.specs.declared.stop.Stop.{Stop}
 use Rattle.plan_run.specs.declared.stop.Stop.TheVariants.{Refused, OutOfMemory}
-use Rattle.plan_run.specs.Refusals.{SpellsItsPlan, IsPlanFault, AreRefused, IsPlanRead, most_bytes, IsRefusal}
+use Rattle.plan_run.specs.Refusals.{SpellsItsPlan, IsPlanFault, AreRefused, most_bytes, IsRefusal}
 use Rattle.plan_run.specs.Runs.{IsAnswer, IsDoneSo}
 use Rattle.plan_run.specs.Searches.{IsBudget}
 

@@ -39,18 +39,15 @@ fn bare_link(alloc: Global, pre: u64, routing: u64) -> Link {
     }
 }
 
-/// A link with modules of 10 at this cost.
-fn link(alloc: Global, ends: (u32, u32), cost: u128) -> Result<Link, AllocError> {
-    let ten = Module {
-        capacity: 10 * UNIT,
-        cost,
-    };
+/// A link with modules of this capacity and cost.
+fn link(alloc: Global, ends: (u32, u32), capacity: u64, cost: u128) -> Result<Link, AllocError> {
+    let module = Module { capacity, cost };
     Ok(Link {
         source: NodeId(ends.0),
         target: NodeId(ends.1),
         pre: 0,
         routing: 0,
-        modules: Items::from_vec(vec![in alloc; ten]?),
+        modules: Items::from_vec(vec![in alloc; module]?),
     })
 }
 
@@ -63,12 +60,12 @@ fn demand(source: u32, target: u32, load: u64) -> Demand {
     }
 }
 
-/// Nodes a, b, c, links ab and bc at 5 and ac at 12, with these demands.
-fn triangle(alloc: Global, demands: Vec<Demand>) -> Result<Parts, AllocError> {
+/// Nodes a, b, c, links ab and bc with modules of 10 at 5, this link from a to c, and these demands.
+fn triangle_over(alloc: Global, direct: Link, demands: Vec<Demand>) -> Result<Parts, AllocError> {
     let mut links = Vec::new(alloc);
-    links.push(link(alloc, (0, 1), 5 * COST)?)?;
-    links.push(link(alloc, (1, 2), 5 * COST)?)?;
-    links.push(link(alloc, (0, 2), 12 * COST)?)?;
+    links.push(link(alloc, (0, 1), 10 * UNIT, 5 * COST)?)?;
+    links.push(link(alloc, (1, 2), 10 * UNIT, 5 * COST)?)?;
+    links.push(direct)?;
     Ok(Parts {
         orient: Orient::Undirected,
         nodes: 3,
@@ -77,17 +74,25 @@ fn triangle(alloc: Global, demands: Vec<Demand>) -> Result<Parts, AllocError> {
     })
 }
 
+/// The triangle whose link ac has modules of 10 at 12, with these demands.
+fn triangle(alloc: Global, demands: Vec<Demand>) -> Result<Parts, AllocError> {
+    triangle_over(alloc, link(alloc, (0, 2), 10 * UNIT, 12 * COST)?, demands)
+}
+
 /// The triangle with a demand from a to c.
 fn triangle_with(alloc: Global, load: u64) -> Result<Parts, AllocError> {
     triangle(alloc, vec![in alloc; demand(0, 2, load)]?)
 }
 
-/// The triangle with demands of 6 from a to c and of 5 from a to b.
+/// Demands of 6 from a to c and of 5 from a to b.
+fn two_demands(alloc: Global) -> Result<Vec<Demand>, AllocError> {
+    let demands = vec![in alloc; demand(0, 2, 6 * UNIT), demand(0, 1, 5 * UNIT)]?;
+    Ok(demands)
+}
+
+/// The triangle with these two demands.
 fn busy_triangle(alloc: Global) -> Result<Parts, AllocError> {
-    triangle(
-        alloc,
-        vec![in alloc; demand(0, 2, 6 * UNIT), demand(0, 1, 5 * UNIT)]?,
-    )
+    triangle(alloc, two_demands(alloc)?)
 }
 
 /// Nodes a and b with these links, and these demands.
@@ -102,7 +107,7 @@ fn two_nodes(links: Vec<Link>, demands: Vec<Demand>, orient: Orient) -> Parts {
 
 /// A link from a to b alone, and a demand that goes against it.
 fn one_way(alloc: Global) -> Result<Parts, AllocError> {
-    let links = vec![in alloc; link(alloc, (0, 1), 5 * COST)?]?;
+    let links = vec![in alloc; link(alloc, (0, 1), 10 * UNIT, 5 * COST)?]?;
     let demands = vec![in alloc; demand(1, 0, UNIT)]?;
     Ok(two_nodes(links, demands, Orient::Directed))
 }

@@ -122,6 +122,21 @@ open [0, 0]";
     Ok(())
 }
 
+/// On ac a module of 6 costs 6.6, so the path over b has the lower price, and fills two modules of ab. Both paths over b
+/// cost 15; with the direct one it is 11.6.
+#[test]
+fn the_first_routing_is_improved(rt: HostRuntime) -> Result<(), Fail> {
+    let alloc = rt.alloc();
+    let direct = link(alloc, (0, 2), 6 * UNIT, 6_600_000_000_000)?;
+    let parts = triangle_over(alloc, direct, two_demands(alloc)?)?;
+    let improved = "Undecided Some((11600000000000, Some(11600000000000))) Some(8500000000000) 1/1
+split 0 at 0 [ArcId(4)] [ArcId(0)]
+open [500000000, 500000000, 1100000000]
+open [500000000, 500000000, 1100000000]";
+    assert_eq!(rt; planned(alloc, parts, 1)?.as_str(), improved);
+    Ok(())
+}
+
 /// Two links of 5 without modules, and a demand of 6 that fits on neither.
 fn two_fives(alloc: Global) -> Result<Parts, AllocError> {
     let mut links = Vec::new(alloc);

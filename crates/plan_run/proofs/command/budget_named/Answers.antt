@@ -1,4 +1,4 @@
-use Rattle.std.proofs.Common.{◌≡◌, rules, true, Err}
+use Rattle.std.proofs.Common.{◌≡◌, rules, true}
 use Rattle.std.specs.Char.{is_ascii_digit}
 use Rattle.std.specs.List.{list_all}
 use Rattle.plan_run.proofs.Budgets.{unparsed}

@@ -1,4 +1,4 @@
-use Rattle.std.proofs.Common.{sym, arith, refl, map, length, ◌+◌}
+use Rattle.std.proofs.Common.{sym, arith, map, length, ◌+◌}
 use Rattle.std.specs.Prelude.{string_bytes}
 use Rattle.plan_run.specs.Words.{command_now}
 use Rattle.plan_run.specs.Stops.{command_bytes, plan_count}
