@@ -140,8 +140,13 @@ impl Pool {
         None
     }
 
-    /// Puts a node that waits into the lowest free slot. Without demands its version is complete at once. Takes no
-    /// memory.
+    /// Gives a node that waits a round of its first prices, in the lowest free slot. Without demands its version is
+    /// complete at once. Takes no memory.
+    ///
+    /// - Gives: the slot, and the version of the prices.
+    /// - Errors: in this order, `Spent` where the budget is spent; `NotOpen` where the node does not wait; `Crowded`
+    ///   where 64 rounds are active.
+    /// - Rule: docs/DEFINITIONS.md, "The search as a machine".
     pub fn open_round(&mut self, node: BranchId) -> Result<Opened, RoundFault>
         ensures event { OpenStep self.old node result self.new }
     {
@@ -191,7 +196,12 @@ impl Pool {
             .map(|demand| Settle::Incomplete { demand })
     }
 
-    /// No further version of the node is published.
+    /// Marks a node of which no further version is published. Takes no memory.
+    ///
+    /// - Takes: the version of its round.
+    /// - Gives: in this order, `Spent` where the budget is spent; `Stale` where the node has no round of the version;
+    ///   `Incomplete` with the first demand that is not priced; else `Done`.
+    /// - Rule: docs/DEFINITIONS.md, "The search as a machine".
     pub fn settle(&mut self, node: BranchId, version: u64) -> Settle
         ensures event { SettleStep self.old node version result self.new }
     {

@@ -93,6 +93,7 @@ impl Pool {
     pub fn close_by_bound(&mut self, node: BranchId) -> Closing
         ensures event { CloseStep self.old node result self.new }
     {
+        // Whoever looks into the pool knows what its type keeps, which the proof needs.
         let _ = &self.nodes;
         if let Some(refusal) = self.close_refusal(node) {
             return refusal;
@@ -114,6 +115,7 @@ impl Pool {
 
     /// Takes a design that costs less than the best one so far. Takes no memory.
     ///
+    /// - Gives: `Taken` with its cost where it is held now; `NotLess` with both costs where it is not cheaper.
     /// - Errors: the first fault of the design, as `check_design` tells it.
     /// - Rule: docs/DEFINITIONS.md, "The search as a machine".
     pub fn better(&mut self, design: Design) -> Result<Better, DesignFault>

@@ -153,6 +153,7 @@ impl Pool {
     pub fn examine(&mut self, node: BranchId) -> Result<Examined, ExamineFault>
         ensures event { ExamineStep self.old node result self.new }
     {
+        // Whoever looks into the pool knows what its type keeps, which the proof needs.
         let _ = &self.nodes;
         if let Some(refusal) = self.examine_refusal(node) {
             return Err(refusal);

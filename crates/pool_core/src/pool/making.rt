@@ -54,6 +54,7 @@ impl Pool {
         requires table { arc_value table ≡ arc_value inst }
         ensures opening { IfOk result (λ pool. IsOpeningState (arc_value inst) budget pool) }
     {
+        // Whoever reads an instance knows that it is within its limits, which the proof needs.
         let _links = inst.links();
         let prices = table.start_prices(alloc)?;
         let places = free_places(alloc, &*inst, &prices)?;

@@ -77,6 +77,7 @@ impl Pool {
         requires { offer.now.demand.0 < length self.now.problem.demands }
         ensures { result ≡ unfit_in self.now.problem (slice_get self.now.nodes offer.now.node.0) offer.now.demand.0 offer.now.found }
     {
+        // Whoever looks into the pool knows what its type keeps, which the proof needs.
         let _ = &self.problem;
         let Some(round) = self.active_round(offer.node) else {
             return None;

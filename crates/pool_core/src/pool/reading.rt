@@ -23,7 +23,8 @@ impl Pool {
         self.accepted
     }
 
-    /// The greatest bound of a complete version of the node, in cost grains.
+    /// The greatest bound of a complete version of the node, in cost grains; None exactly where no version of it was
+    /// complete.
     pub fn bound(&self, node: BranchId) -> Option<i128>
         ensures { result ≡ bound_in (slice_get self.now.nodes node.0) }
     {
@@ -33,7 +34,7 @@ impl Pool {
         }
     }
 
-    /// The cost of the best design so far, in cost grains.
+    /// The cost of the best design so far, in cost grains; None exactly where there is none.
     pub fn incumbent(&self) -> Option<u128>
         ensures { result ≡ cutoff_of self.now }
     {
@@ -43,7 +44,8 @@ impl Pool {
         }
     }
 
-    /// The prices with which a node that waits begins.
+    /// The prices with which a node that waits begins, one for each link, in thousandths of a cost grain per load
+    /// grain; None exactly where the node does not wait.
     pub fn first_prices(&self, node: BranchId) -> Option<&Prices>
         ensures waits { IsSome result ↔ (is_waiting (state_of self.now node) ≡ true) }
         ensures value { IfSome result (λ prices. IfSome (slice_get self.now.nodes node.0) (λ x. prices.now ≡ x.first_prices)) }
@@ -57,7 +59,7 @@ impl Pool {
         }
     }
 
-    /// What is forbidden at an open leaf.
+    /// What is forbidden at an open leaf; None exactly where the node is none.
     pub fn restriction(&self, node: BranchId) -> Option<&Arc<Restriction>>
         ensures leaf { IsSome result ↔ (is_open_state (state_of self.now node) ≡ true) }
         ensures value { IfSome result (λ rows. IfSome (slice_get self.now.nodes node.0) (λ x. forbids (arc_value rows.now) ≡ restriction_of x)) }
@@ -68,8 +70,8 @@ impl Pool {
         }
     }
 
-    /// A copy of the prices of the round in the slot, with its node and its version; None exactly where no round
-    /// has the slot.
+    /// A copy of the prices of the round in the slot, in thousandths of a cost grain per load grain, with its node and
+    /// its version; None exactly where no round has the slot.
     ///
     /// - Errors: want of memory alone.
     pub fn prices(&self, slot: u32) -> Result<Option<Published>, AllocError>
