@@ -5,5 +5,6 @@
 #![tactic(auto)]
 
 mod published;
+mod shared;
 
 pub use published::Published;

@@ -10,15 +10,19 @@ use Rattle.plan_base.specs.declared.ids.BranchId.{BranchId}
 use Rattle.plan_base.specs.First.{◌or_else◌, when, first_in}
 use Rattle.plan_base.proofs.Bools.{not-false}
 use Rattle.plan_base.proofs.FirstFault.{or_else-none, when-none, first_in-none}
-use Rattle.pool_core.specs.declared.answers.Settle.{Settle}
-use Rattle.pool_core.specs.declared.answers.Settle.TheVariants as settle
-use Rattle.pool_core.specs.State.{Found, Round, Node, State, gap_of, left_of, round_of, rounds_by, rounds_in}
-use Rattle.pool_core.specs.Machine.{is_spent, version_in, is_version, gap_at, first_gap, stale_fault, settle_fault, IsTaken, with_node, Settles, SettleStep, Settling, to_settling}
-use Rattle.pool_core.specs.declared.limits.TheConstants.{MAX_BUDGET}
+use Rattle.pool_machine.specs.declared.answers.Settle.{Settle}
+use Rattle.pool_machine.specs.declared.answers.Settle.TheVariants as settle
+use Rattle.pool_machine.specs.declared.tree.Found.{Found}
+use Rattle.pool_machine.specs.State.{Round, Node, State, gap_of, left_of, round_of, rounds_by, rounds_in}
+use Rattle.pool_machine.specs.Changes.{is_spent, version_in, is_version, gap_at, first_gap, stale_fault, with_node}
+use Rattle.pool_machine.specs.Settling.{settle_fault, Settles, SettleStep}
+use Rattle.pool_machine.specs.Opening.{IsTaken}
+use Rattle.pool_machine.specs.Machine.{Settling, to_settling}
+use Rattle.pool_machine.specs.declared.limits.TheConstants.{MAX_BUDGET}
 use Rattle.pool_core.specs.Views.{HasPlaces, IsPool}
-use Rattle.pool_core.proofs.Lists.{sum_by-set_at, slice_get-set_same, slice_get-set_other, slice_get-set_cases}
-use Rattle.pool_core.proofs.Frames.{same_or_other, one_at}
-use Rattle.pool_core.proofs.Runs.{IsReachable-step}
+use Rattle.pool_machine.proofs.Lists.{sum_by-set_at, slice_get-set_same, slice_get-set_other, slice_get-set_cases}
+use Rattle.pool_machine.proofs.Frames.{same_or_other, one_at}
+use Rattle.pool_machine.proofs.Runs.{IsReachable-step}
 
 pub is_spent-false : (s : State) → is_spent s ≡ false → s.examined < s.budget
 is_spent-false s h = grind (arith, nat_tests)

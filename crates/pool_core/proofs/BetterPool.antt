@@ -3,11 +3,12 @@ use Rattle.std.proofs.Common.{◌≡◌, ℕ, true, List, Option, Some, refl}
 use Rattle.std.specs.Prelude.{Ok}
 use Rattle.plan_base.specs.declared.path.Design.{Design}
 use Rattle.plan_base.specs.Designs.{cost_of, IsGoodDesign}
-use Rattle.pool_core.specs.declared.answers.Better.TheVariants as better
-use Rattle.pool_core.specs.State.{Round, State}
-use Rattle.pool_core.specs.Machine.{is_cheaper, TakesBetter, Bettering, to_bettering}
+use Rattle.pool_machine.specs.declared.answers.Better.TheVariants as better
+use Rattle.pool_machine.specs.State.{Round, State}
+use Rattle.pool_machine.specs.Bettering.{is_cheaper, TakesBetter}
+use Rattle.pool_machine.specs.Machine.{Bettering, to_bettering}
 use Rattle.pool_core.specs.Views.{HasPlaces, IsPool}
-use Rattle.pool_core.proofs.Runs.{IsReachable-step}
+use Rattle.pool_machine.proofs.Runs.{IsReachable-step}
 
 -- the state with this design held
 abbrev pub holding : State → ℕ → Design → State

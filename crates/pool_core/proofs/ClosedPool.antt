@@ -7,13 +7,15 @@ use Rattle.plan_base.specs.declared.ids.BranchId.{BranchId}
 use Rattle.plan_base.specs.declared.parts.Parts.{Parts}
 use Rattle.arc_restrict.specs.Rows.{Rows}
 use Rattle.proof_tree.specs.declared.tree.Evidence.{Evidence}
-use Rattle.pool_core.specs.State.{Round, Node, State, state_of}
-use Rattle.pool_core.specs.Machine.{is_open_state, closed_by, examined_with, IsReachable}
-use Rattle.pool_core.specs.Views.{IsKeptPool}
-use Rattle.pool_core.specs.Rounds.{given_back, evidence_for, closed_at}
-use Rattle.pool_core.specs.declared.tree.Reason.{Reason}
+use Rattle.pool_machine.specs.State.{Round, Node, State, state_of}
+use Rattle.pool_machine.specs.Changes.{is_open_state, examined_with}
+use Rattle.pool_machine.specs.Closing.{closed_by}
+use Rattle.pool_machine.specs.Machine.{IsReachable}
+use Rattle.pool_core.specs.Views.{IsKeptPool, given_back, closed_at}
+use Rattle.pool_nodes.specs.Rounds.{evidence_for}
+use Rattle.pool_nodes.specs.declared.reason.Reason.{Reason}
 use Rattle.pool_core.proofs.Closings.{open_state-leaf}
-use Rattle.pool_core.proofs.Runs.{IsReachable-sound}
+use Rattle.pool_machine.proofs.Runs.{IsReachable-sound}
 use Rattle.pool_core.proofs.EndedRounds.{HasEnded, HasPlaces-ended, round-within, HasGrounds-cleared}
 
 module _ (s : State) (table : Parts) (grounds : List (Option Rows)) (places : List (Option Round)) (id : BranchId) (old : Node) (found : Evidence)

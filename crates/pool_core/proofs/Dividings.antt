@@ -18,16 +18,19 @@ use Rattle.proof_tree.specs.Splits.{IsSide}
 use Rattle.branch_tree.specs.Dealing.{AreDealt}
 use Rattle.branch_tree.proofs.DealingLaws.{dealt-branching, dealt-parted}
 use Rattle.second_path.specs.Others.{IsFirstTwo}
-use Rattle.pool_core.specs.declared.answers.Examined.TheVariants as examined
-use Rattle.pool_core.specs.State.{Round, Division, Undone, Node, State, restriction_of}
-use Rattle.pool_core.specs.Machine.{PartsAt, child_of, divided_by, Divides, Examining, to_examining, IsReachable}
-use Rattle.pool_core.specs.Views.{HasPlaces, IsGroundOf, HasGrounds, IsKeptPool}
-use Rattle.pool_core.specs.Rounds.{given_back}
+use Rattle.pool_machine.specs.declared.answers.Examined.TheVariants as examined
+use Rattle.branch_tree.specs.declared.node.Division.{Division}
+use Rattle.pool_machine.specs.declared.tree.Fate.TheVariants.{Undone}
+use Rattle.pool_machine.specs.State.{Round, Node, State, restriction_of}
+use Rattle.pool_machine.specs.Dividing.{PartsAt, child_of, divided_by, Divides}
+use Rattle.pool_machine.specs.Machine.{Examining, to_examining, IsReachable}
+use Rattle.pool_core.specs.Views.{HasPlaces, IsKeptPool, given_back}
+use Rattle.pool_nodes.specs.Grounds.{IsGroundOf, HasGrounds}
 use Rattle.pool_core.specs.Examining.{IsReadyAt, HasTwoPaths, IsChildAt, IsDivisionAt, AreChildrenAt}
-use Rattle.pool_core.proofs.Lists.{slice_get-append_left, slice_get-append_right, slice_get-append_cases}
-use Rattle.pool_core.proofs.Frames.{one_at}
-use Rattle.pool_core.proofs.Runs.{IsReachable-step, IsReachable-sound}
-use Rattle.pool_core.proofs.Small.{IsSound-nodes}
+use Rattle.pool_machine.proofs.Lists.{slice_get-append_left, slice_get-append_right, slice_get-append_cases}
+use Rattle.pool_machine.proofs.Frames.{one_at}
+use Rattle.pool_machine.proofs.Runs.{IsReachable-step, IsReachable-sound}
+use Rattle.pool_machine.proofs.Small.{IsSound-nodes}
 use Rattle.pool_core.proofs.EndedRounds.{HasEnded, HasPlaces-ended, round-within, HasGrounds-cleared}
 
 -- both paths are of the demand

@@ -5,14 +5,16 @@ use Rattle.std.proofs.lemmas.Option.{slice_get-get_or}
 use Rattle.std.proofs.lemmas.List.Sums.{sum_by-append, sum_by-cons}
 use Rattle.plan_base.specs.declared.parts.Parts.{Parts}
 use Rattle.arc_restrict.specs.Rows.{Rows}
-use Rattle.pool_core.specs.State.{Round, Node, State, restriction_of, rounds_by, rounds_in, active_count}
-use Rattle.pool_core.specs.Machine.{HasSlot, IsTaken}
-use Rattle.pool_core.specs.Soundness.{IsSoundRound, IsSound, badge_of}
-use Rattle.pool_core.specs.Views.{HasPlaces, IsGroundOf, HasGrounds}
-use Rattle.pool_core.specs.Rounds.{given_back}
-use Rattle.pool_core.proofs.Lists.{sum_by-set_at, slice_get-set_same, slice_get-set_other, slice_get-set_cases, slice_get-append_left, slice_get-append_cases}
-use Rattle.pool_core.proofs.Frames.{same_or_other, one_at, badge_at-at}
-use Rattle.pool_core.proofs.Replacing.{node_at}
+use Rattle.pool_machine.specs.State.{Round, Node, State, restriction_of, rounds_by, rounds_in, active_count}
+use Rattle.pool_machine.specs.Opening.{HasSlot, IsTaken}
+use Rattle.pool_machine.specs.Nodes.{IsSoundRound}
+use Rattle.pool_machine.specs.Soundness.{IsSound}
+use Rattle.pool_machine.specs.Family.{badge_of}
+use Rattle.pool_core.specs.Views.{HasPlaces, given_back}
+use Rattle.pool_nodes.specs.Grounds.{IsGroundOf, HasGrounds}
+use Rattle.pool_machine.proofs.Lists.{sum_by-set_at, slice_get-set_same, slice_get-set_other, slice_get-set_cases, slice_get-append_left, slice_get-append_cases}
+use Rattle.pool_machine.proofs.Frames.{same_or_other, one_at, badge_at-at}
+use Rattle.pool_machine.proofs.Replacing.{node_at}
 
 -- a round with the slot has a badge with it
 slot-badge : (o : Option Round) (slot : ℕ) → IsSomeAnd o (λ r. r.slot ≡ slot) → (version : ℕ) × (badge_of o ≡ Some (slot, version))

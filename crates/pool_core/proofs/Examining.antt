@@ -20,19 +20,27 @@ use Rattle.second_path.specs.Others.{IsCutOff, IsFirstEmpty, IsDetermined}
 use Rattle.second_path.specs.declared.determined.Determined.{Determined}
 use Rattle.second_path.specs.declared.determined.Determined.TheVariants as determined
 use Rattle.proof_tree.specs.declared.tree.Evidence.{Evidence}
-use Rattle.pool_core.specs.declared.limits.TheConstants.{MAX_VERSIONS}
-use Rattle.pool_core.specs.declared.answers.ExamineFault.{ExamineFault}
-use Rattle.pool_core.specs.declared.answers.ExamineFault.TheVariants as examine_fault
-use Rattle.pool_core.specs.declared.answers.Examined.TheVariants as examined
-use Rattle.pool_core.specs.declared.tree.Reason.TheVariants as reason
-use Rattle.pool_core.specs.State.{HeldCut, Round, Best, Fate, Undone, Node, State, restriction_of, cutoff_of, state_by, state_in, state_of}
-use Rattle.pool_core.specs.Machine.{is_spent, is_open_state, has_cut, is_closable, bound_or_zero, bound_in, ready_fault, examine_refusal, closed_by, examined_with, IsExamined, IsReady, ClosesByCut, ExamineStep, Examining, to_examining, IsReachable}
-use Rattle.pool_core.specs.Soundness.{IsSoundNode, IsSoundBest}
-use Rattle.pool_core.specs.Views.{IsGroundOf, IsKeptPool}
-use Rattle.pool_core.specs.Rounds.{cut_proof, HasReason, closed_at}
+use Rattle.pool_machine.specs.declared.limits.TheConstants.{MAX_VERSIONS}
+use Rattle.pool_machine.specs.declared.answers.ExamineFault.{ExamineFault}
+use Rattle.pool_machine.specs.declared.answers.ExamineFault.TheVariants as examine_fault
+use Rattle.pool_machine.specs.declared.answers.Examined.TheVariants as examined
+use Rattle.pool_nodes.specs.declared.reason.Reason.TheVariants as reason
+use Rattle.pool_machine.specs.declared.tree.HeldCut.{HeldCut}
+use Rattle.pool_machine.specs.declared.tree.Fate.{Fate}
+use Rattle.pool_machine.specs.declared.tree.Fate.TheVariants.{Undone}
+use Rattle.pool_machine.specs.State.{Round, Best, Node, State, restriction_of, cutoff_of, state_by, state_in, state_of}
+use Rattle.pool_machine.specs.Changes.{is_spent, is_open_state, has_cut, bound_in, examined_with}
+use Rattle.pool_machine.specs.Closing.{is_closable, closed_by}
+use Rattle.pool_machine.specs.Readiness.{bound_or_zero, ready_fault, examine_refusal, IsExamined, IsReady}
+use Rattle.pool_machine.specs.Examining.{ClosesByCut, ExamineStep}
+use Rattle.pool_machine.specs.Machine.{Examining, to_examining, IsReachable}
+use Rattle.pool_machine.specs.Nodes.{IsSoundNode, IsSoundBest}
+use Rattle.pool_nodes.specs.Grounds.{IsGroundOf}
+use Rattle.pool_core.specs.Views.{IsKeptPool, closed_at}
+use Rattle.pool_nodes.specs.Rounds.{cut_proof, HasReason}
 use Rattle.pool_core.specs.Examining.{IsReadyAt, IsDeterminedAt}
-use Rattle.pool_core.proofs.Runs.{IsReachable-step, IsReachable-sound}
-use Rattle.pool_core.proofs.Replacing.{node_at}
+use Rattle.pool_machine.proofs.Runs.{IsReachable-step, IsReachable-sound}
+use Rattle.pool_machine.proofs.Replacing.{node_at}
 use Rattle.pool_core.proofs.Answering.{is_spent-false}
 use Rattle.pool_core.proofs.Closings.{open_state-leaf}
 

@@ -9,12 +9,14 @@ use Rattle.link_steps.specs.Values.{AreStartPrices}
 use Rattle.arc_restrict.specs.Restrictions.{none_forbidden}
 use Rattle.arc_restrict.specs.Prices.{AreWithinLimit}
 use Rattle.arc_restrict.specs.Rows.{Rows, forbids, HasSizeOf}
-use Rattle.pool_core.specs.declared.limits.TheConstants.{MAX_ROUNDS, MAX_BUDGET}
-use Rattle.pool_core.specs.State.{Round, Node, State, rounds_in, restriction_of}
-use Rattle.pool_core.specs.Machine.{root_with, IsTaken, IsOpeningState}
-use Rattle.pool_core.specs.Views.{AreFreePlaces, HasPlaces, IsGroundOf, HasGrounds, IsKeptPool}
-use Rattle.pool_core.proofs.Lists.{slice_get-append_left, slice_get-append_right}
-use Rattle.pool_core.proofs.Frames.{one_at}
+use Rattle.pool_machine.specs.declared.limits.TheConstants.{MAX_ROUNDS, MAX_BUDGET}
+use Rattle.pool_machine.specs.State.{Round, Node, State, rounds_in, restriction_of}
+use Rattle.pool_machine.specs.Machine.{root_with, IsOpeningState}
+use Rattle.pool_machine.specs.Opening.{IsTaken}
+use Rattle.pool_core.specs.Views.{AreFreePlaces, HasPlaces, IsKeptPool}
+use Rattle.pool_nodes.specs.Grounds.{IsGroundOf, HasGrounds}
+use Rattle.pool_machine.proofs.Lists.{slice_get-append_left, slice_get-append_right}
+use Rattle.pool_machine.proofs.Frames.{one_at}
 
 pub free_places-none : (demands links : ℕ) → AreFreePlaces 0 demands links []
 free_places-none demands links = record { length_is = refl; each = λ slot below. absurd (omega arith) }

@@ -15,21 +15,29 @@ use Rattle.path_pricing.specs.declared.priced.Unfit.{Unfit}
 use Rattle.path_pricing.specs.Priced.{IsLeastPath, ArePrices}
 use Rattle.path_pricing.specs.Faults.{priced_fault}
 use Rattle.path_pricing.proofs.FaultLaws.{IsPriced-priced_fault}
-use Rattle.pool_core.specs.declared.answers.Offer.{Offer}
-use Rattle.pool_core.specs.declared.answers.Offered.{Offered}
-use Rattle.pool_core.specs.declared.answers.Offered.TheVariants as offered
-use Rattle.pool_core.specs.State.{Found, HeldCut, Round, Fate, Undone, Node, State, restriction_of, left_of, rounds_by, rounds_in, state_by, state_in, state_of, round_of}
-use Rattle.pool_core.specs.Machine.{is_spent, version_in, is_version, is_priced, has_cut, is_open_state, unfit_in, stale_fault, offer_fault, FitsRound, TakesCut, Accepts, OfferStep, TakesRound, HasSlot, IsTaken, with_found, with_node, IsReachable, Offering, to_offering}
-use Rattle.pool_core.specs.Soundness.{IsSoundRound, IsSoundNode, IsSound}
+use Rattle.pool_machine.specs.declared.answers.Offer.{Offer}
+use Rattle.pool_machine.specs.declared.answers.Offered.{Offered}
+use Rattle.pool_machine.specs.declared.answers.Offered.TheVariants as offered
+use Rattle.pool_machine.specs.declared.tree.Found.{Found}
+use Rattle.pool_machine.specs.declared.tree.HeldCut.{HeldCut}
+use Rattle.pool_machine.specs.declared.tree.Fate.{Fate}
+use Rattle.pool_machine.specs.declared.tree.Fate.TheVariants.{Undone}
+use Rattle.pool_machine.specs.State.{Round, Node, State, restriction_of, left_of, rounds_by, rounds_in, state_by, state_in, state_of, round_of}
+use Rattle.pool_machine.specs.Changes.{is_spent, version_in, is_version, has_cut, is_open_state, stale_fault, TakesRound, with_node}
+use Rattle.pool_machine.specs.Offering.{is_priced, unfit_in, offer_fault, FitsRound, TakesCut, Accepts, OfferStep, with_found}
+use Rattle.pool_machine.specs.Opening.{HasSlot, IsTaken}
+use Rattle.pool_machine.specs.Machine.{IsReachable, Offering, to_offering}
+use Rattle.pool_machine.specs.Nodes.{IsSoundRound, IsSoundNode}
+use Rattle.pool_machine.specs.Soundness.{IsSound}
 use Rattle.pool_core.specs.Views.{HasPlaces, IsPool, IsKeptPool}
-use Rattle.pool_core.proofs.Lists.{sum_by-set_at, slice_get-set_same, slice_get-set_other, slice_get-set_cases}
-use Rattle.pool_core.proofs.Frames.{same_or_other, one_at}
-use Rattle.pool_core.proofs.Replacing.{node_at}
-use Rattle.pool_core.proofs.Runs.{IsReachable-step, IsReachable-sound}
-use Rattle.pool_core.proofs.Small.{IsSound-accepted}
+use Rattle.pool_machine.proofs.Lists.{sum_by-set_at, slice_get-set_same, slice_get-set_other, slice_get-set_cases}
+use Rattle.pool_machine.proofs.Frames.{same_or_other, one_at}
+use Rattle.pool_machine.proofs.Replacing.{node_at}
+use Rattle.pool_machine.proofs.Runs.{IsReachable-step, IsReachable-sound}
+use Rattle.pool_machine.proofs.Small.{IsSound-accepted}
 use Rattle.pool_core.proofs.Answering.{stale_fault-none}
-use Rattle.pool_core.proofs.Grounds.{HasGrounds-set}
-use Rattle.pool_core.proofs.Completing.{TakesRound-round, TakesRound-limits, TakesRound-fate}
+use Rattle.pool_nodes.proofs.Grounds.{HasGrounds-set}
+use Rattle.pool_nodes.proofs.Completing.{TakesRound-round, TakesRound-limits, TakesRound-fate}
 
 -- Where no fault is found
 

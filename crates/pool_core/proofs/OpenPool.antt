@@ -10,23 +10,27 @@ use Rattle.plan_base.specs.declared.parts.Parts.{Parts}
 use Rattle.plan_base.specs.First.{◌or_else◌, when}
 use Rattle.plan_base.proofs.Bools.{not-false}
 use Rattle.plan_base.proofs.FirstFault.{or_else-none, when-none}
-use Rattle.pool_core.specs.declared.limits.TheConstants.{MAX_ROUNDS}
-use Rattle.pool_core.specs.declared.answers.RoundFault.TheVariants as round_fault
-use Rattle.pool_core.specs.State.{Round, Fate, Undone, ClosedBy, DividedBy, Node, State, restriction_of, rounds_by, rounds_in, active_count, state_by, state_in, state_of}
-use Rattle.pool_core.specs.Machine.{is_spent, is_waiting, open_fault, HasSlot, IsTaken, empty_round, Opens, TakesRound, Opening, to_opening}
-use Rattle.pool_core.specs.Soundness.{IsSoundRound, IsSoundNode}
+use Rattle.pool_machine.specs.declared.limits.TheConstants.{MAX_ROUNDS}
+use Rattle.pool_machine.specs.declared.answers.RoundFault.TheVariants as round_fault
+use Rattle.pool_machine.specs.declared.tree.Fate.{Fate}
+use Rattle.pool_machine.specs.declared.tree.Fate.TheVariants.{Undone, ClosedBy, DividedBy}
+use Rattle.pool_machine.specs.State.{Round, Node, State, restriction_of, rounds_by, rounds_in, active_count, state_by, state_in, state_of}
+use Rattle.pool_machine.specs.Changes.{is_spent, TakesRound}
+use Rattle.pool_machine.specs.Opening.{is_waiting, open_fault, HasSlot, IsTaken, empty_round, Opens}
+use Rattle.pool_machine.specs.Machine.{Opening, to_opening}
+use Rattle.pool_machine.specs.Nodes.{IsSoundRound, IsSoundNode}
 use Rattle.pool_core.specs.Views.{HasPlaces, IsFirstFree, IsPool, IsKeptPool}
-use Rattle.pool_core.proofs.Lists.{sum_by-set_at, slice_get-set_same, slice_get-set_other, slice_get-set_cases}
-use Rattle.pool_core.proofs.Frames.{same_or_other, one_at}
-use Rattle.pool_core.proofs.Replacing.{node_at}
-use Rattle.pool_core.proofs.Runs.{IsReachable-step, IsReachable-sound}
-use Rattle.pool_core.proofs.Small.{IsSound-next_version}
+use Rattle.pool_machine.proofs.Lists.{sum_by-set_at, slice_get-set_same, slice_get-set_other, slice_get-set_cases}
+use Rattle.pool_machine.proofs.Frames.{same_or_other, one_at}
+use Rattle.pool_machine.proofs.Replacing.{node_at}
+use Rattle.pool_machine.proofs.Runs.{IsReachable-step, IsReachable-sound}
+use Rattle.pool_machine.proofs.Small.{IsSound-next_version}
 use Rattle.pool_core.proofs.Answering.{is_spent-false}
-use Rattle.pool_core.proofs.Grounds.{HasGrounds-set}
-use Rattle.pool_core.proofs.Opening.{none_found}
-use Rattle.pool_core.proofs.Completing.{TakesRound-round, TakesRound-limits, TakesRound-fate, TakesRound-from}
+use Rattle.pool_nodes.proofs.Grounds.{HasGrounds-set}
+use Rattle.pool_machine.proofs.Opening.{none_found}
+use Rattle.pool_nodes.proofs.Completing.{TakesRound-round, TakesRound-limits, TakesRound-fate, TakesRound-from}
 use Rattle.arc_restrict.specs.Rows.{Rows}
-use Rattle.pool_core.specs.Rounds.{MayComplete}
+use Rattle.pool_nodes.specs.Rounds.{MayComplete}
 
 -- the node waits, and there is room
 pub record MayOpen (s : State) (id : BranchId) : Type 0 where

@@ -3,13 +3,13 @@ use Rattle.std.proofs.Common.{◌≡◌, ℕ, ◌+◌, ◌<◌, ◌≤◌, inl, 
 use Rattle.std.proofs.lemmas.Option.{slice_get_within}
 use Rattle.plan_base.specs.declared.ids.BranchId.{BranchId}
 use Rattle.dual_versions.specs.declared.published.Published.{Published}
-use Rattle.pool_core.specs.State.{Round, Node, State}
-use Rattle.pool_core.specs.Machine.{HasSlot, IsTaken}
+use Rattle.pool_machine.specs.State.{Round, Node, State}
+use Rattle.pool_machine.specs.Opening.{HasSlot, IsTaken}
 use Rattle.pool_core.specs.Views.{IsPool, IsPublishedAt}
-use Rattle.pool_core.specs.Rounds.{IsPublishedBy}
-use Rattle.pool_core.proofs.Frames.{same_or_other, one_at}
-use Rattle.pool_core.proofs.Runs.{IsReachable-sound}
-use Rattle.pool_core.proofs.Small.{IsSound-nodes}
+use Rattle.pool_nodes.specs.Rounds.{IsPublishedBy}
+use Rattle.pool_machine.proofs.Frames.{same_or_other, one_at}
+use Rattle.pool_machine.proofs.Runs.{IsReachable-sound}
+use Rattle.pool_machine.proofs.Small.{IsSound-nodes}
 
 -- none of the first nodes has a round with the slot
 abbrev pub AreWithoutSlot : List Node → ℕ → ℕ → Type 0

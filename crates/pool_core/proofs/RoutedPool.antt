@@ -11,16 +11,19 @@ use Rattle.plan_base.specs.Designs.{load_on, counts_at}
 use Rattle.link_steps.specs.Costs.{AreLeastCounts}
 use Rattle.incumbent.specs.Completions.{ArePaths, IsCompletion, IsFirstOverfull}
 use Rattle.proof_tree.specs.declared.tree.Evidence.TheVariants as evidence
-use Rattle.pool_core.specs.declared.answers.Better.{Better}
-use Rattle.pool_core.specs.declared.answers.Examined.TheVariants as examined
-use Rattle.pool_core.specs.declared.tree.Reason.TheVariants as reason
-use Rattle.pool_core.specs.State.{State, restriction_of, state_of}
-use Rattle.pool_core.specs.Machine.{is_open_state, ClosesOverfull, ClosesRouted, BetterStep, Examining, to_examining, IsReachable}
-use Rattle.pool_core.specs.Rounds.{closed_at}
+use Rattle.pool_machine.specs.declared.answers.Better.{Better}
+use Rattle.pool_machine.specs.declared.answers.Examined.TheVariants as examined
+use Rattle.pool_nodes.specs.declared.reason.Reason.TheVariants as reason
+use Rattle.pool_machine.specs.State.{State, restriction_of, state_of}
+use Rattle.pool_machine.specs.Changes.{is_open_state}
+use Rattle.pool_machine.specs.Examining.{ClosesOverfull, ClosesRouted}
+use Rattle.pool_machine.specs.Bettering.{BetterStep}
+use Rattle.pool_machine.specs.Machine.{Examining, to_examining, IsReachable}
+use Rattle.pool_core.specs.Views.{closed_at}
 use Rattle.pool_core.specs.Examining.{HasOnlyPaths}
 use Rattle.pool_core.proofs.Examining.{open-at, shown-closed}
 use Rattle.pool_core.proofs.Routings.{are-paths, overfull-closed, completion-routed, with_cheaper, better-holds}
-use Rattle.pool_core.proofs.Runs.{IsReachable-step}
+use Rattle.pool_machine.proofs.Runs.{IsReachable-step}
 
 module _ (s : State) (id : BranchId) (paths : List (List ArcId)) (at : HasOnlyPaths s id paths) where
   pub paths-are : ArePaths s.problem paths

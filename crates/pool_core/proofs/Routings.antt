@@ -14,10 +14,12 @@ use Rattle.arc_restrict.specs.Restrictions.{Forbidden, IsOnlyPath}
 use Rattle.second_path.specs.Others.{AreOnlyPaths as AreOnlyOnes}
 use Rattle.proof_tree.specs.Evidence.{AreOnlyPaths, ClosedByOverfull}
 use Rattle.incumbent.specs.Completions.{with_paths, ArePaths, IsCompletion, CarryLoads, HasOverfull, IsFirstOverfull}
-use Rattle.pool_core.specs.declared.answers.Better.{Better}
-use Rattle.pool_core.specs.declared.answers.Better.TheVariants as better
-use Rattle.pool_core.specs.State.{Incumbent, State}
-use Rattle.pool_core.specs.Machine.{cheaper_of, is_cheaper, BetterStep, IsRouted}
+use Rattle.pool_machine.specs.declared.answers.Better.{Better}
+use Rattle.pool_machine.specs.declared.answers.Better.TheVariants as better
+use Rattle.pool_machine.specs.declared.tree.Incumbent.{Incumbent}
+use Rattle.pool_machine.specs.State.{State}
+use Rattle.pool_machine.specs.Examining.{cheaper_of, IsRouted}
+use Rattle.pool_machine.specs.Bettering.{is_cheaper, BetterStep}
 
 module _ (p : Parts) (r : Forbidden) (paths : List (List ArcId)) (only : AreOnlyOnes p r paths) where
   pub are-paths : ArePaths p paths

@@ -1,5 +1,5 @@
 -- What one thread's steps on a node keep, and that they lead on.
-use Rattle.std.proofs.Common.{◌≡◌, ◌≢◌, ℕ, zero, suc, ◌+◌, ◌-◌, ◌<◌, ◌≤◌, ◌⊎◌, inl, inr, Bool, true, false, List, [], ◌∷◌, ◌++◌, length, get_or, Option, Some, None, slice_get, refl, sym, ap, subst, ◌∙◌, arith, sum_by, add-one}
+use Rattle.std.proofs.Common.{◌≡◌, ◌≢◌, ℕ, zero, suc, ◌+◌, ◌-◌, ◌<◌, ◌≤◌, ◌⊎◌, inl, inr, Bool, true, false, List, [], ◌∷◌, length, get_or, Option, Some, None, slice_get, refl, sym, ap, subst, ◌∙◌, arith, sum_by, add-one}
 use Rattle.std.specs.Prelude.{Result, Ok, Err, OnOk, IfOk, is_some, option_map, option_and_then, IsSome, IfSome, IsSomeAnd, nat_le, if◌then◌else◌}
 use Rattle.std.proofs.lemmas.Bool.{eq-eqb}
 use Rattle.std.proofs.lemmas.Bool.Decides.{nat_tests}
@@ -22,94 +22,51 @@ use Rattle.path_pricing.specs.declared.priced.Priced.{Priced}
 use Rattle.path_pricing.specs.Priced.{ArePrices}
 use Rattle.path_pricing.specs.Faults.{priced_fault}
 use Rattle.incumbent.specs.Completions.{ArePaths}
-use Rattle.pool_core.specs.declared.answers.Opened.{Opened}
-use Rattle.pool_core.specs.declared.answers.RoundFault.{RoundFault}
-use Rattle.pool_core.specs.declared.answers.Offer.{Offer}
-use Rattle.pool_core.specs.declared.answers.Offered.{Offered}
-use Rattle.pool_core.specs.declared.answers.Offered.TheVariants as offered
-use Rattle.pool_core.specs.declared.answers.Settle.{Settle}
-use Rattle.pool_core.specs.declared.answers.Settle.TheVariants as settle
-use Rattle.pool_core.specs.declared.answers.Closing.{Closing}
-use Rattle.pool_core.specs.declared.answers.Closing.TheVariants as closing
-use Rattle.pool_core.specs.declared.answers.Examined.{Examined}
-use Rattle.pool_core.specs.declared.answers.Examined.TheVariants as examined
-use Rattle.pool_core.specs.declared.answers.ExamineFault.{ExamineFault}
-use Rattle.pool_core.specs.declared.answers.ExamineFault.TheVariants as examine_fault
-use Rattle.pool_core.specs.declared.answers.Better.{Better}
-use Rattle.pool_core.specs.declared.answers.Better.TheVariants as better
-use Rattle.pool_core.specs.State.{Found, HeldCut, Round, Fate, Undone, Node, State, restriction_of, cutoff_of, gap_of, left_of, left_in_round, round_of}
-use Rattle.pool_core.specs.Machine.{TakesRound, empty_round, Opens, OpenStep, version_in, is_version, is_priced, has_cut, gap_at, unfit_in, stale_fault, offer_fault, TakesCut, with_found, Accepts, OfferStep, first_gap, settle_fault, Settles, SettleStep, is_closable, closable_in, close_fault, CloseStep, examine_refusal, ExamineStep, BetterStep, Event, Opening, Offering, Settling, Closing_of, Examining, Bettering, Answer, to_opening, to_offering, to_settling, to_closing, to_examining, to_bettering, Step, Entry, Run, IsOpeningState, IsReachable}
-use Rattle.pool_core.specs.Soundness.{IsSoundRound, IsSound}
-use Rattle.pool_core.specs.PlanOf.{is_done}
-use Rattle.pool_core.specs.Tasks.{LeadsTo, IsSearchState}
-use Rattle.pool_core.specs.Views.{IsGroundOf, HasGrounds, IsPool}
-use Rattle.pool_core.specs.Work.{OnlyPrices, is_next, IsAtWork, IsPricedOut, gap_in, cut_left, work_in, paths_of}
+use Rattle.pool_machine.specs.declared.answers.Opened.{Opened}
+use Rattle.pool_machine.specs.declared.answers.RoundFault.{RoundFault}
+use Rattle.pool_machine.specs.declared.answers.Offer.{Offer}
+use Rattle.pool_machine.specs.declared.answers.Offered.{Offered}
+use Rattle.pool_machine.specs.declared.answers.Offered.TheVariants as offered
+use Rattle.pool_machine.specs.declared.answers.Settle.{Settle}
+use Rattle.pool_machine.specs.declared.answers.Settle.TheVariants as settle
+use Rattle.pool_machine.specs.declared.answers.Closing.{Closing}
+use Rattle.pool_machine.specs.declared.answers.Closing.TheVariants as closing
+use Rattle.pool_machine.specs.declared.answers.Examined.{Examined}
+use Rattle.pool_machine.specs.declared.answers.Examined.TheVariants as examined
+use Rattle.pool_machine.specs.declared.answers.ExamineFault.{ExamineFault}
+use Rattle.pool_machine.specs.declared.answers.ExamineFault.TheVariants as examine_fault
+use Rattle.pool_machine.specs.declared.answers.Better.{Better}
+use Rattle.pool_machine.specs.declared.answers.Better.TheVariants as better
+use Rattle.pool_machine.specs.declared.tree.Found.{Found}
+use Rattle.pool_machine.specs.declared.tree.HeldCut.{HeldCut}
+use Rattle.pool_machine.specs.declared.tree.Fate.{Fate}
+use Rattle.pool_machine.specs.declared.tree.Fate.TheVariants.{Undone}
+use Rattle.pool_machine.specs.State.{Round, Node, State, restriction_of, cutoff_of, gap_of, left_of, left_in_round, round_of}
+use Rattle.pool_machine.specs.Changes.{TakesRound, version_in, is_version, has_cut, gap_at, stale_fault, first_gap}
+use Rattle.pool_machine.specs.Opening.{empty_round, Opens, OpenStep}
+use Rattle.pool_machine.specs.Offering.{is_priced, unfit_in, offer_fault, TakesCut, with_found, Accepts, OfferStep}
+use Rattle.pool_machine.specs.Settling.{settle_fault, Settles, SettleStep}
+use Rattle.pool_machine.specs.Closing.{is_closable, closable_in, close_fault, CloseStep}
+use Rattle.pool_machine.specs.Readiness.{examine_refusal}
+use Rattle.pool_machine.specs.Examining.{ExamineStep}
+use Rattle.pool_machine.specs.Bettering.{BetterStep}
+use Rattle.pool_machine.specs.Machine.{Event, Opening, Offering, Settling, Closing_of, Examining, Bettering, Answer, to_opening, to_offering, to_settling, to_closing, to_examining, to_bettering, Step, IsReachable}
+use Rattle.pool_machine.specs.Nodes.{IsSoundRound}
+use Rattle.pool_machine.specs.Soundness.{IsSound}
+use Rattle.pool_machine.specs.PlanOf.{is_done}
+use Rattle.pool_machine.specs.Tasks.{LeadsTo}
+use Rattle.pool_nodes.specs.Grounds.{IsGroundOf, HasGrounds}
+use Rattle.pool_core.specs.Views.{IsPool}
+use Rattle.pool_core.specs.Work.{OnlyPrices, is_next, IsAtWork, IsPricedOut, gap_in, cut_left, work_in}
+use Rattle.pool_nodes.specs.Rounds.{paths_of}
 use Rattle.pool_core.proofs.Answering.{first_gap-none}
-use Rattle.pool_core.proofs.Frames.{one_at}
-use Rattle.pool_core.proofs.Lists.{slice_get-set_same, sum_by-set_at}
-use Rattle.pool_core.proofs.Replacing.{node_at}
-use Rattle.pool_core.proofs.Small.{IsSound-nodes}
-use Rattle.pool_core.proofs.Runs.{Step-goes, IsReachable-step, IsReachable-sound}
+use Rattle.pool_machine.proofs.Frames.{one_at}
+use Rattle.pool_machine.proofs.Lists.{slice_get-set_same, sum_by-set_at}
+use Rattle.pool_machine.proofs.Replacing.{node_at}
+use Rattle.pool_machine.proofs.Small.{IsSound-nodes}
+use Rattle.pool_machine.proofs.Runs.{Step-goes, IsReachable-step, IsReachable-sound}
 use Rattle.pool_core.proofs.TaskLaws.{branch_id, none_next-done, not_done-unspent, spent-false, next-waits, none-open_fault, HasRound, has-round, round_of-has, has-undone, none-close_fault, none-examine_cut, none-examine_ready, complete-counted, first_gap-some, not_priced-at}
-
--- Runs
-
-Run-append : (s t u : State) (xs ys : List Entry) → Run s xs t → Run t ys u → Run s (xs ++ ys) u
-Run-append s t u [] ys run more = subst (λ (x : State). Run x ys u) run more
-Run-append s t u (x ∷ xs) ys run more = (run.0, run.1, Run-append run.0 t u xs ys run.2 more)
-
-pub LeadsTo-stays : (s t : State) → t ≡ s → LeadsTo s t
-LeadsTo-stays s t e = ([], e)
-
-pub LeadsTo-trans : (s t u : State) → LeadsTo s t → LeadsTo t u → LeadsTo s u
-LeadsTo-trans s t u h k = (h.0 ++ k.0, Run-append s t u h.0 k.0 h.1 k.1)
-
-pub LeadsTo-one : (s t : State) (event : Event) (answer : Answer) → Step s event answer t → LeadsTo s t
-LeadsTo-one s t event answer step =
-    let entry : Entry = record { event = event; answer = answer } in
-    (entry ∷ [], (t, step, refl))
-
--- events leave the instance and the budget
-pub record KeepsBase (s t : State) : Type 0 where
-  pub problem : t.problem ≡ s.problem
-  pub budget : t.budget ≡ s.budget
-
-Run-base : (s t : State) (entries : List Entry) → Run s entries t → KeepsBase s t
-Run-base s t [] run = record { problem = ap (λ (x : State). x.problem) run; budget = ap (λ (x : State). x.budget) run }
-Run-base s t (entry ∷ entries) run =
-    let one = Step-goes s run.0 entry.event entry.answer run.1 in
-    let rest = Run-base run.0 t entries run.2 in
-    record { problem = rest.problem ∙ one.problem; budget = rest.budget ∙ one.budget }
-
-pub LeadsTo-base : (s t : State) → LeadsTo s t → KeepsBase s t
-LeadsTo-base s t h = Run-base s t h.0 h.1
-
-Run-reachable : (s t : State) (entries : List Entry) → IsReachable s → Run s entries t → IsReachable t
-Run-reachable s t [] h run = subst IsReachable (sym run) h
-Run-reachable s t (entry ∷ entries) h run = Run-reachable run.0 t entries (IsReachable-step s run.0 entry.event entry.answer h run.1) run.2
-
-pub LeadsTo-reachable : (s t : State) → IsReachable s → LeadsTo s t → IsReachable t
-LeadsTo-reachable s t h leads = Run-reachable s t leads.0 h leads.1
-
--- where events lead from an opening state
-pub opening-leads : (p : Parts) (budget : ℕ) (s t : State) → IsOpeningState p budget s → LeadsTo s t → IsSearchState p budget t
-opening-leads p budget s t opening leads =
-    let problem : s.problem ≡ p = ap (λ (x : State). x.problem) opening.is_state in
-    let budget_is : s.budget ≡ budget = ap (λ (x : State). x.budget) opening.is_state in
-    let first : IsReachable s = record {
-      opening = s;
-      entries = [];
-      is_opening = subst (λ (q : Parts). IsOpeningState q s.budget s) (sym problem) (subst (λ (b : ℕ). IsOpeningState p b s) (sym budget_is) opening);
-      run = refl;
-    } in
-    let reachable = LeadsTo-reachable s t first leads in
-    let base = LeadsTo-base s t leads in
-    record {
-      reachable = reachable;
-      sound = IsReachable-sound t reachable;
-      problem = base.problem ∙ problem;
-      budget_is = base.budget ∙ budget_is;
-    }
+use Rattle.pool_machine.proofs.Leads.{LeadsTo-stays, LeadsTo-trans, LeadsTo-one, LeadsTo-base}
 
 -- Steps that examine nothing
 

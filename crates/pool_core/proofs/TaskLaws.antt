@@ -12,21 +12,30 @@ use Rattle.plan_base.specs.Faults.{demand_id}
 use Rattle.plan_base.specs.First.{fault_at, first_in}
 use Rattle.plan_base.proofs.Bools.{not-true}
 use Rattle.plan_base.proofs.FirstFault.{none-or_else, none-when, IsFirst-first_fault}
-use Rattle.pool_core.specs.declared.answers.NodeState.{NodeState}
-use Rattle.pool_core.specs.declared.answers.NodeState.TheVariants as state
-use Rattle.pool_core.specs.declared.answers.RoundFault.TheVariants as round_fault
-use Rattle.pool_core.specs.declared.answers.Closing.TheVariants as closing
-use Rattle.pool_core.specs.declared.answers.ExamineFault.TheVariants as examine_fault
-use Rattle.pool_core.specs.declared.limits.TheConstants.{MAX_ROUNDS, MAX_VERSIONS}
-use Rattle.pool_core.specs.State.{Found, Round, HeldCut, Fate, Undone, ClosedBy, DividedBy, Node, State, cutoff_of, left_of, rounds_by, rounds_in, active_count, state_by, state_in, state_of, round_of}
-use Rattle.pool_core.specs.Machine.{is_spent, is_waiting, is_open_state, open_fault, version_in, is_priced, has_cut, gap_at, is_closable, closable_in, bound_in, close_fault, bound_or_zero, ready_fault, examine_refusal}
-use Rattle.pool_core.specs.Soundness.{IsSoundNode, IsSound}
-use Rattle.pool_core.specs.PlanOf.{open_by, open_count, is_done}
-use Rattle.pool_core.specs.Tasks.{IsToPrice, IsToAdvance}
+use Rattle.pool_machine.specs.declared.answers.NodeState.{NodeState}
+use Rattle.pool_machine.specs.declared.answers.NodeState.TheVariants as state
+use Rattle.pool_machine.specs.declared.answers.RoundFault.TheVariants as round_fault
+use Rattle.pool_machine.specs.declared.answers.Closing.TheVariants as closing
+use Rattle.pool_machine.specs.declared.answers.ExamineFault.TheVariants as examine_fault
+use Rattle.pool_machine.specs.declared.limits.TheConstants.{MAX_ROUNDS, MAX_VERSIONS}
+use Rattle.pool_machine.specs.declared.tree.Found.{Found}
+use Rattle.pool_machine.specs.declared.tree.HeldCut.{HeldCut}
+use Rattle.pool_machine.specs.declared.tree.Fate.{Fate}
+use Rattle.pool_machine.specs.declared.tree.Fate.TheVariants.{Undone, ClosedBy, DividedBy}
+use Rattle.pool_machine.specs.State.{Round, Node, State, cutoff_of, left_of, rounds_by, rounds_in, active_count, state_by, state_in, state_of, round_of}
+use Rattle.pool_machine.specs.Changes.{is_spent, is_open_state, version_in, has_cut, gap_at, bound_in}
+use Rattle.pool_machine.specs.Opening.{is_waiting, open_fault}
+use Rattle.pool_machine.specs.Offering.{is_priced}
+use Rattle.pool_machine.specs.Closing.{is_closable, closable_in, close_fault}
+use Rattle.pool_machine.specs.Readiness.{bound_or_zero, ready_fault, examine_refusal}
+use Rattle.pool_machine.specs.Nodes.{IsSoundNode}
+use Rattle.pool_machine.specs.Soundness.{IsSound}
+use Rattle.pool_machine.specs.PlanOf.{open_by, open_count, is_done}
+use Rattle.pool_machine.specs.Tasks.{IsToPrice, IsToAdvance}
 use Rattle.pool_core.specs.Work.{is_next_in, is_next, may_go_on_in}
 use Rattle.pool_core.proofs.Answering.{first_gap-none}
-use Rattle.pool_core.proofs.Enough.{all_nodes}
-use Rattle.pool_core.proofs.Replacing.{node_at}
+use Rattle.pool_machine.proofs.Enough.{all_nodes}
+use Rattle.pool_machine.proofs.Replacing.{node_at}
 
 -- Tests
 

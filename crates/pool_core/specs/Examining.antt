@@ -8,8 +8,10 @@ use Rattle.second_path.specs.declared.determined.Determined.{Determined}
 use Rattle.second_path.specs.declared.determined.Determined.TheVariants as determined
 use Rattle.arc_restrict.specs.Restrictions.{with_forbidden}
 use Rattle.arc_restrict.specs.Rows.{Rows, forbids, HasSizeOf}
-use Rattle.pool_core.specs.State.{Division, Node, State, restriction_of}
-use Rattle.pool_core.specs.Machine.{IsReady, PartsAt, child_of}
+use Rattle.branch_tree.specs.declared.node.Division.{Division}
+use Rattle.pool_machine.specs.State.{Node, State, restriction_of}
+use Rattle.pool_machine.specs.Readiness.{IsReady}
+use Rattle.pool_machine.specs.Dividing.{PartsAt, child_of}
 
 -- the node of the number may be examined
 pub record IsReadyAt (s : State) (id : BranchId) : Type 0 where

@@ -1,12 +1,18 @@
 -- How the pool's fields show a state, and what holds of them.
-use Rattle.std.specs.Prelude.{ℕ, ◌≡◌, ◌<◌, ◌≤◌, ◌+◌, List, length, count_by, is_some, Option, Some, None, slice_get}
-use Rattle.pool_core.specs.declared.limits.TheConstants.{MAX_ROUNDS, MAX_BUDGET}
+use Rattle.std.specs.Prelude.{ℕ, ◌≡◌, ◌<◌, ◌≤◌, ◌+◌, List, length, count_by, is_some, Option, Some, None, slice_get, slice_set}
+use Rattle.pool_machine.specs.declared.limits.TheConstants.{MAX_ROUNDS, MAX_BUDGET}
 use Rattle.plan_base.specs.declared.parts.Parts.{Parts}
-use Rattle.arc_restrict.specs.Restrictions.{Forbidden}
-use Rattle.arc_restrict.specs.Rows.{Rows, forbids, HasSizeOf}
-use Rattle.pool_core.specs.State.{Round, Fate, Undone, ClosedBy, DividedBy, Node, State, active_count, restriction_of}
+use Rattle.arc_restrict.specs.Rows.{Rows}
 use Rattle.dual_versions.specs.declared.published.Published.{Published}
-use Rattle.pool_core.specs.Machine.{IsTaken, IsReachable}
+use Rattle.plan_base.specs.declared.ids.BranchId.{BranchId}
+use Rattle.pool_nodes.specs.declared.reason.Reason.{Reason}
+use Rattle.pool_nodes.specs.Grounds.{HasGrounds}
+use Rattle.pool_machine.specs.State.{Round, Node, State, active_count}
+use Rattle.pool_nodes.specs.Rounds.{evidence_for}
+use Rattle.pool_machine.specs.Opening.{IsTaken}
+use Rattle.pool_machine.specs.Closing.{closed_by}
+use Rattle.pool_machine.specs.Changes.{examined_with}
+use Rattle.pool_machine.specs.Machine.{IsReachable}
 
 -- each slot that no round has is a free place with room for one length for each demand and one price for each link
 pub record HasPlaces (s : State) (places : List (Option Round)) : Type 0 where
@@ -37,19 +43,6 @@ pub record IsPool (s : State) (places : List (Option Round)) : Type 0 where
   pub budget : s.budget ≤ MAX_BUDGET
   pub has_places : HasPlaces s places
 
--- an open leaf keeps its restriction in rows that fit the instance; another node keeps none
-abbrev pub IsGroundOf : Parts → Forbidden → Fate → Option Rows → Type 0
-IsGroundOf p r Undone (Some rows) = (forbids rows ≡ r) × HasSizeOf p rows
-IsGroundOf p r Undone None = ⊥
-IsGroundOf p r (ClosedBy found) ground = ground ≡ None
-IsGroundOf p r (DividedBy division) ground = ground ≡ None
-
--- the kept restriction of each node
-pub record HasGrounds (p : Parts) (nodes : List Node) (grounds : List (Option Rows)) : Type 0 where
-  pub count : length grounds ≡ length nodes
-  pub each : (n : ℕ) (node : Node) → slice_get nodes n ≡ Some node
-      → (ground : Option Rows) × (slice_get grounds n ≡ Some ground) × IsGroundOf p (restriction_of node) node.fate ground
-
 -- a pool with the step table of its instance and the restrictions of its open leaves
 pub record IsKeptPool (s : State) (table : Parts) (grounds : List (Option Rows)) (places : List (Option Round)) : Type 0 where
   pub pool : IsPool s places
@@ -62,3 +55,13 @@ IsPublishedAt s slot None = IsTaken s slot → ⊥
 IsPublishedAt s slot (Some published) =
     (node : Node) × (round : Round) × (slice_get s.nodes published.node.0 ≡ Some node) × (node.round ≡ Some round)
     × (round.slot ≡ slot) × (round.version ≡ published.version) × (round.prices ≡ published.prices)
+
+-- the places when the round of a node has ended
+abbrev pub given_back : List (Option Round) → Option Round → List (Option Round)
+given_back places None = places
+given_back places (Some round) = slice_set places round.slot (Some round)
+
+-- the state in which the node that is there is closed for the reason
+abbrev pub closed_at : State → BranchId → Reason → Option Node → State
+closed_at s id why None = s
+closed_at s id why (Some node) = examined_with s id (closed_by (evidence_for node why) node)

@@ -1,14 +1,15 @@
 -- What one thread keeps while it works off a node; no public contract cites it.
-use Rattle.std.specs.Prelude.{ℕ, ◌+◌, ◌≡◌, ◌≢◌, ◌<◌, ◌⊎◌, Bool, true, false, not, ◌&&◌, List, [], ◌∷◌, Option, Some, None, slice_get, if◌then◌else◌, nat_lt}
-use Rattle.plan_base.specs.declared.ids.ArcId.{ArcId}
+use Rattle.std.specs.Prelude.{ℕ, ◌+◌, ◌≡◌, ◌≢◌, ◌<◌, ◌⊎◌, Bool, true, false, not, ◌&&◌, Option, Some, None, slice_get, if◌then◌else◌, nat_lt}
 use Rattle.plan_base.specs.declared.ids.BranchId.{BranchId}
 use Rattle.plan_base.specs.declared.ids.DemandId.{DemandId}
-use Rattle.pool_core.specs.declared.limits.TheConstants.{MAX_ROUNDS, MAX_VERSIONS}
-use Rattle.pool_core.specs.declared.answers.NodeState.{NodeState}
-use Rattle.pool_core.specs.declared.answers.NodeState.TheVariants as state
-use Rattle.pool_core.specs.State.{Found, HeldCut, Round, Node, State, left_of, left_in, active_count, state_of, round_of}
-use Rattle.pool_core.specs.Machine.{has_cut, first_gap, IsReachable}
-use Rattle.pool_core.specs.Tasks.{LeadsTo}
+use Rattle.pool_machine.specs.declared.limits.TheConstants.{MAX_ROUNDS, MAX_VERSIONS}
+use Rattle.pool_machine.specs.declared.answers.NodeState.{NodeState}
+use Rattle.pool_machine.specs.declared.answers.NodeState.TheVariants as state
+use Rattle.pool_machine.specs.Tasks.{LeadsTo}
+use Rattle.pool_machine.specs.declared.tree.HeldCut.{HeldCut}
+use Rattle.pool_machine.specs.State.{Round, Node, State, left_of, left_in, active_count, state_of, round_of}
+use Rattle.pool_machine.specs.Changes.{is_version, has_cut, first_gap}
+use Rattle.pool_machine.specs.Machine.{IsReachable}
 
 -- events lead from the one state to the other, and none of them has examined a node
 pub record OnlyPrices (old new : State) : Type 0 where
@@ -58,9 +59,3 @@ cut_left (Some cut) = 0
 abbrev pub work_in : Option Node → ℕ
 work_in None = 0
 work_in (Some node) = left_in node + cut_left node.cut
-
--- the paths that were found, in order
-abbrev pub paths_of : List (Option Found) → List (List ArcId)
-paths_of [] = []
-paths_of (None ∷ found) = paths_of found
-paths_of (Some one ∷ found) = one.path ∷ paths_of found

@@ -1,27 +1,20 @@
-//! The pool of a branch-and-bound search, as a machine over events.
+//! The pool of a branch-and-bound search: a state of the machine, and the calls that lead from one to the next.
 //!
-//! Promises that each call is one event of the machine of `specs/Machine.antt`, and that each state
-//! that events lead to is sound. Begin at `specs/State.antt`.
+//! Promises that each call is one event of the machine of `pool_machine`, with its exact answer, that `finish` ends with
+//! nothing left to do, and that `into_plan` gives a valid plan of the state. Begin at `Pool` and `Pool::finish`; what
+//! the pool's fields keep stands in `specs/Views.antt`. Stands on `pool_machine` for what an event is, `pool_nodes` for
+//! what becomes of a node, `leaf_work` for what is computed of it, and `plan_assembly` for the plan. Who makes which
+//! call, and when, is left to the callers: any order is right.
 #![tactic(auto)]
 
-mod answers;
-mod ground;
-mod known;
-pub mod laws;
-pub mod limits;
-mod node;
 mod pool;
-mod pricing;
-mod round;
-mod task;
-mod tree;
+mod shared;
 
-pub use answers::{
-    Better, Closing, ExamineFault, Examined, NodeState, Offer, Offered, Opened, RoundFault, Settle,
-};
 pub use pool::Pool;
-pub use task::Task;
-pub use tree::{Fate, Found, HeldCut, Incumbent};
+pub use pool_machine::{
+    Better, Closing, ExamineFault, Examined, Fate, Found, HeldCut, Incumbent, NodeState, Offer,
+    Offered, Opened, RoundFault, Settle, Task, laws, limits,
+};
 
 #[cfg(test)]
 mod tests;

@@ -1,9 +1,11 @@
 //! The pool: each call is one event of the machine.
 
 ghost use Rattle.std.specs.Prelude.{◌≡◌, ◌<◌, ◌≤◌, ◌↔◌, IsTrue, true, false, None, Some, length, slice_get, is_some, count_by};
-ghost use Rattle.pool_core.specs.State.{State, Node, Round, state_of, round_of, cutoff_of, active_count};
+ghost use Rattle.pool_machine.specs.State.{State, Node, Round, state_of, round_of, cutoff_of, active_count};
 ghost use Rattle.pool_core.specs.Views.{IsFirstFree};
-ghost use Rattle.pool_core.specs.Machine.{open_fault, OpenStep, is_waiting, is_spent, version_in, is_version, first_gap, settle_fault, SettleStep};
+ghost use Rattle.pool_machine.specs.Opening.{open_fault, OpenStep, is_waiting};
+ghost use Rattle.pool_machine.specs.Changes.{is_spent, version_in, is_version, first_gap};
+ghost use Rattle.pool_machine.specs.Settling.{settle_fault, SettleStep};
 
 mod closing;
 mod dividing;
@@ -15,15 +17,12 @@ mod reading;
 mod running;
 mod tasks;
 
-use crate::answers::{NodeState, Opened, RoundFault, Settle};
-use crate::ground::Ground;
-use crate::known::KnownAbove;
-use crate::limits::MAX_ROUNDS;
-use crate::node::PoolNode;
-use crate::round::PoolRound;
-use crate::tree::Incumbent;
+use leaf_work::KnownAbove;
 use link_steps::StepTable;
 use plan_base::{BranchId, DemandId, Instance};
+use pool_machine::limits::MAX_ROUNDS;
+use pool_machine::{Incumbent, NodeState, Opened, RoundFault, Settle};
+use pool_nodes::{Ground, PoolNode, PoolRound};
 use std::alloc::Global;
 use std::marker::Model;
 use std::sync::Arc;
@@ -53,7 +52,7 @@ pub struct Pool {
 
 impl Model for Pool {
     ghost use Rattle.std.specs.Arc.{arc_value};
-    ghost use Rattle.pool_core.specs.State.{State};
+    ghost use Rattle.pool_machine.specs.State.{State};
     ghost use Rattle.pool_core.specs.Views.{IsKeptPool};
 
     ghost Value = { State };
@@ -120,7 +119,7 @@ impl Pool {
         MAX_ROUNDS - free_count(self.places.as_slice()) as u32
     }
 
-    #[tactic(auto, unfolding(crate::specs::Machine::open_fault))]
+    #[tactic(auto, unfolding(pool_machine::specs::Opening::open_fault))]
     fn open_refusal(&self, node: BranchId) -> Option<RoundFault>
         ensures { result ≡ open_fault self.now node }
     {
@@ -179,7 +178,7 @@ impl Pool {
         }
     }
 
-    #[tactic(auto, unfolding(crate::specs::Machine::settle_fault))]
+    #[tactic(auto, unfolding(pool_machine::specs::Settling::settle_fault))]
     fn settle_refusal(&self, node: BranchId, version: u64) -> Option<Settle>
         ensures { result ≡ settle_fault self.now node version }
     {

@@ -1,15 +1,18 @@
 //! Closings by a bound or a crowd proof, and better designs.
 
 ghost use Rattle.std.specs.Prelude.{◌≡◌, ◌<◌, true, false, Some, IfSome, IfNone, length, slice_get};
-ghost use Rattle.pool_core.specs.State.{state_of, cutoff_of};
-ghost use Rattle.pool_core.specs.Machine.{close_fault, CloseStep, BetterStep, is_cheaper, closable_in, is_open_state, IsReachable};
-ghost use Rattle.pool_core.specs.Rounds.{HasReason, closed_at, given_back};
+ghost use Rattle.pool_machine.specs.State.{state_of, cutoff_of};
+ghost use Rattle.pool_machine.specs.Closing.{close_fault, CloseStep, closable_in};
+ghost use Rattle.pool_machine.specs.Bettering.{BetterStep, is_cheaper};
+ghost use Rattle.pool_machine.specs.Changes.{is_open_state};
+ghost use Rattle.pool_machine.specs.Machine.{IsReachable};
+ghost use Rattle.pool_nodes.specs.Rounds.{HasReason};
+ghost use Rattle.pool_core.specs.Views.{closed_at, given_back};
 
 use super::Pool;
-use crate::answers::{Better, Closing, NodeState};
-use crate::round::PoolRound;
-use crate::tree::{Incumbent, Reason};
 use plan_base::{BranchId, Design, DesignFault, check_design};
+use pool_machine::{Better, Closing, Incumbent, NodeState};
+use pool_nodes::{PoolRound, Reason};
 
 /// Whether the node is an open leaf.
 pub fn is_open_state(state: NodeState) -> bool
@@ -45,7 +48,7 @@ impl Pool {
     }
 
     /// Why a closing is refused, if it is.
-    #[tactic(auto, unfolding(crate::specs::Machine::close_fault))]
+    #[tactic(auto, unfolding(pool_machine::specs::Closing::close_fault))]
     fn close_refusal(&self, node: BranchId) -> Option<Closing>
         ensures { result ≡ close_fault self.now node }
     {

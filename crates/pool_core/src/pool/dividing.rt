@@ -1,17 +1,16 @@
 //! Open leaves that are divided where two paths of a demand part.
 
 ghost use Rattle.std.specs.Prelude.{◌≡◌, ◌<◌, ◌*◌, Ok, IfOk, OnErr, length, All};
-ghost use Rattle.pool_core.specs.Machine.{ExamineStep};
+ghost use Rattle.pool_machine.specs.Examining.{ExamineStep};
 ghost use Rattle.pool_core.specs.Examining.{IsReadyAt, HasTwoPaths, IsChildAt, IsDivisionAt, AreChildrenAt};
 
 use super::Pool;
 use super::closing::give_back;
-use crate::answers::Examined;
-use crate::ground::Ground;
-use crate::node::PoolNode;
 use arc_restrict::divergence;
 use branch_tree::{Division, Limit, deal};
 use plan_base::{ArcId, BranchId, DemandId, Items, Path};
+use pool_machine::Examined;
+use pool_nodes::{Ground, PoolNode};
 use std::alloc::AllocError;
 use std::sync::Arc;
 

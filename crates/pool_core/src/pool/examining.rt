@@ -1,17 +1,18 @@
 //! Examinations: an open leaf is closed or divided.
 
 ghost use Rattle.std.specs.Prelude.{◌≡◌, not, ◌&&◌, nat_lt, Ok, IfOk, OnErr, slice_get};
-ghost use Rattle.pool_core.specs.declared.limits.TheConstants.{MAX_VERSIONS};
-ghost use Rattle.pool_core.specs.Machine.{completed_in, settled_in, ready_fault, examine_refusal, ExamineStep};
+ghost use Rattle.pool_machine.specs.declared.limits.TheConstants.{MAX_VERSIONS};
+ghost use Rattle.pool_machine.specs.Readiness.{completed_in, settled_in, ready_fault, examine_refusal};
+ghost use Rattle.pool_machine.specs.Examining.{ExamineStep};
 ghost use Rattle.pool_core.specs.Examining.{IsReadyAt, HasOnlyPaths, IsDeterminedAt};
 
 use super::Pool;
 use super::closing::is_open_state;
-use crate::answers::{ExamineFault, Examined};
-use crate::limits::MAX_VERSIONS;
-use crate::tree::Reason;
 use incumbent::{complete, overfull_link};
 use plan_base::{BranchId, Design, Items, Path};
+use pool_machine::limits::MAX_VERSIONS;
+use pool_machine::{ExamineFault, Examined};
+use pool_nodes::Reason;
 use proof_tree::Evidence;
 use second_path::{Determined, determine};
 use std::alloc::AllocError;
@@ -65,7 +66,7 @@ impl Pool {
     }
 
     /// Why an examination is refused, if it is.
-    #[tactic(auto, unfolding(crate::specs::Machine::examine_refusal))]
+    #[tactic(auto, unfolding(pool_machine::specs::Readiness::examine_refusal))]
     fn examine_refusal(&self, node: BranchId) -> Option<ExamineFault>
         ensures { result ≡ examine_refusal self.now node }
     {

@@ -2,19 +2,17 @@
 
 ghost use Rattle.std.specs.Prelude.{◌≡◌, ◌<◌, ◌≤◌, length, IfOk};
 ghost use Rattle.std.specs.Arc.{arc_value};
-ghost use Rattle.pool_core.specs.declared.limits.TheConstants.{MAX_BUDGET, MAX_ROUNDS};
-ghost use Rattle.pool_core.specs.Machine.{IsOpeningState};
+ghost use Rattle.pool_machine.specs.declared.limits.TheConstants.{MAX_BUDGET, MAX_ROUNDS};
+ghost use Rattle.pool_machine.specs.Machine.{IsOpeningState};
 ghost use Rattle.pool_core.specs.Views.{AreFreePlaces};
 
 use super::Pool;
-use crate::ground::Ground;
-use crate::known::KnownAbove;
-use crate::limits::MAX_ROUNDS;
-use crate::node::PoolNode;
-use crate::round::PoolRound;
 use arc_restrict::Restriction;
+use leaf_work::KnownAbove;
 use link_steps::StepTable;
 use plan_base::{Instance, Items, Prices};
+use pool_machine::limits::MAX_ROUNDS;
+use pool_nodes::{Ground, PoolNode, PoolRound};
 use std::alloc::{AllocError, Global};
 use std::sync::Arc;
 

@@ -4,17 +4,17 @@ ghost use Rattle.std.specs.Prelude.{◌≡◌, ◌<◌, ◌||◌, length, slice_
 ghost use Rattle.arc_restrict.specs.Rows.{forbids};
 ghost use Rattle.path_pricing.specs.Priced.{ArePrices};
 ghost use Rattle.path_pricing.specs.Faults.{priced_fault};
-ghost use Rattle.pool_core.specs.declared.answers.Offered.{Offered};
-ghost use Rattle.pool_core.specs.State.{round_of};
-ghost use Rattle.pool_core.specs.Machine.{offer_fault, OfferStep, is_priced, has_cut, unfit_in};
+ghost use Rattle.pool_machine.specs.declared.answers.Offered.{Offered};
+ghost use Rattle.pool_machine.specs.State.{round_of};
+ghost use Rattle.pool_machine.specs.Offering.{offer_fault, OfferStep, is_priced, unfit_in};
+ghost use Rattle.pool_machine.specs.Changes.{has_cut};
 
 use super::Pool;
-use crate::answers::{Offer, Offered};
-use crate::round::PoolRound;
-use crate::tree::{Found, HeldCut};
 use arc_restrict::Restriction;
 use path_pricing::{Priced, check_priced};
 use plan_base::{BranchId, DemandId};
+use pool_machine::{Found, HeldCut, Offer, Offered};
+use pool_nodes::PoolRound;
 
 impl Pool {
     /// Whether the demand is priced in the round of the node.
@@ -89,7 +89,7 @@ impl Pool {
     }
 
     /// Why an offer is refused, if it is.
-    #[tactic(auto, unfolding(crate::specs::Machine::offer_fault))]
+    #[tactic(auto, unfolding(pool_machine::specs::Offering::offer_fault))]
     fn offer_refusal(&self, offer: &Offer) -> Option<Offered>
         ensures { result ≡ offer_fault self.now offer.now }
     {

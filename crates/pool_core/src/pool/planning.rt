@@ -3,53 +3,14 @@
 ghost use Rattle.std.specs.Prelude.{◌≡◌, IfOk, true};
 ghost use Rattle.proof_tree.specs.Plans.{IsValidPlan};
 ghost use Rattle.proof_tree.specs.Spellings.{IsSpellable};
-ghost use Rattle.pool_core.specs.PlanOf.{status_of, is_done, stated_design, IsPlanOf, HasOpeningBound, PartsPaths};
-ghost use Rattle.pool_core.specs.PlanParts.{IsStatedBound};
-
-mod bounds;
-mod records;
+ghost use Rattle.pool_machine.specs.PlanOf.{is_done, IsPlanOf, HasOpeningBound, PartsPaths};
 
 use super::Pool;
-use crate::tree::Incumbent;
-use plan_base::Design;
-use proof_tree::{Plan, PlanStatus};
+use plan_assembly::Assembly;
+use proof_tree::Plan;
 use std::alloc::AllocError;
 
-/// The best design and its cost.
-fn design_of(incumbent: Option<Incumbent>) -> Option<(u128, Design)>
-    ensures { result ≡ stated_design incumbent }
-{
-    match incumbent {
-        Some(held) => Some((held.cost, held.design)),
-        None => None,
-    }
-}
-
 impl Pool {
-    /// What the plan claims: nothing where a leaf is open.
-    fn status(&self) -> PlanStatus
-        ensures { result ≡ status_of self.now }
-    {
-        if (self.examined as usize) < self.nodes.as_slice().len() {
-            return PlanStatus::Undecided;
-        }
-        match &self.incumbent {
-            Some(_) => PlanStatus::Optimal,
-            None => PlanStatus::Infeasible,
-        }
-    }
-
-    /// The bound that the plan states, in cost grains.
-    fn stated_bound(&self, status: PlanStatus) -> Result<Option<i128>, AllocError>
-        ensures { IfOk result (IsStatedBound self.now status) }
-    {
-        match status {
-            PlanStatus::Undecided => self.least_bound(),
-            PlanStatus::Optimal => Ok(None),
-            PlanStatus::Infeasible => Ok(None),
-        }
-    }
-
     /// The plan: the tree, the best design, and what they claim.
     ///
     /// - Takes: a pool that is done.
@@ -65,33 +26,33 @@ impl Pool {
         ensures bound { IfOk result (λ plan. HasOpeningBound self.problem plan) }
         ensures splits { IfOk result (λ plan. PartsPaths self.problem plan.tree) }
     {
-        let status = self.status();
-        let bound = self.stated_bound(status)?;
         let Pool {
             alloc,
             problem,
-            table: _table,
+            table,
             nodes,
-            grounds: _grounds,
+            grounds,
             places: _places,
             incumbent,
             examined,
             budget,
-            next_version: _next_version,
-            accepted: _accepted,
-            known: _known,
+            next_version,
+            accepted,
+            known,
         } = self;
-        let tree = records::tree_of(alloc, nodes)?;
-        Ok(Plan {
-            nodes: problem.nodes(),
-            links: problem.links(),
-            demands: problem.demands(),
-            status,
-            budget,
+        let assembly = Assembly {
+            alloc,
+            problem,
+            table,
+            nodes,
+            grounds,
+            incumbent,
             examined,
-            design: design_of(incumbent),
-            bound,
-            tree,
-        })
+            budget,
+            next_version,
+            accepted,
+            known,
+        };
+        assembly.into_plan()
     }
 }

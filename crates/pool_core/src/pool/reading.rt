@@ -3,8 +3,9 @@
 ghost use Rattle.std.specs.Prelude.{◌≡◌, ◌↔◌, true, IsSome, IfSome, IfOk, slice_get, option_map};
 ghost use Rattle.std.specs.Arc.{arc_value};
 ghost use Rattle.arc_restrict.specs.Rows.{forbids};
-ghost use Rattle.pool_core.specs.State.{state_of, cutoff_of, restriction_of};
-ghost use Rattle.pool_core.specs.Machine.{bound_in, is_waiting, is_open_state};
+ghost use Rattle.pool_machine.specs.State.{state_of, cutoff_of, restriction_of};
+ghost use Rattle.pool_machine.specs.Changes.{bound_in, is_open_state};
+ghost use Rattle.pool_machine.specs.Opening.{is_waiting};
 ghost use Rattle.pool_core.specs.Views.{IsPublishedAt};
 
 use super::Pool;

@@ -2,26 +2,26 @@
 
 ghost use Rattle.std.specs.Prelude.{◌≡◌, ◌≢◌, ◌<◌, ◌+◌, None, Some, IsSome, IsSomeAnd, OnOk, IfOk, IfSome, true, false, length, slice_get, nat_lt};
 ghost use Rattle.std.specs.Arc.{arc_value};
-ghost use Rattle.pool_core.specs.declared.limits.TheConstants.{MAX_ROUNDS};
-ghost use Rattle.pool_core.specs.State.{left_of, round_of, active_count};
-ghost use Rattle.pool_core.specs.Machine.{unfit_in, examine_refusal, IsReachable};
-ghost use Rattle.pool_core.specs.PlanOf.{is_done};
-ghost use Rattle.pool_core.specs.Tasks.{LeadsTo};
+ghost use Rattle.pool_machine.specs.declared.limits.TheConstants.{MAX_ROUNDS};
+ghost use Rattle.pool_machine.specs.State.{left_of, round_of, active_count};
+ghost use Rattle.pool_machine.specs.Offering.{unfit_in};
+ghost use Rattle.pool_machine.specs.Readiness.{examine_refusal};
+ghost use Rattle.pool_machine.specs.Machine.{IsReachable};
+ghost use Rattle.pool_machine.specs.PlanOf.{is_done};
+ghost use Rattle.pool_machine.specs.Tasks.{LeadsTo};
 ghost use Rattle.pool_core.specs.Work.{OnlyPrices, is_next, IsAtWork, IsPricedOut, gap_in, work_in};
 
 mod guide;
 
 use super::Pool;
-use crate::answers::{ExamineFault, Examined, NodeState, Offer};
-use crate::known::KnownAbove;
-use crate::limits::MAX_ROUNDS;
-use crate::pricing::{copy_of, find};
-use crate::round::PoolRound;
 pub use guide::Guide;
 use guide::Rank;
-use incumbent::{complete, improve};
+use leaf_work::{KnownAbove, copy_of, find};
 use path_pricing::Priced;
 use plan_base::{BranchId, DemandId, Design};
+use pool_machine::limits::MAX_ROUNDS;
+use pool_machine::{ExamineFault, Examined, NodeState, Offer};
+use pool_nodes::PoolRound;
 use std::alloc::AllocError;
 use std::sync::Arc;
 
@@ -201,14 +201,13 @@ impl Pool {
         requires { IsSomeAnd (round_of self.now node) (λ round. left_of round ≡ 0) }
     {
         let paths = self.round_at(node).paths(self.alloc)?;
-        let Some((cost, design)) = complete(self.alloc, &*self.problem, &*self.table, paths)? else {
-            return Ok(None);
-        };
-        if !guide.is_new(cost)? {
-            return Ok(None);
-        }
-        let (_cost, improved) = improve(self.alloc, &*self.problem, &*self.table, design)?;
-        Ok(Some(improved))
+        leaf_work::new_design(
+            self.alloc,
+            &*self.problem,
+            &*self.table,
+            paths,
+            guide.costs(),
+        )
     }
 
     /// Hands in a design for the paths of the node's round or other ones, where the node may still lead to one.

@@ -1,19 +1,18 @@
 //! What may be done next.
 
 ghost use Rattle.std.specs.Prelude.{◌≡◌, ◌≢◌, ◌<◌, ◌↔◌, true, false, IsSome, slice_get};
-ghost use Rattle.pool_core.specs.State.{state_of, round_of};
-ghost use Rattle.pool_core.specs.Machine.{IsReachable};
-ghost use Rattle.pool_core.specs.PlanOf.{is_done};
-ghost use Rattle.pool_core.specs.Tasks.{IsLawfulTask};
+ghost use Rattle.pool_machine.specs.State.{state_of, round_of};
+ghost use Rattle.pool_machine.specs.Machine.{IsReachable};
+ghost use Rattle.pool_machine.specs.PlanOf.{is_done};
+ghost use Rattle.pool_machine.specs.Tasks.{IsLawfulTask};
 ghost use Rattle.pool_core.specs.Work.{is_next, may_go_on_in};
-ghost use Rattle.pool_core.specs.declared.task.Task.{Task};
-ghost use Rattle.pool_core.specs.declared.answers.NodeState.TheVariants as state;
+ghost use Rattle.pool_machine.specs.declared.task.Task.{Task};
+ghost use Rattle.pool_machine.specs.declared.answers.NodeState.TheVariants as state;
 
 use super::Pool;
 use super::running::Guide;
-use crate::answers::NodeState;
-use crate::task::Task;
 use plan_base::BranchId;
+use pool_machine::{NodeState, Task};
 
 impl Pool {
     /// Whether the budget is spent, or no leaf is open.

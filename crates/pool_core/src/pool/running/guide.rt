@@ -1,6 +1,6 @@
 //! What the search of one thread goes by. No contract rests on it.
 
-use crate::known::{Known, KnownAbove};
+use leaf_work::{Costs, Known, KnownAbove};
 use path_pricing::Priced;
 use plan_base::{BranchId, DemandId};
 use std::alloc::{AllocError, Global};
@@ -43,8 +43,8 @@ impl Rank {
 pub struct Guide {
     alloc: Global,
     ranks: Vec<Rank>,
-    /// The costs of completed paths, in cost grains.
-    costs: Vec<u128>,
+    /// The costs of completed paths.
+    costs: Costs,
     /// What the demands found above each node that waits. A child begins with the prices of its parent and forbids
     /// more to one demand alone, so most of it stands there too.
     above: KnownAbove,
@@ -60,7 +60,7 @@ impl Guide {
         Guide {
             alloc,
             ranks: Vec::new(alloc),
-            costs: Vec::new(alloc),
+            costs: Costs::none(alloc),
             above: KnownAbove::nothing(alloc),
             tried: None,
             found: Known::nothing(alloc),
@@ -134,14 +134,8 @@ impl Guide {
         self.above.put(right, found)
     }
 
-    /// Whether the cost is met for the first time.
-    ///
-    /// - Errors: want of memory alone.
-    pub fn is_new(&mut self, cost: u128) -> Result<bool, AllocError> {
-        if self.costs.contains(&cost) {
-            return Ok(false);
-        }
-        self.costs.push(cost)?;
-        Ok(true)
+    /// Which costs were met.
+    pub fn costs(&mut self) -> &mut Costs {
+        &mut self.costs
     }
 }

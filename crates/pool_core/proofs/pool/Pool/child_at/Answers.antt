@@ -4,8 +4,9 @@ use Rattle.plan_base.specs.declared.ids.ArcId.{ArcId}
 use Rattle.arc_restrict.specs.Restrictions.{with_forbidden}
 use Rattle.arc_restrict.specs.Rows.{Rows, forbids, HasSizeOf}
 use Rattle.pool_core.specs.contracts.pool.Pool.{the_view}
-use Rattle.pool_core.specs.State.{Limit, State, restriction_of}
-use Rattle.pool_core.specs.Machine.{child_of}
+use Rattle.branch_tree.specs.declared.node.Limit.{Limit}
+use Rattle.pool_machine.specs.State.{State, restriction_of}
+use Rattle.pool_machine.specs.Dividing.{child_of}
 use Rattle.pool_core.specs.Examining.{IsReadyAt, IsChildAt}
 use Rattle.pool_core.proofs.Examining.{ready-node-within, ready-ground-within, ready-ground, ready-item, ground-none, ground-some}
 use Rattle.pool_core.proofs.Dividings.{forbid-demand, forbid-arcs, child-made}

@@ -1,9 +1,10 @@
 use Rattle.std.proofs.Common.{◌≡◌, ◌<◌, ◌+◌, true, length, ap, rules, add-one, sym, subst, ◌∙◌}
 use Rattle.pool_core.specs.contracts.pool.Pool.{the_view}
-use Rattle.pool_core.specs.State.{State, state_of}
-use Rattle.pool_core.specs.Machine.{is_open_state, IsReachable}
+use Rattle.pool_machine.specs.State.{State, state_of}
+use Rattle.pool_machine.specs.Changes.{is_open_state}
+use Rattle.pool_machine.specs.Machine.{IsReachable}
 use Rattle.std.specs.Prelude.{slice_get}
-use Rattle.pool_core.specs.Rounds.{closed_at, given_back}
+use Rattle.pool_core.specs.Views.{closed_at, given_back}
 use Rattle.pool_core.proofs.ClosedPool.{close-place, close-ground, close-state, close-kept}
 use Rattle.pool_core.proofs.pool.Pool.close.Goals as goal
 

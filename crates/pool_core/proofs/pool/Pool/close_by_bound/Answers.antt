@@ -1,5 +1,5 @@
 use Rattle.std.proofs.Common.{sym, subst, ◌∙◌}
-use Rattle.pool_core.specs.Machine.{IsReachable}
+use Rattle.pool_machine.specs.Machine.{IsReachable}
 use Rattle.pool_core.proofs.Closings.{close_fault-none, close_fault-refusal, has_reason, closed-reachable, closed-step}
 use Rattle.pool_core.proofs.pool.Pool.close_by_bound.Goals as goal
 

@@ -3,8 +3,9 @@ use Rattle.std.specs.Prelude.{IfNone}
 use Rattle.plan_base.specs.declared.parts.Parts.{Parts}
 use Rattle.plan_base.specs.declared.path.Design.{Design}
 use Rattle.incumbent.specs.Completions.{CarryLoads, HasOverfull, IsFirstOverfull}
-use Rattle.pool_core.specs.State.{State}
-use Rattle.pool_core.specs.Machine.{ClosesOverfull, ClosesRouted, IsReachable}
+use Rattle.pool_machine.specs.State.{State}
+use Rattle.pool_machine.specs.Examining.{ClosesOverfull, ClosesRouted}
+use Rattle.pool_machine.specs.Machine.{IsReachable}
 use Rattle.pool_core.proofs.Routings.{carry-overfull}
 use Rattle.pool_core.proofs.RoutedPool.{overfull-closes, overfull-reachable, routed-closes, routed-reachable}
 use Rattle.pool_core.proofs.pool.Pool.close_routed.Goals as goal

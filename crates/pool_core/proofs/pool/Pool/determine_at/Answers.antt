@@ -4,7 +4,7 @@ use Rattle.std.specs.Arc.{arc_value}
 use Rattle.plan_base.specs.declared.parts.Parts.{Parts}
 use Rattle.arc_restrict.specs.Rows.{forbids}
 use Rattle.pool_core.specs.contracts.pool.Pool.{the_view}
-use Rattle.pool_core.specs.State.{State, restriction_of}
+use Rattle.pool_machine.specs.State.{State, restriction_of}
 use Rattle.second_path.specs.Others.{IsDetermined}
 use Rattle.pool_core.specs.Examining.{IsReadyAt, IsDeterminedAt}
 use Rattle.pool_core.proofs.Examining.{ready-ground-within, ready-ground, ground-none, ground-some, determined-ok}

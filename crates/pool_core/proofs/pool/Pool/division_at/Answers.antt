@@ -5,14 +5,15 @@ use Rattle.plan_base.specs.declared.parts.Parts.{Parts}
 use Rattle.arc_restrict.specs.Restrictions.{Forbidden}
 use Rattle.arc_restrict.specs.Rows.{forbids}
 use Rattle.pool_core.specs.contracts.pool.Pool.{the_view}
-use Rattle.pool_core.specs.State.{Division, State, restriction_of}
+use Rattle.branch_tree.specs.declared.node.Division.{Division}
+use Rattle.pool_machine.specs.State.{State, restriction_of}
 use Rattle.arc_restrict.specs.Partings.{AreOfOneDemand, PartAt}
 use Rattle.plan_base.specs.Leaving.{AreLeaving}
 use Rattle.branch_tree.specs.Dealing.{goes_left, goes_right, picked, AreDealt}
 use Rattle.pool_core.specs.Examining.{IsReadyAt}
 use Rattle.pool_core.proofs.Examining.{ready-ground-within, ready-ground, ground-none, ground-some}
 use Rattle.std.specs.Prelude.{slice_get}
-use Rattle.pool_core.proofs.Frames.{one_at}
+use Rattle.pool_machine.proofs.Frames.{one_at}
 use Rattle.pool_core.proofs.Dividings.{of_one_demand, parts-at, two-ready, numbers-small}
 use Rattle.pool_core.proofs.pool.Pool.division_at.Goals as goal
 

@@ -1,5 +1,6 @@
 use Rattle.std.proofs.Common.{◌+◌, ℕ, sym, ap, ◌∙◌}
-use Rattle.pool_core.proofs.Running.{LeadsTo-trans, cut-ready, closable-one, closed-leads, settled-leads, settled-ready, settled-count, on_ok}
+use Rattle.pool_machine.proofs.Leads.{LeadsTo-trans}
+use Rattle.pool_core.proofs.Running.{cut-ready, closable-one, closed-leads, settled-leads, settled-ready, settled-count, on_ok}
 use Rattle.pool_core.proofs.pool.Pool.end_leaf.Goals as goal
 
 pub divide_leaf-requires : goal.divide_leaf-requires

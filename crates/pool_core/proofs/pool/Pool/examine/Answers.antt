@@ -1,5 +1,6 @@
 use Rattle.std.proofs.Common.{sym, subst, ◌∙◌}
-use Rattle.pool_core.specs.Machine.{IsReachable, ClosesByCut}
+use Rattle.pool_machine.specs.Machine.{IsReachable}
+use Rattle.pool_machine.specs.Examining.{ClosesByCut}
 use Rattle.pool_core.proofs.Examining.{examine_refusal-none, examine_refusal-refusal, cut-reason, cut-closes, cut-reachable, ready-at}
 use Rattle.pool_core.proofs.pool.Pool.examine.Goals as goal
 

@@ -2,10 +2,10 @@ use Rattle.std.proofs.Common.{◌≡◌, ◌<◌, length, Some, IsSome, refl, sy
 use Rattle.std.specs.Arc.{arc_value}
 use Rattle.arc_restrict.specs.Rows.{forbids}
 use Rattle.pool_core.specs.contracts.pool.Pool.{the_view}
-use Rattle.pool_core.specs.State.{State, round_of, restriction_of}
-use Rattle.pool_core.specs.Machine.{IsReachable}
-use Rattle.pool_core.specs.Views.{HasGrounds}
-use Rattle.pool_core.proofs.Runs.{IsReachable-sound}
+use Rattle.pool_machine.specs.State.{State, round_of, restriction_of}
+use Rattle.pool_machine.specs.Machine.{IsReachable}
+use Rattle.pool_nodes.specs.Grounds.{HasGrounds}
+use Rattle.pool_machine.proofs.Runs.{IsReachable-sound}
 use Rattle.pool_core.proofs.TaskLaws.{HasRound, has-round}
 use Rattle.pool_core.proofs.Running.{read-rows, rows-within, shown-some, shown-value, prices-fit, priced-fits, if_ok}
 use Rattle.pool_core.proofs.pool.Pool.found.Goals as goal

@@ -1,7 +1,7 @@
 use Rattle.std.proofs.Common.{◌≡◌, ℕ, false, ◌==◌, nat_eq, length, sym, ap, subst, ◌∙◌, rules, tests}
 use Rattle.pool_core.specs.contracts.pool.Pool.{the_view}
-use Rattle.pool_core.specs.PlanOf.{is_done}
-use Rattle.pool_core.proofs.Runs.{IsReachable-sound}
+use Rattle.pool_machine.specs.PlanOf.{is_done}
+use Rattle.pool_machine.proofs.Runs.{IsReachable-sound}
 use Rattle.pool_core.proofs.TaskLaws.{done-count}
 use Rattle.pool_core.proofs.pool.Pool.is_done.Goals as goal
 

@@ -5,8 +5,8 @@ use Rattle.plan_base.specs.Facts.{IsInstance}
 use Rattle.link_steps.specs.Values.{AreStartPrices}
 use Rattle.arc_restrict.specs.Prices.{AreWithinLimit}
 use Rattle.arc_restrict.specs.Rows.{Rows, HasSizeOf}
-use Rattle.pool_core.specs.State.{Node}
-use Rattle.pool_core.specs.Machine.{root_with}
+use Rattle.pool_machine.specs.State.{Node}
+use Rattle.pool_machine.specs.Machine.{root_with}
 use Rattle.pool_core.specs.Views.{AreFreePlaces}
 use Rattle.pool_core.proofs.Making.{opening-kept-at, opening-state-at}
 use Rattle.pool_core.proofs.pool.Pool.new.Goals as goal

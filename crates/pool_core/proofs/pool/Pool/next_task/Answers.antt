@@ -1,6 +1,6 @@
 use Rattle.std.proofs.Common.{◌≡◌, false, subst, rules, tests}
-use Rattle.pool_core.specs.Machine.{IsReachable}
-use Rattle.pool_core.specs.PlanOf.{is_done}
+use Rattle.pool_machine.specs.Machine.{IsReachable}
+use Rattle.pool_machine.specs.PlanOf.{is_done}
 use Rattle.pool_core.proofs.Running.{reachable-unspent}
 use Rattle.pool_core.proofs.pool.Pool.next_task.Goals as goal
 

@@ -4,10 +4,12 @@ use Rattle.pool_core.specs.contracts.pool.Pool.{the_view}
 use Rattle.std.specs.Prelude.{IfSome, IsSomeAnd, slice_get}
 use Rattle.plan_base.specs.declared.parts.Parts.{Parts}
 use Rattle.path_pricing.specs.Priced.{IsLeastPath}
-use Rattle.pool_core.specs.State.{State, restriction_of}
-use Rattle.pool_core.specs.Machine.{offer_fault, TakesCut, Accepts, TakesRound, with_found, with_node}
-use Rattle.pool_core.specs.Soundness.{IsSoundNode, IsSound}
-use Rattle.pool_core.proofs.Runs.{IsReachable-sound}
+use Rattle.pool_machine.specs.State.{State, restriction_of}
+use Rattle.pool_machine.specs.Offering.{offer_fault, TakesCut, Accepts, with_found}
+use Rattle.pool_machine.specs.Changes.{TakesRound, with_node}
+use Rattle.pool_machine.specs.Nodes.{IsSoundNode}
+use Rattle.pool_machine.specs.Soundness.{IsSound}
+use Rattle.pool_machine.proofs.Runs.{IsReachable-sound}
 use Rattle.pool_core.proofs.OfferPool.{MayOffer, offer_fault-none, offer_fault-refusal, put-sound, takes-cut, cut-kept, put-round, accepts, accepted-kept, accepted-small}
 use Rattle.pool_core.proofs.pool.Pool.offer.Goals as goal
 

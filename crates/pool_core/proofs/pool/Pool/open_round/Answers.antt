@@ -3,9 +3,10 @@ use Rattle.std.specs.Prelude.{IfSome}
 use Rattle.std.proofs.lemmas.Option.{slice_get_within}
 use Rattle.plan_base.specs.declared.parts.Parts.{Parts}
 use Rattle.pool_core.specs.contracts.pool.Pool.{the_view}
-use Rattle.pool_core.specs.State.{State, Round}
-use Rattle.pool_core.specs.Machine.{open_fault, Opens, TakesRound, with_node}
-use Rattle.pool_core.specs.Rounds.{MayComplete}
+use Rattle.pool_machine.specs.State.{State, Round}
+use Rattle.pool_machine.specs.Opening.{open_fault, Opens}
+use Rattle.pool_machine.specs.Changes.{TakesRound, with_node}
+use Rattle.pool_nodes.specs.Rounds.{MayComplete}
 use Rattle.pool_core.specs.Views.{IsFirstFree}
 use Rattle.pool_core.proofs.OpenPool.{MayOpen, open_fault-none, some_free, read-free, place-fits, version-small, slot-within, begun-ready, begun-takes, opens, opened-kept}
 use Rattle.pool_core.proofs.pool.Pool.open_round.Goals as goal

@@ -1,7 +1,7 @@
 use Rattle.std.proofs.Common.{◌≡◌, None, slice_get, sym, subst, ◌∙◌}
 use Rattle.std.specs.Arc.{arc_value}
 use Rattle.path_pricing.specs.declared.priced.Priced.{Priced}
-use Rattle.pool_core.specs.Machine.{unfit_in}
+use Rattle.pool_machine.specs.Offering.{unfit_in}
 use Rattle.pool_core.proofs.Running.{OnlyPrices-stays, work-some, gap-within, price-advances}
 use Rattle.pool_core.proofs.pool.Pool.price_demand.Goals as goal
 

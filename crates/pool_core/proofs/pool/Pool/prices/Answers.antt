@@ -1,8 +1,8 @@
 use Rattle.std.proofs.Common.{◌≡◌, ◌<◌, ◌≤◌, length, Some, slice_get, rules, arith, sym, ap, subst, ◌∙◌}
 use Rattle.std.proofs.lemmas.Option.{slice_get-get_or}
 use Rattle.pool_core.specs.contracts.pool.Pool.{the_view}
-use Rattle.pool_core.specs.State.{State, Node}
-use Rattle.pool_core.specs.Rounds.{IsPublishedBy}
+use Rattle.pool_machine.specs.State.{State, Node}
+use Rattle.pool_nodes.specs.Rounds.{IsPublishedBy}
 use Rattle.pool_core.proofs.Publishing.{without_slot-next, without_slot-all, published_of-node, few_nodes}
 use Rattle.pool_core.proofs.pool.Pool.prices.Goals as goal
 

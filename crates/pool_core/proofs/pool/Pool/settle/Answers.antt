@@ -1,9 +1,10 @@
 use Rattle.std.proofs.Common.{◌≡◌, ◌<◌, length, rules, None, sym, subst, ◌∙◌, ap}
 use Rattle.pool_core.specs.contracts.pool.Pool.{the_view}
-use Rattle.pool_core.specs.State.{State, Node}
-use Rattle.pool_core.specs.Machine.{settle_fault, with_node, Settles}
+use Rattle.pool_machine.specs.State.{State, Node}
+use Rattle.pool_machine.specs.Settling.{settle_fault, Settles}
+use Rattle.pool_machine.specs.Changes.{with_node}
 use Rattle.pool_core.proofs.Answering.{settle_fault-within, settle_fault-settles, settle_fault-refusal, settle-IsPool}
-use Rattle.pool_core.proofs.Grounds.{HasGrounds-set}
+use Rattle.pool_nodes.proofs.Grounds.{HasGrounds-set}
 use Rattle.pool_core.proofs.pool.Pool.settle.Goals as goal
 
 pub returns-in-Some : goal.returns-in-Some

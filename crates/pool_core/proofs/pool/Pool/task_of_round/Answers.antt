@@ -1,5 +1,5 @@
 use Rattle.std.proofs.Common.{sym, ◌∙◌}
-use Rattle.pool_core.proofs.Runs.{IsReachable-sound}
+use Rattle.pool_machine.proofs.Runs.{IsReachable-sound}
 use Rattle.pool_core.proofs.TaskLaws.{has-round, active-some, none-examine_cut, none-close_fault, to-price, to-advance, to-examine}
 use Rattle.pool_core.proofs.pool.Pool.task_of_round.Goals as goal
 

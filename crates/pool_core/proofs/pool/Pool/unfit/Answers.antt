@@ -1,8 +1,8 @@
 use Rattle.std.proofs.Common.{◌≡◌, false, true, Some, refl, sym, subst, ◌∙◌}
 use Rattle.std.specs.Prelude.{IsSome, IfSome, slice_get}
 use Rattle.arc_restrict.specs.Rows.{Rows, forbids}
-use Rattle.pool_core.specs.State.{round_of, restriction_of}
-use Rattle.pool_core.specs.Machine.{IsReachable}
+use Rattle.pool_machine.specs.State.{round_of, restriction_of}
+use Rattle.pool_machine.specs.Machine.{IsReachable}
 use Rattle.pool_core.proofs.OfferPool.{unfit-open, unfit-prices, unfit-is}
 use Rattle.pool_core.proofs.pool.Pool.unfit.Goals as goal
 

@@ -1,5 +1,6 @@
 use Rattle.std.proofs.Common.{◌+◌, ℕ, ap, ◌∙◌}
-use Rattle.pool_core.proofs.Running.{LeadsTo-trans, OnlyPrices-trans, reachable-unspent, on_ok}
+use Rattle.pool_machine.proofs.Leads.{LeadsTo-trans}
+use Rattle.pool_core.proofs.Running.{OnlyPrices-trans, reachable-unspent, on_ok}
 use Rattle.pool_core.proofs.pool.Pool.work_off.Goals as goal
 
 pub unreachable-requires : goal.unreachable-requires

@@ -1,5 +1,5 @@
 use Rattle.std.proofs.Common.{◌+◌, List, Option, length, sym, subst}
-use Rattle.pool_core.specs.State.{Round}
+use Rattle.pool_machine.specs.State.{Round}
 use Rattle.pool_core.specs.Views.{AreFreePlaces}
 use Rattle.pool_core.proofs.Making.{free_places-next}
 use Rattle.pool_core.proofs.pool.making.free_places.Goals as goal

@@ -1,0 +1,323 @@
+-- The limits of a state: its cost, and the bounds of its open leaves, and how these bounds are priced.
+use Rattle.std.proofs.Common.{◌≡◌, ℕ, zero, suc, ◌+◌, ◌*◌, ◌^◌, ◌<◌, ◌≤◌, ◌⊎◌, inl, inr, Bool, true, false, List, length, get_or, slice_index, Option, Some, None, slice_get, IsTrue, refl, sym, ap, subst, ◌∙◌, arith, ℤ, pos, mul-le-mul}
+use Rattle.std.specs.Prelude.{IsSomeAnd, IfSome, IfOk, Result, Ok, Err, option_map, int_lt, if◌then◌else◌, ◌↔◌}
+use Rattle.std.proofs.lemmas.Int.{ints}
+use Rattle.std.proofs.lemmas.List.{get_or_default, get_or_past}
+use Rattle.std.proofs.lemmas.List.Sums.{sum_by-le}
+use Rattle.std.proofs.lemmas.Option.{slice_get_within, slice_get-get_or}
+use Rattle.plan_base.specs.declared.parts.Parts.{Parts}
+use Rattle.plan_base.specs.declared.path.Design.{Design}
+use Rattle.plan_base.specs.declared.limits.TheConstants.{MAX_COUNT_COST, MAX_LINKS}
+use Rattle.plan_base.specs.Sums.{sum_below}
+use Rattle.plan_base.specs.Facts.{IsInstance, price_limit}
+use Rattle.plan_base.specs.Arcs.{link_at, link_of, demand_at, no_link, no_demand}
+use Rattle.plan_base.specs.Designs.{module_at, counts_at, load_on, link_cost}
+use Rattle.plan_base.proofs.LoadLaws.{load_on-le-total}
+use Rattle.plan_base.proofs.PathLaws.{length-IsSimplePath}
+use Rattle.incumbent.proofs.CompletionLaws.{routing-within}
+use Rattle.arc_restrict.specs.Restrictions.{Forbidden, HasNoPath}
+use Rattle.path_pricing.specs.Priced.{ArePrices}
+use Rattle.arc_restrict.specs.Rows.{Rows, forbids}
+use Rattle.arc_restrict.specs.Prices.{AreWithinLimit, IsLeastPrice}
+use Rattle.proof_tree.specs.Bounds.{IsBound}
+use Rattle.proof_tree.specs.Plans.{IsStatedDesign}
+use Rattle.proof_tree.proofs.Uniqueness.{bound-unique}
+use Rattle.bound_assembly.specs.Rounds.{RoundState, length_at, HasLength, left_in}
+use Rattle.bound_assembly.specs.RoundBounds.{AreShort, IsRoundBound}
+use Rattle.bound_assembly.specs.declared.limits.TheConstants.{MAX_PATH_LINKS}
+use Rattle.bound_assembly.proofs.Gaps.{left-none}
+use Rattle.bound_assembly.proofs.LeastLengths.{round_bound-bound}
+use Rattle.pool_machine.specs.declared.tree.Incumbent.{Incumbent}
+use Rattle.pool_machine.specs.declared.tree.Fate.{Fate}
+use Rattle.pool_machine.specs.declared.tree.Fate.TheVariants.{Undone, ClosedBy, DividedBy}
+use Rattle.pool_machine.specs.State.{Best, Node, State, restriction_of, cutoff_of, kept_by, kept_prices}
+use Rattle.pool_machine.specs.Machine.{IsReachable}
+use Rattle.pool_machine.specs.Changes.{bound_in}
+use Rattle.pool_machine.specs.Nodes.{IsSoundBest}
+use Rattle.pool_nodes.specs.Grounds.{IsGroundOf, HasGrounds}
+use Rattle.plan_assembly.specs.PlanParts.{IsBoundOrNone, IsLeafBound, IsLeafBoundOrNone, IsLimitBelow, IsLeastBelow, IsLeastOrNone, lesser_of}
+use Rattle.pool_machine.proofs.Frames.{one_at}
+use Rattle.pool_machine.proofs.Replacing.{node_at}
+use Rattle.pool_machine.proofs.Runs.{IsReachable-sound}
+
+-- The least of the limits
+
+-- no node is before the first
+pub least-first : (s : State) → IsLeastOrNone s 0 (option_map (λ cost. pos cost) (cutoff_of s))
+least-first s = by_cost (cutoff_of s) refl
+  where
+    by_cost : (o : Option ℕ) → cutoff_of s ≡ o → IsLeastOrNone s 0 (option_map (λ cost. pos cost) o)
+    by_cost None is = λ bound limit. elim limit [
+      | inl cost ↦ subst (λ (o : Option ℕ). IsSomeAnd o (λ c. pos c ≡ bound)) is cost
+      | inr leaf ↦ let below = leaf.1 in absurd (omega arith)
+    ]
+    by_cost (Some cost) is = record {
+      is_limit = inl (subst (λ (o : Option ℕ). IsSomeAnd o (λ c. pos c ≡ pos cost)) (sym is) refl);
+      least = λ other limit. elim limit [
+        | inl same ↦ let e : pos cost ≡ other = subst (λ (o : Option ℕ). IsSomeAnd o (λ c. pos c ≡ other)) is same in omega (arith, ints)
+        | inr leaf ↦ let below = leaf.1 in absurd (omega arith)
+      ];
+    }
+
+below-or-here : (i n : ℕ) → i < n + 1 → (i < n) ⊎ (i ≡ n)
+below-or-here i n h = grind arith
+
+module _ (s : State) (n : ℕ) where
+  -- a limit below the next place is one below this place, or the node's own bound
+  limit-cases : (bound : ℤ) → IsLimitBelow s (n + 1) bound → IsLimitBelow s n bound ⊎ IsLeafBound s n bound
+  limit-cases bound limit = elim limit [
+    | inl cost ↦ inl (inl cost)
+    | inr leaf ↦ elim (below-or-here leaf.0 n leaf.1) [
+      | inl below ↦ inl (inr (leaf.0, below, leaf.2))
+      | inr here ↦ inr (subst (λ (i : ℕ). IsLeafBound s i bound) here leaf.2)
+    ]
+  ]
+
+  limit-more : (bound : ℤ) → IsLimitBelow s n bound → IsLimitBelow s (n + 1) bound
+  limit-more bound limit = elim limit [ inl cost ↦ inl cost | inr leaf ↦ inr (leaf.0, (let below = leaf.1 in omega arith), leaf.2) ]
+
+  limit-here : (bound : ℤ) → IsLeafBound s n bound → IsLimitBelow s (n + 1) bound
+  limit-here bound leaf = inr (n, omega arith, leaf)
+
+  one_leaf : (one other : ℤ) → IsLeafBound s n one → IsLeafBound s n other → one ≡ other
+  one_leaf one other x y =
+      let same = one_at s.nodes n y.node x.node y.is_node x.is_node in
+      let there : IsBound s.problem (restriction_of x.node) (kept_prices x.node) other =
+      subst (λ (node : Node). IsBound s.problem (restriction_of node) (kept_prices node) other) same y.is_bound in
+      bound-unique s.problem (restriction_of x.node) (kept_prices x.node) one other x.is_bound there
+
+  -- one node more
+  pub least-next : (least leaf : Option ℤ) → IsLeastOrNone s n least → IsLeafBoundOrNone s n leaf → IsLeastOrNone s (n + 1) (lesser_of least leaf)
+  least-next None None none no_leaf = λ bound limit. elim (limit-cases bound limit) [ inl below ↦ none bound below | inr here ↦ no_leaf bound here ]
+  least-next None (Some leaf) none is_leaf = record {
+    is_limit = limit-here leaf is_leaf;
+    least = λ other limit. elim (limit-cases other limit) [
+      | inl below ↦ absurd (none other below)
+      | inr here ↦ let same = one_leaf leaf other is_leaf here in omega (arith, ints)
+    ];
+  }
+  least-next (Some bound) None is no_leaf = record {
+    is_limit = limit-more bound is.is_limit;
+    least = λ other limit. elim (limit-cases other limit) [ inl below ↦ is.least other below | inr here ↦ absurd (no_leaf other here) ];
+  }
+  least-next (Some bound) (Some leaf) is is_leaf = by_cases (int_lt leaf bound) refl
+    where
+      by_cases : (b : Bool) → int_lt leaf bound ≡ b → IsLeastBelow s (n + 1) (if b then leaf else bound)
+      by_cases true less = record {
+        is_limit = limit-here leaf is_leaf;
+        least = λ other limit. elim (limit-cases other limit) [
+          | inl below ↦ let low = is.least other below in grind (arith, ints)
+          | inr here ↦ let same = one_leaf leaf other is_leaf here in omega (arith, ints)
+        ];
+      }
+      by_cases false more = record {
+        is_limit = limit-more bound is.is_limit;
+        least = λ other limit. elim (limit-cases other limit) [
+          | inl below ↦ is.least other below
+          | inr here ↦ let same = one_leaf leaf other is_leaf here in grind (arith, ints)
+        ];
+      }
+
+module _ (s : State) (count : ℕ) (all : length s.nodes ≤ count) where
+  limit-within : (bound : ℤ) → IsLimitBelow s count bound → IsLimitBelow s (length s.nodes) bound
+  limit-within bound limit = elim limit [ inl cost ↦ inl cost | inr leaf ↦ inr (leaf.0, slice_get_within s.nodes leaf.0 leaf.2.node leaf.2.is_node, leaf.2) ]
+
+  limit-past : (bound : ℤ) → IsLimitBelow s (length s.nodes) bound → IsLimitBelow s count bound
+  limit-past bound limit = elim limit [ inl cost ↦ inl cost | inr leaf ↦ inr (leaf.0, (let below = leaf.1 in omega arith), leaf.2) ]
+
+  -- all nodes
+  pub least-all : (found : Option ℤ) → IsLeastOrNone s count found → IsLeastOrNone s (length s.nodes) found
+  least-all None none = λ bound limit. none bound (limit-past bound limit)
+  least-all (Some bound) is = record { is_limit = limit-within bound is.is_limit; least = λ other limit. is.least other (limit-past other limit) }
+
+-- The bound of a leaf
+
+ground-undone : (p : Parts) (r : Forbidden) (fate : Fate) (rows : Rows) → IsGroundOf p r fate (Some rows) → (fate ≡ Undone) × (forbids rows ≡ r)
+ground-undone p r Undone rows h = (refl, h.0)
+ground-undone p r (ClosedBy found) rows h = absurd (cc)
+ground-undone p r (DividedBy d) rows h = absurd (cc)
+
+module _ (s : State) (h : IsReachable s) (grounds : List (Option Rows)) (has : HasGrounds s.problem s.nodes grounds) (n : ℕ) (node : Node) (is : slice_get s.nodes n ≡ Some node) (ground : Option Rows) (at : slice_get grounds n ≡ Some ground) where
+  is_ground : IsGroundOf s.problem (restriction_of node) node.fate ground
+  is_ground =
+      let g = has.each n node is in
+      subst (IsGroundOf s.problem (restriction_of node) node.fate) (one_at grounds n g.0 ground g.1 at) g.2
+
+  module _ (rows : Rows) (there : ground ≡ Some rows) where
+    open_leaf : (node.fate ≡ Undone) × (forbids rows ≡ restriction_of node)
+    open_leaf = ground-undone s.problem (restriction_of node) node.fate rows (subst (IsGroundOf s.problem (restriction_of node) node.fate) there is_ground)
+
+    -- the recorded bound
+    pub leaf-recorded : (bound : ℤ) → bound_in (Some node) ≡ Some bound → IsLeafBoundOrNone s n (Some bound)
+    leaf-recorded bound recorded = by_best node.best refl recorded
+      where
+        by_best : (best : Option Best) → node.best ≡ best → option_map (λ (b : Best). b.bound) best ≡ Some bound → IsLeafBound s n bound
+        by_best None none bad = absurd (cc)
+        by_best (Some best) some same =
+            let b : IsSoundBest s.problem (restriction_of node) node.first_prices node.completed best = rw some at ((node_at s n node (IsReachable-sound s h) is).best) in
+            let bound_is : best.bound ≡ bound = cc in
+            record {
+              node = node;
+              is_node = is;
+              undone = open_leaf.0;
+              is_bound = subst (λ (o : Option Best). IsBound s.problem (restriction_of node) (kept_by o node.first_prices) bound) (sym some)
+                  (subst (λ (x : ℤ). IsBound s.problem (restriction_of node) best.prices x) bound_is b.is_bound);
+            }
+
+    -- the bound at the first prices, where none is recorded
+    pub leaf-priced : (found : Option ℤ) → bound_in (Some node) ≡ None → IsBoundOrNone s.problem (forbids rows) node.first_prices found → IsLeafBoundOrNone s n found
+    leaf-priced found none priced = by_found found (subst (λ (r : Forbidden). IsBoundOrNone s.problem r node.first_prices found) open_leaf.1 priced)
+      where
+        no_best : (best : Option Best) → option_map (λ (b : Best). b.bound) best ≡ None → best ≡ None
+        no_best None e = refl
+        no_best (Some best) e = absurd (cc)
+
+        kept : kept_prices node ≡ node.first_prices
+        kept = ap (λ (o : Option Best). kept_by o node.first_prices) (no_best node.best none)
+
+        by_found : (found : Option ℤ) → IsBoundOrNone s.problem (restriction_of node) node.first_prices found → IsLeafBoundOrNone s n found
+        by_found None unbounded = λ bound leaf.
+            let same = one_at s.nodes n leaf.node node leaf.is_node is in
+            let at_kept : IsBound s.problem (restriction_of node) (kept_prices node) bound = subst (λ (x : Node). IsBound s.problem (restriction_of x) (kept_prices x) bound) same leaf.is_bound in
+            unbounded bound (subst (λ (ps : List ℕ). IsBound s.problem (restriction_of node) ps bound) kept at_kept)
+        by_found (Some bound) priced_so = record {
+          node = node;
+          is_node = is;
+          undone = open_leaf.0;
+          is_bound = subst (λ (ps : List ℕ). IsBound s.problem (restriction_of node) ps bound) (sym kept) priced_so;
+        }
+
+-- Pricing all demands
+
+-- a round of these prices in which the demands before this one have their least prices, and no other has a length
+pub record ArePricedBefore (p : Parts) (r : Forbidden) (prices : List ℕ) (round : RoundState) (number : ℕ) : Type 0 where
+  pub begun : IsTrue round.begun
+  pub prices_are : round.prices ≡ prices
+  pub count : length round.lengths ≡ length p.demands
+  pub full : (k : ℕ) → k < number → HasLength round.lengths k
+  pub least : (k price : ℕ) → length_at round.lengths k ≡ Some price → IsLeastPrice p r prices k price
+  pub further : (k : ℕ) → number ≤ k → length_at round.lengths k ≡ None
+
+price-within : (p : Parts) (prices : List ℕ) → AreWithinLimit p prices → (e : ℕ) → slice_index prices e ≤ price_limit p
+price-within p prices within e = elim (past-or-there (length prices) e) [
+  | inl past ↦ (let none : slice_index prices e ≡ 0 = get_or_past prices e 0 past in omega arith)
+  | inr there ↦ within e 0 there
+]
+  where
+    past-or-there : (n i : ℕ) → (n ≤ i) ⊎ (i < n)
+    past-or-there n i = grind arith
+
+-- a least price is that of a simple path, which has at most so many links
+least-short : (p : Parts) (r : Forbidden) (prices : List ℕ) (k price : ℕ) → IsInstance p → AreWithinLimit p prices → k < length p.demands → IsLeastPrice p r prices k price → price ≤ MAX_PATH_LINKS * price_limit p
+least-short p r prices k price lawful within below least =
+    let start = (lawful.demands k no_demand below).source in
+    let few = length-IsSimplePath p (demand_at p k) least.path lawful start least.permitted.simple in
+    let nodes = lawful.nodes in
+    let each = sum_by-le (λ a. slice_index prices (link_of a)) (price_limit p) least.path (λ i d there. price-within p prices within (link_of (get_or least.path i d))) in
+    let links : length least.path ≤ MAX_PATH_LINKS = omega arith in
+    let same : price_limit p ≤ price_limit p = omega arith in
+    let most : length least.path * price_limit p ≤ MAX_PATH_LINKS * price_limit p = mul-le-mul links same in
+    let is = least.attained in
+    omega arith
+
+pub priced-short : (p : Parts) (r : Forbidden) (prices : List ℕ) (round : RoundState) (number : ℕ) → IsInstance p → AreWithinLimit p prices → ArePricedBefore p r prices round number → AreShort p round.lengths
+priced-short p r prices round number lawful within before k d there = by_length (get_or round.lengths k d) refl
+  where
+    at : get_or round.lengths k d ≡ length_at round.lengths k
+    at = get_or_default round.lengths k d None there
+
+    by_length : (o : Option ℕ) → get_or round.lengths k d ≡ o → IfSome o (λ price. price ≤ MAX_PATH_LINKS * price_limit p)
+    by_length None is = tt
+    by_length (Some price) is = least-short p r prices k price lawful within (let c = before.count in omega arith) (before.least k price (sym at ∙ is))
+
+-- when all demands are priced, none is left
+pub priced-all : (p : Parts) (r : Forbidden) (prices : List ℕ) (round : RoundState) (number : ℕ) → length p.demands ≤ number → ArePricedBefore p r prices round number → left_in round.lengths ≡ 0
+priced-all p r prices round number all before = left-none round.lengths (λ k below. before.full k (let c = before.count in omega arith))
+
+pub priced-bound : (p : Parts) (r : Forbidden) (prices : List ℕ) (round : RoundState) (number : ℕ) (found : Option ℤ) → length p.demands ≤ number → ArePricedBefore p r prices round number
+    → ((found ≡ None) ↔ (0 < left_in round.lengths)) → IfSome found (IsRoundBound p round.prices round.lengths) → IsBoundOrNone p r prices found
+priced-bound p r prices round number None all before none bound =
+    let left = priced-all p r prices round number all before in
+    let some = none.0 refl in
+    absurd (omega arith)
+priced-bound p r prices round number (Some bound) all before none is =
+    round_bound-bound p r prices round.lengths bound (λ k price below at. before.least k price at) (subst (λ (ps : List ℕ). IsRoundBound p ps round.lengths bound) before.prices_are is)
+
+pub unpriced-bound : (p : Parts) (r : Forbidden) (prices : List ℕ) (k : ℕ) → k < length p.demands → HasNoPath p r k → IsBoundOrNone p r prices None
+unpriced-bound p r prices k within none = λ bound is. let least = is.are_least k within in none least.path least.permitted
+
+pub ruleset least_limits = (least-first, least-next)
+
+-- Costs
+
+modules-within : (f : ℕ → ℕ) (n : ℕ) → ((i : ℕ) → i < n → f i ≤ MAX_COUNT_COST) → sum_below f n ≤ n * MAX_COUNT_COST
+modules-within f zero h = omega arith
+modules-within f (suc n) h = let before = modules-within f n (λ i below. h i (omega arith)) in let here = h n (omega arith) in omega arith
+
+links-within : (f : ℕ → ℕ) (n : ℕ) → ((i : ℕ) → i < n → f i ≤ 33 * MAX_COUNT_COST) → sum_below f n ≤ n * (33 * MAX_COUNT_COST)
+links-within f zero h = omega arith
+links-within f (suc n) h = let before = links-within f n (λ i below. h i (omega arith)) in let here = h n (omega arith) in omega arith
+
+-- the cost of a good design fits a bound
+pub cost-small : (p : Parts) (cost : ℕ) (d : Design) → IsInstance p → IsStatedDesign p cost d → cost < 2 ^ 127
+cost-small p cost d lawful stated =
+    let good = stated.good in
+    let each : (e : ℕ) → e < length p.links → link_cost p d e ≤ 33 * MAX_COUNT_COST = λ e within.
+    let routed = routing-within p e (load_on p d e) lawful within (load_on-le-total p d e) in
+    let modules = modules-within (λ m. slice_index (counts_at d e) m * (module_at (link_at p e) m).cost) (length (link_at p e).modules) (λ m below. (good.in_shape e within m below).cost_within) in
+    let few = (lawful.links e no_link within).module_count in
+    omega arith in
+    let sum = links-within (link_cost p d) (length p.links) each in
+    let links = lawful.link_count in
+    let is = stated.cost_is in
+    small cost (length p.links) (omega arith) links
+  where
+    small : (c n : ℕ) → c ≤ n * (33 * MAX_COUNT_COST) → n ≤ MAX_LINKS → c < 2 ^ 127
+    small c n h few = omega arith
+
+-- the held design costs less
+pub held-small : (s : State) (held : Incumbent) → IsReachable s → s.incumbent ≡ Some held → held.cost < 2 ^ 127
+held-small s held h is =
+    let sound = IsReachable-sound s h in
+    let stated : IfSome (Some held) (λ (x : Incumbent). IsStatedDesign s.problem x.cost x.design) =
+    subst (λ (o : Option Incumbent). IfSome o (λ (x : Incumbent). IsStatedDesign s.problem x.cost x.design)) is sound.incumbent in
+    cost-small s.problem held.cost held.design sound.lawful stated
+
+-- Calls at a node
+
+-- a node's first prices are prices
+pub first-prices : (s : State) (n : ℕ) (node : Node) → IsReachable s → slice_get s.nodes n ≡ Some node → ArePrices s.problem node.first_prices
+first-prices s n node h is =
+    let prices = (node_at s n node (IsReachable-sound s h) is).first_prices in
+    record { count = prices.count; within_limit = prices.within_limit }
+
+-- a ground that is there is read as it is
+pub read-ground : {X Y : Type 0} (f : X → Y) (o : Option X) (x : X) (ground : Option Y) → option_map f o ≡ ground → o ≡ Some x → ground ≡ Some (f x)
+read-ground f o x ground mapped is = sym mapped ∙ ap (option_map f) is
+
+-- what is read of a node and its ground
+module _ (s : State) (h : IsReachable s) (grounds : List (Option Rows)) (has : HasGrounds s.problem s.nodes grounds) (n : ℕ) (within : n < length s.nodes) where
+  pub ground-within : n < length grounds
+  ground-within = subst (λ (m : ℕ). n < m) (sym has.count) within
+
+  module _ (ground : Option Rows) (read : ground ≡ get_or grounds n ground) where
+    ground_there : slice_get grounds n ≡ Some ground
+    ground_there = slice_get-get_or grounds n ground ground-within ∙ ap (λ (x : Option Rows). Some x) (sym read)
+
+    module _ (node : Node) (read_node : node ≡ get_or s.nodes n node) where
+      node_there : slice_get s.nodes n ≡ Some node
+      node_there = slice_get-get_or s.nodes n node within ∙ ap (λ (x : Node). Some x) (sym read_node)
+
+      pub read-first : ArePrices s.problem node.first_prices
+      read-first = first-prices s n node h node_there
+
+      module _ (rows : Rows) (there : ground ≡ Some rows) where
+        pub read-recorded : (bound : ℤ) → bound_in (Some node) ≡ Some bound → IsLeafBoundOrNone s n (Some bound)
+        read-recorded = leaf-recorded s h grounds has n node node_there ground ground_there rows there
+
+        pub read-priced : (found : Option ℤ) → bound_in (Some node) ≡ None → IsBoundOrNone s.problem (forbids rows) node.first_prices found → IsLeafBoundOrNone s n found
+        read-priced = leaf-priced s h grounds has n node node_there ground ground_there rows there
+
+pub if_ok-more : {X E : Type 0} (P Q : X → Type 0) (result : Result X E) → ((x : X) → P x → Q x) → IfOk result P → IfOk result Q
+if_ok-more P Q (Ok x) more is = more x is
+if_ok-more P Q (Err e) more is = tt

@@ -1,0 +1,10 @@
+pub mod PlanBorn
+pub mod PlanNumbers
+pub mod PlanOnce
+pub mod PlanRecords
+pub mod PlanLeaves
+pub mod PlanOpening
+pub mod PlanFits
+pub mod PlanBounds
+pub mod DonePlans
+pub mod LeafBounds

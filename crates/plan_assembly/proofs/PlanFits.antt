@@ -1,0 +1,188 @@
+-- The plan of a state can be spelled: its sizes, its sides and its evidence fit.
+use Rattle.std.proofs.Common.{◌≡◌, ℕ, zero, suc, ◌/◌, ◌%◌, ◌<◌, ◌≤◌, ◌⊎◌, inl, inr, Bool, true, false, List, [], ◌∷◌, ◌++◌, length, get_or, Option, Some, None, slice_get, All, refl, sym, ap, subst, ◌∙◌, arith, sum_by}
+use Rattle.std.specs.Prelude.{IfSome, nat_lt}
+use Rattle.std.proofs.lemmas.Bool.{ltb-true, eq-eqb, ne_eqb}
+use Rattle.std.proofs.lemmas.List.{get_or_default}
+use Rattle.std.proofs.lemmas.List.Elements.{All-cons, All-nil, All-append}
+use Rattle.std.proofs.lemmas.List.Sums.{sum_by-cons}
+use Rattle.plan_base.specs.declared.ids.ArcId.{ArcId}
+use Rattle.plan_base.specs.declared.ids.NodeId.{NodeId}
+use Rattle.plan_base.specs.declared.ids.DemandId.{DemandId}
+use Rattle.plan_base.specs.declared.parts.Parts.{Parts}
+use Rattle.plan_base.specs.declared.path.Design.{Design}
+use Rattle.plan_base.specs.Facts.{IsInstance}
+use Rattle.plan_base.specs.Arcs.{is_back, link_of, link_at, tail_of, demand_at, no_arc, no_link, no_demand}
+use Rattle.plan_base.specs.Paths.{arc_at}
+use Rattle.plan_base.specs.Designs.{path_at, counts_at}
+use Rattle.plan_base.proofs.Bools.{and-first}
+use Rattle.plan_base.proofs.PathLaws.{length-IsSimplePath}
+use Rattle.arc_restrict.specs.Restrictions.{Forbidden, none_forbidden, with_forbidden}
+use Rattle.proof_tree.specs.declared.limits.TheConstants.{MAX_BUDGET}
+use Rattle.proof_tree.specs.declared.tree.Evidence.TheVariants as evidence
+use Rattle.proof_tree.specs.declared.tree.TreeNode.{TreeNode}
+use Rattle.proof_tree.specs.declared.tree.TreeNode.TheVariants.{Split, Leaf}
+use Rattle.proof_tree.specs.declared.plan.Plan.{Plan}
+use Rattle.proof_tree.specs.declared.plan.PlanStatus.{PlanStatus}
+use Rattle.proof_tree.specs.Shapes.{are_trees}
+use Rattle.proof_tree.specs.Splits.{IsSide}
+use Rattle.proof_tree.specs.Trees.{AreValidTrees}
+use Rattle.proof_tree.specs.Plans.{IsStatedDesign}
+use Rattle.proof_tree.specs.Spellings.{IsAscending, IsWrittenSide, FitsRecord, FitsDesign, FitsStatus, IsSpellable}
+use Rattle.pool_machine.specs.declared.tree.Fate.{Fate}
+use Rattle.pool_machine.specs.declared.tree.Incumbent.{Incumbent}
+use Rattle.pool_machine.specs.declared.tree.Fate.TheVariants.{Undone, ClosedBy, DividedBy}
+use Rattle.pool_machine.specs.State.{Node, State, restriction_of, cutoff_of, kept_prices}
+use Rattle.pool_machine.specs.Machine.{IsReachable}
+use Rattle.pool_machine.specs.Nodes.{IsSoundNode, IsSoundFate, HasSoundFate}
+use Rattle.pool_machine.specs.Soundness.{IsSound}
+use Rattle.pool_machine.specs.PlanOf.{records_by, records_in, records_at, tree_of, open_count, status_by, status_of, stated_design, HasBoundOf, IsPlanOf}
+use Rattle.pool_machine.proofs.Lists.{All-at}
+use Rattle.pool_machine.proofs.Runs.{IsReachable-sound}
+use Rattle.pool_machine.proofs.Small.{IsSound-nodes}
+use Rattle.pool_machine.proofs.Dividing.{kept_by-sound}
+use Rattle.pool_machine.proofs.PlanTrees.{tree_of-valid}
+use Rattle.plan_assembly.proofs.PlanRecords.{records_sum}
+
+-- valid trees are whole
+pub valid-whole : (p : Parts) (cost : Option ℕ) (rs : List Forbidden) (nodes : List TreeNode) → AreValidTrees p cost rs nodes → are_trees (length rs) nodes ≡ true
+valid-whole p cost [] [] h = refl
+valid-whole p cost [] (node ∷ nodes) h = absurd h
+valid-whole p cost (r ∷ rs) [] h = absurd h
+valid-whole p cost (r ∷ rs) (Leaf found ∷ nodes) h = valid-whole p cost rs nodes h.1
+valid-whole p cost (r ∷ rs) (Split k at left right ∷ nodes) h = valid-whole p cost (with_forbidden r k left ∷ with_forbidden r k right ∷ rs) nodes h.1
+
+-- Sides
+
+same_link : (a b : ℕ) → a < b → ((a / 2) < (b / 2)) ⊎ (((a / 2) ≡ (b / 2)) × ((a % 2) ≡ 0) × ((b % 2) ≡ 1))
+same_link a b less = grind arith
+
+module _ (p : Parts) (r : Forbidden) (id : DemandId) (node : NodeId) (arcs : List ArcId) (lawful : IsInstance p) (side : IsSide p r id node arcs) (ascending : IsAscending arcs) where
+  link-within : (i : ℕ) → i < length arcs → link_of (arc_at arcs i) < length p.links
+  link-within i within = ltb-true _ _ (and-first _ _ (side.are_arcs i no_arc within))
+
+  -- the two arcs of a link leave different nodes
+  not_both : (a b : ArcId) → link_of a ≡ link_of b → (a.0 % 2) ≡ 0 → (b.0 % 2) ≡ 1 → link_of b < length p.links → (tail_of p a).0 ≡ (tail_of p b).0 → ⊥
+  not_both a b same even odd within tails =
+      let forth : is_back a ≡ false = ne_eqb (a.0 % 2) 1 (λ e. absurd (omega arith)) in
+      let back : is_back b ≡ true = eq-eqb (b.0 % 2) 1 odd in
+      let from_source : (tail_of p a).0 ≡ (link_at p (link_of b)).source.0 = rw forth (ap (λ (e : ℕ). (link_at p e).source.0) same) in
+      let from_target : (tail_of p b).0 ≡ (link_at p (link_of b)).target.0 = rw back refl in
+      (lawful.links (link_of b) no_link within).different (sym from_source ∙ (tails ∙ from_target))
+
+  -- each arc's link is behind as many others as there are arcs before it
+  rank : (i : ℕ) → i < length arcs → i ≤ link_of (arc_at arcs i)
+  rank zero within = omega arith
+  rank (suc i) within =
+      let before = rank i (omega arith) in
+      elim (same_link (arc_at arcs i).0 (arc_at arcs (suc i)).0 (ascending i within)) [
+        | inl less ↦ omega arith
+        | inr both ↦ absurd (not_both (arc_at arcs i) (arc_at arcs (suc i)) both.0 both.1 both.2 (link-within (suc i) within)
+            (side.leave i no_arc (omega arith) ∙ sym (side.leave (suc i) no_arc within)))
+      ]
+
+  few_arcs : length arcs ≤ length p.links
+  few_arcs = by_length (length arcs) refl
+    where
+      by_length : (n : ℕ) → length arcs ≡ n → length arcs ≤ length p.links
+      by_length zero is = omega arith
+      by_length (suc n) is = let last = rank n (omega arith) in let within = link-within n (omega arith) in omega arith
+
+  written_side : IsWrittenSide arcs
+  written_side = record { few = (let few = few_arcs in let limit = lawful.link_count in omega arith); ascending = ascending }
+
+-- Records
+
+module _ (s : State) (h : IsSound s) where
+  abbrev Fits : TreeNode → Type 0
+  Fits = FitsRecord s.problem.nodes (length s.problem.links)
+
+  records_at-fit : (depth n : ℕ) → All Fits (records_at depth s.nodes n)
+  records_at-fit zero n = All-nil Fits
+  records_at-fit (suc depth) n = there (λ m. records_at-fit depth m) (slice_get s.nodes n) refl
+    where
+      by_fate : ((m : ℕ) → All Fits (records_at depth s.nodes m)) → (node : Node) → IsSoundNode s.problem node → (fate : Fate) → IsSoundFate s.problem (cutoff_of s) (restriction_of node) fate → All Fits (records_by (records_at depth s.nodes) node fate)
+      by_fate below node k Undone sound =
+          All-cons Fits (Leaf (evidence.Open (kept_prices node))) [] (kept_by-sound s.problem node node.best k.first_prices k.best).count (All-nil Fits)
+      by_fate below node k (ClosedBy found) sound = All-cons Fits (Leaf found) [] sound.2 (All-nil Fits)
+      by_fate below node k (DividedBy d) sound =
+          All-cons Fits (Split d.demand d.at d.left d.right) (records_at depth s.nodes d.left_child.0 ++ records_at depth s.nodes d.right_child.0) (
+            written_side s.problem (restriction_of node) d.demand d.at d.left h.lawful sound.0.left_side sound.2,
+            written_side s.problem (restriction_of node) d.demand d.at d.right h.lawful sound.0.right_side sound.3,
+          )
+          (All-append Fits (records_at depth s.nodes d.left_child.0) (records_at depth s.nodes d.right_child.0)
+          (below d.left_child.0) (below d.right_child.0))
+
+      there : ((m : ℕ) → All Fits (records_at depth s.nodes m)) → (o : Option Node) → slice_get s.nodes n ≡ o → All Fits (records_in (records_at depth s.nodes) o)
+      there below None is = All-nil Fits
+      there below (Some node) is =
+          by_fate below node (All-at (IsSoundNode s.problem) s.nodes n node h.nodes is) node.fate (All-at (HasSoundFate s.problem (cutoff_of s)) s.nodes n node h.fates is)
+
+ones : {X : Type 0} (xs : List X) → sum_by (λ x. 1) xs ≡ length xs
+ones [] = refl
+ones (x ∷ xs) = omega (arith, sum_by-cons (λ y. 1) x xs, ones xs)
+
+-- as many records as nodes
+tree-length : (s : State) → IsReachable s → length (tree_of s) ≡ length s.nodes
+tree-length s h = sym (ones (tree_of s)) ∙ (records_sum s (λ x. 1) (λ x. 1) h (λ n node is. refl) ∙ ones s.nodes)
+
+-- Designs
+
+module _ (p : Parts) (lawful : IsInstance p) (cost : ℕ) (d : Design) (stated : IsStatedDesign p cost d) where
+  design-fits : FitsDesign (length p.demands) (length p.links) d
+  design-fits = record {
+    path_count = stated.good.design.path_count;
+    list_count = stated.good.design.list_count;
+    short_paths = λ k other within.
+        let k_in : k < length p.demands = (let count = stated.good.design.path_count in omega arith) in
+        let short = length-IsSimplePath p (demand_at p k) (path_at d k) lawful (lawful.demands k no_demand k_in).source (stated.good.design.paths k k_in) in
+        let few = lawful.nodes in
+        let same : get_or d.paths k other ≡ path_at d k = get_or_default d.paths k other [] within in
+        subst (λ (arcs : List ArcId). length arcs ≤ 512) (sym same) (omega arith);
+    short_lists = λ e other within.
+        let e_in : e < length p.links = (let count = stated.good.design.list_count in omega arith) in
+        let count = stated.good.design.counts e e_in in
+        let few = (lawful.links e no_link e_in).module_count in
+        let same : get_or d.counts e other ≡ counts_at d e = get_or_default d.counts e other [] within in
+        subst (λ (counts : List ℕ). length counts ≤ 32) (sym same) (omega arith);
+  }
+
+stated-fits : (p : Parts) → IsInstance p → (held : Option Incumbent) → IfSome held (λ x. IsStatedDesign p x.cost x.design)
+    → IfSome (stated_design held) (λ design. FitsDesign (length p.demands) (length p.links) design.1)
+stated-fits p lawful None h = tt
+stated-fits p lawful (Some held) h = design-fits p lawful held.cost held.design h
+
+-- Status
+
+status-fits : (p : Parts) (plan : Plan) (open' : Bool) (held : Option Incumbent) → plan.design ≡ stated_design held → HasBoundOf p plan (status_by open' held)
+    → FitsStatus (status_by open' held) plan.design plan.bound
+status-fits p plan true held is bound = tt
+status-fits p plan false (Some held) is bound = (rw is refl, rw bound refl)
+status-fits p plan false None is bound = (rw is refl, rw bound refl)
+
+pub plan_spellable : (s : State) (plan : Plan) → IsReachable s → 0 < s.budget → s.budget ≤ MAX_BUDGET → IsPlanOf s plan → IsSpellable plan
+plan_spellable s plan reachable some most is =
+    let h = IsReachable-sound s reachable in
+    let p = s.problem in
+    let whole : are_trees 1 (tree_of s) ≡ true = valid-whole p (cutoff_of s) (none_forbidden ∷ []) (tree_of s) (tree_of-valid s h) in
+    let status : HasBoundOf p plan (status_of s) = subst (HasBoundOf p plan) is.status is.bound in
+    record {
+      sizes = record {
+        nodes = (let a = h.lawful.nodes in let e = is.nodes in omega arith);
+        links = (let a = h.lawful.link_count in let e = is.links in omega arith);
+        demands = (let a = h.lawful.demand_count in let e = is.demands in omega arith);
+        some_budget = (let e = is.budget in omega arith);
+        budget = (let e = is.budget in omega arith);
+      };
+      status = subst (λ (st : PlanStatus). FitsStatus st plan.design plan.bound) (sym is.status)
+          (status-fits p plan (nat_lt 0 (open_count s)) s.incumbent is.design status);
+      design = subst (λ (o : Option (ℕ × Design)). IfSome o (λ design. FitsDesign plan.demands plan.links design.1)) (sym is.design)
+          (subst (λ (n : ℕ). IfSome (stated_design s.incumbent) (λ design. FitsDesign n plan.links design.1)) (sym is.demands)
+          (subst (λ (n : ℕ). IfSome (stated_design s.incumbent) (λ design. FitsDesign (length p.demands) n design.1)) (sym is.links) (stated-fits p h.lawful s.incumbent h.incumbent)));
+      whole = ap (are_trees 1) is.tree ∙ whole;
+      records = record {
+        few = (let size = tree-length s reachable in let most_nodes = IsSound-nodes s h in let e : length plan.tree ≡ length (tree_of s) = ap length is.tree in omega arith);
+        each = subst (All (FitsRecord plan.nodes plan.links)) (sym is.tree)
+            (subst (λ (n : ℕ). All (FitsRecord n plan.links) (tree_of s)) (sym is.nodes)
+            (subst (λ (n : ℕ). All (FitsRecord p.nodes n) (tree_of s)) (sym is.links) (records_at-fit s h (length s.nodes) 0)));
+      };
+    }

@@ -1,0 +1,22 @@
+use Rattle.std.proofs.Common.{◌<◌, ◌≤◌, length, rules, subst}
+use Rattle.arc_restrict.specs.Rows.{forbids}
+use Rattle.plan_assembly.specs.PlanParts.{IsPriceOrNone}
+use Rattle.plan_assembly.proofs.LeafBounds.{priced-short, priced-bound, unpriced-bound}
+use Rattle.plan_assembly.proofs.bounds.bound_at.Goals as goal
+
+pub returns-in_default : goal.returns-in_default
+returns-in_default c =
+    let within : c.loop-number.number < length c.args.inst.now.demands = search rules in
+    unpriced-bound c.args.inst.now (forbids c.args.restriction.now) c.args.prices.now c.loop-number.number within
+    (subst (IsPriceOrNone c.args.inst.now (forbids c.args.restriction.now) c.args.prices.now c.loop-number.number) c.in_default.is c.in_ok-length.ensures)
+
+pub bound-requires-clause-short : goal.bound-requires-clause-short
+bound-requires-clause-short c =
+    priced-short c.args.inst.now (forbids c.args.restriction.now) c.args.prices.now c.loop-number.round c.loop-number.number c.demands-demands.ensures.lawful
+    c.requires.prices.within_limit c.loop-number.invariant
+
+pub returns : goal.returns
+returns c =
+    let all : length c.args.inst.now.demands ≤ c.loop-number.number = search rules in
+    priced-bound c.args.inst.now (forbids c.args.restriction.now) c.args.prices.now c.loop-number.round c.loop-number.number c.bound.result all c.loop-number.invariant
+    c.bound.ensures.none c.bound.ensures.bound

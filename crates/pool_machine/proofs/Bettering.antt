@@ -1,0 +1,101 @@
+-- A cheaper incumbent leaves a state sound: what closes a leaf against a cost closes it against a lower one.
+use Rattle.std.proofs.Common.{◌≡◌, ℕ, ◌≤◌, Bool, true, false, Option, Some, None, refl, sym, subst, arith}
+use Rattle.std.specs.Prelude.{IsSomeAnd, IfSome, option_map, nat_lt}
+use Rattle.std.proofs.lemmas.Int.{ints}
+use Rattle.std.proofs.lemmas.Bool.{ltb-true, ltb-false}
+use Rattle.std.proofs.lemmas.List.Elements.{All-weaker}
+use Rattle.plan_base.specs.declared.ids.BranchId.{BranchId}
+use Rattle.plan_base.specs.declared.parts.Parts.{Parts}
+use Rattle.plan_base.specs.declared.path.Design.{Design}
+use Rattle.arc_restrict.specs.Restrictions.{Forbidden}
+use Rattle.proof_tree.specs.Evidence.{HasEvidence, ClosedByBound, ClosedByRouting}
+use Rattle.proof_tree.specs.Plans.{IsStatedDesign}
+use Rattle.proof_tree.specs.declared.tree.Evidence.{Evidence}
+use Rattle.proof_tree.specs.declared.tree.Evidence.TheVariants.{Bound, Routed, Overfull, Cut, Crowd, Open}
+use Rattle.pool_machine.specs.State.{Fate, Undone, ClosedBy, DividedBy, Node, Incumbent, State, restriction_of, cutoff_of}
+use Rattle.pool_machine.specs.Examining.{cheaper_of, ClosesRouted}
+use Rattle.pool_machine.specs.Bettering.{is_cheaper, TakesBetter}
+use Rattle.pool_machine.specs.Nodes.{IsSoundFate, HasSoundFate}
+use Rattle.pool_machine.specs.Soundness.{IsSound}
+use Rattle.pool_machine.proofs.ClosedNodes.{closed-sound}
+
+module _ (p : Parts) (old : Option ℕ) (cost : ℕ) (below : IfSome old (λ c. cost ≤ c)) where
+  HasEvidence-cheaper : (r : Forbidden) (found : Evidence) → HasEvidence p old r found → HasEvidence p (Some cost) r found
+  HasEvidence-cheaper r (Bound prices) h = bound old below h
+    where
+      bound : (o : Option ℕ) → IfSome o (λ c. cost ≤ c) → IsSomeAnd o (λ c. ClosedByBound p r prices c) → ClosedByBound p r prices cost
+      bound None less b = absurd b
+      bound (Some c) less b = record { within_limit = b.within_limit; bound = b.bound; is_bound = b.is_bound; enough = (let e = b.enough in let l : cost ≤ c = less in omega (arith, ints)) }
+  HasEvidence-cheaper r Routed h = routed old below h
+    where
+      routed : (o : Option ℕ) → IfSome o (λ c. cost ≤ c) → IsSomeAnd o (λ c. ClosedByRouting p r c) → ClosedByRouting p r cost
+      routed None less b = absurd b
+      routed (Some c) less b = record { routing = b.routing; only = b.only; step_costs = b.step_costs; are_costs = b.are_costs; enough = (let e = b.enough in let l : cost ≤ c = less in omega arith) }
+  HasEvidence-cheaper r (Overfull link) h = h
+  HasEvidence-cheaper r (Cut demand reached) h = h
+  HasEvidence-cheaper r (Crowd prices) h = h
+  HasEvidence-cheaper r (Open prices) h = h
+
+  IsSoundFate-cheaper : (r : Forbidden) (fate : Fate) → IsSoundFate p old r fate → IsSoundFate p (Some cost) r fate
+  IsSoundFate-cheaper r Undone h = h
+  IsSoundFate-cheaper r (ClosedBy found) h = (h.0, HasEvidence-cheaper r found h.1, h.2)
+  IsSoundFate-cheaper r (DividedBy d) h = h
+
+  pub HasSoundFate-cheaper : (node : Node) → HasSoundFate p old node → HasSoundFate p (Some cost) node
+  HasSoundFate-cheaper node h = IsSoundFate-cheaper (restriction_of node) node.fate h
+
+-- the state with this incumbent
+abbrev with_incumbent : State → Incumbent → State
+with_incumbent s held = record s { incumbent = Some held }
+
+cheaper-sound : (s : State) (held : Incumbent) → IsSound s → IsStatedDesign s.problem held.cost held.design → IfSome (cutoff_of s) (λ c. held.cost ≤ c) → IsSound (with_incumbent s held)
+cheaper-sound s held h stated below = record {
+  lawful = h.lawful;
+  nodes = h.nodes;
+  fates = All-weaker (HasSoundFate s.problem (cutoff_of s)) (HasSoundFate s.problem (Some held.cost)) (HasSoundFate-cheaper s.problem (cutoff_of s) held.cost below) s.nodes h.fates;
+  apart = h.apart;
+  family = h.family;
+  incumbent = stated;
+  counts = record { examined = h.counts.examined; within_budget = h.counts.within_budget; versions = h.counts.versions; accepted = h.counts.accepted };
+  size = h.size;
+  depths = h.depths;
+  weights = h.weights;
+}
+
+-- what is held is at most as dear as what was
+record IsHeldBelow (p : Parts) (old : Option Incumbent) (held : Incumbent) (cost : ℕ) : Type 0 where
+  stated : IsStatedDesign p held.cost held.design
+  below : IfSome (option_map (λ x. x.cost) old) (λ c. held.cost ≤ c)
+  within : held.cost ≤ cost
+
+is_cheaper-below : (old : Option Incumbent) (cost : ℕ) → is_cheaper old cost ≡ true → IfSome (option_map (λ x. x.cost) old) (λ c. cost ≤ c)
+is_cheaper-below None cost h = tt
+is_cheaper-below (Some held) cost h = let less = ltb-true cost held.cost h in omega arith
+
+cheaper_of-held : (p : Parts) (old : Option Incumbent) (cost : ℕ) (design : Design) → IfSome old (λ x. IsStatedDesign p x.cost x.design) → IsStatedDesign p cost design
+    → IsHeldBelow p old (cheaper_of old cost design) cost
+cheaper_of-held p None cost design h stated = record { stated = stated; below = tt; within = omega arith }
+cheaper_of-held p (Some held) cost design h stated = by_cases (nat_lt cost held.cost) refl
+  where
+    by_cases : (b : Bool) → nat_lt cost held.cost ≡ b → IsHeldBelow p (Some held) (cheaper_of (Some held) cost design) cost
+    by_cases true less = let l = ltb-true cost held.cost less in rw less (record { stated = stated; below = omega arith; within = omega arith })
+    by_cases false more = let l = ltb-false cost held.cost more in rw more (record { stated = h; below = omega arith; within = omega arith })
+
+module _ (s : State) (h : IsSound s) where
+  pub TakesBetter-sound : (design : Design) (cost : ℕ) (t : State) → TakesBetter s design cost t → IsSound t
+  TakesBetter-sound design cost t e =
+      subst IsSound (sym e.becomes)
+      (cheaper-sound s (record { cost = cost; design = design }) h (record { good = e.good; cost_is = e.is_cost }) (is_cheaper-below s.incumbent cost e.cheaper))
+
+  pub ClosesRouted-sound : (id : BranchId) (t : State) → ClosesRouted s id t → IsSound t
+  ClosesRouted-sound id t e =
+      let node = e.node in
+      let routed = e.routed in
+      let held = cheaper_of s.incumbent e.cost e.design in
+      let below : IsHeldBelow s.problem s.incumbent held e.cost = cheaper_of-held s.problem s.incumbent e.cost e.design h.incumbent (record { good = routed.good; cost_is = routed.is_cost }) in
+      let s' = with_incumbent s held in
+      let h' : IsSound s' = cheaper-sound s held h below.stated below.below in
+      let is = e.ready.open_node in
+      subst IsSound (sym e.becomes)
+      (closed-sound s' id node Routed h' (record { not_spent = is.not_spent; is_node = is.is_node; undone = is.undone }) refl
+      (record { routing = e.design; only = routed.only; step_costs = routed.step_costs; are_costs = routed.are_costs; enough = (let w = below.within in let l = routed.is_least in omega arith) }) tt)

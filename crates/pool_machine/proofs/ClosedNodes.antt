@@ -1,0 +1,79 @@
+-- A node that is closed with evidence leaves a state sound.
+use Rattle.std.proofs.Common.{◌≡◌, ℕ, suc, inr, false, length, Option, Some, None, refl, sym, ap, subst, arith, pos, ◌≤ℤ◌}
+use Rattle.std.specs.Prelude.{IsSomeAnd}
+use Rattle.plan_base.specs.declared.ids.BranchId.{BranchId}
+use Rattle.plan_base.specs.declared.parts.Parts.{Parts}
+use Rattle.proof_tree.specs.Evidence.{HasEvidence, ClosedByBound}
+use Rattle.proof_tree.specs.declared.tree.TreeNode.TheVariants.{Leaf}
+use Rattle.proof_tree.specs.Plans.{is_open}
+use Rattle.proof_tree.specs.Spellings.{FitsEvidence}
+use Rattle.proof_tree.specs.declared.tree.Evidence.{Evidence}
+use Rattle.proof_tree.specs.declared.tree.Evidence.TheVariants as evidence
+use Rattle.pool_machine.specs.State.{Node, State, restriction_of, cutoff_of, examined_by, examined_in, divided_by_fate}
+use Rattle.pool_machine.specs.Closing.{closed_by, ClosesBy, by_crowd, by_bound, Closes}
+use Rattle.pool_machine.specs.Changes.{examined_with}
+use Rattle.pool_machine.specs.Readiness.{IsExamined}
+use Rattle.pool_machine.specs.Examining.{ClosesByCut, ClosesOverfull}
+use Rattle.pool_machine.specs.Nodes.{IsSoundNode, IsSoundBest}
+use Rattle.pool_machine.specs.Soundness.{IsSound}
+use Rattle.pool_machine.proofs.Frames.{AreApart-set}
+use Rattle.pool_machine.proofs.Replacing.{replaced-sound, node_at, versions_of-le}
+
+IsSomeAnd-weaker : {X : Type 0} (P Q : X → Type 0) → ((x : X) → P x → Q x) → (o : Option X) → IsSomeAnd o P → IsSomeAnd o Q
+IsSomeAnd-weaker P Q f None h = h
+IsSomeAnd-weaker P Q f (Some x) h = f x h
+
+pub closed-sound : (s : State) (id : BranchId) (node : Node) (found : Evidence) → IsSound s → IsExamined s id node
+    → is_open (Leaf found) ≡ false → HasEvidence s.problem (cutoff_of s) (restriction_of node) found → FitsEvidence s.problem.nodes (length s.problem.links) found
+    → IsSound (examined_with s id (closed_by found node))
+closed-sound s id node found h is not_open has fits =
+    let new : Node = closed_by found node in
+    let k = node_at s id.0 node h is.is_node in
+    let sound : IsSoundNode s.problem new = record {
+      first_prices = k.first_prices;
+      open_enough = k.open_enough;
+      round = tt;
+      best = k.best;
+      no_best = k.no_best;
+      versions = tt;
+      version_count = k.version_count;
+      waiting = λ undone none. cc;
+      cut = tt;
+      crowd = tt;
+    } in
+    replaced-sound s id.0 node new (suc s.examined) s.next_version s.accepted is.is_node h (record { limits = refl; first_prices = refl })
+    tt sound (not_open, has, fits) (sym (ap divided_by_fate is.undone))
+    (AreApart-set s.next_version s.nodes id.0 node new is.is_node (inr refl) h.apart)
+    (record {
+      examined_is = (let old : examined_in node ≡ 0 = ap examined_by is.undone in omega arith);
+      within_budget = (let spent = is.not_spent in omega arith);
+      versions = (let most = versions_of-le node in omega arith);
+      accepted_within = omega arith;
+    })
+
+-- the evidence by which a closable node is closed
+ClosesBy-evidence : (p : Parts) (cost : Option ℕ) (node : Node) (found : Evidence) → IsSoundNode p node → ClosesBy cost node found
+    → (is_open (Leaf found) ≡ false) × HasEvidence p cost (restriction_of node) found × FitsEvidence p.nodes (length p.links) found
+ClosesBy-evidence p cost node found k (by_crowd prices is) = let crowd = rw is at (k.crowd) in (refl, crowd.0, crowd.1)
+ClosesBy-evidence p cost node found k (by_bound best none is enough) =
+    let b : IsSoundBest p (restriction_of node) node.first_prices node.completed best = rw is at (k.best) in (
+      refl,
+      IsSomeAnd-weaker (λ c. pos c ≤ℤ best.bound) (λ c. ClosedByBound p (restriction_of node) best.prices c)
+          (λ c reaches. record { within_limit = b.prices.within_limit; bound = best.bound; is_bound = b.is_bound; enough = reaches }) cost enough,
+      b.prices.count,
+    )
+
+module _ (s : State) (id : BranchId) (h : IsSound s) where
+  pub Closes-sound : (t : State) → Closes s id t → IsSound t
+  Closes-sound t e =
+      let has = ClosesBy-evidence s.problem (cutoff_of s) e.node e.found (node_at s id.0 e.node h e.is_node) e.closes_by in
+      subst IsSound (sym e.becomes) (closed-sound s id e.node e.found h (record { not_spent = e.not_spent; is_node = e.is_node; undone = e.undone }) has.0 has.1 has.2)
+
+  pub ClosesByCut-sound : (t : State) → ClosesByCut s id t → IsSound t
+  ClosesByCut-sound t e =
+      let k = node_at s id.0 e.node h e.open_node.is_node in
+      let cut = rw e.is_cut at (k.cut) in
+      subst IsSound (sym e.becomes) (closed-sound s id e.node (evidence.Cut e.cut.demand e.cut.reached) h e.open_node refl cut.0 cut.1)
+
+  pub ClosesOverfull-sound : (t : State) → ClosesOverfull s id t → IsSound t
+  ClosesOverfull-sound t e = subst IsSound (sym e.becomes) (closed-sound s id e.node (evidence.Overfull e.link) h e.ready.open_node refl e.overfull tt)

@@ -1,0 +1,208 @@
+-- A node that is divided, with its two children, leaves a state sound.
+use Rattle.std.proofs.Common.{◌≡◌, ℕ, zero, suc, ◌+◌, ◌-◌, ◌^◌, ◌≤◌, inl, inr, List, [], ◌∷◌, ◌++◌, length, set, Option, Some, None, slice_get, refl, sym, ap, subst, ◌∙◌, arith, sum_by, length-set, length-append, pow-suc}
+use Rattle.std.proofs.lemmas.List.Elements.{All-set, All-append, All-cons, All-nil}
+use Rattle.std.proofs.lemmas.List.Sums.{sum_by-append, sum_by-cons}
+use Rattle.std.proofs.lemmas.Option.{slice_get_within}
+use Rattle.plan_base.specs.declared.ids.ArcId.{ArcId}
+use Rattle.plan_base.specs.declared.ids.BranchId.{BranchId}
+use Rattle.plan_base.specs.declared.parts.Parts.{Parts}
+use Rattle.arc_restrict.specs.Restrictions.{with_forbidden}
+use Rattle.pool_machine.specs.State.{Best, Division, Fate, Undone, ClosedBy, DividedBy, Node, State, restriction_of, cutoff_of, examined_by, examined_in, left_in, divided_by_fate, divided_in, kept_by}
+use Rattle.pool_machine.specs.Dividing.{child_of, divided_by, Divides}
+use Rattle.pool_machine.specs.Depth.{choices_of, branching_depth}
+use Rattle.pool_machine.specs.Nodes.{IsPriceList, IsSoundBest, IsOpenEnough, IsSoundNode, HasSoundFate}
+use Rattle.pool_machine.specs.Counts.{IsShallow, weight_in, AreSoundCounts, versions_of}
+use Rattle.pool_machine.specs.Family.{badge_at, HasChildrenBy, IsFamily}
+use Rattle.pool_machine.specs.Soundness.{IsSound}
+use Rattle.std.specs.Prelude.{IfSome}
+use Rattle.pool_machine.proofs.Lists.{All-at, slice_get-set_cases, slice_get-append_left, slice_get-append_cases, slice_get-append_right, sum_by-set_at}
+use Rattle.pool_machine.proofs.Frames.{AreApart-fewer, AreApart-set, SameBase, HasChildrenBy-set, no_children, IsFamily-root}
+use Rattle.pool_machine.proofs.Replacing.{replaced, CountsRise, CountsRise-sound, node_at, versions_of-le}
+use Rattle.pool_machine.proofs.Splitting.{IsOpenEnough-left, IsOpenEnough-right, choices-left, choices-right, PartsAt-parts}
+
+pub kept_by-sound : (p : Parts) (node : Node) (best : Option Best) → IsPriceList p node.first_prices
+    → IfSome best (λ b. IsSoundBest p (restriction_of node) node.first_prices node.completed b) → IsPriceList p (kept_by best node.first_prices)
+kept_by-sound p node None first h = first
+kept_by-sound p node (Some best) first h = h.prices
+
+-- a child is sound where its restriction leaves enough
+child_of-sound : (p : Parts) (node : Node) (d : Division) (arcs : List ArcId) → IsSoundNode p node → IsOpenEnough p (with_forbidden (restriction_of node) d.demand arcs) → IsSoundNode p (child_of node d.demand arcs)
+child_of-sound p node d arcs k enough = record {
+  first_prices = kept_by-sound p node node.best k.first_prices k.best;
+  open_enough = enough;
+  round = tt;
+  best = tt;
+  no_best = λ none. refl;
+  versions = tt;
+  version_count = omega arith;
+  waiting = λ undone none. refl;
+  cut = tt;
+  crowd = tt;
+}
+
+-- two nodes that wait bring no badge
+badge_at-append : (nodes : List Node) (one other : Node) → one.round ≡ None → other.round ≡ None → (n : ℕ) (b : ℕ × ℕ) → badge_at (nodes ++ (one ∷ other ∷ [])) n ≡ Some b → badge_at nodes n ≡ Some b
+badge_at-append [] one other x y zero b is = let e : badge_at (one ∷ other ∷ []) 0 ≡ None = rw x refl in let bad : ◌≡◌ {A = Option (ℕ × ℕ)} None (Some b) = sym e ∙ is in cc
+badge_at-append [] one other x y (suc zero) b is = let e : badge_at (one ∷ other ∷ []) 1 ≡ None = rw y refl in let bad : ◌≡◌ {A = Option (ℕ × ℕ)} None (Some b) = sym e ∙ is in cc
+badge_at-append [] one other x y (suc (suc n)) b is = is
+badge_at-append (node ∷ nodes) one other x y zero b is = is
+badge_at-append (node ∷ nodes) one other x y (suc n) b is = badge_at-append nodes one other x y n b is
+
+HasChildrenBy-append : (nodes more : List Node) (n : ℕ) (parent : Node) (fate : Fate) → HasChildrenBy nodes n parent fate → HasChildrenBy (nodes ++ more) n parent fate
+HasChildrenBy-append nodes more n parent Undone h = h
+HasChildrenBy-append nodes more n parent (ClosedBy found) h = h
+HasChildrenBy-append nodes more n parent (DividedBy d) h = (
+  (h.0.0, h.0.1, slice_get-append_left nodes more d.left_child.0 h.0.1 h.0.2, h.0.3),
+  (h.1.0, h.1.1, slice_get-append_left nodes more d.right_child.0 h.1.1 h.1.2, h.1.3),
+)
+
+AreSoundCounts-append : (s : State) (more : List Node) → sum_by examined_in more ≡ 0 → sum_by versions_of more ≡ 0 → sum_by left_in more ≡ 0 → AreSoundCounts s → AreSoundCounts (record s { nodes = s.nodes ++ more })
+AreSoundCounts-append s more x y z h =
+    let e = sum_by-append examined_in s.nodes more in
+    let v = sum_by-append versions_of s.nodes more in
+    let l = sum_by-append left_in s.nodes more in
+    record {
+      examined = (let a = h.examined in omega arith);
+      within_budget = h.within_budget;
+      versions = (let a = h.versions in omega arith);
+      accepted = (let a = h.accepted in omega arith);
+    }
+
+-- a list with a node that waits, and one more, at its end
+waits : (nodes : List Node) (one other : Node) → one.fate ≡ Undone → other.fate ≡ Undone → (n j : ℕ) (m : Node) → slice_get (one ∷ other ∷ []) j ≡ Some m → HasChildrenBy nodes n m m.fate
+waits nodes one other x y n zero m is = let same : one ≡ m = cc in no_children nodes n m m.fate (subst (λ (k : Node). k.fate ≡ Undone) same x)
+waits nodes one other x y n (suc zero) m is = let same : other ≡ m = cc in no_children nodes n m m.fate (subst (λ (k : Node). k.fate ≡ Undone) same y)
+waits nodes one other x y n (suc (suc j)) m is = let bad : ◌≡◌ {A = Option Node} None (Some m) = is in absurd (cc)
+
+-- a divided node and its two children at the end of the list
+module _ (p : Parts) (nodes : List Node) (i : ℕ) (node : Node) (d : Division) (is : slice_get nodes i ≡ Some node) (h : IsFamily p nodes)
+    (left_next : d.left_child.0 ≡ length nodes) (right_next : d.right_child.0 ≡ suc (length nodes)) where
+  IsFamily-divided : IsFamily p (set nodes i (divided_by d node) ++ (child_of node d.demand d.left ∷ child_of node d.demand d.right ∷ []))
+  IsFamily-divided =
+      let new : Node = divided_by d node in
+      let left : Node = child_of node d.demand d.left in
+      let right : Node = child_of node d.demand d.right in
+      let more = left ∷ right ∷ [] in
+      let xs = set nodes i new in
+      let base : SameBase node new = record { limits = refl; first_prices = refl } in
+      let within = slice_get_within nodes i node is in
+      let size : length xs ≡ length nodes = length-set nodes i new in
+      let at_left : slice_get (xs ++ more) d.left_child.0 ≡ Some left =
+      let k : d.left_child.0 ≡ length xs + 0 = omega arith in
+      subst (λ (j : ℕ). slice_get (xs ++ more) j ≡ Some left) (sym k) (slice_get-append_right xs more 0) in
+      let at_right : slice_get (xs ++ more) d.right_child.0 ≡ Some right =
+      let k : d.right_child.0 ≡ length xs + 1 = omega arith in
+      subst (λ (j : ℕ). slice_get (xs ++ more) j ≡ Some right) (sym k) (slice_get-append_right xs more 1) in
+      let own : HasChildrenBy (xs ++ more) i new (DividedBy d) = (
+        (omega arith, left, at_left, record { limits = refl; first_prices = refl }),
+        (omega arith, right, at_right, record { limits = refl; first_prices = refl }),
+      ) in
+      let root = IsFamily-root p nodes i node new is base h in
+      record {
+        root = root.0;
+        is_root = slice_get-append_left xs more 0 root.0 root.1;
+        root_limits = root.2;
+        root_prices = root.3;
+        children = λ n m at. elim (slice_get-append_cases xs more n m at) [
+          | inl w ↦ elim (slice_get-set_cases nodes i n new m w) [
+            | inl u ↦
+                let P : ℕ → Node → Type 0 = λ k x. HasChildrenBy (xs ++ more) k x x.fate in
+                subst (λ (k : ℕ). P k m) (sym u.0) (subst (P i) (sym u.1) own)
+            | inr u ↦ HasChildrenBy-append xs more n m m.fate (HasChildrenBy-set nodes i node new is base n m m.fate (h.children n m u.1))
+          ]
+          | inr w ↦ waits (xs ++ more) left right refl refl n w.0 m w.2
+        ];
+      }
+
+double : (depth l : ℕ) → suc l ≤ depth → 2 ^ (depth - l) ≡ 2 ^ (depth - suc l) + 2 ^ (depth - suc l)
+double depth l h =
+    let e : depth - l ≡ suc (depth - suc l) = omega arith in
+    let two = pow-suc 2 (depth - suc l) in
+    rw e (omega arith)
+
+-- a node passes its weight on to its children
+divided_weights : (s : State) (i : ℕ) (node : Node) (d : Division) → slice_get s.nodes i ≡ Some node → node.fate ≡ Undone
+    → choices_of s.problem (restriction_of (child_of node d.demand d.left)) + length (child_of node d.demand d.left).limits ≤ branching_depth s.problem
+    → sum_by (weight_in (branching_depth s.problem)) s.nodes ≡ 2 ^ branching_depth s.problem
+    → sum_by (weight_in (branching_depth s.problem)) (set s.nodes i (divided_by d node) ++ (child_of node d.demand d.left ∷ child_of node d.demand d.right ∷ [])) ≡ 2 ^ branching_depth s.problem
+divided_weights s i node d is undone deep h =
+    let depth = branching_depth s.problem in
+    let w = weight_in depth in
+    let new : Node = divided_by d node in
+    let left : Node = child_of node d.demand d.left in
+    let right : Node = child_of node d.demand d.right in
+    let old_w : w node ≡ 2 ^ (depth - length node.limits) = rw undone refl in
+    let set_ = sum_by-set_at w s.nodes i node new is in
+    let all = sum_by-append w (set s.nodes i new) (left ∷ right ∷ []) in
+    let two = sum_by-cons w left (right ∷ []) in
+    let one = sum_by-cons w right [] in
+    let twice = double depth (length node.limits) (omega arith) in
+    sums _ _ _ _ _ _ _ _ set_ all two one old_w twice ∙ h
+  where
+    sums : (all xs ys before old one rest m : ℕ) → xs + old ≡ before + 0 → all ≡ xs + ys → ys ≡ one + rest → rest ≡ one + 0 → old ≡ m → m ≡ one + one → all ≡ before
+    sums all xs ys before old one rest m a b c d_ e f = omega arith
+
+pub Divides-sound : (s : State) (id left_child right_child : BranchId) (t : State) → IsSound s → Divides s id left_child right_child t → IsSound t
+Divides-sound s id left_child right_child t h e =
+    let p = s.problem in
+    let node = e.node in
+    let d = e.division in
+    let is = e.ready.open_node in
+    let new : Node = divided_by d node in
+    let left : Node = child_of node d.demand d.left in
+    let right : Node = child_of node d.demand d.right in
+    let more = left ∷ right ∷ [] in
+    let xs = set s.nodes id.0 new in
+    let k = node_at s id.0 node h is.is_node in
+    let sound : IsSoundNode p new = record {
+      first_prices = k.first_prices;
+      open_enough = k.open_enough;
+      round = tt;
+      best = k.best;
+      no_best = k.no_best;
+      versions = tt;
+      version_count = k.version_count;
+      waiting = λ undone none. cc;
+      cut = k.cut;
+      crowd = k.crowd;
+    } in
+    let P = IsSoundNode p in
+    let F = HasSoundFate p (cutoff_of s) in
+    let left_sound = child_of-sound p node d d.left k (IsOpenEnough-left p (restriction_of node) d e.parts k.open_enough) in
+    let right_sound = child_of-sound p node d d.right k (IsOpenEnough-right p (restriction_of node) d e.parts k.open_enough) in
+    let shallow = All-at (IsShallow p) s.nodes id.0 node h.depths is.is_node in
+    let deep_left : choices_of p (restriction_of left) + length left.limits ≤ branching_depth p =
+    (let less = choices-left p (restriction_of node) d e.parts in let w = shallow.within in omega arith) in
+    let deep_right : choices_of p (restriction_of right) + length right.limits ≤ branching_depth p =
+    (let less = choices-right p (restriction_of node) d e.parts in let w = shallow.within in omega arith) in
+    let rise : CountsRise s node new (suc s.examined) s.next_version s.accepted = record {
+      examined_is = (let old : examined_in node ≡ 0 = ap examined_by is.undone in omega arith);
+      within_budget = (let spent = is.not_spent in omega arith);
+      versions = (let most = versions_of-le node in omega arith);
+      accepted_within = omega arith;
+    } in
+    subst IsSound (sym e.becomes) (record {
+      lawful = h.lawful;
+      nodes = All-append P xs more (All-set P s.nodes id.0 new sound h.nodes) (All-cons P left (right ∷ []) left_sound (All-cons P right [] right_sound (All-nil P)));
+      fates = All-append F xs more
+          (All-set F s.nodes id.0 new (e.parts.is_split, PartsAt-parts p (restriction_of node) d e.parts, e.parts.left_ascends, e.parts.right_ascends) h.fates)
+          (All-cons F left (right ∷ []) tt (All-cons F right [] tt (All-nil F)));
+      apart = AreApart-fewer s.next_version xs (xs ++ more) (badge_at-append xs left right refl refl)
+          (AreApart-set s.next_version s.nodes id.0 node new is.is_node (inr refl) h.apart);
+      family = IsFamily-divided p s.nodes id.0 node d is.is_node h.family (ap (λ (b : BranchId). b.0) e.left_is ∙ e.left_next) (ap (λ (b : BranchId). b.0) e.right_is ∙ e.right_next);
+      incumbent = h.incumbent;
+      counts = AreSoundCounts-append (replaced s id.0 new (suc s.examined) s.next_version s.accepted) more refl refl refl
+          (CountsRise-sound s id.0 node new (suc s.examined) s.next_version s.accepted is.is_node rise h.counts);
+      depths = All-append (IsShallow p) xs more (All-set (IsShallow p) s.nodes id.0 new (record { within = shallow.within }) h.depths)
+          (All-cons (IsShallow p) left (right ∷ []) (record { within = deep_left }) (All-cons (IsShallow p) right [] (record { within = deep_right }) (All-nil (IsShallow p))));
+      weights = divided_weights s id.0 node d is.is_node is.undone deep_left h.weights;
+      size = (
+          let sum = sum_by-set_at divided_in s.nodes id.0 node new is.is_node in
+          let old : divided_in node ≡ 0 = ap divided_by_fate is.undone in
+          let all = sum_by-append divided_in xs more in
+          let long = length-append xs more in
+          let kept : length xs ≡ length s.nodes = length-set s.nodes id.0 new in
+          let size = h.size in
+          omega arith
+          );
+    })

@@ -1,0 +1,5 @@
+use Rattle.pool_machine.proofs.Rising.{child-rises}
+use Rattle.pool_machine.proofs.laws.child_rises.Goals as goal
+
+pub returns : goal.returns
+returns c = child-rises

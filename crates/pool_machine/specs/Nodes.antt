@@ -1,0 +1,90 @@
+-- What holds of each node of a state that events lead to, by itself.
+use Rattle.std.specs.Prelude.{ℕ, ◌≡◌, ◌<◌, ◌≤◌, ⊤, false, List, length, Option, Some, None, IfSome, slice_get, IsTrue, ℤ, ◌≤ℤ◌}
+use Rattle.plan_base.specs.declared.ids.ArcId.{ArcId}
+use Rattle.plan_base.specs.declared.parts.Parts.{Parts}
+use Rattle.plan_base.specs.Arcs.{is_arc, tail_of, demand_at}
+use Rattle.arc_restrict.specs.Restrictions.{Forbidden}
+use Rattle.arc_restrict.specs.Prices.{AreWithinLimit}
+use Rattle.proof_tree.specs.Bounds.{IsBound}
+use Rattle.proof_tree.specs.Splits.{IsSplit, PartsTwoPaths}
+use Rattle.proof_tree.specs.Spellings.{IsAscending, FitsEvidence}
+use Rattle.proof_tree.specs.Evidence.{HasEvidence, ClosedByCut, ClosedByCrowd}
+use Rattle.proof_tree.specs.declared.tree.TreeNode.TheVariants.{Leaf}
+use Rattle.proof_tree.specs.Plans.{is_open}
+use Rattle.pool_machine.specs.declared.limits.TheConstants.{MAX_ROUNDS, MAX_VERSIONS}
+use Rattle.path_pricing.specs.Priced.{IsLeastPath}
+use Rattle.pool_machine.specs.State.{Round, Best, Node, restriction_of, left_of, Found, Fate, Undone, ClosedBy, DividedBy}
+
+-- one price for each link, none above the limit
+pub record IsPriceList (p : Parts) (prices : List ℕ) : Type 0 where
+  pub count : length prices ≡ length p.links
+  pub within_limit : AreWithinLimit p prices
+
+-- each split is one of the node's restriction, parts two paths and has ascending sides; each closed leaf has its evidence, of the instance's size
+abbrev pub IsSoundFate : Parts → Option ℕ → Forbidden → Fate → Type 0
+IsSoundFate p cost r Undone = ⊤
+IsSoundFate p cost r (ClosedBy evidence) = (is_open (Leaf evidence) ≡ false) × HasEvidence p cost r evidence × FitsEvidence p.nodes (length p.links) evidence
+IsSoundFate p cost r (DividedBy d) = IsSplit p r d.demand d.at d.left d.right × PartsTwoPaths p r d.demand d.left d.right × IsAscending d.left × IsAscending d.right
+
+-- the same of a node at its own restriction
+abbrev pub HasSoundFate : Parts → Option ℕ → Node → Type 0
+HasSoundFate p cost node = IsSoundFate p cost (restriction_of node) node.fate
+
+-- a round in range, each of whose paths is a least one under the round's own prices
+pub record IsSoundRound (p : Parts) (r : Forbidden) (round : Round) : Type 0 where
+  pub slot : round.slot < MAX_ROUNDS
+  pub count : length round.found ≡ length p.demands
+  pub prices : IsPriceList p round.prices
+  pub least : (k : ℕ) (found : Found) → slice_get round.found k ≡ Some (Some found) → IsLeastPath p round.prices k r found.path found.price
+
+-- only an open leaf has a round, and it is sound at the restriction of the node
+abbrev pub HasSoundRound : Parts → Node → Type 0
+HasSoundRound p node = IfSome node.round (λ round. (node.fate ≡ Undone) × IsSoundRound p (restriction_of node) round)
+
+-- what is recorded is the bound at the best prices, and at least the bound at the first prices
+pub record IsSoundBest (p : Parts) (r : Forbidden) (first_prices : List ℕ) (completed : ℕ) (best : Best) : Type 0 where
+  pub prices : IsPriceList p best.prices
+  pub is_bound : IsBound p r best.prices best.bound
+  pub some_complete : 0 < completed
+  pub first : ℤ
+  pub is_first : IsBound p r first_prices first
+  pub above_first : first ≤ℤ best.bound
+
+-- a complete round's bound is at most the recorded one; a node without complete versions has a round of its first
+-- prices; a round that is not complete can become so
+pub record HasSoundVersions (p : Parts) (r : Forbidden) (first_prices : List ℕ) (completed : ℕ) (best : Option Best) (round : Round) : Type 0 where
+  pub complete_within : left_of round ≡ 0 → (bound : ℤ) → IsBound p r round.prices bound → IfSome best (λ b. bound ≤ℤ b.bound)
+  pub some_complete : left_of round ≡ 0 → 0 < completed
+  pub first_round : completed ≡ 0 → round.prices ≡ first_prices
+  pub room : 0 < left_of round → completed < MAX_VERSIONS
+
+-- no arc that leaves the demand's target is forbidden
+abbrev pub IsFreeAtTarget : Parts → Forbidden → ℕ → Type 0
+IsFreeAtTarget p r k = (a : ArcId) → IsTrue (is_arc p a) → (tail_of p a).0 ≡ (demand_at p k).target.0 → r k a ≡ false
+
+-- an arc that leaves the node
+pub record LeavesNode (p : Parts) (node : ℕ) (a : ArcId) : Type 0 where
+  pub arc : IsTrue (is_arc p a)
+  pub tail : (tail_of p a).0 ≡ node
+
+-- where arcs leave the node, one of them is not forbidden to the demand
+abbrev pub KeepsAnArc : Parts → Forbidden → ℕ → ℕ → Type 0
+KeepsAnArc p r k node = (a : ArcId) → LeavesNode p node a → (b : ArcId) × LeavesNode p node b × (r k b ≡ false)
+
+-- each demand may leave its target by each arc, and each node by one of its arcs
+pub record IsOpenEnough (p : Parts) (r : Forbidden) : Type 0 where
+  pub at_target : (k : ℕ) → k < length p.demands → IsFreeAtTarget p r k
+  pub elsewhere : (k node : ℕ) → k < length p.demands → KeepsAnArc p r k node
+
+-- what holds of each node by itself, whatever the incumbent
+pub record IsSoundNode (p : Parts) (node : Node) : Type 0 where
+  pub first_prices : IsPriceList p node.first_prices
+  pub open_enough : IsOpenEnough p (restriction_of node)
+  pub round : HasSoundRound p node
+  pub best : IfSome node.best (λ best. IsSoundBest p (restriction_of node) node.first_prices node.completed best)
+  pub no_best : node.best ≡ None → node.completed ≡ 0
+  pub versions : IfSome node.round (λ round. HasSoundVersions p (restriction_of node) node.first_prices node.completed node.best round)
+  pub version_count : node.completed ≤ MAX_VERSIONS
+  pub waiting : node.fate ≡ Undone → node.round ≡ None → node.completed ≡ 0
+  pub cut : IfSome node.cut (λ cut. ClosedByCut p (restriction_of node) cut.demand cut.reached × (length cut.reached ≡ p.nodes))
+  pub crowd : IfSome node.crowd (λ prices. ClosedByCrowd p (restriction_of node) prices × (length prices ≡ length p.links))

@@ -1,0 +1,97 @@
+-- The plan of a state: its tree in preorder, with open leaves at their kept prices, its incumbent and its counts.
+use Rattle.std.specs.Prelude.{ℕ, zero, suc, ◌≤ℤ◌, ⊤, ◌≡◌, Bool, true, false, ◌||◌, ◌==◌, List, [], ◌∷◌, ◌++◌, length, Option, Some, None, option_map, slice_get, sum_by, MatchOption, ℤ, nat_lt}
+use Rattle.plan_base.specs.declared.parts.Parts.{Parts}
+use Rattle.plan_base.specs.declared.path.Design.{Design}
+use Rattle.proof_tree.specs.declared.tree.Evidence.TheVariants as evidence
+use Rattle.proof_tree.specs.declared.tree.TreeNode.{TreeNode}
+use Rattle.proof_tree.specs.declared.tree.TreeNode.TheVariants.{Split, Leaf}
+use Rattle.proof_tree.specs.declared.plan.Plan.{Plan}
+use Rattle.proof_tree.specs.declared.plan.PlanStatus.{PlanStatus}
+use Rattle.proof_tree.specs.declared.plan.PlanStatus.TheVariants.{Optimal, Infeasible, Undecided}
+use Rattle.arc_restrict.specs.Restrictions.{Forbidden, none_forbidden, with_forbidden}
+use Rattle.proof_tree.specs.Bounds.{IsOpeningBound}
+use Rattle.proof_tree.specs.Splits.{PartsTwoPaths}
+use Rattle.proof_tree.specs.Plans.{IsCandidate, IsLeastCandidate}
+use Rattle.pool_machine.specs.State.{Node, State, kept_prices, Fate, Undone, ClosedBy, DividedBy, Incumbent}
+
+-- the records of a subtree whose children's records a function tells
+abbrev pub records_by : (ℕ → List TreeNode) → Node → Fate → List TreeNode
+records_by below node Undone = Leaf (evidence.Open (kept_prices node)) ∷ []
+records_by below node (ClosedBy found) = Leaf found ∷ []
+records_by below node (DividedBy d) = Split d.demand d.at d.left d.right ∷ (below d.left_child.0 ++ below d.right_child.0)
+
+-- the same of the node that is there, or no records
+abbrev pub records_in : (ℕ → List TreeNode) → Option Node → List TreeNode
+records_in below None = []
+records_in below (Some node) = records_by below node node.fate
+
+-- the records of the subtree at a number, down to a depth
+abbrev pub records_at : ℕ → List Node → ℕ → List TreeNode
+records_at zero nodes n = []
+records_at (suc depth) nodes n = records_in (records_at depth nodes) (slice_get nodes n)
+
+-- no path down the tree has more nodes than there are
+abbrev pub tree_of : State → List TreeNode
+tree_of s = records_at (length s.nodes) s.nodes 0
+
+-- 1 for an open leaf
+abbrev pub open_by : Fate → ℕ
+open_by Undone = 1
+open_by (ClosedBy found) = 0
+open_by (DividedBy d) = 0
+
+-- how many leaves are open
+abbrev pub open_count : State → ℕ
+open_count s = sum_by (λ node. open_by node.fate) s.nodes
+
+-- the budget is spent, or no leaf is open
+abbrev pub is_done : State → Bool
+is_done s = s.examined == s.budget || open_count s == 0
+
+-- undecided where a leaf is open; else optimal with a design and infeasible without one
+abbrev pub status_by : Bool → Option Incumbent → PlanStatus
+status_by true held = Undecided
+status_by false (Some held) = Optimal
+status_by false None = Infeasible
+
+-- the status of the state's plan
+abbrev pub status_of : State → PlanStatus
+status_of s = status_by (nat_lt 0 (open_count s)) s.incumbent
+
+-- the design and its cost, as a plan states them
+abbrev pub stated_design : Option Incumbent → Option (ℕ × Design)
+stated_design held = option_map (λ x. (x.cost, x.design)) held
+
+-- the bound of an undecided plan is its least limit, or none where it has no limit; another plan states none
+abbrev pub HasBoundOf : Parts → Plan → PlanStatus → Type 0
+HasBoundOf p plan Optimal = plan.bound ≡ None
+HasBoundOf p plan Infeasible = plan.bound ≡ None
+HasBoundOf p plan Undecided = MatchOption plan.bound ((bound : ℤ) → IsCandidate p plan bound → ⊥) (λ bound. IsLeastCandidate p plan bound)
+
+-- the plan is that of the state
+pub record IsPlanOf (s : State) (plan : Plan) : Type 0 where
+  pub nodes : plan.nodes ≡ s.problem.nodes
+  pub links : plan.links ≡ length s.problem.links
+  pub demands : plan.demands ≡ length s.problem.demands
+  pub status : plan.status ≡ status_of s
+  pub budget : plan.budget ≡ s.budget
+  pub examined : plan.examined ≡ s.examined
+  pub design : plan.design ≡ stated_design s.incumbent
+  pub tree : plan.tree ≡ tree_of s
+  pub bound : HasBoundOf s.problem plan plan.status
+
+-- a stated bound is at least the bound of the root at the start prices
+abbrev pub HasOpeningBound : Parts → Plan → Type 0
+HasOpeningBound p plan = (opening bound : ℤ) → IsOpeningBound p opening → plan.bound ≡ Some bound → opening ≤ℤ bound
+
+-- in these subtrees, which stand at these restrictions, each split parts two permitted paths of its demand
+abbrev pub SplitsPart : Parts → List Forbidden → List TreeNode → Type 0
+SplitsPart p [] nodes = ⊤
+SplitsPart p (r ∷ rs) [] = ⊤
+SplitsPart p (r ∷ rs) (Leaf evidence ∷ nodes) = SplitsPart p rs nodes
+SplitsPart p (r ∷ rs) (Split k at left right ∷ nodes) =
+    PartsTwoPaths p r k left right × SplitsPart p (with_forbidden r k left ∷ with_forbidden r k right ∷ rs) nodes
+
+-- each split of the tree parts two permitted paths of its demand
+abbrev pub PartsPaths : Parts → List TreeNode → Type 0
+PartsPaths p nodes = SplitsPart p (none_forbidden ∷ []) nodes

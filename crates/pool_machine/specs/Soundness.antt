@@ -1,0 +1,23 @@
+-- What holds of each state that events lead to.
+use Rattle.std.specs.Prelude.{◌+◌, ◌*◌, ◌^◌, ◌≡◌, length, IfSome, sum_by, All}
+use Rattle.plan_base.specs.Facts.{IsInstance}
+use Rattle.proof_tree.specs.Plans.{IsStatedDesign}
+use Rattle.pool_machine.specs.Nodes.{HasSoundFate, IsSoundNode}
+use Rattle.pool_machine.specs.Family.{AreApart, IsFamily}
+use Rattle.pool_machine.specs.Counts.{AreSoundCounts, IsShallow, weight_in}
+use Rattle.pool_machine.specs.Depth.{branching_depth}
+use Rattle.pool_machine.specs.State.{State, cutoff_of, divided_in}
+
+-- all that holds of a state that events lead to
+pub record IsSound (s : State) : Type 0 where
+  pub lawful : IsInstance s.problem
+  pub nodes : All (IsSoundNode s.problem) s.nodes
+  pub fates : All (HasSoundFate s.problem (cutoff_of s)) s.nodes
+  pub apart : AreApart s.next_version s.nodes
+  pub family : IsFamily s.problem s.nodes
+  pub incumbent : IfSome s.incumbent (λ held. IsStatedDesign s.problem held.cost held.design)
+  pub counts : AreSoundCounts s
+  -- each split has made two nodes
+  pub size : length s.nodes ≡ 1 + 2 * sum_by divided_in s.nodes
+  pub depths : All (IsShallow s.problem) s.nodes
+  pub weights : sum_by (weight_in (branching_depth s.problem)) s.nodes ≡ 2 ^ branching_depth s.problem

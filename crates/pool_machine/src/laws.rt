@@ -1,0 +1,52 @@
+//! Laws of the machine.
+
+ghost use Rattle.plan_base.specs.declared.ids.ArcId.{ArcId};
+ghost use Rattle.branch_tree.specs.declared.node.Division.{Division as AnyDivision};
+ghost use Rattle.proof_tree.specs.Trees.{IsValidTree};
+ghost use Rattle.pool_machine.specs.State.{State, Node, Best, cutoff_of};
+ghost use Rattle.pool_machine.specs.Machine.{IsReachable, Run, Entry, IsCounted, IsOpeningState};
+ghost use Rattle.pool_machine.specs.Soundness.{IsSound};
+ghost use Rattle.pool_machine.specs.Family.{IsChild};
+ghost use Rattle.pool_machine.specs.Tasks.{LeadsTo, IsSearchState};
+ghost use Rattle.plan_base.specs.declared.parts.Parts.{Parts};
+ghost use Rattle.std.specs.Prelude.{ℕ, Some, slice_get, ◌≤ℤ◌, List, ◌≡◌, ◌<◌, ◌≤◌, ◌-◌, ◌^◌, ◌+◌};
+ghost use Rattle.pool_machine.specs.Depth.{branching_depth};
+ghost use Rattle.pool_machine.specs.PlanOf.{tree_of, open_count};
+
+/// Each state that any events lead to, in any order, refused and late ones among them, is sound.
+pub fn every_run()
+    ensures { (s : State) → IsReachable s → IsSound s }
+{}
+
+/// The counts of a run are those of its answers.
+pub fn counted_run()
+    ensures { (s t : State) (entries : List Entry) → Run s entries t → IsCounted s entries t }
+{}
+
+/// The tree of a sound state is a valid proof tree against its incumbent's cost.
+pub fn tree_of_state()
+    ensures { (s : State) → IsSound s → IsValidTree s.problem (cutoff_of s) (tree_of s) }
+{}
+
+/// With one node for each place down to the branching depth, no leaf stays open.
+pub fn enough_budget()
+    ensures { (s : State) → IsSound s → 2 ^ (branching_depth s.problem + 1) - 1 ≤ s.budget → s.examined ≡ s.budget → open_count s ≡ 0 }
+{}
+
+/// A child's recorded bound is at least its parent's.
+pub fn child_rises()
+    ensures { (s : State) (n m : ℕ) (parent child : Node) (d : AnyDivision) (arcs : List ArcId) (one other : Best) → IsSound s
+        → slice_get s.nodes n ≡ Some parent → slice_get s.nodes m ≡ Some child → IsChild parent d arcs child
+        → parent.best ≡ Some one → child.best ≡ Some other → one.bound ≤ℤ other.bound }
+{}
+
+/// The counts stay far below their types' ends.
+pub fn stays_small()
+    ensures versions { (s : State) → IsSound s → s.budget ≤ 4096 → s.next_version ≤ 139282 }
+    ensures accepted { (s : State) → IsSound s → s.budget ≤ 4096 → s.accepted < 2 ^ 64 }
+{}
+
+/// Where events lead from an opening state, the state is sound, and has the instance and the budget of the opening one.
+pub fn every_search()
+    ensures { (p : Parts) (budget : ℕ) (s t : State) → IsOpeningState p budget s → LeadsTo s t → IsSearchState p budget t }
+{}

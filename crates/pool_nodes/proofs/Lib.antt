@@ -1,0 +1,5 @@
+pub mod KeptRounds
+pub mod Completing
+pub mod FoundPaths
+pub mod SharedLimits
+pub mod Grounds

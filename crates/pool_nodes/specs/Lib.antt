@@ -1,0 +1,3 @@
+pub mod Rounds
+pub mod Records
+pub mod Grounds

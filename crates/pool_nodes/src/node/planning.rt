@@ -1,0 +1,82 @@
+//! What a plan takes from a node.
+
+ghost use Rattle.std.specs.Prelude.{◌≡◌};
+ghost use Rattle.proof_tree.specs.declared.tree.TreeNode.TheVariants.{Split};
+ghost use Rattle.pool_machine.specs.State.{kept_by};
+ghost use Rattle.pool_nodes.specs.Rounds.{best_in};
+ghost use Rattle.pool_nodes.specs.Records.{record_of, children_by};
+
+use super::PoolNode;
+use branch_tree::Division;
+use plan_base::{BranchId, Prices};
+use pool_machine::Fate;
+use proof_tree::{Evidence, TreeNode};
+
+/// The prices that an open leaf keeps: the best ones, where a version was complete.
+fn kept(best_bound: Option<i128>, best: Prices, first: Prices) -> Prices
+    ensures { result ≡ kept_by (best_in best_bound best) first }
+{
+    match best_bound {
+        Some(_) => best,
+        None => first,
+    }
+}
+
+/// The record of a split.
+fn split(division: Division) -> TreeNode
+    ensures { result ≡ Split division.demand division.at division.left division.right }
+{
+    let Division {
+        demand,
+        at,
+        left,
+        right,
+        left_child: _left_child,
+        right_child: _right_child,
+    } = division;
+    TreeNode::Split {
+        demand,
+        node: at,
+        left,
+        right,
+    }
+}
+
+impl PoolNode {
+    /// The children of a divided node, the left one first.
+    pub fn children(&self) -> Option<(BranchId, BranchId)>
+        ensures { result ≡ children_by self.now.fate }
+    {
+        match &self.fate {
+            Fate::DividedBy(division) => Some((division.left_child, division.right_child)),
+            Fate::Undone => None,
+            Fate::ClosedBy(_) => None,
+        }
+    }
+
+    /// The record of the node: an open leaf has its kept prices. Takes no memory.
+    pub fn into_record(self) -> TreeNode
+        ensures { result ≡ record_of self }
+    {
+        let PoolNode {
+            limits: _limits,
+            first_prices,
+            best_bound,
+            best_prices,
+            completed: _completed,
+            fate,
+            cut: _cut,
+            is_crowd: _is_crowd,
+            crowd_prices: _crowd_prices,
+            settled: _settled,
+            round: _round,
+        } = self;
+        match fate {
+            Fate::Undone => {
+                TreeNode::Leaf(Evidence::Open(kept(best_bound, best_prices, first_prices)))
+            }
+            Fate::ClosedBy(evidence) => TreeNode::Leaf(evidence),
+            Fate::DividedBy(division) => split(division),
+        }
+    }
+}
