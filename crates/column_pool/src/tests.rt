@@ -1,0 +1,1 @@
+//! A list of columns that is full, and a brief.
