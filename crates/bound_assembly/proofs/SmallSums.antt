@@ -32,7 +32,7 @@ loads-taken p (suc n) within =
     rw (← add-one) (sum_by_more (λ (k : Demand). k.load) p.demands n no_demand (omega arith)) in
     omega (arith, loads-taken p n (omega arith), more)
 
-loads-le : (p : Parts) (n : ℕ) → n ≤ length p.demands → sum_below (λ k. (demand_at p k).load) n ≤ total_load p
+pub loads-le : (p : Parts) (n : ℕ) → n ≤ length p.demands → sum_below (λ k. (demand_at p k).load) n ≤ total_load p
 loads-le p n within = omega (arith, loads-taken p n within, sum_by-take-le (λ (k : Demand). k.load) p.demands n)
 
 -- a length is at most the greatest
@@ -44,7 +44,7 @@ length-le p lengths k short within = by_cases (length_at lengths k) refl (short 
     by_cases (Some price) is h = rw is (rw is at h)
 
 -- the limit on each load grain comes to little
-priced_limit-le : (p : Parts) → price_limit p * total_load p ≤ MAX_PRICED_LOAD
+pub priced_limit-le : (p : Parts) → price_limit p * total_load p ≤ MAX_PRICED_LOAD
 priced_limit-le p =
     let most : price_limit p * total_load p ≤ price_limit p * max (total_load p) 1 = mul-le-mul_left (price_limit p) (let le : total_load p ≤ max (total_load p) 1 = omega arith in le) in
     omega (arith, most, div-mul-le_self (MAX_PRICED_LOAD) (max (total_load p) 1))

@@ -1,4 +1,4 @@
--- The sum of the values of the first links; no public contract cites it.
+-- The sum of the values of the first links.
 use Rattle.std.specs.Prelude.{ℕ, ◌≡◌, ◌<◌, ◌*◌, List, slice_index, ℤ, pos, ◌-ℤ◌, ◌≤ℤ◌}
 use Rattle.plan_base.specs.declared.parts.Parts.{Parts}
 use Rattle.plan_base.specs.declared.limits.TheConstants.{MAX_PRICED_LOAD}

@@ -28,8 +28,13 @@ pub fn price_total(inst: &Instance, lengths: &[Option<u128>]) -> u128
     total
 }
 
-/// The sum of the values of the links at these prices, in thousandths of a cost grain.
-fn link_total(inst: &Instance, table: &StepTable, prices: &Prices) -> i128
+/// The sum of the values of the links at these prices. Takes no memory.
+///
+/// - Takes: the instance and its table; one price for each link, of at most the price limit.
+/// - Gives: thousandths of a cost grain; never more than 0.
+/// - Rule: docs/DEFINITIONS.md, "Link value".
+/// - Time: one link value for each link.
+pub fn link_total(inst: &Instance, table: &StepTable, prices: &Prices) -> i128
     requires table { table.now ≡ inst.now }
     requires count { length prices.now ≡ length inst.now.links }
     requires limit { AreWithinLimit inst.now prices.now }

@@ -1,6 +1,35 @@
 //! What a master step is told.
 
-use plan_base::{BranchId, Items, Path, Prices};
+ghost use Rattle.std.specs.Prelude.{◌≡◌, ◌<◌, ◌↔◌, length, IsTrue};
+ghost use Rattle.column_pool.specs.Columns.{columns_at};
+ghost use Rattle.column_pool.specs.Briefs.{ArePathsOf, AreAllPaths, IsBriefFor};
+
+use plan_base::{BranchId, DemandId, Instance, Items, Path, Prices, is_simple_path};
+
+/// Whether each path of the demand's list is a simple path of it.
+fn are_paths(inst: &Instance, columns: &[Items<Path>], demand: DemandId) -> bool
+    requires demand { demand.0 < length inst.now.demands }
+    requires count { length columns.now ≡ length inst.now.demands }
+    ensures { IsTrue result ↔ ArePathsOf inst.now demand.0 (columns_at columns.now demand.0) }
+{
+    columns[demand.0 as usize]
+        .as_slice()
+        .iter()
+        .all(|path| is_simple_path(inst, demand, path))
+}
+
+/// Whether each path of each list is a simple path of the demand of that place.
+fn are_all_paths(inst: &Instance, columns: &[Items<Path>]) -> bool
+    requires { length columns.now ≡ length inst.now.demands }
+    ensures { IsTrue result ↔ AreAllPaths inst.now columns.now (length inst.now.demands) }
+{
+    for place in 0..inst.demands() {
+        if !are_paths(inst, columns, DemandId(place)) {
+            return false;
+        }
+    }
+    true
+}
 
 /// What a master step is told of a search node: the prices of a complete version, and the columns that it chooses among.
 #[derive(Debug, Drop)]
@@ -17,4 +46,19 @@ pub struct Brief {
     pub crowd_tried: bool,
     /// What the best design known costs, in cost grains.
     pub incumbent: Option<u128>,
+}
+
+impl Brief {
+    /// Whether the brief is one for the instance: its prices fit, and it has one list of columns for each demand, each of
+    /// simple paths of that demand. Takes no memory.
+    ///
+    /// - Rule: docs/DEFINITIONS.md, "Columns".
+    /// - Time: linear in the links and in the arcs of all columns.
+    pub fn fits(&self, inst: &Instance) -> bool
+        ensures { IsTrue result ↔ IsBriefFor inst.now self.now.prices self.now.columns }
+    {
+        self.prices.fits(inst)
+            && self.columns.len() == inst.demands() as usize
+            && are_all_paths(inst, self.columns.as_slice())
+    }
 }

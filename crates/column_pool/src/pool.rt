@@ -86,19 +86,6 @@ impl ColumnPool {
         &self.columns(demand)[place as usize]
     }
 
-    /// The columns of a demand, the oldest first.
-    ///
-    /// - Rule: docs/DEFINITIONS.md, "Columns".
-    /// - Time: constant.
-    pub fn columns(&self, demand: DemandId) -> &[Path]
-        requires { demand.0 < length self.now }
-        ensures value { result.now ≡ columns_at self.now demand.0 }
-        ensures len { length result.now ≡ length (columns_at self.now demand.0) }
-        ensures few { length (columns_at self.now demand.0) ≤ MAX_COLUMNS }
-    {
-        self.rows[demand.0 as usize].paths()
-    }
-
     /// Copies of the columns of a demand that a restriction permits, in their order.
     ///
     /// - Errors: want of memory alone.
@@ -120,5 +107,15 @@ impl ColumnPool {
             }
         }
         Ok(Items::from_vec(paths))
+    }
+
+    /// The columns of a demand.
+    fn columns(&self, demand: DemandId) -> &[Path]
+        requires { demand.0 < length self.now }
+        ensures value { result.now ≡ columns_at self.now demand.0 }
+        ensures len { length result.now ≡ length (columns_at self.now demand.0) }
+        ensures few { length (columns_at self.now demand.0) ≤ MAX_COLUMNS }
+    {
+        self.rows[demand.0 as usize].paths()
     }
 }

@@ -1,8 +1,9 @@
 //! Prices of links.
 
-ghost use Rattle.std.specs.Prelude.{◌≡◌, ◌≤◌, ◌↔◌, length, All, IfOk, IsTrue};
+ghost use Rattle.std.specs.Prelude.{◌≡◌, ◌<◌, ◌≤◌, ◌↔◌, length, slice_set, All, IfOk, IsTrue};
 ghost use Rattle.plan_base.specs.Facts.{price_limit};
 
+use crate::ids::LinkId;
 use crate::instance::Instance;
 use std::alloc::AllocError;
 use std::marker::Model;
@@ -69,6 +70,17 @@ impl Prices {
         self.numerators
             .as_mut_slice()
             .copy_from_slice(other.as_slice());
+    }
+
+    /// Puts another price for one link. Takes no memory.
+    ///
+    /// - Takes: a link that there is a price for; a price in thousandths of a cost grain per load grain.
+    /// - Time: constant.
+    pub fn put(&mut self, link: LinkId, price: u128)
+        requires { link.0 < length self.old }
+        ensures { self.new ≡ slice_set self.old link.0 price }
+    {
+        self.numerators[link.0 as usize] = price;
     }
 
     /// Whether there is one price for each link and none is above the price limit.

@@ -1,10 +1,11 @@
-//! Whether the paths of a design are simple paths of their demands.
+//! Whether paths are simple paths of their demands.
 
-ghost use Rattle.std.specs.Prelude.{◌≡◌, ◌<◌, ◌+◌, ◌&&◌, ◌||◌, ◌==◌, ℕ, length, IfOk};
+ghost use Rattle.std.specs.Prelude.{◌≡◌, ◌<◌, ◌+◌, ◌&&◌, ◌||◌, ◌==◌, ◌↔◌, ℕ, length, IfOk, IsTrue};
 ghost use Rattle.std.specs.Result.{result_err};
 ghost use Rattle.plan_base.specs.First.{first_fault};
 ghost use Rattle.plan_base.specs.Facts.{IsInstance};
-ghost use Rattle.plan_base.specs.Arcs.{is_arc, tail_of, head_of};
+ghost use Rattle.plan_base.specs.Arcs.{is_arc, tail_of, head_of, demand_at};
+ghost use Rattle.plan_base.specs.Paths.{IsSimplePath};
 ghost use Rattle.plan_base.specs.DesignFaults.{path_fault, demand_path_fault};
 ghost use Rattle.plan_base.specs.Walks.{is_met, AreStampsLow, walk_fault};
 
@@ -14,7 +15,7 @@ use crate::instance::Instance;
 use crate::limits::{MAX_DEMANDS, MAX_NODES};
 use crate::met_nodes::MetNodes;
 use crate::parts::Demand;
-use crate::path::Design;
+use crate::path::{Design, Path};
 
 /// Whether the arc exists and begins at the node.
 fn leaves(inst: &Instance, arc: ArcId, node: NodeId) -> bool
@@ -100,4 +101,17 @@ pub(crate) fn check_paths(inst: &Instance, design: &Design) -> Result<(), Design
         check_path(inst, id, inst.demand(id), path.as_slice(), &mut met)?;
     }
     Ok(())
+}
+
+/// Whether the path is a simple path of the demand.
+///
+/// - Rule: docs/DEFINITIONS.md, "Simple paths".
+/// - Time: linear in the arcs. Takes no memory.
+pub fn is_simple_path(inst: &Instance, demand: DemandId, path: &Path) -> bool
+    requires { demand.0 < length inst.now.demands }
+    ensures { IsTrue result ↔ IsSimplePath inst.now (demand_at inst.now demand.0) path.now }
+{
+    let _demands = inst.demands();
+    let mut met = MetNodes::new();
+    check_path(inst, demand, inst.demand(demand), path.as_slice(), &mut met).is_ok()
 }
