@@ -1,0 +1,3 @@
+mod Lists
+mod Numbered
+mod Formed
