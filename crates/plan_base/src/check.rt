@@ -73,9 +73,14 @@ fn check_counts(id: LinkId, link: &Link, counts: &[u64]) -> Result<(), DesignFau
     Ok(())
 }
 
-/// The capacity of the link with these counts of its modules, in load grains.
+/// The capacity of the link with these counts of its modules: what is installed before, and theirs.
+///
+/// - Takes: a link of an instance; a count in shape for each of its modules.
+/// - Gives: load grains.
+/// - Rule: docs/DEFINITIONS.md, "Designs".
+/// - Time: linear in the link's modules. Takes no memory.
 #[tactic(auto, using(crate::proofs::SumLaws::sums))]
-fn capacity_with(link: &Link, counts: &[u64]) -> u128
+pub fn capacity_with(link: &Link, counts: &[u64]) -> u128
     requires pre { link.now.pre < CAPACITY_BOUND }
     requires few { length link.now.modules ≤ 32 }
     requires modules { All (λ m. m.capacity < CAPACITY_BOUND) link.now.modules }
@@ -90,8 +95,13 @@ fn capacity_with(link: &Link, counts: &[u64]) -> u128
     capacity
 }
 
-/// What these counts of the link's modules cost, in cost grains.
-fn module_cost_with(link: &Link, counts: &[u64]) -> u128
+/// What these counts of the link's modules cost.
+///
+/// - Takes: a link of an instance; a count in shape for each of its modules.
+/// - Gives: cost grains.
+/// - Rule: docs/DEFINITIONS.md, "Designs".
+/// - Time: linear in the link's modules. Takes no memory.
+pub fn module_cost_with(link: &Link, counts: &[u64]) -> u128
     requires length { length counts.now ≡ length link.now.modules }
     requires few { length link.now.modules ≤ 32 }
     requires shape { AreCountsInShape link.now counts.now }

@@ -25,7 +25,7 @@ mod shared;
 mod walks;
 
 pub use build_fault::{BuildFault, End};
-pub use check::check_design;
+pub use check::{capacity_with, check_design, module_cost_with};
 pub use design_fault::DesignFault;
 pub use ids::{ArcId, BranchId, DemandId, LinkId, NodeId};
 pub use instance::Instance;

@@ -107,14 +107,17 @@ pub record HaveSteps (p : Parts) (count all : ℕ) : Type 0 where
   pub each : (e : ℕ) → e < count → HasSteps (total_load p) (link_at p e) (slice_index_or steps e 0)
   pub together : all ≡ sum_by (λ n. n) steps
 
--- the line of a network with so many steps in all; its load in units
-abbrev pub check_line_with : Parts → ℕ → List ℕ
-check_line_with p steps =
-    codes "GOOD nodes" ++ numbers (p.nodes ∷ [])
+-- the counts of nodes, links and demands, and the total load in units, each behind its word
+abbrev pub sizes_text : Parts → List ℕ
+sizes_text p =
+    codes " nodes" ++ numbers (p.nodes ∷ [])
     ++ codes " links" ++ numbers (length p.links ∷ [])
     ++ codes " demands" ++ numbers (length p.demands ∷ [])
     ++ codes " load " ++ grains_text (total_load p) LOAD_SCALE
-    ++ codes " steps" ++ numbers (steps ∷ []) ++ codes "\n"
+
+-- the line of a network with so many steps in all
+abbrev pub check_line_with : Parts → ℕ → List ℕ
+check_line_with p steps = codes "GOOD" ++ sizes_text p ++ codes " steps" ++ numbers (steps ∷ []) ++ codes "\n"
 
 -- the line of a checked network: its counts, its load, and the steps of all its links together
 pub record IsCheckLine (p : Parts) (text : List ℕ) : Type 0 where

@@ -1,7 +1,7 @@
 //! The line of a network that was checked.
 
-ghost use Rattle.std.specs.Prelude.{◌≡◌, length, IfOk};
-ghost use Rattle.plan_report.specs.Lines.{IsCheckLine, HaveSteps};
+ghost use Rattle.std.specs.Prelude.{◌≡◌, ◌++◌, length, IfOk, OnOk};
+ghost use Rattle.plan_report.specs.Lines.{IsCheckLine, HaveSteps, sizes_text};
 ghost use Rattle.plan_base.specs.Facts.{total_load};
 
 use crate::numbers::push_number;
@@ -26,6 +26,20 @@ fn steps_in_all(table: &StepTable, links: u32) -> u64
     all
 }
 
+/// Writes the counts of nodes, links and demands, and the total load.
+pub fn push_sizes(text: &mut Vec<u8>, inst: &Instance) -> Result<(), AllocError>
+    ensures { OnOk result (text.new.items ≡ text.old.items ++ sizes_text inst.now) }
+{
+    text.extend_from_slice(b" nodes")?;
+    push_number(text, u64::from(inst.nodes()))?;
+    text.extend_from_slice(b" links")?;
+    push_number(text, u64::from(inst.links()))?;
+    text.extend_from_slice(b" demands")?;
+    push_number(text, u64::from(inst.demands()))?;
+    text.extend_from_slice(b" load ")?;
+    write_grains(u128::from(inst.total_load()), LOAD_SCALE, text)
+}
+
 /// The line of an instance: how many nodes, links and demands it has, its total load, and the steps of
 /// all its links together.
 ///
@@ -37,14 +51,8 @@ pub fn check_line(alloc: Global, inst: &Instance, table: &StepTable) -> Result<V
     ensures { IfOk result (λ text. IsCheckLine inst.now text.items) }
 {
     let steps = steps_in_all(table, inst.links());
-    let mut text = Vec::from_slice(alloc, b"GOOD nodes")?;
-    push_number(&mut text, u64::from(inst.nodes()))?;
-    text.extend_from_slice(b" links")?;
-    push_number(&mut text, u64::from(inst.links()))?;
-    text.extend_from_slice(b" demands")?;
-    push_number(&mut text, u64::from(inst.demands()))?;
-    text.extend_from_slice(b" load ")?;
-    write_grains(u128::from(inst.total_load()), LOAD_SCALE, &mut text)?;
+    let mut text = Vec::from_slice(alloc, b"GOOD")?;
+    push_sizes(&mut text, inst)?;
     text.extend_from_slice(b" steps")?;
     push_number(&mut text, steps)?;
     text.push(b'\n')?;

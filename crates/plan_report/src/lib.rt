@@ -2,20 +2,26 @@
 //!
 //! Promises that each line is exactly that of its case, byte for byte: the line of a fault says which
 //! text, rule and place; the line of a network says its counts, its load and the steps of all its
-//! links; the line of a verdict says what an accepted plan claims, or which rule a rejected one breaks.
-//! Begin at `fault_line`; the lines are defined in `specs/Lines.antt` and `specs/Verdicts.antt`.
+//! links; the line of a verdict says what an accepted plan claims, or which rule a rejected one breaks; a
+//! report tells a plan's design by the names of the network; the line of a trial says what its plan claims.
+//! Begin at `fault_line`; the lines are defined in `specs/Lines.antt`, `specs/Verdicts.antt` and
+//! `specs/Reports.antt`. Stands on the types of the crates whose answers it tells.
 #![tactic(auto)]
 
 mod check_lines;
 mod fault_lines;
 mod numbers;
+mod reports;
 mod run_fault;
+mod trial_lines;
 mod verdict_lines;
 
 pub use check_lines::check_line;
 pub use fault_lines::fault_line;
 pub use numbers::push_number;
+pub use reports::report_text;
 pub use run_fault::{FileKind, RunFault};
+pub use trial_lines::trial_line;
 pub use verdict_lines::verdict_line;
 
 #[cfg(test)]

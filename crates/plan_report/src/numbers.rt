@@ -16,7 +16,7 @@ pub fn push_number(text: &mut Vec<u8>, number: u64) -> Result<(), AllocError>
 
 /// Writes each number behind a blank.
 #[tactic(auto, using(crate::proofs::Lists::lists))]
-fn push_numbers(text: &mut Vec<u8>, all: &[u64]) -> Result<(), AllocError>
+pub fn push_numbers(text: &mut Vec<u8>, all: &[u64]) -> Result<(), AllocError>
     ensures { OnOk result (text.new.items ≡ text.old.items ++ numbers all.now) }
 {
     for number in all {

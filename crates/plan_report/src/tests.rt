@@ -1,13 +1,18 @@
 use super::*;
-use cert_verifier::Rejected;
+use cert_verifier::{Rejected, verify};
 use link_steps::StepTable;
+use model_check::to_instance;
 use plan_base::{
-    Demand, DemandId, Design, DesignFault, Instance, Items, Link, LinkId, Module, NodeId, Orient,
-    Parts,
+    ArcId, Demand, DemandId, Design, DesignFault, Instance, Items, Link, LinkId, Module, NodeId,
+    Orient, Parts, Path, Prices,
 };
 use proof_tree::{Evidence, Plan, PlanStatus, Tree, TreeNode};
 use scaled_numbers::NumberFault;
-use snd_model::Key;
+use snd_model::{
+    CapacityModel, DemandModel, FixedChargeModel, HopModel, Key, LinkModel, ModelFile, PathModel,
+    RoutingModel, SurvivabilityModel,
+};
+use snd_network::read_network;
 use snd_reader::{TextFault, Wanted};
 use std::alloc::{AllocError, Global};
 use std::test::*;
@@ -334,6 +339,155 @@ fn verdict_lines_are_those_of_the_format(rt: HostRuntime) -> Result<(), Fail> {
             Some(plan) => {
                 let text = verdict_line(rt.alloc(), &plan, &verdict)?;
                 assert!(rt; text.as_slice() == line.as_bytes(), "{line}");
+            }
+            None => assert!(rt; false, "{line}"),
+        }
+    }
+    Ok(())
+}
+
+/// Undirected demands and links, and the first group of each other key.
+const UNDIRECTED: ModelFile = ModelFile {
+    demand: DemandModel::Undirected,
+    link: LinkModel::Undirected,
+    capacity: CapacityModel::Modular,
+    fixed_charge: FixedChargeModel::No,
+    routing: RoutingModel::SinglePath,
+    path: PathModel::All,
+    hop: HopModel::No,
+    survivability: SurvivabilityModel::No,
+};
+
+/// The report on a plan that the verifier accepts.
+fn report_of(alloc: Global, network: &str, plan: &Plan) -> Result<Vec<u8>, Fail> {
+    let net = read_network(alloc, network.as_bytes())?;
+    let inst = to_instance(alloc, &net, &UNDIRECTED)?;
+    let table = StepTable::make(alloc, &inst)?;
+    if !plan.fits() {
+        return Ok(Vec::new(alloc));
+    }
+    verify(alloc, &inst, &table, plan)?;
+    Ok(report_text(alloc, &net, &inst, plan)?)
+}
+
+#[test]
+fn a_report_tells_each_link_and_each_demand(rt: HostRuntime) -> Result<(), Fail> {
+    let alloc = rt.alloc();
+    let network = "?SNDlib native format; type: network; version: 1.0
+NODES ( a ( 0 0 ) b ( 1 0 ) c ( 2 0 ) )
+LINKS (
+  ab ( a b ) 0 0 0 0 ( 10 5 )
+  bc ( b c ) 0 0 0 0 ( 10 5 )
+  ac ( a c ) 0 0 0 0 ( 10 12 )
+)
+DEMANDS ( k1 ( a c ) 1 6 UNLIMITED )
+";
+    let over_b = Path::from_vec(vec![in alloc; ArcId(0), ArcId(2)]?);
+    let one = Items::from_vec(vec![in alloc; 1]?);
+    let also_one = Items::from_vec(vec![in alloc; 1]?);
+    let none = Items::from_vec(vec![in alloc; 0]?);
+    let design = Design {
+        paths: Items::from_vec(vec![in alloc; over_b]?),
+        counts: Items::from_vec(vec![in alloc; one, also_one, none]?),
+    };
+    let prices = Prices::from_vec(vec![in alloc; 0, 0, 1_666_666_667]?);
+    let split = TreeNode::Split {
+        demand: DemandId(0),
+        node: NodeId(0),
+        left: Items::from_vec(vec![in alloc; ArcId(0)]?),
+        right: Items::from_vec(vec![in alloc; ArcId(4)]?),
+    };
+    let records = vec![in alloc;
+        split,
+        TreeNode::Leaf(Evidence::Bound(prices)),
+        TreeNode::Leaf(Evidence::Routed),
+    ]?;
+    let plan = Plan {
+        nodes: 3,
+        links: 3,
+        demands: 1,
+        status: PlanStatus::Optimal,
+        budget: 1000,
+        examined: 3,
+        design: Some((10_000_000_000_000, design)),
+        bound: None,
+        tree: Tree::from_nodes(records)?,
+    };
+    let text = report_of(alloc, network, &plan)?;
+    let wanted = "STATUS OPTIMAL
+COST 10
+LINK ab load 6 capacity 10 modules 1 cost 5
+LINK bc load 6 capacity 10 modules 1 cost 5
+LINK ac load 0 capacity 0 modules 0 cost 0
+DEMAND k1 ab bc
+";
+    assert!(rt; text.as_slice() == wanted.as_bytes());
+    Ok(())
+}
+
+/// Demands in both directions over one link with capacity before, and a link without modules.
+#[test]
+fn a_report_adds_up_both_directions(rt: HostRuntime) -> Result<(), Fail> {
+    let alloc = rt.alloc();
+    let network = "?SNDlib native format; type: network; version: 1.0
+NODES ( a b c )
+LINKS ( ab ( a b ) 2.5 0 1 0 ( 10 5 ) bc ( b c ) 3 0 0 0 ( ) )
+DEMANDS ( there ( a b ) 1 6 UNLIMITED back ( b a ) 1 4.5 UNLIMITED )
+";
+    let there = Path::from_vec(vec![in alloc; ArcId(0)]?);
+    let back = Path::from_vec(vec![in alloc; ArcId(1)]?);
+    let one = Items::from_vec(vec![in alloc; 1]?);
+    let design = Design {
+        paths: Items::from_vec(vec![in alloc; there, back]?),
+        counts: Items::from_vec(vec![in alloc; one, Items::new(alloc)]?),
+    };
+    let records = vec![in alloc; TreeNode::Leaf(Evidence::Routed)]?;
+    let plan = Plan {
+        nodes: 3,
+        links: 2,
+        demands: 2,
+        status: PlanStatus::Optimal,
+        budget: 1000,
+        examined: 1,
+        design: Some((15_500_000_000_000, design)),
+        bound: None,
+        tree: Tree::from_nodes(records)?,
+    };
+    let text = report_of(alloc, network, &plan)?;
+    let wanted = "STATUS OPTIMAL
+COST 15.5
+LINK ab load 10.5 capacity 12.5 modules 1 cost 15.5
+LINK bc load 0 capacity 3 modules cost 0
+DEMAND there ab
+DEMAND back ab
+";
+    assert!(rt; text.as_slice() == wanted.as_bytes());
+    Ok(())
+}
+
+#[test]
+fn trial_lines_are_those_of_the_format(rt: HostRuntime) -> Result<(), Fail> {
+    let inst = Instance::build(rt.alloc(), parts(rt.alloc())?)?;
+    let ten = Some(10_000_000_000_000);
+    for (status, cost, bound, line) in [
+        (PlanStatus::Optimal, ten, None, "OPTIMAL cost 10\n"),
+        (PlanStatus::Infeasible, None, None, "INFEASIBLE\n"),
+        (
+            PlanStatus::Undecided,
+            ten,
+            Some(8_500_000_000_000),
+            "UNDECIDED cost 10 bound 8.5\n",
+        ),
+        (PlanStatus::Undecided, None, None, "UNDECIDED bound none\n"),
+    ] {
+        match plan(rt.alloc(), status, cost) {
+            Some(mut plan) => {
+                plan.bound = bound;
+                let text = trial_line(rt.alloc(), &inst, &plan)?;
+                let sizes = b"TRIAL nodes 2 links 1 demands 1 load 36.5 ".as_slice();
+                assert!(rt; text.as_slice().starts_with(sizes), "{line}");
+                assert!(rt; text.as_slice().ends_with(line.as_bytes()), "{line}");
+                assert!(rt; text.len() == sizes.len() + line.len(), "{line}");
             }
             None => assert!(rt; false, "{line}"),
         }

@@ -35,7 +35,7 @@ fn push_signed(text: &mut Vec<u8>, bound: i128) -> Result<(), AllocError>
 }
 
 /// Writes a blank and a bound, or that there is none.
-fn push_bound(text: &mut Vec<u8>, bound: Option<i128>) -> Result<(), AllocError>
+pub fn push_bound(text: &mut Vec<u8>, bound: Option<i128>) -> Result<(), AllocError>
     ensures { OnOk result (text.new.items ≡ text.old.items ++ 32 ∷ bound_text bound) }
 {
     text.push(b' ')?;
@@ -46,7 +46,7 @@ fn push_bound(text: &mut Vec<u8>, bound: Option<i128>) -> Result<(), AllocError>
 }
 
 /// The word of a plan's status.
-fn status_word(status: PlanStatus) -> &'static [u8]
+pub fn status_word(status: PlanStatus) -> &'static [u8]
     ensures { result.now ≡ status_word status }
 {
     match status {

@@ -1,0 +1,222 @@
+//! The text of a report.
+
+ghost use Rattle.std.specs.Prelude.{ℕ, ◌≡◌, ◌<◌, ◌≤◌, ◌++◌, length, slice_index, All, OnOk, IfOk};
+ghost use Rattle.plan_base.specs.Facts.{total_load, IsInstance};
+ghost use Rattle.plan_base.specs.Arcs.{link_of};
+ghost use Rattle.plan_base.specs.Designs.{load_on, link_cost, IsGoodDesign};
+ghost use Rattle.proof_tree.specs.Plans.{IsValidPlan};
+ghost use Rattle.plan_report.specs.Reports.{IsReadFrom, HasNames, traffic_text, installed_text, link_line, way_text, demand_line, link_lines, demand_lines, design_text, report_text};
+
+use crate::check_lines::LOAD_SCALE;
+use crate::numbers::push_numbers;
+use crate::verdict_lines::{COST_SCALE, status_word};
+use plan_base::limits::MAX_LINKS;
+use plan_base::{
+    ArcId, DemandId, Design, Instance, LinkId, capacity_with, loads_of, module_cost_with,
+};
+use proof_tree::Plan;
+use scaled_numbers::write_grains;
+use snd_network::NetworkFile;
+use std::alloc::{AllocError, Global};
+
+/// Writes the load of a link, which is this one, and its capacity.
+fn push_traffic(
+    text: &mut Vec<u8>,
+    inst: &Instance,
+    design: &Design,
+    id: LinkId,
+    load: u128,
+) -> Result<(), AllocError>
+    requires link { id.0 < length inst.now.links }
+    requires good { IsGoodDesign inst.now design.now }
+    requires load { load ≡ load_on inst.now design.now id.0 }
+    ensures { OnOk result (text.new.items ≡ text.old.items ++ traffic_text inst.now design.now id.0) }
+{
+    let counts = design.counts.as_slice()[id.0 as usize].as_slice();
+    text.extend_from_slice(b" load ")?;
+    write_grains(load, LOAD_SCALE, text)?;
+    text.extend_from_slice(b" capacity ")?;
+    write_grains(capacity_with(inst.link(id), counts), LOAD_SCALE, text)
+}
+
+/// What a link costs with its load, which is this one.
+fn link_cost(inst: &Instance, design: &Design, id: LinkId, load: u128) -> u128
+    requires lawful { IsInstance inst.now }
+    requires link { id.0 < length inst.now.links }
+    requires good { IsGoodDesign inst.now design.now }
+    requires load { load ≡ load_on inst.now design.now id.0 }
+    requires within { load ≤ total_load inst.now }
+    ensures { result ≡ link_cost inst.now design.now id.0 }
+{
+    let link = inst.link(id);
+    let counts = design.counts.as_slice()[id.0 as usize].as_slice();
+    u128::from(link.routing) * load + module_cost_with(link, counts)
+}
+
+/// Writes how often each module of a link is installed, and what the link costs with its load, which is this one.
+fn push_installed(
+    text: &mut Vec<u8>,
+    inst: &Instance,
+    design: &Design,
+    id: LinkId,
+    load: u128,
+) -> Result<(), AllocError>
+    requires lawful { IsInstance inst.now }
+    requires link { id.0 < length inst.now.links }
+    requires good { IsGoodDesign inst.now design.now }
+    requires load { load ≡ load_on inst.now design.now id.0 }
+    requires within { load ≤ total_load inst.now }
+    ensures { OnOk result (text.new.items ≡ text.old.items ++ installed_text inst.now design.now id.0) }
+{
+    text.extend_from_slice(b" modules")?;
+    push_numbers(text, design.counts.as_slice()[id.0 as usize].as_slice())?;
+    text.extend_from_slice(b" cost ")?;
+    write_grains(link_cost(inst, design, id, load), COST_SCALE, text)
+}
+
+/// Writes the line of a link with its load, which is this one.
+fn push_link(
+    text: &mut Vec<u8>,
+    net: &NetworkFile,
+    inst: &Instance,
+    design: &Design,
+    id: LinkId,
+    load: u128,
+) -> Result<(), AllocError>
+    requires lawful { IsInstance inst.now }
+    requires names { HasNames net.now inst.now }
+    requires link { id.0 < length inst.now.links }
+    requires good { IsGoodDesign inst.now design.now }
+    requires load { load ≡ load_on inst.now design.now id.0 }
+    requires within { load ≤ total_load inst.now }
+    ensures { OnOk result (text.new.items ≡ text.old.items ++ link_line net.now inst.now design.now id.0) }
+{
+    text.extend_from_slice(b"LINK ")?;
+    text.extend_from_slice(net.links.as_slice()[id.0 as usize].name.as_slice())?;
+    push_traffic(text, inst, design, id, load)?;
+    push_installed(text, inst, design, id, load)?;
+    text.push(b'\n')?;
+    Ok(())
+}
+
+/// Writes the lines of the links.
+#[tactic(auto, using(crate::proofs::Counted::counted_more))]
+fn push_links(
+    text: &mut Vec<u8>,
+    net: &NetworkFile,
+    inst: &Instance,
+    design: &Design,
+    loads: &[u128; MAX_LINKS],
+) -> Result<(), AllocError>
+    requires names { HasNames net.now inst.now }
+    requires good { IsGoodDesign inst.now design.now }
+    requires loads { (e : ℕ) → e < MAX_LINKS → slice_index loads.now e ≡ load_on inst.now design.now e }
+    requires within { (e : ℕ) → e < MAX_LINKS → slice_index loads.now e ≤ total_load inst.now }
+    ensures { OnOk result (text.new.items ≡ text.old.items ++ link_lines net.now inst.now design.now (length inst.now.links)) }
+{
+    for place in 0..inst.links() {
+        let load = loads[place as usize];
+        push_link(text, net, inst, design, LinkId(place), load)?;
+    }
+    Ok(())
+}
+
+/// Writes the names of the links of a path.
+#[tactic(auto, using(crate::proofs::Lists::lists))]
+fn push_way(text: &mut Vec<u8>, net: &NetworkFile, arcs: &[ArcId]) -> Result<(), AllocError>
+    requires { All (λ a. link_of a < length net.now.links) arcs.now }
+    ensures { OnOk result (text.new.items ≡ text.old.items ++ way_text net.now arcs.now) }
+{
+    for arc in arcs {
+        let link = &net.links.as_slice()[(arc.0 / 2) as usize];
+        text.push(b' ')?;
+        text.extend_from_slice(link.name.as_slice())?;
+    }
+    Ok(())
+}
+
+/// Writes the line of a demand.
+fn push_demand(
+    text: &mut Vec<u8>,
+    net: &NetworkFile,
+    inst: &Instance,
+    design: &Design,
+    id: DemandId,
+) -> Result<(), AllocError>
+    requires names { HasNames net.now inst.now }
+    requires demand { id.0 < length inst.now.demands }
+    requires good { IsGoodDesign inst.now design.now }
+    ensures { OnOk result (text.new.items ≡ text.old.items ++ demand_line net.now design.now id.0) }
+{
+    text.extend_from_slice(b"DEMAND ")?;
+    text.extend_from_slice(net.demands.as_slice()[id.0 as usize].name.as_slice())?;
+    push_way(text, net, design.paths.as_slice()[id.0 as usize].as_slice())?;
+    text.push(b'\n')?;
+    Ok(())
+}
+
+/// Writes the lines of the demands.
+#[tactic(auto, using(crate::proofs::Counted::counted_more))]
+fn push_demands(
+    text: &mut Vec<u8>,
+    net: &NetworkFile,
+    inst: &Instance,
+    design: &Design,
+) -> Result<(), AllocError>
+    requires names { HasNames net.now inst.now }
+    requires good { IsGoodDesign inst.now design.now }
+    ensures { OnOk result (text.new.items ≡ text.old.items ++ demand_lines net.now design.now (length inst.now.demands)) }
+{
+    for place in 0..inst.demands() {
+        push_demand(text, net, inst, design, DemandId(place))?;
+    }
+    Ok(())
+}
+
+/// Writes the cost of a plan's design, its links and its demands, or that it has none.
+fn push_design(
+    text: &mut Vec<u8>,
+    net: &NetworkFile,
+    inst: &Instance,
+    plan: &Plan,
+) -> Result<(), AllocError>
+    requires names { HasNames net.now inst.now }
+    requires valid { IsValidPlan inst.now plan.now }
+    ensures { OnOk result (text.new.items ≡ text.old.items ++ design_text net.now inst.now plan.now.design) }
+{
+    match &plan.design {
+        Some((cost, design)) => {
+            let loads = loads_of(inst, design);
+            write_grains(*cost, COST_SCALE, text)?;
+            text.push(b'\n')?;
+            push_links(text, net, inst, design, &loads)?;
+            push_demands(text, net, inst, design)
+        }
+        None => text.extend_from_slice(b"none\n"),
+    }
+}
+
+/// The text of a report on a valid plan: what it claims, its cost, and, where it has a design, for each link
+/// its load, its capacity, how often each module is installed and what it costs, and for each demand the
+/// links of its path.
+///
+/// - Takes: the network, the instance that it stands for, and a valid plan of the instance.
+/// - Errors: want of memory alone.
+/// - Rule: docs/FORMATS.md, "The text of `report`".
+/// - Time: linear in the text and in the arcs of all paths.
+pub fn report_text(
+    alloc: Global,
+    net: &NetworkFile,
+    inst: &Instance,
+    plan: &Plan,
+) -> Result<Vec<u8>, AllocError>
+    requires read { IsReadFrom net.now inst.now }
+    requires valid { IsValidPlan inst.now plan.now }
+    ensures { IfOk result (λ text. text.items ≡ report_text net.now inst.now plan.now) }
+{
+    let mut text = Vec::from_slice(alloc, b"STATUS ")?;
+    text.extend_from_slice(status_word(plan.status))?;
+    text.extend_from_slice(b"\nCOST ")?;
+    push_design(&mut text, net, inst, plan)?;
+    Ok(text)
+}
