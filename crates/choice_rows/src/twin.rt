@@ -1,0 +1,72 @@
+//! The steps of a link found load by load, each by trying no choice and every single one.
+
+use crate::made::Made;
+use explicit_steps::ChoiceStep;
+use std::alloc::{AllocError, Global};
+
+/// No choice, or the one of this number.
+fn single(made: &Made, number: Option<usize>) -> Option<ChoiceStep> {
+    let Some(number) = number else {
+        return Some(ChoiceStep {
+            reach: made.pre,
+            cost: 0,
+            choice: None,
+        });
+    };
+    let choice = made.choices.get(number)?;
+    Some(ChoiceStep {
+        reach: made.pre.saturating_add(choice.capacity),
+        cost: choice.cost,
+        choice: u32::try_from(number).ok(),
+    })
+}
+
+/// Whether the other is better: it costs less, or the same and reaches farther.
+fn is_better(other: ChoiceStep, best: Option<ChoiceStep>) -> bool {
+    best.is_none_or(|best| {
+        other.cost < best.cost || (other.cost == best.cost && other.reach > best.reach)
+    })
+}
+
+/// The best that carries the load.
+fn best_of(made: &Made, load: u64) -> Option<ChoiceStep> {
+    let mut best = single(made, None).filter(|none| none.reach >= load);
+    for number in 0..made.choices.len() {
+        if let Some(other) = single(made, Some(number))
+            && other.reach >= load
+            && is_better(other, best)
+        {
+            best = Some(other);
+        }
+    }
+    best
+}
+
+/// The steps, and how many loads up to the top nothing carries.
+pub(crate) fn plain_steps(
+    alloc: Global,
+    made: &Made,
+) -> Result<(Vec<ChoiceStep>, u64), AllocError> {
+    let mut steps: Vec<ChoiceStep> = Vec::new(alloc);
+    let mut unreached = 0u64;
+    for load in 0..=made.top {
+        match best_of(made, load) {
+            Some(best) => {
+                if steps.last() != Some(&best) {
+                    steps.push(best)?;
+                }
+            }
+            None => unreached = unreached.saturating_add(1),
+        }
+    }
+    Ok((steps, unreached))
+}
+
+/// The greatest load that no choice or a single one carries.
+pub(crate) fn plain_reach(made: &Made) -> u64 {
+    let mut reach = made.pre;
+    for choice in made.choices.iter() {
+        reach = reach.max(made.pre.saturating_add(choice.capacity));
+    }
+    reach
+}

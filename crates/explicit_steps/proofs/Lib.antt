@@ -1,0 +1,5 @@
+pub mod Farthest
+pub mod Growth
+pub mod Orders
+pub mod Singles
+pub mod Theorem
