@@ -8,11 +8,13 @@
 mod answer;
 mod label;
 pub mod limits;
+mod room;
 mod spread;
 mod way;
 mod weights;
 
 pub use answer::Search;
+pub use room::Room;
 pub use spread::search;
 pub use weights::are_weights;
 

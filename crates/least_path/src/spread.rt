@@ -1,9 +1,9 @@
 //! The search: nodes are settled in the order of their lengths.
 
-ghost use Rattle.std.specs.Prelude.{◌≡◌, ◌≢◌, ◌<◌, ◌≤◌, [], length, IfOk};
+ghost use Rattle.std.specs.Prelude.{◌≡◌, ◌≢◌, ◌<◌, ◌≤◌, [], length, IfOk, OnOk, IfNone, IfSome};
 ghost use Rattle.plan_base.specs.Facts.{IsInstance};
 ghost use Rattle.least_path.specs.Paths.{AreWeights, IsFound};
-ghost use Rattle.least_path.specs.Labels.{IsSearch, IsNearest, IsSpread, open_count, first_label_of, first_labels_of};
+ghost use Rattle.least_path.specs.Labels.{IsSearch, IsNearest, IsSpread, HasNoOpen, open_count, first_label_of, first_labels_of};
 
 use crate::answer::Search;
 use crate::label::{Label, Stop, nearest, offer};
@@ -64,6 +64,25 @@ impl Query<'_> {
         self.relax(labels, &settled);
     }
 
+    /// Settles one node after the other, until the target is the nearest one; None where no node is left before it is.
+    pub fn go_out(&self, labels: &mut Vec<Option<Label>>) -> Option<Stop>
+        requires lawful { IsInstance self.now.inst.now }
+        requires weights { AreWeights self.now.inst.now self.now.weights.now }
+        requires search { IsSearch self.now.inst.now self.now.weights.now self.now.source self.now.target labels.old.items }
+        ensures search { IsSearch self.now.inst.now self.now.weights.now self.now.source self.now.target labels.new.items }
+        ensures nearest { IfSome result (IsNearest labels.new.items) }
+        ensures at_target { IfSome result (λ last. last.node.0 ≡ self.now.target.0) }
+        ensures none { IfNone result (HasNoOpen labels.new.items) }
+    {
+        while let Some(here) = nearest(labels) {
+            if here.node == self.target {
+                return Some(here);
+            }
+            self.settle(labels, &here);
+        }
+        None
+    }
+
     /// The answer.
     fn answer(&self, alloc: Global) -> Result<Search, AllocError>
         requires weights { AreWeights self.now.inst.now self.now.weights.now }
@@ -73,15 +92,12 @@ impl Query<'_> {
         ensures { IfOk result (IsFound self.now.inst.now self.now.weights.now self.now.source self.now.target) }
     {
         let mut labels = first_labels(alloc, self.inst.nodes(), self.source)?;
-        while let Some(here) = nearest(&labels) {
-            if here.node == self.target {
-                return self.path_found(alloc, &labels, &here);
-            }
-            self.settle(&mut labels, &here);
+        match self.go_out(&mut labels) {
+            Some(last) => self.path_found(alloc, &labels, &last),
+            None => Ok(Search::NoPath {
+                reached: reached_nodes(alloc, &labels)?,
+            }),
         }
-        Ok(Search::NoPath {
-            reached: reached_nodes(alloc, &labels)?,
-        })
     }
 }
 
@@ -97,13 +113,28 @@ fn first_label() -> Label
     }
 }
 
-/// The labels before the first node is settled: the source alone is reached.
+/// Sets the labels to those before the first node is settled: the source alone is reached.
+pub fn set_first(
+    labels: &mut Vec<Option<Label>>,
+    nodes: u32,
+    source: NodeId,
+) -> Result<(), AllocError>
+    requires { source.0 < nodes }
+    ensures { OnOk result (labels.new.items ≡ first_labels_of nodes source.0) }
+{
+    labels.clear();
+    labels.resize(nodes as usize, None)?;
+    labels[source.0 as usize] = Some(first_label());
+    Ok(())
+}
+
+/// The labels before the first node is settled.
 fn first_labels(alloc: Global, nodes: u32, source: NodeId) -> Result<Vec<Option<Label>>, AllocError>
     requires { source.0 < nodes }
     ensures { IfOk result (λ labels. labels.items ≡ first_labels_of nodes source.0) }
 {
-    let mut labels = vec![in alloc; None; nodes as usize]?;
-    labels[source.0 as usize] = Some(first_label());
+    let mut labels = Vec::new(alloc);
+    set_first(&mut labels, nodes, source)?;
     Ok(labels)
 }
 

@@ -8,7 +8,7 @@ ghost use Rattle.least_path.specs.Labels.{IsSearch, IsNearest, label_at, way, is
 use crate::answer::Search;
 use crate::label::{Label, Stop};
 use crate::spread::Query;
-use plan_base::{Items, NodeId, Path};
+use plan_base::{ArcId, Items, NodeId, Path};
 use std::alloc::{AllocError, Global};
 
 /// The label of a node that has one.
@@ -63,18 +63,19 @@ pub fn reached_nodes(alloc: Global, labels: &[Option<Label>]) -> Result<Items<bo
 }
 
 impl Query<'_> {
-    /// The way of the label.
-    fn way_to(
+    /// The way of the label, in the memory of these arcs.
+    pub fn way_to(
         &self,
-        alloc: Global,
         labels: &[Option<Label>],
         last: &Stop,
+        memory: Vec<ArcId>,
     ) -> Result<Path, AllocError>
         requires search { IsSearch self.now.inst.now self.now.weights.now self.now.source self.now.target labels.now }
         requires last { label_at labels.now last.now.node.0 ≡ Some last.now.label }
         ensures { IfOk result (λ path. path ≡ way self.now.inst.now labels.now last.now.label.steps last.now.label) }
     {
-        let mut arcs = Vec::new(alloc);
+        let mut arcs = memory;
+        arcs.clear();
         let mut here = last.label;
         while here.steps > 0 {
             arcs.push(here.via)?;
@@ -98,7 +99,7 @@ impl Query<'_> {
         ensures { IfOk result (IsFound self.now.inst.now self.now.weights.now self.now.source self.now.target) }
     {
         Ok(Search::Path {
-            path: self.way_to(alloc, labels, last)?,
+            path: self.way_to(labels, last, Vec::new(alloc))?,
             length: last.label.length,
             potentials: potentials(alloc, labels, last.label.length)?,
         })

@@ -1,5 +1,5 @@
 use Rattle.least_path.specs.Labels.{IsSearch, open_count}
-use Rattle.least_path.proofs.spread.Query.answer.Given as goal
+use Rattle.least_path.proofs.spread.Query.go_out.Given as goal
 
 abbrev pub invariant-loop-here : goal.invariant-loop-here
 invariant-loop-here l = IsSearch l.self.inst.now l.self.weights.now l.self.source l.self.target l.labels.items

@@ -1,0 +1,96 @@
+//! Searches that take no memory.
+
+ghost use Rattle.std.specs.Prelude.{◌≡◌, ◌<◌, [], IfOk, IfSome, IfNone};
+ghost use Rattle.least_path.specs.Paths.{AreWeights, IsLeastPath, HasNoUsablePath};
+
+use crate::label::Label;
+use crate::spread::{Query, set_first};
+use plan_base::{Instance, NodeId, Path};
+use std::alloc::{AllocError, Global};
+use std::marker::Model;
+use std::mem;
+
+/// Room for one search after the other in one instance, and the path that is in it.
+#[derive(Debug, Drop)]
+pub struct Room {
+    labels: Vec<Option<Label>>,
+    path: Path,
+}
+
+impl Model for Room {
+    ghost use Rattle.std.specs.Prelude.{List};
+    ghost use Rattle.plan_base.specs.declared.ids.ArcId.{ArcId};
+
+    ghost Value = { List ArcId };
+
+    ghost view = { λ a. a.path };
+}
+
+impl Room {
+    /// Room for the nodes of an instance, with no path in it.
+    ///
+    /// - Errors: want of memory alone.
+    pub fn new(alloc: Global, inst: &Instance) -> Result<Room, AllocError>
+        ensures { IfOk result (λ room. room ≡ []) }
+    {
+        let nodes = inst.nodes() as usize;
+        Ok(Room {
+            labels: Vec::with_capacity(alloc, nodes)?,
+            path: Path::from_vec(Vec::with_capacity(alloc, nodes)?),
+        })
+    }
+
+    /// Puts a path of least weight from the source to the target into the room, and gives its weight; None where there
+    /// is no path of usable arcs.
+    ///
+    /// - Takes: weights as `search` does.
+    /// - Errors: want of memory alone. None where the room was made for the instance, and the path that was in it has
+    ///   memory for as many arcs as there are nodes.
+    /// - Rule: docs/DEFINITIONS.md, "Least paths".
+    /// - Time: as `search`, without potentials.
+    pub fn search(
+        &mut self,
+        inst: &Instance,
+        weights: &[Option<u128>],
+        source: NodeId,
+        target: NodeId,
+    ) -> Result<Option<u128>, AllocError>
+        requires weights { AreWeights inst.now weights.now }
+        requires source { source.0 < inst.now.nodes }
+        requires target { target.0 < inst.now.nodes }
+        ensures path { IfOk result (λ found. IfSome found (IsLeastPath inst.now weights.now source target self.new)) }
+        ensures none { IfOk result (λ found. IfNone found (HasNoUsablePath inst.now weights.now source target)) }
+        ensures kept { IfOk result (λ found. IfNone found (self.new ≡ self.old)) }
+    {
+        prove!(weights.len() == 2 * inst.links() as usize);
+        let query = Query {
+            inst,
+            weights,
+            source,
+            target,
+        };
+        set_first(&mut self.labels, inst.nodes(), source)?;
+        let Some(last) = query.go_out(&mut self.labels) else {
+            return Ok(None);
+        };
+        let empty = Path::from_vec(Vec::new(*self.labels.allocator()));
+        let memory = mem::replace(&mut self.path, empty).into_vec();
+        self.path = query.way_to(&self.labels, &last, memory)?;
+        Ok(Some(last.label.length))
+    }
+
+    /// Changes the path in the room for another one, each with its memory.
+    pub fn swap(&mut self, path: &mut Path)
+        ensures room { self.new ≡ path.old }
+        ensures path { path.new ≡ self.old }
+    {
+        mem::swap(&mut self.path, path);
+    }
+
+    /// The path in the room.
+    pub fn path(&self) -> &Path
+        ensures { result.now ≡ self.now }
+    {
+        &self.path
+    }
+}
