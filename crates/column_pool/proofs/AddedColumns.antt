@@ -79,23 +79,25 @@ AreColumnsOf-push p k paths path h room simple new = record {
   simple = All-push (λ x. IsSimplePath p (demand_at p k) x) paths path h.simple simple;
   few = (let l = length-append paths (path ∷ []) in omega arith);
   different = λ i j x a b. elim (slice_get-append_cases paths (path ∷ []) i x a) [
-      inl u ↦ elim (slice_get-append_cases paths (path ∷ []) j x b) [
-          inl v ↦ h.different i j x u v
-        | inr v ↦ absurd (not_both i x u v.0 v.2)
-        ]
+    | inl u ↦ elim (slice_get-append_cases paths (path ∷ []) j x b) [
+      | inl v ↦ h.different i j x u v
+      | inr v ↦ absurd (not_both i x u v.0 v.2)
+    ]
     | inr u ↦ elim (slice_get-append_cases paths (path ∷ []) j x b) [
-          inl v ↦ absurd (not_both j x v u.0 u.2)
-        | inr v ↦ (let a0 = only u.0 x u.2 in let b0 = only v.0 x v.2 in let c = u.1 in let d = v.1 in omega arith)
-        ]
-    ];
+      | inl v ↦ absurd (not_both j x v u.0 u.2)
+      | inr v ↦ (let a0 = only u.0 x u.2 in let b0 = only v.0 x v.2 in let c = u.1 in let d = v.1 in omega arith)
+    ]
+  ];
 }
   where
     only : (i : ℕ) (x : List ArcId) → slice_get (path ∷ []) i ≡ Some x → i ≡ 0
     only zero x is = refl
     only (suc i) x is = absurd (let bad : ◌≡◌ {A = Option (List ArcId)} None (Some x) = is in cc)
+
     is_path : (i : ℕ) (x : List ArcId) → slice_get (path ∷ []) i ≡ Some x → x ≡ path
     is_path zero x is = cc
     is_path (suc i) x is = absurd (let bad : ◌≡◌ {A = Option (List ArcId)} None (Some x) = is in cc)
+
     not_both : (i : ℕ) (x : List ArcId) → slice_get paths i ≡ Some x → (j : ℕ) → slice_get (path ∷ []) j ≡ Some x → ⊥
     not_both i x u j v =
         let same : x ≡ path = is_path j x v in
@@ -110,6 +112,7 @@ AreColumnsOf-added p k paths path h simple = by (is_column paths path) refl
     push true less new = AreColumnsOf-push p k paths path h (ltb-true _ _ less) simple new
     push false more new =
         AreColumnsOf-push p k (drop 1 paths) path (AreColumnsOf-drop p k paths h) (let l = length-drop 1 paths in let c = h.few in omega arith) simple (not_in-drop paths path new)
+
     by : (b : Bool) → is_column paths path ≡ b → AreColumnsOf p k (if b then paths else with_last paths path)
     by true e = h
     by false e = push (nat_lt (length paths) MAX_COLUMNS) refl e
@@ -121,11 +124,11 @@ pub AreColumns-with : (p : Parts) (columns : Columns) (k : ℕ) (path : List Arc
 AreColumns-with p columns k path h within simple = record {
   count = length-set columns k (column_added (columns_at columns k) path) ∙ h.count;
   each = λ j below. elim (either_same j k) [
-      inl here ↦ subst (λ (i : ℕ). AreColumnsOf p i (columns_at (columns_with columns k path) i)) (sym here)
-          (subst (AreColumnsOf p k) (sym (get_or-set_same columns k (column_added (columns_at columns k) path) [] (let c = h.count in omega arith)))
-              (AreColumnsOf-added p k (columns_at columns k) path (h.each k within) simple))
+    | inl here ↦ subst (λ (i : ℕ). AreColumnsOf p i (columns_at (columns_with columns k path) i)) (sym here)
+        (subst (AreColumnsOf p k) (sym (get_or-set_same columns k (column_added (columns_at columns k) path) [] (let c = h.count in omega arith)))
+        (AreColumnsOf-added p k (columns_at columns k) path (h.each k within) simple))
     | inr there ↦ subst (AreColumnsOf p j) (sym (get_or-set_other columns k j (column_added (columns_at columns k) path) [] there)) (h.each j below)
-    ];
+  ];
 }
 
 AreColumnsOf-none : (p : Parts) (k : ℕ) → AreColumnsOf p k []
@@ -164,7 +167,7 @@ written_last (oldest ∷ paths) turned n last path some is_n is_last is =
     let whole : length turned ≡ length (oldest ∷ paths) = ap length is ∙ length-append paths (oldest ∷ []) ∙ (let e : length paths + 1 ≡ suc (length paths) = omega arith in e) in
     let none : drop (length turned) (oldest ∷ paths) ≡ [] = drop_all (length turned) (oldest ∷ paths) (omega arith) in
     let all : take n (turned ++ drop (length turned) (oldest ∷ paths)) ≡ turned =
-        ap (λ (xs : List (List ArcId)). take n (turned ++ xs)) none ∙ ap (take n) (append-nil turned) ∙ take_all n turned (omega arith) in
+    ap (λ (xs : List (List ArcId)). take n (turned ++ xs)) none ∙ ap (take n) (append-nil turned) ∙ take_all n turned (omega arith) in
     let place : last ≡ length paths = omega arith in
     ap (λ (xs : List (List ArcId)). set xs last path) (all ∙ is) ∙ ap (λ (i : ℕ). set (paths ++ oldest ∷ []) i path) place ∙ set_at paths oldest [] path (length paths) refl
 
@@ -183,6 +186,7 @@ skipped_next r k columns kept i path within read is refused = by (is_permitted r
   where
     next : filter (is_permitted r k) (take (i + 1) columns) ≡ filter (is_permitted r k) (take i columns) ++ (if is_permitted r k (get_or columns i path) then get_or columns i path ∷ [] else [])
     next = filter_more (is_permitted r k) columns i path within
+
     by : (b : Bool) → is_permitted r k path ≡ b → kept ≡ filter (is_permitted r k) (take (i + 1) columns)
     by true e = absurd (refused (IsPermitted-told r k path e))
     by false e =

@@ -13,7 +13,7 @@ loop-path-preserved c =
     let columns : List (List ArcId) = columns_at c.args.self.now c.args.demand.0 in
     let within : c.loop-path.path-index < length columns = omega (arith, c.columns-path-items.ensures.len, ap length c.columns-path-items.ensures.value) in
     let read : c.path-item.result ≡ get_or columns c.loop-path.path-index c.path-item.result =
-        subst (λ (xs : List (List ArcId)). c.path-item.result ≡ get_or xs c.loop-path.path-index c.path-item.result) c.columns-path-items.ensures.value c.path-item.is in
+    subst (λ (xs : List (List ArcId)). c.path-item.result ≡ get_or xs c.loop-path.path-index c.path-item.result) c.columns-path-items.ensures.value c.path-item.is in
     elim c.if-permits.branch [
       | then-permits+in_ok-copy+in_ok-push w ↦
           (let permitted : IsPermitted (forbids c.args.restriction.now) c.args.demand.0 c.path-item.result = search rules in

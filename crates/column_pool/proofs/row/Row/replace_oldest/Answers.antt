@@ -10,6 +10,6 @@ returns c =
     let whole : c.self.inside.paths.len ≡ length items = search rules in
     let last : c.len-last.result - 1 ≡ length items - 1 = search rules in
     let turned : c.rotate_left.new.self ≡ drop 1 items ++ take 1 items =
-        subst (λ (xs : List (List ArcId)). c.rotate_left.new.self ≡ drop 1 xs ++ take 1 xs) c.as_mut_slice.ensures.value c.rotate_left.ensures.after in
+    subst (λ (xs : List (List ArcId)). c.rotate_left.new.self ≡ drop 1 xs ++ take 1 xs) c.as_mut_slice.ensures.value c.rotate_left.ensures.after in
     subst (λ (xs : List (List ArcId)). slice_set (take c.self.inside.paths.len (c.rotate_left.new.self ++ drop (length c.rotate_left.new.self) items)) (c.len-last.result - 1) c.args.path ≡ drop 1 xs ++ c.args.path ∷ []) c.self.view_is
     (written_last items c.rotate_left.new.self c.self.inside.paths.len (c.len-last.result - 1) c.args.path some whole last turned)
