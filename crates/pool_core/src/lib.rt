@@ -7,13 +7,14 @@
 //! call, and when, is left to the callers: any order is right.
 #![tactic(auto)]
 
+pub mod limits;
 mod pool;
 mod shared;
 
 pub use pool::Pool;
 pub use pool_machine::{
     Better, Closing, ExamineFault, Examined, Fate, Found, HeldCut, Incumbent, NodeState, Offer,
-    Offered, Opened, RoundFault, Settle, Task, laws, limits,
+    Offered, Opened, RoundFault, Settle, Task, laws,
 };
 
 #[cfg(test)]
