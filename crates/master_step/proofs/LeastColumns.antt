@@ -1,0 +1,91 @@
+-- The least column of a list, and what it becomes as the list grows.
+use Rattle.std.proofs.Common.{◌≡◌, ℕ, zero, suc, ◌+◌, ◌<◌, ◌≤◌, ◌⊎◌, inl, inr, Bool, true, false, List, [], ◌∷◌, ◌++◌, length, get_or, All, Option, Some, None, slice_get, refl, sym, ap, subst, ◌∙◌, arith, length-append, append_assoc}
+use Rattle.std.specs.Prelude.{nat_lt, if◌then◌else◌}
+use Rattle.std.specs.List.{fold}
+use Rattle.std.proofs.lemmas.Bool.{ltb-true, ltb-false}
+use Rattle.std.proofs.lemmas.List.{append-nil}
+use Rattle.std.proofs.lemmas.List.Elements.{All-push, All-nil, All-cons}
+use Rattle.plan_base.specs.declared.ids.ArcId.{ArcId}
+use Rattle.arc_restrict.specs.Prices.{price_of}
+use Rattle.master_step.specs.Columns.{cheaper, least_column, IsFirstLeast}
+
+fold_push : (prices : List ℕ) (best : List ArcId) (paths : List (List ArcId)) (path : List ArcId) → fold (cheaper prices) best (paths ++ path ∷ []) ≡ cheaper prices (fold (cheaper prices) best paths) path
+fold_push prices best [] path = refl
+fold_push prices best (other ∷ paths) path = fold_push prices (cheaper prices best other) paths path
+
+pub least_column-one : (prices : List ℕ) (path : List ArcId) → least_column prices (path ∷ []) ≡ path
+unfolding least_column
+least_column-one prices path = refl
+
+pub least_column-push : (prices : List ℕ) (paths : List (List ArcId)) (path : List ArcId) → 0 < length paths → least_column prices (paths ++ path ∷ []) ≡ cheaper prices (least_column prices paths) path
+unfolding least_column
+least_column-push prices [] path some = absurd (omega arith)
+least_column-push prices (first ∷ paths) path some = fold_push prices first paths path
+
+slice_get-append_left : (xs ys : List (List ArcId)) (i : ℕ) (z : List ArcId) → slice_get xs i ≡ Some z → slice_get (xs ++ ys) i ≡ Some z
+slice_get-append_left [] ys i z is = absurd (let bad : ◌≡◌ {A = Option (List ArcId)} None (Some z) = is in cc)
+slice_get-append_left (x ∷ xs) ys zero z is = is
+slice_get-append_left (x ∷ xs) ys (suc i) z is = slice_get-append_left xs ys i z is
+
+slice_get-front : (xs ys : List (List ArcId)) (i : ℕ) (z : List ArcId) → i < length xs → slice_get (xs ++ ys) i ≡ Some z → slice_get xs i ≡ Some z
+slice_get-front [] ys i z within is = absurd (omega arith)
+slice_get-front (x ∷ xs) ys zero z within is = is
+slice_get-front (x ∷ xs) ys (suc i) z within is = slice_get-front xs ys i z (omega arith) is
+
+slice_get-last : (xs : List (List ArcId)) (z : List ArcId) → slice_get (xs ++ z ∷ []) (length xs) ≡ Some z
+slice_get-last [] z = refl
+slice_get-last (x ∷ xs) z = slice_get-last xs z
+
+slice_get-within : (xs : List (List ArcId)) (i : ℕ) (z : List ArcId) → slice_get xs i ≡ Some z → i < length xs
+slice_get-within [] i z is = absurd (let bad : ◌≡◌ {A = Option (List ArcId)} None (Some z) = is in cc)
+slice_get-within (x ∷ xs) zero z is = omega arith
+slice_get-within (x ∷ xs) (suc i) z is = omega (arith, slice_get-within xs i z is)
+
+slice_get-get : (xs : List (List ArcId)) (i : ℕ) (z : List ArcId) → slice_get xs i ≡ Some z → get_or xs i z ≡ z
+slice_get-get [] i z is = refl
+slice_get-get (x ∷ xs) zero z is = cc
+slice_get-get (x ∷ xs) (suc i) z is = slice_get-get xs i z is
+
+-- a column that is read costs at least the least one
+not_less : (prices : List ℕ) (paths : List (List ArcId)) (best : List ArcId) (i : ℕ) (other : List ArcId) → All (λ x. price_of prices best ≤ price_of prices x) paths → slice_get paths i ≡ Some other → price_of prices best ≤ price_of prices other
+not_less prices paths best i other all is =
+    subst (λ (x : List ArcId). price_of prices best ≤ price_of prices x) (slice_get-get paths i other is) (all i other (slice_get-within paths i other is))
+
+-- one column more
+first_least-push : (prices : List ℕ) (paths : List (List ArcId)) (best path : List ArcId) → IsFirstLeast prices paths best → IsFirstLeast prices (paths ++ path ∷ []) (cheaper prices best path)
+first_least-push prices paths best path h = by (nat_lt (price_of prices path) (price_of prices best)) refl
+  where
+    by : (b : Bool) → nat_lt (price_of prices path) (price_of prices best) ≡ b → IsFirstLeast prices (paths ++ path ∷ []) (if b then path else best)
+    by true less =
+        let below : price_of prices path < price_of prices best = ltb-true _ _ less in
+        record {
+          place = length paths;
+          is_path = slice_get-last paths path;
+          least = All-push (λ x. price_of prices path ≤ price_of prices x) paths path (λ k d within. (let most = h.least k d within in omega arith)) (omega arith);
+          first = λ i other before is. (let most = not_less prices paths best i other h.least (slice_get-front paths (path ∷ []) i other before is) in omega arith);
+        }
+    by false more =
+        let above : price_of prices best ≤ price_of prices path = ltb-false _ _ more in
+        record {
+          place = h.place;
+          is_path = slice_get-append_left paths (path ∷ []) h.place best h.is_path;
+          least = All-push (λ x. price_of prices best ≤ price_of prices x) paths path h.least above;
+          first = λ i other before is. h.first i other before (slice_get-front paths (path ∷ []) i other (let place = slice_get-within paths h.place best h.is_path in omega arith) is);
+        }
+
+first_least-fold : (prices : List ℕ) (rest done : List (List ArcId)) (best : List ArcId) → IsFirstLeast prices done best → IsFirstLeast prices (done ++ rest) (fold (cheaper prices) best rest)
+first_least-fold prices [] done best h = subst (λ (xs : List (List ArcId)). IsFirstLeast prices xs best) (sym (append-nil done)) h
+first_least-fold prices (path ∷ rest) done best h =
+    subst (λ (xs : List (List ArcId)). IsFirstLeast prices xs (fold (cheaper prices) (cheaper prices best path) rest)) (append_assoc done (path ∷ []) rest)
+    (first_least-fold prices rest (done ++ path ∷ []) (cheaper prices best path) (first_least-push prices done best path h))
+
+pub first_least : (prices : List ℕ) (paths : List (List ArcId)) → 0 < length paths → IsFirstLeast prices paths (least_column prices paths)
+unfolding least_column
+first_least prices [] some = absurd (omega arith)
+first_least prices (first ∷ paths) some =
+    first_least-fold prices paths (first ∷ []) first (record {
+      place = 0;
+      is_path = refl;
+      least = All-cons (λ x. price_of prices first ≤ price_of prices x) first [] (omega arith) (All-nil (λ x. price_of prices first ≤ price_of prices x));
+      first = λ i other before is. absurd (omega arith);
+    })

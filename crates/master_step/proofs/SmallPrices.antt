@@ -1,0 +1,70 @@
+-- Prices of paths and their sums are small.
+use Rattle.std.proofs.Common.{◌≡◌, ℕ, zero, suc, ◌+◌, ◌*◌, ◌/◌, ◌^◌, ◌<◌, ◌≤◌, max, List, [], ◌∷◌, length, slice_index, get_or, take, All, arith, refl}
+use Rattle.std.specs.List.{sum_by}
+use Rattle.std.proofs.Math.Nat.{mul-le-mul, mul-le-mul_left, mul-le-mul_right, le-div_iff_mul-le}
+use Rattle.std.proofs.lemmas.List.Sums.{sum_by-cons, sum_by_more}
+use Rattle.std.proofs.lemmas.List.{get_or_past}
+use Rattle.std.proofs.lemmas.Bool.{cases_lt}
+use Rattle.std.proofs.Common.{inl, inr}
+use Rattle.plan_base.specs.declared.ids.ArcId.{ArcId}
+use Rattle.plan_base.specs.declared.parts.Parts.{Parts}
+use Rattle.plan_base.specs.declared.limits.TheConstants.{MAX_PRICED_LOAD}
+use Rattle.plan_base.specs.Facts.{price_limit, total_load, IsInstance}
+use Rattle.plan_base.specs.Sums.{sum_below}
+use Rattle.plan_base.specs.Arcs.{link_of, demand_at, no_demand}
+use Rattle.plan_base.specs.Paths.{IsSimplePath}
+use Rattle.plan_base.proofs.SumsBelow.{sum_below-le, sum_below-times}
+use Rattle.plan_base.proofs.PathLaws.{length-IsSimplePath}
+use Rattle.arc_restrict.specs.Prices.{price_of, AreWithinLimit}
+use Rattle.bound_assembly.specs.declared.limits.TheConstants.{MAX_PATH_LINKS}
+use Rattle.bound_assembly.proofs.SmallSums.{loads-le, priced_limit-le}
+
+-- a price that is read is within the limit
+pub price-le : (prices : List ℕ) (limit e : ℕ) → All (λ price. price ≤ limit) prices → slice_index prices e ≤ limit
+price-le prices limit e all = elim (cases_lt e (length prices)) [
+    inl within ↦ all e 0 within
+  | inr past ↦ omega (arith, get_or_past prices e 0 past)
+  ]
+
+-- each arc costs at most the limit
+pub price_of-le : (prices : List ℕ) (limit : ℕ) (arcs : List ArcId) → All (λ price. price ≤ limit) prices → price_of prices arcs ≤ length arcs * limit
+price_of-le prices limit [] all = omega arith
+price_of-le prices limit (a ∷ arcs) all =
+    omega (arith, sum_by-cons (λ (x : ArcId). slice_index prices (link_of x)) a arcs, price_of-le prices limit arcs all, price-le prices limit (link_of a) all)
+
+-- a simple path has few arcs
+pub few_arcs : (p : Parts) (k : ℕ) (arcs : List ArcId) → IsInstance p → k < length p.demands → IsSimplePath p (demand_at p k) arcs → length arcs ≤ MAX_PATH_LINKS
+few_arcs p k arcs inst within simple = omega (arith, length-IsSimplePath p (demand_at p k) arcs inst (inst.demands k no_demand within).source simple, inst.nodes)
+
+pub path-le : (p : Parts) (k : ℕ) (prices : List ℕ) (arcs : List ArcId) → IsInstance p → k < length p.demands → AreWithinLimit p prices → IsSimplePath p (demand_at p k) arcs → price_of prices arcs ≤ MAX_PATH_LINKS * price_limit p
+path-le p k prices arcs inst within all simple =
+    omega (arith, price_of-le prices (price_limit p) arcs all, mul-le-mul_right (price_limit p) (few_arcs p k arcs inst within simple))
+
+-- loads times prices of paths of the first demands
+pub priced_within : (p : Parts) (q : ℕ → ℕ) (n : ℕ) → n ≤ length p.demands → ((k : ℕ) → k < n → q k ≤ MAX_PATH_LINKS * price_limit p) → sum_below (λ k. (demand_at p k).load * q k) n ≤ MAX_PATH_LINKS * MAX_PRICED_LOAD
+priced_within p q n within small =
+    let cap : ℕ = MAX_PATH_LINKS * price_limit p in
+    let each = sum_below-le (λ k. (demand_at p k).load * q k) (λ k. cap * (demand_at p k).load) n (λ i below.
+    (let product : (demand_at p i).load * q i ≤ (demand_at p i).load * cap = mul-le-mul_left (demand_at p i).load (small i below) in
+    omega (arith, product))) in
+    let times = sum_below-times cap (λ k. (demand_at p k).load) n in
+    let whole : cap * sum_below (λ k. (demand_at p k).load) n ≤ cap * total_load p = mul-le-mul_left cap (loads-le p n within) in
+    omega (arith, each, times, whole, priced_limit-le p)
+
+-- one arc more
+pub price_next : (prices : List ℕ) (arcs : List ArcId) (i : ℕ) (d : ArcId) → i < length arcs → price_of prices (take (i + 1) arcs) ≡ price_of prices (take i arcs) + slice_index prices (link_of (get_or arcs i d))
+price_next prices arcs i d within = sum_by_more (λ (x : ArcId). slice_index prices (link_of x)) arcs i d within
+
+one-le-div : (n d : ℕ) → 0 < d → d ≤ n → 1 ≤ n / d
+one-le-div n d some most = (le-div_iff_mul-le some).1 (omega arith)
+
+-- the limit is at least 1
+pub limit-positive : (p : Parts) → IsInstance p → 1 ≤ price_limit p
+limit-positive p inst =
+    let most : max (total_load p) 1 ≤ 4 * 10 ^ 33 = omega (arith, inst.total) in
+    one-le-div (4 * 10 ^ 33) (max (total_load p) 1) (omega arith) most
+
+-- a gap times a price is within what is priced
+pub product-within : (p : Parts) (gap greatest : ℕ) → gap ≤ total_load p → greatest ≤ price_limit p → gap * greatest ≤ MAX_PRICED_LOAD
+product-within p gap greatest narrow low =
+    omega (arith, mul-le-mul narrow low, priced_limit-le p)

@@ -1,0 +1,27 @@
+-- The prices of least columns are small.
+use Rattle.std.proofs.Common.{◌≡◌, ℕ, ◌*◌, ◌<◌, ◌≤◌, List, [], length, get_or, All, subst, arith}
+use Rattle.std.proofs.lemmas.Option.{get_or_from_slice_get, slice_get_within}
+use Rattle.std.proofs.lemmas.List.Elements.{All-from_get_or, All-filter}
+use Rattle.plan_base.specs.declared.ids.ArcId.{ArcId}
+use Rattle.plan_base.specs.declared.parts.Parts.{Parts}
+use Rattle.plan_base.specs.Facts.{price_limit, IsInstance}
+use Rattle.plan_base.specs.Arcs.{demand_at}
+use Rattle.plan_base.specs.Paths.{IsSimplePath}
+use Rattle.arc_restrict.specs.Prices.{AreWithinLimit}
+use Rattle.bound_assembly.specs.declared.limits.TheConstants.{MAX_PATH_LINKS}
+use Rattle.master_step.specs.declared.source.Source.{Source}
+use Rattle.master_step.specs.Columns.{least_column, least_price, HasColumns}
+use Rattle.master_step.specs.Choosing.{all_of, is_allowed, allowed_of, IsSource}
+use Rattle.master_step.proofs.LeastColumns.{first_least}
+use Rattle.master_step.proofs.SmallPrices.{path-le}
+
+pub small_price : (p : Parts) (source : Source) (prices : List ℕ) (k : ℕ) → IsInstance p → AreWithinLimit p prices → IsSource p source → HasColumns p (allowed_of source) → k < length p.demands
+    → least_price prices (allowed_of source k) ≤ MAX_PATH_LINKS * price_limit p
+small_price p source prices k inst within is has below =
+    let least = first_least prices (allowed_of source k) (has k below) in
+    let all : All (λ path. IsSimplePath p (demand_at p k) path) (all_of source k) = All-from_get_or (λ path. IsSimplePath p (demand_at p k) path) (all_of source k) [] (λ i here. is.simple k i below here) in
+    let allowed : All (λ path. IsSimplePath p (demand_at p k) path) (allowed_of source k) = All-filter (is_allowed source k) (λ path. IsSimplePath p (demand_at p k) path) (all_of source k) all in
+    let simple : IsSimplePath p (demand_at p k) (least_column prices (allowed_of source k)) =
+        subst (λ (path : List ArcId). IsSimplePath p (demand_at p k) path) (get_or_from_slice_get (allowed_of source k) least.place (least_column prices (allowed_of source k)) [] least.is_path)
+        (allowed least.place [] (slice_get_within (allowed_of source k) least.place (least_column prices (allowed_of source k)) least.is_path)) in
+    path-le p k prices (least_column prices (allowed_of source k)) inst below within simple

@@ -1,0 +1,112 @@
+-- The best of the trials, as one more is tried.
+use Rattle.std.proofs.Common.{◌≡◌, ℕ, zero, suc, ◌+◌, ◌*◌, ◌^◌, ◌<◌, ◌≤◌, ◌⊎◌, inl, inr, Bool, true, false, List, length, Option, Some, None, refl, sym, ap, subst, ◌∙◌, arith}
+use Rattle.std.specs.Prelude.{ℤ, ◌≤ℤ◌, ◌<ℤ◌, int_lt, if◌then◌else◌}
+use Rattle.std.proofs.lemmas.Int.{ints}
+use Rattle.plan_base.specs.declared.parts.Parts.{Parts}
+use Rattle.master_step.specs.declared.limits.TheConstants.{MAX_TRIALS}
+use Rattle.master_step.specs.declared.climbing.Best.{Best}
+use Rattle.master_step.specs.Columns.{Choices}
+use Rattle.master_step.specs.Restricted.{IsRestrictedValue}
+use Rattle.master_step.specs.Trials.{IsTrial}
+use Rattle.master_step.specs.Outcomes.{IsRaise, IsStalled}
+use Rattle.master_step.specs.Climbing.{better_of, IsBestOf, AreTried}
+use Rattle.master_step.proofs.Uniqueness.{value-unique, trial-unique}
+
+either_way : (x y : ℕ) → (x ≤ y) ⊎ (y < x)
+either_way x y = grind arith
+
+int_lt-true : (v w : ℤ) → int_lt v w ≡ true → v <ℤ w
+int_lt-true v w h = grind (arith, ints)
+
+int_lt-false : (v w : ℤ) → int_lt v w ≡ false → w ≤ℤ v
+int_lt-false v w h = grind (arith, ints)
+
+le-lt : (u v w : ℤ) → u ≤ℤ v → v <ℤ w → u <ℤ w
+le-lt u v w h k = omega (arith, ints)
+
+lt-lt : (u v w : ℤ) → u <ℤ v → v <ℤ w → u <ℤ w
+lt-lt u v w h k = omega (arith, ints)
+
+lt-le : (u v : ℤ) → u <ℤ v → u ≤ℤ v
+lt-le u v h = omega (arith, ints)
+
+same-le : (u v : ℤ) → u ≡ v → u ≤ℤ v
+same-le u v h = omega (arith, ints)
+
+module _ (p : Parts) (choices : Choices) (prices : List ℕ) (old : ℤ) (widest n : ℕ) (trial : List ℕ) (value : ℤ) (is_trial : IsTrial p choices prices n trial) (is_value : IsRestrictedValue p choices trial value) where
+  -- another value of the same trial is the same
+  one : (i : ℕ) (other : List ℕ) (v : ℤ) → i ≡ n → IsTrial p choices prices i other → IsRestrictedValue p choices other v → v ≡ value
+  one i other v same t is =
+      let here : IsTrial p choices prices n other = subst (λ (j : ℕ). IsTrial p choices prices j other) same t in
+      value-unique p choices trial v value (subst (λ (xs : List ℕ). IsRestrictedValue p choices xs v) (trial-unique p choices prices n other trial here is_trial) is) is_value
+
+  -- what is so of the trials before is so of one more
+  upto : (P : ℤ → Type 0) → ((i : ℕ) (other : List ℕ) (v : ℤ) → i < n → IsTrial p choices prices i other → IsRestrictedValue p choices other v → P v) → P value
+      → (i : ℕ) (other : List ℕ) (v : ℤ) → i < n + 1 → IsTrial p choices prices i other → IsRestrictedValue p choices other v → P v
+  upto P before here i other v below t is = elim (either_way n i) [
+      inl last ↦ subst P (sym (one i other v (omega arith) t is)) here
+    | inr less ↦ before i other v less t is
+    ]
+
+  abbrev this : Best
+  this = record { divisor = widest * 2 ^ n; value = value }
+
+  pub tried-next : (best : Option Best) → AreTried p choices prices old widest n best → AreTried p choices prices old widest (n + 1) (better_of old best this)
+  tried-next None h = by (int_lt old value) refl
+    where
+      by : (b : Bool) → int_lt old value ≡ b → AreTried p choices prices old widest (n + 1) (if b then Some this else None)
+      by true more = record {
+        j = n;
+        within = omega arith;
+        divisor = refl;
+        trial = trial;
+        is_trial = is_trial;
+        is_new = is_value;
+        greater = int_lt-true old value more;
+        greatest = upto (λ v. v ≤ℤ value) (λ i other v below t is. lt-le v value (le-lt v old value (h i other v below t is) (int_lt-true old value more))) (same-le value value refl);
+        first = λ i other v below t is. le-lt v old value (h i other v below t is) (int_lt-true old value more);
+      }
+      by false less = upto (λ v. v ≤ℤ old) h (int_lt-false old value less)
+  tried-next (Some best) h = by (int_lt best.value value) refl
+    where
+      by : (b : Bool) → int_lt best.value value ≡ b → IsBestOf p choices prices old widest (n + 1) (if b then this else best)
+      by true more = record {
+        j = n;
+        within = omega arith;
+        divisor = refl;
+        trial = trial;
+        is_trial = is_trial;
+        is_new = is_value;
+        greater = lt-lt old best.value value h.greater (int_lt-true best.value value more);
+        greatest = upto (λ v. v ≤ℤ value) (λ i other v below t is. lt-le v value (le-lt v best.value value (h.greatest i other v below t is) (int_lt-true best.value value more))) (same-le value value refl);
+        first = λ i other v below t is. le-lt v best.value value (h.greatest i other v below t is) (int_lt-true best.value value more);
+      }
+      by false less = record {
+        j = h.j;
+        within = (let w = h.within in omega arith);
+        divisor = h.divisor;
+        trial = h.trial;
+        is_trial = h.is_trial;
+        is_new = h.is_new;
+        greater = h.greater;
+        greatest = upto (λ v. v ≤ℤ best.value) h.greatest (int_lt-false best.value value less);
+        first = h.first;
+      }
+
+-- before the first trial
+pub tried-none : (p : Parts) (choices : Choices) (prices : List ℕ) (old : ℤ) (widest : ℕ) → AreTried p choices prices old widest 0 None
+tried-none p choices prices old widest = λ i other v below t is. absurd (omega arith)
+
+-- the best of all trials is a raise, with the prices of any list that is its trial
+pub best-raise : (p : Parts) (choices : Choices) (prices : List ℕ) (old : ℤ) (widest : ℕ) (best : Best) (trial : List ℕ) → IsRestrictedValue p choices prices old → (h : IsBestOf p choices prices old widest MAX_TRIALS best) → IsTrial p choices prices h.j trial
+    → IsRaise p choices prices old trial best.value
+best-raise p choices prices old widest best trial is_old h is_trial = record {
+  is_old = is_old;
+  j = h.j;
+  within = h.within;
+  is_trial = is_trial;
+  is_new = subst (λ (xs : List ℕ). IsRestrictedValue p choices xs best.value) (trial-unique p choices prices h.j h.trial trial h.is_trial is_trial) h.is_new;
+  greater = h.greater;
+  greatest = h.greatest;
+  first = h.first;
+}

@@ -1,0 +1,28 @@
+use Rattle.std.proofs.Common.{◌≡◌, ◌<◌, ℕ, List, length, sym, ap, subst, ◌∙◌, arith, rules}
+use Rattle.std.specs.Prelude.{IfOk}
+use Rattle.plan_base.specs.declared.ids.ArcId.{ArcId}
+use Rattle.column_pool.specs.Columns.{Columns, columns_at}
+use Rattle.column_pool.specs.Briefs.{AreAllPaths}
+use Rattle.master_step.specs.Columns.{Choices, HasColumns}
+use Rattle.master_step.specs.Outcomes.{IsStepOf}
+use Rattle.master_step.proofs.Looking.{lists-allowed, lists-source}
+use Rattle.master_step.proofs.advancing.advance.Goals as goal
+
+pub raise-requires : goal.raise-requires
+raise-requires c =
+    let p = c.args.inst.now in
+    let lists = c.as_slice-lists.result in
+    let has : HasColumns p (columns_at lists.now) = c.in_default.ensures.none in
+    record {
+      table = c.requires.table;
+      price_count = c.requires.brief.price_count;
+      price_limit = c.requires.brief.price_limit;
+      source = lists-source p lists (c.as_slice-lists.ensures.len ∙ c.requires.brief.list_count)
+          (subst (λ (columns : Columns). AreAllPaths p columns (length p.demands)) (sym c.as_slice-lists.ensures.value) c.requires.brief.paths);
+      columns = subst (HasColumns p) (sym (lists-allowed lists)) has;
+    }
+
+pub returns : goal.returns
+returns c =
+    subst (λ (choices : Choices). IfOk c.raise.result (IsStepOf c.args.inst.now choices c.args.brief.now.prices))
+    (lists-allowed c.as_slice-lists.result ∙ ap columns_at c.as_slice-lists.ensures.value) c.raise.ensures

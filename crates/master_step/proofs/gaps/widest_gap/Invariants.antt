@@ -1,0 +1,10 @@
+use Rattle.std.proofs.Common.{◌≡◌, ◌≤◌, slice_index}
+use Rattle.plan_base.specs.Facts.{total_load}
+use Rattle.master_step.specs.Trials.{apart, max_below}
+use Rattle.master_step.proofs.gaps.widest_gap.Given as goal
+
+abbrev pub invariant-loop-place : goal.invariant-loop-place
+invariant-loop-place l = record {
+  value : l.widest ≡ max_below (λ e. apart (slice_index l.rows.column_loads.items e) (slice_index l.rows.value_loads.items e)) l.place;
+  within : l.widest ≤ total_load l.inst;
+}

@@ -1,0 +1,13 @@
+-- The restricted value of prices.
+use Rattle.std.specs.Prelude.{ℕ, ◌≡◌, List, length, ℤ, pos, ◌+ℤ◌}
+use Rattle.plan_base.specs.declared.parts.Parts.{Parts}
+use Rattle.proof_tree.specs.Bounds.{int_sum_below, price_total, AreLinkValues}
+use Rattle.master_step.specs.Columns.{Choices, least_price, HasColumns}
+
+-- the sum of loads times the prices of least columns over the demands, and of the links' values, in thousandths of a cost
+-- grain; only where each demand has a column
+pub record IsRestrictedValue (p : Parts) (choices : Choices) (prices : List ℕ) (value : ℤ) : Type 0 where
+  pub has_columns : HasColumns p choices
+  pub values : ℕ → ℤ
+  pub are_values : AreLinkValues p prices values
+  pub is_sum : value ≡ (pos (price_total p (λ k. least_price prices (choices k))) +ℤ int_sum_below values (length p.links))

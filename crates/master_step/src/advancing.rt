@@ -1,0 +1,124 @@
+//! The step, and what it gains.
+
+ghost use Rattle.std.specs.Prelude.{ℕ, ◌≡◌, ◌<◌, ◌≤◌, length, Option, Some, None, IfOk, IfSome, IfNone, ℤ};
+ghost use Rattle.arc_restrict.specs.Rows.{forbids};
+ghost use Rattle.arc_restrict.specs.Prices.{AreWithinLimit};
+ghost use Rattle.column_pool.specs.Columns.{columns_at, permitted_at, AreColumns};
+ghost use Rattle.column_pool.specs.Briefs.{IsBriefFor};
+ghost use Rattle.master_step.specs.Columns.{HasColumns, IsFirstBare};
+ghost use Rattle.master_step.specs.Outcomes.{IsStepOf, HasGain, HasStalled};
+ghost use Rattle.master_step.specs.Choosing.{allowed_of};
+ghost use Rattle.master_step.specs.Climbing.{IsMaster};
+
+use crate::climbing::Master;
+use crate::rows::{Room, Rows};
+use crate::source::Source;
+use crate::step::Step;
+use arc_restrict::Restriction;
+use column_pool::{Brief, ColumnPool};
+use link_steps::StepTable;
+use plan_base::{DemandId, Instance, Items, Path, Prices};
+use std::alloc::{AllocError, Global};
+
+/// The first demand without a column.
+fn first_bare(inst: &Instance, lists: &[Items<Path>]) -> Option<DemandId>
+    requires { length lists.now ≡ length inst.now.demands }
+    ensures some { IfSome result (λ demand. IsFirstBare inst.now (columns_at lists.now) demand.0) }
+    ensures none { IfNone result (HasColumns inst.now (columns_at lists.now)) }
+{
+    for place in 0..inst.demands() {
+        if lists[place as usize].is_empty() {
+            return Some(DemandId(place));
+        }
+    }
+    None
+}
+
+/// The step from a brief whose demands have columns.
+fn raise(alloc: Global, master: &Master<'_>) -> Result<Step, AllocError>
+    requires { IsMaster master.now }
+    ensures { IfOk result (IsStepOf master.now.inst.now (allowed_of master.now.source) master.now.prices.now) }
+{
+    let mut rows = Rows::new(alloc, master.inst)?;
+    let (old, new) = master.climb(&mut rows);
+    let Rows { trial, .. } = rows;
+    Ok(match new {
+        Some(new) => Step::Raised {
+            prices: trial,
+            old,
+            new,
+        },
+        None => Step::Same { value: old },
+    })
+}
+
+/// The master step: of the trial prices those of greatest restricted value, where that is more than the value of the
+/// brief's prices.
+///
+/// Each trial moves the price of each link up where the least columns put more on it than the load that gives the link its
+/// value, and down where they put less, in proportion to the gap; each trial after the first moves half as far.
+///
+/// - Takes: the instance and its table; a brief that fits it.
+/// - Gives: `Raised` with the first trial of greatest value; `Same` where none has more; `Bare` exactly where a demand has
+///   no column, with the first such demand.
+/// - Errors: want of memory alone.
+/// - Rule: docs/DEFINITIONS.md, "Master step".
+/// - Time: 26 times the arcs of all columns, and as often one link value for each link.
+pub fn advance(
+    alloc: Global,
+    inst: &Instance,
+    table: &StepTable,
+    brief: &Brief,
+) -> Result<Step, AllocError>
+    requires table { table.now ≡ inst.now }
+    requires brief { IsBriefFor inst.now brief.now.prices brief.now.columns }
+    ensures { IfOk result (IsStepOf inst.now (columns_at brief.now.columns) brief.now.prices) }
+{
+    let lists = brief.columns.as_slice();
+    if let Some(demand) = first_bare(inst, lists) {
+        return Ok(Step::Bare { demand });
+    }
+    let master = Master {
+        inst,
+        table,
+        prices: &brief.prices,
+        source: Source::Lists(lists),
+    };
+    raise(alloc, &master)
+}
+
+/// The restricted value that the master step raises prices to, over the columns that a restriction permits. Takes no
+/// memory.
+///
+/// - Takes: the instance and its table; one price for each link, of at most the price limit; columns of the instance, of
+///   which the restriction permits at least one to each demand; room that was made for the instance.
+/// - Gives: thousandths of a cost grain; None exactly where no trial has a greater value than the prices.
+/// - Rule: docs/DEFINITIONS.md, "Master step".
+/// - Time: 26 times the arcs of all columns, and as often one link value for each link.
+pub fn gain(
+    inst: &Instance,
+    table: &StepTable,
+    prices: &Prices,
+    columns: &ColumnPool,
+    restriction: &Restriction,
+    room: &mut Room,
+) -> Option<i128>
+    requires table { table.now ≡ inst.now }
+    requires price_count { length prices.now ≡ length inst.now.links }
+    requires price_limit { AreWithinLimit inst.now prices.now }
+    requires columns { AreColumns inst.now columns.now }
+    requires permitted { HasColumns inst.now (permitted_at (forbids restriction.now) columns.now) }
+    requires room { room.old ≡ length inst.now.links }
+    ensures some { IfSome result (HasGain inst.now (permitted_at (forbids restriction.now) columns.now) prices.now) }
+    ensures none { IfNone result (HasStalled inst.now (permitted_at (forbids restriction.now) columns.now) prices.now) }
+    ensures room { room.new ≡ room.old }
+{
+    let master = Master {
+        inst,
+        table,
+        prices,
+        source: Source::Pool(columns, restriction),
+    };
+    let (_old, new) = master.climb(&mut room.rows);
+    new
+}

@@ -1,0 +1,94 @@
+//! How far the prices of a trial move.
+
+ghost use Rattle.std.specs.Prelude.{ℕ, ◌≡◌, ◌<◌, ◌≤◌, ◌*◌, max, length, slice_index, if◌then◌else◌, ◌==◌};
+ghost use Rattle.plan_base.specs.declared.limits.TheConstants.{MAX_PRICED_LOAD};
+ghost use Rattle.plan_base.specs.Facts.{total_load, top_load, price_limit, IsInstance};
+ghost use Rattle.plan_base.specs.Arcs.{link_at};
+ghost use Rattle.arc_restrict.specs.Prices.{AreWithinLimit};
+ghost use Rattle.master_step.specs.Trials.{apart as apart_of, moved as moved_price, widest_gap as widest_of, greatest_price as greatest_of};
+ghost use Rattle.master_step.specs.Climbing.{HasRoom, AreLow, AreMoved};
+
+use crate::rows::Rows;
+use plan_base::{Instance, LinkId, Prices};
+
+/// How far two loads are apart.
+fn apart(load: u128, other: u128) -> u128
+    ensures { result ≡ apart_of load other }
+{
+    load.abs_diff(other)
+}
+
+/// The most that the two loads of a link are apart, in load grains.
+pub fn widest_gap(inst: &Instance, rows: &Rows) -> u128
+    requires room { HasRoom (length inst.now.links) rows.now }
+    requires low { AreLow inst.now rows.now }
+    ensures within { result ≤ total_load inst.now }
+    ensures value { result ≡ widest_of inst.now (slice_index rows.now.column_loads.items) (slice_index rows.now.value_loads.items) }
+{
+    let mut widest = 0;
+    for place in 0..inst.links() as usize {
+        widest = widest.max(apart(rows.column_loads[place], rows.value_loads[place]));
+    }
+    widest
+}
+
+/// The price, if the link may carry load, and else 0.
+fn loaded_price(inst: &Instance, link: LinkId, price: u128) -> u128
+    requires { link.0 < length inst.now.links }
+    ensures { result ≡ (if top_load inst.now (link_at inst.now link.0) == 0 then 0 else price) }
+{
+    if inst.top_load(link) == 0 { 0 } else { price }
+}
+
+/// The greatest price of the links that may carry load, and at least 1.
+pub fn greatest_price(inst: &Instance, prices: &Prices) -> u128
+    requires count { length prices.now ≡ length inst.now.links }
+    requires limit { AreWithinLimit inst.now prices.now }
+    ensures value { result ≡ greatest_of inst.now prices.now }
+    ensures within { result ≤ price_limit inst.now }
+{
+    let _links = inst.links();
+    let mut greatest = 0;
+    for (place, price) in prices.as_slice().iter().enumerate() {
+        greatest = greatest.max(loaded_price(inst, LinkId(place as u32), *price));
+    }
+    greatest.max(1)
+}
+
+/// A price moved towards what the columns ask for.
+fn moved(limit: u128, greatest: u128, divisor: u128, columns: u128, value: u128, price: u128) -> u128
+    requires divisor { 0 < divisor }
+    requires product { apart_of columns value * greatest ≤ MAX_PRICED_LOAD }
+    requires limit { limit ≤ MAX_PRICED_LOAD }
+    requires price { price ≤ limit }
+    ensures value { result ≡ moved_price limit greatest divisor columns value price }
+    ensures within { result ≤ limit }
+{
+    let step = apart(columns, value) * greatest / divisor;
+    if value < columns {
+        limit.min(price + step)
+    } else {
+        price.saturating_sub(step)
+    }
+}
+
+/// Writes the prices of a trial into the rows.
+pub fn set_trial(inst: &Instance, prices: &Prices, greatest: u128, divisor: u128, rows: &mut Rows)
+    requires count { length prices.now ≡ length inst.now.links }
+    requires limit { AreWithinLimit inst.now prices.now }
+    requires room { HasRoom (length inst.now.links) rows.old }
+    requires loads { AreLow inst.now rows.old }
+    requires greatest { greatest ≤ price_limit inst.now }
+    requires divisor { 0 < divisor }
+    ensures columns { rows.new.column_loads ≡ rows.old.column_loads }
+    ensures values { rows.new.value_loads ≡ rows.old.value_loads }
+    ensures trial { AreMoved inst.now prices.now greatest divisor rows.old rows.new.trial }
+{
+    let limit = inst.price_limit();
+    for (place, price) in prices.as_slice().iter().enumerate() {
+        let columns = rows.column_loads[place];
+        let value = rows.value_loads[place];
+        let price = moved(limit, greatest, divisor, columns, value, *price);
+        rows.trial.put(LinkId(place as u32), price);
+    }
+}

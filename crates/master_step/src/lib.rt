@@ -1,0 +1,30 @@
+//! The master step: prices raised along what the columns and the link values disagree on.
+//!
+//! Promises the restricted value of prices over given columns, exactly, and the step that raises it: which trial is
+//! taken, what it gains, and when none gains. Begin at `advance` and `gain`, whose words are in `specs/Outcomes.antt`
+//! over those of `specs/Columns.antt`, `specs/Restricted.antt` and `specs/Trials.antt`; that one value, one step and one
+//! gain are right is in `laws`. Stands on `plan_base`, `arc_restrict`, `link_steps`, `column_pool`, and on the sums of
+//! `proof_tree` and `bound_assembly`. When a step is made is left to the crates above.
+#![tactic(auto)]
+
+mod advancing;
+mod climbing;
+mod crowding;
+mod gaps;
+pub mod laws;
+pub mod limits;
+mod loads;
+mod rows;
+mod shared;
+mod source;
+mod step;
+mod valuing;
+
+pub use advancing::{advance, gain};
+pub use crowding::crowd_prices;
+pub use rows::Room;
+pub use step::Step;
+pub use valuing::value;
+
+#[cfg(test)]
+mod tests;

@@ -1,0 +1,4 @@
+//! How many trials a step makes.
+
+/// The trials of a master step: each after the first moves prices half as far as the one before.
+pub const MAX_TRIALS: u32 = 24;

@@ -1,0 +1,159 @@
+//! The columns that a step chooses among.
+
+ghost use Rattle.std.specs.Prelude.{ℕ, ◌≡◌, ◌<◌, ◌≤◌, ◌*◌, ◌+◌, List, [], length, slice_index_or, Option, Some, IfSome, All, take};
+ghost use Rattle.plan_base.specs.Facts.{price_limit};
+ghost use Rattle.plan_base.specs.Arcs.{link_of, demand_at};
+ghost use Rattle.plan_base.specs.Paths.{arc_at, IsSimplePath};
+ghost use Rattle.arc_restrict.specs.Prices.{price_of as price_along, AreWithinLimit};
+ghost use Rattle.master_step.specs.Columns.{least_column, least_price, HasColumns};
+ghost use Rattle.master_step.specs.Choosing.{list_count, all_of, is_allowed, allowed_of, IsSource, IsLeastOf, cheaper_of};
+
+use arc_restrict::Restriction;
+use bound_assembly::limits::MAX_PATH_LINKS;
+use column_pool::ColumnPool;
+use plan_base::limits::MAX_PRICED_LOAD;
+use plan_base::{ArcId, DemandId, Instance, Items, Path, Prices};
+
+/// The columns of all demands.
+#[derive(Clone, Copy)]
+pub enum Source<'a> {
+    /// One list for each demand.
+    Lists(&'a [Items<Path>]),
+    /// What the restriction permits of the pool's columns.
+    Pool(&'a ColumnPool, &'a Restriction),
+}
+
+/// Which column is the least, and its price in thousandths of a cost grain per load grain.
+#[derive(Clone, Copy)]
+pub struct Least {
+    pub place: usize,
+    pub price: u128,
+}
+
+/// The cheaper of two, the first of them where both cost the same.
+fn cheaper(held: Option<Least>, next: Least) -> Least
+    ensures { result ≡ cheaper_of held next }
+{
+    match held {
+        Some(least) if next.price >= least.price => least,
+        _ => next,
+    }
+}
+
+/// What the arcs cost.
+#[tactic(auto, using(crate::proofs::SmallPrices::price_next))]
+fn price_of(prices: &[u128], arcs: &[ArcId]) -> u128
+    requires inside { (i : ℕ) → i < length arcs.now → link_of (arc_at arcs.now i) < length prices.now }
+    requires few { length arcs.now ≤ MAX_PATH_LINKS }
+    requires limit { All (λ price. price ≤ MAX_PRICED_LOAD) prices.now }
+    ensures { result ≡ price_along prices.now arcs.now }
+{
+    let mut total = 0;
+    for arc in arcs {
+        total += prices[(arc.0 / 2) as usize];
+    }
+    total
+}
+
+impl<'a> Source<'a> {
+    /// How many columns the demand has, permitted or not.
+    fn count(&self, demand: DemandId) -> usize
+        requires { demand.0 < list_count self.now }
+        ensures { result ≡ length (all_of self.now demand.0) }
+    {
+        match self {
+            Source::Lists(lists) => lists[demand.0 as usize].len(),
+            Source::Pool(pool, _) => pool.count(demand) as usize,
+        }
+    }
+
+    /// The column at a place.
+    fn path(&self, demand: DemandId, place: usize) -> &'a Path
+        requires demand { demand.0 < list_count self.now }
+        requires place { place < length (all_of self.now demand.0) }
+        ensures { result.now ≡ slice_index_or (all_of self.now demand.0) place [] }
+    {
+        match self {
+            Source::Lists(lists) => &lists[demand.0 as usize].as_slice()[place],
+            Source::Pool(pool, _) => {
+                let _count = pool.count(demand);
+                pool.column(demand, place as u32)
+            }
+        }
+    }
+
+    /// Whether the demand may take the path.
+    fn allows(&self, demand: DemandId, path: &Path) -> bool
+        ensures { result ≡ is_allowed self.now demand.0 path.now }
+    {
+        match self {
+            Source::Lists(_) => true,
+            Source::Pool(_, restriction) => restriction.permits(demand, path),
+        }
+    }
+
+    /// The least of the columns before a place, and the one at that place.
+    fn look(
+        &self,
+        inst: &Instance,
+        demand: DemandId,
+        prices: &[u128],
+        place: usize,
+        least: Option<Least>,
+    ) -> Option<Least>
+        requires demand { demand.0 < length inst.now.demands }
+        requires source { IsSource inst.now self.now }
+        requires count { length prices.now ≡ length inst.now.links }
+        requires limit { AreWithinLimit inst.now prices.now }
+        requires place { place < length (all_of self.now demand.0) }
+        requires least { IsLeastOf prices.now (is_allowed self.now demand.0) (all_of self.now demand.0) place least }
+        ensures { IsLeastOf prices.now (is_allowed self.now demand.0) (all_of self.now demand.0) (place + 1) result }
+    {
+        let _demands = inst.demands();
+        let path = self.path(demand, place);
+        if !self.allows(demand, path) {
+            return least;
+        }
+        let price = price_of(prices, path.as_slice());
+        Some(cheaper(least, Least { place, price }))
+    }
+
+    /// The least of all columns that the demand may take, if there is one.
+    fn least(&self, inst: &Instance, demand: DemandId, prices: &[u128]) -> Option<Least>
+        requires demand { demand.0 < length inst.now.demands }
+        requires source { IsSource inst.now self.now }
+        requires count { length prices.now ≡ length inst.now.links }
+        requires limit { AreWithinLimit inst.now prices.now }
+        ensures { IsLeastOf prices.now (is_allowed self.now demand.0) (all_of self.now demand.0) (length (all_of self.now demand.0)) result }
+    {
+        let mut least = None;
+        for place in 0..self.count(demand) {
+            least = self.look(inst, demand, prices, place, least);
+        }
+        least
+    }
+
+    /// The first column of least price that the demand may take, and that price.
+    pub fn column(
+        &self,
+        inst: &Instance,
+        demand: DemandId,
+        prices: &Prices,
+    ) -> (&'a Path, u128)
+        requires demand { demand.0 < length inst.now.demands }
+        requires source { IsSource inst.now self.now }
+        requires columns { HasColumns inst.now (allowed_of self.now) }
+        requires count { length prices.now ≡ length inst.now.links }
+        requires limit { AreWithinLimit inst.now prices.now }
+        ensures path { result.0.now ≡ least_column prices.now (allowed_of self.now demand.0) }
+        ensures price { result.1 ≡ least_price prices.now (allowed_of self.now demand.0) }
+        ensures simple { IsSimplePath inst.now (demand_at inst.now demand.0) result.0.now }
+        ensures within { result.1 ≤ MAX_PATH_LINKS * price_limit inst.now }
+    {
+        let _demands = inst.demands();
+        match self.least(inst, demand, prices.as_slice()) {
+            Some(least) => (self.path(demand, least.place), least.price),
+            None => unreachable!(),
+        }
+    }
+}

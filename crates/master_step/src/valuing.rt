@@ -1,0 +1,86 @@
+//! The restricted value of prices.
+
+ghost use Rattle.std.specs.Prelude.{◌≡◌, ◌<◌, ◌≤◌, ◌*◌, length, pos, ◌+ℤ◌, ◌-ℤ◌, ◌≤ℤ◌};
+ghost use Rattle.plan_base.specs.declared.limits.TheConstants.{MAX_LINKS, MAX_PRICED_LOAD};
+ghost use Rattle.arc_restrict.specs.Rows.{forbids};
+ghost use Rattle.arc_restrict.specs.Prices.{AreWithinLimit};
+ghost use Rattle.proof_tree.specs.Bounds.{price_total};
+ghost use Rattle.bound_assembly.specs.declared.limits.TheConstants.{MAX_PATH_LINKS};
+ghost use Rattle.column_pool.specs.Columns.{permitted_at, AreColumns};
+ghost use Rattle.master_step.specs.Columns.{least_price, HasColumns};
+ghost use Rattle.master_step.specs.Restricted.{IsRestrictedValue};
+ghost use Rattle.master_step.specs.Choosing.{allowed_of, IsSource};
+
+use crate::source::Source;
+use arc_restrict::Restriction;
+use bound_assembly::link_total;
+use column_pool::ColumnPool;
+use link_steps::StepTable;
+use plan_base::{DemandId, Instance, Prices};
+
+/// The sum of loads times least prices over the demands, in thousandths of a cost grain.
+fn column_total(inst: &Instance, prices: &Prices, source: &Source<'_>) -> u128
+    requires price_count { length prices.now ≡ length inst.now.links }
+    requires price_limit { AreWithinLimit inst.now prices.now }
+    requires source { IsSource inst.now source.now }
+    requires columns { HasColumns inst.now (allowed_of source.now) }
+    ensures value { result ≡ price_total inst.now (λ k. least_price prices.now (allowed_of source.now k)) }
+    ensures within { result ≤ MAX_PATH_LINKS * MAX_PRICED_LOAD }
+{
+    let mut total = 0;
+    for place in 0..inst.demands() {
+        let demand = DemandId(place);
+        let (_path, price) = source.column(inst, demand, prices);
+        total += inst.demand(demand).load * price;
+    }
+    total
+}
+
+/// The two sums together, in thousandths of a cost grain.
+fn total_of(priced: u128, values: i128) -> i128
+    requires priced { priced ≤ MAX_PATH_LINKS * MAX_PRICED_LOAD }
+    requires not_positive { values ≤ℤ pos 0 }
+    requires bounded { (pos 0 -ℤ pos (MAX_LINKS * MAX_PRICED_LOAD)) ≤ℤ values }
+    ensures { result ≡ (pos priced +ℤ values) }
+{
+    priced as i128 + values
+}
+
+/// The restricted value of prices over the columns of a source, in thousandths of a cost grain.
+pub fn value_of(inst: &Instance, table: &StepTable, prices: &Prices, source: &Source<'_>) -> i128
+    requires table { table.now ≡ inst.now }
+    requires price_count { length prices.now ≡ length inst.now.links }
+    requires price_limit { AreWithinLimit inst.now prices.now }
+    requires source { IsSource inst.now source.now }
+    requires columns { HasColumns inst.now (allowed_of source.now) }
+    ensures { IsRestrictedValue inst.now (allowed_of source.now) prices.now result }
+{
+    let _links = inst.links();
+    let priced = column_total(inst, prices, source);
+    let values = link_total(inst, table, prices);
+    total_of(priced, values)
+}
+
+/// The restricted value of prices over the columns that a restriction permits. Takes no memory.
+///
+/// - Takes: the instance and its table; one price for each link, of at most the price limit; columns of the instance, of
+///   which the restriction permits at least one to each demand.
+/// - Gives: thousandths of a cost grain; it may be negative.
+/// - Rule: docs/DEFINITIONS.md, "Restricted value".
+/// - Time: linear in the arcs of all columns, and one link value for each link.
+pub fn value(
+    inst: &Instance,
+    table: &StepTable,
+    prices: &Prices,
+    columns: &ColumnPool,
+    restriction: &Restriction,
+) -> i128
+    requires table { table.now ≡ inst.now }
+    requires price_count { length prices.now ≡ length inst.now.links }
+    requires price_limit { AreWithinLimit inst.now prices.now }
+    requires columns { AreColumns inst.now columns.now }
+    requires permitted { HasColumns inst.now (permitted_at (forbids restriction.now) columns.now) }
+    ensures { IsRestrictedValue inst.now (permitted_at (forbids restriction.now) columns.now) prices.now result }
+{
+    value_of(inst, table, prices, &Source::Pool(columns, restriction))
+}
