@@ -1,19 +1,18 @@
 -- What the least columns of the first demands put on a link, and the rows of loads.
-use Rattle.std.proofs.Common.{◌≡◌, ◌≢◌, ℕ, zero, suc, ◌+◌, ◌*◌, ◌<◌, ◌≤◌, ◌⊎◌, inl, inr, Bool, true, false, List, length, slice_index, get_or, set, if◌then◌else◌, refl, sym, ap, subst, ◌∙◌, arith, add-one}
+use Rattle.std.proofs.Common.{◌≡◌, ℕ, ◌+◌, ◌<◌, ◌≤◌, ◌⊎◌, inl, inr, Bool, true, false, List, length, slice_index, set, if◌then◌else◌, refl, sym, subst, ◌∙◌, arith, add-one}
 use Rattle.std.proofs.lemmas.List.{get_or-set_same, get_or-set_other}
 use Rattle.plan_base.specs.declared.ids.ArcId.{ArcId}
 use Rattle.plan_base.specs.declared.parts.Parts.{Parts}
-use Rattle.plan_base.specs.declared.limits.TheConstants.{MAX_LINKS, MAX_TOTAL_LOAD}
+use Rattle.plan_base.specs.declared.limits.TheConstants.{MAX_LINKS}
 use Rattle.plan_base.specs.Facts.{total_load, IsInstance}
 use Rattle.plan_base.specs.Sums.{sum_below}
-use Rattle.plan_base.specs.Arcs.{link_at, demand_at}
+use Rattle.plan_base.specs.Arcs.{demand_at}
 use Rattle.plan_base.specs.Paths.{uses, IsSimplePath}
 use Rattle.plan_base.specs.Walks.{HasLinksOnce}
 use Rattle.plan_base.proofs.SumsBelow.{sum_below-le}
 use Rattle.plan_base.proofs.PathSums.{HasLinksOnce-simple}
 use Rattle.bound_assembly.proofs.SmallSums.{loads-le}
 use Rattle.master_step.specs.Columns.{Choices, least_column}
-use Rattle.master_step.specs.Trials.{IsValueLoad}
 
 -- what the least column of a demand puts on a link
 abbrev pub put : Parts → Choices → List ℕ → ℕ → ℕ → ℕ
@@ -48,6 +47,6 @@ either_way x y = grind arith
 -- what is so of each link before a place of a row is so of one more
 pub row-next : (P : ℕ → ℕ → Type 0) (row : List ℕ) (n value : ℕ) → n < length row → ((e : ℕ) → e < n → P e (slice_index row e)) → P n value → (e : ℕ) → e < n + 1 → P e (slice_index (set row n value) e)
 row-next P row n value within before here e below = elim (either_way n e) [
-    inl last ↦ (let is : e ≡ n = omega arith in subst (λ (i : ℕ). P i (slice_index (set row n value) i)) (sym is) (subst (P n) (sym (get_or-set_same row n value 0 within)) here))
+  | inl last ↦ (let is : e ≡ n = omega arith in subst (λ (i : ℕ). P i (slice_index (set row n value) i)) (sym is) (subst (P n) (sym (get_or-set_same row n value 0 within)) here))
   | inr less ↦ subst (P e) (sym (get_or-set_other row n e value 0 (λ same. absurd (omega arith)))) (before e less)
-  ]
+]

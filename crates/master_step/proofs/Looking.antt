@@ -1,13 +1,11 @@
 -- The least of some columns, as one more is looked at.
 use Rattle.std.proofs.Math.Path.{fun_ext}
-use Rattle.std.proofs.Common.{Bor, ◌≡◌, ℕ, zero, suc, ◌+◌, ◌<◌, ◌≤◌, Bool, true, false, List, [], ◌∷◌, ◌++◌, length, get_or, take, Option, Some, None, refl, sym, ap, subst, ◌∙◌, arith, length-append}
+use Rattle.std.proofs.Common.{Bor, ◌≡◌, ℕ, ◌+◌, ◌<◌, Bool, true, false, List, [], ◌∷◌, ◌++◌, length, get_or, take, Option, Some, None, refl, sym, ap, subst, ◌∙◌, arith, length-append}
 use Rattle.std.specs.Prelude.{nat_lt, if◌then◌else◌, filter}
 use Rattle.std.proofs.lemmas.List.{append-nil, take_all}
 use Rattle.std.proofs.lemmas.List.Elements.{filter_more}
 use Rattle.plan_base.specs.declared.ids.ArcId.{ArcId}
 use Rattle.plan_base.specs.declared.parts.Parts.{Parts}
-use Rattle.plan_base.specs.Arcs.{demand_at}
-use Rattle.plan_base.specs.Paths.{IsSimplePath}
 use Rattle.arc_restrict.specs.Prices.{price_of}
 use Rattle.arc_restrict.specs.Restrictions.{Forbidden, IsPermitted}
 use Rattle.column_pool.specs.Columns.{is_permitted, columns_at}
@@ -16,7 +14,7 @@ use Rattle.column_pool.proofs.AddedColumns.{IsPermitted-told, told-IsPermitted}
 use Rattle.master_step.specs.declared.source.Source.{Source}
 use Rattle.master_step.specs.declared.source.Source.TheVariants.{Lists}
 use Rattle.master_step.specs.declared.source.Least.{Least}
-use Rattle.master_step.specs.Columns.{cheaper, least_column, least_price}
+use Rattle.master_step.specs.Columns.{least_column, least_price}
 use Rattle.master_step.specs.Choosing.{all_of, is_allowed, allowed_of, IsSource, IsLeastAt, IsLeastOf, cheaper_of}
 use Rattle.master_step.proofs.LeastColumns.{least_column-one, least_column-push}
 
@@ -63,10 +61,13 @@ module _ (prices : List ℕ) (test : List ArcId → Bool) (all : List (List ArcI
     where
       longer : 0 < length (passing (n + 1))
       longer = subst (λ (xs : List (List ArcId)). 0 < length xs) (sym (passing-more passes)) (omega (arith, length-append (passing n) (get_or all n [] ∷ [])))
+
       pushed : least_column prices (passing (n + 1)) ≡ (if nat_lt (price_of prices (get_or all n [])) (least_price prices (passing n)) then get_or all n [] else least_column prices (passing n))
       pushed = ap (least_column prices) (passing-more passes) ∙ least_column-push prices (passing n) (get_or all n []) h.some
+
       tested : nat_lt (price_of prices (get_or all n [])) (least_price prices (passing n)) ≡ nat_lt price least.price
       tested = ap (λ (x : ℕ). nat_lt x (least_price prices (passing n))) (sym is) ∙ ap (nat_lt price) (sym h.is_price)
+
       by : (b : Bool) → nat_lt price least.price ≡ b → IsLeastAt prices test all (n + 1) (if b then record { place = n; price = price } else least)
       by true less =
           let path : get_or all n [] ≡ least_column prices (passing (n + 1)) = sym (pushed ∙ rw (tested ∙ less) refl) in

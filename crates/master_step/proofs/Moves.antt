@@ -1,14 +1,13 @@
 -- Moved prices make a trial.
 use Rattle.std.proofs.Math.Nat.{mul-le-mul, pow-le-pow_right, one-le-pow}
-use Rattle.std.proofs.Common.{Vec, Global, add-one, pow-suc, ◌≡◌, ℕ, ◌+◌, ◌-◌, ◌*◌, ◌/◌, ◌^◌, ◌<◌, ◌≤◌, List, length, slice_index, All, refl, sym, ap, subst, ◌∙◌, arith}
+use Rattle.std.proofs.Common.{Vec, Global, add-one, pow-suc, ◌≡◌, ℕ, ◌+◌, ◌*◌, ◌^◌, ◌<◌, ◌≤◌, List, length, slice_index, sym, ap, subst, ◌∙◌, arith}
 use Rattle.plan_base.specs.declared.parts.Parts.{Parts}
 use Rattle.plan_base.specs.Facts.{price_limit, total_load}
 use Rattle.plan_base.specs.Arcs.{link_at}
 use Rattle.plan_base.specs.declared.limits.TheConstants.{MAX_LINKS, MAX_TOTAL_LOAD}
-use Rattle.arc_restrict.specs.Prices.{AreWithinLimit}
 use Rattle.master_step.specs.declared.rows.Rows.{Rows}
 use Rattle.master_step.specs.Columns.{Choices}
-use Rattle.master_step.specs.Trials.{column_load, AreValueLoads, apart, max_below, widest_gap, greatest_price, moved, IsTrial}
+use Rattle.master_step.specs.Trials.{column_load, AreValueLoads, apart, widest_gap, greatest_price, moved, IsTrial}
 use Rattle.master_step.specs.Climbing.{HasLoads, HasRoom, AreLow, AreMoved}
 use Rattle.master_step.proofs.Uniqueness.{max_below-same, value_load-unique}
 
@@ -39,8 +38,8 @@ module _ (p : Parts) (choices : Choices) (prices : List ℕ) (rows : Rows) (load
   pub no_gap-no_trial : (j : ℕ) (trial : List ℕ) → widest_gap p (slice_index rows.column_loads.items) (slice_index rows.value_loads.items) ≡ 0 → IsTrial p choices prices j trial → ⊥
   no_gap-no_trial j trial none h =
       let same : widest_gap p (column_load p choices prices) h.loads ≡ widest_gap p (column_load p choices prices) (slice_index rows.value_loads.items) =
-          max_below-same (λ e. apart (column_load p choices prices e) (h.loads e)) (λ e. apart (column_load p choices prices e) (slice_index rows.value_loads.items e)) (length p.links)
-          (λ e below. ap (λ (x : ℕ). apart (column_load p choices prices e) x) (value_load-unique p (link_at p e) (slice_index prices e) _ _ (h.are_loads e below) (loads.values e below))) in
+      max_below-same (λ e. apart (column_load p choices prices e) (h.loads e)) (λ e. apart (column_load p choices prices e) (slice_index rows.value_loads.items e)) (length p.links)
+      (λ e below. ap (λ (x : ℕ). apart (column_load p choices prices e) x) (value_load-unique p (link_at p e) (slice_index prices e) _ _ (h.are_loads e below) (loads.values e below))) in
       absurd (let wide : 0 < 0 = subst (λ (x : ℕ). 0 < x) (same ∙ sym widest-rows ∙ none) h.some_gap in omega arith)
 
 -- rows with the same loads

@@ -1,6 +1,5 @@
 -- Prices of paths and their sums are small.
-use Rattle.std.proofs.Common.{◌≡◌, ℕ, zero, suc, ◌+◌, ◌*◌, ◌/◌, ◌^◌, ◌<◌, ◌≤◌, max, List, [], ◌∷◌, length, slice_index, get_or, take, All, arith, refl}
-use Rattle.std.specs.List.{sum_by}
+use Rattle.std.proofs.Common.{◌≡◌, ℕ, ◌+◌, ◌*◌, ◌/◌, ◌^◌, ◌<◌, ◌≤◌, max, List, [], ◌∷◌, length, slice_index, get_or, take, All, arith}
 use Rattle.std.proofs.Math.Nat.{mul-le-mul, mul-le-mul_left, mul-le-mul_right, le-div_iff_mul-le}
 use Rattle.std.proofs.lemmas.List.Sums.{sum_by-cons, sum_by_more}
 use Rattle.std.proofs.lemmas.List.{get_or_past}
@@ -22,9 +21,9 @@ use Rattle.bound_assembly.proofs.SmallSums.{loads-le, priced_limit-le}
 -- a price that is read is within the limit
 pub price-le : (prices : List ℕ) (limit e : ℕ) → All (λ price. price ≤ limit) prices → slice_index prices e ≤ limit
 price-le prices limit e all = elim (cases_lt e (length prices)) [
-    inl within ↦ all e 0 within
+  | inl within ↦ all e 0 within
   | inr past ↦ omega (arith, get_or_past prices e 0 past)
-  ]
+]
 
 -- each arc costs at most the limit
 pub price_of-le : (prices : List ℕ) (limit : ℕ) (arcs : List ArcId) → All (λ price. price ≤ limit) prices → price_of prices arcs ≤ length arcs * limit

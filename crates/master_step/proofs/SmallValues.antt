@@ -1,5 +1,5 @@
 -- The prices of least columns are small.
-use Rattle.std.proofs.Common.{◌≡◌, ℕ, ◌*◌, ◌<◌, ◌≤◌, List, [], length, get_or, All, subst, arith}
+use Rattle.std.proofs.Common.{ℕ, ◌*◌, ◌<◌, ◌≤◌, List, [], length, All, subst}
 use Rattle.std.proofs.lemmas.Option.{get_or_from_slice_get, slice_get_within}
 use Rattle.std.proofs.lemmas.List.Elements.{All-from_get_or, All-filter}
 use Rattle.plan_base.specs.declared.ids.ArcId.{ArcId}
@@ -22,6 +22,6 @@ small_price p source prices k inst within is has below =
     let all : All (λ path. IsSimplePath p (demand_at p k) path) (all_of source k) = All-from_get_or (λ path. IsSimplePath p (demand_at p k) path) (all_of source k) [] (λ i here. is.simple k i below here) in
     let allowed : All (λ path. IsSimplePath p (demand_at p k) path) (allowed_of source k) = All-filter (is_allowed source k) (λ path. IsSimplePath p (demand_at p k) path) (all_of source k) all in
     let simple : IsSimplePath p (demand_at p k) (least_column prices (allowed_of source k)) =
-        subst (λ (path : List ArcId). IsSimplePath p (demand_at p k) path) (get_or_from_slice_get (allowed_of source k) least.place (least_column prices (allowed_of source k)) [] least.is_path)
-        (allowed least.place [] (slice_get_within (allowed_of source k) least.place (least_column prices (allowed_of source k)) least.is_path)) in
+    subst (λ (path : List ArcId). IsSimplePath p (demand_at p k) path) (get_or_from_slice_get (allowed_of source k) least.place (least_column prices (allowed_of source k)) [] least.is_path)
+    (allowed least.place [] (slice_get_within (allowed_of source k) least.place (least_column prices (allowed_of source k)) least.is_path)) in
     path-le p k prices (least_column prices (allowed_of source k)) inst below within simple

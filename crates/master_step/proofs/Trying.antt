@@ -1,5 +1,5 @@
 -- The best of the trials, as one more is tried.
-use Rattle.std.proofs.Common.{◌≡◌, ℕ, zero, suc, ◌+◌, ◌*◌, ◌^◌, ◌<◌, ◌≤◌, ◌⊎◌, inl, inr, Bool, true, false, List, length, Option, Some, None, refl, sym, ap, subst, ◌∙◌, arith}
+use Rattle.std.proofs.Common.{◌≡◌, ℕ, ◌+◌, ◌*◌, ◌^◌, ◌<◌, ◌≤◌, ◌⊎◌, inl, inr, Bool, true, false, List, Option, Some, None, refl, sym, subst, arith}
 use Rattle.std.specs.Prelude.{ℤ, ◌≤ℤ◌, ◌<ℤ◌, int_lt, if◌then◌else◌}
 use Rattle.std.proofs.lemmas.Int.{ints}
 use Rattle.plan_base.specs.declared.parts.Parts.{Parts}
@@ -8,7 +8,7 @@ use Rattle.master_step.specs.declared.climbing.Best.{Best}
 use Rattle.master_step.specs.Columns.{Choices}
 use Rattle.master_step.specs.Restricted.{IsRestrictedValue}
 use Rattle.master_step.specs.Trials.{IsTrial}
-use Rattle.master_step.specs.Outcomes.{IsRaise, IsStalled}
+use Rattle.master_step.specs.Outcomes.{IsRaise}
 use Rattle.master_step.specs.Climbing.{better_of, IsBestOf, AreTried}
 use Rattle.master_step.proofs.Uniqueness.{value-unique, trial-unique}
 
@@ -44,9 +44,9 @@ module _ (p : Parts) (choices : Choices) (prices : List ℕ) (old : ℤ) (widest
   upto : (P : ℤ → Type 0) → ((i : ℕ) (other : List ℕ) (v : ℤ) → i < n → IsTrial p choices prices i other → IsRestrictedValue p choices other v → P v) → P value
       → (i : ℕ) (other : List ℕ) (v : ℤ) → i < n + 1 → IsTrial p choices prices i other → IsRestrictedValue p choices other v → P v
   upto P before here i other v below t is = elim (either_way n i) [
-      inl last ↦ subst P (sym (one i other v (omega arith) t is)) here
+    | inl last ↦ subst P (sym (one i other v (omega arith) t is)) here
     | inr less ↦ before i other v less t is
-    ]
+  ]
 
   abbrev this : Best
   this = record { divisor = widest * 2 ^ n; value = value }

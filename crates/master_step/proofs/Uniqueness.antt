@@ -1,25 +1,25 @@
 -- Prices have one restricted value, one list of prices for each trial, and one gain.
-use Rattle.std.proofs.Common.{◌≡◌, ℕ, zero, suc, ◌+◌, ◌*◌, ◌<◌, ◌≤◌, ◌^◌, ◌⊎◌, inl, inr, max, List, length, slice_index, get_or, refl, sym, ap, subst, ◌∙◌, arith}
+use Rattle.std.proofs.Common.{◌≡◌, ℕ, zero, suc, ◌*◌, ◌<◌, ◌≤◌, ◌^◌, ◌⊎◌, inl, inr, max, List, length, slice_index, refl, sym, ap, subst, ◌∙◌, arith}
 use Rattle.std.specs.Prelude.{ℤ, pos, ◌+ℤ◌, ◌≤ℤ◌, ◌<ℤ◌}
 use Rattle.std.proofs.lemmas.Int.{ints}
 use Rattle.std.proofs.lemmas.List.{ext_get_or}
 use Rattle.plan_base.specs.declared.parts.Link.{Link}
 use Rattle.plan_base.specs.declared.parts.Parts.{Parts}
 use Rattle.plan_base.specs.Facts.{price_limit}
-use Rattle.plan_base.specs.Arcs.{link_at, demand_at}
+use Rattle.plan_base.specs.Arcs.{link_at}
 use Rattle.link_steps.specs.Values.{value_at}
-use Rattle.proof_tree.specs.Bounds.{int_sum_below, price_total}
+use Rattle.proof_tree.specs.Bounds.{price_total}
 use Rattle.proof_tree.proofs.Uniqueness.{link_value-unique, int_sum_below-same}
 use Rattle.master_step.specs.Columns.{Choices, least_price}
 use Rattle.master_step.specs.Restricted.{IsRestrictedValue}
-use Rattle.master_step.specs.Trials.{column_load, IsValueLoad, AreValueLoads, apart, max_below, widest_gap, greatest_price, moved, IsTrial}
+use Rattle.master_step.specs.Trials.{column_load, IsValueLoad, apart, max_below, widest_gap, greatest_price, moved, IsTrial}
 use Rattle.master_step.specs.Outcomes.{IsRaise, IsGain, IsStalled}
 
 pub value-unique : (p : Parts) (choices : Choices) (prices : List ℕ) (v w : ℤ) → IsRestrictedValue p choices prices v → IsRestrictedValue p choices prices w → v ≡ w
 value-unique p choices prices v w hv hw =
     hv.is_sum
     ∙ ap (λ (x : ℤ). pos (price_total p (λ k. least_price prices (choices k))) +ℤ x)
-        (int_sum_below-same hv.values hw.values (length p.links) (λ e below. link_value-unique p (link_at p e) (slice_index prices e) _ _ (hv.are_values e below) (hw.are_values e below)))
+    (int_sum_below-same hv.values hw.values (length p.links) (λ e below. link_value-unique p (link_at p e) (slice_index prices e) _ _ (hv.are_values e below) (hw.are_values e below)))
     ∙ sym hw.is_sum
 
 either_way : (x y : ℕ) → (x ≤ y) ⊎ (y < x)
@@ -38,12 +38,12 @@ not_smaller p l price a b ha hb less =
 
 pub value_load-unique : (p : Parts) (l : Link) (price a b : ℕ) → IsValueLoad p l price a → IsValueLoad p l price b → a ≡ b
 value_load-unique p l price a b ha hb = elim (either_way a b) [
-    | inr more ↦ absurd (not_smaller p l price b a hb ha more)
-    | inl most ↦ elim (either_way b a) [
-      | inr less ↦ absurd (not_smaller p l price a b ha hb less)
-      | inl least ↦ omega arith
-    ]
+  | inr more ↦ absurd (not_smaller p l price b a hb ha more)
+  | inl most ↦ elim (either_way b a) [
+    | inr less ↦ absurd (not_smaller p l price a b ha hb less)
+    | inl least ↦ omega arith
   ]
+]
 
 pub max_below-same : (f g : ℕ → ℕ) (n : ℕ) → ((i : ℕ) → i < n → f i ≡ g i) → max_below f n ≡ max_below g n
 max_below-same f g zero h = refl
@@ -54,14 +54,14 @@ pub trial-unique : (p : Parts) (choices : Choices) (prices : List ℕ) (j : ℕ)
 trial-unique p choices prices j trial other h k =
     let loads : (e : ℕ) → e < length p.links → h.loads e ≡ k.loads e = λ e below. value_load-unique p (link_at p e) (slice_index prices e) _ _ (h.are_loads e below) (k.are_loads e below) in
     let widest : widest_gap p (column_load p choices prices) h.loads ≡ widest_gap p (column_load p choices prices) k.loads =
-        max_below-same (λ e. apart (column_load p choices prices e) (h.loads e)) (λ e. apart (column_load p choices prices e) (k.loads e)) (length p.links)
-        (λ e below. ap (λ (x : ℕ). apart (column_load p choices prices e) x) (loads e below)) in
+    max_below-same (λ e. apart (column_load p choices prices e) (h.loads e)) (λ e. apart (column_load p choices prices e) (k.loads e)) (length p.links)
+    (λ e below. ap (λ (x : ℕ). apart (column_load p choices prices e) x) (loads e below)) in
     ext_get_or 0 trial other (h.count ∙ sym k.count) (λ e within.
-      (let below : e < length p.links = omega (arith, h.count) in
-      h.each e below
-      ∙ ap (λ (w : ℕ). moved (price_limit p) (greatest_price p prices) (w * 2 ^ j) (column_load p choices prices e) (h.loads e) (slice_index prices e)) widest
-      ∙ ap (λ (x : ℕ). moved (price_limit p) (greatest_price p prices) (widest_gap p (column_load p choices prices) k.loads * 2 ^ j) (column_load p choices prices e) x (slice_index prices e)) (loads e below)
-      ∙ sym (k.each e below)))
+    (let below : e < length p.links = omega (arith, h.count) in
+    h.each e below
+    ∙ ap (λ (w : ℕ). moved (price_limit p) (greatest_price p prices) (w * 2 ^ j) (column_load p choices prices e) (h.loads e) (slice_index prices e)) widest
+    ∙ ap (λ (x : ℕ). moved (price_limit p) (greatest_price p prices) (widest_gap p (column_load p choices prices) k.loads * 2 ^ j) (column_load p choices prices e) x (slice_index prices e)) (loads e below)
+    ∙ sym (k.each e below)))
 
 not_both : (v w : ℤ) → v <ℤ w → w ≤ℤ v → ⊥
 not_both v w h k = omega (arith, ints)
@@ -69,12 +69,12 @@ not_both v w h k = omega (arith, ints)
 -- the first of the best trials
 same_place : (p : Parts) (choices : Choices) (prices : List ℕ) (old other_old : ℤ) (trial other : List ℕ) (new other_new : ℤ) → (h : IsRaise p choices prices old trial new) → (k : IsRaise p choices prices other_old other other_new) → h.j ≡ k.j
 same_place p choices prices old other_old trial other new other_new h k = elim (either_way h.j k.j) [
-    | inr more ↦ absurd (not_both other_new new (h.first k.j other other_new more k.is_trial k.is_new) (k.greatest h.j trial new h.within h.is_trial h.is_new))
-    | inl most ↦ elim (either_way k.j h.j) [
-      | inr less ↦ absurd (not_both new other_new (k.first h.j trial new less h.is_trial h.is_new) (h.greatest k.j other other_new k.within k.is_trial k.is_new))
-      | inl least ↦ omega arith
-    ]
+  | inr more ↦ absurd (not_both other_new new (h.first k.j other other_new more k.is_trial k.is_new) (k.greatest h.j trial new h.within h.is_trial h.is_new))
+  | inl most ↦ elim (either_way k.j h.j) [
+    | inr less ↦ absurd (not_both new other_new (k.first h.j trial new less h.is_trial h.is_new) (h.greatest k.j other other_new k.within k.is_trial k.is_new))
+    | inl least ↦ omega arith
   ]
+]
 
 pub raise-trial : (p : Parts) (choices : Choices) (prices : List ℕ) (old other_old : ℤ) (trial other : List ℕ) (new other_new : ℤ) → IsRaise p choices prices old trial new → IsRaise p choices prices other_old other other_new → trial ≡ other
 raise-trial p choices prices old other_old trial other new other_new h k =

@@ -1,16 +1,15 @@
 -- Pieces of the choice of least columns. No public clause cites this module.
-use Rattle.std.specs.Prelude.{ℕ, ◌≡◌, ◌<◌, ◌≤◌, Bool, true, List, [], length, take, filter, slice_index_or, Option, Some, None, IsTrue, if◌then◌else◌, nat_lt}
+use Rattle.std.specs.Prelude.{ℕ, ◌≡◌, ◌<◌, Bool, true, List, [], length, take, filter, slice_index_or, Option, Some, None, if◌then◌else◌, nat_lt}
 use Rattle.plan_base.specs.declared.ids.ArcId.{ArcId}
 use Rattle.plan_base.specs.declared.parts.Parts.{Parts}
 use Rattle.plan_base.specs.Arcs.{demand_at}
 use Rattle.plan_base.specs.Paths.{IsSimplePath}
 use Rattle.arc_restrict.specs.Rows.{forbids}
-use Rattle.arc_restrict.specs.Prices.{price_of}
 use Rattle.column_pool.specs.Columns.{columns_at, is_permitted}
 use Rattle.master_step.specs.declared.source.Source.{Source}
 use Rattle.master_step.specs.declared.source.Source.TheVariants.{Lists, Pool}
 use Rattle.master_step.specs.declared.source.Least.{Least}
-use Rattle.master_step.specs.Columns.{least_column, least_price, HasColumns}
+use Rattle.master_step.specs.Columns.{least_column, least_price}
 
 -- how many demands there are lists for
 abbrev pub list_count : Source → ℕ

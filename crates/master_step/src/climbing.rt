@@ -32,7 +32,11 @@ fn better(old: i128, best: Option<Best>, trial: Best) -> Option<Best>
     ensures { result ≡ better_of old best trial }
 {
     match best {
-        Some(held) => Some(if trial.value > held.value { trial } else { held }),
+        Some(held) => Some(if trial.value > held.value {
+            trial
+        } else {
+            held
+        }),
         None if trial.value > old => Some(trial),
         None => None,
     }

@@ -56,7 +56,14 @@ pub fn greatest_price(inst: &Instance, prices: &Prices) -> u128
 }
 
 /// A price moved towards what the columns ask for.
-fn moved(limit: u128, greatest: u128, divisor: u128, columns: u128, value: u128, price: u128) -> u128
+fn moved(
+    limit: u128,
+    greatest: u128,
+    divisor: u128,
+    columns: u128,
+    value: u128,
+    price: u128,
+) -> u128
     requires divisor { 0 < divisor }
     requires product { apart_of columns value * greatest ≤ MAX_PRICED_LOAD }
     requires limit { limit ≤ MAX_PRICED_LOAD }

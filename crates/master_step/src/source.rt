@@ -134,12 +134,7 @@ impl<'a> Source<'a> {
     }
 
     /// The first column of least price that the demand may take, and that price.
-    pub fn column(
-        &self,
-        inst: &Instance,
-        demand: DemandId,
-        prices: &Prices,
-    ) -> (&'a Path, u128)
+    pub fn column(&self, inst: &Instance, demand: DemandId, prices: &Prices) -> (&'a Path, u128)
         requires demand { demand.0 < length inst.now.demands }
         requires source { IsSource inst.now self.now }
         requires columns { HasColumns inst.now (allowed_of self.now) }

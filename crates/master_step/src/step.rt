@@ -12,7 +12,11 @@ pub enum Step {
         new: i128,
     },
     /// No trial has a greater restricted value than the brief's prices, which have this one.
-    Same { value: i128 },
+    Same {
+        value: i128,
+    },
     /// The demand has no column; each one before it has.
-    Bare { demand: DemandId },
+    Bare {
+        demand: DemandId,
+    },
 }

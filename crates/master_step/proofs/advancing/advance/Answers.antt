@@ -1,6 +1,5 @@
-use Rattle.std.proofs.Common.{◌≡◌, ◌<◌, ℕ, List, length, sym, ap, subst, ◌∙◌, arith, rules}
+use Rattle.std.proofs.Common.{length, sym, ap, subst, ◌∙◌}
 use Rattle.std.specs.Prelude.{IfOk}
-use Rattle.plan_base.specs.declared.ids.ArcId.{ArcId}
 use Rattle.column_pool.specs.Columns.{Columns, columns_at}
 use Rattle.column_pool.specs.Briefs.{AreAllPaths}
 use Rattle.master_step.specs.Columns.{Choices, HasColumns}

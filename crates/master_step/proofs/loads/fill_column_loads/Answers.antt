@@ -1,9 +1,8 @@
-use Rattle.std.proofs.Common.{◌≡◌, ◌<◌, ◌≤◌, ℕ, List, length, slice_index, sym, ap, subst, ◌∙◌, rules, arith}
-use Rattle.plan_base.specs.declared.ids.ArcId.{ArcId}
+use Rattle.std.proofs.Common.{sym, subst, arith}
 use Rattle.plan_base.specs.declared.limits.TheConstants.{MAX_LINKS}
 use Rattle.plan_base.specs.Walks.{HasLinksOnce}
 use Rattle.master_step.specs.Choosing.{allowed_of}
-use Rattle.master_step.proofs.LinkLoads.{links_once, puts-le, put-next}
+use Rattle.master_step.proofs.LinkLoads.{links_once, puts-le}
 use Rattle.master_step.proofs.loads.fill_column_loads.Goals as goal
 
 pub add_load-requires-clause-once : goal.add_load-requires-clause-once

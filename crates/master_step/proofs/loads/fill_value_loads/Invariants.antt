@@ -1,4 +1,4 @@
-use Rattle.std.proofs.Common.{ℕ, ◌≡◌, ◌<◌, ◌≤◌, slice_index, length}
+use Rattle.std.proofs.Common.{ℕ, ◌<◌, ◌≤◌, slice_index}
 use Rattle.plan_base.specs.Facts.{total_load}
 use Rattle.plan_base.specs.Arcs.{link_at}
 use Rattle.master_step.specs.Trials.{IsValueLoad}

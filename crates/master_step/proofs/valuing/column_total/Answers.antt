@@ -1,4 +1,4 @@
-use Rattle.std.proofs.Common.{◌≡◌, ◌≤◌, ◌<◌, ◌*◌, ◌+◌, ℕ, suc, sym, ap, arith, rules}
+use Rattle.std.proofs.Common.{◌≡◌, suc, ap, arith}
 use Rattle.plan_base.specs.declared.parts.Demand.{Demand}
 use Rattle.plan_base.specs.Arcs.{demand_at}
 use Rattle.master_step.specs.Columns.{least_price}
@@ -12,7 +12,7 @@ overflow_mul-total c =
     let p = c.args.inst.now in
     let place = c.loop-place.place in
     let within = priced_within p (λ k. least_price c.args.prices.now (allowed_of c.args.source.now k)) (suc place) (omega arith)
-        (λ k below. small_price p c.args.source.now c.args.prices.now k c.demands-place-end.ensures.lawful c.requires.price_limit c.requires.source c.requires.columns (omega arith)) in
+    (λ k below. small_price p c.args.source.now c.args.prices.now k c.demands-place-end.ensures.lawful c.requires.price_limit c.requires.source c.requires.columns (omega arith)) in
     let load : c.demand.result.now.load ≡ (demand_at p place).load = ap (λ (k : Demand). k.load) c.demand.ensures.value in
     rw (load, c.column-price.ensures.price) (omega (arith, within))
 
@@ -21,7 +21,7 @@ overflow_add-total c =
     let p = c.args.inst.now in
     let place = c.loop-place.place in
     let within = priced_within p (λ k. least_price c.args.prices.now (allowed_of c.args.source.now k)) (suc place) (omega arith)
-        (λ k below. small_price p c.args.source.now c.args.prices.now k c.demands-place-end.ensures.lawful c.requires.price_limit c.requires.source c.requires.columns (omega arith)) in
+    (λ k below. small_price p c.args.source.now c.args.prices.now k c.demands-place-end.ensures.lawful c.requires.price_limit c.requires.source c.requires.columns (omega arith)) in
     let load : c.demand.result.now.load ≡ (demand_at p place).load = ap (λ (k : Demand). k.load) c.demand.ensures.value in
     rw (load, c.column-price.ensures.price) (omega (arith, within, c.loop-place.invariant))
 
@@ -29,5 +29,5 @@ pub returns-clause-within : goal.returns-clause-within
 returns-clause-within c =
     let p = c.args.inst.now in
     let within = priced_within p (λ k. least_price c.args.prices.now (allowed_of c.args.source.now k)) c.loop-place.place (omega arith)
-        (λ k below. small_price p c.args.source.now c.args.prices.now k c.demands-place-end.ensures.lawful c.requires.price_limit c.requires.source c.requires.columns (omega arith)) in
+    (λ k below. small_price p c.args.source.now c.args.prices.now k c.demands-place-end.ensures.lawful c.requires.price_limit c.requires.source c.requires.columns (omega arith)) in
     omega (arith, within, c.loop-place.invariant)

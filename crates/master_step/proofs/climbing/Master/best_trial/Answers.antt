@@ -1,10 +1,9 @@
-use Rattle.std.proofs.Common.{◌≡◌, ◌<◌, ◌*◌, ◌+◌, ◌^◌, ℕ, Vec, Global, Option, Some, slice_index, length, sym, ap, subst, ◌∙◌, arith, rules, add-one}
+use Rattle.std.proofs.Common.{◌≡◌, ◌*◌, ◌+◌, ◌^◌, ℕ, Vec, Global, slice_index, length, sym, ap, subst, ◌∙◌, arith, rules}
 use Rattle.std.specs.Prelude.{ℤ}
 use Rattle.std.proofs.lemmas.Int.{to_z-of_z}
 use mir.Syntax.{w128}
 use mir.Val.{SFits, to_z, of_z}
 use Rattle.master_step.specs.declared.limits.TheConstants.{MAX_TRIALS}
-use Rattle.master_step.specs.declared.climbing.Best.{Best}
 use Rattle.master_step.specs.Trials.{widest_gap}
 use Rattle.master_step.specs.Choosing.{allowed_of}
 use Rattle.master_step.specs.Climbing.{better_of, AreTried}
@@ -28,16 +27,16 @@ loop-trial-preserved c =
     let value_fits : SFits w128 step.result = search rules in
     let loads = loads-same p choices prices c.args.rows.now rows before.columns before.values c.requires.loads in
     let widest : c.args.widest ≡ widest_gap p (slice_index rows.column_loads.items) (slice_index rows.value_loads.items) =
-        subst (λ (v : Vec ℕ Global). c.args.widest ≡ widest_gap p (slice_index rows.column_loads.items) (slice_index v.items)) (sym before.values)
-        (subst (λ (v : Vec ℕ Global). c.args.widest ≡ widest_gap p (slice_index v.items) (slice_index c.args.rows.now.value_loads.items)) (sym before.columns) c.requires.widest) in
+    subst (λ (v : Vec ℕ Global). c.args.widest ≡ widest_gap p (slice_index rows.column_loads.items) (slice_index v.items)) (sym before.values)
+    (subst (λ (v : Vec ℕ Global). c.args.widest ≡ widest_gap p (slice_index v.items) (slice_index c.args.rows.now.value_loads.items)) (sym before.columns) c.requires.widest) in
     let trial = moved-trial p choices prices rows loads c.args.greatest c.args.widest c.loop-trial.divisor j step.new.rows.trial c.requires.greatest widest c.requires.some_gap before.divisor step.ensures.trial in
     let held : AreTried p choices prices c.args.old c.args.widest j c.loop-trial.best = rw (to_z-of_z w128 c.args.old fits) at before.tried in
     let tried = tried-next p choices prices c.args.old c.args.widest j step.new.rows.trial step.result trial step.ensures.value c.loop-trial.best held in
     let better : c.better-best.result ≡ better_of c.args.old c.loop-trial.best (record { divisor = c.args.widest * 2 ^ j; value = step.result }) =
-        c.better-best.ensures
-        ∙ ap (λ (x : ℤ). better_of x c.loop-trial.best (record { divisor = c.loop-trial.divisor; value = to_z w128 (of_z w128 step.result) })) (to_z-of_z w128 c.args.old fits)
-        ∙ ap (λ (x : ℤ). better_of c.args.old c.loop-trial.best (record { divisor = c.loop-trial.divisor; value = x })) (to_z-of_z w128 step.result value_fits)
-        ∙ ap (λ (d : ℕ). better_of c.args.old c.loop-trial.best (record { divisor = d; value = step.result })) before.divisor in
+    c.better-best.ensures
+    ∙ ap (λ (x : ℤ). better_of x c.loop-trial.best (record { divisor = c.loop-trial.divisor; value = to_z w128 (of_z w128 step.result) })) (to_z-of_z w128 c.args.old fits)
+    ∙ ap (λ (x : ℤ). better_of c.args.old c.loop-trial.best (record { divisor = c.loop-trial.divisor; value = x })) (to_z-of_z w128 step.result value_fits)
+    ∙ ap (λ (d : ℕ). better_of c.args.old c.loop-trial.best (record { divisor = d; value = step.result })) before.divisor in
     record {
       tried = rw (to_z-of_z w128 c.args.old fits) (subst (AreTried p choices prices c.args.old c.args.widest (j + 1)) (sym better) tried);
       divisor = ap (λ (d : ℕ). d * 2) before.divisor ∙ doubled c.args.widest j;

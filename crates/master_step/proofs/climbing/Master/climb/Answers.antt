@@ -1,8 +1,7 @@
-use Rattle.std.proofs.Common.{◌≡◌, ◌<◌, ℕ, Vec, Global, slice_index, length, sym, ap, subst, ◌∙◌, arith, rules}
-use Rattle.std.specs.Prelude.{ℤ}
+use Rattle.std.proofs.Common.{◌≡◌, ◌<◌, ℕ, Vec, Global, slice_index, sym, subst, ◌∙◌, arith, rules}
 use Rattle.std.proofs.lemmas.Int.{to_z-of_z}
 use mir.Syntax.{w128}
-use mir.Val.{SFits, to_z, of_z}
+use mir.Val.{SFits}
 use Rattle.master_step.specs.declared.limits.TheConstants.{MAX_TRIALS}
 use Rattle.master_step.specs.Trials.{widest_gap}
 use Rattle.master_step.specs.Choosing.{allowed_of}
@@ -40,8 +39,8 @@ returns-in-Some-clause-raised c =
     let some : 0 < c.widest_gap-widest.result = omega (arith, c.if-widest-eq0.false) in
     let loads = loads-same p choices prices c.fill_loads.new.rows rows best.columns best.values c.fill_loads.ensures.loads in
     let widest : c.widest_gap-widest.result ≡ widest_gap p (slice_index rows.column_loads.items) (slice_index rows.value_loads.items) =
-        subst (λ (v : Vec ℕ Global). c.widest_gap-widest.result ≡ widest_gap p (slice_index rows.column_loads.items) (slice_index v.items)) (sym best.values)
-        (subst (λ (v : Vec ℕ Global). c.widest_gap-widest.result ≡ widest_gap p (slice_index v.items) (slice_index c.fill_loads.new.rows.value_loads.items)) (sym best.columns) c.widest_gap-widest.ensures.value) in
+    subst (λ (v : Vec ℕ Global). c.widest_gap-widest.result ≡ widest_gap p (slice_index rows.column_loads.items) (slice_index v.items)) (sym best.values)
+    (subst (λ (v : Vec ℕ Global). c.widest_gap-widest.result ≡ widest_gap p (slice_index v.items) (slice_index c.fill_loads.new.rows.value_loads.items)) (sym best.columns) c.widest_gap-widest.ensures.value) in
     let is_best : IsBestOf p choices prices c.value_of-old.result c.widest_gap-widest.result MAX_TRIALS c.in-Some.best = rw (to_z-of_z w128 c.value_of-old.result fits) at best.best in
     let is_trial = moved-trial p choices prices rows loads c.greatest_price-greatest.result c.widest_gap-widest.result c.in-Some.best.divisor is_best.j c.set_trial.new.rows.trial c.greatest_price-greatest.ensures.value widest some is_best.divisor c.set_trial.ensures.trial in
     rw (to_z-of_z w128 c.value_of-old.result fits, to_z-of_z w128 c.in-Some.best.value value_fits)

@@ -1,7 +1,5 @@
-use Rattle.std.proofs.Common.{◌≡◌, ◌+◌, true, List, length, get_or, [], sym, ap, subst, ◌∙◌, rules, arith, Some, Option}
+use Rattle.std.proofs.Common.{◌≡◌, ◌+◌, true, List, length, get_or, [], sym, ap, subst, ◌∙◌, rules, Some}
 use Rattle.plan_base.specs.declared.ids.ArcId.{ArcId}
-use Rattle.plan_base.specs.Arcs.{demand_at}
-use Rattle.plan_base.specs.Paths.{IsSimplePath}
 use Rattle.bound_assembly.specs.declared.limits.TheConstants.{MAX_PATH_LINKS}
 use Rattle.std.specs.Prelude.{◌≤◌}
 use Rattle.arc_restrict.specs.Prices.{price_of}
@@ -24,8 +22,8 @@ returns c =
     let all : List (List ArcId) = all_of c.args.self.now k in
     let told : c.allows.result ≡ true = search rules in
     let passes : is_allowed c.args.self.now k (get_or all c.args.place []) ≡ true =
-        subst (λ (path : List ArcId). is_allowed c.args.self.now k path ≡ true) c.path-path.ensures (sym c.allows.ensures ∙ told) in
+    subst (λ (path : List ArcId). is_allowed c.args.self.now k path ≡ true) c.path-path.ensures (sym c.allows.ensures ∙ told) in
     let is : c.price_of-price.result ≡ price_of c.args.prices.now (get_or all c.args.place []) =
-        c.price_of-price.ensures ∙ ap (price_of c.args.prices.now) (c.as_slice.ensures.value ∙ c.path-path.ensures) in
+    c.price_of-price.ensures ∙ ap (price_of c.args.prices.now) (c.as_slice.ensures.value ∙ c.path-path.ensures) in
     subst (λ (least : Least). IsLeastOf c.args.prices.now (is_allowed c.args.self.now k) all (c.args.place + 1) (Some least)) (sym c.cheaper.ensures)
     (least-more c.args.prices.now (is_allowed c.args.self.now k) all c.args.place c.requires.place c.args.least c.price_of-price.result passes is c.requires.least)
