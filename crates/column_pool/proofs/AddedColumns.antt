@@ -1,10 +1,7 @@
 -- An addition keeps the columns of a demand different simple paths, and not too many.
-use Rattle.std.proofs.Common.{◌≡◌, ◌≢◌, ℕ, zero, suc, ◌+◌, ◌-◌, ◌*◌, ◌<◌, ◌≤◌, ◌⊎◌, inl, inr, Bool, true, false, not, ◌||◌, ◌&&◌, ◌==◌, List, [], ◌∷◌, ◌++◌, length, get_or, set, take, drop, replicate, All, Option, Some, None, slice_get, refl, sym, ap, subst, ◌∙◌, arith, length-append, length-drop}
-use Rattle.std.specs.Prelude.{nat_lt, if◌then◌else◌, ◌↔◌, filter}
-use Rattle.std.specs.List.{list_any, list_all}
-use Rattle.std.specs.Ordering.{on}
-use Rattle.std.specs.Cmp.Lexicographic.{pointwise}
-use Rattle.std.proofs.lemmas.Bool.{ltb-true, ltb-false, le-ltb, lt-ltb, eqb-false}
+use Rattle.std.proofs.Common.{◌≡◌, ◌≢◌, ℕ, zero, suc, ◌+◌, ◌-◌, ◌<◌, ◌⊎◌, inl, inr, Bool, true, false, not, ◌||◌, ◌&&◌, ◌==◌, List, [], ◌∷◌, ◌++◌, length, get_or, set, take, drop, Option, Some, None, slice_get, refl, sym, ap, subst, ◌∙◌, arith, length-append, length-drop}
+use Rattle.std.specs.Prelude.{nat_lt, if◌then◌else◌, filter}
+use Rattle.std.proofs.lemmas.Bool.{ltb-true, eqb-false}
 use Rattle.std.proofs.lemmas.List.{get_or-set_same, get_or-set_other, get_or-replicate, length-set, length-replicate, set_at, append-nil, drop_all, take_all}
 use Rattle.std.proofs.lemmas.List.Elements.{All-push, All-drop, All-nil, All-cons, All-head, All-tail, filter_more}
 use Rattle.plan_base.specs.declared.ids.ArcId.{ArcId}

@@ -1,5 +1,4 @@
-use Rattle.std.proofs.Common.{rules, ◌≡◌, ◌<◌, length, get_or, ap, sym, subst, ◌∙◌, ◌∷◌, ◌++◌, [], arith, List}
-use Rattle.std.proofs.lemmas.Slice.{pushed}
+use Rattle.std.proofs.Common.{rules, ◌≡◌, ◌<◌, length, get_or, ap, subst, ◌∙◌, ◌∷◌, ◌++◌, [], arith, List}
 use Rattle.plan_base.specs.declared.ids.ArcId.{ArcId}
 use Rattle.arc_restrict.specs.Rows.{forbids}
 use Rattle.arc_restrict.specs.Restrictions.{IsPermitted}

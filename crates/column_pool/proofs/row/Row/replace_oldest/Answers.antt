@@ -1,4 +1,4 @@
-use Rattle.std.proofs.Common.{rules, ◌≡◌, ◌<◌, ◌∷◌, ◌++◌, [], drop, length, List, slice_set, take, ◌-◌, subst, sym, arith}
+use Rattle.std.proofs.Common.{rules, ◌≡◌, ◌<◌, ◌∷◌, ◌++◌, [], drop, length, List, slice_set, take, ◌-◌, subst, sym}
 use Rattle.plan_base.specs.declared.ids.ArcId.{ArcId}
 use Rattle.column_pool.proofs.AddedColumns.{written_last}
 use Rattle.column_pool.proofs.row.Row.replace_oldest.Goals as goal
