@@ -1,5 +1,5 @@
 -- Paths and weights stay what they are while demands are rerouted.
-use Rattle.std.proofs.Common.{◌≡◌, ℕ, ◌*◌, ◌<◌, ◌≤◌, inl, inr, List, [], ◌∷◌, length, Option, None, sym, ap, ◌∙◌, arith}
+use Rattle.std.proofs.Common.{◌≡◌, ℕ, zero, suc, ◌*◌, ◌<◌, ◌≤◌, inl, inr, List, [], ◌∷◌, length, Option, None, refl, sym, ap, ◌∙◌, arith}
 use Rattle.std.specs.Option.{unwrap_or}
 use Rattle.std.proofs.Math.ListN.{set, length-set, replicate}
 use Rattle.std.proofs.lemmas.List.Elements.{All-set, All-replicate}
@@ -63,3 +63,9 @@ unweighted p n is =
       count = length-replicate n None ∙ is;
       small = All-replicate (λ (w : Option ℕ). unwrap_or w 0 ≤ MAX_WEIGHT) n None (omega arith);
     }
+
+-- an element that is replaced twice
+pub set_twice : (xs : List (List ArcId)) (n : ℕ) (x y : List ArcId) → set (set xs n x) n y ≡ set xs n y
+set_twice [] n x y = refl
+set_twice (z ∷ xs) zero x y = refl
+set_twice (z ∷ xs) (suc n) x y = ap (λ (ys : List (List ArcId)). z ∷ ys) (set_twice xs n x y)

@@ -1,12 +1,13 @@
 -- One arc more is added, removed or weighed.
-use Rattle.std.proofs.Common.{◌≡◌, ℕ, ◌+◌, ◌*◌, ◌-◌, ◌<◌, ◌≤◌, ◌⊎◌, inl, inr, min, Bool, true, false, cond, if◌then◌else◌, ◌==◌, List, length, get_or, take, Some, None, refl, sym, ◌∙◌, arith, rules}
-use Rattle.std.specs.Prelude.{slice_index_or}
-use Rattle.std.proofs.lemmas.List.{get_or-take, get_or_default, length-take-le}
-use Rattle.std.proofs.lemmas.List.Sums.{sum_by_more}
+use Rattle.std.proofs.Common.{◌≡◌, ℕ, ◌+◌, ◌*◌, ◌-◌, ◌<◌, ◌≤◌, inl, inr, min, Bool, true, false, cond, if◌then◌else◌, ◌==◌, List, [], ◌∷◌, ◌++◌, length, get_or, slice_index, take, sum_by, sym, ◌∙◌, arith, length-append}
+use Rattle.std.proofs.lemmas.List.{get_or-take, get_or_append_left, get_or_push, length-take-le}
+use Rattle.std.proofs.lemmas.List.Sums.{sum_by_more, sum_by_push}
 use Rattle.plan_base.specs.declared.ids.ArcId.{ArcId}
-use Rattle.plan_base.specs.Arcs.{link_of}
-use Rattle.least_path.specs.Paths.{Weights, weight_at, weight_of}
-use Rattle.incumbent.specs.Traffic.{arcs_along, AreWeighted}
+use Rattle.plan_base.specs.declared.parts.Parts.{Parts}
+use Rattle.plan_base.specs.Arcs.{link_of, no_arc}
+use Rattle.plan_base.specs.Paths.{arc_at}
+use Rattle.link_steps.proofs.Order.{before_or_last}
+use Rattle.incumbent.specs.Traffic.{arcs_along, IsRise, AreRises}
 
 -- how many arcs go along a link, with one arc more
 along-next : (e : ℕ) (arcs : List ArcId) (i : ℕ) (d : ArcId) → i < length arcs → arcs_along e (take (i + 1) arcs) ≡ arcs_along e (take i arcs) + cond (link_of (get_or arcs i d) == e) 1 0
@@ -32,28 +33,31 @@ pub removed-next : (e old now before load : ℕ) (arcs : List ArcId) (i : ℕ) (
 removed-next e old now before load arcs i d within is step =
     rw (along-next e arcs i d within) (removed (link_of (get_or arcs i d) == e) old now before load (arcs_along e (take i arcs)) is step)
 
--- one arc more has a weight
-pub weighted-next : (ws : Weights) (arcs : List ArcId) (i weight : ℕ) (d : ArcId) → i < length arcs → AreWeighted ws (take i arcs) → slice_index_or ws (get_or arcs i d).0 None ≡ Some weight → AreWeighted ws (take (i + 1) arcs)
-weighted-next ws arcs i weight d within before is =
-    let long = length-take-le (i + 1) arcs (omega arith) in
-    λ k other below.
-    elim (either_way k i) [
-      | inl earlier ↦
-          (let same : get_or (take (i + 1) arcs) k other ≡ get_or (take i arcs) k other = get_or-take (i + 1) arcs k other (omega arith) ∙ sym (get_or-take i arcs k other earlier) in
-          rw same (before k other (omega (arith, length-take-le i arcs (omega arith)))))
-      | inr last ↦
-          (let here : k ≡ i = omega (arith, long) in
-          let same : get_or (take (i + 1) arcs) k other ≡ get_or arcs i d = get_or-take (i + 1) arcs k other (omega arith) ∙ rw here (get_or_default arcs i other d within) in
-          rw (same, is) (search rules))
-    ]
+-- the rises along a path with one arc more
+pub rises-next : (p : Parts) (loads : List ℕ) (load most sum more now i : ℕ) (arcs : List ArcId) (a : ArcId) → i < length arcs → a ≡ arc_at arcs i → AreRises p loads load (take i arcs) most sum
+    → IsRise p (link_of a) (slice_index loads (link_of a)) load more → now ≡ min (sum + more) most → AreRises p loads load (take (i + 1) arcs) most now
+rises-next p loads load most sum more now i arcs a within is before rise step =
+    let long : length (take i arcs) ≡ i = length-take-le i arcs (omega arith) in
+    let longer : length (take (i + 1) arcs) ≡ i + 1 = length-take-le (i + 1) arcs (omega arith) in
+    let size : length before.rises ≡ i = before.count ∙ long in
+    record {
+      rises = before.rises ++ more ∷ [];
+      count = omega (arith, length-append before.rises (more ∷ []), size, longer);
+      each = λ k below.
+          elim (before_or_last k i (omega (arith, below, longer))) [
+            | inl earlier ↦
+                (let same : arc_at (take (i + 1) arcs) k ≡ arc_at (take i arcs) k = get_or-take (i + 1) arcs k no_arc (omega arith) ∙ sym (get_or-take i arcs k no_arc earlier) in
+                let old : slice_index (before.rises ++ more ∷ []) k ≡ slice_index before.rises k = get_or_append_left before.rises (more ∷ []) 0 k (omega (arith, size)) in
+                rw (same, old) (before.each k (omega (arith, long))))
+            | inr last ↦
+                (let same : arc_at (take (i + 1) arcs) i ≡ a = get_or-take (i + 1) arcs i no_arc (omega arith) ∙ sym is in
+                let new : slice_index (before.rises ++ more ∷ []) i ≡ more = get_or_push before.rises more 0 i size in
+                rw (last, same, new) rise)
+          ];
+      is_sum =
+          let total : sum_by (λ (rise : ℕ). rise) (before.rises ++ more ∷ []) ≡ sum_by (λ (rise : ℕ). rise) before.rises + more = sum_by_push (λ (rise : ℕ). rise) before.rises more in
+          capped sum more most now (sum_by (λ (rise : ℕ). rise) before.rises) (sum_by (λ (rise : ℕ). rise) (before.rises ++ more ∷ [])) total before.is_sum step;
+    }
   where
-    either_way : (k i : ℕ) → (k < i) ⊎ (i ≤ k)
-    either_way k i = grind arith
-
--- the weight of a path with one arc more
-pub weight-next : (ws : Weights) (arcs : List ArcId) (i weight sum now most : ℕ) (d : ArcId) → i < length arcs → slice_index_or ws (get_or arcs i d).0 None ≡ Some weight → sum ≡ min (weight_of ws (take i arcs)) most
-    → now ≡ min (sum + weight) most → now ≡ min (weight_of ws (take (i + 1) arcs)) most
-weight-next ws arcs i weight sum now most d within is before step =
-    let more : weight_of ws (take (i + 1) arcs) ≡ weight_of ws (take i arcs) + weight_at ws (get_or arcs i d) = sum_by_more (λ (a : ArcId). weight_at ws a) arcs i d within in
-    let here : weight_at ws (get_or arcs i d) ≡ weight = rw is refl in
-    omega (arith, more, here, before, step)
+    capped : (sum more most now old new : ℕ) → new ≡ old + more → sum ≡ min old most → now ≡ min (sum + more) most → now ≡ min new most
+    capped sum more most now old new total is step = omega arith

@@ -1,3 +1,4 @@
 pub mod Completions
 pub mod Links
+pub mod Routings
 pub mod Traffic

@@ -7,11 +7,20 @@
 #![tactic(auto)]
 
 mod completing;
+mod cooling;
+mod draws;
+mod group;
+mod held;
 mod improving;
-mod traffic;
+mod laying;
+mod loads;
+mod rounds;
+mod routing;
+mod weights;
 
 pub use completing::{complete, overfull_link};
 pub use improving::improve;
+pub use laying::lay_all;
 
 #[cfg(test)]
 mod tests;

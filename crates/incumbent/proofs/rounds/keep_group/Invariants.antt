@@ -1,0 +1,5 @@
+use Rattle.incumbent.specs.Completions.{ArePaths}
+use Rattle.incumbent.proofs.rounds.keep_group.Given as goal
+
+abbrev pub invariant-loop-demand : goal.invariant-loop-demand
+invariant-loop-demand l = ArePaths l.inst l.kept.items

@@ -1,0 +1,5 @@
+use Rattle.incumbent.specs.Routings.{IsRouting}
+use Rattle.incumbent.proofs.rounds.put_all_on.Given as goal
+
+abbrev pub invariant-loop-place : goal.invariant-loop-place
+invariant-loop-place l = IsRouting l.inst l.routing

@@ -1,0 +1,5 @@
+use Rattle.incumbent.specs.Routings.{IsRouting}
+use Rattle.incumbent.proofs.rounds.reroute_all.Given as goal
+
+abbrev pub invariant-loop-turn : goal.invariant-loop-turn
+invariant-loop-turn l = IsRouting l.inst l.routing

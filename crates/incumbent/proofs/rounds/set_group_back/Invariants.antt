@@ -1,0 +1,5 @@
+use Rattle.incumbent.specs.Routings.{IsRouting}
+use Rattle.incumbent.proofs.rounds.set_group_back.Given as goal
+
+abbrev pub invariant-loop-demand : goal.invariant-loop-demand
+invariant-loop-demand l = IsRouting l.inst l.routing

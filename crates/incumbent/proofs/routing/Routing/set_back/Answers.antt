@@ -1,0 +1,23 @@
+use Rattle.std.proofs.Common.{◌≡◌, ◌∙◌, ◌<◌, List, [], length, sym, subst, ap, arith}
+use Rattle.plan_base.specs.declared.ids.ArcId.{ArcId}
+use Rattle.incumbent.specs.Completions.{ArePaths}
+use Rattle.incumbent.specs.Routings.{AreLoads}
+use Rattle.incumbent.proofs.ReroutingLaws.{paths_set}
+use Rattle.incumbent.proofs.RoutingLaws.{loads-same}
+use Rattle.incumbent.proofs.routing.Routing.set_back.Goals as goal
+
+pub put_on-requires-clause-routing : goal.put_on-requires-clause-routing
+put_on-requires-clause-routing c =
+    let p = c.args.inst.now in
+    let k = c.args.demand.0 in
+    let path = c.args.path.now in
+    let are = c.take_off-fall.ensures.routing in
+    let laid = c.take_off-fall.new.self.laid.items in
+    let loads = c.take_off-fall.new.self.loads in
+    let set = c.in_ok-set_path.ensures in
+    record {
+      paths = subst (ArePaths p) (sym set) (paths_set p c.take_off-fall.new.self.paths.items k path c.requires.demand are.paths c.requires.path);
+      marks = are.marks;
+      loads = subst (λ (ps : List (List ArcId)). AreLoads p ps laid loads) (sym set) (loads-same p c.take_off-fall.new.self.paths.items laid loads k path c.take_off-fall.ensures.off are.loads);
+      weights = are.weights;
+    }

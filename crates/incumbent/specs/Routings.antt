@@ -1,0 +1,56 @@
+-- What a search for better designs works on. No public contract cites it.
+use Rattle.std.specs.Prelude.{ℕ, ◌≡◌, ◌<◌, Bool, true, false, List, length, All, slice_index, slice_index_or, if◌then◌else◌}
+use Rattle.plan_base.specs.declared.ids.ArcId.{ArcId}
+use Rattle.plan_base.specs.declared.ids.DemandId.{DemandId}
+use Rattle.plan_base.specs.declared.parts.Demand.{Demand}
+use Rattle.plan_base.specs.declared.parts.Parts.{Parts}
+use Rattle.plan_base.specs.declared.limits.TheConstants.{MAX_LINKS}
+use Rattle.plan_base.specs.Sums.{sum_below}
+use Rattle.plan_base.specs.Designs.{load_from}
+use Rattle.least_path.specs.Paths.{Weights, AreWeights, IsLeastPath}
+use Rattle.incumbent.specs.declared.routing.Routing.{Routing}
+use Rattle.incumbent.specs.declared.rounds.Rounds.{Rounds}
+use Rattle.incumbent.specs.Completions.{with_paths, ArePaths}
+use Rattle.incumbent.specs.Traffic.{AreAddedCosts}
+
+-- whether the demand of this number is marked
+abbrev pub is_marked : List Bool → ℕ → Bool
+is_marked marks k = slice_index_or marks k false
+
+-- what a demand puts on a link: its load where it is laid and its path uses the link, in load grains
+abbrev pub laid_on : Parts → List (List ArcId) → List Bool → ℕ → ℕ → ℕ
+laid_on p paths laid e k = if is_marked laid k then load_from p (with_paths paths) e k else 0
+
+-- each link carries the loads of the demands that are laid and whose paths use it
+abbrev pub AreLoads : Parts → List (List ArcId) → List Bool → List ℕ → Type 0
+AreLoads p paths laid loads = (e : ℕ) → e < MAX_LINKS → slice_index loads e ≡ sum_below (laid_on p paths laid e) (length p.demands)
+
+-- a simple path and a mark for each demand, the loads of those that are marked as laid, and room for weights
+pub record IsRouting (p : Parts) (r : Routing) : Type 0 where
+  pub paths : ArePaths p r.paths.items
+  pub marks : length r.laid.items ≡ length p.demands
+  pub loads : AreLoads p r.paths.items r.laid.items r.loads
+  pub weights : AreWeights p r.weights.items
+
+-- the paths, the marks and the loads are the same
+pub record HasSameRoutes (r s : Routing) : Type 0 where
+  pub paths : r.paths ≡ s.paths
+  pub laid : r.laid ≡ s.laid
+  pub loads : r.loads ≡ s.loads
+
+-- a path of the demand that raises the step costs by so much where its load comes to what the links carry, and none raises them by less
+pub record IsCheapestWay (p : Parts) (loads : List ℕ) (k : Demand) (arcs : List ArcId) (rise : ℕ) : Type 0 where
+  pub weights : Weights
+  pub added : AreAddedCosts p loads k.load (length p.links) weights
+  pub least : IsLeastPath p weights k.source k.target arcs rise
+
+-- each demand of a list is one of the instance
+abbrev pub AreDemands : Parts → List DemandId → Type 0
+AreDemands p group = All (λ k. k.0 < length p.demands) group
+
+-- a routing, the paths accepted and the best ones, and a group of demands
+pub record IsSearch (p : Parts) (s : Rounds) : Type 0 where
+  pub now : IsRouting p s.now
+  pub accepted : ArePaths p s.accepted.paths.items
+  pub best : ArePaths p s.best.paths.items
+  pub group : AreDemands p s.group.items

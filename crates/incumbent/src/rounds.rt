@@ -1,0 +1,330 @@
+//! A large neighbourhood search: a group of demands is taken off and laid again, and what comes of it is accepted or
+//! taken back.
+
+ghost use Rattle.std.specs.Prelude.{◌≡◌, ◌<◌, length, IfOk, OnOk};
+ghost use Rattle.incumbent.specs.Completions.{ArePaths};
+ghost use Rattle.incumbent.specs.Routings.{IsRouting, AreDemands, IsSearch};
+
+use crate::cooling::Cooling;
+use crate::draws::Draws;
+use crate::group::draw_group;
+use crate::held::{Held, set_path};
+use crate::routing::Routing;
+use link_steps::StepTable;
+use plan_base::{DemandId, Instance, Items, Path};
+use std::alloc::{AllocError, Global};
+
+/// The most turns of single reroutes over all demands.
+const MAX_TURNS: u32 = 32;
+
+/// The most turns of single reroutes over the demands of a group.
+const GROUP_TURNS: u32 = 4;
+
+/// What a search works on.
+#[derive(Debug, Drop)]
+pub struct Rounds {
+    /// The design that is changed.
+    now: Routing,
+    /// The design that was accepted last.
+    accepted: Held,
+    /// The cheapest design met.
+    best: Held,
+    /// The demands that are taken off.
+    group: Vec<DemandId>,
+    draws: Draws,
+}
+
+/// Lays all demands on their paths.
+fn put_all_on(inst: &Instance, table: &StepTable, routing: &mut Routing)
+    requires table { table.now ≡ inst.now }
+    requires routing { IsRouting inst.now routing.old }
+    ensures routing { IsRouting inst.now routing.new }
+{
+    for place in 0..inst.demands() {
+        routing.put_on(inst, table, DemandId(place));
+    }
+}
+
+/// Reroutes each demand once where that helps, and tells whether it helped one.
+fn reroute_each(
+    inst: &Instance,
+    table: &StepTable,
+    routing: &mut Routing,
+) -> Result<bool, AllocError>
+    requires table { table.now ≡ inst.now }
+    requires routing { IsRouting inst.now routing.old }
+    ensures routing { IsRouting inst.now routing.new }
+{
+    let mut helped = false;
+    for place in 0..inst.demands() {
+        if routing.reroute(inst, table, DemandId(place))? {
+            helped = true;
+        }
+    }
+    Ok(helped)
+}
+
+/// Reroutes the demands until none helps or all turns are spent.
+fn reroute_all(inst: &Instance, table: &StepTable, routing: &mut Routing) -> Result<(), AllocError>
+    requires table { table.now ≡ inst.now }
+    requires routing { IsRouting inst.now routing.old }
+    ensures routing { IsRouting inst.now routing.new }
+{
+    for _turn in 0..MAX_TURNS {
+        if !reroute_each(inst, table, routing)? {
+            break;
+        }
+    }
+    Ok(())
+}
+
+/// Reroutes each demand of a group once where that helps, and tells whether it helped one.
+fn reroute_group(
+    inst: &Instance,
+    table: &StepTable,
+    group: &[DemandId],
+    routing: &mut Routing,
+) -> Result<bool, AllocError>
+    requires table { table.now ≡ inst.now }
+    requires routing { IsRouting inst.now routing.old }
+    requires group { AreDemands inst.now group.now }
+    ensures routing { IsRouting inst.now routing.new }
+{
+    let mut helped = false;
+    for demand in group {
+        if routing.reroute(inst, table, *demand)? {
+            helped = true;
+        }
+    }
+    Ok(helped)
+}
+
+/// Reroutes the demands of a group until none helps or all turns are spent.
+fn touch_up(
+    inst: &Instance,
+    table: &StepTable,
+    group: &[DemandId],
+    routing: &mut Routing,
+) -> Result<(), AllocError>
+    requires table { table.now ≡ inst.now }
+    requires routing { IsRouting inst.now routing.old }
+    requires group { AreDemands inst.now group.now }
+    ensures routing { IsRouting inst.now routing.new }
+{
+    for _turn in 0..GROUP_TURNS {
+        if !reroute_group(inst, table, group, routing)? {
+            break;
+        }
+    }
+    Ok(())
+}
+
+/// Takes the demands of a group off.
+fn destroy(inst: &Instance, table: &StepTable, group: &[DemandId], routing: &mut Routing)
+    requires table { table.now ≡ inst.now }
+    requires routing { IsRouting inst.now routing.old }
+    requires group { AreDemands inst.now group.now }
+    ensures routing { IsRouting inst.now routing.new }
+{
+    for demand in group {
+        let _fall = routing.take_off(inst, table, *demand);
+    }
+}
+
+/// Lays the demands of a group one by one, and tells whether each found a path.
+fn repair(
+    inst: &Instance,
+    table: &StepTable,
+    group: &[DemandId],
+    far: u128,
+    routing: &mut Routing,
+) -> Result<bool, AllocError>
+    requires table { table.now ≡ inst.now }
+    requires routing { IsRouting inst.now routing.old }
+    requires group { AreDemands inst.now group.now }
+    ensures routing { IsRouting inst.now routing.new }
+{
+    for demand in group {
+        if !routing.lay_far(inst, table, *demand, far)? {
+            return Ok(false);
+        }
+    }
+    Ok(true)
+}
+
+/// Keeps the paths of the demands of a group.
+#[tactic(auto, using(crate::proofs::ReroutingLaws::paths_set))]
+fn keep_group(
+    inst: &Instance,
+    group: &[DemandId],
+    paths: &[Path],
+    kept: &mut Vec<Path>,
+) -> Result<(), AllocError>
+    requires group { AreDemands inst.now group.now }
+    requires paths { ArePaths inst.now paths.now }
+    requires kept { ArePaths inst.now kept.old.items }
+    ensures kept { OnOk result (ArePaths inst.now kept.new.items) }
+{
+    for demand in group {
+        set_path(kept, *demand, &paths[demand.0 as usize])?;
+    }
+    Ok(())
+}
+
+/// Lays the demands of a group on their paths among these, in place of their own.
+fn set_group_back(
+    inst: &Instance,
+    table: &StepTable,
+    group: &[DemandId],
+    paths: &[Path],
+    routing: &mut Routing,
+) -> Result<(), AllocError>
+    requires table { table.now ≡ inst.now }
+    requires group { AreDemands inst.now group.now }
+    requires paths { ArePaths inst.now paths.now }
+    requires routing { IsRouting inst.now routing.old }
+    ensures routing { OnOk result (IsRouting inst.now routing.new) }
+{
+    for demand in group {
+        routing.set_back(inst, table, *demand, &paths[demand.0 as usize])?;
+    }
+    Ok(())
+}
+
+impl Rounds {
+    /// The search that begins with these paths once no single reroute helps.
+    pub fn new(
+        alloc: Global,
+        inst: &Instance,
+        table: &StepTable,
+        paths: Vec<Path>,
+        seed: u32,
+    ) -> Result<Rounds, AllocError>
+        requires table { table.now ≡ inst.now }
+        requires paths { ArePaths inst.now paths.items }
+        ensures search { IfOk result (IsSearch inst.now) }
+    {
+        let draws = Draws::new(&paths, seed);
+        let mut now = Routing::new(alloc, inst, paths)?;
+        put_all_on(inst, table, &mut now);
+        reroute_all(inst, table, &mut now)?;
+        now.searches = 0;
+        Ok(Rounds {
+            accepted: Held::new(alloc, inst, &now.paths, now.cost)?,
+            best: Held::new(alloc, inst, &now.paths, now.cost)?,
+            group: Vec::with_capacity(alloc, inst.demands() as usize)?,
+            now,
+            draws,
+        })
+    }
+
+    /// Draws how far more load is looked at: 2, 4, 8 or 16 times the mean load of a demand.
+    fn draw_far(&mut self, inst: &Instance) -> u128
+        requires some { 0 < length inst.now.demands }
+        requires search { IsSearch inst.now self.old }
+        ensures search { IsSearch inst.now self.new }
+    {
+        let mean = u128::from(inst.total_load() / u64::from(inst.demands())).max(1);
+        match self.draws.below(4) {
+            0 => 2 * mean,
+            1 => 4 * mean,
+            2 => 8 * mean,
+            _ => 16 * mean,
+        }
+    }
+
+    /// Takes a group off and lays it again, and tells whether each demand found a path.
+    fn try_group(&mut self, inst: &Instance, table: &StepTable) -> Result<bool, AllocError>
+        requires table { table.now ≡ inst.now }
+        requires search { IsSearch inst.now self.old }
+        requires some { 0 < length inst.now.demands }
+        ensures search { OnOk result (IsSearch inst.now self.new) }
+    {
+        let far = self.draw_far(inst);
+        destroy(inst, table, &self.group, &mut self.now);
+        if !repair(inst, table, &self.group, far, &mut self.now)? {
+            return Ok(false);
+        }
+        touch_up(inst, table, &self.group, &mut self.now)?;
+        Ok(true)
+    }
+
+    /// Keeps the paths that the group has now.
+    fn accept(&mut self, inst: &Instance) -> Result<(), AllocError>
+        requires search { IsSearch inst.now self.old }
+        ensures search { OnOk result (IsSearch inst.now self.new) }
+    {
+        keep_group(inst, &self.group, &self.now.paths, &mut self.accepted.paths)?;
+        self.accepted.cost = self.now.cost;
+        if self.now.cost < self.best.cost {
+            let _demands = inst.demands();
+            self.best.set_to(&self.now.paths, self.now.cost)?;
+        }
+        Ok(())
+    }
+
+    /// Gives the group the paths back that were accepted last.
+    fn take_back(&mut self, inst: &Instance, table: &StepTable) -> Result<(), AllocError>
+        requires table { table.now ≡ inst.now }
+        requires search { IsSearch inst.now self.old }
+        ensures search { OnOk result (IsSearch inst.now self.new) }
+    {
+        set_group_back(
+            inst,
+            table,
+            &self.group,
+            &self.accepted.paths,
+            &mut self.now,
+        )
+    }
+
+    /// One round.
+    fn round(
+        &mut self,
+        inst: &Instance,
+        table: &StepTable,
+        cooling: &Cooling,
+    ) -> Result<(), AllocError>
+        requires table { table.now ≡ inst.now }
+        requires search { IsSearch inst.now self.old }
+        requires some { 0 < length inst.now.demands }
+        ensures search { OnOk result (IsSearch inst.now self.new) }
+    {
+        draw_group(inst, &self.now.paths, &mut self.draws, &mut self.group)?;
+        if !self.try_group(inst, table)? {
+            return self.take_back(inst, table);
+        }
+        let slack = cooling.slack(self.now.searches, self.draws.ones());
+        if self.now.cost <= self.accepted.cost.saturating_add(slack) {
+            self.accept(inst)
+        } else {
+            self.take_back(inst, table)
+        }
+    }
+
+    /// Rounds until the searches are spent.
+    pub fn run(&mut self, inst: &Instance, table: &StepTable) -> Result<(), AllocError>
+        requires table { table.now ≡ inst.now }
+        requires search { IsSearch inst.now self.old }
+        ensures search { OnOk result (IsSearch inst.now self.new) }
+    {
+        if inst.demands() == 0 {
+            return Ok(());
+        }
+        let cooling = Cooling::new(inst, self.now.cost);
+        for _round in 0..cooling.limit() {
+            if self.now.searches >= cooling.limit() {
+                break;
+            }
+            self.round(inst, table, &cooling)?;
+        }
+        Ok(())
+    }
+
+    /// The paths of the cheapest design met.
+    pub fn into_best(self) -> Items<Path>
+        ensures { result ≡ self.best.paths.items }
+    {
+        Items::from_vec(self.best.paths)
+    }
+}

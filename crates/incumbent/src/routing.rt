@@ -1,0 +1,277 @@
+//! Paths of all demands, and what the links carry and cost with them.
+
+ghost use Rattle.std.specs.Prelude.{◌≡◌, ◌<◌, true, false, length, IfOk, OnOk, IfSome};
+ghost use Rattle.plan_base.specs.Arcs.{demand_at};
+ghost use Rattle.plan_base.specs.Paths.{IsSimplePath};
+ghost use Rattle.incumbent.specs.Completions.{ArePaths};
+ghost use Rattle.incumbent.specs.Routings.{IsRouting, HasSameRoutes, IsCheapestWay, is_marked};
+
+use crate::held::set_path;
+use crate::loads::{add_load, remove_load};
+use crate::weights::{no_weights, rise_along, weigh, weigh_far};
+use least_path::Room;
+use link_steps::StepTable;
+use plan_base::limits::MAX_LINKS;
+use plan_base::{DemandId, Instance, Path};
+use std::alloc::{AllocError, Global};
+
+/// A path for each demand, and what the links carry and cost with those that are laid.
+#[derive(Debug, Drop)]
+pub struct Routing {
+    pub paths: Vec<Path>,
+    /// For each demand whether its load is on the links of its path.
+    pub laid: Vec<bool>,
+    /// For each link, in load grains.
+    pub loads: [u128; MAX_LINKS],
+    /// The sum of the step costs, in cost grains.
+    pub cost: u128,
+    /// How many least paths were searched for.
+    pub searches: u32,
+    weights: Vec<Option<u128>>,
+    room: Room,
+}
+
+/// Whether a weight is less than another one, which may be missing.
+fn is_lighter(weight: u128, other: Option<u128>) -> bool {
+    match other {
+        Some(other) => weight < other,
+        None => true,
+    }
+}
+
+impl Routing {
+    /// These paths, none of them laid.
+    pub fn new(alloc: Global, inst: &Instance, paths: Vec<Path>) -> Result<Routing, AllocError>
+        requires { ArePaths inst.now paths.items }
+        ensures routing { IfOk result (IsRouting inst.now) }
+        ensures paths { IfOk result (λ routing. routing.paths.items ≡ paths.items) }
+    {
+        Ok(Routing {
+            paths,
+            laid: vec![in alloc; false; inst.demands() as usize]?,
+            loads: [0; MAX_LINKS],
+            cost: 0,
+            searches: 0,
+            weights: no_weights(alloc, inst)?,
+            room: Room::new(alloc, inst)?,
+        })
+    }
+
+    /// Lays a demand on the links of its path. One that is laid stays so.
+    pub fn put_on(&mut self, inst: &Instance, table: &StepTable, demand: DemandId)
+        requires table { table.now ≡ inst.now }
+        requires demand { demand.0 < length inst.now.demands }
+        requires routing { IsRouting inst.now self.old }
+        ensures routing { IsRouting inst.now self.new }
+        ensures paths { self.new.paths ≡ self.old.paths }
+        ensures on { is_marked self.new.laid.items demand.0 ≡ true }
+    {
+        let _demands = inst.demands();
+        let place = demand.0 as usize;
+        if self.laid[place] {
+            return;
+        }
+        let load = inst.demand(demand).load;
+        let arcs = self.paths[place].as_slice();
+        let rise = rise_along(inst, table, &self.loads, arcs, load);
+        add_load(&mut self.loads, arcs, load);
+        self.cost = self.cost.saturating_add(rise.unwrap_or(u128::MAX));
+        self.laid[place] = true;
+    }
+
+    /// Takes a demand off the links of its path, and tells what their step costs fall by, in cost grains. One that is off
+    /// stays so.
+    pub fn take_off(&mut self, inst: &Instance, table: &StepTable, demand: DemandId) -> Option<u128>
+        requires table { table.now ≡ inst.now }
+        requires demand { demand.0 < length inst.now.demands }
+        requires routing { IsRouting inst.now self.old }
+        ensures routing { IsRouting inst.now self.new }
+        ensures paths { self.new.paths ≡ self.old.paths }
+        ensures off { is_marked self.new.laid.items demand.0 ≡ false }
+    {
+        let _demands = inst.demands();
+        let place = demand.0 as usize;
+        if !self.laid[place] {
+            return None;
+        }
+        let load = inst.demand(demand).load;
+        let arcs = self.paths[place].as_slice();
+        remove_load(&mut self.loads, arcs, load);
+        let fall = rise_along(inst, table, &self.loads, arcs, load);
+        self.cost = self.cost.saturating_sub(fall.unwrap_or(0));
+        self.laid[place] = false;
+        fall
+    }
+
+    /// Searches for a path that raises the step costs least, puts it into the room, and gives the rise in cost grains.
+    fn search(
+        &mut self,
+        inst: &Instance,
+        table: &StepTable,
+        demand: DemandId,
+    ) -> Result<Option<u128>, AllocError>
+        requires table { table.now ≡ inst.now }
+        requires demand { demand.0 < length inst.now.demands }
+        requires routing { IsRouting inst.now self.old }
+        ensures routing { IsRouting inst.now self.new }
+        ensures same { HasSameRoutes self.old self.new }
+        ensures cheapest { IfOk result (λ found. IfSome found (IsCheapestWay inst.now self.new.loads (demand_at inst.now demand.0) self.new.room)) }
+    {
+        let demand = inst.demand(demand);
+        weigh(inst, table, &self.loads, demand.load, &mut self.weights);
+        self.searches = self.searches.saturating_add(1);
+        self.room
+            .search(inst, &self.weights, demand.source, demand.target)
+    }
+
+    /// Searches for a path of least weight, where far more load is looked at too, and puts it into the room.
+    fn search_far(
+        &mut self,
+        inst: &Instance,
+        table: &StepTable,
+        demand: DemandId,
+        far: u128,
+    ) -> Result<Option<u128>, AllocError>
+        requires table { table.now ≡ inst.now }
+        requires demand { demand.0 < length inst.now.demands }
+        requires routing { IsRouting inst.now self.old }
+        ensures routing { IsRouting inst.now self.new }
+        ensures same { HasSameRoutes self.old self.new }
+        ensures simple { IfOk result (λ found. IfSome found (λ _. IsSimplePath inst.now (demand_at inst.now demand.0) self.new.room)) }
+    {
+        let demand = inst.demand(demand);
+        weigh_far(
+            inst,
+            table,
+            &self.loads,
+            demand.load,
+            far,
+            &mut self.weights,
+        );
+        self.searches = self.searches.saturating_add(1);
+        self.room
+            .search(inst, &self.weights, demand.source, demand.target)
+    }
+
+    /// Gives a demand that is off the path in the room.
+    fn take_path(&mut self, inst: &Instance, demand: DemandId)
+        requires demand { demand.0 < length inst.now.demands }
+        requires routing { IsRouting inst.now self.old }
+        requires off { is_marked self.old.laid.items demand.0 ≡ false }
+        requires simple { IsSimplePath inst.now (demand_at inst.now demand.0) self.old.room }
+        ensures routing { IsRouting inst.now self.new }
+        ensures laid { self.new.laid ≡ self.old.laid }
+    {
+        let _demands = inst.demands();
+        self.room.swap(&mut self.paths[demand.0 as usize]);
+    }
+
+    /// Searches for a path that raises the step costs by less than this, and gives it to the demand, which is off.
+    fn take_cheaper(
+        &mut self,
+        inst: &Instance,
+        table: &StepTable,
+        demand: DemandId,
+        own: Option<u128>,
+    ) -> Result<bool, AllocError>
+        requires table { table.now ≡ inst.now }
+        requires demand { demand.0 < length inst.now.demands }
+        requires routing { IsRouting inst.now self.old }
+        requires off { is_marked self.old.laid.items demand.0 ≡ false }
+        ensures routing { IsRouting inst.now self.new }
+    {
+        if own == Some(0) {
+            return Ok(false);
+        }
+        let Some(rise) = self.search(inst, table, demand)? else {
+            return Ok(false);
+        };
+        if !is_lighter(rise, own) {
+            return Ok(false);
+        }
+        self.take_path(inst, demand);
+        Ok(true)
+    }
+
+    /// Moves a demand to the path that raises the step costs least, where that is cheaper than its own.
+    pub fn reroute(
+        &mut self,
+        inst: &Instance,
+        table: &StepTable,
+        demand: DemandId,
+    ) -> Result<bool, AllocError>
+        requires table { table.now ≡ inst.now }
+        requires demand { demand.0 < length inst.now.demands }
+        requires routing { IsRouting inst.now self.old }
+        ensures routing { IsRouting inst.now self.new }
+        ensures on { OnOk result (is_marked self.new.laid.items demand.0 ≡ true) }
+    {
+        let own = self.take_off(inst, table, demand);
+        let helps = self.take_cheaper(inst, table, demand, own)?;
+        self.put_on(inst, table, demand);
+        Ok(helps)
+    }
+
+    /// Lays a demand on the path that raises the step costs least, where there is one that the links can carry.
+    pub fn lay_least(
+        &mut self,
+        inst: &Instance,
+        table: &StepTable,
+        demand: DemandId,
+    ) -> Result<bool, AllocError>
+        requires table { table.now ≡ inst.now }
+        requires demand { demand.0 < length inst.now.demands }
+        requires routing { IsRouting inst.now self.old }
+        ensures routing { IsRouting inst.now self.new }
+    {
+        let _fall = self.take_off(inst, table, demand);
+        let found = self.take_cheaper(inst, table, demand, None)?;
+        if found {
+            self.put_on(inst, table, demand);
+        }
+        Ok(found)
+    }
+
+    /// Lays a demand on a path of least weight, where far more load is looked at too.
+    pub fn lay_far(
+        &mut self,
+        inst: &Instance,
+        table: &StepTable,
+        demand: DemandId,
+        far: u128,
+    ) -> Result<bool, AllocError>
+        requires table { table.now ≡ inst.now }
+        requires demand { demand.0 < length inst.now.demands }
+        requires routing { IsRouting inst.now self.old }
+        ensures routing { IsRouting inst.now self.new }
+    {
+        let _fall = self.take_off(inst, table, demand);
+        let Some(_weight) = self.search_far(inst, table, demand, far)? else {
+            return Ok(false);
+        };
+        self.take_path(inst, demand);
+        self.put_on(inst, table, demand);
+        Ok(true)
+    }
+
+    /// Lays a demand on this path, in place of its own.
+    pub fn set_back(
+        &mut self,
+        inst: &Instance,
+        table: &StepTable,
+        demand: DemandId,
+        path: &Path,
+    ) -> Result<(), AllocError>
+        requires table { table.now ≡ inst.now }
+        requires demand { demand.0 < length inst.now.demands }
+        requires routing { IsRouting inst.now self.old }
+        requires path { IsSimplePath inst.now (demand_at inst.now demand.0) path.now }
+        ensures routing { OnOk result (IsRouting inst.now self.new) }
+        ensures on { OnOk result (is_marked self.new.laid.items demand.0 ≡ true) }
+    {
+        let _fall = self.take_off(inst, table, demand);
+        set_path(&mut self.paths, demand, path)?;
+        self.put_on(inst, table, demand);
+        Ok(())
+    }
+}
