@@ -1,6 +1,6 @@
-mod Budgets
 mod SearchLaws
+mod PlannedTexts
+mod Finding
+mod Says
+mod Planned
 mod Supported
-mod StopLaws
-mod AnswerLaws
-mod OneRefusal

@@ -1,7 +1,5 @@
-pub mod Words
 pub mod Searches
-pub mod Refusals
+pub mod Plans
 pub mod Runs
 pub mod Supports
-pub mod Stops
-pub mod OneAnswer
+pub mod Found

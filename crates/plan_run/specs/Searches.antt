@@ -1,18 +1,12 @@
 -- What a search gives: a plan of a state that its events lead to.
-use Rattle.std.specs.Prelude.{ℕ, ◌≡◌, ◌≤◌}
+use Rattle.std.specs.Prelude.{ℕ, ◌≡◌}
 use Rattle.plan_base.specs.declared.parts.Parts.{Parts}
 use Rattle.proof_tree.specs.declared.plan.Plan.{Plan}
 use Rattle.proof_tree.specs.Plans.{IsValidPlan, HasItsClaim}
-use Rattle.pool_core.specs.declared.limits.TheConstants.{MAX_BUDGET}
 use Rattle.pool_core.specs.State.{State}
 use Rattle.pool_core.specs.Machine.{IsReachable}
 use Rattle.pool_core.specs.Soundness.{IsSound}
 use Rattle.pool_core.specs.PlanOf.{IsPlanOf, HasOpeningBound, PartsPaths}
-
--- so many nodes may be examined
-pub record IsBudget (budget : ℕ) : Type 0 where
-  pub some : 1 ≤ budget
-  pub within : budget ≤ MAX_BUDGET
 
 -- the plan is that of a sound state, to which events of the search for this instance and budget lead
 pub record IsOfSearch (p : Parts) (budget : ℕ) (plan : Plan) : Type 0 where

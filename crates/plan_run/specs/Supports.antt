@@ -1,50 +1,48 @@
 -- Texts that are supported: what a command ends with where it does its work for them.
-use Rattle.std.specs.Prelude.{ℕ, ◌≡◌, ◌≤◌, ◌⊎◌, List, length, Option, Some}
+use Rattle.std.specs.Prelude.{ℕ, ◌≡◌, ◌≤◌, ◌⊎◌, List, length, Option, Some, None}
 use Rattle.plan_base.specs.declared.parts.Parts.{Parts}
+use Rattle.snd_network.specs.declared.file.NetworkFile.{NetworkFile}
 use Rattle.proof_tree.specs.declared.plan.Plan.{Plan as AnyPlan}
-use Rattle.cert_format.specs.Grammar.{SpellsPlan}
 use Rattle.plan_report.specs.declared.run_fault.FileKind.{FileKind}
 use Rattle.plan_report.specs.declared.run_fault.FileKind.TheVariants as files
-use Rattle.plan_run.specs.declared.command.Command.{Command}
-use Rattle.plan_run.specs.declared.command.Command.TheVariants.{Plan, Check, Verify}
-use Rattle.plan_run.specs.declared.status.Status.{Status}
-use Rattle.plan_run.specs.declared.status.Status.TheVariants.{Good, Rejected, Infeasible, Undecided}
-use Rattle.plan_run.specs.Words.{asked_in}
-use Rattle.plan_run.specs.Refusals.{most_bytes, Reads, HasFewSteps}
+use Rattle.command_words.specs.declared.command.Command.{Command}
+use Rattle.command_words.specs.declared.command.Command.TheVariants.{Plan, Check, Verify}
+use Rattle.command_words.specs.Words.{Word, command_in}
+use Rattle.plan_texts.specs.declared.status.Status.{Status}
+use Rattle.plan_texts.specs.declared.status.Status.TheVariants.{Good, Rejected, Infeasible, Undecided}
+use Rattle.plan_texts.specs.Texts.{Text, Name, Told, Texts, most_bytes}
+use Rattle.plan_texts.specs.Refusals.{IsProblem}
+use Rattle.plan_run.specs.Runs.{names_of}
 
 -- the shelf tells this text of this name, and it is within the limit of its kind
-pub record IsTold (shelf : List ℕ → Option (List ℕ)) (file : FileKind) (name text : List ℕ) : Type 0 where
+pub record IsTold (shelf : Told) (file : FileKind) (name : Name) (text : Text) : Type 0 where
   pub told : shelf name ≡ Some text
   pub within : length text ≤ most_bytes file
 
--- the shelf tells a text of this name that spells a plan
-pub record TellsPlan (shelf : List ℕ → Option (List ℕ)) (name : List ℕ) : Type 0 where
-  pub text : List ℕ
-  pub plan : AnyPlan
-  pub is_told : IsTold shelf files.Plan name text
-  pub spelt : SpellsPlan text plan
+-- the same of a plan text, where one is named
+abbrev pub IsPlanTold : Told → Option Name → Option Text → Type 0
+IsPlanTold shelf None None = Unit {0}
+IsPlanTold shelf (Some name) (Some text) = IsTold shelf files.Plan name text
+IsPlanTold shelf name text = ⊥
 
--- the same of the plan of a command, where it has one
-abbrev pub TellsItsPlan : (List ℕ → Option (List ℕ)) → Command (List ℕ) → Type 0
-TellsItsPlan shelf (Plan budget) = Unit {0}
-TellsItsPlan shelf Check = Unit {0}
-TellsItsPlan shelf (Verify name) = TellsPlan shelf name
+-- the shelf tells the texts of these names, and they spell an instance within its limits, and a plan where one is named
+pub record AreToldWell (shelf : Told) (names : Texts) : Type 0 where
+  pub texts : Texts
+  pub network_told : IsTold shelf files.Network names.network texts.network
+  pub model_told : IsTold shelf files.Model names.model texts.model
+  pub plan_told : IsPlanTold shelf names.plan texts.plan
+  pub net : NetworkFile
+  pub parts : Parts
+  pub plan : Option AnyPlan
+  pub problem : IsProblem texts net parts plan
 
 -- the words ask for the command, and the shelf tells the texts that they name: an instance within its limits, and a plan where one is named
-pub record AreSupported (words : List (List ℕ)) (shelf : List ℕ → Option (List ℕ)) (command : Command (List ℕ)) : Type 0 where
-  pub names : List ℕ × List ℕ
-  pub asked : asked_in words ≡ Some (command, names)
-  pub network : List ℕ
-  pub model : List ℕ
-  pub network_told : IsTold shelf files.Network names.0 network
-  pub model_told : IsTold shelf files.Model names.1 model
-  pub plan_told : TellsItsPlan shelf command
-  pub parts : Parts
-  pub reads : Reads network model parts
-  pub few_steps : HasFewSteps parts
+pub record AreSupported (words : List Word) (shelf : Told) (command : Command Word) : Type 0 where
+  pub asked : command_in words ≡ Some command
+  pub texts : AreToldWell shelf (names_of command)
 
 -- how a command ends that does its work
-abbrev pub EndsWith : Command (List ℕ) → Status → Type 0
-EndsWith (Plan budget) status = (status ≡ Good) ⊎ (status ≡ Infeasible) ⊎ (status ≡ Undecided)
-EndsWith Check status = status ≡ Good
-EndsWith (Verify plan) status = (status ≡ Good) ⊎ (status ≡ Rejected)
+abbrev pub EndsWith : Command Word → Status → Type 0
+EndsWith (Plan network model budget) status = (status ≡ Good) ⊎ (status ≡ Infeasible) ⊎ (status ≡ Undecided)
+EndsWith (Check network model) status = status ≡ Good
+EndsWith (Verify network model plan) status = (status ≡ Good) ⊎ (status ≡ Rejected)

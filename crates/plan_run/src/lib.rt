@@ -3,24 +3,17 @@
 //! Promises that a plan that is written is a valid one of the instance that the texts spell, with the budget
 //! that the words give, so that what it claims is so; that exactly the valid plans are accepted; that each
 //! other answer has its cause; and that the sink holds exactly the text of the answer. Begin at `run`, whose
-//! words are in `specs/Runs.antt`. Stands on the readers, the pool, the verifier and the shelves and sinks;
-//! how the search goes is left to `pool_core`, and which plan is valid to `cert_verifier`.
+//! words are in `specs/Runs.antt`. Stands on `command_words`, which reads the words, on `plan_texts`, which reads,
+//! refuses and verifies texts, and on the pool; how the search goes is left to `pool_core`.
 #![tactic(auto)]
 
-mod answer;
-mod command;
+mod commands;
 pub mod laws;
 mod planning;
-mod reading;
 mod searching;
-mod status;
-mod stop;
 mod top_call;
 
-pub use command::Command;
+pub use plan_texts::Status;
 pub use searching::search;
-pub use status::Status;
 pub use top_call::run;
 
-#[cfg(test)]
-mod tests;

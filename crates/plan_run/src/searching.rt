@@ -3,7 +3,8 @@
 ghost use Rattle.std.specs.Prelude.{◌≡◌, IfOk};
 ghost use Rattle.std.specs.Arc.{arc_value};
 ghost use Rattle.proof_tree.specs.Spellings.{IsSpellable};
-ghost use Rattle.plan_run.specs.Searches.{IsBudget, IsSearched};
+ghost use Rattle.command_words.specs.Words.{IsBudget};
+ghost use Rattle.plan_run.specs.Searches.{IsSearched};
 
 use link_steps::StepTable;
 use plan_base::Instance;

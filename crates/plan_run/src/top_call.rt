@@ -2,12 +2,12 @@
 
 ghost use Rattle.std.specs.Prelude.{◌≡◌, ◌≤◌, ◌⊎◌, map, string_bytes, IsSome};
 ghost use Rattle.plan_io.specs.Causes.{Rose};
-ghost use Rattle.plan_run.specs.Words.{asked_in};
+ghost use Rattle.command_words.specs.Words.{command_in};
 ghost use Rattle.plan_run.specs.Runs.{IsRun, IsOwnAnswer};
 
-use crate::answer::make_answer;
-use crate::status::Status;
-use plan_io::{Gate, Shelf, Sink, write_whole};
+use crate::commands::answer_to;
+use plan_io::{Gate, Shelf, Sink};
+use plan_texts::{Status, write_answer};
 use std::alloc::Global;
 
 /// Runs the command of these words, and writes its answer. Nothing is written before the whole
@@ -18,7 +18,7 @@ use std::alloc::Global;
 /// - Gives: how the run ended.
 /// - Rule: docs/DEFINITIONS.md, "Runs"; docs/FORMATS.md.
 /// - Time: linear in the texts' bytes, and that of the search or of verifying the plan.
-#[tactic(auto, using(crate::proofs::AnswerLaws::says_answer))]
+#[tactic(auto, using(crate::proofs::Says::run_says, crate::proofs::Says::own_answer, crate::proofs::Says::read_rose, crate::proofs::Says::no_write_fault))]
 pub fn run<S: Shelf, W: Sink, G: Gate>(
     alloc: Global,
     words: &[String],
@@ -32,16 +32,11 @@ pub fn run<S: Shelf, W: Sink, G: Gate>(
     ensures write_fault { result ≡ Status.WriteFault → Rose (W.faults out.old) (W.faults out.new) }
 
     // Words that are read have no other answer, unless something outside failed.
-    ensures complete { IsSome (asked_in (map string_bytes words.now)) → IsOwnAnswer result
+    ensures complete { IsSome (command_in (map string_bytes words.now)) → IsOwnAnswer result
         ⊎ Rose (S.faults shelf.old) (S.faults shelf.new) ⊎ Rose (W.faults out.old) (W.faults out.new) }
     ensures shelf_later { S.faults shelf.old ≤ S.faults shelf.new }
     ensures sink_later { W.faults out.old ≤ W.faults out.new }
 {
-    let Ok(answer) = make_answer(alloc, words, shelf, gate) else {
-        return Status::OutOfMemory;
-    };
-    match write_whole(out, answer.text.as_slice()) {
-        Ok(()) => answer.status,
-        Err(_) => Status::WriteFault,
-    }
+    let found = answer_to(alloc, words, shelf, gate);
+    write_answer(alloc, out, found)
 }

@@ -1,4 +1,4 @@
-use Rattle.plan_run.proofs.OneRefusal.{spelt_where_planned, good_where_planned}
+use Rattle.plan_run.proofs.Planned.{spelt_where_planned, good_where_planned}
 use Rattle.plan_run.proofs.laws.accepted_where_planned.Goals as goal
 
 pub returns-clause-spelt : goal.returns-clause-spelt

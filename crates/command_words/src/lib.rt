@@ -1,0 +1,9 @@
+//! The words of a command line, and the command that they ask for.
+//!
+//! Promises that a command is read exactly where the words spell one, with the names and the numbers that they give.
+//! Begin at `command_in`; what the words spell is in `specs/Words.antt`. Knows nothing of texts, and runs nothing.
+#![tactic(auto)]
+
+mod command;
+
+pub use command::{Command, command_in};

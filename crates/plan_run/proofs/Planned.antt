@@ -1,0 +1,41 @@
+-- What is done is not refused, and the plan that is written is accepted.
+use Rattle.std.proofs.Common.{◌≡◌, ℕ, List, Option, Some, None}
+use Rattle.plan_base.specs.declared.parts.Parts.{Parts}
+use Rattle.snd_network.specs.declared.file.NetworkFile.{NetworkFile}
+use Rattle.proof_tree.specs.declared.plan.Plan.{Plan as AnyPlan}
+use Rattle.plan_report.specs.declared.run_fault.RunFault.{RunFault}
+use Rattle.command_words.specs.declared.command.Command.{Command}
+use Rattle.command_words.specs.declared.command.Command.TheVariants.{Plan, Check, Verify}
+use Rattle.command_words.specs.Words.{Word}
+use Rattle.plan_texts.specs.declared.status.Status.{Status}
+use Rattle.plan_texts.specs.declared.status.Status.TheVariants.{Good}
+use Rattle.plan_texts.specs.Texts.{Text, Texts, two, three}
+use Rattle.plan_texts.specs.Refusals.{Reads, IsProblem, AreRefused}
+use Rattle.plan_texts.specs.Answers.{IsVerified}
+use Rattle.plan_texts.specs.OneAnswer.{Below}
+use Rattle.plan_texts.proofs.OneRefusal.{refused_or_read, verdict-of, good-if}
+use Rattle.plan_run.specs.Plans.{IsPlanDone}
+use Rattle.plan_run.specs.Runs.{IsDone}
+
+pub refused_or_done : Below → (command : Command Word) (texts : Texts) (fault : RunFault) (status : Status) (bytes : List ℕ) → AreRefused texts fault → IsDone command texts status bytes → ⊥
+refused_or_done below (Plan network model budget) texts fault status bytes refused done = refused_or_read below texts done.net done.parts done.plan fault refused done.problem
+refused_or_done below (Check network model) texts fault status bytes refused done = refused_or_read below texts done.net done.parts done.plan fault refused done.problem
+refused_or_done below (Verify network model plan) texts fault status bytes refused done = refused_or_read below texts done.net done.parts done.plan fault refused done.problem
+
+-- what network and model read as does not depend on a plan
+reads-with : (network model text : Text) (net : NetworkFile) (parts : Parts) → Reads (two network model) net parts → Reads (three network model text) net parts
+reads-with network model text net parts reads = record { options = reads.options; network_text = reads.network_text; model_text = reads.model_text; stands = reads.stands; lawful = reads.lawful }
+
+pub spelt_where_planned : Below → (budget : ℕ) (network model text : Text) (status : Status) (fault : RunFault) → IsPlanDone budget (two network model) status text → AreRefused (three network model text) fault → ⊥
+spelt_where_planned below budget network model text status fault done refused =
+    refused_or_read below (three network model text) done.net done.parts (Some done.holds.plan) fault refused record {
+      reads = reads-with network model text done.net done.parts done.problem.reads;
+      plan_text = done.holds.text;
+      few_steps = done.problem.few_steps;
+    }
+
+pub good_where_planned : Below → (budget : ℕ) (network model text : Text) (status other : Status) (bytes : List ℕ) → IsPlanDone budget (two network model) status text → IsVerified (three network model text) other bytes → other ≡ Good
+good_where_planned below budget network model text status other bytes done verified =
+    good-if done.parts done.holds.plan other bytes
+      (verdict-of below (three network model text) done.net done.parts done.holds.plan other bytes (reads-with network model text done.net done.parts done.problem.reads) done.holds.text verified)
+      done.holds.searched.valid

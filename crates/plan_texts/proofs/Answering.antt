@@ -1,0 +1,31 @@
+-- What is written of a problem is what is written of the texts that spell it.
+use Rattle.std.proofs.Common.{ℕ, ◌<◌, List, length, take, Option, Some, None, Result, refl}
+use Rattle.std.specs.Io.KnownBytes.{Appends}
+use Rattle.plan_base.specs.declared.parts.Parts.{Parts}
+use Rattle.snd_network.specs.declared.file.NetworkFile.{NetworkFile}
+use Rattle.proof_tree.specs.declared.plan.Plan.{Plan}
+use Rattle.plan_texts.specs.declared.answer.Answer.{Answer}
+use Rattle.plan_texts.specs.declared.stop.Stop.{Stop}
+use Rattle.plan_texts.specs.declared.status.Status.{Status}
+use Rattle.plan_texts.specs.declared.status.Status.TheVariants.{WriteFault}
+use Rattle.plan_texts.specs.Texts.{Told, Texts, HoldsOfTexts}
+use Rattle.plan_texts.specs.Refusals.{IsProblem, HoldsOfProblem}
+use Rattle.plan_texts.specs.Answers.{IsCheck, IsVerdict, IsChecked, IsVerified, IsWhole, IsWritten, whole, cut}
+
+-- what holds of what the texts spell holds of a problem of the texts
+pub of_problem : (names : Texts) (shelf : Told) (begun : ℕ) (net : NetworkFile) (parts : Parts) (plan : Option Plan) (Holds : NetworkFile → Parts → Option Plan → Type 0) → HoldsOfTexts shelf names begun (λ texts. IsProblem texts net parts plan) → Holds net parts plan → HoldsOfTexts shelf names begun (λ texts. HoldsOfProblem texts Holds)
+of_problem names shelf begun net parts plan Holds h holds = record { texts = h.texts; read = h.read; holds = record { net = net; parts = parts; plan = plan; problem = h.holds; holds = holds } }
+
+pub checked_texts : (names : Texts) (shelf : Told) (begun : ℕ) (net : NetworkFile) (parts : Parts) (status : Status) (bytes : List ℕ) → HoldsOfTexts shelf names begun (λ texts. IsProblem texts net parts None) → IsCheck parts status bytes → HoldsOfTexts shelf names begun (λ texts. IsChecked texts status bytes)
+checked_texts names shelf begun net parts status bytes h is = of_problem names shelf begun net parts None (λ net parts plan. IsCheck parts status bytes) h is
+
+pub verified_texts : (names : Texts) (shelf : Told) (begun : ℕ) (net : NetworkFile) (parts : Parts) (plan : Plan) (status : Status) (bytes : List ℕ) → HoldsOfTexts shelf names begun (λ texts. IsProblem texts net parts (Some plan)) → IsVerdict parts plan status bytes → HoldsOfTexts shelf names begun (λ texts. IsVerified texts status bytes)
+verified_texts names shelf begun net parts plan status bytes h is = record { texts = h.texts; read = h.read; holds = record { net = net; parts = parts; plan = Some plan; problem = h.holds; holds = is } }
+
+-- ---- what is written of an answer
+
+pub written_whole : (found : Result Answer Stop) (before now : Option (List ℕ)) (status : Status) (text : List ℕ) → IsWhole found status text → Appends before now text → IsWritten found before now status
+written_whole found before now status text is appends = whole text is appends
+
+pub written_cut : (found : Result Answer Stop) (before now : Option (List ℕ)) (status : Status) (text : List ℕ) (written : ℕ) → IsWhole found status text → written < length text → Appends before now (take written text) → IsWritten found before now WriteFault
+written_cut found before now status text written is short appends = cut status text written is short appends refl

@@ -1,0 +1,4 @@
+pub mod Begins
+pub mod Answering
+mod StopLaws
+pub mod OneRefusal

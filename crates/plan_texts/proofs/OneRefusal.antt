@@ -1,0 +1,254 @@
+-- Two texts are refused in one way at most, and not where a command does its work for them.
+use Rattle.std.proofs.Common.{◌≡◌, ◌≢◌, ◌↔◌, ◌⊎◌, ◌<◌, ℕ, List, Option, Some, refl, sym, ap, subst, ◌∙◌, inl, inr}
+use Rattle.std.specs.Prelude.{IsSomeAnd, None}
+use Rattle.std.proofs.lemmas.Bool.{cases_order}
+use Rattle.plan_base.specs.declared.parts.Parts.{Parts}
+use Rattle.plan_base.specs.declared.build_fault.BuildFault.TheVariants as build
+use Rattle.plan_base.specs.Facts.{total_load}
+use Rattle.plan_base.specs.Arcs.{link_at}
+use Rattle.snd_reader.specs.declared.fault.TextFault.{TextFault}
+use Rattle.snd_reader.specs.declared.fault.TextFault.TheVariants as text_faults
+use Rattle.snd_network.specs.declared.file.NetworkFile.{NetworkFile}
+use Rattle.snd_network.specs.Spelling.{SpellsNetwork}
+use Rattle.snd_network.specs.Spelling.{IsFault as IsNetworkFault}
+use Rattle.snd_model.specs.declared.file.ModelFile.{ModelFile}
+use Rattle.snd_model.specs.Spelling.{SpellsModel}
+use Rattle.snd_model.specs.Spelling.{IsFault as IsModelFault}
+use Rattle.model_check.specs.declared.fault.CheckFault.{CheckFault}
+use Rattle.model_check.specs.declared.fault.CheckFault.TheVariants as check_faults
+use Rattle.model_check.specs.Reading.{ReadsAs}
+use Rattle.model_check.specs.Refusals.{IsCheckFault}
+use Rattle.link_steps.specs.declared.limits.TheConstants.{MAX_STEPS}
+use Rattle.link_steps.specs.Costs.{IsFirstPastSteps}
+use Rattle.proof_tree.specs.declared.plan.Plan.{Plan}
+use Rattle.proof_tree.specs.Plans.{IsValidPlan}
+use Rattle.cert_format.specs.declared.fault.PlanFault.{PlanFault}
+use Rattle.cert_format.specs.declared.fault.PlanFault.TheVariants as plan_faults
+use Rattle.cert_format.specs.Faults.{IsFault as IsPlanTextFault}
+use Rattle.cert_verifier.specs.declared.rejected.Rejected.{Rejected as Rejection}
+use Rattle.plan_report.specs.Verdicts.{rejected_line}
+use Rattle.plan_report.specs.declared.run_fault.FileKind.TheVariants as files
+use Rattle.plan_report.specs.declared.run_fault.RunFault.{RunFault}
+use Rattle.plan_report.specs.declared.run_fault.RunFault.TheVariants as faults
+use Rattle.plan_texts.specs.declared.status.Status.{Status}
+use Rattle.plan_texts.specs.declared.status.Status.TheVariants.{Good, Rejected}
+use Rattle.plan_texts.specs.Texts.{Texts}
+use Rattle.plan_texts.specs.Refusals.{Reads, SpellsItsPlan, HasItsPlan, HasFewSteps, misplaced, ended, IsPlanRefused, AreSpelt, IsMisfit, IsPastSteps, AreRefused, IsProblem}
+use Rattle.plan_texts.specs.Answers.{IsRejection, IsVerdict, accepted, rejected, IsVerified}
+use Rattle.plan_texts.specs.OneAnswer.{Below}
+
+-- of two faults that are not want of memory, they are one
+only-one : {F : Type 0} (memory f g : F) → f ≢ memory → g ≢ memory → (f ≡ memory) ⊎ ((g ≡ memory) ⊎ (f ≡ g)) → f ≡ g
+only-one memory f g some other (inl bad) = absurd (some bad)
+only-one memory f g some other (inr (inl bad)) = absurd (other bad)
+only-one memory f g some other (inr (inr same)) = same
+
+-- the refusal of a run for what is wrong with two files
+abbrev told_of : CheckFault → RunFault
+told_of (check_faults.Unsupported key value) = faults.Unsupported key value
+told_of (check_faults.Build (build.LoopLink link)) = faults.LoopLink link
+told_of (check_faults.Build (build.LoopDemand demand)) = faults.LoopDemand demand
+told_of (check_faults.Build (build.OverLimit limit at)) = faults.OverLimit limit at
+told_of (check_faults.Build fault) = faults.Usage
+told_of check_faults.OutOfMemory = faults.Usage
+
+-- the two files are refused so
+record IsOfFiles (texts : Texts) (fault : RunFault) : Type 0 where
+  cause : CheckFault
+  misfit : IsMisfit texts cause
+  real : cause ≢ check_faults.OutOfMemory
+  told : fault ≡ told_of cause
+
+-- why two texts are refused, by what is spelt of them
+data Cause (texts : Texts) (fault : RunFault) : Type 0 where
+  of_network : (f : TextFault) → IsNetworkFault texts.network f → f ≢ text_faults.OutOfMemory → fault ≡ faults.Text files.Network f → Cause texts fault
+  of_model : (f : TextFault) (net : NetworkFile) → SpellsNetwork texts.network net → IsModelFault texts.model f → f ≢ text_faults.OutOfMemory → fault ≡ faults.Text files.Model f → Cause texts fault
+  of_plan : (rule at : ℕ) → AreSpelt texts → IsPlanRefused texts.plan rule at → fault ≡ faults.PlanText rule at → Cause texts fault
+  of_files : IsOfFiles texts fault → Cause texts fault
+  of_steps : (limit at : ℕ) → IsPastSteps texts limit at → fault ≡ faults.OverLimit limit at → Cause texts fault
+
+of-limit : (texts : Texts) (limit at : ℕ) → IsMisfit texts (check_faults.Build (build.OverLimit limit at)) ⊎ IsPastSteps texts limit at → Cause texts (faults.OverLimit limit at)
+of-limit texts limit at (inl misfit) = of_files record { cause = check_faults.Build (build.OverLimit limit at); misfit = misfit; real = λ same. cc; told = refl }
+of-limit texts limit at (inr past) = of_steps limit at past refl
+
+cause-of : (texts : Texts) (fault : RunFault) → AreRefused texts fault → Cause texts fault
+cause-of texts (faults.Text files.Network f) is = of_network f is.0 is.1 refl
+cause-of texts (faults.Text files.Model f) is = of_model f is.0.0 is.0.1 is.1 is.2 refl
+cause-of texts (faults.Text files.Plan f) is = absurd is
+cause-of texts (faults.LoopLink link) is = of_files record { cause = check_faults.Build (build.LoopLink link); misfit = is; real = λ same. cc; told = refl }
+cause-of texts (faults.LoopDemand demand) is = of_files record { cause = check_faults.Build (build.LoopDemand demand); misfit = is; real = λ same. cc; told = refl }
+cause-of texts (faults.Unsupported key value) is = of_files record { cause = check_faults.Unsupported key value; misfit = is; real = λ same. cc; told = refl }
+cause-of texts (faults.OverLimit limit at) is = of-limit texts limit at is
+cause-of texts faults.Usage is = absurd is
+cause-of texts (faults.PlanText rule at) is = of_plan rule at is.0 is.1 refl
+cause-of texts (faults.TooLong file) is = absurd is
+cause-of texts (faults.Read file) is = absurd is
+
+-- ---- what excludes what
+
+no-network : Below → (network : List ℕ) (f : TextFault) (net : NetworkFile) → IsNetworkFault network f → f ≢ text_faults.OutOfMemory → SpellsNetwork network net → ⊥
+no-network below network f net is some spelt = some (below.spelt_network network net f spelt is)
+
+no-model : Below → (model : List ℕ) (f : TextFault) (options : ModelFile) → IsModelFault model f → f ≢ text_faults.OutOfMemory → SpellsModel model options → ⊥
+no-model below model f options is some spelt = some (below.spelt_model model options f spelt is)
+
+no-plan : Below → (text : Option (List ℕ)) (rule at : ℕ) → IsPlanRefused text rule at → HasItsPlan text → ⊥
+no-plan below None rule at refused has = refused
+no-plan below (Some text) rule at refused (None, spelt) = spelt
+no-plan below (Some text) rule at (misplaced first is) (Some plan, spelt) =
+    let none : plan_faults.Line at ≡ plan_faults.OutOfMemory = below.spelt_plan text plan (plan_faults.Line at) spelt is in cc
+no-plan below (Some text) rule at (ended second is) (Some plan, spelt) =
+    let none : plan_faults.Ended at ≡ plan_faults.OutOfMemory = below.spelt_plan text plan (plan_faults.Ended at) spelt is in cc
+
+-- two faults of a plan text that are not want of memory are one
+one-fault : Below → (text : List ℕ) (f g : PlanFault) → IsPlanTextFault text f → IsPlanTextFault text g → f ≢ plan_faults.OutOfMemory → g ≢ plan_faults.OutOfMemory → f ≡ g
+one-fault below text f g is has some other = only-one plan_faults.OutOfMemory f g some other (below.one_plan_fault text f g is has)
+
+same-plan : Below → (text : Option (List ℕ)) (rule at number place : ℕ) → IsPlanRefused text rule at → IsPlanRefused text number place → faults.PlanText rule at ≡ faults.PlanText number place
+same-plan below None rule at number place one two = absurd one
+same-plan below (Some text) rule at number place (misplaced first is) (misplaced other has) =
+    let both : plan_faults.Line at ≡ plan_faults.Line place = one-fault below text (plan_faults.Line at) (plan_faults.Line place) is has (λ same. cc) (λ same. cc) in
+    let places : at ≡ place = cc in
+    rw (first, other, places) refl
+same-plan below (Some text) rule at number place (misplaced first is) (ended other has) =
+    let both : plan_faults.Line at ≡ plan_faults.Ended place = one-fault below text (plan_faults.Line at) (plan_faults.Ended place) is has (λ same. cc) (λ same. cc) in absurd cc
+same-plan below (Some text) rule at number place (ended first is) (misplaced other has) =
+    let both : plan_faults.Ended at ≡ plan_faults.Line place = one-fault below text (plan_faults.Ended at) (plan_faults.Line place) is has (λ same. cc) (λ same. cc) in absurd cc
+same-plan below (Some text) rule at number place (ended first is) (ended other has) =
+    let both : plan_faults.Ended at ≡ plan_faults.Ended place = one-fault below text (plan_faults.Ended at) (plan_faults.Ended place) is has (λ same. cc) (λ same. cc) in
+    let places : at ≡ place = cc in
+    rw (first, other, places) refl
+
+no-files : Below → (texts : Texts) (cause : CheckFault) (net : NetworkFile) (parts : Parts) → IsMisfit texts cause → cause ≢ check_faults.OutOfMemory → Reads texts net parts → ⊥
+no-files below texts cause net parts misfit some reads =
+    let nets : misfit.net ≡ net = below.one_network texts.network misfit.net net misfit.network_text reads.network_text in
+    let models : misfit.options ≡ reads.options = below.one_model texts.model misfit.options reads.options misfit.model_text reads.model_text in
+    let is : IsCheckFault net reads.options cause = subst (λ (o : ModelFile). IsCheckFault net o cause) models (subst (λ (n : NetworkFile). IsCheckFault n misfit.options cause) nets misfit.is) in
+    some (below.no_refusal net reads.options parts cause reads.stands reads.lawful is)
+
+same-parts : Below → (texts : Texts) (one_net other_net : NetworkFile) (a b : Parts) → Reads texts one_net a → Reads texts other_net b → a ≡ b
+same-parts below texts one_net other_net a b one other =
+    let nets : one_net ≡ other_net = below.one_network texts.network one_net other_net one.network_text other.network_text in
+    let models : one.options ≡ other.options = below.one_model texts.model one.options other.options one.model_text other.model_text in
+    below.one_instance other_net other.options a b (subst (λ (o : ModelFile). ReadsAs other_net o a) models (subst (λ (n : NetworkFile). ReadsAs n one.options a) nets one.stands)) other.stands
+
+no-steps : Below → (texts : Texts) (limit at : ℕ) (net : NetworkFile) (parts : Parts) → IsPastSteps texts limit at → Reads texts net parts → HasFewSteps parts → ⊥
+no-steps below texts limit at net parts past reads few =
+    let same : past.parts ≡ parts = same-parts below texts past.net net past.parts parts past.reads reads in
+    let first : IsFirstPastSteps parts at = subst (λ (p : Parts). IsFirstPastSteps p at) same past.first in
+    below.few_or_many (link_at parts at) (total_load parts) MAX_STEPS (few at first.within) first.more
+
+same-link : Below → (p : Parts) (at other : ℕ) → IsFirstPastSteps p at → IsFirstPastSteps p other → (at ≡ other) ⊎ ((at < other) ⊎ (other < at)) → at ≡ other
+same-link below p at other one two (inl same) = same
+same-link below p at other one two (inr (inl before)) = absurd (below.few_or_many (link_at p at) (total_load p) MAX_STEPS (two.before at before) one.more)
+same-link below p at other one two (inr (inr after)) = absurd (below.few_or_many (link_at p other) (total_load p) MAX_STEPS (one.before other after) two.more)
+
+same-steps : Below → (texts : Texts) (limit at bound place : ℕ) → IsPastSteps texts limit at → IsPastSteps texts bound place → faults.OverLimit limit at ≡ faults.OverLimit bound place
+same-steps below texts limit at bound place one two =
+    let same : one.parts ≡ two.parts = same-parts below texts one.net two.net one.parts two.parts one.reads two.reads in
+    let first : IsFirstPastSteps two.parts at = subst (λ (p : Parts). IsFirstPastSteps p at) same one.first in
+    let places : at ≡ place = same-link below two.parts at place first two.first (cases_order at place) in
+    let limits : limit ≡ bound = one.ninth ∙ sym two.ninth in
+    rw (limits, places) refl
+
+same-files : Below → (texts : Texts) (a b : RunFault) → IsOfFiles texts a → IsOfFiles texts b → a ≡ b
+same-files below texts a b one two =
+    let nets : one.misfit.net ≡ two.misfit.net = below.one_network texts.network one.misfit.net two.misfit.net one.misfit.network_text two.misfit.network_text in
+    let models : one.misfit.options ≡ two.misfit.options = below.one_model texts.model one.misfit.options two.misfit.options one.misfit.model_text two.misfit.model_text in
+    let is : IsCheckFault two.misfit.net two.misfit.options one.cause = subst (λ (o : ModelFile). IsCheckFault two.misfit.net o one.cause) models (subst (λ (n : NetworkFile). IsCheckFault n one.misfit.options one.cause) nets one.misfit.is) in
+    let same : one.cause ≡ two.cause = only-one check_faults.OutOfMemory one.cause two.cause one.real two.real (below.one_check_fault two.misfit.net two.misfit.options one.cause two.cause is two.misfit.is) in
+    one.told ∙ ap told_of same ∙ sym two.told
+
+-- ---- one refusal
+
+same-cause : Below → (texts : Texts) (a b : RunFault) → Cause texts a → Cause texts b → a ≡ b
+same-cause below texts a b (of_network f is some told) (of_network g has other say) =
+    told ∙ ap (λ (h : TextFault). faults.Text files.Network h) (only-one text_faults.OutOfMemory f g some other (below.one_network_fault texts.network f g is has)) ∙ sym say
+same-cause below texts a b (of_network f is some told) (of_model g net spelt has other say) = absurd (no-network below texts.network f net is some spelt)
+same-cause below texts a b (of_network f is some told) (of_files of) = absurd (no-network below texts.network f of.misfit.net is some of.misfit.network_text)
+same-cause below texts a b (of_network f is some told) (of_steps limit at past say) = absurd (no-network below texts.network f past.net is some past.reads.network_text)
+same-cause below texts a b (of_model g net spelt has other say) (of_network f is some told) = absurd (no-network below texts.network f net is some spelt)
+same-cause below texts a b (of_model f net spelt is some told) (of_model g other_net other_spelt has other say) =
+    told ∙ ap (λ (h : TextFault). faults.Text files.Model h) (only-one text_faults.OutOfMemory f g some other (below.one_model_fault texts.model f g is has)) ∙ sym say
+same-cause below texts a b (of_model f net spelt is some told) (of_files of) = absurd (no-model below texts.model f of.misfit.options is some of.misfit.model_text)
+same-cause below texts a b (of_model f net spelt is some told) (of_steps limit at past say) = absurd (no-model below texts.model f past.reads.options is some past.reads.model_text)
+same-cause below texts a b (of_files of) (of_network f is some told) = absurd (no-network below texts.network f of.misfit.net is some of.misfit.network_text)
+same-cause below texts a b (of_files of) (of_model f net spelt is some told) = absurd (no-model below texts.model f of.misfit.options is some of.misfit.model_text)
+same-cause below texts a b (of_files of) (of_files other) = same-files below texts a b of other
+same-cause below texts a b (of_files of) (of_steps limit at past say) = absurd (no-files below texts of.cause past.net past.parts of.misfit of.real past.reads)
+same-cause below texts a b (of_steps limit at past say) (of_network f is some told) = absurd (no-network below texts.network f past.net is some past.reads.network_text)
+same-cause below texts a b (of_steps limit at past say) (of_model f net spelt is some told) = absurd (no-model below texts.model f past.reads.options is some past.reads.model_text)
+same-cause below texts a b (of_steps limit at past say) (of_files of) = absurd (no-files below texts of.cause past.net past.parts of.misfit of.real past.reads)
+same-cause below texts a b (of_steps limit at past say) (of_steps bound place other told) = say ∙ same-steps below texts limit at bound place past other ∙ sym told
+same-cause below texts a b (of_plan rule at spelling bad told) (of_network g has other say) = absurd (no-network below texts.network g spelling.net has other spelling.network_text)
+same-cause below texts a b (of_network g has other say) (of_plan rule at spelling bad told) = absurd (no-network below texts.network g spelling.net has other spelling.network_text)
+same-cause below texts a b (of_plan rule at spelling bad told) (of_model g net spelt has other say) = absurd (no-model below texts.model g spelling.options has other spelling.model_text)
+same-cause below texts a b (of_model g net spelt has other say) (of_plan rule at spelling bad told) = absurd (no-model below texts.model g spelling.options has other spelling.model_text)
+same-cause below texts a b (of_plan rule at spelling bad told) (of_files of) = absurd (no-plan below texts.plan rule at bad of.misfit.plan_text)
+same-cause below texts a b (of_files of) (of_plan rule at spelling bad told) = absurd (no-plan below texts.plan rule at bad of.misfit.plan_text)
+same-cause below texts a b (of_plan rule at spelling bad told) (of_steps limit link past say) = absurd (no-plan below texts.plan rule at bad past.plan_text)
+same-cause below texts a b (of_steps limit link past say) (of_plan rule at spelling bad told) = absurd (no-plan below texts.plan rule at bad past.plan_text)
+same-cause below texts a b (of_plan rule at spelling bad told) (of_plan number place others worse say) = told ∙ same-plan below texts.plan rule at number place bad worse ∙ sym say
+
+pub one_refusal : Below → (texts : Texts) (a b : RunFault) → AreRefused texts a → AreRefused texts b → a ≡ b
+one_refusal below texts a b one other = same-cause below texts a b (cause-of texts a one) (cause-of texts b other)
+
+-- ---- what reads is not refused
+
+not-read : Below → (texts : Texts) (net : NetworkFile) (parts : Parts) (plan : Option Plan) (fault : RunFault) → Cause texts fault → IsProblem texts net parts plan → ⊥
+not-read below texts net parts plan fault (of_network f is some told) problem = no-network below texts.network f net is some problem.reads.network_text
+not-read below texts net parts plan fault (of_model f other spelt is some told) problem = no-model below texts.model f problem.reads.options is some problem.reads.model_text
+not-read below texts net parts plan fault (of_plan rule at spelling bad told) problem = no-plan below texts.plan rule at bad (plan, problem.plan_text)
+not-read below texts net parts plan fault (of_files of) problem = no-files below texts of.cause net parts of.misfit of.real problem.reads
+not-read below texts net parts plan fault (of_steps limit at past told) problem = no-steps below texts limit at net parts past problem.reads problem.few_steps
+
+pub refused_or_read : Below → (texts : Texts) (net : NetworkFile) (parts : Parts) (plan : Option Plan) (fault : RunFault) → AreRefused texts fault → IsProblem texts net parts plan → ⊥
+refused_or_read below texts net parts plan fault refused problem = not-read below texts net parts plan fault (cause-of texts fault refused) problem
+
+-- ---- one verdict
+
+-- a verdict on what the texts spell is one on their one instance and their one plan
+of-plan : Below → (texts : Texts) (one_net other_net : NetworkFile) (one other : Parts) (found : Option Plan) (plan : Plan) (status : Status) (bytes : List ℕ) → (text : Option (List ℕ)) → Reads texts one_net one → Reads texts other_net other → SpellsItsPlan text found → SpellsItsPlan text (Some plan) → IsSomeAnd found (λ made. IsVerdict one made status bytes) → IsVerdict other plan status bytes
+of-plan below texts one_net other_net one other found plan status bytes None reads again spelt its verdict = absurd its
+of-plan below texts one_net other_net one other None plan status bytes (Some text) reads again spelt its verdict = absurd verdict
+of-plan below texts one_net other_net one other (Some made) plan status bytes (Some text) reads again spelt its verdict =
+    let plans : made ≡ plan = below.one_plan text made plan spelt its in
+    let instances : one ≡ other = same-parts below texts one_net other_net one other reads again in
+    subst (λ (q : Plan). IsVerdict other q status bytes) plans (subst (λ (p : Parts). IsVerdict p made status bytes) instances verdict)
+
+pub verdict-of : Below → (texts : Texts) (net : NetworkFile) (parts : Parts) (plan : Plan) (status : Status) (bytes : List ℕ) → Reads texts net parts → SpellsItsPlan texts.plan (Some plan) → IsVerified texts status bytes → IsVerdict parts plan status bytes
+verdict-of below texts net parts plan status bytes reads its done = of-plan below texts done.net net done.parts parts done.plan plan status bytes texts.plan done.problem.reads reads done.problem.plan_text its done.holds
+
+pub good-if : (parts : Parts) (plan : Plan) (status : Status) (bytes : List ℕ) → IsVerdict parts plan status bytes → IsValidPlan parts plan → status ≡ Good
+good-if parts plan status bytes (accepted good is) valid = good
+good-if parts plan status bytes (rejected bad is) valid = absurd (is.invalid valid)
+
+valid-if : (parts : Parts) (plan : Plan) (status : Status) (bytes : List ℕ) → IsVerdict parts plan status bytes → status ≡ Good → IsValidPlan parts plan
+valid-if parts plan status bytes (accepted good is) same = is.valid
+valid-if parts plan status bytes (rejected bad is) same = let no : ◌≡◌ {A = Status} Good Rejected = sym same ∙ bad in absurd cc
+
+pub good_where_valid : Below → (texts : Texts) (net : NetworkFile) (parts : Parts) (plan : Plan) (status : Status) (bytes : List ℕ) → Reads texts net parts → SpellsItsPlan texts.plan (Some plan) → IsVerified texts status bytes → (status ≡ Good) ↔ IsValidPlan parts plan
+good_where_valid below texts net parts plan status bytes reads its done =
+    let verdict : IsVerdict parts plan status bytes = verdict-of below texts net parts plan status bytes reads its done in
+    (valid-if parts plan status bytes verdict, good-if parts plan status bytes verdict)
+
+-- two rejections of a plan have one line
+same-line : Below → (parts : Parts) (plan : Plan) (bytes more : List ℕ) → IsRejection parts plan bytes → IsRejection parts plan more → bytes ≡ more
+same-line below parts plan bytes more one two =
+    let both : ◌≡◌ {A = Option Rejection} (Some one.fault) (Some two.fault) = below.one_rejection parts plan (Some one.fault) (Some two.fault) one.first two.first in
+    let same : one.fault ≡ two.fault = cc in
+    one.line ∙ ap rejected_line same ∙ sym two.line
+
+same-verdict : Below → (parts : Parts) (plan : Plan) (status other : Status) (bytes more : List ℕ) → IsVerdict parts plan status bytes → IsVerdict parts plan other more → (status ≡ other) × (bytes ≡ more)
+same-verdict below parts plan status other bytes more (accepted good is) (accepted fine has) = (good ∙ sym fine, is.line ∙ sym has.line)
+same-verdict below parts plan status other bytes more (accepted good is) (rejected bad has) = absurd (has.invalid is.valid)
+same-verdict below parts plan status other bytes more (rejected bad is) (accepted fine has) = absurd (is.invalid has.valid)
+same-verdict below parts plan status other bytes more (rejected bad is) (rejected worse has) = (bad ∙ sym worse, same-line below parts plan bytes more is has)
+
+verdicts-of : Below → (texts : Texts) (net : NetworkFile) (parts : Parts) (plan : Option Plan) (status other : Status) (bytes more : List ℕ) → IsProblem texts net parts plan → IsSomeAnd plan (λ made. IsVerdict parts made status bytes) → IsVerified texts other more → (status ≡ other) × (bytes ≡ more)
+verdicts-of below texts net parts None status other bytes more problem verdict done = absurd verdict
+verdicts-of below texts net parts (Some plan) status other bytes more problem verdict done =
+    same-verdict below parts plan status other bytes more verdict (verdict-of below texts net parts plan other more problem.reads problem.plan_text done)
+
+pub one_verdict : Below → (texts : Texts) (status other : Status) (bytes more : List ℕ) → IsVerified texts status bytes → IsVerified texts other more → (status ≡ other) × (bytes ≡ more)
+one_verdict below texts status other bytes more one two = verdicts-of below texts one.net one.parts one.plan status other bytes more one.problem one.holds two

@@ -1,0 +1,132 @@
+-- Why texts are refused, from what the readers and the checks ensure.
+use Rattle.std.proofs.Common.{ℕ, List, Option, Some, None, Result, Ok, Err, refl, inl, inr}
+use Rattle.std.specs.Prelude.{IfErr}
+use Rattle.plan_base.specs.declared.parts.Parts.{Parts}
+use Rattle.plan_base.specs.declared.build_fault.BuildFault.TheVariants as build
+use Rattle.plan_base.specs.Facts.{IsInstance}
+use Rattle.snd_reader.specs.declared.fault.TextFault.{TextFault}
+use Rattle.snd_reader.specs.declared.fault.TextFault.TheVariants.{Header, Unexpected, Number, Twice, Unknown, Ended, LongId, Control, OutOfMemory}
+use Rattle.snd_network.specs.declared.file.NetworkFile.{NetworkFile}
+use Rattle.snd_network.specs.Spelling.{SpellsNetwork}
+use Rattle.snd_network.specs.Spelling.{IsFault as IsNetworkFault}
+use Rattle.snd_model.specs.declared.file.ModelFile.{ModelFile}
+use Rattle.snd_model.specs.Spelling.{SpellsModel}
+use Rattle.snd_model.specs.Spelling.{IsFault as IsModelFault}
+use Rattle.model_check.specs.declared.fault.CheckFault.{CheckFault}
+use Rattle.model_check.specs.declared.fault.CheckFault.TheVariants as check_faults
+use Rattle.model_check.specs.Reading.{ReadsAs}
+use Rattle.model_check.specs.Refusals.{IsCheckFault, CanCome}
+use Rattle.link_steps.specs.declared.step_fault.StepFault.{StepFault}
+use Rattle.link_steps.specs.declared.step_fault.StepFault.TheVariants as step_faults
+use Rattle.link_steps.specs.Costs.{IsFaultOf}
+use Rattle.cert_format.specs.declared.fault.PlanFault.{PlanFault}
+use Rattle.cert_format.specs.declared.fault.PlanFault.TheVariants as plan_faults
+use Rattle.cert_format.specs.Faults.{IsFault as IsPlanTextFault}
+use Rattle.cert_format.specs.Grammar.{SpellsPlan}
+use Rattle.proof_tree.specs.declared.plan.Plan.{Plan}
+use Rattle.plan_report.specs.declared.run_fault.FileKind.TheVariants as files
+use Rattle.plan_texts.specs.declared.stop.Stop.{Stop}
+use Rattle.plan_texts.specs.declared.stop.Stop.TheVariants as stops
+use Rattle.plan_texts.specs.Texts.{Texts, two, three}
+use Rattle.plan_texts.specs.Refusals.{Reads, HasItsPlan, SpellsItsPlan, HasFewSteps, IsProblem, misplaced, ended}
+use Rattle.plan_texts.specs.Stops.{stop_of_text, stop_of_plan, stop_of_check, stop_of_steps, IsTextStop, IsNetworkStop, IsModelStop, IsPlanTextStop, IsFileStop, IsProblemStop}
+
+pub network_stop : (text : List ℕ) (fault : TextFault) → IsNetworkFault text fault → IsNetworkStop text (stop_of_text files.Network fault)
+network_stop text OutOfMemory is = tt
+network_stop text Header is = (Header, refl, is, λ same. cc)
+network_stop text (Unexpected at w) is = (Unexpected at w, refl, is, λ same. cc)
+network_stop text (Number at f) is = (Number at f, refl, is, λ same. cc)
+network_stop text (Twice at) is = (Twice at, refl, is, λ same. cc)
+network_stop text (Unknown at) is = (Unknown at, refl, is, λ same. cc)
+network_stop text (Ended at) is = (Ended at, refl, is, λ same. cc)
+network_stop text (LongId at) is = (LongId at, refl, is, λ same. cc)
+network_stop text (Control at) is = (Control at, refl, is, λ same. cc)
+
+pub model_stop : (text : List ℕ) (fault : TextFault) → IsModelFault text fault → IsModelStop text (stop_of_text files.Model fault)
+model_stop text OutOfMemory is = tt
+model_stop text Header is = (Header, refl, is, λ same. cc)
+model_stop text (Unexpected at w) is = (Unexpected at w, refl, is, λ same. cc)
+model_stop text (Number at f) is = (Number at f, refl, is, λ same. cc)
+model_stop text (Twice at) is = (Twice at, refl, is, λ same. cc)
+model_stop text (Unknown at) is = (Unknown at, refl, is, λ same. cc)
+model_stop text (Ended at) is = (Ended at, refl, is, λ same. cc)
+model_stop text (LongId at) is = (LongId at, refl, is, λ same. cc)
+model_stop text (Control at) is = (Control at, refl, is, λ same. cc)
+
+pub plan_stop : (text : List ℕ) (fault : PlanFault) → IsPlanTextFault text fault → IsPlanTextStop text (stop_of_plan fault)
+plan_stop text (plan_faults.Line at) is = (1, at, refl, misplaced refl is)
+plan_stop text (plan_faults.Ended at) is = (2, at, refl, ended refl is)
+plan_stop text plan_faults.OutOfMemory is = tt
+
+-- a refused network text refuses the texts
+pub network_refused : (texts : Texts) (stop : Stop) → IsNetworkStop texts.network stop → IsTextStop texts stop
+network_refused texts (stops.Refused fault) (text_fault, is, holds, some) = rw is (holds, some)
+network_refused texts stops.OutOfMemory is = tt
+
+-- a refused model text refuses the texts, where the network text is spelt
+pub model_refused : (texts : Texts) (net : NetworkFile) (stop : Stop) → SpellsNetwork texts.network net → IsModelStop texts.model stop → IsTextStop texts stop
+model_refused texts net (stops.Refused fault) spelt (text_fault, is, holds, some) = rw is ((net, spelt), holds, some)
+model_refused texts net stops.OutOfMemory spelt is = tt
+
+-- a refused plan text refuses the texts, where the others are spelt
+pub plan_refused : (network model plan : List ℕ) (net : NetworkFile) (options : ModelFile) (stop : Stop) → SpellsNetwork network net → SpellsModel model options → IsPlanTextStop plan stop → IsTextStop (three network model plan) stop
+plan_refused network model plan net options (stops.Refused fault) first second (rule, at, is, bad) = rw is (record { net = net; options = options; network_text = first; model_text = second }, bad)
+plan_refused network model plan net options stops.OutOfMemory first second is = tt
+
+check-refused : (texts : Texts) (net : NetworkFile) (options : ModelFile) (fault : CheckFault) → SpellsNetwork texts.network net → SpellsModel texts.model options → HasItsPlan texts.plan → CanCome fault → IsCheckFault net options fault → IsTextStop texts (stop_of_check fault)
+check-refused texts net options (check_faults.Unsupported key value) first second plan can is = record { net = net; options = options; network_text = first; model_text = second; plan_text = plan; is = is }
+check-refused texts net options (check_faults.Build (build.LoopLink link)) first second plan can is = record { net = net; options = options; network_text = first; model_text = second; plan_text = plan; is = is }
+check-refused texts net options (check_faults.Build (build.LoopDemand demand)) first second plan can is = record { net = net; options = options; network_text = first; model_text = second; plan_text = plan; is = is }
+check-refused texts net options (check_faults.Build (build.OverLimit limit at)) first second plan can is = inl record { net = net; options = options; network_text = first; model_text = second; plan_text = plan; is = is }
+check-refused texts net options (check_faults.Build (build.EndOutOfRange what)) first second plan can is = absurd can
+check-refused texts net options (check_faults.Build build.OutOfMemory) first second plan can is = absurd can
+check-refused texts net options check_faults.OutOfMemory first second plan can is = tt
+
+steps-refused : (texts : Texts) (net : NetworkFile) (parts : Parts) (fault : StepFault) → Reads texts net parts → HasItsPlan texts.plan → IsFaultOf parts fault → IsTextStop texts (stop_of_steps fault)
+steps-refused texts net parts (step_faults.TooManySteps link) reads plan first = inr record { ninth = refl; net = net; parts = parts; reads = reads; plan_text = plan; first = first }
+steps-refused texts net parts step_faults.OutOfMemory reads plan is = tt
+
+-- files of which no problem comes refuse the texts that spell them
+refused : (texts : Texts) (net : NetworkFile) (options : ModelFile) (stop : Stop) → SpellsNetwork texts.network net → SpellsModel texts.model options → HasItsPlan texts.plan → IsProblemStop net options stop → IsTextStop texts stop
+refused texts net options stop first second plan (inl (fault, is, can, holds)) = rw is (check-refused texts net options fault first second plan can holds)
+refused texts net options stop first second plan (inr (parts, stands, lawful, (fault, is, holds))) =
+    rw is (steps-refused texts net parts fault record { options = options; network_text = first; model_text = second; stands = stands; lawful = lawful } plan holds)
+
+pub problem_refused : (network model : List ℕ) (net : NetworkFile) (options : ModelFile) (stop : Stop) → SpellsNetwork network net → SpellsModel model options → IsProblemStop net options stop → IsTextStop (two network model) stop
+problem_refused network model net options stop first second is = refused (two network model) net options stop first second (None, tt) is
+
+pub planned_refused : (network model text : List ℕ) (net : NetworkFile) (options : ModelFile) (plan : Plan) (stop : Stop) → SpellsNetwork network net → SpellsModel model options → SpellsPlan text plan → IsProblemStop net options stop → IsTextStop (three network model text) stop
+planned_refused network model text net options plan stop first second spelt is = refused (three network model text) net options stop first second (Some plan, spelt) is
+
+-- ---- what texts spell
+
+problem : (texts : Texts) (net : NetworkFile) (options : ModelFile) (parts : Parts) (plan : Option Plan) → SpellsNetwork texts.network net → SpellsModel texts.model options → SpellsItsPlan texts.plan plan → ReadsAs net options parts → IsInstance parts → HasFewSteps parts → IsProblem texts net parts plan
+problem texts net options parts plan first second spelt stands lawful few = record {
+  reads = record { options = options; network_text = first; model_text = second; stands = stands; lawful = lawful };
+  plan_text = spelt;
+  few_steps = few;
+}
+
+pub problem_spelt : (network model : List ℕ) (net : NetworkFile) (options : ModelFile) (parts : Parts) → SpellsNetwork network net → SpellsModel model options → ReadsAs net options parts → IsInstance parts → HasFewSteps parts → IsProblem (two network model) net parts None
+problem_spelt network model net options parts first second stands lawful few = problem (two network model) net options parts None first second tt stands lawful few
+
+pub planned_spelt : (network model text : List ℕ) (net : NetworkFile) (options : ModelFile) (parts : Parts) (plan : Plan) → SpellsNetwork network net → SpellsModel model options → SpellsPlan text plan → ReadsAs net options parts → IsInstance parts → HasFewSteps parts → IsProblem (three network model text) net parts (Some plan)
+planned_spelt network model text net options parts plan first second spelt stands lawful few = problem (three network model text) net options parts (Some plan) first second spelt stands lawful few
+
+-- ---- why a problem is not made
+
+pub instance_stops : (net : NetworkFile) (options : ModelFile) (stop : Stop) → IsFileStop net options stop → IsProblemStop net options stop
+instance_stops net options stop is = inl is
+
+pub steps_stop : (net : NetworkFile) (options : ModelFile) (parts : Parts) (fault : StepFault) → ReadsAs net options parts → IsInstance parts → IsFaultOf parts fault → IsProblemStop net options (stop_of_steps fault)
+steps_stop net options parts fault stands lawful is = inr (parts, stands, lawful, (fault, refl, is))
+
+-- ---- the same, of results
+
+pub problem_end : {T : Type 0} (network model : List ℕ) (net : NetworkFile) (options : ModelFile) (result : Result T Stop) → SpellsNetwork network net → SpellsModel model options → IfErr result (IsProblemStop net options) → IfErr result (IsTextStop (two network model))
+problem_end network model net options (Ok x) first second h = tt
+problem_end network model net options (Err stop) first second h = problem_refused network model net options stop first second h
+
+pub planned_end : {T : Type 0} (network model text : List ℕ) (net : NetworkFile) (options : ModelFile) (plan : Plan) (result : Result T Stop) → SpellsNetwork network net → SpellsModel model options → SpellsPlan text plan → IfErr result (IsProblemStop net options) → IfErr result (IsTextStop (three network model text))
+planned_end network model text net options plan (Ok x) first second spelt h = tt
+planned_end network model text net options plan (Err stop) first second spelt h = planned_refused network model text net options plan stop first second spelt h

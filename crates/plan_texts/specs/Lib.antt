@@ -1,0 +1,6 @@
+pub mod Texts
+pub mod Statuses
+pub mod Refusals
+pub mod Answers
+pub mod Stops
+pub mod OneAnswer

@@ -1,0 +1,66 @@
+//! What follows for the texts of a command.
+
+ghost use Rattle.std.specs.Prelude.{List, ℕ, ◌≡◌, ◌↔◌, Option, Some};
+ghost use Rattle.plan_base.specs.declared.parts.Parts.{Parts as AnyParts};
+ghost use Rattle.snd_network.specs.declared.file.NetworkFile.{NetworkFile as AnyNetwork};
+ghost use Rattle.proof_tree.specs.declared.plan.Plan.{Plan as AnyPlan};
+ghost use Rattle.proof_tree.specs.Plans.{IsValidPlan};
+ghost use Rattle.plan_report.specs.declared.run_fault.RunFault.{RunFault as AnyFault};
+ghost use Rattle.plan_texts.specs.declared.status.Status.{Status as AnyStatus};
+ghost use Rattle.plan_texts.specs.declared.status.Status.TheVariants as statuses;
+ghost use Rattle.plan_texts.specs.Texts.{Texts};
+ghost use Rattle.plan_texts.specs.Refusals.{Reads, SpellsItsPlan, IsProblem, AreRefused};
+ghost use Rattle.plan_texts.specs.Answers.{IsVerified};
+ghost use Rattle.plan_texts.specs.OneAnswer.{Below};
+
+/// What the crates below say: a text, two files, a link and a plan have one answer each.
+pub fn one_answer_below()
+    ensures { Below }
+{
+    snd_network::laws::one_network_for_a_text();
+    snd_network::laws::no_fault_where_spelt();
+    snd_network::laws::one_fault_for_a_text();
+    snd_model::laws::spells_one();
+    snd_model::laws::no_fault_where_spelt();
+    snd_model::laws::one_fault_for_a_text();
+    model_check::laws::one_instance();
+    model_check::laws::no_refusal_of_an_instance();
+    model_check::laws::one_refusal();
+    link_steps::laws::few_or_many();
+    cert_format::laws::one_plan_for_a_text();
+    cert_format::laws::no_fault_where_spelt();
+    cert_format::laws::one_fault_for_a_text();
+    cert_verifier::laws::one_fault();
+}
+
+/// The texts of a command are refused in one way at most.
+pub fn one_refusal()
+    ensures { (texts : Texts) (a b : AnyFault) → AreRefused texts a → AreRefused texts b → a ≡ b }
+{
+    one_answer_below();
+}
+
+/// Where texts are refused, they do not spell an instance within its limits, with a plan where one is named.
+pub fn refused_or_read()
+    ensures { (texts : Texts) (net : AnyNetwork) (parts : AnyParts) (plan : Option AnyPlan) (fault : AnyFault) →
+        AreRefused texts fault → IsProblem texts net parts plan → ⊥ }
+{
+    one_answer_below();
+}
+
+/// Where texts read as an instance and a plan, the plan is accepted exactly if it is a valid one of the instance.
+pub fn accepted_where_valid()
+    ensures { (texts : Texts) (net : AnyNetwork) (parts : AnyParts) (plan : AnyPlan) (status : AnyStatus) (bytes : List ℕ) →
+        Reads texts net parts → SpellsItsPlan texts.plan (Some plan) → IsVerified texts status bytes
+        → (status ≡ statuses.Good) ↔ IsValidPlan parts plan }
+{
+    one_answer_below();
+}
+
+/// Three texts get one verdict: its status and its line.
+pub fn one_verdict()
+    ensures { (texts : Texts) (status other : AnyStatus) (bytes more : List ℕ) →
+        IsVerified texts status bytes → IsVerified texts other more → (status ≡ other) × (bytes ≡ more) }
+{
+    one_answer_below();
+}

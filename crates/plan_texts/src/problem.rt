@@ -1,0 +1,183 @@
+//! From texts on a shelf to the instance that is planned.
+
+ghost use Rattle.std.specs.Prelude.{◌≡◌, ◌≤◌, length, None, Some, IfOk, IfErr};
+ghost use Rattle.plan_io.specs.Causes.{Rose};
+ghost use Rattle.plan_base.specs.Facts.{IsInstance};
+ghost use Rattle.snd_network.specs.WellFormed.{IsWellFormed};
+ghost use Rattle.model_check.specs.Reading.{ReadsAs};
+ghost use Rattle.proof_tree.specs.Spellings.{IsSpellable};
+ghost use Rattle.plan_texts.specs.Texts.{Begun, two, three, HoldsOfTexts};
+ghost use Rattle.plan_texts.specs.Refusals.{IsProblem, HasFewSteps};
+ghost use Rattle.plan_texts.specs.Stops.{IsFileStop, IsProblemStop, IsTextStop, IsReadStop, Stops};
+
+use crate::files::{model_of, network_of, plan_of};
+use crate::stop::{Stop, stop_of_check};
+use crate::texts::{MAX_TEXT_BYTES, read_three, read_two};
+use cert_format::limits::MAX_PLAN_BYTES;
+use link_steps::StepTable;
+use model_check::to_instance;
+use plan_base::Instance;
+use plan_io::{Gate, Shelf};
+use proof_tree::Plan;
+use snd_model::ModelFile;
+use snd_network::NetworkFile;
+use std::alloc::Global;
+
+/// What a command about texts works on.
+#[derive(Drop)]
+pub struct Problem {
+    /// The network with its names.
+    pub network: NetworkFile,
+    /// The instance that it stands for under its model.
+    pub inst: Instance,
+    /// The steps of that instance.
+    pub table: StepTable,
+}
+
+/// The instance that two files stand for.
+fn instance_of(alloc: Global, network: &NetworkFile, model: &ModelFile) -> Result<Instance, Stop>
+    requires { IsWellFormed network.now }
+    ensures read { IfOk result (ReadsAs network.now model.now) }
+    ensures lawful { IfOk result IsInstance }
+    ensures stop { IfErr result (IsFileStop network.now model.now) }
+{
+    match to_instance(alloc, network, model) {
+        Ok(inst) => Ok(inst),
+        Err(fault) => Err(stop_of_check(fault)),
+    }
+}
+
+/// The problem that two files stand for.
+#[tactic(auto, using(crate::proofs::StopLaws::instance_stops, crate::proofs::StopLaws::steps_stop))]
+fn problem_of(alloc: Global, network: NetworkFile, model: &ModelFile) -> Result<Problem, Stop>
+    requires { IsWellFormed network }
+    ensures network { IfOk result (λ problem. problem.network ≡ network) }
+    ensures read { IfOk result (λ problem. ReadsAs network model.now problem.inst) }
+    ensures lawful { IfOk result (λ problem. IsInstance problem.inst) }
+    ensures few { IfOk result (λ problem. HasFewSteps problem.inst) }
+    ensures table { IfOk result (λ problem. problem.table ≡ problem.inst) }
+    ensures stop { IfErr result (IsProblemStop network model.now) }
+{
+    let inst = instance_of(alloc, &network, model)?;
+    let table = StepTable::make(alloc, &inst)?;
+    Ok(Problem {
+        network,
+        inst,
+        table,
+    })
+}
+
+/// The problem that a network text and a model text spell.
+#[tactic(auto, using(crate::proofs::StopLaws::problem_spelt))]
+fn spelt_problem(alloc: Global, network: &[u8], model: &[u8]) -> Result<Problem, Stop>
+    requires network { length network.now ≤ MAX_TEXT_BYTES }
+    requires model { length model.now ≤ MAX_TEXT_BYTES }
+    ensures spelt { IfOk result (λ problem. IsProblem (two network.now model.now) problem.network problem.inst None) }
+    ensures table { IfOk result (λ problem. problem.table ≡ problem.inst) }
+    ensures stop { IfErr result (IsTextStop (two network.now model.now)) }
+{
+    let network = network_of(alloc, network)?;
+    let model = model_of(alloc, model)?;
+    problem_of(alloc, network, &model)
+}
+
+/// A problem, and a plan for it.
+#[derive(Drop)]
+pub struct Planned {
+    pub problem: Problem,
+    pub plan: Plan,
+}
+
+/// The problem that a network text and a model text spell, and the plan that a plan text spells.
+#[tactic(auto, using(crate::proofs::StopLaws::planned_spelt))]
+fn spelt_planned(
+    alloc: Global,
+    network: &[u8],
+    model: &[u8],
+    plan: &[u8],
+) -> Result<Planned, Stop>
+    requires network { length network.now ≤ MAX_TEXT_BYTES }
+    requires model { length model.now ≤ MAX_TEXT_BYTES }
+    requires plan { length plan.now ≤ MAX_PLAN_BYTES }
+    ensures spelt { IfOk result (λ planned. IsProblem (three network.now model.now plan.now)
+        planned.problem.network planned.problem.inst (Some planned.plan)) }
+    ensures table { IfOk result (λ planned. planned.problem.table ≡ planned.problem.inst) }
+    ensures stop { IfErr result (IsTextStop (three network.now model.now plan.now)) }
+{
+    let network = network_of(alloc, network)?;
+    let model = model_of(alloc, model)?;
+    let plan = plan_of(alloc, plan)?;
+    let problem = problem_of(alloc, network, &model)?;
+    Ok(Planned { problem, plan })
+}
+
+/// Reads a network text and a model text, and gives the problem that they spell. The gate is passed once, between
+/// reading and the work.
+///
+/// - Takes: the names of the two texts, in the order in which they are read.
+/// - Errors: the first refusal of the texts in the order of their rules, a fault of the shelf, or want of memory.
+/// - Rule: docs/DEFINITIONS.md, "Runs".
+/// - Time: linear in the texts' bytes, and that of making the steps.
+#[tactic(auto, using(crate::proofs::Begins::texts_stop))]
+pub fn read_problem<S: Shelf, G: Gate>(
+    alloc: Global,
+    network: &str,
+    model: &str,
+    shelf: &mut S,
+    gate: &G,
+) -> Result<Problem, Stop>
+    ensures spelt { IfOk result (λ problem. HoldsOfTexts (S.text shelf.old) (two network.now model.now) 2
+        (λ texts. IsProblem texts problem.network problem.inst None)) }
+    ensures table { IfOk result (λ problem. problem.table ≡ problem.inst) }
+    ensures begun { IfOk result (λ _. Begun 2 (S.begins shelf.old) (S.begins shelf.new)) }
+    ensures stop { IfErr result (Stops (two network.now model.now) (S.text shelf.old)
+        (S.begins shelf.old) (S.begins shelf.new)) }
+    ensures read_fault { IfErr result (λ stop. IsReadStop stop → Rose (S.faults shelf.old) (S.faults shelf.new)) }
+    ensures later { S.faults shelf.old ≤ S.faults shelf.new }
+{
+    let texts = match read_two(alloc, shelf, network, model) {
+        Ok(texts) => texts,
+        Err(stop) => return Err(stop),
+    };
+    gate.pass(0, 0);
+    spelt_problem(alloc, texts.network.as_slice(), texts.model.as_slice())
+}
+
+/// Reads a network text, a model text and a plan text, and gives the problem and the plan that they spell. The gate is
+/// passed once, between reading and the work.
+///
+/// - Takes: the names of the three texts, in the order in which they are read.
+/// - Errors: the first refusal of the texts in the order of their rules, a fault of the shelf, or want of memory.
+/// - Rule: docs/DEFINITIONS.md, "Runs".
+/// - Time: linear in the texts' bytes, and that of making the steps.
+#[tactic(auto, using(crate::proofs::Begins::texts_stop))]
+pub fn read_planned<S: Shelf, G: Gate>(
+    alloc: Global,
+    network: &str,
+    model: &str,
+    plan: &str,
+    shelf: &mut S,
+    gate: &G,
+) -> Result<Planned, Stop>
+    ensures spelt { IfOk result (λ planned. HoldsOfTexts (S.text shelf.old) (three network.now model.now plan.now) 3
+        (λ texts. IsProblem texts planned.problem.network planned.problem.inst (Some planned.plan))) }
+    ensures fits { IfOk result (λ planned. IsSpellable planned.plan) }
+    ensures table { IfOk result (λ planned. planned.problem.table ≡ planned.problem.inst) }
+    ensures begun { IfOk result (λ _. Begun 3 (S.begins shelf.old) (S.begins shelf.new)) }
+    ensures stop { IfErr result (Stops (three network.now model.now plan.now) (S.text shelf.old)
+        (S.begins shelf.old) (S.begins shelf.new)) }
+    ensures read_fault { IfErr result (λ stop. IsReadStop stop → Rose (S.faults shelf.old) (S.faults shelf.new)) }
+    ensures later { S.faults shelf.old ≤ S.faults shelf.new }
+{
+    let texts = match read_three(alloc, shelf, network, model, plan) {
+        Ok(texts) => texts,
+        Err(stop) => return Err(stop),
+    };
+    gate.pass(0, 0);
+    spelt_planned(
+        alloc,
+        texts.network.as_slice(),
+        texts.model.as_slice(),
+        texts.plan.as_slice(),
+    )
+}

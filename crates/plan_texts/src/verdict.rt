@@ -1,0 +1,113 @@
+//! Commands about texts that need no search.
+
+ghost use Rattle.std.specs.Prelude.{◌≡◌, ◌≤◌, IfOk, IfErr};
+ghost use Rattle.plan_io.specs.Causes.{Rose};
+ghost use Rattle.proof_tree.specs.Spellings.{IsSpellable};
+ghost use Rattle.plan_texts.specs.Texts.{Begun, two, three, HoldsOfTexts};
+ghost use Rattle.plan_texts.specs.Answers.{IsCheck, IsVerdict, IsChecked, IsVerified};
+ghost use Rattle.plan_texts.specs.Stops.{IsReadStop, Stops};
+
+use crate::answer::Answer;
+use crate::problem::{Problem, read_planned, read_problem};
+use crate::status::Status;
+use crate::stop::Stop;
+use cert_verifier::{Rejected, verify};
+use plan_io::{Gate, Shelf};
+use plan_report::{check_line, verdict_line};
+use proof_tree::Plan;
+use std::alloc::{AllocError, Global};
+
+/// What is written of the sizes of an instance.
+fn checked(alloc: Global, problem: &Problem) -> Result<Answer, AllocError>
+    requires { problem.now.table ≡ problem.now.inst }
+    ensures { IfOk result (λ answer. IsCheck problem.now.inst answer.status answer.text.items) }
+{
+    Ok(Answer {
+        status: Status::Good,
+        text: check_line(alloc, &problem.inst, &problem.table)?,
+    })
+}
+
+/// What is written of a plan of an instance.
+fn verdict(alloc: Global, problem: &Problem, plan: &Plan) -> Result<Answer, AllocError>
+    requires table { problem.now.table ≡ problem.now.inst }
+    requires fits { IsSpellable plan.now }
+    ensures { IfOk result (λ answer. IsVerdict problem.now.inst plan.now answer.status answer.text.items) }
+{
+    match verify(alloc, &problem.inst, &problem.table, plan) {
+        Ok(()) => Ok(Answer {
+            status: Status::Good,
+            text: verdict_line(alloc, plan, &Ok(()))?,
+        }),
+        Err(Rejected::OutOfMemory) => Err(AllocError),
+        Err(fault) => Ok(Answer {
+            status: Status::Rejected,
+            text: verdict_line(alloc, plan, &Err(fault))?,
+        }),
+    }
+}
+
+/// Reads a network text and a model text, and tells the sizes of the network.
+///
+/// - Takes: the names of the two texts.
+/// - Errors: the first refusal of the texts in the order of their rules, a fault of the shelf, or want of memory.
+/// - Rule: docs/DEFINITIONS.md, "Runs"; docs/FORMATS.md, "The line of `check`".
+/// - Time: linear in the texts' bytes, and that of making the steps.
+#[tactic(auto, using(crate::proofs::Begins::memory_after_two, crate::proofs::Answering::checked_texts))]
+pub fn check<S: Shelf, G: Gate>(
+    alloc: Global,
+    network: &str,
+    model: &str,
+    shelf: &mut S,
+    gate: &G,
+) -> Result<Answer, Stop>
+    ensures done { IfOk result (λ answer. HoldsOfTexts (S.text shelf.old) (two network.now model.now) 2
+        (λ texts. IsChecked texts answer.status answer.text.items)) }
+    ensures begun { IfOk result (λ _. Begun 2 (S.begins shelf.old) (S.begins shelf.new)) }
+    ensures stop { IfErr result (Stops (two network.now model.now) (S.text shelf.old)
+        (S.begins shelf.old) (S.begins shelf.new)) }
+    ensures read_fault { IfErr result (λ stop. IsReadStop stop → Rose (S.faults shelf.old) (S.faults shelf.new)) }
+    ensures later { S.faults shelf.old ≤ S.faults shelf.new }
+{
+    let problem = match read_problem(alloc, network, model, shelf, gate) {
+        Ok(problem) => problem,
+        Err(stop) => return Err(stop),
+    };
+    match checked(alloc, &problem) {
+        Ok(answer) => Ok(answer),
+        Err(AllocError) => Err(Stop::OutOfMemory),
+    }
+}
+
+/// Reads a network text, a model text and a plan text, and tells whether the plan is a valid one of the network.
+///
+/// - Takes: the names of the three texts.
+/// - Errors: the first refusal of the texts in the order of their rules, a fault of the shelf, or want of memory.
+/// - Rule: docs/DEFINITIONS.md, "Runs"; docs/FORMATS.md, "The line of `verify`".
+/// - Time: linear in the texts' bytes, and that of verifying the plan.
+#[tactic(auto, using(crate::proofs::Begins::memory_after_three, crate::proofs::Answering::verified_texts))]
+pub fn verify_plan<S: Shelf, G: Gate>(
+    alloc: Global,
+    network: &str,
+    model: &str,
+    plan: &str,
+    shelf: &mut S,
+    gate: &G,
+) -> Result<Answer, Stop>
+    ensures done { IfOk result (λ answer. HoldsOfTexts (S.text shelf.old) (three network.now model.now plan.now) 3
+        (λ texts. IsVerified texts answer.status answer.text.items)) }
+    ensures begun { IfOk result (λ _. Begun 3 (S.begins shelf.old) (S.begins shelf.new)) }
+    ensures stop { IfErr result (Stops (three network.now model.now plan.now) (S.text shelf.old)
+        (S.begins shelf.old) (S.begins shelf.new)) }
+    ensures read_fault { IfErr result (λ stop. IsReadStop stop → Rose (S.faults shelf.old) (S.faults shelf.new)) }
+    ensures later { S.faults shelf.old ≤ S.faults shelf.new }
+{
+    let planned = match read_planned(alloc, network, model, plan, shelf, gate) {
+        Ok(planned) => planned,
+        Err(stop) => return Err(stop),
+    };
+    match verdict(alloc, &planned.problem, &planned.plan) {
+        Ok(answer) => Ok(answer),
+        Err(AllocError) => Err(Stop::OutOfMemory),
+    }
+}
