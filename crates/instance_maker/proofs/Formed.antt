@@ -92,13 +92,13 @@ module _ (back : IsReadBack) where
 
 -- ---- links and demands
 
-drawn-below : (state bound : ℕ) → 0 < bound → draw state bound < bound
-drawn-below state bound some = mod-lt (next_state state / 65536) some
+pub drawn_below : (state bound : ℕ) → 0 < bound → draw state bound < bound
+drawn_below state bound some = mod-lt (next_state state / 65536) some
 
 good-modules : (state : ℕ) → All IsModule (sample_modules state)
 good-modules state =
-    let small = drawn-below state 20 (omega arith) in
-    let large = drawn-below (next_state state) 40 (omega arith) in
+    let small = drawn_below state 20 (omega arith) in
+    let large = drawn_below (next_state state) 40 (omega arith) in
     All-cons IsModule (get_or (sample_modules state) 0 (0, 0)) (get_or (sample_modules state) 1 (0, 0) ∷ []) (omega arith, omega (arith, small))
     (All-cons IsModule (get_or (sample_modules state) 1 (0, 0)) [] (omega arith, omega (arith, large)) (All-nil IsModule))
 
@@ -129,10 +129,10 @@ good-chord nodes state i within few = record {
 good-demand : (nodes state i : ℕ) → 4 ≤ nodes → i < 4096 → IsGoodDemand nodes (sample_demand nodes state i)
 good-demand nodes state i some small = record {
   name = named 107 i refl small;
-  source = drawn-below state nodes (omega arith);
+  source = drawn_below state nodes (omega arith);
   target = mod-lt (draw state nodes + 1 + draw (next_state state) (nodes - 1)) (omega arith);
   unit = omega arith;
-  value = omega (arith, drawn-below (next_state (next_state state)) 9 (omega arith));
+  value = omega (arith, drawn_below (next_state (next_state state)) 9 (omega arith));
   hops = tt;
 }
 

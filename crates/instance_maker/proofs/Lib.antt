@@ -1,3 +1,5 @@
 mod Lists
 mod Numbered
 mod Formed
+mod Levels
+mod Instances

@@ -33,3 +33,10 @@ fn the_first_sample_is_written_and_read_back(rt: HostRuntime) -> Result<(), Fail
     assert!(rt; again.as_slice() == FIRST_SAMPLE.as_bytes());
     Ok(())
 }
+
+#[test]
+fn a_trial_has_its_problem(rt: HostRuntime) -> Result<(), Fail> {
+    let problem = sample_problem(rt.alloc(), 7, 16, 16)?;
+    assert!(rt; problem.inst.links() == 24 && problem.inst.demands() == 16);
+    Ok(())
+}
