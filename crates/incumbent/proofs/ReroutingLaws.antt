@@ -10,11 +10,11 @@ use Rattle.plan_base.specs.declared.parts.Parts.{Parts}
 use Rattle.plan_base.specs.Arcs.{demand_at}
 use Rattle.plan_base.specs.Paths.{IsSimplePath}
 use Rattle.plan_base.specs.declared.path.Design.{Design}
-use Rattle.plan_base.specs.Designs.{IsDesign}
+use Rattle.plan_base.specs.Designs.{IsDesign, IsGoodDesign}
 use Rattle.least_path.specs.declared.limits.TheConstants.{MAX_WEIGHT}
 use Rattle.least_path.specs.Paths.{Weights, AreWeights, from_to}
 use Rattle.link_steps.proofs.Order.{same_or_not}
-use Rattle.incumbent.specs.Completions.{ArePaths}
+use Rattle.incumbent.specs.Completions.{ArePaths, IsCompletion}
 
 -- a path between the ends of a demand is one of the demand
 pub path_of_ends : (p : Parts) (k : Demand) (arcs : List ArcId) → IsSimplePath p (from_to k.source k.target) arcs → IsSimplePath p k arcs
@@ -24,6 +24,10 @@ path_of_ends p k arcs simple =
 -- the paths of a design
 pub paths_of_design : (p : Parts) (d : Design) → IsDesign p d → ArePaths p d.paths
 paths_of_design p d is = record { count = is.path_count; simple = is.paths }
+
+-- a completion is a feasible design in shape
+pub good_completion : (p : Parts) (paths : List (List ArcId)) (cost : ℕ) (d : Design) → IsCompletion p paths cost d → IsGoodDesign p d
+good_completion p paths cost d is = is.good
 
 -- the path of the only demand
 pub one_path : (p : Parts) (path : List ArcId) (paths : List (List ArcId)) → IsSimplePath p (demand_at p 0) path → paths ≡ path ∷ [] → length p.demands ≡ 1 → ArePaths p paths

@@ -46,15 +46,32 @@ fn cheaper(inst: &Instance, design: Design, completed: Option<(u128, Design)>) -
     }
 }
 
-/// A design that costs no more: other paths where single reroutes help, and for its paths the cheapest counts.
+/// A design that costs no more: other paths where a large neighbourhood search finds cheaper ones, and for its paths the
+/// cheapest counts.
 ///
 /// - Takes: an instance and its step table; a design that `check_design` accepts.
 /// - Gives: the cost in cost grains and a feasible design in shape.
 /// - Errors: want of memory alone. The design is spent.
 /// - Rule: docs/DEFINITIONS.md, "Completions".
-/// - Time: for each demand in each of at most 32 turns one search for a least path and two readings of the table at
-///   each link.
+/// - Time: at most 32 searches for a least path for each demand, and 50,000 more, each with a few readings of the table at
+///   each link; on a large network at least 2,000.
 pub fn improve(
+    alloc: Global,
+    inst: &Instance,
+    table: &StepTable,
+    design: Design,
+) -> Result<(u128, Design), AllocError>
+    requires table { table.now ≡ inst.now }
+    requires design { IsGoodDesign inst.now design }
+    ensures good { IfOk result (λ better. IsGoodDesign inst.now better.1) }
+    ensures cost { IfOk result (λ better. better.0 ≡ cost_of inst.now better.1) }
+    ensures not_dearer { IfOk result (λ better. better.0 ≤ cost_of inst.now design) }
+{
+    improve_seeded(alloc, inst, table, design, 0)
+}
+
+/// As `improve`, with draws that begin with this seed.
+pub fn improve_seeded(
     alloc: Global,
     inst: &Instance,
     table: &StepTable,

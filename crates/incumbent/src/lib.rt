@@ -14,13 +14,15 @@ mod held;
 mod improving;
 mod laying;
 mod loads;
+mod ration;
 mod rounds;
 mod routing;
 mod weights;
 
 pub use completing::{complete, overfull_link};
-pub use improving::improve;
+pub use improving::{improve, improve_seeded};
 pub use laying::lay_all;
+pub use ration::DesignSearch;
 
 #[cfg(test)]
 mod tests;

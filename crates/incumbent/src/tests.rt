@@ -121,7 +121,7 @@ fn costs_found(
     requires table { table.now ≡ inst.now }
     requires design { IsGoodDesign inst.now design }
 {
-    let (improved, design) = improve(alloc, inst, table, design, 0).ok()?;
+    let (improved, design) = improve(alloc, inst, table, design).ok()?;
     let (completed, _design) = complete(alloc, inst, table, design.paths).ok()??;
     Some((improved, completed))
 }
