@@ -1,4 +1,5 @@
 -- Where no fault is found, the event may come.
+use Rattle.pool_core.specs.declared.slot.Slot.{Slot}
 use Rattle.std.proofs.Common.{◌≡◌, ℕ, ◌*◌, ◌<◌, ◌≤◌, inl, inr, Bool, true, false, not, List, length, get_or, Option, Some, None, slice_get, refl, sym, ap, subst, ◌∙◌, arith}
 use Rattle.std.specs.Prelude.{option_map, option_and_then, IsSomeAnd}
 use Rattle.std.proofs.lemmas.Bool.{eqb-true}
@@ -19,7 +20,7 @@ use Rattle.pool_machine.specs.Settling.{settle_fault, Settles, SettleStep}
 use Rattle.pool_machine.specs.Opening.{IsTaken}
 use Rattle.pool_machine.specs.Machine.{Settling, to_settling}
 use Rattle.pool_machine.specs.declared.limits.TheConstants.{MAX_BUDGET}
-use Rattle.pool_core.specs.Views.{HasPlaces, IsPool}
+use Rattle.pool_core.specs.Views.{IsTakenBy, HasPlaces, IsPool}
 use Rattle.pool_machine.proofs.Lists.{sum_by-set_at, slice_get-set_same, slice_get-set_other, slice_get-set_cases}
 use Rattle.pool_machine.proofs.Frames.{same_or_other, one_at}
 use Rattle.pool_machine.proofs.Runs.{IsReachable-step}
@@ -113,14 +114,15 @@ settle_fault-refusal s id version settle.Done h = absurd (never_done h)
 -- Places
 
 -- a slot is taken as before where a node is replaced that keeps its round
-IsTaken-there : (s : State) (id : BranchId) (old new : Node) → slice_get s.nodes id.0 ≡ Some old → new.round ≡ old.round → (slot : ℕ) → IsTaken s slot → IsTaken (with_node s id new) slot
-IsTaken-there s id old new is same slot t = elim (same_or_other t.0 id.0) [
-  | inr ne ↦ (t.0, t.1, slice_get-set_other s.nodes id.0 t.0 new ne ∙ t.2, t.3)
+IsTaken-there : (s : State) (id : BranchId) (old new : Node) → slice_get s.nodes id.0 ≡ Some old → new.round ≡ old.round → (slot n : ℕ) → IsTakenBy s slot n → IsTakenBy (with_node s id new) slot n
+IsTaken-there s id old new is same slot n t = elim (same_or_other n id.0) [
+  | inr ne ↦ (t.0, slice_get-set_other s.nodes id.0 n new ne ∙ t.1, t.2)
   | inl e ↦
-      let at : slice_get s.nodes id.0 ≡ Some t.1 = subst (λ (k : ℕ). slice_get s.nodes k ≡ Some t.1) e t.2 in
-      let node : t.1 ≡ old = one_at s.nodes id.0 t.1 old at is in
-      let had : IsSomeAnd old.round (λ r. r.slot ≡ slot) = subst (λ (x : Node). IsSomeAnd x.round (λ r. r.slot ≡ slot)) node t.3 in
-      (id.0, new, slice_get-set_same s.nodes id.0 old new is, subst (λ (o : Option Round). IsSomeAnd o (λ r. r.slot ≡ slot)) (sym same) had)
+      let at : slice_get s.nodes id.0 ≡ Some t.0 = subst (λ (k : ℕ). slice_get s.nodes k ≡ Some t.0) e t.1 in
+      let node : t.0 ≡ old = one_at s.nodes id.0 t.0 old at is in
+      let had : IsSomeAnd old.round (λ r. r.slot ≡ slot) = subst (λ (x : Node). IsSomeAnd x.round (λ r. r.slot ≡ slot)) node t.2 in
+      subst (λ (k : ℕ). IsTakenBy (with_node s id new) slot k) (sym e)
+      (new, slice_get-set_same s.nodes id.0 old new is, subst (λ (o : Option Round). IsSomeAnd o (λ r. r.slot ≡ slot)) (sym same) had)
 ]
 
 IsTaken-back : (s : State) (id : BranchId) (old new : Node) → slice_get s.nodes id.0 ≡ Some old → new.round ≡ old.round → (slot : ℕ) → IsTaken (with_node s id new) slot → IsTaken s slot
@@ -132,19 +134,19 @@ IsTaken-back s id old new is same slot t = elim (slice_get-set_cases s.nodes id.
 ]
 
 -- a node is replaced that keeps its round: the places stay
-pub HasPlaces-set : (s : State) (places : List (Option Round)) (id : BranchId) (old new : Node) → slice_get s.nodes id.0 ≡ Some old → new.round ≡ old.round
+pub HasPlaces-set : (s : State) (places : List Slot) (id : BranchId) (old new : Node) → slice_get s.nodes id.0 ≡ Some old → new.round ≡ old.round
     → HasPlaces s places → HasPlaces (with_node s id new) places
 HasPlaces-set s places id old new is same h = record {
   count = h.count;
   total = (let e = sum_by-set_at rounds_in s.nodes id.0 old new is in let r : rounds_in new ≡ rounds_in old = ap rounds_by same in let t = h.total in omega arith);
-  taken = λ slot x. IsTaken-there s id old new is same slot (h.taken slot x);
+  taken = λ slot n x. IsTaken-there s id old new is same slot n.0 (h.taken slot n x);
   free = λ slot place x t. h.free slot place x (IsTaken-back s id old new is same slot t);
   slot_is = h.slot_is;
   demands = h.demands;
   prices = h.prices;
 }
 
-pub settle-IsPool : (s t : State) (places : List (Option Round)) (id : BranchId) (version : ℕ) → IsPool s places → Settles s id version t → IsPool t places
+pub settle-IsPool : (s t : State) (places : List Slot) (id : BranchId) (version : ℕ) → IsPool s places → Settles s id version t → IsPool t places
 settle-IsPool s t places id version h e = record {
   some_budget = subst (λ (x : State). 0 < x.budget) (sym e.becomes) h.some_budget;
   budget = subst (λ (x : State). x.budget ≤ MAX_BUDGET) (sym e.becomes) h.budget;

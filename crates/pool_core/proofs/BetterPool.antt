@@ -1,10 +1,11 @@
 -- A design that is handed in: each answer is the event, and the pool stays one.
-use Rattle.std.proofs.Common.{◌≡◌, ℕ, true, List, Option, Some, refl}
+use Rattle.pool_core.specs.declared.slot.Slot.{Slot}
+use Rattle.std.proofs.Common.{◌≡◌, ℕ, true, List, Some, refl}
 use Rattle.std.specs.Prelude.{Ok}
 use Rattle.plan_base.specs.declared.path.Design.{Design}
 use Rattle.plan_base.specs.Designs.{cost_of, IsGoodDesign}
 use Rattle.pool_machine.specs.declared.answers.Better.TheVariants as better
-use Rattle.pool_machine.specs.State.{Round, State}
+use Rattle.pool_machine.specs.State.{State}
 use Rattle.pool_machine.specs.Bettering.{is_cheaper, TakesBetter}
 use Rattle.pool_machine.specs.Machine.{Bettering, to_bettering}
 use Rattle.pool_core.specs.Views.{HasPlaces, IsPool}
@@ -18,11 +19,11 @@ pub takes_better : (s : State) (design : Design) (cost : ℕ) → IsGoodDesign s
     → TakesBetter s design cost (holding s cost design)
 takes_better s design cost good is cheaper = record { good = good; is_cost = is; cheaper = cheaper; becomes = refl }
 
-pub HasPlaces-holding : (s : State) (places : List (Option Round)) (cost : ℕ) (design : Design) → HasPlaces s places → HasPlaces (holding s cost design) places
+pub HasPlaces-holding : (s : State) (places : List Slot) (cost : ℕ) (design : Design) → HasPlaces s places → HasPlaces (holding s cost design) places
 HasPlaces-holding s places cost design h =
     record { count = h.count; total = h.total; taken = h.taken; free = h.free; slot_is = h.slot_is; demands = h.demands; prices = h.prices }
 
-pub IsPool-holding : (s : State) (places : List (Option Round)) (cost : ℕ) (design : Design) → IsPool s places → TakesBetter s design cost (holding s cost design)
+pub IsPool-holding : (s : State) (places : List Slot) (cost : ℕ) (design : Design) → IsPool s places → TakesBetter s design cost (holding s cost design)
     → IsPool (holding s cost design) places
 IsPool-holding s places cost design h takes = record {
   some_budget = h.some_budget;

@@ -1,4 +1,5 @@
 -- A division on the pool's own fields is the event, and keeps what the pool is.
+use Rattle.pool_core.specs.declared.slot.Slot.{Slot}
 use Rattle.std.proofs.Common.{◌≡◌, ℕ, zero, suc, ◌+◌, ◌*◌, ◌/◌, ◌<◌, ◌≤◌, inl, inr, List, [], ◌∷◌, ◌++◌, length, set, get_or, Option, Some, None, slice_get, All, IsTrue, refl, sym, ap, ap₂, subst, ◌∙◌, arith, length-append}
 use Rattle.std.specs.Prelude.{IfSome, Ok}
 use Rattle.std.proofs.lemmas.Bool.{or_left, or_right, ltb-true}
@@ -80,7 +81,7 @@ HasGrounds-append p nodes grounds one other one_ground other_ground h is_one is_
     fresh (suc zero) node is = let same : other ≡ node = cc in (other_ground, refl, subst (λ (x : Node). IsGroundOf p (restriction_of x) x.fate other_ground) same is_other)
     fresh (suc (suc j)) node is = let bad : ◌≡◌ {A = Option Node} None (Some node) = is in absurd (cc)
 
-module _ (s : State) (table : Parts) (grounds : List (Option Rows)) (places : List (Option Round)) (id : BranchId) (d : Division)
+module _ (s : State) (table : Parts) (grounds : List (Option Rows)) (places : List Slot) (id : BranchId) (d : Division)
     (h : IsKeptPool s table grounds places) (div : IsDivisionAt s id d) where
   is_node : slice_get s.nodes id.0 ≡ Some div.node
   is_node = div.ready.open_node.is_node
@@ -181,7 +182,7 @@ module _ (s : State) (table : Parts) (grounds : List (Option Rows)) (places : Li
           → Divides s id d.left_child d.right_child (record s { nodes = set (s.nodes ++ children) id.0 written; examined = examined })
       divided-step written examined wrote more_by_one = subst (Divides s id d.left_child d.right_child) (sym (is_after written examined wrote more_by_one)) divides
 
-      pub divided-kept : (written : Node) (examined : ℕ) (left : Option Rows) (back : List (Option Round)) → written ≡ divided_by d item → examined ≡ suc s.examined → left ≡ None
+      pub divided-kept : (written : Node) (examined : ℕ) (left : Option Rows) (back : List Slot) → written ≡ divided_by d item → examined ≡ suc s.examined → left ≡ None
           → back ≡ given_back places item.round
           → IsKeptPool (record s { nodes = set (s.nodes ++ children) id.0 written; examined = examined }) table (set (grounds ++ below) id.0 left) back
       divided-kept written examined left back wrote more_by_one none returned =
@@ -193,7 +194,7 @@ module _ (s : State) (table : Parts) (grounds : List (Option Rows)) (places : Li
           let give_back : back ≡ given_back places div.node.round = returned ∙ ap (λ (x : Node). given_back places x.round) is_item in
           subst (λ (x : State). IsKeptPool x table (set (grounds ++ below) id.0 left) back) (sym (is_after written examined wrote more_by_one))
           (subst (λ (o : Option Rows). IsKeptPool after table (set (grounds ++ below) id.0 o) back) (sym none)
-          (subst (λ (xs : List (Option Round)). IsKeptPool after table (set (grounds ++ below) id.0 None) xs) (sym give_back) kept))
+          (subst (λ (xs : List Slot). IsKeptPool after table (set (grounds ++ below) id.0 None) xs) (sym give_back) kept))
 
   pub examined-small : s.examined < 4096
   examined-small = let spent = div.ready.open_node.not_spent in let budget = h.pool.budget in omega arith

@@ -1,8 +1,11 @@
 -- A node whose round ends gives the place back.
+use Rattle.pool_core.specs.declared.slot.Slot.{Slot}
+use Rattle.pool_core.specs.declared.slot.Slot.TheVariants.{Free, Of}
 use Rattle.std.proofs.Common.{◌≡◌, ◌≢◌, ℕ, suc, ◌+◌, ◌<◌, ◌⊎◌, inl, inr, List, [], ◌∷◌, ◌++◌, length, set, get_or, Option, Some, None, slice_get, refl, sym, ap, subst, ◌∙◌, arith, sum_by, cond, length-set}
-use Rattle.std.specs.Prelude.{IsSomeAnd, is_some}
+use Rattle.std.specs.Prelude.{IsSomeAnd}
 use Rattle.std.proofs.lemmas.Option.{slice_get-get_or}
 use Rattle.std.proofs.lemmas.List.Sums.{sum_by-append, sum_by-cons}
+use Rattle.plan_base.specs.declared.ids.BranchId.{BranchId}
 use Rattle.plan_base.specs.declared.parts.Parts.{Parts}
 use Rattle.arc_restrict.specs.Rows.{Rows}
 use Rattle.pool_machine.specs.State.{Round, Node, State, restriction_of, rounds_by, rounds_in, active_count}
@@ -10,7 +13,7 @@ use Rattle.pool_machine.specs.Opening.{HasSlot, IsTaken}
 use Rattle.pool_machine.specs.Nodes.{IsSoundRound}
 use Rattle.pool_machine.specs.Soundness.{IsSound}
 use Rattle.pool_machine.specs.Family.{badge_of}
-use Rattle.pool_core.specs.Views.{HasPlaces, given_back}
+use Rattle.pool_core.specs.Views.{is_free, IsTakenBy, HasPlaces, given_back}
 use Rattle.pool_nodes.specs.Grounds.{IsGroundOf, HasGrounds}
 use Rattle.pool_machine.proofs.Lists.{sum_by-set_at, slice_get-set_same, slice_get-set_other, slice_get-set_cases, slice_get-append_left, slice_get-append_cases}
 use Rattle.pool_machine.proofs.Frames.{same_or_other, one_at, badge_at-at}
@@ -31,14 +34,14 @@ pub record HasEnded (s t : State) (id : ℕ) (old new : Node) (more : List Node)
 
 module _ (s t : State) (id : ℕ) (old new : Node) (more : List Node) (e : HasEnded s t id old new more) (sound : IsSound s) where
   -- a slot that the node did not have is taken as before
-  taken-there : (k : ℕ) → IsTaken s k → (HasSlot k old → ⊥) → IsTaken t k
-  taken-there k taken not_old = elim (same_or_other taken.0 id) [
+  taken-there : (k n : ℕ) → IsTakenBy s k n → (HasSlot k old → ⊥) → IsTakenBy t k n
+  taken-there k n taken not_old = elim (same_or_other n id) [
     | inr ne ↦
-        let at : slice_get (set s.nodes id new) taken.0 ≡ Some taken.1 = slice_get-set_other s.nodes id taken.0 new ne ∙ taken.2 in
-        (taken.0, taken.1, subst (λ (xs : List Node). slice_get xs taken.0 ≡ Some taken.1) (sym e.nodes) (slice_get-append_left (set s.nodes id new) more taken.0 taken.1 at), taken.3)
+        let at : slice_get (set s.nodes id new) n ≡ Some taken.0 = slice_get-set_other s.nodes id n new ne ∙ taken.1 in
+        (taken.0, subst (λ (xs : List Node). slice_get xs n ≡ Some taken.0) (sym e.nodes) (slice_get-append_left (set s.nodes id new) more n taken.0 at), taken.2)
     | inl is ↦
-        let at : slice_get s.nodes id ≡ Some taken.1 = subst (λ (i : ℕ). slice_get s.nodes i ≡ Some taken.1) is taken.2 in
-        absurd (not_old (subst (HasSlot k) (one_at s.nodes id taken.1 old at e.is_node) taken.3))
+        let at : slice_get s.nodes id ≡ Some taken.0 = subst (λ (i : ℕ). slice_get s.nodes i ≡ Some taken.0) is taken.1 in
+        absurd (not_old (subst (HasSlot k) (one_at s.nodes id taken.0 old at e.is_node) taken.2))
   ]
 
   -- what takes a slot afterwards took it before, and is another node
@@ -69,7 +72,7 @@ module _ (s t : State) (id : ℕ) (old new : Node) (more : List Node) (e : HasEn
       let none : rounds_in new ≡ 0 = ap rounds_by e.no_round in
       omega arith
 
-  HasPlaces-idle : (places : List (Option Round)) → old.round ≡ None → HasPlaces s places → HasPlaces t places
+  HasPlaces-idle : (places : List Slot) → old.round ≡ None → HasPlaces s places → HasPlaces t places
   HasPlaces-idle places none h = record {
     count = h.count;
     total = (
@@ -78,14 +81,14 @@ module _ (s t : State) (id : ℕ) (old new : Node) (more : List Node) (e : HasEn
         let total = h.total in
         omega arith
         );
-    taken = λ k is. taken-there k (h.taken k is) (λ has. subst (λ (o : Option Round). IsSomeAnd o (λ r. r.slot ≡ k)) none has);
+    taken = λ k n is. taken-there k n.0 (h.taken k n is) (λ has. subst (λ (o : Option Round). IsSomeAnd o (λ r. r.slot ≡ k)) none has);
     free = λ k place is taken. let b = taken-back k taken in h.free k place is (b.0, b.1, b.2, b.3);
     slot_is = h.slot_is;
     demands = λ k place is. h.demands k place is ∙ sym (ap (λ (p : Parts). length p.demands) e.problem);
     prices = λ k place is. h.prices k place is ∙ sym (ap (λ (p : Parts). length p.links) e.problem);
   }
 
-  module _ (places : List (Option Round)) (round : Round) (had : old.round ≡ Some round) (h : HasPlaces s places) where
+  module _ (places : List Slot) (round : Round) (had : old.round ≡ Some round) (h : HasPlaces s places) where
     is_sound : IsSoundRound s.problem (restriction_of old) round
     is_sound = (rw had at ((node_at s id old sound e.is_node).round)).1
 
@@ -96,12 +99,12 @@ module _ (s t : State) (id : ℕ) (old new : Node) (more : List Node) (e : HasEn
     slot-within = let w = is_sound.slot in let c = h.count in omega arith
 
     -- its place was taken
-    was_taken : slice_get places round.slot ≡ Some None
-    was_taken = by_cases (get_or places round.slot None) (slice_get-get_or places round.slot None slot-within)
+    was_taken : (n : BranchId) × (slice_get places round.slot ≡ Some (Of n))
+    was_taken = by_cases (get_or places round.slot (Free round)) (slice_get-get_or places round.slot (Free round) slot-within)
       where
-        by_cases : (o : Option Round) → slice_get places round.slot ≡ Some o → slice_get places round.slot ≡ Some None
-        by_cases None is = is
-        by_cases (Some place) is = absurd (h.free round.slot place is (id, old, e.is_node, has_slot))
+        by_cases : (o : Slot) → slice_get places round.slot ≡ Some o → (n : BranchId) × (slice_get places round.slot ≡ Some (Of n))
+        by_cases (Of n) is = (n, is)
+        by_cases (Free place) is = absurd (h.free round.slot place is (id, old, e.is_node, has_slot))
 
     -- no other node has the slot
     not_other : (m : ℕ) (node : Node) → slice_get s.nodes m ≡ Some node → HasSlot round.slot node → m ≢ id → ⊥
@@ -110,26 +113,26 @@ module _ (s t : State) (id : ℕ) (old new : Node) (more : List Node) (e : HasEn
         let ours = slot-badge old.round round.slot has_slot in
         ne (sound.apart.slots m id round.slot theirs.0 ours.0 (badge_at-at s.nodes m node at ∙ theirs.1) (badge_at-at s.nodes id old e.is_node ∙ ours.1))
 
-    same_place : (k : ℕ) (place : Round) → slice_get (set places round.slot (Some round)) k ≡ Some (Some place)
-        → ((k ≡ round.slot) × (place ≡ round)) ⊎ ((k ≢ round.slot) × (slice_get places k ≡ Some (Some place)))
-    same_place k place is = elim (slice_get-set_cases places round.slot k (Some round) (Some place) is) [
+    same_place : (k : ℕ) (place : Round) → slice_get (set places round.slot (Free round)) k ≡ Some (Free place)
+        → ((k ≡ round.slot) × (place ≡ round)) ⊎ ((k ≢ round.slot) × (slice_get places k ≡ Some (Free place)))
+    same_place k place is = elim (slice_get-set_cases places round.slot k (Free round) (Free place) is) [
       | inl w ↦ inl (w.0, (let e' = w.1 in cc))
       | inr w ↦ inr w
     ]
 
-    HasPlaces-active : HasPlaces t (set places round.slot (Some round))
+    HasPlaces-active : HasPlaces t (set places round.slot (Free round))
     HasPlaces-active = record {
-      count = length-set places round.slot (Some round) ∙ h.count;
+      count = length-set places round.slot (Free round) ∙ h.count;
       total = (
           let after = active-after in
           let one : rounds_in old ≡ 1 = ap rounds_by had in
-          let c = sum_by-set_at (λ (o : Option Round). cond (is_some o) 1 0) places round.slot None (Some round) was_taken in
+          let c = sum_by-set_at (λ (o : Slot). cond (is_free o) 1 0) places round.slot (Of was_taken.0) (Free round) was_taken.1 in
           let total = h.total in
           omega arith
           );
-      taken = λ k is. elim (slice_get-set_cases places round.slot k (Some round) None is) [
-        | inl w ↦ absurd (let bad = w.1 in cc)
-        | inr w ↦ taken-there k (h.taken k w.1) (λ has. w.0 (sym (subst (λ (o : Option Round). IsSomeAnd o (λ r. r.slot ≡ k)) had has)))
+      taken = λ k n is. elim (slice_get-set_cases places round.slot k (Free round) (Of n) is) [
+        | inl w ↦ absurd (let bad : Of n ≡ Free round = w.1 in cc)
+        | inr w ↦ taken-there k n.0 (h.taken k n w.1) (λ has. w.0 (sym (subst (λ (o : Option Round). IsSomeAnd o (λ r. r.slot ≡ k)) had has)))
       ];
       free = λ k place is taken. let b = taken-back k taken in elim (same_place k place is) [
         | inl w ↦ not_other b.0 b.1 b.2 (subst (λ (n : ℕ). HasSlot n b.1) w.0 b.3) b.4
@@ -150,14 +153,14 @@ module _ (s t : State) (id : ℕ) (old new : Node) (more : List Node) (e : HasEn
     }
 
   -- the places once the round has ended are those of the state after
-  pub HasPlaces-ended : (places : List (Option Round)) → HasPlaces s places → HasPlaces t (given_back places old.round)
+  pub HasPlaces-ended : (places : List Slot) → HasPlaces s places → HasPlaces t (given_back places old.round)
   HasPlaces-ended places h = by_cases old.round refl
     where
       by_cases : (o : Option Round) → old.round ≡ o → HasPlaces t (given_back places o)
       by_cases None none = HasPlaces-idle places none h
       by_cases (Some round) had = HasPlaces-active places round had h
 
-  pub round-within : (places : List (Option Round)) → HasPlaces s places → (round : Round) → old.round ≡ Some round → round.slot < length places
+  pub round-within : (places : List Slot) → HasPlaces s places → (round : Round) → old.round ≡ Some round → round.slot < length places
   round-within places h round had = slot-within places round had h
 
 -- a node that is no open leaf keeps no restriction

@@ -1,4 +1,5 @@
 -- Where no fault is found, an examination may come.
+use Rattle.pool_core.specs.declared.slot.Slot.{Slot}
 use Rattle.std.proofs.Common.{◌≡◌, ℕ, ◌<◌, ◌≤◌, ◌⊎◌, inl, inr, Bool, true, false, not, ◌&&◌, ◌==◌, List, [], length, get_or, Option, Some, None, slice_get, refl, sym, ap, subst, ◌∙◌, arith}
 use Rattle.std.specs.Prelude.{IfSome, IsTrue, IfOk, is_some, nat_lt, option_map, if◌then◌else◌, Result, Ok, Err}
 use Rattle.std.proofs.lemmas.Bool.{ltb-false}
@@ -201,7 +202,7 @@ determined-at s id (determined.Two demand first second) r reachable at same h = 
 determined-at s id (determined.One paths) r reachable at same h = record { node = at.node; ready = at.ready; only = rw same at h }
 
 -- The ground of a node that may be examined
-module _ (s : State) (table : Parts) (grounds : List (Option Rows)) (places : List (Option Round)) (h : IsKeptPool s table grounds places) (id : BranchId) (at : IsReadyAt s id) where
+module _ (s : State) (table : Parts) (grounds : List (Option Rows)) (places : List Slot) (h : IsKeptPool s table grounds places) (id : BranchId) (at : IsReadyAt s id) where
   pub ready-node-within : id.0 < length s.nodes
   ready-node-within = slice_get_within s.nodes id.0 at.node at.ready.open_node.is_node
 

@@ -11,5 +11,9 @@ pub mod Dividings
 pub mod Routings
 pub mod RoutedPool
 pub mod TaskLaws
-pub mod Running
+pub mod Reading
+pub mod Leaves
+pub mod Fitting
+pub mod Routes
+pub mod Steps
 pub mod Publishing

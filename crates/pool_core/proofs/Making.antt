@@ -1,6 +1,8 @@
 -- What makes a new pool an opening state.
+use Rattle.pool_core.specs.declared.slot.Slot.{Slot}
+use Rattle.pool_core.specs.declared.slot.Slot.TheVariants.{Free, Of}
 use Rattle.std.proofs.Common.{◌≡◌, ℕ, zero, suc, ◌+◌, ◌<◌, ◌≤◌, ◌⊎◌, inl, inr, List, [], ◌∷◌, ◌++◌, length, Option, Some, None, slice_get, refl, sym, ap, subst, ◌∙◌, arith, sum_by, count_by, cond, length-append}
-use Rattle.std.specs.Prelude.{IsSomeAnd, is_some}
+use Rattle.std.specs.Prelude.{IsSomeAnd}
 use Rattle.std.proofs.lemmas.Option.{slice_get_within}
 use Rattle.std.proofs.lemmas.List.Sums.{sum_by-cons}
 use Rattle.plan_base.specs.declared.parts.Parts.{Parts}
@@ -13,7 +15,7 @@ use Rattle.pool_machine.specs.declared.limits.TheConstants.{MAX_ROUNDS, MAX_BUDG
 use Rattle.pool_machine.specs.State.{Round, Node, State, rounds_in, restriction_of}
 use Rattle.pool_machine.specs.Machine.{root_with, IsOpeningState}
 use Rattle.pool_machine.specs.Opening.{IsTaken}
-use Rattle.pool_core.specs.Views.{AreFreePlaces, HasPlaces, IsKeptPool}
+use Rattle.pool_core.specs.Views.{is_free, AreFreePlaces, HasPlaces, IsKeptPool}
 use Rattle.pool_nodes.specs.Grounds.{IsGroundOf, HasGrounds}
 use Rattle.pool_machine.proofs.Lists.{slice_get-append_left, slice_get-append_right}
 use Rattle.pool_machine.proofs.Frames.{one_at}
@@ -25,32 +27,32 @@ below-or-last : (i n : ℕ) → i < n + 1 → (i < n) ⊎ (i ≡ n)
 below-or-last i n h = grind arith
 
 -- one more place
-pub free_places-next : (count demands links : ℕ) (places : List (Option Round)) (place : Round) → AreFreePlaces count demands links places
-    → place.slot ≡ count → length place.found ≡ demands → length place.prices ≡ links → AreFreePlaces (count + 1) demands links (places ++ (Some place ∷ []))
+pub free_places-next : (count demands links : ℕ) (places : List Slot) (place : Round) → AreFreePlaces count demands links places
+    → place.slot ≡ count → length place.found ≡ demands → length place.prices ≡ links → AreFreePlaces (count + 1) demands links (places ++ (Free place ∷ []))
 free_places-next count demands links places place h slot found prices =
-    let long = length-append places (Some place ∷ []) in
+    let long = length-append places (Free place ∷ []) in
     let size = h.length_is in
     record {
       length_is = omega arith;
       each = λ n below. elim (below-or-last n count below) [
-        | inl before ↦ let e = h.each n before in (e.0, slice_get-append_left places (Some place ∷ []) n (Some e.0) e.1, e.2, e.3, e.4)
+        | inl before ↦ let e = h.each n before in (e.0, slice_get-append_left places (Free place ∷ []) n (Free e.0) e.1, e.2, e.3, e.4)
         | inr last ↦
-            let at : slice_get (places ++ (Some place ∷ [])) (length places + 0) ≡ Some (Some place) = slice_get-append_right places (Some place ∷ []) 0 in
+            let at : slice_get (places ++ (Free place ∷ [])) (length places + 0) ≡ Some (Free place) = slice_get-append_right places (Free place ∷ []) 0 in
             let here : length places + 0 ≡ n = omega arith in
-            (place, subst (λ (i : ℕ). slice_get (places ++ (Some place ∷ [])) i ≡ Some (Some place)) here at, slot ∙ sym last, found, prices)
+            (place, subst (λ (i : ℕ). slice_get (places ++ (Free place ∷ [])) i ≡ Some (Free place)) here at, slot ∙ sym last, found, prices)
       ];
     }
 
 pub ruleset free_places = (free_places-none, free_places-next)
 
 -- where each place is free, all are counted
-all_free : (places : List (Option Round)) → ((k : ℕ) → k < length places → (place : Round) × (slice_get places k ≡ Some (Some place))) → count_by is_some places ≡ length places
+all_free : (places : List Slot) → ((k : ℕ) → k < length places → (place : Round) × (slice_get places k ≡ Some (Free place))) → count_by is_free places ≡ length places
 all_free [] each = refl
 all_free (o ∷ places) each =
     let first = each 0 (omega arith) in
-    let is : o ≡ Some first.0 = (let e = first.1 in cc) in
-    let one : ◌≡◌ {A = ℕ} (cond (is_some o) 1 0) 1 = ap (λ (x : Option Round). cond {A = ℕ} (is_some x) 1 0) is in
-    omega (arith, one, sum_by-cons (λ (x : Option Round). cond (is_some x) 1 0) o places, all_free places (λ k below. each (suc k) (omega arith)))
+    let is : o ≡ Free first.0 = (let e = first.1 in cc) in
+    let one : ◌≡◌ {A = ℕ} (cond (is_free o) 1 0) 1 = ap (λ (x : Slot). cond {A = ℕ} (is_free x) 1 0) is in
+    omega (arith, one, sum_by-cons (λ (x : Slot). cond (is_free x) 1 0) o places, all_free places (λ k below. each (suc k) (omega arith)))
 
 module _ (s : State) (prices : List ℕ) (nodes : s.nodes ≡ root_with prices ∷ []) where
   none_taken : (slot : ℕ) → IsTaken s slot → ⊥
@@ -60,15 +62,15 @@ module _ (s : State) (prices : List ℕ) (nodes : s.nodes ≡ root_with prices �
       at_root zero node is has = let same : root_with prices ≡ node = cc in subst (λ (x : Node). IsSomeAnd x.round (λ r. r.slot ≡ slot)) (sym same) has
       at_root (suc n) node is has = let bad : ◌≡◌ {A = Option Node} None (Some node) = is in absurd (cc)
 
-  pub opening-places : (places : List (Option Round)) → AreFreePlaces MAX_ROUNDS (length s.problem.demands) (length s.problem.links) places → HasPlaces s places
+  pub opening-places : (places : List Slot) → AreFreePlaces MAX_ROUNDS (length s.problem.demands) (length s.problem.links) places → HasPlaces s places
   opening-places places h =
-      let free : (k : ℕ) (o : Option Round) → slice_get places k ≡ Some o → (place : Round) × (o ≡ Some place) × (place.slot ≡ k) × (length place.found ≡ length s.problem.demands) × (length place.prices ≡ length s.problem.links)
+      let free : (k : ℕ) (o : Slot) → slice_get places k ≡ Some o → (place : Round) × (o ≡ Free place) × (place.slot ≡ k) × (length place.found ≡ length s.problem.demands) × (length place.prices ≡ length s.problem.links)
       = λ k o is.
       let size = h.length_is in
       let within = slice_get_within places k o is in
       let e = h.each k (omega arith) in
-      (e.0, one_at places k o (Some e.0) is e.1, e.2, e.3, e.4) in
-      let same : (k : ℕ) (place : Round) (is : slice_get places k ≡ Some (Some place)) → (free k (Some place) is).0 ≡ place = λ k place is. let e = (free k (Some place) is).1 in cc in
+      (e.0, one_at places k o (Free e.0) is e.1, e.2, e.3, e.4) in
+      let same : (k : ℕ) (place : Round) (is : slice_get places k ≡ Some (Free place)) → (free k (Free place) is).0 ≡ place = λ k place is. let e = (free k (Free place) is).1 in cc in
       record {
         count = h.length_is;
         total = (
@@ -77,11 +79,11 @@ module _ (s : State) (prices : List ℕ) (nodes : s.nodes ≡ root_with prices �
             let idle : sum_by (λ (x : Node). rounds_in x) s.nodes ≡ 0 = ap (sum_by (λ (x : Node). rounds_in x)) nodes in
             omega arith
             );
-        taken = λ k is. let e = (free k None is).1 in absurd (cc);
+        taken = λ k n is. absurd (let e : Of n ≡ Free (free k (Of n) is).0 = (free k (Of n) is).1 in cc);
         free = λ k place is taken. none_taken k taken;
-        slot_is = λ k place is. ap (λ (r : Round). r.slot) (sym (same k place is)) ∙ (free k (Some place) is).2;
-        demands = λ k place is. ap (λ (r : Round). length r.found) (sym (same k place is)) ∙ (free k (Some place) is).3;
-        prices = λ k place is. ap (λ (r : Round). length r.prices) (sym (same k place is)) ∙ (free k (Some place) is).4;
+        slot_is = λ k place is. ap (λ (r : Round). r.slot) (sym (same k place is)) ∙ (free k (Free place) is).2;
+        demands = λ k place is. ap (λ (r : Round). length r.found) (sym (same k place is)) ∙ (free k (Free place) is).3;
+        prices = λ k place is. ap (λ (r : Round). length r.prices) (sym (same k place is)) ∙ (free k (Free place) is).4;
       }
 
   pub opening-grounds : (rows : Rows) → forbids rows ≡ none_forbidden → HasSizeOf s.problem rows → HasGrounds s.problem s.nodes (Some rows ∷ [])
@@ -112,7 +114,7 @@ module _ (p : Parts) (budget : ℕ) (prices : List ℕ) (lawful : IsInstance p) 
   pub opening-state : IsOpeningState p budget (opening_with p budget prices)
   opening-state = record { lawful = lawful; prices = prices; are_start = start; within_limit = within; is_state = refl }
 
-  pub opening-kept : (table : Parts) (rows : Rows) (places : List (Option Round)) → 0 < budget → budget ≤ MAX_BUDGET → table ≡ p
+  pub opening-kept : (table : Parts) (rows : Rows) (places : List Slot) → 0 < budget → budget ≤ MAX_BUDGET → table ≡ p
       → AreFreePlaces MAX_ROUNDS (length p.demands) (length p.links) places → forbids rows ≡ none_forbidden → HasSizeOf p rows
       → IsKeptPool (opening_with p budget prices) table (Some rows ∷ []) places
   opening-kept table rows places some most same free none size = record {
@@ -127,7 +129,7 @@ module _ (p : Parts) (budget : ℕ) (prices : List ℕ) (lawful : IsInstance p) 
   }
 
   -- the same on the pool's own fields
-  pub opening-kept-at : (table : Parts) (none rows : Rows) (nodes : List Node) (grounds : List (Option Rows)) (places : List (Option Round)) → 0 < budget → budget ≤ MAX_BUDGET → table ≡ p
+  pub opening-kept-at : (table : Parts) (none rows : Rows) (nodes : List Node) (grounds : List (Option Rows)) (places : List Slot) → 0 < budget → budget ≤ MAX_BUDGET → table ≡ p
       → AreFreePlaces MAX_ROUNDS (length p.demands) (length p.links) places → forbids none ≡ none_forbidden → HasSizeOf p none → rows ≡ none
       → nodes ≡ root_with prices ∷ [] → grounds ≡ Some rows ∷ []
       → IsKeptPool (record (opening_with p budget prices) { nodes = nodes }) table grounds places

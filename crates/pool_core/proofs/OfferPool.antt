@@ -1,4 +1,5 @@
 -- Offers on the pool's own fields are the events, and keep what the pool is.
+use Rattle.pool_core.specs.declared.slot.Slot.{Slot}
 use Rattle.std.proofs.Common.{◌≡◌, ℕ, suc, ◌^◌, ◌<◌, inl, inr, Bool, true, false, not, ◌||◌, List, length, set, get_or, Option, Some, None, slice_get, refl, sym, ap, subst, ◌∙◌, arith}
 use Rattle.std.specs.Prelude.{⊤, IfSome, IsSomeAnd, is_some, option_map, option_and_then, nat_le}
 use Rattle.std.proofs.lemmas.Bool.Decides.{nat_tests}
@@ -29,7 +30,7 @@ use Rattle.pool_machine.specs.Opening.{HasSlot, IsTaken}
 use Rattle.pool_machine.specs.Machine.{IsReachable, Offering, to_offering}
 use Rattle.pool_machine.specs.Nodes.{IsSoundRound, IsSoundNode}
 use Rattle.pool_machine.specs.Soundness.{IsSound}
-use Rattle.pool_core.specs.Views.{HasPlaces, IsPool, IsKeptPool}
+use Rattle.pool_core.specs.Views.{IsTakenBy, HasPlaces, IsPool, IsKeptPool}
 use Rattle.pool_machine.proofs.Lists.{sum_by-set_at, slice_get-set_same, slice_get-set_other, slice_get-set_cases}
 use Rattle.pool_machine.proofs.Frames.{same_or_other, one_at}
 use Rattle.pool_machine.proofs.Replacing.{node_at}
@@ -220,14 +221,15 @@ module _ (s : State) (id : BranchId) (round : Round) (is : round_of s id ≡ Som
 
 module _ (s : State) (id : BranchId) (old new : Node) (before after : Round) (is : slice_get s.nodes id.0 ≡ Some old)
     (was : old.round ≡ Some before) (now : new.round ≡ Some after) (same : after.slot ≡ before.slot) where
-  slot-there : (slot : ℕ) → IsTaken s slot → IsTaken (with_node s id new) slot
-  slot-there slot t = elim (same_or_other t.0 id.0) [
-    | inr ne ↦ (t.0, t.1, slice_get-set_other s.nodes id.0 t.0 new ne ∙ t.2, t.3)
+  slot-there : (slot n : ℕ) → IsTakenBy s slot n → IsTakenBy (with_node s id new) slot n
+  slot-there slot n t = elim (same_or_other n id.0) [
+    | inr ne ↦ (t.0, slice_get-set_other s.nodes id.0 n new ne ∙ t.1, t.2)
     | inl e ↦
-        let at : slice_get s.nodes id.0 ≡ Some t.1 = subst (λ (k : ℕ). slice_get s.nodes k ≡ Some t.1) e t.2 in
-        let node : t.1 ≡ old = one_at s.nodes id.0 t.1 old at is in
-        let had : before.slot ≡ slot = subst (λ (o : Option Round). IsSomeAnd o (λ r. r.slot ≡ slot)) was (subst (HasSlot slot) node t.3) in
-        (id.0, new, slice_get-set_same s.nodes id.0 old new is, subst (λ (o : Option Round). IsSomeAnd o (λ r. r.slot ≡ slot)) (sym now) (same ∙ had))
+        let at : slice_get s.nodes id.0 ≡ Some t.0 = subst (λ (k : ℕ). slice_get s.nodes k ≡ Some t.0) e t.1 in
+        let node : t.0 ≡ old = one_at s.nodes id.0 t.0 old at is in
+        let had : before.slot ≡ slot = subst (λ (o : Option Round). IsSomeAnd o (λ r. r.slot ≡ slot)) was (subst (HasSlot slot) node t.2) in
+        subst (λ (k : ℕ). IsTakenBy (with_node s id new) slot k) (sym e)
+        (new, slice_get-set_same s.nodes id.0 old new is, subst (λ (o : Option Round). IsSomeAnd o (λ r. r.slot ≡ slot)) (sym now) (same ∙ had))
   ]
 
   slot-back : (slot : ℕ) → IsTaken (with_node s id new) slot → IsTaken s slot
@@ -239,7 +241,7 @@ module _ (s : State) (id : BranchId) (old new : Node) (before after : Round) (is
   ]
 
   -- a node is replaced whose round keeps its slot: the places stay, whatever is counted
-  pub HasPlaces-slot : (places : List (Option Round)) (accepted : ℕ) → HasPlaces s places → HasPlaces (record s { nodes = set s.nodes id.0 new; accepted = accepted }) places
+  pub HasPlaces-slot : (places : List Slot) (accepted : ℕ) → HasPlaces s places → HasPlaces (record s { nodes = set s.nodes id.0 new; accepted = accepted }) places
   HasPlaces-slot places accepted h = record {
     count = h.count;
     total = (
@@ -249,7 +251,7 @@ module _ (s : State) (id : BranchId) (old new : Node) (before after : Round) (is
         let t = h.total in
         omega arith
         );
-    taken = λ slot x. slot-there slot (h.taken slot x);
+    taken = λ slot n x. slot-there slot n.0 (h.taken slot n x);
     free = λ slot place x t. h.free slot place x (slot-back slot t);
     slot_is = h.slot_is;
     demands = h.demands;
@@ -285,7 +287,7 @@ module _ (s : State) (offer : Offer) (may : MayOffer s offer) (item : Node) (rea
       becomes = ap (with_node s offer.node) cut-is;
     }
 
-    pub cut-kept : (table : Parts) (grounds : List (Option Rows)) (places : List (Option Round)) → IsKeptPool s table grounds places → IsKeptPool (with_node s offer.node new) table grounds places
+    pub cut-kept : (table : Parts) (grounds : List (Option Rows)) (places : List Slot) → IsKeptPool s table grounds places → IsKeptPool (with_node s offer.node new) table grounds places
     cut-kept table grounds places h = record {
       pool = record {
         reachable = IsReachable-step s (with_node s offer.node new) (Offering offer) (to_offering offered.CutTaken) h.pool.reachable takes-cut;
@@ -342,7 +344,7 @@ module _ (s : State) (offer : Offer) (may : MayOffer s offer) (item : Node) (rea
         becomes = ap (λ (n : ℕ). let t : State = record s { nodes = set s.nodes offer.node.0 new; accepted = n } in t) risen;
       }
 
-      pub accepted-kept : (table : Parts) (grounds : List (Option Rows)) (places : List (Option Round)) → IsKeptPool s table grounds places → IsKeptPool after table grounds places
+      pub accepted-kept : (table : Parts) (grounds : List (Option Rows)) (places : List Slot) → IsKeptPool s table grounds places → IsKeptPool after table grounds places
       accepted-kept table grounds places h = record {
         pool = record {
           reachable = IsReachable-step s after (Offering offer) (to_offering (offered.Accepted left)) h.pool.reachable accepts;
@@ -358,7 +360,7 @@ module _ (s : State) (offer : Offer) (may : MayOffer s offer) (item : Node) (rea
       }
 
       -- one more accepted path can be counted
-      pub accepted-small : (places : List (Option Round)) → IsPool s places → count < 2 ^ 64
+      pub accepted-small : (places : List Slot) → IsPool s places → count < 2 ^ 64
       accepted-small places h =
           let reachable = IsReachable-step s after (Offering offer) (to_offering (offered.Accepted left)) h.reachable accepts in
           IsSound-accepted after (IsReachable-sound after reachable) h.budget

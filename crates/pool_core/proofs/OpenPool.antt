@@ -1,8 +1,10 @@
 -- An opening on the pool's own fields is the event, and keeps what the pool is.
-use Rattle.std.proofs.Common.{◌≡◌, ◌≢◌, ℕ, suc, ◌<◌, ◌≤◌, inl, inr, true, false, not, List, length, set, get_or, replicate, Option, Some, None, slice_get, refl, sym, ap, ap₂, subst, ◌∙◌, arith, count_by, cond, length-set}
-use Rattle.std.specs.Prelude.{IfSome, IsSomeAnd, is_some, nat_le, Ok}
+use Rattle.pool_core.specs.declared.slot.Slot.{Slot}
+use Rattle.pool_core.specs.declared.slot.Slot.TheVariants.{Free, Of}
+use Rattle.std.proofs.Common.{◌≡◌, ◌≢◌, ℕ, suc, ◌+◌, ◌<◌, ◌≤◌, ◌⊎◌, inl, inr, true, false, not, List, length, set, get_or, replicate, Option, Some, None, slice_get, refl, sym, ap, ap₂, subst, ◌∙◌, arith, count_by, cond, length-set}
+use Rattle.std.specs.Prelude.{IfSome, IsSomeAnd, nat_le, Ok}
 use Rattle.std.proofs.lemmas.Bool.Decides.{nat_tests}
-use Rattle.std.proofs.lemmas.Option.{slice_get_within, get_or_from_slice_get}
+use Rattle.std.proofs.lemmas.Option.{slice_get_within, slice_get-get_or, get_or_from_slice_get}
 use Rattle.std.proofs.lemmas.List.Sums.{sum_by-le}
 use Rattle.std.proofs.lemmas.List.{length-replicate}
 use Rattle.plan_base.specs.declared.ids.BranchId.{BranchId}
@@ -19,7 +21,7 @@ use Rattle.pool_machine.specs.Changes.{is_spent, TakesRound}
 use Rattle.pool_machine.specs.Opening.{is_waiting, open_fault, HasSlot, IsTaken, empty_round, Opens}
 use Rattle.pool_machine.specs.Machine.{Opening, to_opening}
 use Rattle.pool_machine.specs.Nodes.{IsSoundRound, IsSoundNode}
-use Rattle.pool_core.specs.Views.{HasPlaces, IsFirstFree, IsPool, IsKeptPool}
+use Rattle.pool_core.specs.Views.{is_free, IsTakenBy, HasPlaces, IsFirstFree, IsPool, IsKeptPool}
 use Rattle.pool_machine.proofs.Lists.{sum_by-set_at, slice_get-set_same, slice_get-set_other, slice_get-set_cases}
 use Rattle.pool_machine.proofs.Frames.{same_or_other, one_at}
 use Rattle.pool_machine.proofs.Replacing.{node_at}
@@ -64,13 +66,29 @@ open_fault-none s id h =
     record { not_spent = is_spent-false s (when-none _ _ one.0); node = w.0; is_node = w.1; undone = w.2; no_round = w.3; room = grind (arith, nat_tests) }
 
 -- where no place is free, none is counted
-pub none_free : (places : List (Option Round)) → ((k : ℕ) → k < length places → slice_get places k ≡ Some None) → count_by is_some places ≡ 0
+pub none_free : (places : List Slot) → ((k : ℕ) → k < length places → (n : BranchId) × (slice_get places k ≡ Some (Of n))) → count_by is_free places ≡ 0
 none_free places h =
-    let most = sum_by-le (λ (o : Option Round). cond (is_some o) 1 0) 0 places
-    (λ k d within. subst (λ (o : Option Round). cond (is_some o) 1 0 ≤ 0) (sym (get_or_from_slice_get places k None d (h k within))) (omega arith)) in
+    let most = sum_by-le (λ (o : Slot). cond (is_free o) 1 0) 0 places
+    (λ k d within. let w = h k within in subst (λ (o : Slot). cond (is_free o) 1 0 ≤ 0) (sym (get_or_from_slice_get places k (Of w.0) d w.1)) (omega arith)) in
     omega arith
 
-module _ (s : State) (places : List (Option Round)) (id : BranchId) (slot : ℕ) (h : IsPool s places) (may : MayOpen s id) (first : IsFirstFree places slot) where
+-- a place that is not free names a node
+pub named : (places : List Slot) (slot : ℕ) (read : Slot) → slot < length places → read ≡ get_or places slot read → is_free read ≡ false → (n : BranchId) × (slice_get places slot ≡ Some (Of n))
+named places slot (Free place) within at not_free = absurd (let bad : true ≡ false = not_free in cc)
+named places slot (Of n) within at not_free = (n, slice_get-get_or places slot (Of n) within ∙ ap (λ (x : Slot). Some x) (sym at))
+
+below-or-last : (i n : ℕ) → i < n + 1 → (i < n) ⊎ (i ≡ n)
+below-or-last i n h = grind arith
+
+-- one place more
+pub named-more : (places : List Slot) (slot : ℕ) → ((k : ℕ) → k < slot → (n : BranchId) × (slice_get places k ≡ Some (Of n))) → (n : BranchId) × (slice_get places slot ≡ Some (Of n))
+    → (k : ℕ) → k < slot + 1 → (n : BranchId) × (slice_get places k ≡ Some (Of n))
+named-more places slot before here k below = elim (below-or-last k slot below) [
+  | inl less ↦ before k less
+  | inr last ↦ (here.0, subst (λ (i : ℕ). slice_get places i ≡ Some (Of here.0)) (sym last) here.1)
+]
+
+module _ (s : State) (places : List Slot) (id : BranchId) (slot : ℕ) (h : IsPool s places) (may : MayOpen s id) (first : IsFirstFree places slot) where
   -- the round that a place is begun as
   abbrev begun_round : Round → List ℕ → Round
   begun_round place prices = record { slot = place.slot; version = s.next_version; prices = prices; found = replicate (length place.found) None }
@@ -82,7 +100,7 @@ module _ (s : State) (places : List (Option Round)) (id : BranchId) (slot : ℕ)
   slot_is = h.has_places.slot_is slot first.place first.is_free
 
   pub slot-within : slot < MAX_ROUNDS
-  slot-within = let w = slice_get_within places slot (Some first.place) first.is_free in let c = h.has_places.count in omega arith
+  slot-within = let w = slice_get_within places slot (Free first.place) first.is_free in let c = h.has_places.count in omega arith
 
   is_empty : begun_round first.place may.node.first_prices ≡ empty
   is_empty =
@@ -107,19 +125,17 @@ module _ (s : State) (places : List (Option Round)) (id : BranchId) (slot : ℕ)
   version-small = IsSound-next_version s (IsReachable-sound s h.reachable) h.budget
 
   -- the place that is read is free
-  pub read-free : (read : Option Round) → read ≡ get_or places slot read → read ≡ None → ⊥
-  read-free read at_place none =
-      let same : Some first.place ≡ None = sym (at_place ∙ get_or_from_slice_get places slot (Some first.place) read first.is_free) ∙ none in
-      cc
+  pub read-free : (read : Slot) → read ≡ get_or places slot read → ((place : Round) → read ≡ Free place → ⊥) → ⊥
+  read-free read at_place not_free = not_free first.place (at_place ∙ get_or_from_slice_get places slot (Free first.place) read first.is_free)
 
   -- The node and the place as they are read, and the node when its round has begun
 
-  module _ (item : Node) (place : Round) (read : Option Round) (at_item : item ≡ get_or s.nodes id.0 item) (at_place : read ≡ get_or places slot read) (is : read ≡ Some place) where
+  module _ (item : Node) (place : Round) (read : Slot) (at_item : item ≡ get_or s.nodes id.0 item) (at_place : read ≡ get_or places slot read) (is : read ≡ Free place) where
     item_is : item ≡ may.node
     item_is = at_item ∙ get_or_from_slice_get s.nodes id.0 may.node item may.is_node
 
     place_is : place ≡ first.place
-    place_is = let same : Some place ≡ Some first.place = sym is ∙ (at_place ∙ get_or_from_slice_get places slot (Some first.place) read first.is_free) in cc
+    place_is = let same : Free place ≡ Free first.place = sym is ∙ (at_place ∙ get_or_from_slice_get places slot (Free first.place) read first.is_free) in cc
 
     pub place-fits : length item.first_prices ≡ length place.prices
     place-fits = ap (λ (x : Node). length x.first_prices) item_is ∙ (prices-fit ∙ sym (ap (λ (r : Round). length r.prices) place_is))
@@ -158,7 +174,7 @@ module _ (s : State) (places : List (Option Round)) (id : BranchId) (slot : ℕ)
       slot = record {
         within = slot-within;
         free = λ taken. h.has_places.free slot first.place first.is_free taken;
-        lowest = λ other below. h.has_places.taken other (first.lower other below);
+        lowest = λ other below. let w = first.lower other below in let t = h.has_places.taken other w.0 w.1 in (w.0.0, t.0, t.1, t.2);
       };
       version = refl;
       after = after;
@@ -169,14 +185,14 @@ module _ (s : State) (places : List (Option Round)) (id : BranchId) (slot : ℕ)
     after-round : after.round ≡ Some empty
     after-round = TakesRound-round s.problem may.node empty after takes
 
-    taken-there : (k : ℕ) → IsTaken s k → IsTaken next k
-    taken-there k t = elim (same_or_other t.0 id.0) [
-      | inr ne ↦ (t.0, t.1, slice_get-set_other s.nodes id.0 t.0 after ne ∙ t.2, t.3)
+    taken-there : (k n : ℕ) → IsTakenBy s k n → IsTakenBy next k n
+    taken-there k n t = elim (same_or_other n id.0) [
+      | inr ne ↦ (t.0, slice_get-set_other s.nodes id.0 n after ne ∙ t.1, t.2)
       | inl e ↦
-          let at : slice_get s.nodes id.0 ≡ Some t.1 = subst (λ (i : ℕ). slice_get s.nodes i ≡ Some t.1) e t.2 in
-          let node : t.1 ≡ may.node = one_at s.nodes id.0 t.1 may.node at may.is_node in
-          let none : t.1.round ≡ None = ap (λ (x : Node). x.round) node ∙ may.no_round in
-          let bad : ⊥ = subst (λ (o : Option Round). IsSomeAnd o (λ r. r.slot ≡ k)) none t.3 in
+          let at : slice_get s.nodes id.0 ≡ Some t.0 = subst (λ (i : ℕ). slice_get s.nodes i ≡ Some t.0) e t.1 in
+          let node : t.0 ≡ may.node = one_at s.nodes id.0 t.0 may.node at may.is_node in
+          let none : t.0.round ≡ None = ap (λ (x : Node). x.round) node ∙ may.no_round in
+          let bad : ⊥ = subst (λ (o : Option Round). IsSomeAnd o (λ r. r.slot ≡ k)) none t.2 in
           absurd bad
     ]
 
@@ -192,25 +208,28 @@ module _ (s : State) (places : List (Option Round)) (id : BranchId) (slot : ℕ)
     ]
 
     -- a place that is free afterwards was free before, and is another one
-    was_free : (k : ℕ) (place : Round) → slice_get (set places slot None) k ≡ Some (Some place) → (k ≢ slot) × (slice_get places k ≡ Some (Some place))
-    was_free k place is = elim (slice_get-set_cases places slot k None (Some place) is) [ inl w ↦ absurd (let bad = w.1 in cc) | inr w ↦ w ]
+    was_free : (k : ℕ) (place : Round) → slice_get (set places slot (Of id)) k ≡ Some (Free place) → (k ≢ slot) × (slice_get places k ≡ Some (Free place))
+    was_free k place is = elim (slice_get-set_cases places slot k (Of id) (Free place) is) [ inl w ↦ absurd (let bad : Free place ≡ Of id = w.1 in cc) | inr w ↦ w ]
 
-    has_places : HasPlaces next (set places slot None)
+    has_places : HasPlaces next (set places slot (Of id))
     has_places =
         let p = h.has_places in
         record {
-          count = length-set places slot None ∙ p.count;
+          count = length-set places slot (Of id) ∙ p.count;
           total = (
-              let c = sum_by-set_at (λ (o : Option Round). cond (is_some o) 1 0) places slot (Some first.place) None first.is_free in
+              let c = sum_by-set_at (λ (o : Slot). cond (is_free o) 1 0) places slot (Free first.place) (Of id) first.is_free in
               let a = sum_by-set_at rounds_in s.nodes id.0 may.node after may.is_node in
               let none : rounds_in may.node ≡ 0 = ap rounds_by may.no_round in
               let one : rounds_in after ≡ 1 = ap rounds_by after-round in
               let t = p.total in
               omega arith
               );
-          taken = λ k is. elim (slice_get-set_cases places slot k None None is) [
-            | inl w ↦ (id.0, after, slice_get-set_same s.nodes id.0 may.node after may.is_node, subst (λ (i : ℕ). HasSlot i after) (sym w.0) has_slot)
-            | inr w ↦ taken-there k (p.taken k w.1)
+          taken = λ k n is. elim (slice_get-set_cases places slot k (Of id) (Of n) is) [
+            | inl w ↦
+                let same : n ≡ id = (let e : Of n ≡ Of id = w.1 in cc) in
+                subst (λ (b : BranchId). IsTakenBy next k b.0) (sym same)
+                (after, slice_get-set_same s.nodes id.0 may.node after may.is_node, subst (λ (i : ℕ). HasSlot i after) (sym w.0) has_slot)
+            | inr w ↦ taken-there k n.0 (p.taken k n w.1)
           ];
           free = λ k place is t. let w = was_free k place is in p.free k place w.1 (taken-back k w.0 t);
           slot_is = λ k place is. p.slot_is k place (was_free k place is).1;
@@ -218,7 +237,7 @@ module _ (s : State) (places : List (Option Round)) (id : BranchId) (slot : ℕ)
           prices = λ k place is. p.prices k place (was_free k place is).1;
         }
 
-    opened-IsPool : IsPool next (set places slot None)
+    opened-IsPool : IsPool next (set places slot (Of id))
     opened-IsPool = record {
       some_budget = h.some_budget;
       budget = h.budget;
@@ -226,17 +245,17 @@ module _ (s : State) (places : List (Option Round)) (id : BranchId) (slot : ℕ)
       has_places = has_places;
     }
 
-    pub opened-kept : (table : Parts) (grounds : List (Option Rows)) (item : Node) (left : Option Round) → item ≡ get_or s.nodes id.0 item → left ≡ None → IsKeptPool s table grounds places
+    pub opened-kept : (table : Parts) (grounds : List (Option Rows)) (item : Node) (left : Slot) → item ≡ get_or s.nodes id.0 item → left ≡ Of id → IsKeptPool s table grounds places
         → IsKeptPool next table grounds (set places slot left)
     opened-kept table grounds item left at_item none kept =
         let same : item ≡ may.node = at_item ∙ get_or_from_slice_get s.nodes id.0 may.node item may.is_node in
         record {
-          pool = subst (λ (o : Option Round). IsPool next (set places slot o)) (sym none) opened-IsPool;
+          pool = subst (λ (o : Slot). IsPool next (set places slot o)) (sym none) opened-IsPool;
           table_is = kept.table_is;
           has_grounds = HasGrounds-set s.problem s.nodes grounds id.0 item after (slice_get_within s.nodes id.0 may.node may.is_node) at_item
               (TakesRound-limits s.problem may.node empty after takes ∙ ap (λ (x : Node). x.limits) (sym same))
               (TakesRound-fate s.problem may.node empty after takes ∙ ap (λ (x : Node). x.fate) (sym same)) kept.has_grounds;
         }
 
-pub some_free : (s : State) (places : List (Option Round)) (id : BranchId) → IsPool s places → MayOpen s id → 0 < count_by is_some places
+pub some_free : (s : State) (places : List Slot) (id : BranchId) → IsPool s places → MayOpen s id → 0 < count_by is_free places
 some_free s places id h may = let t = h.has_places.total in let r = may.room in omega arith

@@ -1,5 +1,5 @@
 -- How the pool's fields show a state, and what holds of them.
-use Rattle.std.specs.Prelude.{ℕ, ◌≡◌, ◌<◌, ◌≤◌, ◌+◌, List, length, count_by, is_some, Option, Some, None, slice_get, slice_set}
+use Rattle.std.specs.Prelude.{ℕ, ◌≡◌, ◌<◌, ◌≤◌, ◌+◌, Bool, true, false, List, length, count_by, Option, Some, None, slice_get, slice_set}
 use Rattle.pool_machine.specs.declared.limits.TheConstants.{MAX_ROUNDS, MAX_BUDGET}
 use Rattle.plan_base.specs.declared.parts.Parts.{Parts}
 use Rattle.arc_restrict.specs.Rows.{Rows}
@@ -9,42 +9,60 @@ use Rattle.pool_nodes.specs.declared.reason.Reason.{Reason}
 use Rattle.pool_nodes.specs.Grounds.{HasGrounds}
 use Rattle.pool_machine.specs.State.{Round, Node, State, active_count}
 use Rattle.pool_nodes.specs.Rounds.{evidence_for}
-use Rattle.pool_machine.specs.Opening.{IsTaken}
+use Rattle.pool_machine.specs.Opening.{HasSlot, IsTaken}
+use Rattle.pool_core.specs.declared.slot.Slot.{Slot}
+use Rattle.pool_core.specs.declared.slot.Slot.TheVariants.{Free, Of}
 use Rattle.pool_machine.specs.Closing.{closed_by}
 use Rattle.pool_machine.specs.Changes.{examined_with}
 use Rattle.pool_machine.specs.Machine.{IsReachable}
 
--- each slot that no round has is a free place with room for one length for each demand and one price for each link
-pub record HasPlaces (s : State) (places : List (Option Round)) : Type 0 where
+-- whether a slot is free
+abbrev pub is_free : Slot → Bool
+is_free (Free place) = true
+is_free (Of id) = false
+
+-- the node that a slot names, if it is there and taken
+abbrev pub holder_in : Option Slot → Option BranchId
+holder_in None = None
+holder_in (Some (Free place)) = None
+holder_in (Some (Of id)) = Some id
+
+-- the round of the node of this number has the slot
+abbrev pub IsTakenBy : State → ℕ → ℕ → Type 0
+IsTakenBy s slot n = (node : Node) × (slice_get s.nodes n ≡ Some node) × HasSlot slot node
+
+-- each slot that no round has is free, with a place that has room for one length for each demand and one price for
+-- each link; each other one names the node whose round has it
+pub record HasPlaces (s : State) (places : List Slot) : Type 0 where
   pub count : length places ≡ MAX_ROUNDS
-  pub total : count_by is_some places + active_count s ≡ MAX_ROUNDS
-  pub taken : (slot : ℕ) → slice_get places slot ≡ Some None → IsTaken s slot
-  pub free : (slot : ℕ) (place : Round) → slice_get places slot ≡ Some (Some place) → IsTaken s slot → ⊥
-  pub slot_is : (slot : ℕ) (place : Round) → slice_get places slot ≡ Some (Some place) → place.slot ≡ slot
-  pub demands : (slot : ℕ) (place : Round) → slice_get places slot ≡ Some (Some place) → length place.found ≡ length s.problem.demands
-  pub prices : (slot : ℕ) (place : Round) → slice_get places slot ≡ Some (Some place) → length place.prices ≡ length s.problem.links
+  pub total : count_by is_free places + active_count s ≡ MAX_ROUNDS
+  pub taken : (slot : ℕ) (id : BranchId) → slice_get places slot ≡ Some (Of id) → IsTakenBy s slot id.0
+  pub free : (slot : ℕ) (place : Round) → slice_get places slot ≡ Some (Free place) → IsTaken s slot → ⊥
+  pub slot_is : (slot : ℕ) (place : Round) → slice_get places slot ≡ Some (Free place) → place.slot ≡ slot
+  pub demands : (slot : ℕ) (place : Round) → slice_get places slot ≡ Some (Free place) → length place.found ≡ length s.problem.demands
+  pub prices : (slot : ℕ) (place : Round) → slice_get places slot ≡ Some (Free place) → length place.prices ≡ length s.problem.links
 
 -- each of the first places is free, has its own number as slot, and has room for so many demands and prices
-pub record AreFreePlaces (count demands links : ℕ) (places : List (Option Round)) : Type 0 where
+pub record AreFreePlaces (count demands links : ℕ) (places : List Slot) : Type 0 where
   pub length_is : length places ≡ count
-  pub each : (slot : ℕ) → slot < count → (place : Round) × (slice_get places slot ≡ Some (Some place))
+  pub each : (slot : ℕ) → slot < count → (place : Round) × (slice_get places slot ≡ Some (Free place))
       × (place.slot ≡ slot) × (length place.found ≡ demands) × (length place.prices ≡ links)
 
 -- the first free place
-pub record IsFirstFree (places : List (Option Round)) (slot : ℕ) : Type 0 where
+pub record IsFirstFree (places : List Slot) (slot : ℕ) : Type 0 where
   pub place : Round
-  pub is_free : slice_get places slot ≡ Some (Some place)
-  pub lower : (k : ℕ) → k < slot → slice_get places k ≡ Some None
+  pub is_free : slice_get places slot ≡ Some (Free place)
+  pub lower : (k : ℕ) → k < slot → (id : BranchId) × (slice_get places k ≡ Some (Of id))
 
 -- the state is one that events lead to, and the places are those of its free slots
-pub record IsPool (s : State) (places : List (Option Round)) : Type 0 where
+pub record IsPool (s : State) (places : List Slot) : Type 0 where
   pub reachable : IsReachable s
   pub some_budget : 0 < s.budget
   pub budget : s.budget ≤ MAX_BUDGET
   pub has_places : HasPlaces s places
 
 -- a pool with the step table of its instance and the restrictions of its open leaves
-pub record IsKeptPool (s : State) (table : Parts) (grounds : List (Option Rows)) (places : List (Option Round)) : Type 0 where
+pub record IsKeptPool (s : State) (table : Parts) (grounds : List (Option Rows)) (places : List Slot) : Type 0 where
   pub pool : IsPool s places
   pub table_is : table ≡ s.problem
   pub has_grounds : HasGrounds s.problem s.nodes grounds
@@ -57,9 +75,9 @@ IsPublishedAt s slot (Some published) =
     × (round.slot ≡ slot) × (round.version ≡ published.version) × (round.prices ≡ published.prices)
 
 -- the places when the round of a node has ended
-abbrev pub given_back : List (Option Round) → Option Round → List (Option Round)
+abbrev pub given_back : List Slot → Option Round → List Slot
 given_back places None = places
-given_back places (Some round) = slice_set places round.slot (Some round)
+given_back places (Some round) = slice_set places round.slot (Free round)
 
 -- the state in which the node that is there is closed for the reason
 abbrev pub closed_at : State → BranchId → Reason → Option Node → State

@@ -1,20 +1,18 @@
--- What one thread keeps while it works off a node; no public contract cites it.
-use Rattle.std.specs.Prelude.{ℕ, ◌+◌, ◌≡◌, ◌≢◌, ◌<◌, ◌⊎◌, Bool, true, false, not, ◌&&◌, Option, Some, None, slice_get, if◌then◌else◌, nat_lt}
+-- What one thread's steps at a leaf keep; no public contract cites it.
+use Rattle.std.specs.Prelude.{ℕ, ◌+◌, ◌≡◌, ◌<◌, Bool, true, false, not, ◌&&◌, length, Option, Some, None, slice_get, nat_lt}
 use Rattle.plan_base.specs.declared.ids.BranchId.{BranchId}
 use Rattle.plan_base.specs.declared.ids.DemandId.{DemandId}
 use Rattle.pool_machine.specs.declared.limits.TheConstants.{MAX_ROUNDS, MAX_VERSIONS}
 use Rattle.pool_machine.specs.declared.answers.NodeState.{NodeState}
 use Rattle.pool_machine.specs.declared.answers.NodeState.TheVariants as state
-use Rattle.pool_machine.specs.Tasks.{LeadsTo}
+use Rattle.pool_machine.specs.declared.task.Task.{Task}
+use Rattle.pool_machine.specs.declared.task.Task.TheVariants as task
 use Rattle.pool_machine.specs.declared.tree.HeldCut.{HeldCut}
-use Rattle.pool_machine.specs.State.{Round, Node, State, left_of, left_in, active_count, state_of, round_of}
-use Rattle.pool_machine.specs.Changes.{is_version, has_cut, first_gap}
-use Rattle.pool_machine.specs.Machine.{IsReachable}
-
--- events lead from the one state to the other, and none of them has examined a node
-pub record OnlyPrices (old new : State) : Type 0 where
-  pub leads : LeadsTo old new
-  pub examined : new.examined ≡ old.examined
+use Rattle.pool_machine.specs.State.{Round, Node, State, left_of, active_count, state_of}
+use Rattle.pool_machine.specs.Opening.{open_fault}
+use Rattle.pool_machine.specs.Closing.{close_fault}
+use Rattle.pool_machine.specs.Readiness.{examine_refusal}
+use Rattle.pool_machine.specs.Tasks.{IsToPrice, IsToAdvance, LeadsTo}
 
 -- a node in this state has a round, or waits where a slot is free
 abbrev pub is_next_in : Bool → NodeState → Bool
@@ -31,31 +29,53 @@ abbrev pub may_go_on_in : Option Node → Bool
 may_go_on_in None = false
 may_go_on_in (Some node) = not node.settled && nat_lt node.completed MAX_VERSIONS
 
--- the node has a round of the version, and the budget is not spent
-pub record IsAtWork (s : State) (id : BranchId) (version : ℕ) : Type 0 where
-  pub reachable : IsReachable s
-  pub not_spent : s.examined < s.budget
-  pub node : Node
-  pub round : Round
-  pub is_node : slice_get s.nodes id.0 ≡ Some node
-  pub is_round : node.round ≡ Some round
-  pub is_version : round.version ≡ version
+-- the demand is to be priced in the node's round of the version
+abbrev pub IsGap : State → BranchId → ℕ → DemandId → Type 0
+IsGap s id version k = (slot : ℕ) × IsToPrice s id slot version k
 
--- the same, and each demand of the round is priced or the node has a cut
-pub record IsPricedOut (s : State) (id : BranchId) (version : ℕ) : Type 0 where
-  pub at_work : IsAtWork s id version
-  pub priced : (left_of at_work.round ≡ 0) ⊎ (at_work.node.cut ≢ None)
-
--- the first demand that the node's round has not priced; none where the node has a cut
-abbrev pub gap_in : State → BranchId → Option DemandId
-gap_in s id = if has_cut (slice_get s.nodes id.0) then None else first_gap (round_of s id)
+-- the task is one at this node, and its call would not be refused now
+abbrev pub IsStepAt : State → BranchId → Task → Type 0
+IsStepAt s id (task.Open at) = (at ≡ id) × (open_fault s id ≡ None)
+IsStepAt s id (task.Price at slot version k) = (at ≡ id) × IsToPrice s id slot version k
+IsStepAt s id (task.Master at version) = (at ≡ id) × IsToAdvance s id version
+IsStepAt s id (task.Close at) = (at ≡ id) × (close_fault s id ≡ None)
+IsStepAt s id (task.Examine at) = (at ≡ id) × (examine_refusal s id ≡ None)
+IsStepAt s id task.Done = ⊥
 
 -- 1 for a node without a cut
 abbrev pub cut_left : Option HeldCut → ℕ
 cut_left None = 1
 cut_left (Some cut) = 0
 
--- how many demands of the node's round are not priced, and one more where it has no cut
-abbrev pub work_in : Option Node → ℕ
-work_in None = 0
-work_in (Some node) = left_in node + cut_left node.cut
+-- 1 for a node that is not settled
+abbrev pub unsettled_left : Bool → ℕ
+unsettled_left true = 0
+unsettled_left false = 1
+
+-- how many steps are left at the most at a node of so many demands, before it is closed or divided
+abbrev pub steps_by : ℕ → Option Round → Option HeldCut → Bool → ℕ
+steps_by demands None cut settled = demands + 3
+steps_by demands (Some round) cut settled = left_of round + cut_left cut + unsettled_left settled
+
+-- the same of the node that is there
+abbrev pub steps_in : ℕ → Option Node → ℕ
+steps_in demands None = 0
+steps_in demands (Some node) = steps_by demands node.round node.cut node.settled
+
+-- the same of the node of this number
+abbrev pub steps_left : State → BranchId → ℕ
+steps_left s id = steps_in (length s.problem.demands) (slice_get s.nodes id.0)
+
+-- the node is an open leaf still, with fewer steps left, and no other node is examined
+pub record IsCloser (s t : State) (id : BranchId) : Type 0 where
+  pub examined : t.examined ≡ s.examined
+  pub next : is_next t id ≡ true
+  pub fewer : steps_left t id < steps_left s id
+
+-- events lead from the one state to the other, and change no node and no count that a step goes by
+pub record KeepsNodes (s t : State) : Type 0 where
+  pub leads : LeadsTo s t
+  pub problem : t.problem ≡ s.problem
+  pub nodes : t.nodes ≡ s.nodes
+  pub examined : t.examined ≡ s.examined
+  pub budget : t.budget ≡ s.budget

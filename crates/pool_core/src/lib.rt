@@ -10,12 +10,10 @@
 pub mod limits;
 mod pool;
 mod shared;
+mod slot;
 
 pub use pool::Pool;
 pub use pool_machine::{
     Better, Closing, ExamineFault, Examined, Fate, Found, HeldCut, Incumbent, NodeState, Offer,
     Offered, Opened, RoundFault, Settle, Task, laws,
 };
-
-#[cfg(test)]
-mod tests;

@@ -1,8 +1,8 @@
 //! The pool: each call is one event of the machine.
 
-ghost use Rattle.std.specs.Prelude.{◌≡◌, ◌<◌, ◌≤◌, ◌↔◌, IsTrue, true, false, None, Some, length, slice_get, is_some, count_by};
+ghost use Rattle.std.specs.Prelude.{◌≡◌, ◌<◌, ◌≤◌, ◌↔◌, IsTrue, true, false, None, Some, length, slice_get, option_map, count_by};
 ghost use Rattle.pool_machine.specs.State.{State, Node, Round, state_of, round_of, cutoff_of, active_count};
-ghost use Rattle.pool_core.specs.Views.{IsFirstFree};
+ghost use Rattle.pool_core.specs.Views.{is_free, IsFirstFree};
 ghost use Rattle.pool_machine.specs.Opening.{open_fault, OpenStep, is_waiting};
 ghost use Rattle.pool_machine.specs.Changes.{is_spent, version_in, is_version, first_gap};
 ghost use Rattle.pool_machine.specs.Settling.{settle_fault, SettleStep};
@@ -17,12 +17,13 @@ mod reading;
 mod running;
 mod tasks;
 
+use crate::slot::Slot;
 use leaf_work::KnownAbove;
 use link_steps::StepTable;
 use plan_base::{BranchId, DemandId, Instance};
 use pool_machine::limits::MAX_ROUNDS;
 use pool_machine::{Incumbent, NodeState, Opened, RoundFault, Settle};
-use pool_nodes::{Ground, PoolNode, PoolRound};
+use pool_nodes::{Ground, PoolNode};
 use std::alloc::Global;
 use std::marker::Model;
 use std::sync::Arc;
@@ -39,8 +40,8 @@ pub struct Pool {
     nodes: Vec<PoolNode>,
     /// For each node what is forbidden there, while it is an open leaf.
     grounds: Vec<Ground>,
-    /// A free slot has its place here; an active round has taken it along.
-    places: Vec<Option<PoolRound>>,
+    /// The slots of rounds, 64.
+    places: Vec<Slot>,
     incumbent: Option<Incumbent>,
     examined: u32,
     budget: u32,
@@ -86,11 +87,18 @@ impl Pool {
         self.examined
     }
 
+    /// The node of this number, if there is one.
+    fn node(&self, node: BranchId) -> Option<&PoolNode>
+        ensures { option_map (λ x. x.now) result ≡ slice_get self.now.nodes node.0 }
+    {
+        self.nodes.get(node.0 as usize)
+    }
+
     /// What a node is now; `Unknown` where there is no node of this number.
     pub fn state(&self, node: BranchId) -> NodeState
         ensures { result ≡ state_of self.now node }
     {
-        match self.nodes.get(node.0 as usize) {
+        match self.node(node) {
             Some(node) => node.state(),
             None => NodeState::Unknown,
         }
@@ -106,10 +114,7 @@ impl Pool {
     fn current(&self, node: BranchId) -> Option<u64>
         ensures { result ≡ version_in (round_of self.now node) }
     {
-        match self.nodes.get(node.0 as usize) {
-            Some(node) => node.version(),
-            None => None,
-        }
+        self.node(node)?.version()
     }
 
     /// How many rounds are active.
@@ -154,8 +159,8 @@ impl Pool {
         }
         let slot = first_free(self.places.as_slice());
         let free = &mut self.places[slot];
-        let Some(place) = free.take() else {
-            return Err(RoundFault::Crowded { active: MAX_ROUNDS });
+        let Slot::Free(place) = std::mem::replace(free, Slot::Of(node)) else {
+            unreachable!();
         };
         let version = self.next_version;
         let opened = &mut self.nodes[node.0 as usize];
@@ -172,10 +177,7 @@ impl Pool {
     fn first_gap(&self, node: BranchId) -> Option<DemandId>
         ensures { result ≡ first_gap (round_of self.now node) }
     {
-        match self.nodes.get(node.0 as usize) {
-            Some(node) => node.first_gap(),
-            None => None,
-        }
+        self.node(node)?.first_gap()
     }
 
     #[tactic(auto, unfolding(pool_machine::specs::Settling::settle_fault))]
@@ -213,19 +215,19 @@ impl Pool {
     }
 }
 
-fn free_count(places: &[Option<PoolRound>]) -> usize
-    ensures { result ≡ count_by is_some places.now }
+fn free_count(places: &[Slot]) -> usize
+    ensures { result ≡ count_by is_free places.now }
 {
-    places.iter().filter(|place| place.is_some()).count()
+    places.iter().filter(|place| place.is_free()).count()
 }
 
 /// The first place that is free.
-fn first_free(places: &[Option<PoolRound>]) -> usize
-    requires { 0 < count_by is_some places.now }
+fn first_free(places: &[Slot]) -> usize
+    requires { 0 < count_by is_free places.now }
     ensures { IsFirstFree places.now result }
 {
     for (slot, place) in places.iter().enumerate() {
-        if place.is_some() {
+        if place.is_free() {
             return slot;
         }
     }

@@ -9,11 +9,13 @@
 
 mod ground;
 mod node;
+mod rank;
 mod reason;
 mod round;
 mod shared;
 
 pub use ground::Ground;
 pub use node::PoolNode;
+pub use rank::Rank;
 pub use reason::Reason;
 pub use round::PoolRound;

@@ -13,6 +13,7 @@ mod making;
 mod planning;
 mod working;
 
+use crate::rank::Rank;
 use crate::round::PoolRound;
 use branch_tree::Limit;
 use dual_versions::Published;
@@ -39,6 +40,8 @@ pub struct PoolNode {
     crowd_prices: Option<Prices>,
     settled: bool,
     round: Option<PoolRound>,
+    /// What was known when it was made.
+    above: Rank,
 }
 
 impl Model for PoolNode {
@@ -179,6 +182,11 @@ impl PoolNode {
             Some(round) => round.is_priced(demand),
             None => false,
         }
+    }
+
+    /// By what the node is chosen while it is an open leaf: its recorded bound, or else that of its parent.
+    pub fn rank(&self) -> Rank {
+        self.above.at_bound(self.best_bound)
     }
 
     /// Whether the node has a cut.

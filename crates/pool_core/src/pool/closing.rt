@@ -10,6 +10,7 @@ ghost use Rattle.pool_nodes.specs.Rounds.{HasReason};
 ghost use Rattle.pool_core.specs.Views.{closed_at, given_back};
 
 use super::Pool;
+use crate::slot::Slot;
 use plan_base::{BranchId, Design, DesignFault, check_design};
 use pool_machine::{Better, Closing, Incumbent, NodeState};
 use pool_nodes::{PoolRound, Reason};
@@ -26,13 +27,13 @@ pub fn is_open_state(state: NodeState) -> bool
 }
 
 /// Puts the place of a round that has ended back into its slot. Takes no memory.
-pub fn give_back(places: &mut Vec<Option<PoolRound>>, round: Option<PoolRound>)
+pub fn give_back(places: &mut Vec<Slot>, round: Option<PoolRound>)
     requires { IfSome round (λ r. r.slot < length places.old.items) }
     ensures { places.new.items ≡ given_back places.old.items round }
 {
     if let Some(place) = round {
         let slot = place.slot() as usize;
-        places[slot] = Some(place);
+        places[slot] = Slot::Free(place);
     }
 }
 
@@ -41,7 +42,7 @@ impl Pool {
     pub(crate) fn is_closable(&self, node: BranchId) -> bool
         ensures { result ≡ closable_in (cutoff_of self.now) (slice_get self.now.nodes node.0) }
     {
-        match self.nodes.get(node.0 as usize) {
+        match self.node(node) {
             Some(node) => node.is_closable(self.incumbent()),
             None => false,
         }

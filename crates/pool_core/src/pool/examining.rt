@@ -29,7 +29,7 @@ impl Pool {
     fn completed(&self, node: BranchId) -> u32
         ensures { result ≡ completed_in (slice_get self.now.nodes node.0) }
     {
-        match self.nodes.get(node.0 as usize) {
+        match self.node(node) {
             Some(node) => node.completed(),
             None => 0,
         }
@@ -39,7 +39,7 @@ impl Pool {
     fn is_settled(&self, node: BranchId) -> bool
         ensures { result ≡ settled_in (slice_get self.now.nodes node.0) }
     {
-        match self.nodes.get(node.0 as usize) {
+        match self.node(node) {
             Some(node) => node.is_settled(),
             None => false,
         }

@@ -7,30 +7,27 @@ ghost use Rattle.pool_machine.specs.Machine.{IsOpeningState};
 ghost use Rattle.pool_core.specs.Views.{AreFreePlaces};
 
 use super::Pool;
+use crate::slot::Slot;
 use arc_restrict::Restriction;
 use leaf_work::KnownAbove;
 use link_steps::StepTable;
 use plan_base::{Instance, Items, Prices};
 use pool_machine::limits::MAX_ROUNDS;
-use pool_nodes::{Ground, PoolNode, PoolRound};
+use pool_nodes::{Ground, PoolNode, PoolRound, Rank};
 use std::alloc::{AllocError, Global};
 use std::sync::Arc;
 
 /// A free place for each slot.
 ///
 /// - Takes: one price for each link, which are put into each place.
-fn free_places(
-    alloc: Global,
-    inst: &Instance,
-    prices: &Prices,
-) -> Result<Vec<Option<PoolRound>>, AllocError>
+fn free_places(alloc: Global, inst: &Instance, prices: &Prices) -> Result<Vec<Slot>, AllocError>
     requires { length prices.now ≡ length inst.now.links }
     ensures { IfOk result (λ places. AreFreePlaces MAX_ROUNDS (length inst.now.demands) (length inst.now.links) places.items) }
 {
     let mut places = Vec::new(alloc);
     for slot in 0..MAX_ROUNDS {
         let place = PoolRound::new(alloc, slot, inst, prices)?;
-        places.push(Some(place))?;
+        places.push(Slot::Free(place))?;
     }
     Ok(places)
 }
@@ -58,7 +55,7 @@ impl Pool {
         let places = free_places(alloc, &*inst, &prices)?;
         let none = Restriction::none(alloc, &*inst)?;
         let rows = Arc::new(alloc, none)?;
-        let root = PoolNode::new(Items::new(alloc), prices)?;
+        let root = PoolNode::new(Items::new(alloc), prices, Rank::root())?;
         let nodes = vec![in alloc; root]?;
         let grounds = vec![in alloc; Ground::of(rows)]?;
         Ok(Pool {

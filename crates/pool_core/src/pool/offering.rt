@@ -1,6 +1,6 @@
 //! Offers: priced demands, and sets that show that a demand has no path.
 
-ghost use Rattle.std.specs.Prelude.{◌≡◌, ◌<◌, ◌||◌, length, slice_get, option_map};
+ghost use Rattle.std.specs.Prelude.{◌≡◌, ◌<◌, None, ◌||◌, length, slice_get, option_map};
 ghost use Rattle.arc_restrict.specs.Rows.{forbids};
 ghost use Rattle.path_pricing.specs.Priced.{ArePrices};
 ghost use Rattle.path_pricing.specs.Faults.{priced_fault};
@@ -21,7 +21,7 @@ impl Pool {
     fn is_priced(&self, node: BranchId, demand: DemandId) -> bool
         ensures { result ≡ is_priced (round_of self.now node) demand.0 }
     {
-        match self.nodes.get(node.0 as usize) {
+        match self.node(node) {
             Some(node) => node.is_priced(demand),
             None => false,
         }
@@ -31,7 +31,7 @@ impl Pool {
     pub(super) fn has_cut(&self, node: BranchId) -> bool
         ensures { result ≡ has_cut (slice_get self.now.nodes node.0) }
     {
-        match self.nodes.get(node.0 as usize) {
+        match self.node(node) {
             Some(node) => node.has_cut(),
             None => false,
         }
@@ -48,10 +48,7 @@ impl Pool {
     fn active_round(&self, node: BranchId) -> Option<&PoolRound>
         ensures { option_map (λ r. r.now) result ≡ round_of self.now node }
     {
-        match self.nodes.get(node.0 as usize) {
-            Some(node) => node.round(),
-            None => None,
-        }
+        self.node(node)?.round()
     }
 
     /// What is wrong with what was found for a demand, under the prices of a round and a restriction.
@@ -125,6 +122,14 @@ impl Pool {
         if let Some(refusal) = self.offer_refusal(&offer) {
             return refusal;
         }
+        self.take(offer)
+    }
+
+    /// Takes an offer that is not refused, without testing it again. Takes no memory.
+    pub(super) fn take(&mut self, offer: Offer) -> Offered
+        requires { offer_fault self.old offer ≡ None }
+        ensures event { OfferStep self.old offer result self.new }
+    {
         let Offer {
             node,
             version: _version,

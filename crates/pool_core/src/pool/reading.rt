@@ -6,9 +6,12 @@ ghost use Rattle.arc_restrict.specs.Rows.{forbids};
 ghost use Rattle.pool_machine.specs.State.{state_of, cutoff_of, restriction_of};
 ghost use Rattle.pool_machine.specs.Changes.{bound_in, is_open_state};
 ghost use Rattle.pool_machine.specs.Opening.{is_waiting};
-ghost use Rattle.pool_core.specs.Views.{IsPublishedAt};
+ghost use Rattle.pool_machine.specs.Machine.{IsReachable};
+ghost use Rattle.pool_machine.specs.Soundness.{IsSound};
+ghost use Rattle.pool_core.specs.Views.{holder_in, IsPublishedAt};
 
 use super::Pool;
+use crate::slot::Slot;
 use arc_restrict::Restriction;
 use dual_versions::Published;
 use link_steps::StepTable;
@@ -29,10 +32,7 @@ impl Pool {
     pub fn bound(&self, node: BranchId) -> Option<i128>
         ensures { result ≡ bound_in (slice_get self.now.nodes node.0) }
     {
-        match self.nodes.get(node.0 as usize) {
-            Some(node) => node.bound(),
-            None => None,
-        }
+        self.node(node)?.bound()
     }
 
     /// The cost of the best design so far, in cost grains; None exactly where there is none.
@@ -54,10 +54,7 @@ impl Pool {
         if !super::is_waiting(self.state(node)) {
             return None;
         }
-        match self.nodes.get(node.0 as usize) {
-            Some(node) => Some(node.first_prices()),
-            None => None,
-        }
+        Some(self.node(node)?.first_prices())
     }
 
     /// What is forbidden at an open leaf; None exactly where the node is none.
@@ -78,18 +75,18 @@ impl Pool {
     pub fn prices(&self, slot: u32) -> Result<Option<Published>, AllocError>
         ensures { IfOk result (IsPublishedAt self.now slot) }
     {
-        for place in 0..self.nodes.len() {
-            let node = BranchId(place as u32);
-            if let Some(published) = self.nodes[place].published(node, slot)? {
-                return Ok(Some(published));
-            }
+        match holder(self.places.as_slice(), slot) {
+            Some(node) => self.nodes[node.0 as usize].published(node, slot),
+            None => Ok(None),
         }
-        Ok(None)
     }
 
-    /// The instance.
+    /// The instance. Whoever asks knows that events lead to the pool's state, and so that it is sound, wherever the pool
+    /// comes from.
     pub fn instance(&self) -> &Arc<Instance>
-        ensures { arc_value result.now ≡ self.now.problem }
+        ensures value { arc_value result.now ≡ self.now.problem }
+        ensures reachable { IsReachable self.now }
+        ensures sound { IsSound self.now }
     {
         &self.problem
     }
@@ -99,5 +96,15 @@ impl Pool {
         ensures { arc_value result.now ≡ self.now.problem }
     {
         &self.table
+    }
+}
+
+/// The node whose round has the slot.
+fn holder(places: &[Slot], slot: u32) -> Option<BranchId>
+    ensures { result ≡ holder_in (slice_get places.now slot) }
+{
+    match places.get(slot as usize) {
+        Some(Slot::Of(node)) => Some(*node),
+        _ => None,
     }
 }

@@ -1,133 +1,27 @@
 //! The search of one thread: one open leaf after another is worked off, until nothing is left to do.
 
-ghost use Rattle.std.specs.Prelude.{◌≡◌, ◌≢◌, ◌<◌, ◌+◌, None, Some, IsSome, IsSomeAnd, OnOk, IfOk, IfSome, true, false, length, slice_get, nat_lt};
+ghost use Rattle.std.specs.Prelude.{◌≡◌, ◌<◌, ◌+◌, None, IsSome, IsSomeAnd, IsTrue, IsFalse, OnOk, IfOk, true, false, length, slice_get};
 ghost use Rattle.std.specs.Arc.{arc_value};
-ghost use Rattle.pool_machine.specs.declared.limits.TheConstants.{MAX_ROUNDS};
-ghost use Rattle.pool_machine.specs.State.{left_of, round_of, active_count};
+ghost use Rattle.pool_machine.specs.State.{left_of, round_of};
 ghost use Rattle.pool_machine.specs.Offering.{unfit_in};
 ghost use Rattle.pool_machine.specs.Readiness.{examine_refusal};
 ghost use Rattle.pool_machine.specs.Machine.{IsReachable};
 ghost use Rattle.pool_machine.specs.PlanOf.{is_done};
 ghost use Rattle.pool_machine.specs.Tasks.{LeadsTo};
-ghost use Rattle.pool_core.specs.Work.{OnlyPrices, is_next, IsAtWork, IsPricedOut, gap_in, work_in};
+ghost use Rattle.pool_core.specs.Work.{is_next, IsGap, IsCloser, KeepsNodes};
 
 mod guide;
 
 use super::Pool;
-pub use guide::Guide;
-use guide::Rank;
+use guide::Guide;
 use leaf_work::{KnownAbove, copy_of, find};
 use path_pricing::Priced;
 use plan_base::{BranchId, DemandId, Design};
-use pool_machine::limits::MAX_ROUNDS;
-use pool_machine::{ExamineFault, Examined, NodeState, Offer};
-use pool_nodes::PoolRound;
+use pool_machine::{ExamineFault, Examined, Offer, Task};
 use std::alloc::AllocError;
 use std::sync::Arc;
 
 impl Pool {
-    /// The round of a node that has one.
-    pub(super) fn round_at(&self, node: BranchId) -> &PoolRound
-        requires { IsSome (round_of self.now node) }
-        ensures { Some result.now ≡ round_of self.now node }
-    {
-        self.nodes[node.0 as usize].round().unwrap()
-    }
-
-    /// Whether a slot is free.
-    fn has_room(&self) -> bool
-        ensures { result ≡ nat_lt (active_count self.now) MAX_ROUNDS }
-    {
-        self.active() < MAX_ROUNDS
-    }
-
-    /// Whether the node is an open leaf that has a round, or for whose round a slot is free.
-    ///
-    /// - Takes: whether a slot is free, which is counted once for all nodes.
-    fn is_next(&self, node: BranchId, has_room: bool) -> bool
-        requires { has_room ≡ nat_lt (active_count self.now) MAX_ROUNDS }
-        ensures { result ≡ is_next self.now node }
-    {
-        match self.state(node) {
-            NodeState::Active => true,
-            NodeState::Waiting => has_room,
-            _ => false,
-        }
-    }
-
-    /// What the choice goes by: the node's recorded bound, or else what the guide knows.
-    fn rank(&self, node: BranchId, guide: &Guide) -> Rank {
-        guide.rank(node).at_bound(self.bound(node))
-    }
-
-    /// The node, where it is next and does not come behind the first one so far; else that one.
-    ///
-    /// - Takes: whether a slot is free.
-    fn first_of(
-        &self,
-        node: BranchId,
-        has_room: bool,
-        first: Option<BranchId>,
-        guide: &Guide,
-    ) -> Option<BranchId>
-        requires room { has_room ≡ nat_lt (active_count self.now) MAX_ROUNDS }
-        requires first { IfSome first (λ other. is_next self.now other ≡ true) }
-        ensures next { IfSome result (λ one. is_next self.now one ≡ true) }
-        ensures none { result ≡ None → (first ≡ None) × (is_next self.now node ≡ false) }
-    {
-        if !self.is_next(node, has_room) {
-            return first;
-        }
-        let Some(other) = first else {
-            return Some(node);
-        };
-        if self.rank(node, guide).is_before(self.rank(other, guide)) {
-            return Some(node);
-        }
-        first
-    }
-
-    /// The open leaf that is worked off next: the one with the lowest bound, and of those the deepest one.
-    pub(super) fn next_leaf(&self, guide: &Guide) -> Option<BranchId>
-        requires not_done { is_done self.now ≡ false }
-        ensures some { IfSome result (λ node. is_next self.now node ≡ true) }
-        ensures none { result ≢ None }
-    {
-        let has_room = self.has_room();
-        let mut first = None;
-        for place in 0..self.nodes.len() {
-            first = self.first_of(BranchId(place as u32), has_room, first, guide);
-        }
-        first
-    }
-
-    /// The version of the leaf's round, which is opened where the leaf waits.
-    fn enter(&mut self, node: BranchId) -> u64
-        requires reachable { IsReachable self.old }
-        requires not_spent { self.old.examined < self.old.budget }
-        requires next { is_next self.old node ≡ true }
-        ensures prices { OnlyPrices self.old self.new }
-        ensures at_work { IsAtWork self.new node result }
-    {
-        if let Some(version) = self.current(node) {
-            return version;
-        }
-        match self.open_round(node) {
-            Ok(opened) => opened.version,
-            Err(_) => unreachable!(),
-        }
-    }
-
-    /// The first demand that the node's round has not priced; None where the node has a cut.
-    fn gap(&self, node: BranchId) -> Option<DemandId>
-        ensures { result ≡ gap_in self.now node }
-    {
-        if self.has_cut(node) {
-            return None;
-        }
-        self.first_gap(node)
-    }
-
     /// What a demand finds under the prices of the node's round and the node's restriction.
     fn found(
         &self,
@@ -153,46 +47,27 @@ impl Pool {
     }
 
     /// Prices a demand in the node's round.
-    fn price_demand(
+    fn price(
         &mut self,
         node: BranchId,
         version: u64,
         demand: DemandId,
         guide: &mut Guide,
     ) -> Result<(), AllocError>
-        requires at_work { IsAtWork self.old node version }
-        requires gap { gap_in self.old node ≡ Some demand }
-        ensures prices { OnlyPrices self.old self.new }
-        ensures at_work { OnOk result (IsAtWork self.new node version) }
-        ensures fewer { OnOk result (work_in (slice_get self.new.nodes node.0) < work_in (slice_get self.old.nodes node.0)) }
+        requires reachable { IsReachable self.old }
+        requires gap { IsGap self.old node version demand }
+        ensures leads { LeadsTo self.old self.new }
+        ensures closer { OnOk result (IsCloser self.old self.new node) }
     {
         let known = self.found(node, demand, guide)?;
         let found = copy_of(&*known)?;
         guide.keep(demand, known)?;
-        let _answer = self.offer(Offer {
+        let _answer = self.take(Offer {
             node,
             version,
             demand,
             found,
         });
-        Ok(())
-    }
-
-    /// Prices what is left in the node's round, until all is priced or the node has a cut.
-    fn price_rest(
-        &mut self,
-        node: BranchId,
-        version: u64,
-        guide: &mut Guide,
-    ) -> Result<(), AllocError>
-        requires at_work { IsAtWork self.old node version }
-        ensures prices { OnlyPrices self.old self.new }
-        ensures priced { OnOk result (IsPricedOut self.new node version) }
-    {
-        guide.begin(node);
-        'gaps: while let Some(demand) = self.gap(node) {
-            self.price_demand(node, version, demand, guide)?;
-        }
         Ok(())
     }
 
@@ -210,23 +85,11 @@ impl Pool {
         )
     }
 
-    /// Hands in a design for the paths of the node's round or other ones, where the node may still lead to one.
-    fn seek_design(
-        &mut self,
-        node: BranchId,
-        version: u64,
-        guide: &mut Guide,
-    ) -> Result<(), AllocError>
-        requires priced { IsPricedOut self.old node version }
-        ensures prices { OnlyPrices self.old self.new }
-        ensures priced { IsPricedOut self.new node version }
+    /// Hands in a design for the paths of the node's round or other ones.
+    fn seek_design(&mut self, node: BranchId, guide: &mut Guide) -> Result<(), AllocError>
+        requires { IsSomeAnd (round_of self.old node) (λ round. left_of round ≡ 0) }
+        ensures { KeepsNodes self.old self.new }
     {
-        if self.has_cut(node) {
-            return Ok(());
-        }
-        if self.is_closable(node) {
-            return Ok(());
-        }
         let Some(design) = self.new_design(node, guide)? else {
             return Ok(());
         };
@@ -240,9 +103,8 @@ impl Pool {
         ensures leads { LeadsTo self.old self.new }
         ensures one { OnOk result (self.new.examined ≡ self.old.examined + 1) }
     {
-        let bound = self.bound(node);
         match self.examine(node) {
-            Ok(Examined::Divided { left, right }) => guide.divide(node, bound, left, right),
+            Ok(Examined::Divided { left, right }) => guide.divide(left, right),
             Ok(_) => Ok(()),
             Err(fault) => match fault {
                 ExamineFault::OutOfMemory => Err(AllocError),
@@ -251,26 +113,49 @@ impl Pool {
         }
     }
 
-    /// Closes or divides a leaf that is priced.
-    fn end_leaf(
-        &mut self,
-        node: BranchId,
-        version: u64,
-        guide: &mut Guide,
-    ) -> Result<(), AllocError>
-        requires priced { IsPricedOut self.old node version }
+    /// Does what is next at an open leaf. A version that is complete has a design sought for its paths, and is the last.
+    ///
+    /// - Gives: whether the leaf is closed or divided now.
+    fn take_step(&mut self, node: BranchId, guide: &mut Guide) -> Result<bool, AllocError>
+        requires reachable { IsReachable self.old }
+        requires not_spent { self.old.examined < self.old.budget }
+        requires next { is_next self.old node ≡ true }
         ensures leads { LeadsTo self.old self.new }
-        ensures one { OnOk result (self.new.examined ≡ self.old.examined + 1) }
+        ensures ended { IfOk result (λ ended. IsTrue ended → self.new.examined ≡ self.old.examined + 1) }
+        ensures closer { IfOk result (λ ended. IsFalse ended → IsCloser self.old self.new node) }
     {
-        if self.has_cut(node) {
-            return self.divide_leaf(node, guide);
+        match self.step_at(node) {
+            Task::Open { node: _node } => {
+                let _answer = self.open_round(node);
+                Ok(false)
+            }
+            Task::Price {
+                node: _node,
+                slot: _slot,
+                version,
+                demand,
+            } => {
+                self.price(node, version, demand, guide)?;
+                Ok(false)
+            }
+            Task::Master {
+                node: _node,
+                version,
+            } => {
+                self.seek_design(node, guide)?;
+                let _answer = self.settle(node, version);
+                Ok(false)
+            }
+            Task::Close { node: _node } => {
+                let _answer = self.close_by_bound(node);
+                Ok(true)
+            }
+            Task::Examine { node: _node } => {
+                self.divide_leaf(node, guide)?;
+                Ok(true)
+            }
+            Task::Done => unreachable!(),
         }
-        if self.is_closable(node) {
-            let _answer = self.close_by_bound(node);
-            return Ok(());
-        }
-        let _answer = self.settle(node, version);
-        self.divide_leaf(node, guide)
     }
 
     /// Works off one open leaf.
@@ -280,13 +165,15 @@ impl Pool {
         ensures leads { LeadsTo self.old self.new }
         ensures one { OnOk result (self.new.examined ≡ self.old.examined + 1) }
     {
-        let Some(node) = self.next_leaf(guide) else {
+        let Some(node) = self.next_leaf() else {
             unreachable!();
         };
-        let version = self.enter(node);
-        self.price_rest(node, version, guide)?;
-        self.seek_design(node, version, guide)?;
-        self.end_leaf(node, version, guide)
+        guide.begin(node);
+        let mut ended = false;
+        'steps: while !ended {
+            ended = self.take_step(node, guide)?;
+        }
+        Ok(())
     }
 
     /// Works off open leaves until none is left or the budget is spent.

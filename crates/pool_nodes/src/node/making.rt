@@ -5,6 +5,7 @@ ghost use Rattle.std.specs.Arc.{arc_value};
 ghost use Rattle.pool_machine.specs.Changes.{waiting_with};
 
 use super::PoolNode;
+use crate::rank::Rank;
 use branch_tree::Limit;
 use plan_base::{Items, Prices};
 use pool_machine::Fate;
@@ -14,9 +15,14 @@ use std::sync::Arc;
 impl PoolNode {
     /// A node that waits and has nothing recorded, with room for its best prices and for a crowd proof.
     ///
-    /// - Takes: what the splits above it forbid, the last one first; the prices with which it begins.
+    /// - Takes: what the splits above it forbid, the last one first; the prices with which it begins; by what it is
+    ///   chosen.
     /// - Errors: want of memory alone.
-    pub fn new(limits: Items<Arc<Limit>>, first_prices: Prices) -> Result<PoolNode, AllocError>
+    pub fn new(
+        limits: Items<Arc<Limit>>,
+        first_prices: Prices,
+        above: Rank,
+    ) -> Result<PoolNode, AllocError>
         ensures { IfOk result (λ node. node ≡ waiting_with (map arc_value limits) first_prices) }
     {
         let best_prices = first_prices.copy()?;
@@ -33,6 +39,7 @@ impl PoolNode {
             crowd_prices: Some(crowd_prices),
             settled: false,
             round: None,
+            above,
         })
     }
 }

@@ -70,6 +70,7 @@ impl PoolNode {
             crowd_prices: _crowd_prices,
             settled: _settled,
             round: _round,
+            above: _above,
         } = self;
         match fate {
             Fate::Undone => {

@@ -1,4 +1,4 @@
-use Rattle.pool_core.proofs.Running.{examined-one, examined-leads, never-refused}
+use Rattle.pool_core.proofs.Steps.{examined-one, examined-leads, never-refused}
 use Rattle.pool_core.proofs.pool.Pool.divide_leaf.Goals as goal
 
 pub returns-in-Ok-Divided-clause-leads : goal.returns-in-Ok-Divided-clause-leads

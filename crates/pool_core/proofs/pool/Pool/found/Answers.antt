@@ -7,7 +7,8 @@ use Rattle.pool_machine.specs.Machine.{IsReachable}
 use Rattle.pool_nodes.specs.Grounds.{HasGrounds}
 use Rattle.pool_machine.proofs.Runs.{IsReachable-sound}
 use Rattle.pool_core.proofs.TaskLaws.{HasRound, has-round}
-use Rattle.pool_core.proofs.Running.{read-rows, rows-within, shown-some, shown-value, prices-fit, priced-fits, if_ok}
+use Rattle.pool_core.proofs.Reading.{read-rows, rows-within, shown-some, shown-value, if_ok}
+use Rattle.pool_core.proofs.Fitting.{prices-fit, priced-fits}
 use Rattle.pool_core.proofs.pool.Pool.found.Goals as goal
 
 pub index-requires : goal.index-requires

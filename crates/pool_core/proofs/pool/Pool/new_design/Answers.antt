@@ -3,7 +3,8 @@ use Rattle.plan_base.specs.declared.parts.Parts.{Parts}
 use Rattle.incumbent.specs.Completions.{ArePaths}
 use Rattle.pool_machine.specs.State.{State, Round, left_of}
 use Rattle.pool_machine.specs.Machine.{IsReachable}
-use Rattle.pool_core.proofs.Running.{some_and-some, complete-paths}
+use Rattle.pool_core.proofs.Reading.{some_and-some}
+use Rattle.pool_core.proofs.Routes.{complete-paths}
 use Rattle.pool_core.proofs.pool.Pool.new_design.Goals as goal
 
 pub round_at-requires : goal.round_at-requires

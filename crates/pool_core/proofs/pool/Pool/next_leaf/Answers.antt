@@ -2,7 +2,8 @@ use Rattle.std.proofs.Common.{◌≤◌, length, subst, rules, arith}
 use Rattle.pool_core.specs.contracts.pool.Pool.{the_view}
 use Rattle.pool_machine.specs.State.{State}
 use Rattle.pool_machine.specs.Machine.{IsReachable}
-use Rattle.pool_core.proofs.Running.{nodes-few, none-more, never-none}
+use Rattle.pool_core.proofs.Reading.{nodes-few}
+use Rattle.pool_core.proofs.Leaves.{none-more, never-none}
 use Rattle.pool_core.proofs.pool.Pool.next_leaf.Goals as goal
 
 pub loop-place-init : goal.loop-place-init

@@ -1,39 +1,35 @@
-use Rattle.std.proofs.Common.{◌≡◌, ◌<◌, ◌≤◌, length, Some, slice_get, rules, arith, sym, ap, subst, ◌∙◌}
+use Rattle.std.proofs.Common.{◌≡◌, ◌<◌, List, Some, None, length, slice_get, rules, sym, ap, subst, ◌∙◌}
 use Rattle.std.proofs.lemmas.Option.{slice_get-get_or}
+use Rattle.pool_machine.specs.State.{State}
 use Rattle.pool_core.specs.contracts.pool.Pool.{the_view}
-use Rattle.pool_machine.specs.State.{State, Node}
-use Rattle.pool_nodes.specs.Rounds.{IsPublishedBy}
-use Rattle.pool_core.proofs.Publishing.{without_slot-next, without_slot-all, published_of-node, few_nodes}
+use Rattle.pool_core.specs.declared.slot.Slot.{Slot}
+use Rattle.pool_core.specs.Views.{holder_in, IsPublishedAt}
+use Rattle.pool_core.proofs.Reading.{if_ok}
+use Rattle.pool_core.proofs.Publishing.{held-by, holder-within, published-here, none-published}
 use Rattle.pool_core.proofs.pool.Pool.prices.Goals as goal
 
-pub loop-place-init : goal.loop-place-init
-loop-place-init c = λ n node below. absurd (omega arith)
-
-pub overflow_cast-node : goal.overflow_cast-node
-overflow_cast-node c =
-    let few : length c.self.inside.nodes.items ≤ 8193 = few_nodes (the_view c.self.inside) c.self.inside.places.items c.self.invariant.pool in
+pub index-requires : goal.index-requires
+index-requires c =
+    let named : holder_in (slice_get c.self.inside.places.items c.args.slot) ≡ Some c.in-Some.node =
+    subst (λ (xs : List Slot). holder_in (slice_get xs c.args.slot) ≡ Some c.in-Some.node) c.as_slice.ensures.value (sym c.holder.ensures ∙ c.in-Some.is) in
+    let within : c.in-Some.node.0 < length c.self.inside.nodes.items = holder-within (the_view c.self.inside) c.self.inside.places.items c.self.invariant.pool c.args.slot c.in-Some.node named in
     search rules
 
 pub returns-in-Some : goal.returns-in-Some
 returns-in-Some c =
-    let within : c.loop-place.place < length c.self.inside.nodes.items = search rules in
-    let at : slice_get c.args.self.now.nodes c.loop-place.place ≡ Some c.index.result.now =
-    subst (λ (s : State). slice_get s.nodes c.loop-place.place ≡ Some c.index.result.now) c.self.view_is
-    (slice_get-get_or c.self.inside.nodes.items c.loop-place.place c.index.result.now within ∙ ap (λ (x : Node). Some x) (sym c.index.ensures)) in
-    published_of-node c.args.self.now c.args.slot (record { 0 = c.loop-place.place }) c.index.result.now c.in-Some.published at
-    (subst (IsPublishedBy c.index.result.now.round (record { 0 = c.loop-place.place }) c.args.slot) c.in-Some.is c.in_ok-published.ensures)
+    let named : holder_in (slice_get c.self.inside.places.items c.args.slot) ≡ Some c.in-Some.node =
+    subst (λ (xs : List Slot). holder_in (slice_get xs c.args.slot) ≡ Some c.in-Some.node) c.as_slice.ensures.value (sym c.holder.ensures ∙ c.in-Some.is) in
+    let within : c.in-Some.node.0 < length c.self.inside.nodes.items = holder-within (the_view c.self.inside) c.self.inside.places.items c.self.invariant.pool c.args.slot c.in-Some.node named in
+    if_ok c.published.result _ _
+    (λ found shown. subst (λ (s : State). IsPublishedAt s c.args.slot found) c.self.view_is
+    (published-here (the_view c.self.inside) c.args.slot c.in-Some.node c.index.result.now found
+    (slice_get-get_or c.self.inside.nodes.items c.in-Some.node.0 c.index.result.now within ∙ ap (λ (x : _). Some x) (sym c.index.ensures))
+    (held-by (the_view c.self.inside) c.self.inside.places.items c.self.invariant.pool c.args.slot c.in-Some.node named) shown))
+    c.published.ensures
 
-pub loop-place-preserved : goal.loop-place-preserved
-loop-place-preserved c =
-    let within : c.loop-place.place < length c.self.inside.nodes.items = search rules in
-    let at : slice_get c.args.self.now.nodes c.loop-place.place ≡ Some c.index.result.now =
-    subst (λ (s : State). slice_get s.nodes c.loop-place.place ≡ Some c.index.result.now) c.self.view_is
-    (slice_get-get_or c.self.inside.nodes.items c.loop-place.place c.index.result.now within ∙ ap (λ (x : Node). Some x) (sym c.index.ensures)) in
-    without_slot-next c.args.self.now.nodes c.args.slot (record { 0 = c.loop-place.place }) c.index.result.now c.loop-place.invariant at
-    (subst (IsPublishedBy c.index.result.now.round (record { 0 = c.loop-place.place }) c.args.slot) c.in_default.is c.in_ok-published.ensures)
-
-pub returns : goal.returns
-returns c =
-    let all : length (the_view c.self.inside).nodes ≤ c.loop-place.place = search rules in
-    without_slot-all c.args.self.now c.args.slot c.loop-place.place c.loop-place.invariant
-    (subst (λ (s : State). length s.nodes ≤ c.loop-place.place) c.self.view_is all)
+pub returns-in-None : goal.returns-in-None
+returns-in-None c =
+    let none : holder_in (slice_get c.self.inside.places.items c.args.slot) ≡ None =
+    subst (λ (xs : List Slot). holder_in (slice_get xs c.args.slot) ≡ None) c.as_slice.ensures.value (sym c.holder.ensures ∙ c.in-None.is) in
+    subst (λ (s : State). IsPublishedAt s c.args.slot None) c.self.view_is
+    (none-published (the_view c.self.inside) c.self.inside.places.items c.self.invariant.pool c.args.slot none)

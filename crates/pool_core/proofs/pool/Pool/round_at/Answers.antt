@@ -2,7 +2,7 @@ use Rattle.std.proofs.Common.{◌<◌, length, IsSome, sym, ap, subst, ◌∙◌
 use Rattle.pool_core.specs.contracts.pool.Pool.{the_view}
 use Rattle.pool_machine.specs.State.{State, round_of}
 use Rattle.pool_core.proofs.TaskLaws.{has-round}
-use Rattle.pool_core.proofs.Running.{has-within, read-round, shown-some, shown-value}
+use Rattle.pool_core.proofs.Reading.{has-within, read-round, shown-some, shown-value}
 use Rattle.pool_core.proofs.pool.Pool.round_at.Goals as goal
 
 pub index-requires : goal.index-requires

@@ -1,30 +1,45 @@
-use Rattle.std.proofs.Common.{◌+◌, ℕ, ap, ◌∙◌}
-use Rattle.pool_machine.proofs.Leads.{LeadsTo-trans}
-use Rattle.pool_core.proofs.Running.{OnlyPrices-trans, reachable-unspent, on_ok}
+use Rattle.std.proofs.Common.{◌≡◌, ◌+◌, ℕ, true, false, refl, ap, ◌∙◌, arith, rules, tests}
+use Rattle.pool_machine.proofs.Leads.{LeadsTo-stays, LeadsTo-trans, LeadsTo-base, LeadsTo-reachable}
+use Rattle.pool_core.proofs.Leaves.{reachable-unspent}
 use Rattle.pool_core.proofs.pool.Pool.work_off.Goals as goal
 
 pub unreachable-requires : goal.unreachable-requires
 unreachable-requires c = c.next_leaf.ensures.none c.in_default.is
 
-pub enter-version-requires-clause-not_spent : goal.enter-version-requires-clause-not_spent
-enter-version-requires-clause-not_spent c = reachable-unspent c.args.self.now c.requires.reachable c.requires.not_done
+pub steps-init : goal.steps-init
+steps-init c = record {
+  reachable = c.requires.reachable;
+  leads = LeadsTo-stays c.args.self.now c.args.self.now refl;
+  ended = λ bad. absurd (let no : false ≡ true = bad in cc);
+  goes_on = λ still. (refl, c.in-Some.ensures.some);
+}
 
-pub returns-in_err-price_rest-clause-leads : goal.returns-in_err-price_rest-clause-leads
-returns-in_err-price_rest-clause-leads c =
-    LeadsTo-trans c.args.self.now c.enter-version.new.self c.price_rest.new.self c.enter-version.ensures.prices.leads c.in_err-price_rest.ensures.prices.leads
+pub take_step-requires-clause-not_spent : goal.take_step-requires-clause-not_spent
+take_step-requires-clause-not_spent c =
+    let still : c.steps.ended ≡ false = search (rules, tests) in
+    let unspent = reachable-unspent c.args.self.now c.requires.reachable c.requires.not_done in
+    let base = (LeadsTo-base c.args.self.now c.steps.self c.steps.invariant.leads).budget in
+    let same = (c.steps.invariant.goes_on still).0 in
+    omega (arith, unspent, base, same)
 
-pub returns-in_err-seek_design-clause-leads : goal.returns-in_err-seek_design-clause-leads
-returns-in_err-seek_design-clause-leads c =
-    LeadsTo-trans c.args.self.now c.price_rest.new.self c.seek_design.new.self
-    (LeadsTo-trans c.args.self.now c.enter-version.new.self c.price_rest.new.self c.enter-version.ensures.prices.leads c.in_ok-price_rest.ensures.prices.leads)
-    c.in_err-seek_design.ensures.prices.leads
+pub take_step-requires-clause-next : goal.take_step-requires-clause-next
+take_step-requires-clause-next c = let still : c.steps.ended ≡ false = search (rules, tests) in (c.steps.invariant.goes_on still).1
+
+pub returns-in_err-ended-clause-leads : goal.returns-in_err-ended-clause-leads
+returns-in_err-ended-clause-leads c = LeadsTo-trans c.args.self.now c.steps.self c.take_step.new.self c.steps.invariant.leads c.take_step.ensures.leads
+
+pub steps-preserved : goal.steps-preserved
+steps-preserved c =
+    let still : c.steps.ended ≡ false = search (rules, tests) in
+    let same : c.steps.self.examined ≡ c.args.self.now.examined = (c.steps.invariant.goes_on still).0 in
+    record {
+      reachable = LeadsTo-reachable c.steps.self c.take_step.new.self c.steps.invariant.reachable c.take_step.ensures.leads;
+      leads = LeadsTo-trans c.args.self.now c.steps.self c.take_step.new.self c.steps.invariant.leads c.take_step.ensures.leads;
+      ended = λ now. c.in_ok-ended.ensures.ended now ∙ ap (λ (n : ℕ). n + 1) same;
+      goes_on = λ on. let closer = c.in_ok-ended.ensures.closer on in (closer.examined ∙ same, closer.next);
+    }
 
 pub returns : goal.returns
 returns c =
-    let before = OnlyPrices-trans c.args.self.now c.price_rest.new.self c.seek_design.new.self
-    (OnlyPrices-trans c.args.self.now c.enter-version.new.self c.price_rest.new.self c.enter-version.ensures.prices c.in_ok-price_rest.ensures.prices)
-    c.in_ok-seek_design.ensures.prices in
-    record {
-      leads = LeadsTo-trans c.args.self.now c.seek_design.new.self c.end_leaf.new.self before.leads c.end_leaf.ensures.leads;
-      one = on_ok c.end_leaf.result _ _ (λ e. e ∙ ap (λ (n : ℕ). n + 1) before.examined) c.end_leaf.ensures.one;
-    }
+    let over : c.steps.ended ≡ true = search (rules, tests) in
+    record { leads = c.steps.invariant.leads; one = c.steps.invariant.ended over }

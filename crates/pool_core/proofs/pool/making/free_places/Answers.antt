@@ -1,5 +1,5 @@
-use Rattle.std.proofs.Common.{◌+◌, List, Option, length, sym, subst}
-use Rattle.pool_machine.specs.State.{Round}
+use Rattle.pool_core.specs.declared.slot.Slot.{Slot}
+use Rattle.std.proofs.Common.{◌+◌, List, length, sym, subst}
 use Rattle.pool_core.specs.Views.{AreFreePlaces}
 use Rattle.pool_core.proofs.Making.{free_places-next}
 use Rattle.pool_core.proofs.pool.making.free_places.Goals as goal
@@ -7,6 +7,6 @@ use Rattle.pool_core.proofs.pool.making.free_places.Goals as goal
 pub loop-slot-preserved : goal.loop-slot-preserved
 loop-slot-preserved c =
     let p = c.args.inst.now in
-    subst (λ (places : List (Option Round)). AreFreePlaces (c.loop-slot.slot + 1) (length p.demands) (length p.links) places) (sym c.in_ok-push.ensures.items)
+    subst (λ (places : List Slot). AreFreePlaces (c.loop-slot.slot + 1) (length p.demands) (length p.links) places) (sym c.in_ok-push.ensures.items)
     (free_places-next c.loop-slot.slot (length p.demands) (length p.links) c.loop-slot.places.items c.in_ok-place.place c.loop-slot.invariant
     c.in_ok-place.ensures.slot c.in_ok-place.ensures.demands c.in_ok-place.ensures.prices)

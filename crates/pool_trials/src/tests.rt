@@ -12,12 +12,15 @@ mod searching;
 mod settling;
 mod tasks;
 
-use super::*;
 use link_steps::StepTable;
 use path_pricing::Priced;
 use plan_base::{
     ArcId, BranchId, Demand, DemandId, Design, Instance, Items, Link, Module, NodeId, Orient,
     Parts, Path,
+};
+use pool_core::{
+    Better, Closing, ExamineFault, Examined, NodeState, Offer, Offered, Opened, Pool, RoundFault, Settle,
+    Task,
 };
 use std::alloc::{AllocError, Global};
 use std::sync::Arc;

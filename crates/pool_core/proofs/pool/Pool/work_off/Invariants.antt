@@ -1,0 +1,17 @@
+use Rattle.std.proofs.Common.{◌≡◌, suc, ◌+◌, true, cond}
+use Rattle.std.specs.Prelude.{IsTrue, IsFalse}
+use Rattle.pool_machine.specs.Machine.{IsReachable}
+use Rattle.pool_machine.specs.Tasks.{LeadsTo}
+use Rattle.pool_core.specs.Work.{is_next, steps_left}
+use Rattle.pool_core.proofs.pool.Pool.work_off.Given as goal
+
+abbrev pub invariant-steps : goal.invariant-steps
+invariant-steps l = record {
+  reachable : IsReachable l.self;
+  leads : LeadsTo l.initial.self l.self;
+  ended : IsTrue l.ended → l.self.examined ≡ l.initial.self.examined + 1;
+  goes_on : IsFalse l.ended → (l.self.examined ≡ l.initial.self.examined) × (is_next l.self l.node ≡ true);
+}
+
+abbrev pub decreases-steps : goal.decreases-steps
+decreases-steps l = cond l.ended 0 (suc (steps_left l.self l.node))
