@@ -6,3 +6,4 @@ pub mod SmallValues
 pub mod LinkLoads
 pub mod Moves
 pub mod Trying
+pub mod Rising

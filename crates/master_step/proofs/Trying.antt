@@ -15,22 +15,22 @@ use Rattle.master_step.proofs.Uniqueness.{value-unique, trial-unique}
 either_way : (x y : ℕ) → (x ≤ y) ⊎ (y < x)
 either_way x y = grind arith
 
-int_lt-true : (v w : ℤ) → int_lt v w ≡ true → v <ℤ w
+pub int_lt-true : (v w : ℤ) → int_lt v w ≡ true → v <ℤ w
 int_lt-true v w h = grind (arith, ints)
 
-int_lt-false : (v w : ℤ) → int_lt v w ≡ false → w ≤ℤ v
+pub int_lt-false : (v w : ℤ) → int_lt v w ≡ false → w ≤ℤ v
 int_lt-false v w h = grind (arith, ints)
 
 le-lt : (u v w : ℤ) → u ≤ℤ v → v <ℤ w → u <ℤ w
 le-lt u v w h k = omega (arith, ints)
 
-lt-lt : (u v w : ℤ) → u <ℤ v → v <ℤ w → u <ℤ w
+pub lt-lt : (u v w : ℤ) → u <ℤ v → v <ℤ w → u <ℤ w
 lt-lt u v w h k = omega (arith, ints)
 
-lt-le : (u v : ℤ) → u <ℤ v → u ≤ℤ v
+pub lt-le : (u v : ℤ) → u <ℤ v → u ≤ℤ v
 lt-le u v h = omega (arith, ints)
 
-same-le : (u v : ℤ) → u ≡ v → u ≤ℤ v
+pub same-le : (u v : ℤ) → u ≡ v → u ≤ℤ v
 same-le u v h = omega (arith, ints)
 
 module _ (p : Parts) (choices : Choices) (prices : List ℕ) (old : ℤ) (widest n : ℕ) (trial : List ℕ) (value : ℤ) (is_trial : IsTrial p choices prices n trial) (is_value : IsRestrictedValue p choices trial value) where

@@ -4,3 +4,4 @@ pub mod Trials
 pub mod Outcomes
 pub mod Choosing
 pub mod Climbing
+pub mod Ascents

@@ -8,6 +8,8 @@
 #![tactic(auto)]
 
 mod advancing;
+mod ascending;
+mod bettering;
 mod climbing;
 mod crowding;
 mod gaps;
@@ -21,6 +23,8 @@ mod step;
 mod valuing;
 
 pub use advancing::{advance, gain};
+pub use ascending::{Ascent, ascend};
+pub use bettering::best_step;
 pub use crowding::crowd_prices;
 pub use rows::Room;
 pub use step::Step;

@@ -1,0 +1,44 @@
+-- What an ascent finds, and the better of a step and an ascent.
+use Rattle.std.specs.Prelude.{ℕ, ◌≡◌, List, length, ℤ, ◌≤ℤ◌, ◌<ℤ◌, int_lt, if◌then◌else◌}
+use Rattle.plan_base.specs.declared.parts.Parts.{Parts}
+use Rattle.arc_restrict.specs.Prices.{AreWithinLimit}
+use Rattle.master_step.specs.declared.ascending.Ascent.{Ascent}
+use Rattle.master_step.specs.declared.step.Step.{Step}
+use Rattle.master_step.specs.declared.step.Step.TheVariants.{Raised, Same, Bare}
+use Rattle.master_step.specs.Columns.{Choices, IsFirstBare}
+use Rattle.master_step.specs.Restricted.{IsRestrictedValue}
+use Rattle.master_step.specs.Outcomes.{IsRaise, IsStalled}
+
+-- one price for each link, none above the price limit
+pub record ArePrices (p : Parts) (prices : List ℕ) : Type 0 where
+  pub count : length prices ≡ length p.links
+  pub within : AreWithinLimit p prices
+
+-- prices whose restricted value is at least that of the old ones
+pub record IsAscent (p : Parts) (choices : Choices) (prices : List ℕ) (ascent : Ascent) : Type 0 where
+  pub are_prices : ArePrices p ascent.prices
+  pub is_old : IsRestrictedValue p choices prices ascent.old
+  pub is_new : IsRestrictedValue p choices ascent.prices ascent.new
+  pub not_less : ascent.old ≤ℤ ascent.new
+
+-- prices whose restricted value is more than that of the old ones, and at least what the master step raises it to
+pub record IsRiseOf (p : Parts) (choices : Choices) (prices : List ℕ) (old : ℤ) (raised : List ℕ) (new : ℤ) : Type 0 where
+  pub are_prices : ArePrices p raised
+  pub is_old : IsRestrictedValue p choices prices old
+  pub is_new : IsRestrictedValue p choices raised new
+  pub greater : old <ℤ new
+  pub not_worse : (trial : List ℕ) (value : ℤ) → IsRaise p choices prices old trial value → value ≤ℤ new
+
+-- what the better of a step and an ascent answers is so
+abbrev pub IsBestStepOf : Parts → Choices → List ℕ → Step → Type 0
+IsBestStepOf p choices prices (Raised raised old new) = IsRiseOf p choices prices old raised new
+IsBestStepOf p choices prices (Same value) = IsStalled p choices prices value
+IsBestStepOf p choices prices (Bare demand) = IsFirstBare p choices demand.0
+
+-- the raise, or the ascent where it has a greater value
+abbrev pub raised_or : List ℕ → ℤ → ℤ → Ascent → Step
+raised_or raised old new ascent = if int_lt new ascent.new then Raised ascent.prices old ascent.new else Raised raised old new
+
+-- the ascent where it has a greater value, and else that nothing has
+abbrev pub same_or : ℤ → Ascent → Step
+same_or value ascent = if int_lt value ascent.new then Raised ascent.prices value ascent.new else Same value
