@@ -1,0 +1,8 @@
+pub mod Places
+mod Moves
+mod Makes
+mod Steals
+mod Gains
+mod Drains
+mod Totals
+pub mod Makings

@@ -1,0 +1,69 @@
+-- What clauses say of decks.
+use Rattle.std.specs.Prelude.{◌≡◌, ℕ, List, ◌++◌, length, map, Some, slice_get}
+use Rattle.std.specs.List.{flat_map}
+use Rattle.std.specs.declared.alloc.Global.{Global}
+use Rattle.crossbeam_deque.specs.Handles.{worker_view, worker_deque, stealer_deque}
+use Rattle.plan_base.specs.declared.ids.BranchId.{BranchId}
+use Rattle.block_deques.specs.declared.block.Block.{Block}
+use Rattle.block_deques.specs.declared.deck.Deck.{Deck}
+use Rattle.block_deques.specs.declared.reach.Reach.{Reach}
+use Rattle.block_deques.specs.Hands.{WasEmpty}
+use Rattle.block_deques.specs.Reaches.{reach_view, reach_taken, taken_at}
+
+-- the block with these fields
+abbrev pub block_of : ℕ → ℕ → ℕ → BranchId → ℕ → ℕ → ℕ → Block
+block_of deck index slot node version first count = record { deck = deck; index = index; slot = slot; node = node; version = version; first = first; count = count }
+
+-- the number of a deck among those of its making
+abbrev pub number_of : Deck → ℕ
+number_of d = d.number
+
+-- how many decks there are of its making
+abbrev pub count_of : Deck → ℕ
+count_of d = length d.reaches.items
+
+-- the blocks that a deck has put on its own deque, in their order
+abbrev pub put_by : Deck → List Block
+put_by d = (worker_view d.worker).put
+
+-- the blocks that a deck has taken from its own deque, in their order
+abbrev pub popped_by : Deck → List Block
+popped_by d = (worker_view d.worker).taken
+
+-- the blocks that a deck has stolen from the deck of a number, in their order
+abbrev pub stolen_by : Deck → ℕ → List Block
+stolen_by d victim = taken_at d.reaches.items victim
+
+-- all blocks that a deck has taken: those from its own deque, and then those from each deck in turn
+abbrev pub taken_by : Deck → List Block
+taken_by d = popped_by d ++ flat_map reach_taken d.reaches.items
+
+-- which deque it is
+abbrev pub DequeId : Type 0
+DequeId = (ℕ × ℕ) × Global
+
+-- which deck it is: its number, its own deque, and the deques of all decks of its making
+pub record DeckId : Type 0 where
+  pub number : ℕ
+  pub own : DequeId
+  pub all : List DequeId
+
+-- which deck it is
+abbrev pub deck_id : Deck → DeckId
+deck_id d = record { number = d.number; own = worker_deque d.worker; all = map (λ (r : Reach). stealer_deque r.stealer) d.reaches.items }
+
+-- it is the same deck, whatever it has put and taken
+abbrev pub IsSameDeck : Deck → Deck → Type 0
+IsSameDeck d e = deck_id e ≡ deck_id d
+
+-- it has stolen nothing more
+abbrev pub HasNotStolen : Deck → Deck → Type 0
+HasNotStolen d e = (victim : ℕ) → stolen_by e victim ≡ stolen_by d victim
+
+-- the rule held of its own deque without a block when it knew what it knows
+abbrev pub FoundOwnEmpty : Deck → Type 0
+FoundOwnEmpty d = WasEmpty (worker_view d.worker)
+
+-- the same of another deck's deque
+abbrev pub FoundEmpty : Deck → ℕ → Type 0
+FoundEmpty d victim = (r : Reach) × (slice_get d.reaches.items victim ≡ Some r) × WasEmpty (reach_view r)

@@ -1,0 +1,4 @@
+//! The greatest sizes.
+
+/// The most decks of one making.
+pub const MAX_DECKS: u32 = 64;
