@@ -251,8 +251,8 @@ impl DesignSearch {
         let Some(start) = self.start(alloc, inst, table, paths)? else {
             return Ok(None);
         };
+        self.searches = self.searches.saturating_add(1);
         let seed = self.searches;
-        self.searches = seed.saturating_add(1);
         let (_cost, design) = improve_seeded(alloc, inst, table, start, seed)?;
         self.keep(inst, &design)?;
         Ok(Some(design))
