@@ -136,6 +136,34 @@ fn costs_from_17(alloc: Global) -> Option<(u128, u128)> {
     costs_found(alloc, &inst, &table, design)
 }
 
+/// How many designs three askings give from the paths ac and ab of the triangle while no node is examined, and what the
+/// last one costs.
+#[tactic(auto, using(crate::proofs::ReroutingLaws::paths_of_design))]
+fn designs_found(alloc: Global) -> Option<(u32, u128)> {
+    let inst = triangle(alloc)?;
+    let table = StepTable::make(alloc, &inst).ok()?;
+    let paths = paths_of(alloc, &[4, 0])?;
+    let counts = counts_of(alloc, &[1, 0, 1])?;
+    let design = good_design(&inst, paths, counts)?;
+    let mut designs = DesignSearch::new();
+    let mut found = (0, 0);
+    for _asking in 0..3 {
+        if let Some(design) = designs
+            .next_design(alloc, &inst, &table, &design.paths, 0)
+            .ok()?
+        {
+            found.0 += 1;
+            found.1 = check_design(&inst, &design).ok()?;
+        }
+    }
+    Some(found)
+}
+
+#[test]
+fn two_searches_are_due_before_the_first_node(rt: HostRuntime) {
+    assert!(rt; designs_found(rt.alloc()) == Some((2, 15_000_000_000_000)));
+}
+
 #[test]
 fn a_reroute_finds_the_cheapest_design(rt: HostRuntime) {
     let cheapest = 15_000_000_000_000;

@@ -6,13 +6,11 @@
 //! `pool_core`: nothing here is believed there without a test.
 #![tactic(auto)]
 
-mod costs;
 mod known;
 mod pricing;
 mod routing;
 mod shared;
 
-pub use costs::Costs;
 pub use known::{Known, KnownAbove};
 pub use pricing::{copy_of, find};
 pub use routing::new_design;

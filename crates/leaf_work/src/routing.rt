@@ -4,33 +4,27 @@ ghost use Rattle.std.specs.Prelude.{◌≡◌, IfOk, IfSome};
 ghost use Rattle.plan_base.specs.Designs.{IsGoodDesign};
 ghost use Rattle.incumbent.specs.Completions.{ArePaths};
 
-use crate::costs::Costs;
-use incumbent::{complete, improve};
+use incumbent::DesignSearch;
 use link_steps::StepTable;
 use plan_base::{Design, Instance, Items, Path};
 use std::alloc::{AllocError, Global};
 
-/// A design for these paths or other ones, which costs no more than they do.
+/// A design that a search finds, which begins with these paths or with the cheapest design so far.
 ///
-/// - Gives: None where a link cannot carry them, and where their cost was met before.
+/// - Takes: how many nodes are examined.
+/// - Gives: None where no search is due, and where there is no design to begin with.
 /// - Errors: want of memory alone.
 pub fn new_design(
     alloc: Global,
     inst: &Instance,
     table: &StepTable,
-    paths: Items<Path>,
-    costs: &mut Costs,
+    paths: &Items<Path>,
+    examined: u32,
+    designs: &mut DesignSearch,
 ) -> Result<Option<Design>, AllocError>
     requires table { table.now ≡ inst.now }
-    requires paths { ArePaths inst.now paths }
+    requires paths { ArePaths inst.now paths.now }
     ensures { IfOk result (λ found. IfSome found (λ design. IsGoodDesign inst.now design)) }
 {
-    let Some((cost, design)) = complete(alloc, inst, table, paths)? else {
-        return Ok(None);
-    };
-    if !costs.is_new(cost)? {
-        return Ok(None);
-    }
-    let (_cost, improved) = improve(alloc, inst, table, design)?;
-    Ok(Some(improved))
+    designs.next_design(alloc, inst, table, paths, examined)
 }

@@ -1,12 +1,10 @@
 //! What threads may share or hand over.
 
-use crate::costs::Costs;
 use crate::known::{Known, KnownAbove};
 
 fn is_shared<T: Send + Sync>(_value: &T) {}
 
-fn are_shared(costs: &Costs, known: &Known, above: &KnownAbove) {
-    is_shared(costs);
+fn are_shared(known: &Known, above: &KnownAbove) {
     is_shared(known);
     is_shared(above);
 }

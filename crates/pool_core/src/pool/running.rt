@@ -71,7 +71,7 @@ impl Pool {
         Ok(())
     }
 
-    /// A design for the paths of the node's round or other ones, where the cost of these paths was not met before.
+    /// A design that a search finds from the paths of the node's round or from the cheapest design so far, where one is due.
     fn new_design(&self, node: BranchId, guide: &mut Guide) -> Result<Option<Design>, AllocError>
         requires { IsSomeAnd (round_of self.now node) (λ round. left_of round ≡ 0) }
     {
@@ -80,8 +80,9 @@ impl Pool {
             self.alloc,
             &*self.problem,
             &*self.table,
-            paths,
-            guide.costs(),
+            &paths,
+            self.examined,
+            guide.designs(),
         )
     }
 

@@ -1,17 +1,17 @@
 //! What the search of one thread goes by beside its state. No contract rests on it.
 
-use leaf_work::{Costs, Known, KnownAbove};
+use incumbent::DesignSearch;
+use leaf_work::{Known, KnownAbove};
 use path_pricing::Priced;
 use plan_base::{BranchId, DemandId};
 use std::alloc::{AllocError, Global};
 use std::sync::Arc;
 
-/// What is known of nodes before they are priced, and which costs were met.
+/// What is known of nodes before they are priced, and the searches for designs.
 #[derive(Drop)]
 pub struct Guide {
     alloc: Global,
-    /// The costs of completed paths.
-    costs: Costs,
+    designs: DesignSearch,
     /// What the demands found above each node that waits. A child begins with the prices of its parent and forbids
     /// more to one demand alone, so most of it stands there too.
     above: KnownAbove,
@@ -22,11 +22,11 @@ pub struct Guide {
 }
 
 impl Guide {
-    /// Nothing is known of any node, and no cost was met.
+    /// Nothing is known of any node, and no design was searched for.
     pub fn new(alloc: Global) -> Guide {
         Guide {
             alloc,
-            costs: Costs::none(alloc),
+            designs: DesignSearch::new(),
             above: KnownAbove::nothing(alloc),
             tried: None,
             found: Known::nothing(alloc),
@@ -59,9 +59,9 @@ impl Guide {
         self.above
     }
 
-    /// Which costs were met.
-    pub fn costs(&mut self) -> &mut Costs {
-        &mut self.costs
+    /// The searches for designs.
+    pub fn designs(&mut self) -> &mut DesignSearch {
+        &mut self.designs
     }
 
     /// Keeps what was found at the node that is worked off for its two children.
