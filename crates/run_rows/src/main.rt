@@ -30,6 +30,20 @@ fn words_of(alloc: Global, line: &str) -> Result<Vec<String>, AllocError> {
         .try_collect(alloc)
 }
 
+/// Writes this line where it begins with this word, or the word alone where that ends in `~`.
+fn write_line<W: Write>(first: &str, line: &str, out: &mut W) -> Result<()> {
+    if let Some(front) = first.strip_suffix("~") {
+        if line.starts_with(front) {
+            writeln!(out, "  {first}")?;
+        }
+        return Ok(());
+    }
+    if first == "*" || line.starts_with(first) {
+        writeln!(out, "  {line}")?;
+    }
+    Ok(())
+}
+
 /// Writes the status of a run of this name, and those lines of what it wrote that begin with one of these words.
 fn write_lines<W: Write>(
     name: &str,
@@ -41,28 +55,27 @@ fn write_lines<W: Write>(
     writeln!(out, "{name} {}", status as u8)?;
     for line in text.lines() {
         for first in firsts.split(',') {
-            if first == "*" || line.starts_with(first) {
-                writeln!(out, "  {line}")?;
-            }
+            write_line(first, line, out)?;
         }
     }
     Ok(())
 }
 
-/// Runs these words over the texts, and adds what is written to them.
-fn run_row<W: Write>(
-    alloc: Global,
-    texts: &mut Texts,
-    name: &str,
-    firsts: &str,
-    line: &str,
-    out: &mut W,
-) -> Result<()> {
-    let mut sink = MemSink::new(alloc, ROOM, &[])?;
-    let words = words_of(alloc, line)?;
+/// Runs these words over the texts. Gives the status and what was written.
+fn ends(alloc: Global, texts: &Texts, line: &str) -> Result<(Status, MemSink), AllocError> {
     let named = texts.named(alloc)?;
+    let words = words_of(alloc, line)?;
     let mut shelf = SureShelf::new(alloc, named.as_slice())?;
+    let mut sink = MemSink::new(alloc, ROOM, &[])?;
     let status = run(alloc, words.as_slice(), &mut shelf, &mut sink, &NoGate);
+    Ok((status, sink))
+}
+
+/// Runs words over the texts, and adds what is written to them.
+fn run_row<W: Write>(alloc: Global, texts: &mut Texts, rest: &str, out: &mut W) -> Result<()> {
+    let (name, rest) = rest.split_once(' ').context("no name")?;
+    let (firsts, line) = rest.split_once(" : ").context("no lines")?;
+    let (status, sink) = ends(alloc, texts, line)?;
     let text = str::from_utf8(sink.bytes())?;
     write_lines(name, firsts, status, text, out)?;
     texts.add(alloc, name, text)?;
@@ -131,11 +144,7 @@ fn take_block<W: Write>(
             Ok(())
         }
         "change" => change_text(alloc, texts, rest, block.text.as_str()),
-        "run" => {
-            let (name, rest) = rest.split_once(' ').context("no name")?;
-            let (firsts, line) = rest.split_once(' ').context("no lines")?;
-            run_row(alloc, texts, name, firsts, line, out)
-        }
+        "run" => run_row(alloc, texts, rest, out),
         "fails" => fails_row(alloc, texts, rest, out),
         "files" => files_row(rt, rest, out),
         _ => bail!("no kind of row"),

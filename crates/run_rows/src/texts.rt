@@ -27,7 +27,8 @@ impl Texts {
     pub(crate) fn add(&mut self, alloc: Global, name: &str, bytes: &str) -> Result<(), AllocError> {
         let name = String::from_str(alloc, name)?;
         let bytes = String::from_str(alloc, bytes)?;
-        self.texts.push(Text { name, bytes })
+        self.texts.push(Text { name, bytes })?;
+        Ok(())
     }
 
     /// The text of this name.
