@@ -5,4 +5,5 @@ mod Steals
 mod Gains
 mod Drains
 mod Totals
+pub mod Sorts
 pub mod Makings

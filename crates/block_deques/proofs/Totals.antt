@@ -13,7 +13,7 @@ use Rattle.block_deques.specs.Hands.{weigh}
 use Rattle.block_deques.specs.Passes.{block_at}
 use Rattle.block_deques.specs.Reaches.{reach_taken}
 use Rattle.block_deques.specs.Decks.{DeckId, deck_id, put_by, popped_by, taken_by}
-use Rattle.block_deques.specs.Wholes.{AreOneMaking, all_put, all_taken, HaveSame, times, IsEachOnce}
+use Rattle.block_deques.specs.Wholes.{AreOneMaking, all_put, all_taken, HaveSame, times, IsEachOnce, one_at}
 use Rattle.block_deques.specs.Making.{OwnerOf}
 use Rattle.block_deques.specs.Gathers.{known_to, known_in, known_in_all, put_on, worker_of, reaches_of, IsRuling, AreRuling, IsRowOn, AreRowsOn, HaveGained, AreWhole}
 use Rattle.block_deques.proofs.Moves.{weigh-append}
@@ -91,14 +91,10 @@ together ds vs left same gained known rest h =
     let k = known h in
     let r = rest h in omega (arith, weigh-append h (all_taken ds) left)
 
--- whether the one block is meant
-abbrev one : ℕ → ℕ → Block → ℕ
-one deck index x = if (x.deck == deck) && (x.index == index) then 1 else 0
-
 abbrev unit : Bool → ℕ
 unit is = if is then 1 else 0
 
-one_cases : (deck index : ℕ) (x : Block) → (one deck index x ≡ 0) ⊎ ((one deck index x ≡ 1) × (x.deck ≡ deck) × (x.index ≡ index))
+one_cases : (deck index : ℕ) (x : Block) → (one_at deck index x ≡ 0) ⊎ ((one_at deck index x ≡ 1) × (x.deck ≡ deck) × (x.index ≡ index))
 one_cases deck index x = by_tests (x.deck == deck) (x.index == index) refl refl
   where
     by_tests : (p q : Bool) → (x.deck == deck) ≡ p → (x.index == index) ≡ q → (unit (p && q) ≡ 0) ⊎ ((unit (p && q) ≡ 1) × (x.deck ≡ deck) × (x.index ≡ index))
@@ -114,8 +110,8 @@ times_from deck index from (x ∷ xs) numbers =
     let here : x.index ≡ from + 0 = numbers 0 (omega arith) in
     let rest = times_from deck index (from + 1) xs (λ k l. let n = numbers (suc k) (omega arith) in omega arith) in
     let small = rest.0 in ⊎_elim
-    (λ (z : one deck index x ≡ 0). (omega arith, (λ l. let r = rest.1 (omega arith) in omega arith)))
-    (λ (o : (one deck index x ≡ 1) × (x.deck ≡ deck) × (x.index ≡ index)). let a = o.0 in let i = o.2 in let r = rest.1 (omega arith) in (omega arith, (λ l. absurd (omega arith))))
+    (λ (z : one_at deck index x ≡ 0). (omega arith, (λ l. let r = rest.1 (omega arith) in omega arith)))
+    (λ (o : (one_at deck index x ≡ 1) × (x.deck ≡ deck) × (x.index ≡ index)). let a = o.0 in let i = o.2 in let r = rest.1 (omega arith) in (omega arith, (λ l. absurd (omega arith))))
     (one_cases deck index x)
 
 -- blocks of other decks
@@ -124,8 +120,8 @@ times_none deck index other [] ne numbers = refl
 times_none deck index other (x ∷ xs) ne numbers =
     let here : x.deck ≡ other = numbers 0 (omega arith) in
     let rest = times_none deck index other xs ne (λ k l. numbers (suc k) (omega arith)) in ⊎_elim
-    (λ (z : one deck index x ≡ 0). omega arith)
-    (λ (o : (one deck index x ≡ 1) × (x.deck ≡ deck) × (x.index ≡ index)). absurd (ne (sym here ∙ o.1)))
+    (λ (z : one_at deck index x ≡ 0). omega arith)
+    (λ (o : (one_at deck index x ≡ 1) × (x.deck ≡ deck) × (x.index ≡ index)). absurd (ne (sym here ∙ o.1)))
     (one_cases deck index x)
 
 same_or_not : (i j : ℕ) → (i ≡ j) ⊎ (i ≢ j)
@@ -141,7 +137,7 @@ once_from deck index from (d ∷ ds) numbers =
     let here : d.number ≡ from + 0 = numbers 0 d refl in
     let rest = once_from deck index (from + 1) ds (λ k e at. let n = numbers (suc k) e at in omega arith) in
     let small = rest.0 in
-    let sum = weigh-append (one deck index) (put_by d) (all_put ds) in ⊎_elim
+    let sum = weigh-append (one_at deck index) (put_by d) (all_put ds) in ⊎_elim
     (λ (e : d.number ≡ deck).
     let mine = (times_from deck index 0 (put_by d) (λ k l. let n = (d.numbered k l).1 in omega arith)).0 in
     let none = rest.1 (omega arith) in (omega arith, (λ l. absurd (omega arith))))

@@ -1,5 +1,5 @@
 -- The theorem's words: all decks of one making, and all that they have put and taken. `gather_decks` has them as its contract.
-use Rattle.std.specs.Prelude.{◌≡◌, ℕ, ◌≤◌, ◌==◌, ◌&&◌, if◌then◌else◌, List, [], length, map, Some, slice_get}
+use Rattle.std.specs.Prelude.{◌≡◌, ℕ, ◌≤◌, ◌==◌, ◌&&◌, if◌then◌else◌, List, [], length, map, Some, slice_get, IsPermutation}
 use Rattle.std.specs.List.{flat_map}
 use Rattle.block_deques.specs.declared.block.Block.{Block}
 use Rattle.block_deques.specs.declared.deck.Deck.{Deck}
@@ -14,6 +14,12 @@ pub record IsMaking (ids : List DeckId) : Type 0 where
 -- they are all decks of one making, in the order of their numbers
 abbrev pub AreOneMaking : List Deck → Type 0
 AreOneMaking ds = IsMaking (map deck_id ds)
+
+-- they are all decks of one making, in any order
+pub record AreAllDecks (ds : List Deck) : Type 0 where
+  pub ordered : List Deck
+  pub same : IsPermutation ordered ds
+  pub making : AreOneMaking ordered
 
 -- it has put and taken nothing
 pub record IsNewDeck (d : Deck) : Type 0 where
@@ -39,9 +45,13 @@ all_taken ds = flat_map taken_by ds
 abbrev pub HaveSame : List Block → List Block → Type 0
 HaveSame xs ys = (weight : Block → ℕ) → weigh weight xs ≡ weigh weight ys
 
+-- 1 for a block with this deck's number and this index, and 0 for any other
+abbrev pub one_at : ℕ → ℕ → Block → ℕ
+one_at deck index block = if (block.deck == deck) && (block.index == index) then 1 else 0
+
 -- how many of the blocks have this deck's number and this index
 abbrev pub times : ℕ → ℕ → List Block → ℕ
-times deck index blocks = weigh (λ x. if (x.deck == deck) && (x.index == index) then 1 else 0) blocks
+times deck index blocks = weigh (one_at deck index) blocks
 
 -- no two blocks have one deck's number and one index
 abbrev pub IsEachOnce : List Block → Type 0

@@ -4,7 +4,7 @@ ghost use Rattle.std.specs.Prelude.{ℕ, ◌≡◌, ◌+◌, ◌++◌, length, m
 ghost use Rattle.crossbeam_deque.specs.Handles.{worker_view};
 ghost use Rattle.block_deques.specs.declared.block.Block.{Block as AnyBlock};
 ghost use Rattle.block_deques.specs.Hands.{weigh};
-ghost use Rattle.block_deques.specs.Wholes.{AreOneMaking, all_put, all_taken, HaveSame, IsEachOnce};
+ghost use Rattle.block_deques.specs.Wholes.{AreOneMaking, AreAllDecks, all_put, all_taken, HaveSame, IsEachOnce};
 ghost use Rattle.block_deques.specs.Gathers.{known, known_to, known_in, known_in_all, put_on, worker_of, reaches_of, AreRuling, IsRowOn, AreRowsOn, HaveGained, IsWhole, AreWhole};
 
 use crate::block::Block;
@@ -88,13 +88,8 @@ fn drain_all(alloc: Global, mut owners: Vec<Owner>) -> Result<Vec<Block>, AllocE
     Ok(left)
 }
 
-/// The blocks that are left on all decks of one making: they and those that the decks have taken are those that they
-/// have put.
-///
-/// - Takes: all decks of one making, in the order of their numbers.
-/// - Errors: want of memory alone. The blocks are then gone.
-/// - Rule: docs/DEFINITIONS.md, "Decks".
-pub fn gather_decks(alloc: Global, decks: Vec<Deck>) -> Result<Vec<Block>, AllocError>
+/// The blocks that are left on all decks of one making, which stand in the order of their numbers.
+fn gather_in_order(alloc: Global, decks: Vec<Deck>) -> Result<Vec<Block>, AllocError>
     requires { AreOneMaking decks.items }
     ensures whole { IfOk result (λ left. HaveSame (all_put decks.items) (all_taken decks.items ++ left.items)) }
     ensures once { IsEachOnce (all_put decks.items) }
@@ -102,4 +97,19 @@ pub fn gather_decks(alloc: Global, decks: Vec<Deck>) -> Result<Vec<Block>, Alloc
     let (owners, rows) = take_apart(alloc, decks)?;
     let owners = absorb_rows(owners, rows);
     drain_all(alloc, owners)
+}
+
+/// The blocks that are left on all decks of one making: they and those that the decks have taken are those that they
+/// have put.
+///
+/// - Takes: all decks of one making, in any order.
+/// - Errors: want of memory alone. The blocks are then gone.
+/// - Rule: docs/DEFINITIONS.md, "Decks".
+pub fn gather_decks(alloc: Global, mut decks: Vec<Deck>) -> Result<Vec<Block>, AllocError>
+    requires { AreAllDecks decks.items }
+    ensures whole { IfOk result (λ left. HaveSame (all_put decks.items) (all_taken decks.items ++ left.items)) }
+    ensures once { IsEachOnce (all_put decks.items) }
+{
+    decks.sort_unstable_by_key(|deck| deck.number);
+    gather_in_order(alloc, decks)
 }

@@ -54,7 +54,7 @@ fn two_decks(alloc: Global) -> Result<Option<(Deck, Deck)>, AllocError>
 fn gather_two(alloc: Global, zero: Deck, one: Deck) -> Result<Vec<Block>, AllocError>
     requires { AreOneMaking (zero ∷ one ∷ []) }
 {
-    let all = vec![in alloc; zero, one]?;
+    let all = vec![in alloc; one, zero]?;
     gather_decks(alloc, all)
 }
 
