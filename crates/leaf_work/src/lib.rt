@@ -6,11 +6,13 @@
 //! `pool_core`: nothing here is believed there without a test.
 #![tactic(auto)]
 
+mod guide;
 mod known;
 mod pricing;
 mod routing;
 mod shared;
 
+pub use guide::Guide;
 pub use known::{Known, KnownAbove};
 pub use pricing::{copy_of, find};
 pub use routing::new_design;

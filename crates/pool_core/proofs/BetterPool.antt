@@ -1,5 +1,5 @@
 -- A design that is handed in: each answer is the event, and the pool stays one.
-use Rattle.pool_core.specs.declared.slot.Slot.{Slot}
+use Rattle.pool_nodes.specs.declared.slot.Slot.{Slot}
 use Rattle.std.proofs.Common.{◌≡◌, ℕ, true, List, Some, refl}
 use Rattle.std.specs.Prelude.{Ok}
 use Rattle.plan_base.specs.declared.path.Design.{Design}

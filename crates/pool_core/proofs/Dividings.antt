@@ -1,5 +1,5 @@
 -- A division on the pool's own fields is the event, and keeps what the pool is.
-use Rattle.pool_core.specs.declared.slot.Slot.{Slot}
+use Rattle.pool_nodes.specs.declared.slot.Slot.{Slot}
 use Rattle.std.proofs.Common.{◌≡◌, ℕ, zero, suc, ◌+◌, ◌*◌, ◌/◌, ◌<◌, ◌≤◌, inl, inr, List, [], ◌∷◌, ◌++◌, length, set, get_or, Option, Some, None, slice_get, All, IsTrue, refl, sym, ap, ap₂, subst, ◌∙◌, arith, length-append}
 use Rattle.std.specs.Prelude.{IfSome, Ok}
 use Rattle.std.proofs.lemmas.Bool.{or_left, or_right, ltb-true}
@@ -25,7 +25,8 @@ use Rattle.pool_machine.specs.declared.tree.Fate.TheVariants.{Undone}
 use Rattle.pool_machine.specs.State.{Round, Node, State, restriction_of}
 use Rattle.pool_machine.specs.Dividing.{PartsAt, child_of, divided_by, Divides}
 use Rattle.pool_machine.specs.Machine.{Examining, to_examining, IsReachable}
-use Rattle.pool_core.specs.Views.{HasPlaces, IsKeptPool, given_back}
+use Rattle.pool_nodes.specs.Slots.{given_back}
+use Rattle.pool_core.specs.Views.{HasPlaces, IsKeptPool}
 use Rattle.pool_nodes.specs.Grounds.{IsGroundOf, HasGrounds}
 use Rattle.pool_core.specs.Examining.{IsReadyAt, HasTwoPaths, IsChildAt, IsDivisionAt, AreChildrenAt}
 use Rattle.pool_machine.proofs.Lists.{slice_get-append_left, slice_get-append_right, slice_get-append_cases}

@@ -1,5 +1,5 @@
 -- Where no fault is found, an examination may come.
-use Rattle.pool_core.specs.declared.slot.Slot.{Slot}
+use Rattle.pool_nodes.specs.declared.slot.Slot.{Slot}
 use Rattle.std.proofs.Common.{◌≡◌, ℕ, ◌<◌, ◌≤◌, ◌⊎◌, inl, inr, Bool, true, false, not, ◌&&◌, ◌==◌, List, [], length, get_or, Option, Some, None, slice_get, refl, sym, ap, subst, ◌∙◌, arith}
 use Rattle.std.specs.Prelude.{IfSome, IsTrue, IfOk, is_some, nat_lt, option_map, if◌then◌else◌, Result, Ok, Err}
 use Rattle.std.proofs.lemmas.Bool.{ltb-false}

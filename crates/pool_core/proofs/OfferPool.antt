@@ -1,5 +1,5 @@
 -- Offers on the pool's own fields are the events, and keep what the pool is.
-use Rattle.pool_core.specs.declared.slot.Slot.{Slot}
+use Rattle.pool_nodes.specs.declared.slot.Slot.{Slot}
 use Rattle.std.proofs.Common.{◌≡◌, ℕ, suc, ◌^◌, ◌<◌, inl, inr, Bool, true, false, not, ◌||◌, List, length, set, get_or, Option, Some, None, slice_get, refl, sym, ap, subst, ◌∙◌, arith}
 use Rattle.std.specs.Prelude.{⊤, IfSome, IsSomeAnd, is_some, option_map, option_and_then, nat_le}
 use Rattle.std.proofs.lemmas.Bool.Decides.{nat_tests}

@@ -1,6 +1,6 @@
 -- An opening on the pool's own fields is the event, and keeps what the pool is.
-use Rattle.pool_core.specs.declared.slot.Slot.{Slot}
-use Rattle.pool_core.specs.declared.slot.Slot.TheVariants.{Free, Of}
+use Rattle.pool_nodes.specs.declared.slot.Slot.{Slot}
+use Rattle.pool_nodes.specs.declared.slot.Slot.TheVariants.{Free, Of}
 use Rattle.std.proofs.Common.{◌≡◌, ◌≢◌, ℕ, suc, ◌+◌, ◌<◌, ◌≤◌, ◌⊎◌, inl, inr, true, false, not, List, length, set, get_or, replicate, Option, Some, None, slice_get, refl, sym, ap, ap₂, subst, ◌∙◌, arith, count_by, cond, length-set}
 use Rattle.std.specs.Prelude.{IfSome, IsSomeAnd, nat_le, Ok}
 use Rattle.std.proofs.lemmas.Bool.Decides.{nat_tests}
@@ -21,7 +21,8 @@ use Rattle.pool_machine.specs.Changes.{is_spent, TakesRound}
 use Rattle.pool_machine.specs.Opening.{is_waiting, open_fault, HasSlot, IsTaken, empty_round, Opens}
 use Rattle.pool_machine.specs.Machine.{Opening, to_opening}
 use Rattle.pool_machine.specs.Nodes.{IsSoundRound, IsSoundNode}
-use Rattle.pool_core.specs.Views.{is_free, IsTakenBy, HasPlaces, IsFirstFree, IsPool, IsKeptPool}
+use Rattle.pool_nodes.specs.Slots.{is_free, IsFirstFree}
+use Rattle.pool_core.specs.Views.{IsTakenBy, HasPlaces, IsPool, IsKeptPool}
 use Rattle.pool_machine.proofs.Lists.{sum_by-set_at, slice_get-set_same, slice_get-set_other, slice_get-set_cases}
 use Rattle.pool_machine.proofs.Frames.{same_or_other, one_at}
 use Rattle.pool_machine.proofs.Replacing.{node_at}
@@ -64,29 +65,6 @@ open_fault-none s id h =
     let w = waits-in (slice_get s.nodes id.0) (not-false _ (when-none _ _ two.0)) in
     let few : nat_le MAX_ROUNDS (active_count s) ≡ false = when-none _ _ two.1 in
     record { not_spent = is_spent-false s (when-none _ _ one.0); node = w.0; is_node = w.1; undone = w.2; no_round = w.3; room = grind (arith, nat_tests) }
-
--- where no place is free, none is counted
-pub none_free : (places : List Slot) → ((k : ℕ) → k < length places → (n : BranchId) × (slice_get places k ≡ Some (Of n))) → count_by is_free places ≡ 0
-none_free places h =
-    let most = sum_by-le (λ (o : Slot). cond (is_free o) 1 0) 0 places
-    (λ k d within. let w = h k within in subst (λ (o : Slot). cond (is_free o) 1 0 ≤ 0) (sym (get_or_from_slice_get places k (Of w.0) d w.1)) (omega arith)) in
-    omega arith
-
--- a place that is not free names a node
-pub named : (places : List Slot) (slot : ℕ) (read : Slot) → slot < length places → read ≡ get_or places slot read → is_free read ≡ false → (n : BranchId) × (slice_get places slot ≡ Some (Of n))
-named places slot (Free place) within at not_free = absurd (let bad : true ≡ false = not_free in cc)
-named places slot (Of n) within at not_free = (n, slice_get-get_or places slot (Of n) within ∙ ap (λ (x : Slot). Some x) (sym at))
-
-below-or-last : (i n : ℕ) → i < n + 1 → (i < n) ⊎ (i ≡ n)
-below-or-last i n h = grind arith
-
--- one place more
-pub named-more : (places : List Slot) (slot : ℕ) → ((k : ℕ) → k < slot → (n : BranchId) × (slice_get places k ≡ Some (Of n))) → (n : BranchId) × (slice_get places slot ≡ Some (Of n))
-    → (k : ℕ) → k < slot + 1 → (n : BranchId) × (slice_get places k ≡ Some (Of n))
-named-more places slot before here k below = elim (below-or-last k slot below) [
-  | inl less ↦ before k less
-  | inr last ↦ (here.0, subst (λ (i : ℕ). slice_get places i ≡ Some (Of here.0)) (sym last) here.1)
-]
 
 module _ (s : State) (places : List Slot) (id : BranchId) (slot : ℕ) (h : IsPool s places) (may : MayOpen s id) (first : IsFirstFree places slot) where
   -- the round that a place is begun as

@@ -11,9 +11,10 @@ use Rattle.pool_machine.proofs.Frames.{one_at}
 use Rattle.pool_machine.proofs.Replacing.{node_at}
 use Rattle.pool_machine.proofs.Runs.{IsReachable-sound}
 use Rattle.pool_nodes.specs.Rounds.{IsPublishedBy}
-use Rattle.pool_core.specs.declared.slot.Slot.{Slot}
-use Rattle.pool_core.specs.declared.slot.Slot.TheVariants.{Free, Of}
-use Rattle.pool_core.specs.Views.{holder_in, IsTakenBy, IsPool, IsPublishedAt}
+use Rattle.pool_nodes.specs.declared.slot.Slot.{Slot}
+use Rattle.pool_nodes.specs.declared.slot.Slot.TheVariants.{Free, Of}
+use Rattle.pool_nodes.specs.Slots.{holder_in}
+use Rattle.pool_core.specs.Views.{IsTakenBy, IsPool, IsPublishedAt}
 
 published-at : (s : State) (slot : ℕ) (id : BranchId) (item : Node) (published : Published) (round : Option Round) → item.round ≡ round → slice_get s.nodes id.0 ≡ Some item
     → IsPublishedBy round id slot (Some published) → IsPublishedAt s slot (Some published)

@@ -1,5 +1,5 @@
 -- How the pool's fields show a state, and what holds of them.
-use Rattle.std.specs.Prelude.{ℕ, ◌≡◌, ◌<◌, ◌≤◌, ◌+◌, Bool, true, false, List, length, count_by, Option, Some, None, slice_get, slice_set}
+use Rattle.std.specs.Prelude.{ℕ, ◌≡◌, ◌<◌, ◌≤◌, ◌+◌, List, length, count_by, Option, Some, None, slice_get}
 use Rattle.pool_machine.specs.declared.limits.TheConstants.{MAX_ROUNDS, MAX_BUDGET}
 use Rattle.plan_base.specs.declared.parts.Parts.{Parts}
 use Rattle.arc_restrict.specs.Rows.{Rows}
@@ -10,22 +10,12 @@ use Rattle.pool_nodes.specs.Grounds.{HasGrounds}
 use Rattle.pool_machine.specs.State.{Round, Node, State, active_count}
 use Rattle.pool_nodes.specs.Rounds.{evidence_for}
 use Rattle.pool_machine.specs.Opening.{HasSlot, IsTaken}
-use Rattle.pool_core.specs.declared.slot.Slot.{Slot}
-use Rattle.pool_core.specs.declared.slot.Slot.TheVariants.{Free, Of}
+use Rattle.pool_nodes.specs.declared.slot.Slot.{Slot}
+use Rattle.pool_nodes.specs.declared.slot.Slot.TheVariants.{Free, Of}
+use Rattle.pool_nodes.specs.Slots.{is_free}
 use Rattle.pool_machine.specs.Closing.{closed_by}
 use Rattle.pool_machine.specs.Changes.{examined_with}
 use Rattle.pool_machine.specs.Machine.{IsReachable}
-
--- whether a slot is free
-abbrev pub is_free : Slot → Bool
-is_free (Free place) = true
-is_free (Of id) = false
-
--- the node that a slot names, if it is there and taken
-abbrev pub holder_in : Option Slot → Option BranchId
-holder_in None = None
-holder_in (Some (Free place)) = None
-holder_in (Some (Of id)) = Some id
 
 -- the round of the node of this number has the slot
 abbrev pub IsTakenBy : State → ℕ → ℕ → Type 0
@@ -48,12 +38,6 @@ pub record AreFreePlaces (count demands links : ℕ) (places : List Slot) : Type
   pub each : (slot : ℕ) → slot < count → (place : Round) × (slice_get places slot ≡ Some (Free place))
       × (place.slot ≡ slot) × (length place.found ≡ demands) × (length place.prices ≡ links)
 
--- the first free place
-pub record IsFirstFree (places : List Slot) (slot : ℕ) : Type 0 where
-  pub place : Round
-  pub is_free : slice_get places slot ≡ Some (Free place)
-  pub lower : (k : ℕ) → k < slot → (id : BranchId) × (slice_get places k ≡ Some (Of id))
-
 -- the state is one that events lead to, and the places are those of its free slots
 pub record IsPool (s : State) (places : List Slot) : Type 0 where
   pub reachable : IsReachable s
@@ -73,11 +57,6 @@ IsPublishedAt s slot None = IsTaken s slot → ⊥
 IsPublishedAt s slot (Some published) =
     (node : Node) × (round : Round) × (slice_get s.nodes published.node.0 ≡ Some node) × (node.round ≡ Some round)
     × (round.slot ≡ slot) × (round.version ≡ published.version) × (round.prices ≡ published.prices)
-
--- the places when the round of a node has ended
-abbrev pub given_back : List Slot → Option Round → List Slot
-given_back places None = places
-given_back places (Some round) = slice_set places round.slot (Free round)
 
 -- the state in which the node that is there is closed for the reason
 abbrev pub closed_at : State → BranchId → Reason → Option Node → State

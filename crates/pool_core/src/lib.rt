@@ -10,7 +10,6 @@
 pub mod limits;
 mod pool;
 mod shared;
-mod slot;
 
 pub use pool::Pool;
 pub use pool_machine::{

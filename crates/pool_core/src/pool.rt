@@ -1,8 +1,7 @@
 //! The pool: each call is one event of the machine.
 
-ghost use Rattle.std.specs.Prelude.{◌≡◌, ◌<◌, ◌≤◌, ◌↔◌, IsTrue, true, false, None, Some, length, slice_get, option_map, count_by};
+ghost use Rattle.std.specs.Prelude.{◌≡◌, ◌<◌, ◌≤◌, ◌↔◌, IsTrue, true, false, None, Some, length, slice_get, option_map};
 ghost use Rattle.pool_machine.specs.State.{State, Node, Round, state_of, round_of, cutoff_of, active_count};
-ghost use Rattle.pool_core.specs.Views.{is_free, IsFirstFree};
 ghost use Rattle.pool_machine.specs.Opening.{open_fault, OpenStep, is_waiting};
 ghost use Rattle.pool_machine.specs.Changes.{is_spent, version_in, is_version, first_gap};
 ghost use Rattle.pool_machine.specs.Settling.{settle_fault, SettleStep};
@@ -17,13 +16,12 @@ mod reading;
 mod running;
 mod tasks;
 
-use crate::slot::Slot;
 use leaf_work::KnownAbove;
 use link_steps::StepTable;
 use plan_base::{BranchId, DemandId, Instance};
 use pool_machine::limits::MAX_ROUNDS;
 use pool_machine::{Incumbent, NodeState, Opened, RoundFault, Settle};
-use pool_nodes::{Ground, PoolNode};
+use pool_nodes::{Ground, PoolNode, Slot, first_free, free_count};
 use std::alloc::Global;
 use std::marker::Model;
 use std::sync::Arc;
@@ -213,25 +211,6 @@ impl Pool {
         settled.settle();
         Settle::Done
     }
-}
-
-fn free_count(places: &[Slot]) -> usize
-    ensures { result ≡ count_by is_free places.now }
-{
-    places.iter().filter(|place| place.is_free()).count()
-}
-
-/// The first place that is free.
-fn first_free(places: &[Slot]) -> usize
-    requires { 0 < count_by is_free places.now }
-    ensures { IsFirstFree places.now result }
-{
-    for (slot, place) in places.iter().enumerate() {
-        if place.is_free() {
-            return slot;
-        }
-    }
-    0
 }
 
 fn is_waiting(state: NodeState) -> bool

@@ -3,3 +3,4 @@ pub mod Completing
 pub mod FoundPaths
 pub mod SharedLimits
 pub mod Grounds
+pub mod FreeSlots

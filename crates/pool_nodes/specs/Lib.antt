@@ -1,3 +1,4 @@
 pub mod Rounds
 pub mod Records
 pub mod Grounds
+pub mod Slots

@@ -13,9 +13,11 @@ mod rank;
 mod reason;
 mod round;
 mod shared;
+mod slot;
 
 pub use ground::Ground;
 pub use node::PoolNode;
 pub use rank::Rank;
 pub use reason::Reason;
 pub use round::PoolRound;
+pub use slot::{Slot, first_free, free_count, give_back, holder};

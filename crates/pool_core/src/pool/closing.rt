@@ -7,13 +7,12 @@ ghost use Rattle.pool_machine.specs.Bettering.{BetterStep, is_cheaper};
 ghost use Rattle.pool_machine.specs.Changes.{is_open_state};
 ghost use Rattle.pool_machine.specs.Machine.{IsReachable};
 ghost use Rattle.pool_nodes.specs.Rounds.{HasReason};
-ghost use Rattle.pool_core.specs.Views.{closed_at, given_back};
+ghost use Rattle.pool_core.specs.Views.{closed_at};
 
 use super::Pool;
-use crate::slot::Slot;
 use plan_base::{BranchId, Design, DesignFault, check_design};
 use pool_machine::{Better, Closing, Incumbent, NodeState};
-use pool_nodes::{PoolRound, Reason};
+use pool_nodes::{Reason, give_back};
 
 /// Whether the node is an open leaf.
 pub fn is_open_state(state: NodeState) -> bool
@@ -23,17 +22,6 @@ pub fn is_open_state(state: NodeState) -> bool
         NodeState::Waiting => true,
         NodeState::Active => true,
         _ => false,
-    }
-}
-
-/// Puts the place of a round that has ended back into its slot. Takes no memory.
-pub fn give_back(places: &mut Vec<Slot>, round: Option<PoolRound>)
-    requires { IfSome round (λ r. r.slot < length places.old.items) }
-    ensures { places.new.items ≡ given_back places.old.items round }
-{
-    if let Some(place) = round {
-        let slot = place.slot() as usize;
-        places[slot] = Slot::Free(place);
     }
 }
 

@@ -5,12 +5,11 @@ ghost use Rattle.pool_machine.specs.Examining.{ExamineStep};
 ghost use Rattle.pool_core.specs.Examining.{IsReadyAt, HasTwoPaths, IsChildAt, IsDivisionAt, AreChildrenAt};
 
 use super::Pool;
-use super::closing::give_back;
 use arc_restrict::divergence;
 use branch_tree::{Division, Limit, deal};
 use plan_base::{ArcId, BranchId, DemandId, Items, Path};
 use pool_machine::Examined;
-use pool_nodes::{Ground, PoolNode};
+use pool_nodes::{Ground, PoolNode, give_back};
 use std::alloc::AllocError;
 use std::sync::Arc;
 

@@ -7,13 +7,12 @@ ghost use Rattle.pool_machine.specs.Machine.{IsOpeningState};
 ghost use Rattle.pool_core.specs.Views.{AreFreePlaces};
 
 use super::Pool;
-use crate::slot::Slot;
 use arc_restrict::Restriction;
 use leaf_work::KnownAbove;
 use link_steps::StepTable;
 use plan_base::{Instance, Items, Prices};
 use pool_machine::limits::MAX_ROUNDS;
-use pool_nodes::{Ground, PoolNode, PoolRound, Rank};
+use pool_nodes::{Ground, PoolNode, PoolRound, Rank, Slot};
 use std::alloc::{AllocError, Global};
 use std::sync::Arc;
 

@@ -8,14 +8,14 @@ ghost use Rattle.pool_machine.specs.Changes.{bound_in, is_open_state};
 ghost use Rattle.pool_machine.specs.Opening.{is_waiting};
 ghost use Rattle.pool_machine.specs.Machine.{IsReachable};
 ghost use Rattle.pool_machine.specs.Soundness.{IsSound};
-ghost use Rattle.pool_core.specs.Views.{holder_in, IsPublishedAt};
+ghost use Rattle.pool_core.specs.Views.{IsPublishedAt};
 
 use super::Pool;
-use crate::slot::Slot;
 use arc_restrict::Restriction;
 use dual_versions::Published;
 use link_steps::StepTable;
 use plan_base::{BranchId, Instance, Prices};
+use pool_nodes::holder;
 use std::alloc::AllocError;
 use std::sync::Arc;
 
@@ -96,15 +96,5 @@ impl Pool {
         ensures { arc_value result.now ≡ self.now.problem }
     {
         &self.table
-    }
-}
-
-/// The node whose round has the slot.
-fn holder(places: &[Slot], slot: u32) -> Option<BranchId>
-    ensures { result ≡ holder_in (slice_get places.now slot) }
-{
-    match places.get(slot as usize) {
-        Some(Slot::Of(node)) => Some(*node),
-        _ => None,
     }
 }

@@ -10,11 +10,8 @@ ghost use Rattle.pool_machine.specs.PlanOf.{is_done};
 ghost use Rattle.pool_machine.specs.Tasks.{LeadsTo};
 ghost use Rattle.pool_core.specs.Work.{is_next, IsGap, IsCloser, KeepsNodes};
 
-mod guide;
-
 use super::Pool;
-use guide::Guide;
-use leaf_work::{KnownAbove, copy_of, find};
+use leaf_work::{Guide, KnownAbove, copy_of, find};
 use path_pricing::Priced;
 use plan_base::{BranchId, DemandId, Design};
 use pool_machine::{ExamineFault, Examined, Offer, Task};

@@ -1,5 +1,5 @@
-use Rattle.pool_core.specs.declared.slot.Slot.{Slot}
-use Rattle.pool_core.specs.declared.slot.Slot.TheVariants.{Free}
+use Rattle.pool_nodes.specs.declared.slot.Slot.{Slot}
+use Rattle.pool_nodes.specs.declared.slot.Slot.TheVariants.{Free}
 use Rattle.std.proofs.Common.{◌≡◌, ◌<◌, ◌+◌, ◌≤◌, List, None, length, rules, add-one, sym, subst, ◌∙◌}
 use Rattle.std.specs.Prelude.{IfSome}
 use Rattle.std.proofs.lemmas.Option.{slice_get_within}
@@ -9,7 +9,7 @@ use Rattle.pool_machine.specs.State.{State}
 use Rattle.pool_machine.specs.Opening.{open_fault, Opens}
 use Rattle.pool_machine.specs.Changes.{TakesRound, with_node}
 use Rattle.pool_nodes.specs.Rounds.{MayComplete}
-use Rattle.pool_core.specs.Views.{IsFirstFree}
+use Rattle.pool_nodes.specs.Slots.{IsFirstFree}
 use Rattle.pool_core.proofs.OpenPool.{MayOpen, open_fault-none, some_free, read-free, place-fits, version-small, slot-within, begun-ready, begun-takes, opens, opened-kept}
 use Rattle.pool_core.proofs.pool.Pool.open_round.Goals as goal
 

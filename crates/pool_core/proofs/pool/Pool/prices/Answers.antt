@@ -2,8 +2,9 @@ use Rattle.std.proofs.Common.{◌≡◌, ◌<◌, List, Some, None, length, slic
 use Rattle.std.proofs.lemmas.Option.{slice_get-get_or}
 use Rattle.pool_machine.specs.State.{State}
 use Rattle.pool_core.specs.contracts.pool.Pool.{the_view}
-use Rattle.pool_core.specs.declared.slot.Slot.{Slot}
-use Rattle.pool_core.specs.Views.{holder_in, IsPublishedAt}
+use Rattle.pool_nodes.specs.declared.slot.Slot.{Slot}
+use Rattle.pool_nodes.specs.Slots.{holder_in}
+use Rattle.pool_core.specs.Views.{IsPublishedAt}
 use Rattle.pool_core.proofs.Reading.{if_ok}
 use Rattle.pool_core.proofs.Publishing.{held-by, holder-within, published-here, none-published}
 use Rattle.pool_core.proofs.pool.Pool.prices.Goals as goal

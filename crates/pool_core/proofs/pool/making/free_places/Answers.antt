@@ -1,4 +1,4 @@
-use Rattle.pool_core.specs.declared.slot.Slot.{Slot}
+use Rattle.pool_nodes.specs.declared.slot.Slot.{Slot}
 use Rattle.std.proofs.Common.{◌+◌, List, length, sym, subst}
 use Rattle.pool_core.specs.Views.{AreFreePlaces}
 use Rattle.pool_core.proofs.Making.{free_places-next}

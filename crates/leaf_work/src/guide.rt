@@ -1,7 +1,7 @@
-//! What the search of one thread goes by beside its state. No contract rests on it.
+//! What a search goes by beside its state. No contract rests on it.
 
+use crate::known::{Known, KnownAbove};
 use incumbent::DesignSearch;
-use leaf_work::{Known, KnownAbove};
 use path_pricing::Priced;
 use plan_base::{BranchId, DemandId};
 use std::alloc::{AllocError, Global};

@@ -1,6 +1,6 @@
 use Rattle.std.proofs.Common.{◌<◌, length, rules, sym, arith}
-use Rattle.pool_core.proofs.OpenPool.{none_free, named, named-more}
-use Rattle.pool_core.proofs.pool.first_free.Goals as goal
+use Rattle.pool_nodes.proofs.FreeSlots.{none_free, named, named-more}
+use Rattle.pool_nodes.proofs.slot.first_free.Goals as goal
 
 pub loop-slot-preserved : goal.loop-slot-preserved
 loop-slot-preserved c =
