@@ -21,9 +21,16 @@ pub enum Command<N> {
         budget: u32,
     },
     /// Tells the sizes of the network.
-    Check { network: N, model: N },
+    Check {
+        network: N,
+        model: N,
+    },
     /// Tells whether the plan is a valid one of the network.
-    Verify { network: N, model: N, plan: N },
+    Verify {
+        network: N,
+        model: N,
+        plan: N,
+    },
 }
 
 /// Whether so many nodes may be examined.
@@ -138,11 +145,14 @@ pub fn command_in(words: &[String]) -> Option<Command<&str>>
     ensures budget { IfSome result (λ command. HasBudget (command_now command)) }
 {
     match words {
-        [word, network, model] => {
-            command_named(word.as_str(), network.as_str(), model.as_str())
-        }
+        [word, network, model] => { command_named(word.as_str(), network.as_str(), model.as_str()) }
         [word, network, model, plan] => {
-            command_on_plan(word.as_str(), network.as_str(), model.as_str(), plan.as_str())
+            command_on_plan(
+                word.as_str(),
+                network.as_str(),
+                model.as_str(),
+                plan.as_str(),
+            )
         }
         [word, network, model, option, number] => {
             command_within(

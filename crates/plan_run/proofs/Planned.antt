@@ -37,5 +37,5 @@ spelt_where_planned below budget network model text status fault done refused =
 pub good_where_planned : Below → (budget : ℕ) (network model text : Text) (status other : Status) (bytes : List ℕ) → IsPlanDone budget (two network model) status text → IsVerified (three network model text) other bytes → other ≡ Good
 good_where_planned below budget network model text status other bytes done verified =
     good-if done.parts done.holds.plan other bytes
-      (verdict-of below (three network model text) done.net done.parts done.holds.plan other bytes (reads-with network model text done.net done.parts done.problem.reads) done.holds.text verified)
-      done.holds.searched.valid
+    (verdict-of below (three network model text) done.net done.parts done.holds.plan other bytes (reads-with network model text done.net done.parts done.problem.reads) done.holds.text verified)
+    done.holds.searched.valid

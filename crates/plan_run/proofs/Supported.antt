@@ -56,9 +56,9 @@ not-long shelf names begun files.Plan s long =
 not-refused : Below → (shelf : Told) (names : Texts) (begun : ℕ) (fault : RunFault) → (s : AreToldWell shelf names) → HoldsOfTexts shelf names begun (λ texts. AreRefused texts fault) → ⊥
 not-refused below shelf names begun fault s h =
     let same : h.texts ≡ s.texts = same-texts h.texts s.texts
-      (one-text (shelf names.network) h.texts.network s.texts.network s.network_told.told h.read.network_read.told)
-      (one-text (shelf names.model) h.texts.model s.texts.model s.model_told.told h.read.model_read.told)
-      (one-plan shelf names.plan h.texts.plan s.texts.plan s.plan_told h.read.plan_read) in
+    (one-text (shelf names.network) h.texts.network s.texts.network s.network_told.told h.read.network_read.told)
+    (one-text (shelf names.model) h.texts.model s.texts.model s.model_told.told h.read.model_read.told)
+    (one-plan shelf names.plan h.texts.plan s.texts.plan s.plan_told h.read.plan_read) in
     refused_or_read below s.texts s.net s.parts s.plan fault (subst (λ (t : Texts). AreRefused t fault) same h.holds) s.problem
 
 -- the texts are refused for a read fault alone

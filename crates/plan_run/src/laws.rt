@@ -14,12 +14,11 @@ ghost use Rattle.plan_run.specs.Plans.{IsPlanDone};
 ghost use Rattle.plan_run.specs.Supports.{AreSupported, EndsWith};
 ghost use Rattle.plan_run.specs.Runs.{IsRun, IsDone, IsOwnAnswer, Says};
 
-pub use plan_texts::laws::{accepted_where_valid, one_refusal, one_verdict, refused_or_read};
-
 use crate::top_call::run;
 use plan_io::{Gate, SureShelf, SureSink};
 use plan_texts::Status;
 use plan_texts::laws::one_answer_below;
+pub use plan_texts::laws::{accepted_where_valid, one_refusal, one_verdict, refused_or_read};
 use std::alloc::Global;
 
 /// Over a shelf and a sink that never fail, a run whose words are read ends with the work done, with a

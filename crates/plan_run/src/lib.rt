@@ -16,4 +16,3 @@ mod top_call;
 pub use plan_texts::Status;
 pub use searching::search;
 pub use top_call::run;
-

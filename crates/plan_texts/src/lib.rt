@@ -21,4 +21,3 @@ pub use problem::{Problem, read_planned, read_problem};
 pub use status::Status;
 pub use stop::Stop;
 pub use verdict::{check, verify_plan};
-

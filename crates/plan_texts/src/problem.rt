@@ -90,12 +90,7 @@ pub struct Planned {
 
 /// The problem that a network text and a model text spell, and the plan that a plan text spells.
 #[tactic(auto, using(crate::proofs::StopLaws::planned_spelt))]
-fn spelt_planned(
-    alloc: Global,
-    network: &[u8],
-    model: &[u8],
-    plan: &[u8],
-) -> Result<Planned, Stop>
+fn spelt_planned(alloc: Global, network: &[u8], model: &[u8], plan: &[u8]) -> Result<Planned, Stop>
     requires network { length network.now ≤ MAX_TEXT_BYTES }
     requires model { length model.now ≤ MAX_TEXT_BYTES }
     requires plan { length plan.now ≤ MAX_PLAN_BYTES }

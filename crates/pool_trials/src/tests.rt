@@ -19,8 +19,8 @@ use plan_base::{
     Parts, Path,
 };
 use pool_core::{
-    Better, Closing, ExamineFault, Examined, NodeState, Offer, Offered, Opened, Pool, RoundFault, Settle,
-    Task,
+    Better, Closing, ExamineFault, Examined, NodeState, Offer, Offered, Opened, Pool, RoundFault,
+    Settle, Task,
 };
 use std::alloc::{AllocError, Global};
 use std::sync::Arc;

@@ -6,4 +6,4 @@ use Rattle.plan_run.proofs.commands.answer_to.Goals as goal
 pub returns-in-Some-clause-found : goal.returns-in-Some-clause-found
 returns-in-Some-clause-found g c =
     found_read (map string_bytes c.args.words.now) (g.S.Shelf.text c.args.shelf.now) (g.S.Shelf.begins c.args.shelf.now) (g.S.Shelf.begins c.do_command.new.shelf) (command_now c.in-Some.command) c.do_command.result
-      c.in-Some.ensures.value c.do_command.ensures.found
+    c.in-Some.ensures.value c.do_command.ensures.found
