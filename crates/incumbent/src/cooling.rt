@@ -10,6 +10,9 @@ const MOST_SEARCHES: u32 = 50_000;
 /// The least that searches are cut down to on a large network.
 const LEAST_SEARCHES: u32 = 2_000;
 
+/// The most searches for each demand: a small network needs few.
+const SEARCHES_A_DEMAND: u32 = 1_000;
+
 /// How many steps all searches may take, nodes by nodes and arcs.
 const WORK: u32 = 500_000_000;
 
@@ -35,7 +38,8 @@ fn search_limit(inst: &Instance) -> u32
     } else {
         WORK / work
     };
-    limit.max(LEAST_SEARCHES).min(MOST_SEARCHES)
+    let most = SEARCHES_A_DEMAND.saturating_mul(inst.demands());
+    limit.max(LEAST_SEARCHES).min(most).min(MOST_SEARCHES)
 }
 
 impl Cooling {
