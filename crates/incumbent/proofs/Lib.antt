@@ -1,4 +1,3 @@
-pub mod CompletionLaws
 pub mod ReroutingLaws
 pub mod TrafficLaws
 pub mod RoutingLaws

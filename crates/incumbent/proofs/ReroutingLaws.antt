@@ -14,7 +14,7 @@ use Rattle.plan_base.specs.Designs.{IsDesign, IsGoodDesign}
 use Rattle.least_path.specs.declared.limits.TheConstants.{MAX_WEIGHT}
 use Rattle.least_path.specs.Paths.{Weights, AreWeights, from_to}
 use Rattle.link_steps.proofs.Order.{same_or_not}
-use Rattle.incumbent.specs.Completions.{ArePaths, IsCompletion}
+use Rattle.completions.specs.Completions.{ArePaths, IsCompletion}
 
 -- a path between the ends of a demand is one of the demand
 pub path_of_ends : (p : Parts) (k : Demand) (arcs : List ArcId) → IsSimplePath p (from_to k.source k.target) arcs → IsSimplePath p k arcs

@@ -17,7 +17,7 @@ use Rattle.plan_base.proofs.PathSums.{taken, sum_by-taken}
 use Rattle.plan_base.proofs.AddedLoads.{HasLinksOnce-path}
 use Rattle.plan_base.proofs.LoadLaws.{load_on-le-total}
 use Rattle.link_steps.proofs.Order.{same_or_not}
-use Rattle.incumbent.specs.Completions.{with_paths, ArePaths}
+use Rattle.completions.specs.Completions.{with_paths, ArePaths}
 use Rattle.incumbent.specs.Traffic.{arcs_along}
 use Rattle.incumbent.specs.Routings.{is_marked, laid_on, AreLoads}
 

@@ -1,4 +1,2 @@
-pub mod Completions
-pub mod Links
 pub mod Routings
 pub mod Traffic

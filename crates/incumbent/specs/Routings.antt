@@ -10,7 +10,7 @@ use Rattle.plan_base.specs.Designs.{load_from}
 use Rattle.least_path.specs.Paths.{Weights, AreWeights, IsLeastPath}
 use Rattle.incumbent.specs.declared.routing.Routing.{Routing}
 use Rattle.incumbent.specs.declared.rounds.Rounds.{Rounds}
-use Rattle.incumbent.specs.Completions.{with_paths, ArePaths}
+use Rattle.completions.specs.Completions.{with_paths, ArePaths}
 use Rattle.incumbent.specs.Traffic.{AreAddedCosts}
 
 -- whether the demand of this number is marked

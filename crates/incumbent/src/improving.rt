@@ -4,12 +4,12 @@ ghost use Rattle.std.specs.Prelude.{◌≡◌, ◌<◌, ◌≤◌, length, IfOk,
 ghost use Rattle.plan_base.specs.Paths.{IsSimplePath};
 ghost use Rattle.plan_base.specs.Designs.{cost_of, IsDesign, IsGoodDesign};
 ghost use Rattle.least_path.specs.Paths.{AreWeights};
-ghost use Rattle.incumbent.specs.Completions.{ArePaths};
-ghost use Rattle.incumbent.specs.Links.{IsPriced};
+ghost use Rattle.completions.specs.Completions.{ArePaths};
+ghost use Rattle.completions.specs.Links.{IsPriced};
 
-use crate::completing::complete;
 use crate::held::roomy_copies;
 use crate::rounds::Rounds;
+use completions::complete;
 use link_steps::StepTable;
 use plan_base::{Design, Instance, Items, Path, check_design};
 use std::alloc::{AllocError, Global};

@@ -1,12 +1,10 @@
-//! Designs that are found: the cheapest one for given paths, and a cheaper one by other paths.
+//! Designs that are found: a cheaper one by other paths, and when such are searched for.
 //!
-//! Promises that `complete` gives the least cost of its paths with a design that has it, and that `improve` gives a
-//! feasible design that is never dearer. Begin at `complete`; its words are in `specs/Completions.antt`. Stands on
-//! `plan_base`, `link_steps` and `least_path`. How much cheaper a design of `improve` is, no contract says: it is
-//! measured.
+//! Promises that `improve` gives a feasible design that is never dearer. Begin at `improve`; the search is in
+//! `rounds.rt`. Stands on `plan_base`, `link_steps`, `least_path` and `completions`, whose calls stand here too. How
+//! much cheaper a design of `improve` is, no contract says: it is measured.
 #![tactic(auto)]
 
-mod completing;
 mod cooling;
 mod draws;
 mod group;
@@ -19,7 +17,7 @@ mod rounds;
 mod routing;
 mod weights;
 
-pub use completing::{complete, overfull_link};
+pub use completions::{complete, overfull_link};
 pub use improving::{improve, improve_seeded};
 pub use laying::lay_all;
 pub use ration::DesignSearch;

@@ -4,12 +4,12 @@ ghost use Rattle.std.specs.Prelude.{◌≡◌, ◌<◌, length, IfOk, IfSome};
 ghost use Rattle.plan_base.specs.Arcs.{demand_at};
 ghost use Rattle.plan_base.specs.Paths.{IsSimplePath};
 ghost use Rattle.plan_base.specs.Designs.{IsDesign, IsGoodDesign};
-ghost use Rattle.incumbent.specs.Completions.{ArePaths};
+ghost use Rattle.completions.specs.Completions.{ArePaths};
 
-use crate::completing::complete;
 use crate::held::{roomy_copies, set_path};
 use crate::improving::improve_seeded;
 use crate::laying::lay_all;
+use completions::complete;
 use link_steps::StepTable;
 use plan_base::{DemandId, Design, Instance, Items, Path, check_design};
 use std::alloc::{AllocError, Global};

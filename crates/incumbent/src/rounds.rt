@@ -2,7 +2,7 @@
 //! taken back.
 
 ghost use Rattle.std.specs.Prelude.{◌≡◌, ◌<◌, length, IfOk, OnOk};
-ghost use Rattle.incumbent.specs.Completions.{ArePaths};
+ghost use Rattle.completions.specs.Completions.{ArePaths};
 ghost use Rattle.incumbent.specs.Routings.{IsRouting, AreDemands, IsSearch};
 
 use crate::cooling::Cooling;

@@ -3,7 +3,7 @@
 ghost use Rattle.std.specs.Prelude.{◌≡◌, ◌<◌, true, false, length, IfOk, OnOk, IfSome};
 ghost use Rattle.plan_base.specs.Arcs.{demand_at};
 ghost use Rattle.plan_base.specs.Paths.{IsSimplePath};
-ghost use Rattle.incumbent.specs.Completions.{ArePaths};
+ghost use Rattle.completions.specs.Completions.{ArePaths};
 ghost use Rattle.incumbent.specs.Routings.{IsRouting, HasSameRoutes, IsCheapestWay, is_marked};
 
 use crate::held::set_path;

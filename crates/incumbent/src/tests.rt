@@ -1,7 +1,7 @@
 ghost use Rattle.std.specs.Prelude.{◌≡◌, ◌<◌, IfSome};
 ghost use Rattle.plan_base.specs.Paths.{IsSimplePath};
 ghost use Rattle.plan_base.specs.Designs.{IsGoodDesign};
-ghost use Rattle.incumbent.specs.Completions.{ArePaths};
+ghost use Rattle.completions.specs.Completions.{ArePaths};
 
 use super::*;
 use least_path::{Search, are_weights, search};

@@ -8,7 +8,7 @@ ghost use Rattle.link_steps.specs.Costs.{IsStepCost};
 ghost use Rattle.least_path.specs.Paths.{AreWeights};
 ghost use Rattle.incumbent.specs.Traffic.{IsTooMuch, IsRise, IsAddedCost, AreAddedCosts, span_of, IsFarCost, AreFarCosts, AreRises};
 
-use crate::completing::{LINK_COST_BOUND, routing_cost};
+use completions::{LINK_COST_BOUND, routing_cost};
 use link_steps::StepTable;
 use plan_base::limits::{MAX_LINKS, MAX_TOTAL_LOAD};
 use plan_base::{ArcId, Instance, LinkId};

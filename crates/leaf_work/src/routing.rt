@@ -2,7 +2,7 @@
 
 ghost use Rattle.std.specs.Prelude.{◌≡◌, IfOk, IfSome};
 ghost use Rattle.plan_base.specs.Designs.{IsGoodDesign};
-ghost use Rattle.incumbent.specs.Completions.{ArePaths};
+ghost use Rattle.completions.specs.Completions.{ArePaths};
 
 use incumbent::DesignSearch;
 use link_steps::StepTable;

@@ -14,7 +14,7 @@ use Rattle.plan_base.specs.Arcs.{link_at, link_of, demand_at, no_link, no_demand
 use Rattle.plan_base.specs.Designs.{module_at, counts_at, load_on, link_cost}
 use Rattle.plan_base.proofs.LoadLaws.{load_on-le-total}
 use Rattle.plan_base.proofs.PathLaws.{length-IsSimplePath}
-use Rattle.incumbent.proofs.CompletionLaws.{routing-within}
+use Rattle.completions.proofs.CompletionLaws.{routing-within}
 use Rattle.arc_restrict.specs.Restrictions.{Forbidden, HasNoPath}
 use Rattle.path_pricing.specs.Priced.{ArePrices}
 use Rattle.arc_restrict.specs.Rows.{Rows, forbids}

@@ -9,7 +9,7 @@ use Rattle.plan_base.specs.declared.design_fault.DesignFault.{DesignFault}
 use Rattle.plan_base.specs.Arcs.{link_at}
 use Rattle.plan_base.specs.Designs.{load_on, counts_at}
 use Rattle.link_steps.specs.Costs.{AreLeastCounts}
-use Rattle.incumbent.specs.Completions.{ArePaths, IsCompletion, IsFirstOverfull}
+use Rattle.completions.specs.Completions.{ArePaths, IsCompletion, IsFirstOverfull}
 use Rattle.proof_tree.specs.declared.tree.Evidence.TheVariants as evidence
 use Rattle.pool_machine.specs.declared.answers.Better.{Better}
 use Rattle.pool_machine.specs.declared.answers.Examined.TheVariants as examined

@@ -9,7 +9,7 @@ use Rattle.plan_base.specs.declared.parts.Parts.{Parts}
 use Rattle.plan_base.specs.Arcs.{demand_at}
 use Rattle.plan_base.specs.Paths.{IsSimplePath}
 use Rattle.arc_restrict.specs.Restrictions.{Forbidden}
-use Rattle.incumbent.specs.Completions.{ArePaths}
+use Rattle.completions.specs.Completions.{ArePaths}
 use Rattle.pool_machine.specs.declared.tree.Found.{Found}
 use Rattle.pool_machine.specs.State.{Round, State, restriction_of, gap_of, left_of, round_of}
 use Rattle.pool_machine.specs.Machine.{IsReachable}

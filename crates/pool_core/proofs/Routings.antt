@@ -13,7 +13,7 @@ use Rattle.link_steps.specs.Costs.{AreLeastCounts}
 use Rattle.arc_restrict.specs.Restrictions.{Forbidden, IsOnlyPath}
 use Rattle.second_path.specs.Others.{AreOnlyPaths as AreOnlyOnes}
 use Rattle.proof_tree.specs.Evidence.{AreOnlyPaths, ClosedByOverfull}
-use Rattle.incumbent.specs.Completions.{with_paths, ArePaths, IsCompletion, CarryLoads, HasOverfull, IsFirstOverfull}
+use Rattle.completions.specs.Completions.{with_paths, ArePaths, IsCompletion, CarryLoads, HasOverfull, IsFirstOverfull}
 use Rattle.pool_machine.specs.declared.answers.Better.{Better}
 use Rattle.pool_machine.specs.declared.answers.Better.TheVariants as better
 use Rattle.pool_machine.specs.declared.tree.Incumbent.{Incumbent}

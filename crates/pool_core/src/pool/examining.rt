@@ -8,7 +8,7 @@ ghost use Rattle.pool_core.specs.Examining.{IsReadyAt, HasOnlyPaths, IsDetermine
 
 use super::Pool;
 use super::closing::is_open_state;
-use incumbent::{complete, overfull_link};
+use completions::{complete, overfull_link};
 use plan_base::{BranchId, Design, Items, Path};
 use pool_machine::limits::MAX_VERSIONS;
 use pool_machine::{ExamineFault, Examined};

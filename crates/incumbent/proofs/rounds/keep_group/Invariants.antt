@@ -1,4 +1,4 @@
-use Rattle.incumbent.specs.Completions.{ArePaths}
+use Rattle.completions.specs.Completions.{ArePaths}
 use Rattle.incumbent.proofs.rounds.keep_group.Given as goal
 
 abbrev pub invariant-loop-demand : goal.invariant-loop-demand

@@ -4,7 +4,7 @@ use Rattle.std.proofs.lemmas.List.{get_or_default}
 use Rattle.plan_base.specs.declared.parts.Demand.{Demand}
 use Rattle.plan_base.specs.Arcs.{demand_at}
 use Rattle.plan_base.specs.Designs.{path_at}
-use Rattle.incumbent.specs.Completions.{with_paths}
+use Rattle.completions.specs.Completions.{with_paths}
 use Rattle.incumbent.specs.Routings.{is_marked}
 use Rattle.incumbent.proofs.RoutingLaws.{loads-on}
 use Rattle.incumbent.proofs.routing.Routing.put_on.Goals as goal

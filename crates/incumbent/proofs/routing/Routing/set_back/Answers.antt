@@ -1,6 +1,6 @@
 use Rattle.std.proofs.Common.{◌≡◌, ◌∙◌, ◌<◌, List, [], length, sym, subst, ap, arith}
 use Rattle.plan_base.specs.declared.ids.ArcId.{ArcId}
-use Rattle.incumbent.specs.Completions.{ArePaths}
+use Rattle.completions.specs.Completions.{ArePaths}
 use Rattle.incumbent.specs.Routings.{AreLoads}
 use Rattle.incumbent.proofs.ReroutingLaws.{paths_set}
 use Rattle.incumbent.proofs.RoutingLaws.{loads-same}

@@ -2,7 +2,7 @@ use Rattle.std.proofs.Common.{◌≡◌, ℕ, length, Option, sym, ap, subst, �
 use Rattle.std.specs.Prelude.{IfNone}
 use Rattle.plan_base.specs.declared.parts.Parts.{Parts}
 use Rattle.plan_base.specs.declared.path.Design.{Design}
-use Rattle.incumbent.specs.Completions.{CarryLoads, HasOverfull, IsFirstOverfull}
+use Rattle.completions.specs.Completions.{CarryLoads, HasOverfull, IsFirstOverfull}
 use Rattle.pool_machine.specs.State.{State}
 use Rattle.pool_machine.specs.Examining.{ClosesOverfull, ClosesRouted}
 use Rattle.pool_machine.specs.Machine.{IsReachable}

@@ -1,6 +1,6 @@
 use Rattle.std.proofs.Common.{◌≡◌, sym, ap, subst, ◌∙◌}
 use Rattle.plan_base.specs.declared.parts.Parts.{Parts}
-use Rattle.incumbent.specs.Completions.{ArePaths}
+use Rattle.completions.specs.Completions.{ArePaths}
 use Rattle.pool_machine.specs.State.{State, Round, left_of}
 use Rattle.pool_machine.specs.Machine.{IsReachable}
 use Rattle.pool_core.proofs.Reading.{some_and-some}

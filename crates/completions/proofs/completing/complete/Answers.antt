@@ -1,10 +1,10 @@
 use Rattle.std.proofs.Common.{rules, ℕ, ◌≡◌, ◌+◌, List, [], ◌∷◌, ◌++◌, length, subst, sym}
 use Rattle.plan_base.specs.Arcs.{link_at}
 use Rattle.plan_base.specs.Designs.{load_on}
-use Rattle.incumbent.specs.Completions.{with_paths}
-use Rattle.incumbent.specs.Links.{IsLinkCompletion, AreCompletedTo}
-use Rattle.incumbent.proofs.CompletionLaws.{AreCompletedTo-push, least-completed, IsCompletion-completed}
-use Rattle.incumbent.proofs.completing.complete.Goals as goal
+use Rattle.completions.specs.Completions.{with_paths}
+use Rattle.completions.specs.Links.{IsLinkCompletion, AreCompletedTo}
+use Rattle.completions.proofs.CompletionLaws.{AreCompletedTo-push, least-completed, IsCompletion-completed}
+use Rattle.completions.proofs.completing.complete.Goals as goal
 
 -- src/completing.rt:83:5
 pub loop-place-preserved : goal.loop-place-preserved

@@ -1,5 +1,5 @@
-use Rattle.incumbent.specs.Completions.{CarryLoads}
-use Rattle.incumbent.proofs.completing.overfull_link.Given as goal
+use Rattle.completions.specs.Completions.{CarryLoads}
+use Rattle.completions.proofs.completing.overfull_link.Given as goal
 
 abbrev pub invariant-loop-place : goal.invariant-loop-place
 invariant-loop-place l = CarryLoads l.inst l.design.paths l.place

@@ -8,7 +8,7 @@ use Rattle.plan_base.specs.Arcs.{link_at}
 use Rattle.plan_base.specs.declared.path.Design.{Design}
 use Rattle.plan_base.specs.Designs.{load_on, module_cost_with, cost_of, AreCountsInShape, IsGoodDesign}
 use Rattle.link_steps.specs.Costs.{AreLeastCounts}
-use Rattle.incumbent.specs.Completions.{with_paths}
+use Rattle.completions.specs.Completions.{with_paths}
 
 -- least counts in shape for a load, and the step cost that they attain, in cost grains
 pub record IsLinkCompletion (l : Link) (load cost : ℕ) (counts : List ℕ) : Type 0 where

@@ -5,8 +5,8 @@ ghost use Rattle.plan_base.specs.Facts.{IsInstance, total_load};
 ghost use Rattle.plan_base.specs.Arcs.{link_at};
 ghost use Rattle.plan_base.specs.Designs.{load_on, counts_at};
 ghost use Rattle.link_steps.specs.Costs.{CanCarry, CannotCarry, AreLeastCounts};
-ghost use Rattle.incumbent.specs.Completions.{ArePaths, IsCompletion, HasOverfull, CarryLoads, IsFirstOverfull};
-ghost use Rattle.incumbent.specs.Links.{IsLinkCompletion};
+ghost use Rattle.completions.specs.Completions.{ArePaths, IsCompletion, HasOverfull, CarryLoads, IsFirstOverfull};
+ghost use Rattle.completions.specs.Links.{IsLinkCompletion};
 
 use link_steps::StepTable;
 use plan_base::limits::MAX_ROUTING_COST;

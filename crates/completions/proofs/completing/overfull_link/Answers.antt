@@ -2,8 +2,8 @@ use Rattle.std.proofs.Common.{◌≡◌, slice_index, rules, arith}
 use Rattle.plan_base.specs.Arcs.{link_at}
 use Rattle.plan_base.specs.Designs.{load_on}
 use Rattle.link_steps.specs.Costs.{CanCarry, CannotCarry}
-use Rattle.incumbent.proofs.CompletionLaws.{overfull-here, carry-next}
-use Rattle.incumbent.proofs.completing.overfull_link.Goals as goal
+use Rattle.completions.proofs.CompletionLaws.{overfull-here, carry-next}
+use Rattle.completions.proofs.completing.overfull_link.Goals as goal
 
 pub returns-then-not-can_carry-clause-some : goal.returns-then-not-can_carry-clause-some
 returns-then-not-can_carry-clause-some c =

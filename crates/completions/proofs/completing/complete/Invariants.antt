@@ -1,7 +1,7 @@
 use Rattle.std.proofs.Common.{◌*◌, ◌≤◌}
-use Rattle.incumbent.specs.declared.completing.TheConstants.{LINK_COST_BOUND}
-use Rattle.incumbent.specs.Links.{AreCompletedTo}
-use Rattle.incumbent.proofs.completing.complete.Given as goal
+use Rattle.completions.specs.declared.completing.TheConstants.{LINK_COST_BOUND}
+use Rattle.completions.specs.Links.{AreCompletedTo}
+use Rattle.completions.proofs.completing.complete.Given as goal
 
 abbrev pub invariant-loop-place : goal.invariant-loop-place
 invariant-loop-place l = record {

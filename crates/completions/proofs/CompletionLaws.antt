@@ -16,8 +16,8 @@ use Rattle.plan_base.proofs.SumLaws.{sum_below-next}
 use Rattle.plan_base.proofs.SumsBelow.{sum_below-same, sum_below-le}
 use Rattle.link_steps.specs.Costs.{Carries, CanCarry, CannotCarry, AreLeastCounts}
 use Rattle.link_steps.proofs.Order.{before_or_last}
-use Rattle.incumbent.specs.Completions.{with_paths, ArePaths, IsCompletion, CarryLoads, IsFirstOverfull}
-use Rattle.incumbent.specs.Links.{IsLinkCompletion, counts_in, cost_with, AreCompletedTo}
+use Rattle.completions.specs.Completions.{with_paths, ArePaths, IsCompletion, CarryLoads, IsFirstOverfull}
+use Rattle.completions.specs.Links.{IsLinkCompletion, counts_in, cost_with, AreCompletedTo}
 
 -- the routing cost of a load up to the total load is small
 pub routing-within : (p : Parts) (e load : ℕ) → IsInstance p → e < length p.links → load ≤ total_load p → (link_at p e).routing * load ≤ MAX_ROUTING_COST
