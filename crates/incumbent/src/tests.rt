@@ -146,17 +146,18 @@ fn designs_found(alloc: Global) -> Option<(u32, u128)> {
     let counts = counts_of(alloc, &[1, 0, 1])?;
     let design = good_design(&inst, paths, counts)?;
     let mut designs = DesignSearch::new();
-    let mut found = (0, 0);
+    let mut count: u32 = 0;
+    let mut cost = 0;
     for _asking in 0..3 {
         if let Some(design) = designs
             .next_design(alloc, &inst, &table, &design.paths, 0)
             .ok()?
         {
-            found.0 += 1;
-            found.1 = check_design(&inst, &design).ok()?;
+            count = count.saturating_add(1);
+            cost = check_design(&inst, &design).ok()?;
         }
     }
-    Some(found)
+    Some((count, cost))
 }
 
 #[test]
