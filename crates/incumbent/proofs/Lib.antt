@@ -1,3 +1,4 @@
+pub mod GroupLaws
 pub mod ReroutingLaws
 pub mod TrafficLaws
 pub mod RoutingLaws

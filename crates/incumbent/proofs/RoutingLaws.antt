@@ -1,16 +1,16 @@
 -- Demands that are laid and taken off, and the loads of those that are laid.
-use Rattle.std.proofs.Common.{◌≡◌, ◌≢◌, ℕ, ◌+◌, ◌*◌, ◌-◌, ◌<◌, ◌≤◌, inl, inr, min, Bool, true, false, cond, if◌then◌else◌, ◌==◌, List, [], length, slice_index, refl, sym, ap, ◌∙◌, subst, arith, eq-eqb, ne_eqb, replicate}
-use Rattle.std.proofs.Math.ListN.{set, length-set}
-use Rattle.std.proofs.lemmas.List.{get_or-set_same, get_or-set_other, get_or-replicate, length-replicate}
+use Rattle.std.proofs.Common.{◌≡◌, ℕ, ◌+◌, ◌*◌, ◌-◌, ◌<◌, ◌≤◌, inl, inr, min, Bool, true, false, cond, if◌then◌else◌, ◌==◌, List, [], length, slice_index, refl, sym, ap, ◌∙◌, arith, eq-eqb, ne_eqb, replicate}
+use Rattle.std.proofs.Math.ListN.{set}
+use Rattle.std.proofs.lemmas.List.{get_or-set_same, get_or-set_other, get_or-replicate}
 use Rattle.plan_base.specs.declared.ids.ArcId.{ArcId}
 use Rattle.plan_base.specs.declared.parts.Parts.{Parts}
 use Rattle.plan_base.specs.declared.path.Design.{Design}
 use Rattle.plan_base.specs.declared.limits.TheConstants.{MAX_LINKS, MAX_TOTAL_LOAD}
 use Rattle.plan_base.specs.Sums.{sum_below}
 use Rattle.plan_base.specs.Facts.{IsInstance}
-use Rattle.plan_base.specs.Arcs.{demand_at, link_of}
+use Rattle.plan_base.specs.Arcs.{demand_at}
 use Rattle.plan_base.specs.Paths.{uses, IsSimplePath}
-use Rattle.plan_base.specs.Designs.{path_at, load_from, load_on}
+use Rattle.plan_base.specs.Designs.{path_at, load_from}
 use Rattle.plan_base.specs.Walks.{HasLinksOnce}
 use Rattle.plan_base.proofs.SumsBelow.{sum_below-change, sum_below-zero, sum_below-same, sum_below-le}
 use Rattle.plan_base.proofs.PathSums.{taken, sum_by-taken}

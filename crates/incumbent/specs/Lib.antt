@@ -1,2 +1,4 @@
+pub mod Groups
 pub mod Routings
+pub mod Searches
 pub mod Traffic

@@ -1,17 +1,19 @@
 -- What a search for better designs works on. No public contract cites it.
-use Rattle.std.specs.Prelude.{ℕ, ◌≡◌, ◌<◌, Bool, true, false, List, length, All, slice_index, slice_index_or, if◌then◌else◌}
+use Rattle.std.specs.Prelude.{ℕ, ◌≡◌, ◌<◌, ◌-◌, ◌^◌, Bool, false, List, length, map, All, Option, IfSome, slice_index, slice_index_or, if◌then◌else◌}
+use Rattle.std.specs.List.{range_with_len}
 use Rattle.plan_base.specs.declared.ids.ArcId.{ArcId}
 use Rattle.plan_base.specs.declared.ids.DemandId.{DemandId}
 use Rattle.plan_base.specs.declared.parts.Demand.{Demand}
 use Rattle.plan_base.specs.declared.parts.Parts.{Parts}
 use Rattle.plan_base.specs.declared.limits.TheConstants.{MAX_LINKS}
+use Rattle.plan_base.specs.Arcs.{demand_at}
 use Rattle.plan_base.specs.Sums.{sum_below}
 use Rattle.plan_base.specs.Designs.{load_from}
-use Rattle.least_path.specs.Paths.{Weights, AreWeights, IsLeastPath}
+use Rattle.least_path.specs.Paths.{Weights, AreWeights, IsLeastPath, HasNoUsablePath}
 use Rattle.incumbent.specs.declared.routing.Routing.{Routing}
 use Rattle.incumbent.specs.declared.rounds.Rounds.{Rounds}
 use Rattle.completions.specs.Completions.{with_paths, ArePaths}
-use Rattle.incumbent.specs.Traffic.{AreAddedCosts}
+use Rattle.incumbent.specs.Traffic.{AreAddedCosts, AreFarCosts}
 
 -- whether the demand of this number is marked
 abbrev pub is_marked : List Bool → ℕ → Bool
@@ -43,6 +45,46 @@ pub record IsCheapestWay (p : Parts) (loads : List ℕ) (k : Demand) (arcs : Lis
   pub weights : Weights
   pub added : AreAddedCosts p loads k.load (length p.links) weights
   pub least : IsLeastPath p weights k.source k.target arcs rise
+
+-- the cheapest way of a demand, which raises the step costs by less than this
+pub record IsCheaperWay (p : Parts) (loads : List ℕ) (k : Demand) (own : Option ℕ) (arcs : List ArcId) : Type 0 where
+  pub rise : ℕ
+  pub cheapest : IsCheapestWay p loads k arcs rise
+  pub less : IfSome own (λ own. rise < own)
+
+-- a path of the demand of this weight where far more load is looked at too, and none weighs less
+pub record IsLeastWay (p : Parts) (loads : List ℕ) (k : Demand) (far : ℕ) (arcs : List ArcId) (weight : ℕ) : Type 0 where
+  pub weights : Weights
+  pub far_costs : AreFarCosts p loads k.load far (length p.links) weights
+  pub least : IsLeastPath p weights k.source k.target arcs weight
+
+-- there is no path of the demand where far more load is looked at too
+pub record HasNoFarWay (p : Parts) (loads : List ℕ) (k : Demand) (far : ℕ) : Type 0 where
+  pub weights : Weights
+  pub far_costs : AreFarCosts p loads k.load far (length p.links) weights
+  pub none : HasNoUsablePath p weights k.source k.target
+
+-- no path of the demand has links that can all carry its load beside what they carry
+pub record HasNoWay (p : Parts) (loads : List ℕ) (k : Demand) : Type 0 where
+  pub weights : Weights
+  pub added : AreAddedCosts p loads k.load (length p.links) weights
+  pub none : HasNoUsablePath p weights k.source k.target
+
+-- some demands are laid, and one that is not has no path whose links can carry it
+pub record IsStuck (p : Parts) : Type 0 where
+  pub paths : List (List ArcId)
+  pub laid : List Bool
+  pub loads : List ℕ
+  pub demand : ℕ
+  pub are_paths : ArePaths p paths
+  pub are_loads : AreLoads p paths laid loads
+  pub within : demand < length p.demands
+  pub off : is_marked laid demand ≡ false
+  pub no_way : HasNoWay p loads (demand_at p demand)
+
+-- for each demand before a count what its load leaves of the greatest number, and the demand's number
+abbrev pub keys_of : Parts → ℕ → List (ℕ × ℕ)
+keys_of p count = map (λ k. (2 ^ 128 - 1 - (demand_at p k).load, k)) (range_with_len 0 count)
 
 -- each demand of a list is one of the instance
 abbrev pub AreDemands : Parts → List DemandId → Type 0

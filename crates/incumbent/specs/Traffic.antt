@@ -70,6 +70,12 @@ pub record AreRises (p : Parts) (loads : List ℕ) (load : ℕ) (arcs : List Arc
   pub each : (i : ℕ) → i < length arcs → IsRise p (link_of (arc_at arcs i)) (slice_index loads (link_of (arc_at arcs i))) load (slice_index rises i)
   pub is_sum : sum ≡ min (sum_by (λ rise. rise) rises) most
 
+-- the load is too much for the link of an arc of a list, or there is no such link
+pub record HasTooMuch (p : Parts) (loads : List ℕ) (load : ℕ) (arcs : List ArcId) : Type 0 where
+  pub place : ℕ
+  pub within : place < length arcs
+  pub too_much : link_of (arc_at arcs place) < length p.links → IsTooMuch p (link_of (arc_at arcs place)) (slice_index loads (link_of (arc_at arcs place)) + load)
+
 -- how many arcs of a list go along the link of this number, in either direction
 abbrev pub arcs_along : ℕ → List ArcId → ℕ
 arcs_along e arcs = count_by (λ a. link_of a == e) arcs

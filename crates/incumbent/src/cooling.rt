@@ -1,6 +1,7 @@
 //! How much dearer a design may be and still be taken: less and less, as the searches are spent.
 
-ghost use Rattle.std.specs.Prelude.{◌≡◌, ◌<◌, ◌≤◌};
+ghost use Rattle.std.specs.Prelude.{◌≡◌, ◌≤◌, ◌*◌, ◌-◌, ◌/◌, max, min, length};
+ghost use Rattle.incumbent.specs.Searches.{search_limit};
 
 use plan_base::Instance;
 
@@ -29,22 +30,23 @@ pub struct Cooling {
 
 /// How many searches a network is worth.
 fn search_limit(inst: &Instance) -> u32
-    ensures { result ≤ MOST_SEARCHES }
+    ensures value { result ≡ search_limit inst.now }
+    ensures most { result ≤ MOST_SEARCHES }
 {
     let nodes = inst.nodes();
     let work = nodes * nodes + 8 * inst.links();
-    let limit = if work == 0 {
-        MOST_SEARCHES
-    } else {
-        WORK / work
-    };
-    let most = SEARCHES_A_DEMAND.saturating_mul(inst.demands());
-    limit.max(LEAST_SEARCHES).min(most).min(MOST_SEARCHES)
+    let worth = (WORK / work.max(1)).max(LEAST_SEARCHES);
+    worth
+        .min(SEARCHES_A_DEMAND * inst.demands())
+        .min(MOST_SEARCHES)
 }
 
 impl Cooling {
     /// The cooling that begins with this cost, in cost grains.
-    pub fn new(inst: &Instance, cost: u128) -> Cooling {
+    pub fn new(inst: &Instance, cost: u128) -> Cooling
+        ensures limit { result.limit ≡ search_limit inst.now }
+        ensures step { result.step ≡ cost / (COOL * max (length inst.now.demands) 1) / max (search_limit inst.now) 1 }
+    {
         let limit = search_limit(inst);
         let first = cost / u128::from(COOL * inst.demands().max(1));
         Cooling {
@@ -54,12 +56,16 @@ impl Cooling {
     }
 
     /// How many searches there are.
-    pub fn limit(&self) -> u32 {
+    pub fn limit(&self) -> u32
+        ensures { result ≡ self.now.limit }
+    {
         self.limit
     }
 
     /// How much dearer a design may be after so many searches, in cost grains, times the luck.
-    pub fn slack(&self, searches: u32, luck: u32) -> u128 {
+    pub fn slack(&self, searches: u32, luck: u32) -> u128
+        ensures { result ≡ min (min (self.now.step * (self.now.limit - searches)) u128.MAX * luck) u128.MAX }
+    {
         let left = self.limit.saturating_sub(searches);
         self.step
             .saturating_mul(u128::from(left))

@@ -56,7 +56,8 @@ impl Held {
         paths: &[Path],
         cost: u128,
     ) -> Result<Held, AllocError>
-        ensures { IfOk result (λ held. held.paths.items ≡ paths.now) }
+        ensures paths { IfOk result (λ held. held.paths.items ≡ paths.now) }
+        ensures cost { IfOk result (λ held. held.cost ≡ cost) }
     {
         Ok(Held {
             paths: roomy_copies(alloc, inst, paths)?,
@@ -68,7 +69,8 @@ impl Held {
     pub fn set_to(&mut self, paths: &[Path], cost: u128) -> Result<(), AllocError>
         requires few { length paths.now ≤ MAX_DEMANDS }
         requires length { length self.old.paths.items ≡ length paths.now }
-        ensures { OnOk result (self.new.paths.items ≡ paths.now) }
+        ensures paths { OnOk result (self.new.paths.items ≡ paths.now) }
+        ensures cost { OnOk result (self.new.cost ≡ cost) }
     {
         for (place, path) in paths.iter().enumerate() {
             set_path(&mut self.paths, DemandId(place as u32), path)?;

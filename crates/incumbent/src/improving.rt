@@ -38,6 +38,7 @@ fn cheaper(inst: &Instance, design: Design, completed: Option<(u128, Design)>) -
     requires completed { IfSome completed (IsPriced inst.now) }
     ensures priced { IsPriced inst.now result }
     ensures not_dearer { result.0 ≤ cost_of inst.now design }
+    ensures least { IfSome completed (λ found. result.0 ≤ found.0) }
 {
     let kept = check_design(inst, &design).unwrap();
     match completed {
@@ -52,7 +53,7 @@ fn cheaper(inst: &Instance, design: Design, completed: Option<(u128, Design)>) -
 /// - Takes: an instance and its step table; a design that `check_design` accepts.
 /// - Gives: the cost in cost grains and a feasible design in shape.
 /// - Errors: want of memory alone. The design is spent.
-/// - Rule: docs/DEFINITIONS.md, "Completions".
+/// - Rule: docs/METHOD.md, "Completions".
 /// - Time: at most 32 searches for a least path for each demand, and 50,000 more, each with a few readings of the table at
 ///   each link; on a large network at least 2,000.
 pub fn improve(

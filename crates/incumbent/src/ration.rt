@@ -1,10 +1,11 @@
 //! When better designs are searched for, and from where.
 
-ghost use Rattle.std.specs.Prelude.{◌≡◌, ◌<◌, length, IfOk, IfSome};
+ghost use Rattle.std.specs.Prelude.{◌≡◌, ◌<◌, ◌≤◌, ◌↔◌, length, slice_set, IfOk, OnOk, IfSome, IfNone, IsSomeAnd, IsTrue};
 ghost use Rattle.plan_base.specs.Arcs.{demand_at};
 ghost use Rattle.plan_base.specs.Paths.{IsSimplePath};
-ghost use Rattle.plan_base.specs.Designs.{IsDesign, IsGoodDesign};
-ghost use Rattle.completions.specs.Completions.{ArePaths};
+ghost use Rattle.plan_base.specs.Designs.{cost_of, IsDesign, IsGoodDesign};
+ghost use Rattle.completions.specs.Completions.{ArePaths, HasOverfull};
+ghost use Rattle.incumbent.specs.Searches.{IsDue};
 
 use crate::held::{roomy_copies, set_path};
 use crate::improving::improve_seeded;
@@ -13,6 +14,13 @@ use completions::complete;
 use link_steps::StepTable;
 use plan_base::{DemandId, Design, Instance, Items, Path, check_design};
 use std::alloc::{AllocError, Global};
+
+/// How many nodes are examined when each search is due.
+const DUE: [u32; 7] = [0, 0, 4, 16, 64, 256, 1_024];
+
+/// While the paths give no design to begin with, demands are laid one by one at the first asking and at each one so many
+/// later.
+const LAYING_TURN: u32 = 16;
 
 /// How many demands are tried for another path at most.
 const MOST_TRIES: u32 = 64;
@@ -40,7 +48,9 @@ fn completed(
 ) -> Result<Option<Design>, AllocError>
     requires table { table.now ≡ inst.now }
     requires paths { ArePaths inst.now paths.now }
-    ensures { IfOk result (λ found. IfSome found (IsGoodDesign inst.now)) }
+    ensures good { IfOk result (λ found. IfSome found (IsGoodDesign inst.now)) }
+    ensures paths { IfOk result (λ found. IfSome found (λ design. design.paths ≡ paths.now)) }
+    ensures none { IfOk result (λ found. IfNone found (HasOverfull inst.now paths.now)) }
 {
     let copy = roomy_copies(alloc, inst, paths.as_slice())?;
     match complete(alloc, inst, table, Items::from_vec(copy))? {
@@ -78,7 +88,8 @@ fn exchanged(
     requires design { IsDesign inst.now design.now }
     requires demand { demand.0 < length inst.now.demands }
     requires path { IsSimplePath inst.now (demand_at inst.now demand.0) path.now }
-    ensures { IfOk result (ArePaths inst.now) }
+    ensures paths { IfOk result (ArePaths inst.now) }
+    ensures set { IfOk result (λ paths. paths ≡ slice_set design.now.paths demand.0 path.now) }
 {
     let mut paths = roomy_copies(alloc, inst, design.paths.as_slice())?;
     set_path(&mut paths, demand, path)?;
@@ -146,15 +157,12 @@ impl DesignSearch {
     }
 
     /// Whether a search is due once so many nodes are examined: the first two at once, then at 4, 16, 64, 256 and 1,024.
-    pub fn is_due(&self, examined: u32) -> bool {
-        match self.searches {
-            0 | 1 => true,
-            2 => examined >= 4,
-            3 => examined >= 16,
-            4 => examined >= 64,
-            5 => examined >= 256,
-            6 => examined >= 1024,
-            _ => false,
+    pub fn is_due(&self, examined: u32) -> bool
+        ensures { IsTrue result ↔ IsDue self.now.searches examined }
+    {
+        match DUE.get(self.searches as usize) {
+            Some(due) => examined >= *due,
+            None => false,
         }
     }
 
@@ -180,7 +188,7 @@ impl DesignSearch {
         if let Some(found) = completed(alloc, inst, table, paths)? {
             return Ok(Some(found));
         }
-        if self.asked % 16 != 1 {
+        if self.asked % LAYING_TURN != 1 {
             return Ok(None);
         }
         laid(alloc, inst, table, paths)
@@ -211,7 +219,11 @@ impl DesignSearch {
     }
 
     /// Holds a copy of the design, where it is cheaper than the one that is held.
-    fn keep(&mut self, inst: &Instance, design: &Design) -> Result<(), AllocError> {
+    fn keep(&mut self, inst: &Instance, design: &Design) -> Result<(), AllocError>
+        ensures searches { self.new.searches ≡ self.old.searches }
+        ensures asked { self.new.asked ≡ self.old.asked }
+        ensures best { OnOk result (IsGoodDesign inst.now design.now → IsSomeAnd self.new.best (λ best. cost_of inst.now best ≤ cost_of inst.now design.now)) }
+    {
         let Ok(cost) = check_design(inst, design) else {
             return Ok(());
         };

@@ -1,9 +1,10 @@
 //! A large neighbourhood search: a group of demands is taken off and laid again, and what comes of it is accepted or
 //! taken back.
 
-ghost use Rattle.std.specs.Prelude.{◌≡◌, ◌<◌, length, IfOk, OnOk};
+ghost use Rattle.std.specs.Prelude.{◌≡◌, ◌<◌, ◌%◌, min, length, IfOk, OnOk};
 ghost use Rattle.completions.specs.Completions.{ArePaths};
 ghost use Rattle.incumbent.specs.Routings.{IsRouting, AreDemands, IsSearch};
+ghost use Rattle.incumbent.specs.Searches.{far_load};
 
 use crate::cooling::Cooling;
 use crate::draws::Draws;
@@ -223,6 +224,7 @@ impl Rounds {
         requires some { 0 < length inst.now.demands }
         requires search { IsSearch inst.now self.old }
         ensures search { IsSearch inst.now self.new }
+        ensures far { result ≡ far_load inst.now (self.new.draws.state % 4) }
     {
         let mean = u128::from(inst.total_load() / u64::from(inst.demands())).max(1);
         match self.draws.below(4) {
@@ -253,6 +255,8 @@ impl Rounds {
     fn accept(&mut self, inst: &Instance) -> Result<(), AllocError>
         requires search { IsSearch inst.now self.old }
         ensures search { OnOk result (IsSearch inst.now self.new) }
+        ensures accepted { OnOk result (self.new.accepted.cost ≡ self.old.now.cost) }
+        ensures best { OnOk result (self.new.best.cost ≡ min self.old.best.cost self.old.now.cost) }
     {
         keep_group(inst, &self.group, &self.now.paths, &mut self.accepted.paths)?;
         self.accepted.cost = self.now.cost;

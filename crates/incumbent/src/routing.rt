@@ -1,10 +1,12 @@
 //! Paths of all demands, and what the links carry and cost with them.
 
-ghost use Rattle.std.specs.Prelude.{◌≡◌, ◌<◌, true, false, length, IfOk, OnOk, IfSome};
+ghost use Rattle.std.specs.Prelude.{◌≡◌, ◌<◌, true, false, length, IfOk, OnOk, IfSome, IfNone, IsTrue, IsFalse};
 ghost use Rattle.plan_base.specs.Arcs.{demand_at};
+ghost use Rattle.plan_base.specs.Designs.{path_at};
 ghost use Rattle.plan_base.specs.Paths.{IsSimplePath};
-ghost use Rattle.completions.specs.Completions.{ArePaths};
-ghost use Rattle.incumbent.specs.Routings.{IsRouting, HasSameRoutes, IsCheapestWay, is_marked};
+ghost use Rattle.completions.specs.Completions.{ArePaths, with_paths};
+ghost use Rattle.incumbent.specs.Routings.{IsRouting, HasSameRoutes, IsCheapestWay, IsCheaperWay, IsLeastWay, HasNoWay, HasNoFarWay, IsStuck, is_marked};
+ghost use Rattle.incumbent.specs.Traffic.{AreRises, HasTooMuch};
 
 use crate::held::set_path;
 use crate::loads::{add_load, remove_load};
@@ -29,14 +31,6 @@ pub struct Routing {
     pub searches: u32,
     weights: Vec<Option<u128>>,
     room: Room,
-}
-
-/// Whether a weight is less than another one, which may be missing.
-fn is_lighter(weight: u128, other: Option<u128>) -> bool {
-    match other {
-        Some(other) => weight < other,
-        None => true,
-    }
 }
 
 impl Routing {
@@ -88,6 +82,8 @@ impl Routing {
         ensures routing { IsRouting inst.now self.new }
         ensures paths { self.new.paths ≡ self.old.paths }
         ensures off { is_marked self.new.laid.items demand.0 ≡ false }
+        ensures fall { IfSome result (λ fall. AreRises inst.now self.new.loads (demand_at inst.now demand.0).load (path_at (with_paths self.old.paths.items) demand.0) u128.MAX fall) }
+        ensures none { is_marked self.old.laid.items demand.0 ≡ true → IfNone result (HasTooMuch inst.now self.new.loads (demand_at inst.now demand.0).load (path_at (with_paths self.old.paths.items) demand.0)) }
     {
         let _demands = inst.demands();
         let place = demand.0 as usize;
@@ -116,6 +112,7 @@ impl Routing {
         ensures routing { IsRouting inst.now self.new }
         ensures same { HasSameRoutes self.old self.new }
         ensures cheapest { IfOk result (λ found. IfSome found (IsCheapestWay inst.now self.new.loads (demand_at inst.now demand.0) self.new.room)) }
+        ensures none { IfOk result (λ found. IfNone found (HasNoWay inst.now self.new.loads (demand_at inst.now demand.0))) }
     {
         let demand = inst.demand(demand);
         weigh(inst, table, &self.loads, demand.load, &mut self.weights);
@@ -137,7 +134,8 @@ impl Routing {
         requires routing { IsRouting inst.now self.old }
         ensures routing { IsRouting inst.now self.new }
         ensures same { HasSameRoutes self.old self.new }
-        ensures simple { IfOk result (λ found. IfSome found (λ _. IsSimplePath inst.now (demand_at inst.now demand.0) self.new.room)) }
+        ensures least { IfOk result (λ found. IfSome found (IsLeastWay inst.now self.new.loads (demand_at inst.now demand.0) far self.new.room)) }
+        ensures none { IfOk result (λ found. IfNone found (HasNoFarWay inst.now self.new.loads (demand_at inst.now demand.0) far)) }
     {
         let demand = inst.demand(demand);
         weigh_far(
@@ -161,6 +159,8 @@ impl Routing {
         requires simple { IsSimplePath inst.now (demand_at inst.now demand.0) self.old.room }
         ensures routing { IsRouting inst.now self.new }
         ensures laid { self.new.laid ≡ self.old.laid }
+        ensures loads { self.new.loads ≡ self.old.loads }
+        ensures path { path_at (with_paths self.new.paths.items) demand.0 ≡ self.old.room }
     {
         let _demands = inst.demands();
         self.room.swap(&mut self.paths[demand.0 as usize]);
@@ -179,18 +179,23 @@ impl Routing {
         requires routing { IsRouting inst.now self.old }
         requires off { is_marked self.old.laid.items demand.0 ≡ false }
         ensures routing { IsRouting inst.now self.new }
+        ensures laid { self.new.laid ≡ self.old.laid }
+        ensures cheaper { IfOk result (λ taken. IsTrue taken → IsCheaperWay inst.now self.new.loads (demand_at inst.now demand.0) own (path_at (with_paths self.new.paths.items) demand.0)) }
+        ensures none { IfOk result (λ taken. IsFalse taken → IfNone own (HasNoWay inst.now self.new.loads (demand_at inst.now demand.0))) }
     {
-        if own == Some(0) {
+        if let Some(0) = own {
             return Ok(false);
         }
         let Some(rise) = self.search(inst, table, demand)? else {
             return Ok(false);
         };
-        if !is_lighter(rise, own) {
-            return Ok(false);
+        match own {
+            Some(own) if own <= rise => Ok(false),
+            _ => {
+                self.take_path(inst, demand);
+                Ok(true)
+            }
         }
-        self.take_path(inst, demand);
-        Ok(true)
     }
 
     /// Moves a demand to the path that raises the step costs least, where that is cheaper than its own.
@@ -212,7 +217,7 @@ impl Routing {
         Ok(helps)
     }
 
-    /// Lays a demand on the path that raises the step costs least, where there is one that the links can carry.
+    /// Lays a demand on the path that raises the step costs least, where there is one whose links can carry it.
     pub fn lay_least(
         &mut self,
         inst: &Instance,
@@ -223,6 +228,8 @@ impl Routing {
         requires demand { demand.0 < length inst.now.demands }
         requires routing { IsRouting inst.now self.old }
         ensures routing { IsRouting inst.now self.new }
+        ensures on { IfOk result (λ found. IsTrue found → is_marked self.new.laid.items demand.0 ≡ true) }
+        ensures stuck { IfOk result (λ found. IsFalse found → IsStuck inst.now) }
     {
         let _fall = self.take_off(inst, table, demand);
         let found = self.take_cheaper(inst, table, demand, None)?;
@@ -244,6 +251,8 @@ impl Routing {
         requires demand { demand.0 < length inst.now.demands }
         requires routing { IsRouting inst.now self.old }
         ensures routing { IsRouting inst.now self.new }
+        ensures on { IfOk result (λ found. IsTrue found → is_marked self.new.laid.items demand.0 ≡ true) }
+        ensures off { IfOk result (λ found. IsFalse found → is_marked self.new.laid.items demand.0 ≡ false) }
     {
         let _fall = self.take_off(inst, table, demand);
         let Some(_weight) = self.search_far(inst, table, demand, far)? else {

@@ -6,7 +6,7 @@ ghost use Rattle.plan_base.specs.Facts.{IsInstance, total_load};
 ghost use Rattle.plan_base.specs.Arcs.{link_at};
 ghost use Rattle.link_steps.specs.Costs.{IsStepCost};
 ghost use Rattle.least_path.specs.Paths.{AreWeights};
-ghost use Rattle.incumbent.specs.Traffic.{IsTooMuch, IsRise, IsAddedCost, AreAddedCosts, span_of, IsFarCost, AreFarCosts, AreRises};
+ghost use Rattle.incumbent.specs.Traffic.{IsTooMuch, IsRise, IsAddedCost, AreAddedCosts, span_of, IsFarCost, AreFarCosts, AreRises, HasTooMuch};
 
 use completions::{LINK_COST_BOUND, routing_cost};
 use link_steps::StepTable;
@@ -165,6 +165,7 @@ fn rise_at(
     requires table { table.now ≡ inst.now }
     ensures value { IfSome result (IsRise inst.now link.0 (slice_index loads.now link.0) load) }
     ensures within { IfSome result (λ _. link.0 < length inst.now.links) }
+    ensures none { IfNone result (link.0 < length inst.now.links → IsTooMuch inst.now link.0 (slice_index loads.now link.0 + load)) }
 {
     if link.0 >= inst.links() {
         return None;
@@ -183,6 +184,7 @@ pub fn rise_along(
 ) -> Option<u128>
     requires table { table.now ≡ inst.now }
     ensures sum { IfSome result (AreRises inst.now loads.now load arcs.now u128.MAX) }
+    ensures none { IfNone result (HasTooMuch inst.now loads.now load arcs.now) }
 {
     let mut sum = 0u128;
     for arc in arcs {

@@ -1,7 +1,7 @@
-use Rattle.std.proofs.Common.{◌≡◌, ◌∙◌, ◌<◌, ◌≤◌, false, ℕ, List, Bool, length, slice_index, subst, sym, arith, rules, replicate}
+use Rattle.std.proofs.Common.{◌≡◌, false, List, Bool, subst, sym, arith, rules, replicate}
 use Rattle.std.proofs.lemmas.List.{get_or-replicate}
 use Rattle.plan_base.specs.declared.limits.TheConstants.{MAX_LINKS}
-use Rattle.incumbent.specs.Routings.{IsRouting, AreLoads}
+use Rattle.incumbent.specs.Routings.{AreLoads}
 use Rattle.incumbent.proofs.RoutingLaws.{loads-none}
 use Rattle.incumbent.proofs.routing.Routing.new.Goals as goal
 

@@ -1,4 +1,4 @@
-use Rattle.std.proofs.Common.{◌≡◌, ◌∙◌, ◌<◌, List, [], length, sym, subst, ap, arith}
+use Rattle.std.proofs.Common.{List, sym, subst}
 use Rattle.plan_base.specs.declared.ids.ArcId.{ArcId}
 use Rattle.completions.specs.Completions.{ArePaths}
 use Rattle.incumbent.specs.Routings.{AreLoads}

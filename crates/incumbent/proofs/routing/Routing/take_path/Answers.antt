@@ -1,5 +1,4 @@
-use Rattle.std.proofs.Common.{◌≡◌, ◌∙◌, ◌<◌, List, [], length, slice_index_or, sym, subst, arith}
-use Rattle.plan_base.specs.declared.ids.ArcId.{ArcId}
+use Rattle.std.proofs.Common.{sym, subst}
 use Rattle.plan_base.specs.Arcs.{demand_at}
 use Rattle.plan_base.specs.Paths.{IsSimplePath}
 use Rattle.incumbent.proofs.ReroutingLaws.{paths_set}
