@@ -62,7 +62,7 @@ impl Round {
     ///
     /// - Takes: where memory comes from; how many lengths and how many prices there is room for.
     /// - Errors: want of memory alone.
-    /// - Rule: docs/DEFINITIONS.md, "Rounds".
+    /// - Rule: docs/METHOD.md, "Rounds".
     pub fn new(alloc: Global, demands: u32, prices: u32) -> Result<Round, AllocError>
         ensures begun { IfOk result (λ round. round.begun ≡ false) }
         ensures prices { IfOk result (λ round. length round.prices ≡ prices) }
@@ -82,7 +82,7 @@ impl Round {
     /// Begins the round anew: at these prices, with no length. Takes no memory.
     ///
     /// - Takes: the search node and the version that the prices are of; as many prices as `new` was given.
-    /// - Rule: docs/DEFINITIONS.md, "Rounds".
+    /// - Rule: docs/METHOD.md, "Rounds".
     /// - Time: linear in the demands and the links.
     pub fn restart(&mut self, node: BranchId, version: u64, prices: &Prices)
         requires { length prices.now ≡ length self.old.prices }
@@ -125,7 +125,7 @@ impl Round {
     ///
     /// - Takes: a demand that there is room for; the price of its path, in thousandths of a cost grain per load grain.
     /// - Gives: false exactly where the demand has a length already; then nothing changes.
-    /// - Rule: docs/DEFINITIONS.md, "Rounds".
+    /// - Rule: docs/METHOD.md, "Rounds".
     /// - Time: constant, but for a step of the place of `first_left` over each demand, once a round.
     pub fn put(&mut self, demand: DemandId, price: u128) -> bool
         requires begun { IsTrue self.old.begun }
@@ -146,7 +146,7 @@ impl Round {
 
     /// How many demands have no length.
     ///
-    /// - Rule: docs/DEFINITIONS.md, "Rounds".
+    /// - Rule: docs/METHOD.md, "Rounds".
     /// - Time: constant.
     pub fn left(&self) -> u32
         ensures { result ≡ left_in self.now.lengths }
@@ -156,7 +156,7 @@ impl Round {
 
     /// The lowest demand without a length; None exactly where there is none.
     ///
-    /// - Rule: docs/DEFINITIONS.md, "Rounds".
+    /// - Rule: docs/METHOD.md, "Rounds".
     /// - Time: constant.
     pub fn first_left(&self) -> Option<DemandId>
         ensures first { IfSome result (λ demand. IsFirstLeft self.now.lengths demand.0) }
@@ -174,7 +174,7 @@ impl Round {
     /// - Takes: the instance and its table; the round has begun, its prices fit the instance, and there is room for one
     ///   length for each demand, none of them above what a simple path costs with the price limit on each link.
     /// - Gives: cost grains; None exactly where a demand has no length.
-    /// - Rule: docs/DEFINITIONS.md, "Bound of a round".
+    /// - Rule: docs/METHOD.md, "Bound of a round".
     /// - Time: linear in the demands, and the time of one link value for each link.
     pub fn bound(&self, inst: &Instance, table: &StepTable) -> Option<i128>
         requires begun { IsTrue self.now.begun }

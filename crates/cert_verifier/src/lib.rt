@@ -22,6 +22,3 @@ mod walk;
 
 pub use rejected::Rejected;
 pub use verifying::verify;
-
-#[cfg(test)]
-mod tests;

@@ -35,6 +35,3 @@ pub use sink::Sink;
 pub use sure_shelf::SureShelf;
 pub use sure_sink::SureSink;
 pub use writing::{WriteFault, write_whole};
-
-#[cfg(test)]
-mod tests;

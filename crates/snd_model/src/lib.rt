@@ -28,6 +28,3 @@ pub use values::{
     SurvivabilityModel,
 };
 pub use writing::write_model;
-
-#[cfg(test)]
-mod tests;

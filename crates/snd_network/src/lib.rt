@@ -25,6 +25,3 @@ pub use name::Name;
 pub use reading::read_network;
 pub use snd_reader::{TextFault, Wanted};
 pub use writing::write_network;
-
-#[cfg(test)]
-mod tests;

@@ -1,0 +1,44 @@
+//! Reads texts from shelves and writes to sinks that fail, and writes what comes of it.
+//!
+//! The file of rows, whose name is the program's one word, says which calls fail and how much room there is. To add a
+//! row, write it there in the form that the head of the file explains, and what comes of it, worked out by hand, at the
+//! same place of the file `stdout`. Begin at `take_row`. Stands on `plan_io` and promises nothing of its own.
+#![tactic(auto)]
+
+mod reading;
+mod writing;
+
+use anyhow::{Context, Result, bail};
+use std::io::Write;
+use std::rt::Files;
+use std::{env, fs, io};
+
+/// Writes what comes of a row.
+fn take_row<W: Write>(rt: &HostRuntime, row: &str, out: &mut W) -> Result<()> {
+    let (kind, rest) = row.split_once(' ').context("one word")?;
+    match kind {
+        "surely" => reading::read_surely(rt.alloc(), rest, out),
+        "memory" => reading::read_memory(rt.alloc(), rest, out),
+        "files" => reading::read_files(rt, rest, out),
+        "sink" => writing::write_memory(rt.alloc(), rest, out),
+        "stream" => writing::write_stream(rest, out),
+        "read-only" => writing::write_read_only(rt, rest, out),
+        _ => bail!("no kind of row"),
+    }
+}
+
+fn main(rt: HostRuntime) -> Result<()> {
+    let Some(name) = env::args(&rt)?.nth(1) else {
+        bail!("usage: device_rows FILE")
+    };
+    let rows = fs::read_to_string(&rt, name.as_str())?;
+    let mut out = io::writer(&rt);
+    for row in rows.lines() {
+        if !row.is_empty() && !row.starts_with('#') {
+            write!(out, "{row}:")?;
+            take_row(&rt, row, &mut out).context(format_args!("row: {row}"))?;
+            writeln!(out, "")?;
+        }
+    }
+    Ok(())
+}

@@ -1,0 +1,54 @@
+//! Reads network and model texts, and writes what is told of each.
+//!
+//! The file of rows, whose name is the program's one word, has texts that are read, in every part of their grammar, and
+//! texts with one or more faults each. To add one, write it there in the form that the head of the file explains, and
+//! what is told of it, worked out by hand, at the same place of the file `stdout`. Begin at `write_row`. Stands on
+//! `snd_network` and `snd_model` and promises nothing of its own.
+#![tactic(auto)]
+
+mod models;
+mod networks;
+mod texts;
+
+use anyhow::{Context, Result, bail};
+use std::alloc::Global;
+use std::io::Write;
+use std::rt::Files;
+use std::{env, fs, io};
+
+/// The first line of a network text.
+const NETWORK: &str = "?SNDlib native format; type: network; version: 1.0\n";
+
+/// The first line of a model text.
+const MODEL: &str = "?SNDlib native format; type: model; version: 1.0\n";
+
+/// Writes what is told of the text of a row, which stands before the text in the same line.
+fn write_row<W: Write>(alloc: Global, row: &str, out: &mut W) -> Result<()> {
+    let (kind, part) = row.split_once(' ').context("one word")?;
+    match kind {
+        "network" => networks::tell(alloc, NETWORK, part, "\n", out)?,
+        "network-text" => networks::tell(alloc, "", part, "", out)?,
+        "network-again" => networks::write_again(alloc, part, out)?,
+        "model" => models::tell(alloc, MODEL, part, out)?,
+        "model-text" => models::tell(alloc, "", part, out)?,
+        "model-line" => models::tell_line(alloc, MODEL, part, out)?,
+        "model-again" => models::write_again(alloc, part, out)?,
+        _ => bail!("no kind of row"),
+    }
+    writeln!(out, " | {part}")?;
+    Ok(())
+}
+
+fn main(rt: HostRuntime) -> Result<()> {
+    let Some(name) = env::args(&rt)?.nth(1) else {
+        bail!("usage: text_rows FILE")
+    };
+    let rows = fs::read_to_string(&rt, name.as_str())?;
+    let mut out = io::writer(&rt);
+    for row in rows.lines() {
+        if !row.is_empty() && !row.starts_with('#') {
+            write_row(rt.alloc(), row, &mut out).context(format_args!("row: {row}"))?;
+        }
+    }
+    Ok(())
+}
