@@ -1,6 +1,7 @@
 -- Each node but the root is the child of one node: no event makes it otherwise.
 use Rattle.std.proofs.Common.{◌≡◌, ◌≢◌, ℕ, zero, suc, ◌+◌, ◌<◌, ◌≤◌, ◌⊎◌, inl, inr, List, [], ◌∷◌, ◌++◌, length, set, Option, Some, None, slice_get, refl, sym, ap, subst, ◌∙◌, arith, length-set, length-append}
 use Rattle.std.specs.Prelude.{Result, Ok, Err}
+use Rattle.std.specs.declared.alloc.AllocError.{AllocError}
 use Rattle.std.proofs.lemmas.Option.{slice_get_within}
 use Rattle.plan_base.specs.declared.ids.BranchId.{BranchId}
 use Rattle.plan_base.specs.declared.parts.Parts.{Parts}
@@ -12,6 +13,10 @@ use Rattle.pool_machine.specs.declared.answers.RoundFault.{RoundFault}
 use Rattle.pool_machine.specs.declared.answers.Offer.{Offer}
 use Rattle.pool_machine.specs.declared.answers.Offered.{Offered}
 use Rattle.pool_machine.specs.declared.answers.Offered.TheVariants as offered
+use Rattle.pool_machine.specs.declared.answers.Gather.{Gather}
+use Rattle.pool_machine.specs.declared.answers.Gather.TheVariants as gather
+use Rattle.pool_machine.specs.declared.answers.Publish.{Publish}
+use Rattle.pool_machine.specs.declared.answers.Publish.TheVariants as publish
 use Rattle.pool_machine.specs.declared.answers.Settle.{Settle}
 use Rattle.pool_machine.specs.declared.answers.Settle.TheVariants as settle
 use Rattle.pool_machine.specs.declared.answers.Closing.{Closing}
@@ -30,11 +35,13 @@ use Rattle.pool_machine.specs.Changes.{TakesRound}
 use Rattle.pool_machine.specs.Dividing.{child_of, divided_by, Divides}
 use Rattle.pool_machine.specs.Opening.{OpenStep}
 use Rattle.pool_machine.specs.Offering.{OfferStep}
+use Rattle.pool_machine.specs.Gathering.{GatherStep}
+use Rattle.pool_machine.specs.Publishing.{PublishStep}
 use Rattle.pool_machine.specs.Settling.{SettleStep}
 use Rattle.pool_machine.specs.Closing.{CloseStep}
 use Rattle.pool_machine.specs.Examining.{ExamineStep}
 use Rattle.pool_machine.specs.Bettering.{BetterStep}
-use Rattle.pool_machine.specs.Machine.{Event, Opening, Offering, Settling, Closing_of, Examining, Bettering, Answer, to_opening, to_offering, to_settling, to_closing, to_examining, to_bettering, Step, Entry, Run, IsOpeningState, IsReachable}
+use Rattle.pool_machine.specs.Machine.{Event, Opening, Offering, Gathering, Publishing, Settling, Closing_of, Examining, Bettering, Answer, to_opening, to_offering, to_gathering, to_publishing, to_settling, to_closing, to_examining, to_bettering, Step, Entry, Run, IsOpeningState, IsReachable}
 use Rattle.pool_machine.specs.Family.{HasChildrenBy}
 use Rattle.pool_machine.specs.Soundness.{IsSound}
 use Rattle.plan_assembly.specs.PlanParts.{HaveChildren}
@@ -271,11 +278,33 @@ OfferStep-same s t offer (offered.NoDemand x) e = unchanged-same s t e.1
 OfferStep-same s t offer offered.Already e = unchanged-same s t e.1
 OfferStep-same s t offer (offered.Unfit x) e = unchanged-same s t e.1
 
+GatherStep-same : (s t : State) (id : BranchId) (version : ℕ) (answer : Result Gather AllocError) → GatherStep s id version answer t → SameDivisions s.nodes t.nodes
+GatherStep-same s t id version (Ok (gather.Taken brief)) e = to_nodes s t _ e.becomes (SameDivisions-refl s.nodes)
+GatherStep-same s t id version (Ok (gather.Spent x)) e = unchanged-same s t e.1
+GatherStep-same s t id version (Ok (gather.Stale x)) e = unchanged-same s t e.1
+GatherStep-same s t id version (Ok (gather.Incomplete x)) e = unchanged-same s t e.1
+GatherStep-same s t id version (Err wanting) e = elim e [ inl same ↦ unchanged-same s t same | inr front ↦ to_nodes s t _ front.becomes (SameDivisions-refl s.nodes) ]
+
+PublishStep-same : (s t : State) (id : BranchId) (seen : ℕ) (prices : List ℕ) (answer : Publish) → PublishStep s id seen prices answer t → SameDivisions s.nodes t.nodes
+PublishStep-same s t id seen prices (publish.Published slot version) e =
+    to_nodes s t _ e.becomes (SameDivisions-set s.nodes id.0 e.node e.after e.may.is_gathered.complete_round.is_node (TakesRound-fate s.problem (record e.node { crowd_tried = e.mark }) _ e.after e.takes))
+PublishStep-same s t id seen prices (publish.NoGain x y) e = unchanged-same s t e.unchanged
+PublishStep-same s t id seen prices (publish.Spent x) e = unchanged-same s t e.1
+PublishStep-same s t id seen prices (publish.Stale x) e = unchanged-same s t e.1
+PublishStep-same s t id seen prices publish.Settled e = unchanged-same s t e.1
+PublishStep-same s t id seen prices (publish.Incomplete x) e = unchanged-same s t e.1
+PublishStep-same s t id seen prices (publish.Rounds x) e = unchanged-same s t e.1
+PublishStep-same s t id seen prices (publish.PriceCount x) e = unchanged-same s t e.1
+PublishStep-same s t id seen prices (publish.OverPrice x) e = unchanged-same s t e.1
+PublishStep-same s t id seen prices (publish.Ungathered x) e = unchanged-same s t e.1
+
 SettleStep-same : (s t : State) (id : BranchId) (version : ℕ) (answer : Settle) → SettleStep s id version answer t → SameDivisions s.nodes t.nodes
-SettleStep-same s t id version settle.Done e = to_nodes s t _ e.becomes (SameDivisions-set s.nodes id.0 e.node _ e.is_node refl)
+SettleStep-same s t id version settle.Done e = to_nodes s t _ e.becomes (SameDivisions-set s.nodes id.0 e.node _ e.is_gathered.complete_round.is_node refl)
 SettleStep-same s t id version (settle.Spent x) e = unchanged-same s t e.1
 SettleStep-same s t id version (settle.Stale x) e = unchanged-same s t e.1
 SettleStep-same s t id version (settle.Incomplete x) e = unchanged-same s t e.1
+SettleStep-same s t id version (settle.Ungathered x) e = unchanged-same s t e.1
+SettleStep-same s t id version (settle.Improves x y) e = unchanged-same s t e.unchanged
 
 CloseStep-same : (s t : State) (id : BranchId) (answer : Closing) → CloseStep s id answer t → SameDivisions s.nodes t.nodes
 CloseStep-same s t id closing.Closed e = to_nodes s t _ e.becomes (closed-same s id e.node _ e.found e.is_node e.undone refl)
@@ -315,6 +344,8 @@ ExamineStep-born s t id answer h born e = by answer e
 Step-born : (s t : State) (event : Event) (answer : Answer) → IsSound s → AreBorn s.nodes → Step s event answer t → AreBorn t.nodes
 Step-born s t (Opening id) (to_opening answer) h born e = AreBorn-same s.nodes t.nodes (OpenStep-same s t id answer e) born
 Step-born s t (Offering offer) (to_offering answer) h born e = AreBorn-same s.nodes t.nodes (OfferStep-same s t offer answer e) born
+Step-born s t (Gathering id version) (to_gathering answer) h born e = AreBorn-same s.nodes t.nodes (GatherStep-same s t id version answer e) born
+Step-born s t (Publishing id seen prices) (to_publishing answer) h born e = AreBorn-same s.nodes t.nodes (PublishStep-same s t id seen prices answer e) born
 Step-born s t (Settling id version) (to_settling answer) h born e = AreBorn-same s.nodes t.nodes (SettleStep-same s t id version answer e) born
 Step-born s t (Closing_of id) (to_closing answer) h born e = AreBorn-same s.nodes t.nodes (CloseStep-same s t id answer e) born
 Step-born s t (Examining id) (to_examining answer) h born e = ExamineStep-born s t id answer h.family.children born e

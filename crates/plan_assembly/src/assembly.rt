@@ -1,5 +1,6 @@
 //! What a plan is put together from.
 
+use column_pool::ColumnPool;
 use leaf_work::KnownAbove;
 use link_steps::StepTable;
 use plan_base::Instance;
@@ -22,6 +23,8 @@ pub struct Assembly {
     pub table: Arc<StepTable>,
     /// The nodes, in the order of their making.
     pub nodes: Vec<PoolNode>,
+    /// The columns of the demands.
+    pub columns: ColumnPool,
     /// For each node what is forbidden there, while it is an open leaf.
     pub grounds: Vec<Ground>,
     /// The best design.
@@ -48,6 +51,7 @@ impl Model for Assembly {
     ghost view = { λ a. record {
       problem = arc_value a.problem;
       nodes = a.nodes.items;
+      columns = a.columns;
       incumbent = a.incumbent;
       examined = a.examined;
       budget = a.budget;
@@ -58,6 +62,7 @@ impl Model for Assembly {
     ghost invariant = { λ a. IsAssembled (record {
       problem = arc_value a.problem;
       nodes = a.nodes.items;
+      columns = a.columns;
       incumbent = a.incumbent;
       examined = a.examined;
       budget = a.budget;

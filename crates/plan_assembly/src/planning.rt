@@ -54,7 +54,7 @@ impl Assembly {
     /// - Gives: a valid plan, which a plan text can hold, and each split of which parts two paths. The bound of an
     ///   undecided plan is at least the bound of the root at the start prices.
     /// - Errors: want of memory alone.
-    /// - Rule: docs/DEFINITIONS.md, "The search as a machine".
+    /// - Rule: docs/METHOD.md, "The search as a machine".
     pub fn into_plan(self) -> Result<Plan, AllocError>
         requires done { is_done self ≡ true }
         ensures plan { IfOk result (λ plan. IsPlanOf self plan) }
@@ -70,6 +70,7 @@ impl Assembly {
             problem,
             table: _table,
             nodes,
+            columns: _columns,
             grounds: _grounds,
             incumbent,
             examined,

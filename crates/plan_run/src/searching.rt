@@ -20,7 +20,7 @@ use std::sync::Arc;
 ///   bound of an undecided plan is at least the bound of the root at the start prices.
 /// - Errors: want of memory alone.
 /// - Rule: docs/DEFINITIONS.md, "Runs".
-/// - Time: that of pricing each demand once for each node that is examined.
+/// - Time: that of pricing each demand once for each version of prices, of which each node that is examined has at most 16.
 pub fn search(
     alloc: Global,
     inst: Arc<Instance>,

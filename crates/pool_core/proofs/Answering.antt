@@ -16,10 +16,12 @@ use Rattle.pool_machine.specs.declared.answers.Settle.TheVariants as settle
 use Rattle.pool_machine.specs.declared.tree.Found.{Found}
 use Rattle.pool_machine.specs.State.{Round, Node, State, gap_of, left_of, round_of, rounds_by, rounds_in}
 use Rattle.pool_machine.specs.Changes.{is_spent, version_in, is_version, gap_at, first_gap, stale_fault, with_node}
+use Rattle.pool_machine.specs.Gathering.{first_ungathered, IsGathered}
 use Rattle.pool_machine.specs.Settling.{settle_fault, Settles, SettleStep}
 use Rattle.pool_machine.specs.Opening.{IsTaken}
 use Rattle.pool_machine.specs.Machine.{Settling, to_settling}
 use Rattle.pool_machine.specs.declared.limits.TheConstants.{MAX_BUDGET}
+use Rattle.pool_core.specs.Valuing.{IsToSettle}
 use Rattle.pool_core.specs.Views.{IsTakenBy, HasPlaces, IsPool}
 use Rattle.pool_machine.proofs.Lists.{sum_by-set_at, slice_get-set_same, slice_get-set_other, slice_get-set_cases}
 use Rattle.pool_machine.proofs.Frames.{same_or_other, one_at}
@@ -69,30 +71,50 @@ first_gap-none round h =
     let most : left_of round ≤ length round.found * 0 = sum_by-le gap_of 0 round.found (λ k d within. gap_at-none k (get_or round.found k d) (first_in-none gap_at round.found h k d within)) in
     omega arith
 
-option_map-none : {A B : Type 0} (f : A → B) (o : Option A) → option_map f o ≡ None → o ≡ None
+pub option_map-none : {A B : Type 0} (f : A → B) (o : Option A) → option_map f o ≡ None → o ≡ None
 option_map-none f None h = refl
 option_map-none f (Some x) h = absurd (cc)
 
--- no fault: the settling may come
-pub settle_fault-none : (s t : State) (id : BranchId) (version : ℕ) → settle_fault s id version ≡ None
-    → ((node : Node) → slice_get s.nodes id.0 ≡ Some node → t ≡ with_node s id (record node { settled = true })) → Settles s id version t
+-- the node has a gathered round of the version
+pub record HasGathered (s : State) (id : BranchId) (version : ℕ) : Type 0 where
+  pub node : Node
+  pub round : Round
+  pub is_gathered : IsGathered s id version node round
+
+-- no fault: the round is gathered
+pub settle_fault-none : (s : State) (id : BranchId) (version : ℕ) → settle_fault s id version ≡ None → HasGathered s id version
 unfolding settle_fault
-settle_fault-none s t id version h becomes =
-    let both = or_else-none (stale_fault settle.Spent settle.Stale s id version) (option_map settle.Incomplete (first_gap (round_of s id))) h in
-    let is = stale_fault-none settle.Spent settle.Stale s id version both.0 in
+settle_fault-none s id version h =
+    let one = or_else-none (stale_fault settle.Spent settle.Stale s id version) (option_map settle.Incomplete (first_gap (round_of s id)) or_else option_map settle.Ungathered (first_ungathered s.columns (round_of s id))) h in
+    let two = or_else-none (option_map settle.Incomplete (first_gap (round_of s id))) (option_map settle.Ungathered (first_ungathered s.columns (round_of s id))) one.1 in
+    let is = stale_fault-none settle.Spent settle.Stale s id version one.0 in
     let v = is.has_version in
     let at : round_of s id ≡ Some v.round = ap (option_and_then (λ (node : Node). node.round)) v.is_node ∙ v.is_round in
-    let none : first_gap (round_of s id) ≡ None = option_map-none settle.Incomplete (first_gap (round_of s id)) both.1 in
+    let no_gap : first_gap (round_of s id) ≡ None = option_map-none settle.Incomplete (first_gap (round_of s id)) two.0 in
+    let all : first_ungathered s.columns (round_of s id) ≡ None = option_map-none settle.Ungathered (first_ungathered s.columns (round_of s id)) two.1 in
     record {
-      not_spent = is.not_spent;
       node = v.node;
       round = v.round;
-      is_node = v.is_node;
-      is_round = v.is_round;
-      is_version = v.is_version;
-      complete = first_gap-none v.round (sym (ap first_gap at) ∙ none);
-      becomes = becomes v.node v.is_node;
+      is_gathered = record {
+        complete_round = record {
+          not_spent = is.not_spent;
+          is_node = v.is_node;
+          is_round = v.is_round;
+          is_version = v.is_version;
+          complete = first_gap-none v.round (sym (ap first_gap at) ∙ no_gap);
+        };
+        gathered_all = sym (ap (first_ungathered s.columns) at) ∙ all;
+      };
     }
+
+-- a refusal is none of the answers that are no refusals
+never : (a : Settle) → ((x : ℕ) → settle.Spent x ≡ a → ⊥) → ((x : Option ℕ) → settle.Stale x ≡ a → ⊥) → ((x : DemandId) → settle.Incomplete x ≡ a → ⊥) → ((x : DemandId) → settle.Ungathered x ≡ a → ⊥)
+    → (spent stale : Bool) (x : ℕ) (y : Option ℕ) (o q : Option DemandId) → ((when spent (settle.Spent x) or_else when stale (settle.Stale y)) or_else option_map settle.Incomplete o or_else option_map settle.Ungathered q) ≡ Some a → ⊥
+never a s1 s2 s3 s4 true stale x y o q h = s1 x (let e : Some (settle.Spent x) ≡ Some a = h in cc)
+never a s1 s2 s3 s4 false true x y o q h = s2 y (let e : Some (settle.Stale y) ≡ Some a = h in cc)
+never a s1 s2 s3 s4 false false x y (Some k) q h = s3 k (let e : Some (settle.Incomplete k) ≡ Some a = h in cc)
+never a s1 s2 s3 s4 false false x y None (Some k) h = s4 k (let e : Some (settle.Ungathered k) ≡ Some a = h in cc)
+never a s1 s2 s3 s4 false false x y None None h = let bad : ◌≡◌ {A = Option Settle} None (Some a) = h in cc
 
 -- a fault is a refusal
 pub settle_fault-refusal : (s : State) (id : BranchId) (version : ℕ) (refusal : Settle) → settle_fault s id version ≡ Some refusal → SettleStep s id version refusal s
@@ -100,16 +122,11 @@ unfolding settle_fault
 settle_fault-refusal s id version (settle.Spent x) h = (h, refl)
 settle_fault-refusal s id version (settle.Stale x) h = (h, refl)
 settle_fault-refusal s id version (settle.Incomplete x) h = (h, refl)
-settle_fault-refusal s id version settle.Done h = absurd (never_done h)
-  where
-    never : (a b : Bool) (x : ℕ) (y : Option ℕ) (o : Option DemandId) → ((when a (settle.Spent x) or_else when b (settle.Stale y)) or_else option_map settle.Incomplete o) ≡ Some settle.Done → ⊥
-    never true b x y o h = cc
-    never false true x y o h = cc
-    never false false x y None h = cc
-    never false false x y (Some k) h = cc
-
-    never_done : settle_fault s id version ≡ Some settle.Done → ⊥
-    never_done h = never (is_spent s) (not (is_version (version_in (round_of s id)) version)) s.examined (version_in (round_of s id)) (first_gap (round_of s id)) h
+settle_fault-refusal s id version (settle.Ungathered x) h = (h, refl)
+settle_fault-refusal s id version (settle.Improves old new) h =
+    absurd (never (settle.Improves old new) (λ x. λ e. cc) (λ x. λ e. cc) (λ x. λ e. cc) (λ x. λ e. cc) (is_spent s) (not (is_version (version_in (round_of s id)) version)) s.examined (version_in (round_of s id)) (first_gap (round_of s id)) (first_ungathered s.columns (round_of s id)) h)
+settle_fault-refusal s id version settle.Done h =
+    absurd (never settle.Done (λ x. λ e. cc) (λ x. λ e. cc) (λ x. λ e. cc) (λ x. λ e. cc) (is_spent s) (not (is_version (version_in (round_of s id)) version)) s.examined (version_in (round_of s id)) (first_gap (round_of s id)) (first_ungathered s.columns (round_of s id)) h)
 
 -- Places
 
@@ -151,21 +168,21 @@ settle-IsPool s t places id version h e = record {
   some_budget = subst (λ (x : State). 0 < x.budget) (sym e.becomes) h.some_budget;
   budget = subst (λ (x : State). x.budget ≤ MAX_BUDGET) (sym e.becomes) h.budget;
   reachable = IsReachable-step s t (Settling id version) (to_settling settle.Done) h.reachable e;
-  has_places = subst (λ (x : State). HasPlaces x places) (sym e.becomes) (HasPlaces-set s places id e.node (record e.node { settled = true }) e.is_node refl h.has_places);
+  has_places = subst (λ (x : State). HasPlaces x places) (sym e.becomes) (HasPlaces-set s places id e.node (record e.node { settled = true }) e.is_gathered.complete_round.is_node refl h.has_places);
 }
 
-pub settle_fault-within : (s : State) (id : BranchId) (version : ℕ) → settle_fault s id version ≡ None → id.0 < length s.nodes
-unfolding settle_fault
-settle_fault-within s id version h =
-    let both = or_else-none (stale_fault settle.Spent settle.Stale s id version) (option_map settle.Incomplete (first_gap (round_of s id))) h in
-    let v = (stale_fault-none settle.Spent settle.Stale s id version both.0).has_version in
-    slice_get_within s.nodes id.0 v.node v.is_node
-
 -- the event, where the node that was read is written back with its mark
-pub settle_fault-settles : (s : State) (id : BranchId) (version : ℕ) (item new : Node) → settle_fault s id version ≡ None
+pub settles-written : (s : State) (id : BranchId) (version : ℕ) (item new : Node) → IsToSettle s id version
     → item ≡ get_or s.nodes id.0 item → new ≡ record item { settled = true } → Settles s id version (with_node s id new)
-settle_fault-settles s id version item new h read written =
-    settle_fault-none s (with_node s id new) id version h
-    (λ node is.
-    let same : item ≡ node = read ∙ get_or_from_slice_get s.nodes id.0 node item is in
-    ap (with_node s id) (written ∙ ap (λ (x : Node). let y : Node = record x { settled = true } in y) same))
+settles-written s id version item new h read written =
+    let same : item ≡ h.node = read ∙ get_or_from_slice_get s.nodes id.0 h.node item h.is_gathered.complete_round.is_node in
+    record {
+      node = h.node;
+      round = h.round;
+      is_gathered = h.is_gathered;
+      no_more = h.no_more;
+      becomes = ap (with_node s id) (written ∙ ap (λ (x : Node). let y : Node = record x { settled = true } in y) same);
+    }
+
+pub to_settle-within : (s : State) (id : BranchId) (version : ℕ) → IsToSettle s id version → id.0 < length s.nodes
+to_settle-within s id version h = slice_get_within s.nodes id.0 h.node h.is_gathered.complete_round.is_node

@@ -17,3 +17,10 @@ pub mod Fitting
 pub mod Routes
 pub mod Steps
 pub mod Publishing
+pub mod Valuing
+pub mod Settlings
+pub mod Renewing
+pub mod Publishable
+pub mod Crowdings
+pub mod Gatherings
+pub mod Advancing

@@ -11,6 +11,7 @@ use Rattle.link_steps.specs.Values.{AreStartPrices}
 use Rattle.arc_restrict.specs.Restrictions.{none_forbidden}
 use Rattle.arc_restrict.specs.Prices.{AreWithinLimit}
 use Rattle.arc_restrict.specs.Rows.{Rows, forbids, HasSizeOf}
+use Rattle.column_pool.specs.Columns.{Columns, no_columns}
 use Rattle.pool_machine.specs.declared.limits.TheConstants.{MAX_ROUNDS, MAX_BUDGET}
 use Rattle.pool_machine.specs.State.{Round, Node, State, rounds_in, restriction_of}
 use Rattle.pool_machine.specs.Machine.{root_with, IsOpeningState}
@@ -104,6 +105,7 @@ abbrev pub opening_with : Parts → ℕ → List ℕ → State
 opening_with p budget prices = record {
   problem = p;
   nodes = root_with prices ∷ [];
+  columns = no_columns p;
   incumbent = None;
   examined = 0;
   budget = budget;
@@ -130,15 +132,18 @@ module _ (p : Parts) (budget : ℕ) (prices : List ℕ) (lawful : IsInstance p) 
   }
 
   -- the same on the pool's own fields
-  pub opening-kept-at : (table : Parts) (none rows : Rows) (nodes : List Node) (grounds : List (Option Rows)) (places : List Slot) → 0 < budget → budget ≤ MAX_BUDGET → table ≡ p
+  pub opening-kept-at : (table : Parts) (none rows : Rows) (nodes : List Node) (columns : Columns) (grounds : List (Option Rows)) (places : List Slot) → 0 < budget → budget ≤ MAX_BUDGET → table ≡ p
       → AreFreePlaces MAX_ROUNDS (length p.demands) (length p.links) places → forbids none ≡ none_forbidden → HasSizeOf p none → rows ≡ none
-      → nodes ≡ root_with prices ∷ [] → grounds ≡ Some rows ∷ []
-      → IsKeptPool (record (opening_with p budget prices) { nodes = nodes }) table grounds places
-  opening-kept-at table none rows nodes grounds places some most same free empty size is_none is_nodes is_grounds =
+      → nodes ≡ root_with prices ∷ [] → columns ≡ no_columns p → grounds ≡ Some rows ∷ []
+      → IsKeptPool (record (opening_with p budget prices) { nodes = nodes; columns = columns }) table grounds places
+  opening-kept-at table none rows nodes columns grounds places some most same free empty size is_none is_nodes is_columns is_grounds =
       let kept = opening-kept table none places some most same free empty size in
       let ground : grounds ≡ Some none ∷ [] = is_grounds ∙ ap (λ (r : Rows). Some r ∷ []) is_none in
-      subst (λ (xs : List Node). IsKeptPool (record (opening_with p budget prices) { nodes = xs }) table grounds places) (sym is_nodes)
-      (subst (λ (xs : List (Option Rows)). IsKeptPool (opening_with p budget prices) table xs places) (sym ground) kept)
+      subst (λ (cs : Columns). IsKeptPool (record (opening_with p budget prices) { nodes = nodes; columns = cs }) table grounds places) (sym is_columns)
+      (subst (λ (xs : List Node). IsKeptPool (record (opening_with p budget prices) { nodes = xs }) table grounds places) (sym is_nodes)
+      (subst (λ (xs : List (Option Rows)). IsKeptPool (opening_with p budget prices) table xs places) (sym ground) kept))
 
-  pub opening-state-at : (nodes : List Node) → nodes ≡ root_with prices ∷ [] → IsOpeningState p budget (record (opening_with p budget prices) { nodes = nodes })
-  opening-state-at nodes is = subst (λ (xs : List Node). IsOpeningState p budget (record (opening_with p budget prices) { nodes = xs })) (sym is) opening-state
+  pub opening-state-at : (nodes : List Node) (columns : Columns) → nodes ≡ root_with prices ∷ [] → columns ≡ no_columns p → IsOpeningState p budget (record (opening_with p budget prices) { nodes = nodes; columns = columns })
+  opening-state-at nodes columns is is_columns =
+      subst (λ (cs : Columns). IsOpeningState p budget (record (opening_with p budget prices) { nodes = nodes; columns = cs })) (sym is_columns)
+      (subst (λ (xs : List Node). IsOpeningState p budget (record (opening_with p budget prices) { nodes = xs })) (sym is) opening-state)

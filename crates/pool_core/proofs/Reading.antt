@@ -74,6 +74,15 @@ read-rows s id grounds item sound keeps h read =
     let w = has-rows s id grounds sound keeps h in
     (w.rows, read ∙ get_or_from_slice_get grounds id.0 (Some w.rows) item w.is_ground, w.forbids_is)
 
+-- what these rows forbid, where they are shown and unwrapped
+pub read-forbids : {A : Type 0} (f : A → Rows) (s : State) (id : BranchId) (grounds : List (Option Rows)) (item : Option Rows) (o : Option A) (x : A) (rows : Rows) → IsSound s → HasGrounds s.problem s.nodes grounds
+    → (h : HasRound s id) → item ≡ get_or grounds id.0 item → option_map f o ≡ item → o ≡ Some x → rows ≡ f x → forbids rows ≡ restriction_of h.node
+read-forbids f s id grounds item o x rows sound keeps h read shown is same =
+    let w = read-rows s id grounds item sound keeps h read in
+    let both : Some (f x) ≡ Some w.0 = shown-value f o x item shown is ∙ w.1 in
+    let there : f x ≡ w.0 = cc in
+    ap forbids (same ∙ there) ∙ w.2
+
 pub rows-within : (s : State) (id : BranchId) (grounds : List (Option Rows)) → HasGrounds s.problem s.nodes grounds → HasRound s id → id.0 < length grounds
 rows-within s id grounds keeps h = let count = keeps.count in let below = has-within s id h in omega arith
 

@@ -1,7 +1,8 @@
 -- One step at a leaf: it comes closer to its end, or is closed or divided.
-use Rattle.std.proofs.Common.{◌≡◌, ◌≢◌, ℕ, ◌+◌, ◌<◌, ◌≤◌, inl, inr, Bool, true, false, length, Option, Some, None, slice_get, refl, sym, ap, subst, ◌∙◌, arith, add-one}
-use Rattle.std.specs.Prelude.{Result, Ok, Err, nat_le, nat_lt, option_map, is_some, ◌||◌, IsSome, IsSomeAnd}
+use Rattle.std.proofs.Common.{◌≡◌, ◌≢◌, ℕ, zero, suc, ◌+◌, ◌-◌, ◌*◌, ◌<◌, ◌≤◌, List, inl, inr, Bool, true, false, length, Option, Some, None, slice_get, refl, sym, ap, subst, ◌∙◌, arith, add-one}
+use Rattle.std.specs.Prelude.{Result, Ok, Err, nat_le, nat_lt, is_some, ◌||◌, IsSome, IsSomeAnd}
 use Rattle.std.proofs.lemmas.Bool.{eq-eqb}
+use Rattle.std.proofs.Math.Nat.{mul-le-mul}
 use Rattle.std.proofs.lemmas.List.{length-replicate}
 use Rattle.std.proofs.lemmas.List.Sums.{sum_by-le}
 use Rattle.std.proofs.lemmas.Option.{slice_get_within}
@@ -9,9 +10,9 @@ use Rattle.plan_base.specs.declared.ids.DemandId.{DemandId}
 use Rattle.plan_base.specs.declared.path.Design.{Design}
 use Rattle.plan_base.specs.declared.design_fault.DesignFault.{DesignFault}
 use Rattle.plan_base.proofs.Bools.{not-true, or-both_false}
-use Rattle.plan_base.proofs.FirstFault.{none-or_else, none-when, none-first_in}
+use Rattle.plan_base.proofs.FirstFault.{none-or_else, none-when}
 use Rattle.path_pricing.specs.declared.priced.Priced.{Priced}
-use Rattle.pool_machine.specs.declared.limits.TheConstants.{MAX_ROUNDS}
+use Rattle.pool_machine.specs.declared.limits.TheConstants.{MAX_ROUNDS, MAX_VERSIONS}
 use Rattle.pool_machine.specs.declared.answers.Opened.{Opened}
 use Rattle.pool_machine.specs.declared.answers.RoundFault.{RoundFault}
 use Rattle.pool_machine.specs.declared.answers.Offer.{Offer}
@@ -27,8 +28,6 @@ use Rattle.pool_machine.specs.declared.tree.HeldCut.{HeldCut}
 use Rattle.std.proofs.lemmas.Bool.Decides.{nat_tests}
 use Rattle.plan_base.specs.declared.ids.BranchId.{BranchId}
 use Rattle.plan_base.specs.declared.parts.Parts.{Parts}
-use Rattle.plan_base.specs.First.{first_in}
-use Rattle.pool_machine.specs.declared.answers.Settle.TheVariants as settle
 use Rattle.pool_machine.specs.declared.answers.Closing.{Closing}
 use Rattle.pool_machine.specs.declared.answers.Closing.TheVariants as closing
 use Rattle.pool_machine.specs.declared.answers.Examined.{Examined}
@@ -36,16 +35,16 @@ use Rattle.pool_machine.specs.declared.answers.Examined.TheVariants as examined
 use Rattle.pool_machine.specs.declared.answers.ExamineFault.{ExamineFault}
 use Rattle.pool_machine.specs.declared.answers.ExamineFault.TheVariants as examine_fault
 use Rattle.pool_machine.specs.declared.tree.Found.{Found}
-use Rattle.pool_machine.specs.Settling.{settle_fault, Settles, SettleStep}
+use Rattle.pool_machine.specs.Settling.{Settles, SettleStep}
+use Rattle.pool_machine.specs.Publishing.{Publishes}
 use Rattle.pool_machine.specs.Closing.{close_fault, CloseStep}
 use Rattle.pool_machine.specs.Readiness.{examine_refusal}
 use Rattle.pool_machine.specs.Examining.{ExamineStep}
 use Rattle.pool_machine.proofs.Lists.{sum_by-set_at}
 use Rattle.pool_machine.proofs.Leads.{LeadsTo-one}
-use Rattle.pool_core.proofs.Routes.{paths_of-at}
 use Rattle.pool_machine.specs.declared.answers.Settle.{Settle}
 use Rattle.pool_machine.specs.State.{Round, Node, State, gap_of, left_of, active_count, state_by, state_in, round_of}
-use Rattle.pool_machine.specs.Changes.{TakesRound, gap_at, first_gap, version_in, is_version, has_cut, stale_fault}
+use Rattle.pool_machine.specs.Changes.{TakesRound, version_in, is_version, has_cut, stale_fault}
 use Rattle.pool_machine.specs.Opening.{open_fault, empty_round, Opens, OpenStep}
 use Rattle.pool_machine.specs.Offering.{is_priced, unfit_in, offer_fault, TakesCut, with_found, Accepts, OfferStep}
 use Rattle.pool_machine.specs.Bettering.{BetterStep}
@@ -53,11 +52,11 @@ use Rattle.pool_machine.specs.Machine.{Opening, Offering, Settling, Closing_of, 
 use Rattle.pool_machine.specs.Tasks.{IsLawfulTask, IsToPrice, IsToAdvance, LeadsTo}
 use Rattle.pool_machine.proofs.Frames.{one_at}
 use Rattle.pool_machine.proofs.Lists.{slice_get-set_same}
-use Rattle.pool_machine.proofs.Leads.{LeadsTo-stays, LeadsTo-trans}
+use Rattle.pool_machine.proofs.Leads.{LeadsTo-stays}
 use Rattle.pool_machine.proofs.Replacing.{node_at}
 use Rattle.pool_machine.proofs.Runs.{IsReachable-sound}
 use Rattle.pool_nodes.proofs.Completing.{TakesRound-fate}
-use Rattle.pool_core.specs.Work.{is_next_in, is_next, IsStepAt, IsGap, cut_left, unsettled_left, steps_by, steps_in, steps_left, IsCloser, KeepsNodes}
+use Rattle.pool_core.specs.Work.{is_next_in, is_next, IsStepAt, IsGap, cut_left, unsettled_left, versions_left, steps_by, steps_in, steps_left, IsCloser, KeepsNodes}
 use Rattle.pool_core.proofs.TaskLaws.{HasRound, round-undone, round_of-has, spent-false, not_priced-at}
 use Rattle.pool_core.proofs.Reading.{sound-round}
 
@@ -109,18 +108,6 @@ closed-leads s t id answer e = LeadsTo-one s t (Closing_of id) (to_closing answe
 pub settled-leads : (s t : State) (id : BranchId) (version : ℕ) (answer : Settle) → SettleStep s id version answer t → LeadsTo s t
 settled-leads s t id version answer e = LeadsTo-one s t (Settling id version) (to_settling answer) e
 
--- a settling that is not refused is done
-settles : (s t : State) (id : BranchId) (version : ℕ) (answer : Settle) → settle_fault s id version ≡ None → SettleStep s id version answer t → Settles s id version t
-settles s t id version settle.Done none e = e
-settles s t id version (settle.Spent x) none e = absurd (let bad : ◌≡◌ {A = Option Settle} None (Some (settle.Spent x)) = sym none ∙ e.0 in cc)
-settles s t id version (settle.Stale x) none e = absurd (let bad : ◌≡◌ {A = Option Settle} None (Some (settle.Stale x)) = sym none ∙ e.0 in cc)
-settles s t id version (settle.Incomplete x) none e = absurd (let bad : ◌≡◌ {A = Option Settle} None (Some (settle.Incomplete x)) = sym none ∙ e.0 in cc)
-
-complete-no_gap : (round : Round) → left_of round ≡ 0 → first_in gap_at round.found ≡ None
-complete-no_gap round complete = none-first_in gap_at round.found (λ k x is.
-    let w = paths_of-at round.found k complete (slice_get_within round.found k x is) in
-    ap (gap_at k) (one_at round.found k x (Some w.0) is w.1))
-
 -- Steps that are left
 
 -- an open leaf with a round is next
@@ -131,13 +118,51 @@ next-active s id node round is undone has =
     ∙ ap (λ (o : Option Round). is_next_in (nat_lt (active_count s) MAX_ROUNDS) (state_by Undone o)) has
 
 steps-round : (s : State) (id : BranchId) (node : Node) (round : Round) → slice_get s.nodes id.0 ≡ Some node → node.round ≡ Some round
-    → steps_left s id ≡ left_of round + cut_left node.cut + unsettled_left node.settled
+    → steps_left s id ≡ versions_left node.completed (left_of round) * (length s.problem.demands + 3) + (left_of round + cut_left node.cut + unsettled_left node.settled)
 steps-round s id node round is has =
-    ap (steps_in (length s.problem.demands)) is ∙ ap (λ (o : Option Round). steps_by (length s.problem.demands) o node.cut node.settled) has
+    ap (steps_in (length s.problem.demands)) is ∙ ap (λ (o : Option Round). steps_by (length s.problem.demands) node.completed o node.cut node.settled) has
 
-steps-waiting : (s : State) (id : BranchId) (node : Node) → slice_get s.nodes id.0 ≡ Some node → node.round ≡ None → steps_left s id ≡ length s.problem.demands + 3
+steps-waiting : (s : State) (id : BranchId) (node : Node) → slice_get s.nodes id.0 ≡ Some node → node.round ≡ None → steps_left s id ≡ (2 * MAX_VERSIONS + 1) * (length s.problem.demands + 3)
 steps-waiting s id node is none =
-    ap (steps_in (length s.problem.demands)) is ∙ ap (λ (o : Option Round). steps_by (length s.problem.demands) o node.cut node.settled) none
+    ap (steps_in (length s.problem.demands)) is ∙ ap (λ (o : Option Round). steps_by (length s.problem.demands) node.completed o node.cut node.settled) none
+
+-- fewer steps under as many versions, or under fewer
+fewer-same : (a b v m x y : ℕ) → a ≡ v * m + x → b ≡ v * m + y → y < x → b < a
+fewer-same a b v m x y before after less = omega arith
+
+fewer-versions : (a b v w m x y : ℕ) → a ≡ v * m + x → b ≡ w * m + y → w < v → y < m + x → b < a
+fewer-versions a b v w m x y before after less short =
+    let most : (w + 1) * m ≤ v * m = mul-le-mul (let below : w + 1 ≤ v = omega arith in below) (let same : m ≤ m = omega arith in same) in
+    let split : (w + 1) * m ≡ w * m + m = one_more w m in
+    omega arith
+  where
+    one_more : (n k : ℕ) → (n + 1) * k ≡ n * k + k
+    one_more n k = grind arith
+
+versions-le : (completed left : ℕ) → versions_left completed left ≤ 2 * (MAX_VERSIONS - completed) + 1
+versions-le completed zero = omega arith
+versions-le completed (suc left) = omega arith
+
+versions-complete : (completed left : ℕ) → left ≡ 0 → versions_left completed left ≡ 2 * (MAX_VERSIONS - completed) + 1
+versions-complete completed zero none = refl
+versions-complete completed (suc left) none = absurd (omega arith)
+
+versions-open : (completed left : ℕ) → 0 < left → versions_left completed left ≡ 2 * (MAX_VERSIONS - completed)
+versions-open completed zero some = absurd (omega arith)
+versions-open completed (suc left) some = refl
+
+-- a node takes a round: an empty one has fewer versions before it than a number that is more than twice those that are left
+taken-versions : (p : Parts) (old : Node) (round : Round) (new : Node) → TakesRound p old round new → old.completed < MAX_VERSIONS → versions_left new.completed (left_of round) ≤ 2 * (MAX_VERSIONS - old.completed)
+taken-versions p old round new h room = elim h [
+  | inl c ↦
+      let count : new.completed ≡ suc old.completed = ap (λ (x : Node). x.completed) c.becomes in
+      let v = versions-complete new.completed (left_of round) c.complete in
+      omega arith
+  | inr g ↦
+      let count : new.completed ≡ old.completed = ap (λ (x : Node). x.completed) g.becomes in
+      let v = versions-open new.completed (left_of round) g.incomplete in
+      omega arith
+]
 
 cut-le : (cut : Option HeldCut) → cut_left cut ≤ 1
 cut-le None = omega arith
@@ -156,28 +181,37 @@ left-le round = let most = sum_by-le gap_of 1 round.found (λ k d within. gap-le
 
 -- Openings
 
-opened-closer : (s t : State) (id : BranchId) (opened : Opened) → Opens s id opened t → IsCloser s t id
-opened-closer s t id opened e =
+opened-closer : (s t : State) (id : BranchId) (opened : Opened) → IsReachable s → Opens s id opened t → IsCloser s t id
+opened-closer s t id opened h e =
     let round = empty_round s opened.slot e.node.first_prices in
     let at : slice_get t.nodes id.0 ≡ Some e.after = ap (λ (x : State). slice_get x.nodes id.0) e.becomes ∙ slice_get-set_same s.nodes id.0 e.node e.after e.is_node in
     let has : e.after.round ≡ Some round = takes-round s.problem e.node round e.after e.takes in
     let undone : e.after.fate ≡ Undone = TakesRound-fate s.problem e.node round e.after e.takes ∙ e.undone in
-    let before = steps-waiting s id e.node e.is_node e.no_round in
-    let after = steps-round t id e.after round at has in
+    let none : e.node.completed ≡ 0 = (node_at s id.0 e.node (IsReachable-sound s h) e.is_node).waiting e.undone e.no_round in
+    let versions = taken-versions s.problem e.node round e.after e.takes (omega arith) in
+    let same : length t.problem.demands ≡ length s.problem.demands = ap (λ (x : State). length x.problem.demands) e.becomes in
     let most = left-le round in
     let long : length round.found ≡ length s.problem.demands = length-replicate (length s.problem.demands) None in
     let cut = cut-le e.after.cut in
     let settled = unsettled-le e.after.settled in
+    let below : versions_left e.after.completed (left_of round) < 2 * MAX_VERSIONS + 1 = omega arith in
+    let short : left_of round + cut_left e.after.cut + unsettled_left e.after.settled < (length s.problem.demands + 3) + 0 = omega arith in
     record {
       examined = ap (λ (x : State). x.examined) e.becomes;
       next = next-active t id e.after round at undone has;
-      fewer = omega arith;
+      fewer = fewer-versions (steps_left s id) (steps_left t id) (2 * MAX_VERSIONS + 1) (versions_left e.after.completed (left_of round)) (length s.problem.demands + 3) 0 (left_of round + cut_left e.after.cut + unsettled_left e.after.settled)
+          (steps-waiting s id e.node e.is_node e.no_round ∙ plus_zero _)
+          (steps-round t id e.after round at has ∙ ap (λ (d : ℕ). versions_left e.after.completed (left_of round) * (d + 3) + (left_of round + cut_left e.after.cut + unsettled_left e.after.settled)) same)
+          below short;
     }
+  where
+    plus_zero : (n : ℕ) → n ≡ n + 0
+    plus_zero n = omega arith
 
 -- an opening that is not refused
-pub opened-on : (s t : State) (id : BranchId) (answer : Result Opened RoundFault) → open_fault s id ≡ None → OpenStep s id answer t → IsCloser s t id
-opened-on s t id (Ok opened) none e = opened-closer s t id opened e
-opened-on s t id (Err fault) none e = absurd (let bad : ◌≡◌ {A = Option RoundFault} None (Some fault) = sym none ∙ e.0 in cc)
+pub opened-on : (s t : State) (id : BranchId) (answer : Result Opened RoundFault) → IsReachable s → open_fault s id ≡ None → OpenStep s id answer t → IsCloser s t id
+opened-on s t id (Ok opened) h none e = opened-closer s t id opened h e
+opened-on s t id (Err fault) h none e = absurd (let bad : ◌≡◌ {A = Option RoundFault} None (Some fault) = sym none ∙ e.0 in cc)
 
 pub opened-leads : (s t : State) (id : BranchId) (answer : Result Opened RoundFault) → OpenStep s id answer t → LeadsTo s t
 opened-leads s t id answer e = LeadsTo-one s t (Opening id) (to_opening answer) e
@@ -226,16 +260,15 @@ took-cut s t offer h e =
     let new : Node = record e.node { cut = Some (record { demand = offer.demand; reached = e.reached }) } in
     let at : slice_get t.nodes offer.node.0 ≡ Some new = ap (λ (x : State). slice_get x.nodes offer.node.0) e.becomes ∙ slice_get-set_same s.nodes offer.node.0 e.node new fits.is_node in
     let before = steps-round s offer.node e.node e.round fits.is_node fits.is_round in
-    let after = steps-round t offer.node new e.round at fits.is_round in
+    let same : length t.problem.demands ≡ length s.problem.demands = ap (λ (x : State). length x.problem.demands) e.becomes in
+    let after = steps-round t offer.node new e.round at fits.is_round
+    ∙ ap (λ (d : ℕ). versions_left e.node.completed (left_of e.round) * (d + 3) + (left_of e.round + 0 + unsettled_left e.node.settled)) same in
     let one : cut_left e.node.cut ≡ 1 = ap cut_left fits.no_cut in
     record {
       examined = ap (λ (x : State). x.examined) e.becomes;
       next = next-active t offer.node new e.round at (sound-undone s offer.node e.node e.round h fits.is_node fits.is_round) fits.is_round;
-      fewer = less _ _ _ _ (unsettled_left e.node.settled) before after one;
+      fewer = fewer-same _ _ (versions_left e.node.completed (left_of e.round)) (length s.problem.demands + 3) (left_of e.round + cut_left e.node.cut + unsettled_left e.node.settled) (left_of e.round + 0 + unsettled_left e.node.settled) before after (omega arith);
     }
-  where
-    less : (a b l c u : ℕ) → a ≡ l + c + u → b ≡ l + 0 + u → c ≡ 1 → b < a
-    less a b l c u x y z = omega arith
 
 took-path : (s t : State) (offer : Offer) (left : ℕ) → IsReachable s → Accepts s offer left t → IsCloser s t offer.node
 took-path s t offer left h e =
@@ -245,18 +278,23 @@ took-path s t offer left h e =
     let has = takes-round s.problem e.node round e.after e.takes in
     let undone = TakesRound-fate s.problem e.node round e.after e.takes ∙ sound-undone s offer.node e.node e.round h fits.is_node fits.is_round in
     let before = steps-round s offer.node e.node e.round fits.is_node fits.is_round in
-    let after = steps-round t offer.node e.after round at has in
+    let same : length t.problem.demands ≡ length s.problem.demands = ap (λ (x : State). length x.problem.demands) e.becomes in
+    let after = steps-round t offer.node e.after round at has
+    ∙ ap (λ (d : ℕ). versions_left e.after.completed (left_of round) * (d + 3) + (left_of round + cut_left e.after.cut + unsettled_left e.after.settled)) same in
     let cut : cut_left e.after.cut ≡ cut_left e.node.cut = ap cut_left (takes-cut s.problem e.node round e.after e.takes) in
     let settled : unsettled_left e.after.settled ≡ unsettled_left e.node.settled = ap unsettled_left (takes-settled s.problem e.node round e.after e.takes) in
     let one = one_less e.round offer.demand.0 e.found fits.not_priced in
+    let room = (rw fits.is_round at ((node_at s offer.node.0 e.node (IsReachable-sound s h) fits.is_node).versions)).room (omega arith) in
+    let versions = taken-versions s.problem e.node round e.after e.takes room in
+    let had = versions-open e.node.completed (left_of e.round) (omega arith) in
     record {
       examined = ap (λ (x : State). x.examined) e.becomes;
       next = next-active t offer.node e.after round at undone has;
-      fewer = less _ _ _ _ _ _ _ _ before after cut settled one;
+      fewer = less _ _ _ _ _ _ _ before after (omega arith) (omega arith);
     }
   where
-    less : (a b l m c d u v : ℕ) → a ≡ l + c + u → b ≡ m + d + v → d ≡ c → v ≡ u → m + 1 ≡ l → b < a
-    less a b l m c d u v x y z w o = omega arith
+    less : (a b v w m x y : ℕ) → a ≡ v * m + x → b ≡ w * m + y → w ≤ v → y < x → b < a
+    less a b v w m x y before after most short = let product : w * m ≤ v * m = mul-le-mul most (let same : m ≤ m = omega arith in same) in omega arith
 
 -- an offer that is not refused is taken
 offered-on : (s t : State) (offer : Offer) (answer : Offered) → IsReachable s → offer_fault s offer ≡ None → OfferStep s offer answer t → IsCloser s t offer.node
@@ -307,43 +345,57 @@ module _ (s t : State) (id : BranchId) (version : ℕ) (advance : IsToAdvance s 
     is_round = advance.active.is_round;
   }
 
-  none-settle_fault : settle_fault t id version ≡ None
-  unfolding settle_fault
-  none-settle_fault =
-      let at : round_of t id ≡ Some advance.round = round_of-has t id there in
-      let current : is_version (version_in (round_of t id)) version ≡ true = ap (λ (o : Option Round). is_version (version_in o) version) at ∙ eq-eqb _ _ advance.active.version_is in
-      let unspent : t.examined < t.budget = (let a = keeps.examined in let b = keeps.budget in let c = advance.not_spent in omega arith) in
-      let no_gap : first_gap (round_of t id) ≡ None = ap first_gap at ∙ complete-no_gap advance.round advance.complete in
-      none-or_else _ _
-      (none-or_else _ _ (none-when _ (settle.Spent t.examined) (spent-false t unspent)) (none-when _ (settle.Stale (version_in (round_of t id))) (not-true _ current)))
-      (ap (λ (o : Option DemandId). option_map settle.Incomplete o) no_gap)
-
   -- a settling brings the node closer to its end
-  settled-closer : (u : State) → IsReachable s → Settles t id version u → IsCloser s u id
+  pub settled-closer : (u : State) → IsReachable s → Settles t id version u → IsCloser s u id
   settled-closer u h e =
-      let before : slice_get s.nodes id.0 ≡ Some e.node = ap (λ (xs : _). slice_get xs id.0) (sym keeps.nodes) ∙ e.is_node in
+      let is = e.is_gathered.complete_round in
+      let before : slice_get s.nodes id.0 ≡ Some e.node = ap (λ (xs : _). slice_get xs id.0) (sym keeps.nodes) ∙ is.is_node in
       let same : e.node ≡ advance.node = one_at s.nodes id.0 e.node advance.node before advance.active.is_node in
       let new : Node = record e.node { settled = true } in
-      let at : slice_get u.nodes id.0 ≡ Some new = ap (λ (x : State). slice_get x.nodes id.0) e.becomes ∙ slice_get-set_same t.nodes id.0 e.node new e.is_node in
+      let at : slice_get u.nodes id.0 ≡ Some new = ap (λ (x : State). slice_get x.nodes id.0) e.becomes ∙ slice_get-set_same t.nodes id.0 e.node new is.is_node in
       let one : unsettled_left e.node.settled ≡ 1 = ap (λ (x : Node). unsettled_left x.settled) same ∙ ap unsettled_left advance.not_settled in
-      let old_steps = steps-round s id e.node e.round before e.is_round in
-      let new_steps = steps-round u id new e.round at e.is_round in
+      let old_steps = steps-round s id e.node e.round before is.is_round in
+      let same_size : length u.problem.demands ≡ length s.problem.demands = ap (λ (x : State). length x.problem.demands) e.becomes ∙ ap (λ (p : Parts). length p.demands) keeps.problem in
+      let new_steps = steps-round u id new e.round at is.is_round
+      ∙ ap (λ (d : ℕ). versions_left e.node.completed (left_of e.round) * (d + 3) + (left_of e.round + cut_left e.node.cut + 0)) same_size in
       record {
         examined = ap (λ (x : State). x.examined) e.becomes ∙ keeps.examined;
-        next = next-active u id new e.round at (sound-undone s id e.node e.round h before e.is_round) e.is_round;
-        fewer = omega (arith, old_steps, new_steps, one);
+        next = next-active u id new e.round at (sound-undone s id e.node e.round h before is.is_round) is.is_round;
+        fewer = fewer-same _ _ (versions_left e.node.completed (left_of e.round)) (length s.problem.demands + 3) (left_of e.round + cut_left e.node.cut + unsettled_left e.node.settled) (left_of e.round + cut_left e.node.cut + 0) old_steps new_steps (omega arith);
       }
 
-  pub settled-on : (u : State) (answer : Settle) → IsReachable s → SettleStep t id version answer u → IsCloser s u id
-  settled-on u answer h e = settled-closer u h (settles t u id version answer none-settle_fault e)
+  -- a publishing does, too
+  pub published-closer : (u : State) (prices : List ℕ) (slot next : ℕ) → IsReachable s → Publishes t id version prices slot next u → IsCloser s u id
+  published-closer u prices slot next h e =
+      let is = e.may.is_gathered.complete_round in
+      let before : slice_get s.nodes id.0 ≡ Some e.node = ap (λ (xs : _). slice_get xs id.0) (sym keeps.nodes) ∙ is.is_node in
+      let marked : Node = record e.node { crowd_tried = e.mark } in
+      let round = empty_round t e.round.slot prices in
+      let at : slice_get u.nodes id.0 ≡ Some e.after = ap (λ (x : State). slice_get x.nodes id.0) e.becomes ∙ slice_get-set_same t.nodes id.0 e.node e.after is.is_node in
+      let has : e.after.round ≡ Some round = takes-round t.problem marked round e.after e.takes in
+      let undone : e.after.fate ≡ Undone = TakesRound-fate t.problem marked round e.after e.takes ∙ sound-undone s id e.node e.round h before is.is_round in
+      let same_size : length u.problem.demands ≡ length s.problem.demands = ap (λ (x : State). length x.problem.demands) e.becomes ∙ ap (λ (p : Parts). length p.demands) keeps.problem in
+      let old_steps = steps-round s id e.node e.round before is.is_round in
+      let new_steps = steps-round u id e.after round at has
+      ∙ ap (λ (d : ℕ). versions_left e.after.completed (left_of round) * (d + 3) + (left_of round + cut_left e.after.cut + unsettled_left e.after.settled)) same_size in
+      let versions = taken-versions t.problem marked round e.after e.takes e.may.room in
+      let had = versions-complete e.node.completed (left_of e.round) is.complete in
+      let most = left-le round in
+      let long : length round.found ≡ length t.problem.demands = length-replicate (length t.problem.demands) None in
+      let same : length t.problem.demands ≡ length s.problem.demands = ap (λ (p : Parts). length p.demands) keeps.problem in
+      let cut = cut-le e.after.cut in
+      let settled = unsettled-le e.after.settled in
+      record {
+        examined = ap (λ (x : State). x.examined) e.becomes ∙ keeps.examined;
+        next = next-active u id e.after round at undone has;
+        fewer = fewer-versions _ _ (versions_left e.node.completed (left_of e.round)) (versions_left e.after.completed (left_of round)) (length s.problem.demands + 3) (left_of e.round + cut_left e.node.cut + unsettled_left e.node.settled) (left_of round + cut_left e.after.cut + unsettled_left e.after.settled)
+            old_steps new_steps (omega arith) (omega arith);
+      }
 
   pub advance-complete : IsSomeAnd (round_of s id) (λ round. left_of round ≡ 0)
   advance-complete =
       let h : HasRound s id = record { node = advance.node; round = advance.round; is_node = advance.active.is_node; is_round = advance.active.is_round } in
       subst (λ (o : Option Round). IsSomeAnd o (λ round. left_of round ≡ 0)) (sym (round_of-has s id h)) advance.complete
-
-pub settled-leads_on : (s t u : State) (id : BranchId) (version : ℕ) (answer : Settle) → KeepsNodes s t → SettleStep t id version answer u → LeadsTo s u
-settled-leads_on s t u id version answer keeps e = LeadsTo-trans s t u keeps.leads (settled-leads t u id version answer e)
 
 -- What a step at a node says
 

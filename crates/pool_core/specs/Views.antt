@@ -51,6 +51,11 @@ pub record IsKeptPool (s : State) (table : Parts) (grounds : List (Option Rows))
   pub table_is : table ≡ s.problem
   pub has_grounds : HasGrounds s.problem s.nodes grounds
 
+-- the same with room for the steps of its instance
+pub record IsFittedPool (s : State) (table : Parts) (room : ℕ) (grounds : List (Option Rows)) (places : List Slot) : Type 0 where
+  pub kept : IsKeptPool s table grounds places
+  pub room_is : room ≡ length s.problem.links
+
 -- what is published of a slot: the prices and version of the round that has it, and its node; nothing where no round has it
 abbrev pub IsPublishedAt : State → ℕ → Option Published → Type 0
 IsPublishedAt s slot None = IsTaken s slot → ⊥

@@ -1,5 +1,5 @@
 -- What one thread's steps at a leaf keep; no public contract cites it.
-use Rattle.std.specs.Prelude.{ℕ, ◌+◌, ◌≡◌, ◌<◌, Bool, true, false, not, ◌&&◌, length, Option, Some, None, slice_get, nat_lt}
+use Rattle.std.specs.Prelude.{ℕ, zero, suc, ◌+◌, ◌-◌, ◌*◌, ◌≡◌, ◌<◌, Bool, true, false, not, ◌&&◌, length, Option, Some, None, slice_get, nat_lt}
 use Rattle.plan_base.specs.declared.ids.BranchId.{BranchId}
 use Rattle.plan_base.specs.declared.ids.DemandId.{DemandId}
 use Rattle.pool_machine.specs.declared.limits.TheConstants.{MAX_ROUNDS, MAX_VERSIONS}
@@ -9,6 +9,8 @@ use Rattle.pool_machine.specs.declared.task.Task.{Task}
 use Rattle.pool_machine.specs.declared.task.Task.TheVariants as task
 use Rattle.pool_machine.specs.declared.tree.HeldCut.{HeldCut}
 use Rattle.pool_machine.specs.State.{Round, Node, State, left_of, active_count, state_of}
+use Rattle.column_pool.specs.declared.brief.Brief.{Brief}
+use Rattle.pool_machine.specs.Gathering.{IsGathered, IsBriefOf}
 use Rattle.pool_machine.specs.Opening.{open_fault}
 use Rattle.pool_machine.specs.Closing.{close_fault}
 use Rattle.pool_machine.specs.Readiness.{examine_refusal}
@@ -52,15 +54,20 @@ abbrev pub unsettled_left : Bool → ℕ
 unsettled_left true = 0
 unsettled_left false = 1
 
+-- twice the versions that a node may still complete, and one more where its round is complete
+abbrev pub versions_left : ℕ → ℕ → ℕ
+versions_left completed zero = 2 * (MAX_VERSIONS - completed) + 1
+versions_left completed (suc left) = 2 * (MAX_VERSIONS - completed)
+
 -- how many steps are left at the most at a node of so many demands, before it is closed or divided
-abbrev pub steps_by : ℕ → Option Round → Option HeldCut → Bool → ℕ
-steps_by demands None cut settled = demands + 3
-steps_by demands (Some round) cut settled = left_of round + cut_left cut + unsettled_left settled
+abbrev pub steps_by : ℕ → ℕ → Option Round → Option HeldCut → Bool → ℕ
+steps_by demands completed None cut settled = (2 * MAX_VERSIONS + 1) * (demands + 3)
+steps_by demands completed (Some round) cut settled = versions_left completed (left_of round) * (demands + 3) + (left_of round + cut_left cut + unsettled_left settled)
 
 -- the same of the node that is there
 abbrev pub steps_in : ℕ → Option Node → ℕ
 steps_in demands None = 0
-steps_in demands (Some node) = steps_by demands node.round node.cut node.settled
+steps_in demands (Some node) = steps_by demands node.completed node.round node.cut node.settled
 
 -- the same of the node of this number
 abbrev pub steps_left : State → BranchId → ℕ
@@ -79,3 +86,10 @@ pub record KeepsNodes (s t : State) : Type 0 where
   pub nodes : t.nodes ≡ s.nodes
   pub examined : t.examined ≡ s.examined
   pub budget : t.budget ≡ s.budget
+
+-- the node's complete round of the version is gathered, and this is what a master step is told of it
+pub record IsBriefed (s : State) (id : BranchId) (version : ℕ) (brief : Brief) : Type 0 where
+  pub node : Node
+  pub round : Round
+  pub is_gathered : IsGathered s id version node round
+  pub is_brief : IsBriefOf s id node round brief

@@ -13,6 +13,6 @@ mod shared;
 
 pub use pool::Pool;
 pub use pool_machine::{
-    Better, Closing, ExamineFault, Examined, Fate, Found, HeldCut, Incumbent, NodeState, Offer,
-    Offered, Opened, RoundFault, Settle, Task, laws,
+    Better, Closing, ExamineFault, Examined, Fate, Found, Gather, HeldCut, Incumbent, NodeState,
+    Offer, Offered, Opened, Publish, RoundFault, Settle, Task, laws,
 };

@@ -4,23 +4,29 @@ ghost use Rattle.std.specs.Prelude.{◌≡◌, ◌<◌, ◌≤◌, ◌↔◌, Is
 ghost use Rattle.pool_machine.specs.State.{State, Node, Round, state_of, round_of, cutoff_of, active_count};
 ghost use Rattle.pool_machine.specs.Opening.{open_fault, OpenStep, is_waiting};
 ghost use Rattle.pool_machine.specs.Changes.{is_spent, version_in, is_version, first_gap};
-ghost use Rattle.pool_machine.specs.Settling.{settle_fault, SettleStep};
 
+mod advancing;
 mod closing;
 mod dividing;
 mod examining;
+mod gathering;
 mod making;
 mod offering;
 mod planning;
+mod publishing;
 mod reading;
 mod running;
+mod settling;
 mod tasks;
+mod valuing;
 
+use column_pool::ColumnPool;
 use leaf_work::KnownAbove;
 use link_steps::StepTable;
+use master_step::Room;
 use plan_base::{BranchId, DemandId, Instance};
 use pool_machine::limits::MAX_ROUNDS;
-use pool_machine::{Incumbent, NodeState, Opened, RoundFault, Settle};
+use pool_machine::{Incumbent, NodeState, Opened, RoundFault};
 use pool_nodes::{Ground, PoolNode, Slot, first_free, free_count};
 use std::alloc::Global;
 use std::marker::Model;
@@ -36,6 +42,9 @@ pub struct Pool {
     problem: Arc<Instance>,
     table: Arc<StepTable>,
     nodes: Vec<PoolNode>,
+    columns: ColumnPool,
+    /// Where steps are tried; no part of the state.
+    room: Room,
     /// For each node what is forbidden there, while it is an open leaf.
     grounds: Vec<Ground>,
     /// The slots of rounds, 64.
@@ -52,13 +61,14 @@ pub struct Pool {
 impl Model for Pool {
     ghost use Rattle.std.specs.Arc.{arc_value};
     ghost use Rattle.pool_machine.specs.State.{State};
-    ghost use Rattle.pool_core.specs.Views.{IsKeptPool};
+    ghost use Rattle.pool_core.specs.Views.{IsFittedPool};
 
     ghost Value = { State };
 
     ghost view = { λ a. record {
       problem = arc_value a.problem;
       nodes = a.nodes.items;
+      columns = a.columns;
       incumbent = a.incumbent;
       examined = a.examined;
       budget = a.budget;
@@ -66,15 +76,16 @@ impl Model for Pool {
       accepted = a.accepted;
     } };
 
-    ghost invariant = { λ a. IsKeptPool (record {
+    ghost invariant = { λ a. IsFittedPool (record {
       problem = arc_value a.problem;
       nodes = a.nodes.items;
+      columns = a.columns;
       incumbent = a.incumbent;
       examined = a.examined;
       budget = a.budget;
       next_version = a.next_version;
       accepted = a.accepted;
-    }) (arc_value a.table) a.grounds.items a.places.items };
+    }) (arc_value a.table) a.room a.grounds.items a.places.items };
 }
 
 impl Pool {
@@ -148,7 +159,7 @@ impl Pool {
     /// - Gives: the slot, and the version of the prices.
     /// - Errors: in this order, `Spent` where the budget is spent; `NotOpen` where the node does not wait; `Crowded`
     ///   where 64 rounds are active.
-    /// - Rule: docs/DEFINITIONS.md, "The search as a machine".
+    /// - Rule: docs/METHOD.md, "The search as a machine".
     pub fn open_round(&mut self, node: BranchId) -> Result<Opened, RoundFault>
         ensures event { OpenStep self.old node result self.new }
     {
@@ -176,40 +187,6 @@ impl Pool {
         ensures { result ≡ first_gap (round_of self.now node) }
     {
         self.node(node)?.first_gap()
-    }
-
-    #[tactic(auto, unfolding(pool_machine::specs::Settling::settle_fault))]
-    fn settle_refusal(&self, node: BranchId, version: u64) -> Option<Settle>
-        ensures { result ≡ settle_fault self.now node version }
-    {
-        if self.is_spent() {
-            return Some(Settle::Spent {
-                examined: self.examined,
-            });
-        }
-        let current = self.current(node);
-        if !is_version(current, version) {
-            return Some(Settle::Stale { current });
-        }
-        self.first_gap(node)
-            .map(|demand| Settle::Incomplete { demand })
-    }
-
-    /// Marks a node of which no further version is published. Takes no memory.
-    ///
-    /// - Takes: the version of its round.
-    /// - Gives: in this order, `Spent` where the budget is spent; `Stale` where the node has no round of the version;
-    ///   `Incomplete` with the first demand that is not priced; else `Done`.
-    /// - Rule: docs/DEFINITIONS.md, "The search as a machine".
-    pub fn settle(&mut self, node: BranchId, version: u64) -> Settle
-        ensures event { SettleStep self.old node version result self.new }
-    {
-        if let Some(refusal) = self.settle_refusal(node, version) {
-            return refusal;
-        }
-        let settled = &mut self.nodes[node.0 as usize];
-        settled.settle();
-        Settle::Done
     }
 }
 

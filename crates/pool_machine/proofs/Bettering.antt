@@ -55,6 +55,7 @@ cheaper-sound s held h stated below = record {
   fates = All-weaker (HasSoundFate s.problem (cutoff_of s)) (HasSoundFate s.problem (Some held.cost)) (HasSoundFate-cheaper s.problem (cutoff_of s) held.cost below) s.nodes h.fates;
   apart = h.apart;
   family = h.family;
+  columns = h.columns;
   incumbent = stated;
   counts = record { examined = h.counts.examined; within_budget = h.counts.within_budget; versions = h.counts.versions; accepted = h.counts.accepted };
   size = h.size;

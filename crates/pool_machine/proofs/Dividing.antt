@@ -190,6 +190,7 @@ Divides-sound s id left_child right_child t h e =
       apart = AreApart-fewer s.next_version xs (xs ++ more) (badge_at-append xs left right refl refl)
           (AreApart-set s.next_version s.nodes id.0 node new is.is_node (inr refl) h.apart);
       family = IsFamily-divided p s.nodes id.0 node d is.is_node h.family (ap (λ (b : BranchId). b.0) e.left_is ∙ e.left_next) (ap (λ (b : BranchId). b.0) e.right_is ∙ e.right_next);
+      columns = h.columns;
       incumbent = h.incumbent;
       counts = AreSoundCounts-append (replaced s id.0 new (suc s.examined) s.next_version s.accepted) more refl refl refl
           (CountsRise-sound s id.0 node new (suc s.examined) s.next_version s.accepted is.is_node rise h.counts);

@@ -50,40 +50,40 @@ AreApart-set next nodes i old new is keeps h = AreApart-fewer next nodes (set no
           ])
     ]
 
--- a node gets a badge that no other has, with the next version
+-- a node gets a badge that no other node has, with the next version
 pub AreApart-new : (next slot : ℕ) (nodes : List Node) (i : ℕ) (old new : Node) → slice_get nodes i ≡ Some old
-    → badge_of old.round ≡ None → badge_of new.round ≡ Some (slot, next)
-    → ((n version : ℕ) → badge_at nodes n ≡ Some (slot, version) → ⊥) → AreApart next nodes → AreApart (suc next) (set nodes i new)
-AreApart-new next slot nodes i old new is was now free h = record {
+    → badge_of new.round ≡ Some (slot, next)
+    → ((n version : ℕ) → n ≢ i → badge_at nodes n ≡ Some (slot, version) → ⊥) → AreApart next nodes → AreApart (suc next) (set nodes i new)
+AreApart-new next slot nodes i old new is now free h = record {
   slots = λ m n s a b x y. elim (cases m (s, a) x) [
     | inl u ↦ elim (cases n (s, b) y) [
       | inl v ↦ u.0 ∙ sym v.0
-      | inr v ↦ absurd (free n b (subst (λ (k : ℕ). badge_at nodes n ≡ Some (k, b)) (ap (λ (w : ℕ × ℕ). w.0) u.1) v))
+      | inr v ↦ absurd (free n b v.0 (subst (λ (k : ℕ). badge_at nodes n ≡ Some (k, b)) (ap (λ (w : ℕ × ℕ). w.0) u.1) v.1))
     ]
     | inr u ↦ elim (cases n (s, b) y) [
-      | inl v ↦ absurd (free m a (subst (λ (k : ℕ). badge_at nodes m ≡ Some (k, a)) (ap (λ (w : ℕ × ℕ). w.0) v.1) u))
-      | inr v ↦ h.slots m n s a b u v
+      | inl v ↦ absurd (free m a u.0 (subst (λ (k : ℕ). badge_at nodes m ≡ Some (k, a)) (ap (λ (w : ℕ × ℕ). w.0) v.1) u.1))
+      | inr v ↦ h.slots m n s a b u.1 v.1
     ]
   ];
   versions = λ m n s a b x y. elim (cases m (a, s) x) [
     | inl u ↦ elim (cases n (b, s) y) [
       | inl v ↦ u.0 ∙ sym v.0
-      | inr v ↦ let below : s < next = h.below_next n b s v in let e : s ≡ next = ap (λ (w : ℕ × ℕ). w.1) u.1 in absurd (omega arith)
+      | inr v ↦ let below : s < next = h.below_next n b s v.1 in let e : s ≡ next = ap (λ (w : ℕ × ℕ). w.1) u.1 in absurd (omega arith)
     ]
     | inr u ↦ elim (cases n (b, s) y) [
-      | inl v ↦ let below : s < next = h.below_next m a s u in let e : s ≡ next = ap (λ (w : ℕ × ℕ). w.1) v.1 in absurd (omega arith)
-      | inr v ↦ h.versions m n s a b u v
+      | inl v ↦ let below : s < next = h.below_next m a s u.1 in let e : s ≡ next = ap (λ (w : ℕ × ℕ). w.1) v.1 in absurd (omega arith)
+      | inr v ↦ h.versions m n s a b u.1 v.1
     ]
   ];
   below_next = λ n s v x. elim (cases n (s, v) x) [
     | inl u ↦ let e : v ≡ next = ap (λ (w : ℕ × ℕ). w.1) u.1 in omega arith
-    | inr u ↦ let below : v < next = h.below_next n s v u in omega arith
+    | inr u ↦ let below : v < next = h.below_next n s v u.1 in omega arith
   ];
 }
   where
-    cases : (n : ℕ) (b : ℕ × ℕ) → badge_at (set nodes i new) n ≡ Some b → ((n ≡ i) × (b ≡ (slot, next))) ⊎ (badge_at nodes n ≡ Some b)
+    cases : (n : ℕ) (b : ℕ × ℕ) → badge_at (set nodes i new) n ≡ Some b → ((n ≡ i) × (b ≡ (slot, next))) ⊎ ((n ≢ i) × (badge_at nodes n ≡ Some b))
     cases n b x = elim (same_or_other n i) [
-      | inr ne ↦ inr (sym (badge_at-set_other nodes i n new ne) ∙ x)
+      | inr ne ↦ inr (ne, sym (badge_at-set_other nodes i n new ne) ∙ x)
       | inl e ↦
           let x' : badge_at (set nodes i new) i ≡ Some b = subst (λ (k : ℕ). badge_at (set nodes i new) k ≡ Some b) e x in
           let same : Some b ≡ Some (slot, next) = sym x' ∙ (badge_at-set_same nodes i old new is ∙ now) in

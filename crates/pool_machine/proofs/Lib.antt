@@ -5,6 +5,8 @@ pub mod Taking
 pub mod LowerFacts
 pub mod Opening
 pub mod Offering
+pub mod Gathering
+pub mod Publishing
 pub mod Settling
 pub mod ClosedNodes
 pub mod Bettering
@@ -17,3 +19,8 @@ pub mod Small
 pub mod Enough
 pub mod PlanTrees
 pub mod Leads
+pub mod Unrefused
+pub mod OneAnswer
+pub mod GatheredRounds
+pub mod SameColumns
+pub mod MasterEvents

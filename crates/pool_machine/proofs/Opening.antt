@@ -52,8 +52,8 @@ module _ (s : State) (id : BranchId) (h : IsSound s) where
       subst IsSound (sym e.becomes)
       (replaced-sound s id.0 node e.after s.examined (suc s.next_version) s.accepted e.is_node h taken.base
       (no_children (set s.nodes id.0 e.after) id.0 e.after e.after.fate undone') taken.sound (undone_fate s.problem (cutoff_of s) e.after undone') (ap divided_by_fate taken.fate)
-      (AreApart-new s.next_version opened.slot s.nodes id.0 node e.after e.is_node (ap badge_of e.no_round) (ap badge_of taken.is_round)
-      (λ n version x. let w = taken_by (slice_get s.nodes n) opened.slot version x in e.slot.free (n, w.0, w.1, w.2)) h.apart)
+      (AreApart-new s.next_version opened.slot s.nodes id.0 node e.after e.is_node (ap badge_of taken.is_round)
+      (λ n version ne x. let w = taken_by (slice_get s.nodes n) opened.slot version x in e.slot.free (n, w.0, w.1, w.2)) h.apart)
       (record {
         examined_is = ap (λ (f : Fate). s.examined + examined_by f) (sym taken.fate);
         within_budget = h.counts.within_budget;

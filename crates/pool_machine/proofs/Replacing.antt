@@ -68,6 +68,7 @@ replaced-sound s i old new examined next accepted is h base children node fate u
   fates = All-set (HasSoundFate s.problem (cutoff_of s)) s.nodes i new fate h.fates;
   apart = apart;
   family = IsFamily-set s.problem s.nodes i old new is base children h.family;
+  columns = h.columns;
   incumbent = h.incumbent;
   counts = CountsRise-sound s i old new examined next accepted is rise h.counts;
   size = same_size s i old new is undivided h.size;

@@ -1,16 +1,22 @@
 -- Each event keeps a state sound, so each state that events lead to is.
-use Rattle.std.proofs.Common.{◌≡◌, ℕ, zero, suc, ◌+◌, ◌^◌, List, [], ◌∷◌, ◌++◌, Option, Some, None, slice_get, refl, sym, ap, subst, ◌∙◌, arith, sum_by}
+use Rattle.std.proofs.Common.{◌≡◌, ℕ, zero, suc, ◌+◌, ◌^◌, List, [], ◌∷◌, ◌++◌, Option, Some, None, slice_get, inl, inr, refl, sym, ap, subst, ◌∙◌, arith, sum_by}
 use Rattle.std.specs.Prelude.{Result, Ok, Err}
+use Rattle.std.specs.declared.alloc.AllocError.{AllocError}
 use Rattle.std.proofs.lemmas.List.Elements.{All-cons, All-nil}
 use Rattle.plan_base.specs.declared.ids.BranchId.{BranchId}
 use Rattle.plan_base.specs.declared.parts.Parts.{Parts}
 use Rattle.plan_base.specs.declared.path.Design.{Design}
 use Rattle.plan_base.specs.declared.design_fault.DesignFault.{DesignFault}
+use Rattle.column_pool.proofs.AddedColumns.{AreColumns-none}
 use Rattle.pool_machine.specs.declared.answers.Opened.{Opened}
 use Rattle.pool_machine.specs.declared.answers.RoundFault.{RoundFault}
 use Rattle.pool_machine.specs.declared.answers.Offer.{Offer}
 use Rattle.pool_machine.specs.declared.answers.Offered.{Offered}
 use Rattle.pool_machine.specs.declared.answers.Offered.TheVariants as offered
+use Rattle.pool_machine.specs.declared.answers.Gather.{Gather}
+use Rattle.pool_machine.specs.declared.answers.Gather.TheVariants as gather
+use Rattle.pool_machine.specs.declared.answers.Publish.{Publish}
+use Rattle.pool_machine.specs.declared.answers.Publish.TheVariants as publish
 use Rattle.pool_machine.specs.declared.answers.Settle.{Settle}
 use Rattle.pool_machine.specs.declared.answers.Settle.TheVariants as settle
 use Rattle.pool_machine.specs.declared.answers.Closing.{Closing}
@@ -24,11 +30,13 @@ use Rattle.pool_machine.specs.declared.answers.Better.TheVariants as better
 use Rattle.pool_machine.specs.State.{Undone, Node, State}
 use Rattle.pool_machine.specs.Opening.{OpenStep}
 use Rattle.pool_machine.specs.Offering.{OfferStep}
+use Rattle.pool_machine.specs.Gathering.{GatherStep}
+use Rattle.pool_machine.specs.Publishing.{PublishStep}
 use Rattle.pool_machine.specs.Settling.{SettleStep}
 use Rattle.pool_machine.specs.Closing.{CloseStep}
 use Rattle.pool_machine.specs.Examining.{ExamineStep}
 use Rattle.pool_machine.specs.Bettering.{BetterStep}
-use Rattle.pool_machine.specs.Machine.{Event, Opening, Offering, Settling, Closing_of, Examining, Bettering, Answer, to_opening, to_offering, to_settling, to_closing, to_examining, to_bettering, Step, Entry, accepted_in, versions_made_by, IsCounted, Run, root_with, IsOpeningState, IsReachable}
+use Rattle.pool_machine.specs.Machine.{Event, Opening, Offering, Gathering, Publishing, Settling, Closing_of, Examining, Bettering, Answer, to_opening, to_offering, to_gathering, to_publishing, to_settling, to_closing, to_examining, to_bettering, Step, Entry, accepted_in, versions_made_by, IsCounted, Run, root_with, IsOpeningState, IsReachable}
 use Rattle.pool_machine.specs.Nodes.{IsPriceList, IsSoundNode, HasSoundFate}
 use Rattle.pool_machine.specs.Family.{badge_at, HasChildrenBy}
 use Rattle.pool_machine.specs.Counts.{IsShallow, weight_in}
@@ -36,6 +44,8 @@ use Rattle.pool_machine.specs.Soundness.{IsSound}
 use Rattle.pool_machine.proofs.Frames.{no_children}
 use Rattle.std.proofs.lemmas.List.Sums.{sum_by-cons}
 use Rattle.pool_machine.specs.Depth.{branching_depth}
+use Rattle.pool_machine.proofs.Gathering.{Gathers-sound, GathersFront-sound}
+use Rattle.pool_machine.proofs.Publishing.{Publishes-sound}
 use Rattle.pool_machine.proofs.Settling.{Settles-sound}
 use Rattle.pool_machine.proofs.Offering.{TakesCut-sound, Accepts-sound}
 use Rattle.pool_machine.proofs.Opening.{Opens-sound}
@@ -61,11 +71,32 @@ module _ where
   OfferStep-sound s t offer offered.Already h e = unchanged-sound s t h e.1
   OfferStep-sound s t offer (offered.Unfit x) h e = unchanged-sound s t h e.1
 
+  GatherStep-sound : (s t : State) (id : BranchId) (version : ℕ) (answer : Result Gather AllocError) → IsSound s → GatherStep s id version answer t → IsSound t
+  GatherStep-sound s t id version (Ok (gather.Taken brief)) h e = Gathers-sound s t id version brief h e
+  GatherStep-sound s t id version (Ok (gather.Spent x)) h e = unchanged-sound s t h e.1
+  GatherStep-sound s t id version (Ok (gather.Stale x)) h e = unchanged-sound s t h e.1
+  GatherStep-sound s t id version (Ok (gather.Incomplete x)) h e = unchanged-sound s t h e.1
+  GatherStep-sound s t id version (Err wanting) h e = elim e [ inl same ↦ unchanged-sound s t h same | inr front ↦ GathersFront-sound s t id version h front ]
+
+  PublishStep-sound : (s t : State) (id : BranchId) (seen : ℕ) (prices : List ℕ) (answer : Publish) → IsSound s → PublishStep s id seen prices answer t → IsSound t
+  PublishStep-sound s t id seen prices (publish.Published slot version) h e = Publishes-sound s t id seen prices slot version h e
+  PublishStep-sound s t id seen prices (publish.NoGain x y) h e = unchanged-sound s t h e.unchanged
+  PublishStep-sound s t id seen prices (publish.Spent x) h e = unchanged-sound s t h e.1
+  PublishStep-sound s t id seen prices (publish.Stale x) h e = unchanged-sound s t h e.1
+  PublishStep-sound s t id seen prices publish.Settled h e = unchanged-sound s t h e.1
+  PublishStep-sound s t id seen prices (publish.Incomplete x) h e = unchanged-sound s t h e.1
+  PublishStep-sound s t id seen prices (publish.Rounds x) h e = unchanged-sound s t h e.1
+  PublishStep-sound s t id seen prices (publish.PriceCount x) h e = unchanged-sound s t h e.1
+  PublishStep-sound s t id seen prices (publish.OverPrice x) h e = unchanged-sound s t h e.1
+  PublishStep-sound s t id seen prices (publish.Ungathered x) h e = unchanged-sound s t h e.1
+
   SettleStep-sound : (s t : State) (id : BranchId) (version : ℕ) (answer : Settle) → IsSound s → SettleStep s id version answer t → IsSound t
   SettleStep-sound s t id version settle.Done h e = Settles-sound s t id version h e
   SettleStep-sound s t id version (settle.Spent x) h e = unchanged-sound s t h e.1
   SettleStep-sound s t id version (settle.Stale x) h e = unchanged-sound s t h e.1
   SettleStep-sound s t id version (settle.Incomplete x) h e = unchanged-sound s t h e.1
+  SettleStep-sound s t id version (settle.Ungathered x) h e = unchanged-sound s t h e.1
+  SettleStep-sound s t id version (settle.Improves x y) h e = unchanged-sound s t h e.unchanged
 
   CloseStep-sound : (s t : State) (id : BranchId) (answer : Closing) → IsSound s → CloseStep s id answer t → IsSound t
   CloseStep-sound s t id closing.Closed h e = Closes-sound s id h t e
@@ -93,6 +124,8 @@ module _ where
   pub Step-sound : (s t : State) (event : Event) (answer : Answer) → IsSound s → Step s event answer t → IsSound t
   Step-sound s t (Opening id) (to_opening answer) h e = OpenStep-sound s t id answer h e
   Step-sound s t (Offering offer) (to_offering answer) h e = OfferStep-sound s t offer answer h e
+  Step-sound s t (Gathering id version) (to_gathering answer) h e = GatherStep-sound s t id version answer h e
+  Step-sound s t (Publishing id seen prices) (to_publishing answer) h e = PublishStep-sound s t id seen prices answer h e
   Step-sound s t (Settling id version) (to_settling answer) h e = SettleStep-sound s t id version answer h e
   Step-sound s t (Closing_of id) (to_closing answer) h e = CloseStep-sound s t id answer h e
   Step-sound s t (Examining id) (to_examining answer) h e = ExamineStep-sound s t id answer h e
@@ -135,6 +168,31 @@ Step-goes s t (Offering offer) (to_offering answer) e = by answer e
     by (offered.NoDemand y) x = refused s (to_offering (offered.NoDemand y)) t x.1 refl refl
     by offered.Already x = refused s (to_offering offered.Already) t x.1 refl refl
     by (offered.Unfit y) x = refused s (to_offering (offered.Unfit y)) t x.1 refl refl
+Step-goes s t (Gathering id version) (to_gathering answer) e = by answer e
+  where
+    by : (a : Result Gather AllocError) → GatherStep s id version a t → GoesTo s (to_gathering a) t
+    by (Ok (gather.Taken brief)) x = goes_to s (to_gathering (Ok (gather.Taken brief))) t _ x.becomes refl refl refl refl refl refl
+    by (Ok (gather.Spent y)) x = refused s (to_gathering (Ok (gather.Spent y))) t x.1 refl refl
+    by (Ok (gather.Stale y)) x = refused s (to_gathering (Ok (gather.Stale y))) t x.1 refl refl
+    by (Ok (gather.Incomplete y)) x = refused s (to_gathering (Ok (gather.Incomplete y))) t x.1 refl refl
+    by (Err wanting) x = elim x [
+      | inl same ↦ refused s (to_gathering (Err wanting)) t same refl refl
+      | inr front ↦ goes_to s (to_gathering (Err wanting)) t _ front.becomes refl refl refl refl refl refl
+    ]
+Step-goes s t (Publishing id seen prices) (to_publishing answer) e = by answer e
+  where
+    by : (a : Publish) → PublishStep s id seen prices a t → GoesTo s (to_publishing a) t
+    by (publish.Published slot version) x =
+        subst (GoesTo s (to_publishing (publish.Published slot version))) (sym x.becomes) (record { problem = refl; budget = refl; accepted = omega arith; next_version = omega arith })
+    by (publish.NoGain y z) x = refused s (to_publishing (publish.NoGain y z)) t x.unchanged refl refl
+    by (publish.Spent y) x = refused s (to_publishing (publish.Spent y)) t x.1 refl refl
+    by (publish.Stale y) x = refused s (to_publishing (publish.Stale y)) t x.1 refl refl
+    by publish.Settled x = refused s (to_publishing publish.Settled) t x.1 refl refl
+    by (publish.Incomplete y) x = refused s (to_publishing (publish.Incomplete y)) t x.1 refl refl
+    by (publish.Rounds y) x = refused s (to_publishing (publish.Rounds y)) t x.1 refl refl
+    by (publish.PriceCount y) x = refused s (to_publishing (publish.PriceCount y)) t x.1 refl refl
+    by (publish.OverPrice y) x = refused s (to_publishing (publish.OverPrice y)) t x.1 refl refl
+    by (publish.Ungathered y) x = refused s (to_publishing (publish.Ungathered y)) t x.1 refl refl
 Step-goes s t (Settling id version) (to_settling answer) e = by answer e
   where
     by : (a : Settle) → SettleStep s id version a t → GoesTo s (to_settling a) t
@@ -142,6 +200,8 @@ Step-goes s t (Settling id version) (to_settling answer) e = by answer e
     by (settle.Spent y) x = refused s (to_settling (settle.Spent y)) t x.1 refl refl
     by (settle.Stale y) x = refused s (to_settling (settle.Stale y)) t x.1 refl refl
     by (settle.Incomplete y) x = refused s (to_settling (settle.Incomplete y)) t x.1 refl refl
+    by (settle.Ungathered y) x = refused s (to_settling (settle.Ungathered y)) t x.1 refl refl
+    by (settle.Improves y z) x = refused s (to_settling (settle.Improves y z)) t x.unchanged refl refl
 Step-goes s t (Closing_of id) (to_closing answer) e = by answer e
   where
     by : (a : Closing) → CloseStep s id a t → GoesTo s (to_closing a) t
@@ -249,6 +309,7 @@ IsOpeningState-sound p budget s e =
         root_prices = e.are_start;
         children = λ n node at. only root refl n node at;
       };
+      columns = AreColumns-none p;
       incumbent = tt;
       counts = record { examined = refl; within_budget = omega arith; versions = omega arith; accepted = omega arith };
       size = refl;

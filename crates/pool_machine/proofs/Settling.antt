@@ -12,9 +12,10 @@ use Rattle.pool_machine.proofs.Frames.{AreApart-set, no_children}
 pub Settles-sound : (s t : State) (id : BranchId) (version : ℕ) → IsSound s → Settles s id version t → IsSound t
 Settles-sound s t id version h e =
     let node = e.node in
+    let is = e.is_gathered.complete_round in
     let new : Node = record node { settled = true } in
-    let k = All-at (IsSoundNode s.problem) s.nodes id.0 node h.nodes e.is_node in
-    let fate = All-at (HasSoundFate s.problem (cutoff_of s)) s.nodes id.0 node h.fates e.is_node in
+    let k = All-at (IsSoundNode s.problem) s.nodes id.0 node h.nodes is.is_node in
+    let fate = All-at (HasSoundFate s.problem (cutoff_of s)) s.nodes id.0 node h.fates is.is_node in
     let sound : IsSoundNode s.problem new = record {
       first_prices = k.first_prices;
       open_enough = k.open_enough;
@@ -27,9 +28,9 @@ Settles-sound s t id version h e =
       cut = k.cut;
       crowd = k.crowd;
     } in
-    let undone = (rw e.is_round at (k.round)).0 in
+    let undone = (rw is.is_round at (k.round)).0 in
     subst IsSound (sym e.becomes)
-    (replaced-sound s id.0 node new s.examined s.next_version s.accepted e.is_node h (record { limits = refl; first_prices = refl })
+    (replaced-sound s id.0 node new s.examined s.next_version s.accepted is.is_node h (record { limits = refl; first_prices = refl })
     (no_children (set s.nodes id.0 new) id.0 new node.fate undone) sound fate refl
-    (AreApart-set s.next_version s.nodes id.0 node new e.is_node (inl refl) h.apart)
+    (AreApart-set s.next_version s.nodes id.0 node new is.is_node (inl refl) h.apart)
     (record { examined_is = refl; within_budget = h.counts.within_budget; versions = omega arith; accepted_within = omega arith }))

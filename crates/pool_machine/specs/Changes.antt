@@ -26,6 +26,7 @@ waiting_with limits prices = record {
   cut = None;
   crowd = None;
   settled = false;
+  crowd_tried = false;
   round = None;
 }
 

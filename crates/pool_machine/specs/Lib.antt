@@ -1,7 +1,9 @@
 pub mod Changes
 pub mod Opening
 pub mod Offering
+pub mod Gathering
 pub mod Settling
+pub mod Publishing
 pub mod Closing
 pub mod Readiness
 pub mod Dividing

@@ -1,5 +1,6 @@
 -- The machine: from which state an event leads where, and with which answer; and where many of them lead.
 use Rattle.std.specs.Prelude.{ℕ, ◌+◌, ◌≡◌, List, [], ◌∷◌, None, sum_by, Result, Ok}
+use Rattle.std.specs.declared.alloc.AllocError.{AllocError}
 use Rattle.plan_base.specs.declared.ids.BranchId.{BranchId}
 use Rattle.plan_base.specs.declared.parts.Parts.{Parts}
 use Rattle.plan_base.specs.declared.path.Design.{Design}
@@ -7,10 +8,14 @@ use Rattle.plan_base.specs.declared.design_fault.DesignFault.{DesignFault}
 use Rattle.plan_base.specs.Facts.{IsInstance}
 use Rattle.link_steps.specs.Values.{AreStartPrices}
 use Rattle.arc_restrict.specs.Prices.{AreWithinLimit}
+use Rattle.column_pool.specs.Columns.{no_columns}
 use Rattle.pool_machine.specs.declared.answers.Opened.{Opened}
 use Rattle.pool_machine.specs.declared.answers.RoundFault.{RoundFault}
 use Rattle.pool_machine.specs.declared.answers.Offer.{Offer}
 use Rattle.pool_machine.specs.declared.answers.Offered.{Offered}
+use Rattle.pool_machine.specs.declared.answers.Gather.{Gather}
+use Rattle.pool_machine.specs.declared.answers.Publish.{Publish}
+use Rattle.pool_machine.specs.declared.answers.Publish.TheVariants as publish
 use Rattle.pool_machine.specs.declared.answers.Settle.{Settle}
 use Rattle.pool_machine.specs.declared.answers.Closing.{Closing}
 use Rattle.pool_machine.specs.declared.answers.Examined.{Examined}
@@ -20,6 +25,8 @@ use Rattle.pool_machine.specs.State.{Node, State}
 use Rattle.pool_machine.specs.Changes.{waiting_with}
 use Rattle.pool_machine.specs.Opening.{OpenStep}
 use Rattle.pool_machine.specs.Offering.{OfferStep, accepted_by}
+use Rattle.pool_machine.specs.Gathering.{GatherStep}
+use Rattle.pool_machine.specs.Publishing.{PublishStep}
 use Rattle.pool_machine.specs.Settling.{SettleStep}
 use Rattle.pool_machine.specs.Closing.{CloseStep}
 use Rattle.pool_machine.specs.Examining.{ExamineStep}
@@ -29,6 +36,8 @@ use Rattle.pool_machine.specs.Bettering.{BetterStep}
 pub data Event : Type 0 where
   Opening : BranchId → Event
   Offering : Offer → Event
+  Gathering : BranchId → ℕ → Event
+  Publishing : BranchId → ℕ → List ℕ → Event
   Settling : BranchId → ℕ → Event
   Closing_of : BranchId → Event
   Examining : BranchId → Event
@@ -38,6 +47,8 @@ pub data Event : Type 0 where
 pub data Answer : Type 0 where
   to_opening : Result Opened RoundFault → Answer
   to_offering : Offered → Answer
+  to_gathering : Result Gather AllocError → Answer
+  to_publishing : Publish → Answer
   to_settling : Settle → Answer
   to_closing : Closing → Answer
   to_examining : Result Examined ExamineFault → Answer
@@ -47,6 +58,8 @@ pub data Answer : Type 0 where
 abbrev pub Step : State → Event → Answer → State → Type 0
 Step old (Opening id) (to_opening answer) new = OpenStep old id answer new
 Step old (Offering offer) (to_offering answer) new = OfferStep old offer answer new
+Step old (Gathering id version) (to_gathering answer) new = GatherStep old id version answer new
+Step old (Publishing id seen prices) (to_publishing answer) new = PublishStep old id seen prices answer new
 Step old (Settling id version) (to_settling answer) new = SettleStep old id version answer new
 Step old (Closing_of id) (to_closing answer) new = CloseStep old id answer new
 Step old (Examining id) (to_examining answer) new = ExamineStep old id answer new
@@ -67,6 +80,7 @@ accepted_in _ = 0
 -- 1 for a new version
 abbrev pub versions_made_by : Answer → ℕ
 versions_made_by (to_opening (Ok opened)) = 1
+versions_made_by (to_publishing (publish.Published slot version)) = 1
 versions_made_by _ = 0
 
 -- these events may be answered so, one after another, and lead from old to new
@@ -92,6 +106,7 @@ pub record IsOpeningState (p : Parts) (budget : ℕ) (s : State) : Type 0 where
   pub is_state : s ≡ record {
     problem = p;
     nodes = root_with prices ∷ [];
+    columns = no_columns p;
     incumbent = None;
     examined = 0;
     budget = budget;

@@ -1,6 +1,7 @@
 -- What holds of each state that events lead to.
 use Rattle.std.specs.Prelude.{◌+◌, ◌*◌, ◌^◌, ◌≡◌, length, IfSome, sum_by, All}
 use Rattle.plan_base.specs.Facts.{IsInstance}
+use Rattle.column_pool.specs.Columns.{AreColumns}
 use Rattle.proof_tree.specs.Plans.{IsStatedDesign}
 use Rattle.pool_machine.specs.Nodes.{HasSoundFate, IsSoundNode}
 use Rattle.pool_machine.specs.Family.{AreApart, IsFamily}
@@ -15,6 +16,7 @@ pub record IsSound (s : State) : Type 0 where
   pub fates : All (HasSoundFate s.problem (cutoff_of s)) s.nodes
   pub apart : AreApart s.next_version s.nodes
   pub family : IsFamily s.problem s.nodes
+  pub columns : AreColumns s.problem s.columns
   pub incumbent : IfSome s.incumbent (λ held. IsStatedDesign s.problem held.cost held.design)
   pub counts : AreSoundCounts s
   -- each split has made two nodes

@@ -3,6 +3,7 @@ use Rattle.std.specs.Prelude.{ℕ, Bool, List, [], ◌∷◌, Option, Some, None
 use Rattle.plan_base.specs.declared.ids.BranchId.{BranchId}
 use Rattle.plan_base.specs.declared.parts.Parts.{Parts}
 use Rattle.arc_restrict.specs.Restrictions.{Forbidden, none_forbidden, with_forbidden}
+use Rattle.column_pool.specs.Columns.{Columns}
 use Rattle.pool_machine.specs.declared.answers.NodeState.{NodeState}
 use Rattle.pool_machine.specs.declared.answers.NodeState.TheVariants as state
 pub use Rattle.branch_tree.specs.declared.node.Limit.{Limit}
@@ -30,7 +31,7 @@ pub record Best : Type 0 where
   pub bound : ℤ
   pub prices : List ℕ
 
--- a node of the tree: what is forbidden there, what is recorded, what became of it, and its round
+-- a node of the tree: what is forbidden there, what is recorded, what became of it, its marks and its round
 pub record Node : Type 0 where
   pub limits : List Limit
   pub first_prices : List ℕ
@@ -42,12 +43,14 @@ pub record Node : Type 0 where
   -- prices that crowd the links without useful modules
   pub crowd : Option (List ℕ)
   pub settled : Bool
+  pub crowd_tried : Bool
   pub round : Option Round
 
 -- the whole state; a node is named by its place in the list
 pub record State : Type 0 where
   pub problem : Parts
   pub nodes : List Node
+  pub columns : Columns
   pub incumbent : Option Incumbent
   pub examined : ℕ
   pub budget : ℕ

@@ -1,7 +1,8 @@
 //! What the pool is asked and what it answers.
 
+use column_pool::Brief;
 use path_pricing::{Priced, Unfit};
-use plan_base::{BranchId, DemandId};
+use plan_base::{BranchId, DemandId, LinkId};
 
 /// What a node is. A node that waits or is active is an open leaf.
 #[derive(Clone, Copy, Debug, PartialEq, Eq)]
@@ -70,15 +71,95 @@ pub enum Offered {
     Accepted { left: u32 },
 }
 
-/// What becomes of a settling: the first refusal in this order, or that it is done.
-#[derive(Clone, Copy, Debug, PartialEq, Eq)]
-pub enum Settle {
+/// What becomes of a gathering: the first refusal in this order, or what a master step is told.
+#[derive(Debug, Drop)]
+pub enum Gather {
     /// The budget is spent: so many nodes are examined.
     Spent { examined: u32 },
     /// The node has no round of this version; the version of its round, if it has one.
     Stale { current: Option<u64> },
     /// The first demand that the round has not priced.
     Incomplete { demand: DemandId },
+    /// The paths of the round are columns now; this is what a master step is told.
+    Taken(Brief),
+}
+
+/// What becomes of prices that are published for a node: the first refusal in this order, or the round that has them.
+#[derive(Clone, Copy, Debug, PartialEq, Eq)]
+pub enum Publish {
+    /// The budget is spent: so many nodes are examined.
+    Spent {
+        examined: u32,
+    },
+    /// The node has no round of the version seen; the version of its round, if it has one.
+    Stale {
+        current: Option<u64>,
+    },
+    /// The node is settled.
+    Settled,
+    /// The first demand that the round has not priced.
+    Incomplete {
+        demand: DemandId,
+    },
+    /// So many versions of the node were complete, 16: it has no further one.
+    Rounds {
+        done: u32,
+    },
+    /// There is not one price for each link: so many are needed.
+    PriceCount {
+        needed: u32,
+    },
+    /// The first link whose price is above the price limit.
+    OverPrice {
+        link: LinkId,
+    },
+    /// The first demand whose path in the round is none of its columns.
+    Ungathered {
+        demand: DemandId,
+    },
+    /// The prices have no greater restricted value than the round's, and are not the crowd prices of a stalled round that are
+    /// tried for the first time. Both in thousandths of a cost grain.
+    NoGain {
+        /// The restricted value of the round's prices.
+        old: i128,
+        /// The restricted value of these.
+        new: i128,
+    },
+    /// The round is empty and has these prices.
+    Published {
+        /// Its slot, 0 to 63, which is as before.
+        slot: u32,
+        /// The version of its prices; no other round has had it.
+        version: u64,
+    },
+}
+
+/// What becomes of a settling: the first refusal in this order, or that it is done.
+#[derive(Clone, Copy, Debug, PartialEq, Eq)]
+pub enum Settle {
+    /// The budget is spent: so many nodes are examined.
+    Spent {
+        examined: u32,
+    },
+    /// The node has no round of this version; the version of its round, if it has one.
+    Stale {
+        current: Option<u64>,
+    },
+    /// The first demand that the round has not priced.
+    Incomplete {
+        demand: DemandId,
+    },
+    /// The first demand whose path in the round is none of its columns.
+    Ungathered {
+        demand: DemandId,
+    },
+    /// A master step gains, and the node's crowd prices were not tried. Both in thousandths of a cost grain.
+    Improves {
+        /// The restricted value of the round's prices.
+        old: i128,
+        /// What a master step raises it to.
+        new: i128,
+    },
     /// No further version of the node is published.
     Done,
 }

@@ -1,15 +1,24 @@
 //! Laws of the machine.
 
 ghost use Rattle.plan_base.specs.declared.ids.ArcId.{ArcId};
+ghost use Rattle.plan_base.specs.declared.ids.BranchId.{BranchId as AnyBranch};
 ghost use Rattle.branch_tree.specs.declared.node.Division.{Division as AnyDivision};
 ghost use Rattle.proof_tree.specs.Trees.{IsValidTree};
 ghost use Rattle.pool_machine.specs.State.{State, Node, Best, cutoff_of};
 ghost use Rattle.pool_machine.specs.Machine.{IsReachable, Run, Entry, IsCounted, IsOpeningState};
 ghost use Rattle.pool_machine.specs.Soundness.{IsSound};
 ghost use Rattle.pool_machine.specs.Family.{IsChild};
-ghost use Rattle.pool_machine.specs.Tasks.{LeadsTo, IsSearchState};
+ghost use Rattle.pool_machine.specs.Tasks.{LeadsTo, IsSearchState, IsToAdvance};
+ghost use Rattle.pool_machine.specs.declared.answers.Opened.{Opened as AnyOpened};
+ghost use Rattle.pool_machine.specs.declared.answers.RoundFault.{RoundFault as AnyRoundFault};
+ghost use Rattle.pool_machine.specs.declared.answers.Settle.{Settle as AnySettle};
+ghost use Rattle.pool_machine.specs.declared.answers.Publish.{Publish as AnyPublish};
+ghost use Rattle.pool_machine.specs.Opening.{OpenStep};
+ghost use Rattle.pool_machine.specs.Gathering.{gather_fault};
+ghost use Rattle.pool_machine.specs.Settling.{SettleStep};
+ghost use Rattle.pool_machine.specs.Publishing.{PublishStep};
 ghost use Rattle.plan_base.specs.declared.parts.Parts.{Parts};
-ghost use Rattle.std.specs.Prelude.{ℕ, Some, slice_get, ◌≤ℤ◌, List, ◌≡◌, ◌<◌, ◌≤◌, ◌-◌, ◌^◌, ◌+◌};
+ghost use Rattle.std.specs.Prelude.{ℕ, Result, Some, None, slice_get, ◌≤ℤ◌, List, ◌≡◌, ◌<◌, ◌≤◌, ◌-◌, ◌^◌, ◌+◌};
 ghost use Rattle.pool_machine.specs.Depth.{branching_depth};
 ghost use Rattle.pool_machine.specs.PlanOf.{tree_of, open_count};
 
@@ -49,4 +58,17 @@ pub fn stays_small()
 /// Where events lead from an opening state, the state is sound, and has the instance and the budget of the opening one.
 pub fn every_search()
     ensures { (p : Parts) (budget : ℕ) (s t : State) → IsOpeningState p budget s → LeadsTo s t → IsSearchState p budget t }
+{}
+
+/// What an opening, a settling or a publishing answers at a state is one.
+pub fn one_answer()
+    ensures opening { (s t u : State) (id : AnyBranch) (a b : Result AnyOpened AnyRoundFault) → OpenStep s id a t → OpenStep s id b u → a ≡ b }
+    ensures settling { (s t u : State) (id : AnyBranch) (version : ℕ) (a b : AnySettle) → SettleStep s id version a t → SettleStep s id version b u → a ≡ b }
+    ensures publishing { (s t u : State) (id : AnyBranch) (seen : ℕ) (prices : List ℕ) (a b : AnyPublish)
+        → PublishStep s id seen prices a t → PublishStep s id seen prices b u → a ≡ b }
+{}
+
+/// The gathering that a `Master` task begins with is not refused.
+pub fn master_gathers()
+    ensures { (s : State) (id : AnyBranch) (version : ℕ) → IsToAdvance s id version → gather_fault s id version ≡ None }
 {}

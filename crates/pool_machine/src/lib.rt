@@ -3,10 +3,10 @@
 //!
 //! Promises the laws of `src/laws.rt`: each state that any events lead to is sound, and the tree of a sound state is a
 //! valid proof tree. Begin at `specs/State.antt` and `specs/Machine.antt`; each event has a file of its own
-//! (`Opening`, `Offering`, `Settling`, `Closing`, `Examining`, `Bettering`), and what is sound stands in
-//! `specs/Soundness.antt`. There is no code but the types that states, calls and answers are made of. Stands on
-//! `plan_base`, `link_steps`, `arc_restrict`, `path_pricing`, `proof_tree` and `branch_tree`. The calls themselves are
-//! left to `pool_core`.
+//! (`Opening`, `Offering`, `Gathering`, `Publishing`, `Settling`, `Closing`, `Examining`, `Bettering`), and what is sound
+//! stands in `specs/Soundness.antt`. There is no code but the types that states, calls and answers are made of. Stands on
+//! `plan_base`, `link_steps`, `arc_restrict`, `path_pricing`, `column_pool`, `proof_tree`, `master_step` and
+//! `branch_tree`. The calls themselves are left to `pool_core`.
 #![tactic(auto)]
 
 mod answers;
@@ -17,7 +17,8 @@ mod task;
 mod tree;
 
 pub use answers::{
-    Better, Closing, ExamineFault, Examined, NodeState, Offer, Offered, Opened, RoundFault, Settle,
+    Better, Closing, ExamineFault, Examined, Gather, NodeState, Offer, Offered, Opened, Publish,
+    RoundFault, Settle,
 };
 pub use task::Task;
 pub use tree::{Fate, Found, HeldCut, Incumbent};

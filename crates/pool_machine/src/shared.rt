@@ -1,7 +1,8 @@
 //! What threads may share or hand over.
 
 use crate::answers::{
-    Better, Closing, ExamineFault, Examined, NodeState, Offer, Offered, Opened, RoundFault, Settle,
+    Better, Closing, ExamineFault, Examined, Gather, NodeState, Offer, Offered, Opened, Publish,
+    RoundFault, Settle,
 };
 use crate::task::Task;
 use crate::tree::{Fate, Found, HeldCut, Incumbent};
@@ -18,6 +19,11 @@ fn are_answers_shared(opened: &Opened, offered: &Offered, settle: &Settle, closi
     is_shared(offered);
     is_shared(settle);
     is_shared(closing);
+}
+
+fn are_versions_shared(gather: &Gather, publish: &Publish) {
+    is_shared(gather);
+    is_shared(publish);
 }
 
 fn are_further_answers_shared(state: &NodeState, examined: &Examined, better: &Better) {

@@ -21,7 +21,7 @@ pub enum Task {
         /// The demand.
         demand: DemandId,
     },
-    /// Settle a node whose version is complete.
+    /// Gather the columns of a node whose version is complete, and publish further prices or settle the node.
     Master {
         /// The node.
         node: BranchId,

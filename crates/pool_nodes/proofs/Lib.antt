@@ -4,3 +4,4 @@ pub mod FoundPaths
 pub mod SharedLimits
 pub mod Grounds
 pub mod FreeSlots
+pub mod GatheredPaths

@@ -1,5 +1,5 @@
 -- What a node and a place for a round keep, and what is published of a round; no public contract of the pool cites it.
-use Rattle.std.specs.Prelude.{ℕ, ◌≡◌, ◌≤◌, Bool, List, length, map, Option, Some, None, option_map, IsSomeAnd, IfSome, IsSome, IsTrue, is_some, ◌||◌, true, ⊤, ℤ, int_lt, [], ◌∷◌}
+use Rattle.std.specs.Prelude.{ℕ, ◌≡◌, ◌≤◌, Bool, not, false, List, length, map, Option, Some, None, option_map, IsSomeAnd, IfSome, IsSome, IsTrue, is_some, ◌||◌, true, ⊤, ℤ, int_lt, [], ◌∷◌}
 use Rattle.plan_base.specs.declared.parts.Parts.{Parts}
 use Rattle.plan_base.specs.declared.ids.BranchId.{BranchId}
 use Rattle.dual_versions.specs.declared.published.Published.{Published}
@@ -10,6 +10,8 @@ use Rattle.pool_nodes.specs.declared.reason.Reason.{Reason}
 use Rattle.pool_nodes.specs.declared.reason.Reason.TheVariants as reason
 use Rattle.pool_machine.specs.declared.limits.TheConstants.{MAX_VERSIONS}
 use Rattle.plan_base.specs.declared.ids.ArcId.{ArcId}
+use Rattle.column_pool.specs.Columns.{Columns, columns_at, is_column}
+use Rattle.pool_machine.specs.Gathering.{gathered}
 use Rattle.pool_machine.specs.Nodes.{IsSoundRound}
 use Rattle.pool_machine.specs.declared.tree.Found.{Found}
 use Rattle.pool_machine.specs.declared.tree.HeldCut.{HeldCut}
@@ -85,3 +87,14 @@ abbrev pub paths_of : List (Option Found) → List (List ArcId)
 paths_of [] = []
 paths_of (None ∷ found) = paths_of found
 paths_of (Some one ∷ found) = one.path ∷ paths_of found
+
+-- a path was found for the demand, and it is none of its columns
+abbrev pub is_ungathered : Columns → ℕ → Option Found → Bool
+is_ungathered columns k None = false
+is_ungathered columns k (Some found) = not (is_column (columns_at columns k) found.path)
+
+-- the columns are the old ones with the paths of so many of the first demands added
+pub record IsFrontAdded (old : Columns) (found : List (Option Found)) (new : Columns) : Type 0 where
+  pub front : ℕ
+  pub within : front ≤ length found
+  pub becomes : new ≡ gathered old found front

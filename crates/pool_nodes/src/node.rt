@@ -11,6 +11,7 @@ mod completing;
 mod dividing;
 mod making;
 mod planning;
+mod renewing;
 mod working;
 
 use crate::rank::Rank;
@@ -39,6 +40,7 @@ pub struct PoolNode {
     /// Room for a crowd proof, which is taken with the node. The evidence that closes it may take the room along.
     crowd_prices: Option<Prices>,
     settled: bool,
+    crowd_tried: bool,
     round: Option<PoolRound>,
     /// What was known when it was made.
     above: Rank,
@@ -61,6 +63,7 @@ impl Model for PoolNode {
       cut = a.cut;
       crowd = if a.is_crowd then a.crowd_prices else None;
       settled = a.settled;
+      crowd_tried = a.crowd_tried;
       round = a.round;
     } };
 

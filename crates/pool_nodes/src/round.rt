@@ -8,6 +8,7 @@ ghost use Rattle.pool_machine.specs.Offering.{is_priced, with_found};
 
 mod bounding;
 mod copying;
+mod gathering;
 mod making;
 
 use bound_assembly::Round;

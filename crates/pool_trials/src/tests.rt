@@ -8,6 +8,7 @@ mod crowding;
 mod examining;
 mod offering;
 mod opening;
+mod publishing;
 mod searching;
 mod settling;
 mod tasks;
@@ -19,8 +20,8 @@ use plan_base::{
     Parts, Path,
 };
 use pool_core::{
-    Better, Closing, ExamineFault, Examined, NodeState, Offer, Offered, Opened, Pool, RoundFault,
-    Settle, Task,
+    Better, Closing, ExamineFault, Examined, Gather, NodeState, Offer, Offered, Opened, Pool,
+    Publish, RoundFault, Settle, Task,
 };
 use std::alloc::{AllocError, Global};
 use std::sync::Arc;
@@ -108,6 +109,15 @@ fn two_nodes(links: Vec<Link>, demands: Vec<Demand>, orient: Orient) -> Parts {
     }
 }
 
+/// A link that carries 10 at a routing cost of 1, one that carries 100 at 3, and two demands of 10.
+fn cheap_and_wide(alloc: Global) -> Result<Parts, AllocError> {
+    let mut links = Vec::new(alloc);
+    links.push(bare_link(alloc, 10 * UNIT, UNIT))?;
+    links.push(bare_link(alloc, 100 * UNIT, 3 * UNIT))?;
+    let demands = vec![in alloc; demand(0, 1, 10 * UNIT), demand(0, 1, 10 * UNIT)]?;
+    Ok(two_nodes(links, demands, Orient::Undirected))
+}
+
 /// A link from a to b alone, and a demand that goes against it.
 fn one_way(alloc: Global) -> Result<Parts, AllocError> {
     let links = vec![in alloc; link(alloc, (0, 1), 10 * UNIT, 5 * COST)?]?;
@@ -158,16 +168,29 @@ fn over_b(alloc: Global, potentials: &[u128]) -> Result<Offer, AllocError> {
     Ok(at_root(0, found(alloc, &[ArcId(0), ArcId(2)], potentials)?))
 }
 
+/// The link ab in the triangle, at these potentials of b and c.
+fn over_ab(alloc: Global, to_b: u128, to_c: u128) -> Result<Offer, AllocError> {
+    let ab = Priced::Path {
+        path: Path::from_vec(vec![in alloc; ArcId(0)]?),
+        length: to_b,
+        potentials: Items::from_vec(vec![in alloc; 0, to_b, to_c]?),
+    };
+    Ok(at_root(1, ab))
+}
+
 /// Opens the root of the busy triangle, and prices both demands at the start prices.
 fn price_busy(alloc: Global, pool: &mut Pool) -> Result<Offered, AllocError> {
     let _opened = pool.open_round(BranchId(0));
     let _first = pool.offer(over_b(alloc, &[0, 500_000_000, 1_000_000_000])?);
-    let ab = Priced::Path {
-        path: Path::from_vec(vec![in alloc; ArcId(0)]?),
-        length: 500_000_000,
-        potentials: Items::from_vec(vec![in alloc; 0, 500_000_000, 1_000_000_000]?),
-    };
-    Ok(pool.offer(at_root(1, ab)))
+    Ok(pool.offer(over_ab(alloc, 500_000_000, 1_000_000_000)?))
+}
+
+/// Gathers the paths of a complete version. False where that is refused.
+fn is_gathered(pool: &mut Pool, node: BranchId, version: u64) -> Result<bool, AllocError> {
+    match pool.gather(node, version)? {
+        Gather::Taken(_brief) => Ok(true),
+        _ => Ok(false),
+    }
 }
 
 /// A design of one path along these arcs, with these counts of the three links' modules.

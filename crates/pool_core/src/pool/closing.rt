@@ -81,7 +81,7 @@ impl Pool {
     ///
     /// - Gives: in this order, `Spent` where the budget is spent; `NotOpen` where the node is no open leaf;
     ///   `Closed` where it is closed now, by the crowd proof if there is one; else `Weak` with what is recorded.
-    /// - Rule: docs/DEFINITIONS.md, "The search as a machine".
+    /// - Rule: docs/METHOD.md, "The search as a machine".
     pub fn close_by_bound(&mut self, node: BranchId) -> Closing
         ensures event { CloseStep self.old node result self.new }
     {
@@ -109,7 +109,7 @@ impl Pool {
     ///
     /// - Gives: `Taken` with its cost where it is held now; `NotLess` with both costs where it is not cheaper.
     /// - Errors: the first fault of the design, as `check_design` tells it.
-    /// - Rule: docs/DEFINITIONS.md, "The search as a machine".
+    /// - Rule: docs/METHOD.md, "The search as a machine".
     pub fn better(&mut self, design: Design) -> Result<Better, DesignFault>
         ensures event { BetterStep self.old design result self.new }
     {

@@ -26,7 +26,7 @@ fn is_unsettled(settled: bool, completed: u32) -> bool
 
 impl Pool {
     /// How many versions of the node were complete.
-    fn completed(&self, node: BranchId) -> u32
+    pub(super) fn completed(&self, node: BranchId) -> u32
         ensures { result ≡ completed_in (slice_get self.now.nodes node.0) }
     {
         match self.node(node) {
@@ -36,7 +36,7 @@ impl Pool {
     }
 
     /// Whether the node is settled.
-    fn is_settled(&self, node: BranchId) -> bool
+    pub(super) fn is_settled(&self, node: BranchId) -> bool
         ensures { result ≡ settled_in (slice_get self.now.nodes node.0) }
     {
         match self.node(node) {
@@ -150,7 +150,7 @@ impl Pool {
     ///   and, where it has no cut, `Unpriced` where no version was ever complete; `Closable` where
     ///   `close_by_bound` closes it; `Unsettled` where it is not settled and has room for more versions. Want of
     ///   memory may come in place of any answer, and leaves the pool as it was.
-    /// - Rule: docs/DEFINITIONS.md, "The search as a machine".
+    /// - Rule: docs/METHOD.md, "The search as a machine".
     pub fn examine(&mut self, node: BranchId) -> Result<Examined, ExamineFault>
         ensures event { ExamineStep self.old node result self.new }
     {

@@ -8,8 +8,10 @@ ghost use Rattle.pool_core.specs.Views.{AreFreePlaces};
 
 use super::Pool;
 use arc_restrict::Restriction;
+use column_pool::ColumnPool;
 use leaf_work::KnownAbove;
 use link_steps::StepTable;
+use master_step::Room;
 use plan_base::{Instance, Items, Prices};
 use pool_machine::limits::MAX_ROUNDS;
 use pool_nodes::{Ground, PoolNode, PoolRound, Rank, Slot};
@@ -32,11 +34,12 @@ fn free_places(alloc: Global, inst: &Instance, prices: &Prices) -> Result<Vec<Sl
 }
 
 impl Pool {
-    /// A pool whose root waits with the start prices. All places of rounds are taken here.
+    /// A pool whose root waits with the start prices. All places of rounds are taken here, and the room
+    /// in which steps are tried.
     ///
     /// - Takes: an instance and its step table; how many nodes may be examined.
     /// - Errors: want of memory alone.
-    /// - Rule: docs/DEFINITIONS.md, "The search as a machine".
+    /// - Rule: docs/METHOD.md, "The search as a machine".
     pub fn new(
         alloc: Global,
         inst: Arc<Instance>,
@@ -57,11 +60,15 @@ impl Pool {
         let root = PoolNode::new(Items::new(alloc), prices, Rank::root())?;
         let nodes = vec![in alloc; root]?;
         let grounds = vec![in alloc; Ground::of(rows)]?;
+        let columns = ColumnPool::new(alloc, &*inst)?;
+        let room = Room::new(alloc, &*inst)?;
         Ok(Pool {
             alloc,
             problem: inst,
             table,
             nodes,
+            columns,
+            room,
             grounds,
             places,
             incumbent: None,

@@ -45,7 +45,7 @@ impl Pool {
     }
 
     /// The active round of a node.
-    fn active_round(&self, node: BranchId) -> Option<&PoolRound>
+    pub(super) fn active_round(&self, node: BranchId) -> Option<&PoolRound>
         ensures { option_map (λ r. r.now) result ≡ round_of self.now node }
     {
         self.node(node)?.round()
@@ -115,7 +115,7 @@ impl Pool {
     ///   version; `NoDemand` where there is no such demand; `Already` where it is priced there or the node has a
     ///   cut; `Unfit` with the first fault of what was found; else `CutTaken` where it is a set, and `Accepted`
     ///   with the count of demands that are left where it is a path.
-    /// - Rule: docs/DEFINITIONS.md, "The search as a machine".
+    /// - Rule: docs/METHOD.md, "The search as a machine".
     pub fn offer(&mut self, offer: Offer) -> Offered
         ensures event { OfferStep self.old offer result self.new }
     {

@@ -17,7 +17,7 @@ impl Pool {
     /// - Gives: a valid plan, which a plan text can hold, and each split of which parts two paths. The bound of an
     ///   undecided plan is at least the bound of the root at the start prices.
     /// - Errors: want of memory alone.
-    /// - Rule: docs/DEFINITIONS.md, "The search as a machine".
+    /// - Rule: docs/METHOD.md, "The search as a machine".
     pub fn into_plan(self) -> Result<Plan, AllocError>
         requires done { is_done self ≡ true }
         ensures plan { IfOk result (λ plan. IsPlanOf self plan) }
@@ -31,6 +31,8 @@ impl Pool {
             problem,
             table,
             nodes,
+            columns,
+            room: _room,
             grounds,
             places: _places,
             incumbent,
@@ -45,6 +47,7 @@ impl Pool {
             problem,
             table,
             nodes,
+            columns,
             grounds,
             incumbent,
             examined,

@@ -84,7 +84,11 @@ impl Pool {
     }
 
     /// Hands in a design for the paths of the node's round or other ones.
-    fn seek_design(&mut self, node: BranchId, guide: &mut Guide) -> Result<(), AllocError>
+    pub(super) fn seek_design(
+        &mut self,
+        node: BranchId,
+        guide: &mut Guide,
+    ) -> Result<(), AllocError>
         requires { IsSomeAnd (round_of self.old node) (λ round. left_of round ≡ 0) }
         ensures { KeepsNodes self.old self.new }
     {
@@ -111,7 +115,7 @@ impl Pool {
         }
     }
 
-    /// Does what is next at an open leaf. A version that is complete has a design sought for its paths, and is the last.
+    /// Does what is next at an open leaf.
     ///
     /// - Gives: whether the leaf is closed or divided now.
     fn take_step(&mut self, node: BranchId, guide: &mut Guide) -> Result<bool, AllocError>
@@ -140,8 +144,7 @@ impl Pool {
                 node: _node,
                 version,
             } => {
-                self.seek_design(node, guide)?;
-                let _answer = self.settle(node, version);
+                self.advance(node, version, guide)?;
                 Ok(false)
             }
             Task::Close { node: _node } => {
@@ -196,7 +199,7 @@ impl Pool {
     /// Works off open leaves until none is left or the budget is spent.
     ///
     /// - Errors: want of memory alone; what was done until then is kept.
-    /// - Rule: docs/DEFINITIONS.md, "The search as a machine".
+    /// - Rule: docs/METHOD.md, "The search as a machine".
     pub fn finish(&mut self) -> Result<(), AllocError>
         ensures done { OnOk result (is_done self.new ≡ true) }
         ensures leads { LeadsTo self.old self.new }

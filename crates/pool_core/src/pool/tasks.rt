@@ -19,7 +19,7 @@ use pool_nodes::{PoolRound, Rank};
 impl Pool {
     /// Whether the budget is spent, or no leaf is open.
     ///
-    /// - Rule: docs/DEFINITIONS.md, "The search as a machine".
+    /// - Rule: docs/METHOD.md, "The search as a machine".
     pub fn is_done(&self) -> bool
         ensures { result ≡ is_done self.now }
     {
@@ -109,7 +109,7 @@ impl Pool {
     }
 
     /// What is next at a node with a round: it is examined where it has a cut, closed where it can be, priced until
-    /// its version is complete, settled, and then examined.
+    /// its version is complete, given further prices or settled, and then examined.
     fn step_of_round(&self, node: BranchId) -> Task
         requires reachable { IsReachable self.now }
         requires not_spent { self.now.examined < self.now.budget }
@@ -155,7 +155,7 @@ impl Pool {
     ///
     /// - Gives: a task whose call would not be refused now, want of memory aside; `Done` exactly where the budget
     ///   is spent or no leaf is open.
-    /// - Rule: docs/DEFINITIONS.md, "The search as a machine".
+    /// - Rule: docs/METHOD.md, "The search as a machine".
     pub fn next_task(&mut self, worker: u32) -> Task
         ensures unchanged { self.new ≡ self.old }
         ensures lawful { IsLawfulTask self.old result }

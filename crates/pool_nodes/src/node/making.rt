@@ -38,6 +38,7 @@ impl PoolNode {
             is_crowd: false,
             crowd_prices: Some(crowd_prices),
             settled: false,
+            crowd_tried: false,
             round: None,
             above,
         })

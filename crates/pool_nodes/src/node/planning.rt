@@ -69,6 +69,7 @@ impl PoolNode {
             is_crowd: _is_crowd,
             crowd_prices: _crowd_prices,
             settled: _settled,
+            crowd_tried: _crowd_tried,
             round: _round,
             above: _above,
         } = self;

@@ -2,11 +2,11 @@
 
 use super::*;
 
-/// Two links of 5 without modules, which are free, and seven demands of 1.
+/// Two links of 7 without modules, which are free, and seven demands of 1.
 fn seven_demands(alloc: Global) -> Result<Parts, AllocError> {
     let mut links = Vec::new(alloc);
-    links.push(bare_link(alloc, 5 * UNIT, 0))?;
-    links.push(bare_link(alloc, 5 * UNIT, 0))?;
+    links.push(bare_link(alloc, 7 * UNIT, 0))?;
+    links.push(bare_link(alloc, 7 * UNIT, 0))?;
     let mut demands = Vec::new(alloc);
     for _ in 0..7 {
         demands.push(demand(0, 1, UNIT))?;
@@ -43,6 +43,7 @@ fn divide(
     for demand in 0..7 {
         offer_one(alloc, pool, node, version, DemandId(demand))?;
     }
+    let _gathered = is_gathered(pool, node, version)?;
     let _settled = pool.settle(node, version);
     Ok(pool.examine(node).is_ok())
 }

@@ -22,6 +22,7 @@ fn a_settled_node_is_divided_once(rt: HostRuntime) -> Result<(), Fail> {
         pool.examine(root),
         Err(ExamineFault::Unsettled { done: 1 })
     );
+    assert!(rt; is_gathered(&mut pool, root, 1)?);
     assert_eq!(rt; pool.settle(root, 1), Settle::Done);
     let divided = Examined::Divided {
         left: BranchId(1),
@@ -42,6 +43,7 @@ fn divided(alloc: Global, budget: u32) -> Result<Pool, Fail>
 {
     let mut pool = pool_on(alloc, busy_triangle(alloc)?, budget)?;
     let _left = price_busy(alloc, &mut pool)?;
+    let _gathered = is_gathered(&mut pool, BranchId(0), 1)?;
     let _settled = pool.settle(BranchId(0), 1);
     let _answer = pool.examine(BranchId(0));
     Ok(pool)

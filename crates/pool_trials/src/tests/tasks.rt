@@ -1,6 +1,7 @@
 //! Tasks that are done one after the other.
 
 use super::*;
+use master_step::{Step, advance};
 use path_pricing::price;
 use plan_base::Prices;
 
@@ -29,8 +30,25 @@ fn price_at(
     Ok(matches!(answer, Offered::Accepted { .. }))
 }
 
+/// Goes on with a complete version: what a master step raises its prices to is published, or the node is settled.
+fn goes_on(alloc: Global, pool: &mut Pool, node: BranchId, version: u64) -> Result<bool, Fail> {
+    let inst = pool.instance().clone()?;
+    let table = StepTable::make(alloc, &*inst)?;
+    let Gather::Taken(brief) = pool.gather(node, version)? else {
+        return Ok(false);
+    };
+    if !brief.fits(&*inst) {
+        return Ok(false);
+    }
+    let Step::Raised { prices, .. } = advance(alloc, &*inst, &table, &brief)? else {
+        return Ok(pool.settle(node, version) == Settle::Done);
+    };
+    let answer = pool.publish(node, version, &prices);
+    Ok(matches!(answer, Publish::Published { .. }))
+}
+
 /// Does a task. False where the pool refuses it.
-fn is_done_by(alloc: Global, pool: &mut Pool, task: Task) -> Result<bool, AllocError> {
+fn is_done_by(alloc: Global, pool: &mut Pool, task: Task) -> Result<bool, Fail> {
     match task {
         Task::Open { node } => Ok(pool.open_round(node).is_ok()),
         Task::Price {
@@ -39,10 +57,15 @@ fn is_done_by(alloc: Global, pool: &mut Pool, task: Task) -> Result<bool, AllocE
             version,
             demand,
         } => match pool.prices(slot)? {
-            Some(published) => { price_at(alloc, pool, (node, version, demand), &published.prices) }
+            Some(published) => Ok(price_at(
+                alloc,
+                pool,
+                (node, version, demand),
+                &published.prices,
+            )?),
             None => Ok(false),
         },
-        Task::Master { node, version } => Ok(pool.settle(node, version) == Settle::Done),
+        Task::Master { node, version } => goes_on(alloc, pool, node, version),
         Task::Close { node } => Ok(pool.close_by_bound(node) == Closing::Closed),
         Task::Examine { node } => Ok(pool.examine(node).is_ok()),
         Task::Done => Ok(false),

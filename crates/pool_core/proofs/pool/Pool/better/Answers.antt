@@ -6,14 +6,18 @@ use Rattle.pool_core.proofs.BetterPool.{takes_better, IsPool-holding}
 use Rattle.pool_core.proofs.pool.Pool.better.Goals as goal
 
 pub invariant_of-self : goal.invariant_of-self
-invariant_of-self c =
-    let s = the_view c.self.inside in
-    let good : IsGoodDesign s.problem c.args.design = search rules in
-    let cost : cost_of s.problem c.args.design ≡ c.in_ok-cost.cost = search rules in
-    let cheaper : is_cheaper s.incumbent c.in_ok-cost.cost ≡ true = search rules in
-    record {
-      pool = IsPool-holding s c.self.inside.places.items c.in_ok-cost.cost c.args.design c.self.invariant.pool
-          (takes_better s c.args.design c.in_ok-cost.cost good cost cheaper);
-      table_is = c.self.invariant.table_is;
-      has_grounds = c.self.invariant.has_grounds;
-    }
+invariant_of-self c = record {
+  kept = (
+      let s = the_view c.self.inside in
+      let good : IsGoodDesign s.problem c.args.design = search rules in
+      let cost : cost_of s.problem c.args.design ≡ c.in_ok-cost.cost = search rules in
+      let cheaper : is_cheaper s.incumbent c.in_ok-cost.cost ≡ true = search rules in
+      record {
+        pool = IsPool-holding s c.self.inside.places.items c.in_ok-cost.cost c.args.design c.self.invariant.kept.pool
+            (takes_better s c.args.design c.in_ok-cost.cost good cost cheaper);
+        table_is = c.self.invariant.kept.table_is;
+        has_grounds = c.self.invariant.kept.has_grounds;
+      }
+      );
+  room_is = c.self.invariant.room_is;
+}

@@ -15,18 +15,18 @@ use Rattle.pool_core.proofs.pool.Pool.child_at.Goals as goal
 pub index-ground-requires : goal.index-ground-requires
 index-ground-requires c =
     let within : c.args.node.0 < length c.self.inside.grounds.items =
-    ready-ground-within (the_view c.self.inside) _ c.self.inside.grounds.items c.self.inside.places.items c.self.invariant c.args.node (subst (λ (s : State). IsReadyAt s c.args.node) (sym c.self.view_is) c.requires.leaf) in
+    ready-ground-within (the_view c.self.inside) _ c.self.inside.grounds.items c.self.inside.places.items c.self.invariant.kept c.args.node (subst (λ (s : State). IsReadyAt s c.args.node) (sym c.self.view_is) c.requires.leaf) in
     search rules
 
 pub unreachable-requires : goal.unreachable-requires
 unreachable-requires c =
-    let g = ready-ground (the_view c.self.inside) _ c.self.inside.grounds.items c.self.inside.places.items c.self.invariant c.args.node (subst (λ (s : State). IsReadyAt s c.args.node) (sym c.self.view_is) c.requires.leaf) c.index-ground.result.now c.index-ground.ensures in
+    let g = ready-ground (the_view c.self.inside) _ c.self.inside.grounds.items c.self.inside.places.items c.self.invariant.kept c.args.node (subst (λ (s : State). IsReadyAt s c.args.node) (sym c.self.view_is) c.requires.leaf) c.index-ground.result.now c.index-ground.ensures in
     ground-none _ c.rows.result c.index-ground.result.now g.0 c.rows.ensures g.1 c.in_default.is
 
 pub forbid-requires-clause-demand : goal.forbid-requires-clause-demand
 forbid-requires-clause-demand c =
     let at : IsReadyAt (the_view c.self.inside) c.args.node = (subst (λ (s : State). IsReadyAt s c.args.node) (sym c.self.view_is) c.requires.leaf) in
-    let g = ready-ground (the_view c.self.inside) _ c.self.inside.grounds.items c.self.inside.places.items c.self.invariant c.args.node at c.index-ground.result.now c.index-ground.ensures in
+    let g = ready-ground (the_view c.self.inside) _ c.self.inside.grounds.items c.self.inside.places.items c.self.invariant.kept c.args.node at c.index-ground.result.now c.index-ground.ensures in
     let above : arc_value c.in-Some.above.now ≡ g.0 = ground-some _ c.rows.result c.index-ground.result.now g.0 c.in-Some.above c.rows.ensures g.1 c.in-Some.is in
     let copied : c.in_ok-rows.rows ≡ g.0 = c.in_ok-rows.ensures ∙ (c.deref.ensures ∙ above) in
     let same : forbids c.in_ok-rows.rows ≡ restriction_of at.node = ap forbids copied ∙ g.2 in
@@ -36,7 +36,7 @@ forbid-requires-clause-demand c =
 pub forbid-requires-clause-arcs : goal.forbid-requires-clause-arcs
 forbid-requires-clause-arcs c =
     let at : IsReadyAt (the_view c.self.inside) c.args.node = (subst (λ (s : State). IsReadyAt s c.args.node) (sym c.self.view_is) c.requires.leaf) in
-    let g = ready-ground (the_view c.self.inside) _ c.self.inside.grounds.items c.self.inside.places.items c.self.invariant c.args.node at c.index-ground.result.now c.index-ground.ensures in
+    let g = ready-ground (the_view c.self.inside) _ c.self.inside.grounds.items c.self.inside.places.items c.self.invariant.kept c.args.node at c.index-ground.result.now c.index-ground.ensures in
     let above : arc_value c.in-Some.above.now ≡ g.0 = ground-some _ c.rows.result c.index-ground.result.now g.0 c.in-Some.above c.rows.ensures g.1 c.in-Some.is in
     let copied : c.in_ok-rows.rows ≡ g.0 = c.in_ok-rows.ensures ∙ (c.deref.ensures ∙ above) in
     let same : forbids c.in_ok-rows.rows ≡ restriction_of at.node = ap forbids copied ∙ g.2 in
@@ -47,18 +47,18 @@ forbid-requires-clause-arcs c =
 pub index-parent-requires : goal.index-parent-requires
 index-parent-requires c =
     let within : c.args.node.0 < length c.self.inside.nodes.items =
-    ready-node-within (the_view c.self.inside) _ c.self.inside.grounds.items c.self.inside.places.items c.self.invariant c.args.node (subst (λ (s : State). IsReadyAt s c.args.node) (sym c.self.view_is) c.requires.leaf) in
+    ready-node-within (the_view c.self.inside) _ c.self.inside.grounds.items c.self.inside.places.items c.self.invariant.kept c.args.node (subst (λ (s : State). IsReadyAt s c.args.node) (sym c.self.view_is) c.requires.leaf) in
     search rules
 
 pub returns : goal.returns
 returns c =
     let at : IsReadyAt (the_view c.self.inside) c.args.node = (subst (λ (s : State). IsReadyAt s c.args.node) (sym c.self.view_is) c.requires.leaf) in
-    let g = ready-ground (the_view c.self.inside) _ c.self.inside.grounds.items c.self.inside.places.items c.self.invariant c.args.node at c.index-ground.result.now c.index-ground.ensures in
+    let g = ready-ground (the_view c.self.inside) _ c.self.inside.grounds.items c.self.inside.places.items c.self.invariant.kept c.args.node at c.index-ground.result.now c.index-ground.ensures in
     let above : arc_value c.in-Some.above.now ≡ g.0 = ground-some _ c.rows.result c.index-ground.result.now g.0 c.in-Some.above c.rows.ensures g.1 c.in-Some.is in
     let copied : c.in_ok-rows.rows ≡ g.0 = c.in_ok-rows.ensures ∙ (c.deref.ensures ∙ above) in
     let same : forbids c.in_ok-rows.rows ≡ restriction_of at.node = ap forbids copied ∙ g.2 in
     let size : HasSizeOf (the_view c.self.inside).problem c.in_ok-rows.rows = subst (HasSizeOf (the_view c.self.inside).problem) (sym copied) g.3 in
-    let item = ready-item (the_view c.self.inside) _ c.self.inside.grounds.items c.self.inside.places.items c.self.invariant c.args.node at c.index-parent.result.now c.index-parent.ensures in
+    let item = ready-item (the_view c.self.inside) _ c.self.inside.grounds.items c.self.inside.places.items c.self.invariant.kept c.args.node at c.index-parent.result.now c.index-parent.ensures in
     subst (λ (s : State). IsChildAt s c.args.node c.args.demand c.args.arcs.now c.in_ok-child.child c.of.result) c.self.view_is
     (child-made (the_view c.self.inside) c.args.node at c.args.demand c.args.arcs.now c.in_ok-rows.rows same size c.index-parent.result.now c.in_ok-child.child c.of.result c.forbid.new.self c.in_ok-copy.field-0
     item

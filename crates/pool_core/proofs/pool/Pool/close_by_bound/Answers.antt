@@ -17,7 +17,7 @@ close-requires-clause-reason c = has_reason c.args.self.now c.args.node (close_f
 
 pub close-requires-clause-event : goal.close-requires-clause-event
 close-requires-clause-event c =
-    closed-reachable c.args.self.now c.args.node (subst IsReachable c.self.view_is c.self.invariant.pool.reachable)
+    closed-reachable c.args.self.now c.args.node (subst IsReachable c.self.view_is c.self.invariant.kept.pool.reachable)
     (close_fault-none c.args.self.now c.args.node (sym c.close_refusal.ensures ∙ c.in_default.is))
 
 pub returns : goal.returns

@@ -15,7 +15,7 @@ close-requires-clause-event c =
     let s = c.args.self.now in
     let same : c.deref.result.now ≡ s.problem = c.deref.ensures ∙ ap (λ (x : State). x.problem) c.self.view_is in
     let first : IsFirstOverfull s.problem c.args.paths c.in-Some.link.0 = subst (λ (p : Parts). IsFirstOverfull p c.args.paths c.in-Some.link.0) same c.in-Some.ensures.some in
-    overfull-reachable s c.args.node c.args.paths c.requires c.in-Some.link first (subst IsReachable c.self.view_is c.self.invariant.pool.reachable)
+    overfull-reachable s c.args.node c.args.paths c.requires c.in-Some.link first (subst IsReachable c.self.view_is c.self.invariant.kept.pool.reachable)
 
 pub returns-in-Some-clause-event : goal.returns-in-Some-clause-event
 returns-in-Some-clause-event c =
@@ -38,7 +38,7 @@ close-requires-2-clause-event c =
     let s = c.args.self.now in
     let same : c.deref-3.result.now ≡ s.problem = c.deref-3.ensures ∙ ap (λ (x : State). x.problem) c.self.view_is in
     routed-reachable s c.args.node c.args.paths c.requires c.in-Some-done._cost c.in-Some-done.design (rw (same, c.in-Some-done.is) at c.in_ok-done.ensures.some) (rw (same, c.in-Some-done.is) at c.in_ok-done.ensures.counts)
-    c.better-held.new.self c.better-held.result c.better-held.ensures.event (subst IsReachable c.self.view_is c.self.invariant.pool.reachable)
+    c.better-held.new.self c.better-held.result c.better-held.ensures.event (subst IsReachable c.self.view_is c.self.invariant.kept.pool.reachable)
 
 pub returns-clause-event : goal.returns-clause-event
 returns-clause-event c =

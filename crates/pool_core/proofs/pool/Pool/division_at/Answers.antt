@@ -20,12 +20,12 @@ use Rattle.pool_core.proofs.pool.Pool.division_at.Goals as goal
 pub index-ground-requires : goal.index-ground-requires
 index-ground-requires c =
     let within : c.args.node.0 < length c.self.inside.grounds.items =
-    ready-ground-within (the_view c.self.inside) _ c.self.inside.grounds.items c.self.inside.places.items c.self.invariant c.args.node (subst (λ (s : State). IsReadyAt s c.args.node) (sym c.self.view_is) (two-ready c.args.self.now c.args.node c.args.demand c.args.first.now c.args.second.now c.requires)) in
+    ready-ground-within (the_view c.self.inside) _ c.self.inside.grounds.items c.self.inside.places.items c.self.invariant.kept c.args.node (subst (λ (s : State). IsReadyAt s c.args.node) (sym c.self.view_is) (two-ready c.args.self.now c.args.node c.args.demand c.args.first.now c.args.second.now c.requires)) in
     search rules
 
 pub unreachable-requires : goal.unreachable-requires
 unreachable-requires c =
-    let g = ready-ground (the_view c.self.inside) _ c.self.inside.grounds.items c.self.inside.places.items c.self.invariant c.args.node (subst (λ (s : State). IsReadyAt s c.args.node) (sym c.self.view_is) (two-ready c.args.self.now c.args.node c.args.demand c.args.first.now c.args.second.now c.requires)) c.index-ground.result.now c.index-ground.ensures in
+    let g = ready-ground (the_view c.self.inside) _ c.self.inside.grounds.items c.self.inside.places.items c.self.invariant.kept c.args.node (subst (λ (s : State). IsReadyAt s c.args.node) (sym c.self.view_is) (two-ready c.args.self.now c.args.node c.args.demand c.args.first.now c.args.second.now c.requires)) c.index-ground.result.now c.index-ground.ensures in
     ground-none _ c.rows.result c.index-ground.result.now g.0 c.rows.ensures g.1 c.in_default.is
 
 pub divergence-requires : goal.divergence-requires
@@ -44,18 +44,18 @@ leaving-requires c =
 
 pub overflow_cast-count : goal.overflow_cast-count
 overflow_cast-count c =
-    let few : length c.self.inside.nodes.items ≤ 8193 = numbers-small (the_view c.self.inside) c.self.invariant.pool.reachable c.self.invariant.pool.budget in
+    let few : length c.self.inside.nodes.items ≤ 8193 = numbers-small (the_view c.self.inside) c.self.invariant.kept.pool.reachable c.self.invariant.kept.pool.budget in
     search rules
 
 pub overflow_add-result : goal.overflow_add-result
 overflow_add-result c =
-    let few : length c.self.inside.nodes.items ≤ 8193 = numbers-small (the_view c.self.inside) c.self.invariant.pool.reachable c.self.invariant.pool.budget in
+    let few : length c.self.inside.nodes.items ≤ 8193 = numbers-small (the_view c.self.inside) c.self.invariant.kept.pool.reachable c.self.invariant.kept.pool.budget in
     search rules
 
 pub returns-clause-division : goal.returns-clause-division
 returns-clause-division c =
     let at : IsReadyAt (the_view c.self.inside) c.args.node = (subst (λ (s : State). IsReadyAt s c.args.node) (sym c.self.view_is) (two-ready c.args.self.now c.args.node c.args.demand c.args.first.now c.args.second.now c.requires)) in
-    let g = ready-ground (the_view c.self.inside) _ c.self.inside.grounds.items c.self.inside.places.items c.self.invariant c.args.node (subst (λ (s : State). IsReadyAt s c.args.node) (sym c.self.view_is) (two-ready c.args.self.now c.args.node c.args.demand c.args.first.now c.args.second.now c.requires)) c.index-ground.result.now c.index-ground.ensures in
+    let g = ready-ground (the_view c.self.inside) _ c.self.inside.grounds.items c.self.inside.places.items c.self.invariant.kept c.args.node (subst (λ (s : State). IsReadyAt s c.args.node) (sym c.self.view_is) (two-ready c.args.self.now c.args.node c.args.demand c.args.first.now c.args.second.now c.requires)) c.index-ground.result.now c.index-ground.ensures in
     let p = c.args.self.now.problem in
     let problem : c.deref-2.result.now ≡ p = c.deref-2.ensures ∙ ap (λ (s : State). s.problem) c.self.view_is in
     let again : c.deref-4.result.now ≡ p = c.deref-4.ensures ∙ ap (λ (s : State). s.problem) c.self.view_is in

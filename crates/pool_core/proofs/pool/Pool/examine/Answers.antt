@@ -18,7 +18,7 @@ close-requires-clause-reason c = cut-reason c.args.self.now c.args.node (examine
 
 pub close-requires-clause-event : goal.close-requires-clause-event
 close-requires-clause-event c =
-    cut-reachable c.args.self.now c.args.node (examine_refusal-none c.args.self.now c.args.node (sym c.examine_refusal.ensures ∙ c.in_default.is)) (sym c.has_cut.ensures ∙ c.if-has_cut.true) (subst IsReachable c.self.view_is c.self.invariant.pool.reachable)
+    cut-reachable c.args.self.now c.args.node (examine_refusal-none c.args.self.now c.args.node (sym c.examine_refusal.ensures ∙ c.in_default.is)) (sym c.has_cut.ensures ∙ c.if-has_cut.true) (subst IsReachable c.self.view_is c.self.invariant.kept.pool.reachable)
 
 pub returns-then-has_cut : goal.returns-then-has_cut
 returns-then-has_cut c = record {

@@ -14,26 +14,26 @@ use Rattle.pool_core.proofs.pool.Pool.found.Goals as goal
 pub index-requires : goal.index-requires
 index-requires c =
     let some : IsSome (round_of (the_view c.self.inside) c.args.node) = subst (λ (s : State). IsSome (round_of s c.args.node)) (sym c.self.view_is) c.requires.round in
-    let within : c.args.node.0 < length c.self.inside.grounds.items = rows-within (the_view c.self.inside) c.args.node c.self.inside.grounds.items c.self.invariant.has_grounds (has-round (the_view c.self.inside) c.args.node some) in
+    let within : c.args.node.0 < length c.self.inside.grounds.items = rows-within (the_view c.self.inside) c.args.node c.self.inside.grounds.items c.self.invariant.kept.has_grounds (has-round (the_view c.self.inside) c.args.node some) in
     search rules
 
 pub unwrap-rows-requires : goal.unwrap-rows-requires
 unwrap-rows-requires c =
     let some : IsSome (round_of (the_view c.self.inside) c.args.node) = subst (λ (s : State). IsSome (round_of s c.args.node)) (sym c.self.view_is) c.requires.round in
     let h = has-round (the_view c.self.inside) c.args.node some in
-    let w = read-rows (the_view c.self.inside) c.args.node c.self.inside.grounds.items c.index.result.now (IsReachable-sound (the_view c.self.inside) c.self.invariant.pool.reachable) c.self.invariant.has_grounds h c.index.ensures in
+    let w = read-rows (the_view c.self.inside) c.args.node c.self.inside.grounds.items c.index.result.now (IsReachable-sound (the_view c.self.inside) c.self.invariant.kept.pool.reachable) c.self.invariant.kept.has_grounds h c.index.ensures in
     shown-some _ _ _ (c.rows.ensures ∙ w.1) refl
 
 pub find-requires-clause-prices : goal.find-requires-clause-prices
 find-requires-clause-prices c =
-    prices-fit c.args.self.now c.args.node _ _ c.round_at-round.result.now (subst IsReachable c.self.view_is c.self.invariant.pool.reachable) c.requires.round
+    prices-fit c.args.self.now c.args.node _ _ c.round_at-round.result.now (subst IsReachable c.self.view_is c.self.invariant.kept.pool.reachable) c.requires.round
     (c.deref.ensures ∙ ap (λ (s : State). s.problem) c.self.view_is) c.round_at-round.ensures c.prices.ensures
 
 pub returns : goal.returns
 returns c =
-    let reachable : IsReachable c.args.self.now = subst IsReachable c.self.view_is c.self.invariant.pool.reachable in
+    let reachable : IsReachable c.args.self.now = subst IsReachable c.self.view_is c.self.invariant.kept.pool.reachable in
     let keeps : HasGrounds c.args.self.now.problem c.args.self.now.nodes c.self.inside.grounds.items =
-    subst (λ (s : State). HasGrounds s.problem s.nodes c.self.inside.grounds.items) c.self.view_is c.self.invariant.has_grounds in
+    subst (λ (s : State). HasGrounds s.problem s.nodes c.self.inside.grounds.items) c.self.view_is c.self.invariant.kept.has_grounds in
     let h : HasRound c.args.self.now c.args.node = has-round c.args.self.now c.args.node c.requires.round in
     let w = read-rows c.args.self.now c.args.node c.self.inside.grounds.items c.index.result.now (IsReachable-sound c.args.self.now reachable) keeps h c.index.ensures in
     let shown : Some (arc_value c.unwrap-rows.result.now) ≡ Some w.0 = shown-value _ _ _ _ c.rows.ensures c.unwrap-rows.ensures ∙ w.1 in

@@ -5,7 +5,7 @@ use Rattle.pool_machine.proofs.Runs.{IsReachable-sound}
 use Rattle.pool_core.proofs.pool.Pool.instance.Goals as goal
 
 pub returns-clause-reachable : goal.returns-clause-reachable
-returns-clause-reachable c = subst IsReachable c.self.view_is c.self.invariant.pool.reachable
+returns-clause-reachable c = subst IsReachable c.self.view_is c.self.invariant.kept.pool.reachable
 
 pub returns-clause-sound : goal.returns-clause-sound
-returns-clause-sound c = subst IsSound c.self.view_is (IsReachable-sound _ c.self.invariant.pool.reachable)
+returns-clause-sound c = subst IsSound c.self.view_is (IsReachable-sound _ c.self.invariant.kept.pool.reachable)

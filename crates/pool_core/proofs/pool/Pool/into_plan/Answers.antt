@@ -2,9 +2,9 @@ use Rattle.pool_core.proofs.pool.Pool.into_plan.Goals as goal
 
 pub invariant_of-assembly : goal.invariant_of-assembly
 invariant_of-assembly c = record {
-  reachable = c.self.invariant.pool.reachable;
-  some_budget = c.self.invariant.pool.some_budget;
-  budget = c.self.invariant.pool.budget;
-  table_is = c.self.invariant.table_is;
-  has_grounds = c.self.invariant.has_grounds;
+  reachable = c.self.invariant.kept.pool.reachable;
+  some_budget = c.self.invariant.kept.pool.some_budget;
+  budget = c.self.invariant.kept.pool.budget;
+  table_is = c.self.invariant.kept.table_is;
+  has_grounds = c.self.invariant.kept.has_grounds;
 }

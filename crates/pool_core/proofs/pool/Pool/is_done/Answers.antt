@@ -10,4 +10,4 @@ returns-else-self c =
     let count : c.len.result ≡ length c.self.inside.nodes.items = search rules in
     let unspent : (c.self.inside.examined == c.self.inside.budget) ≡ false = search (rules, tests) in
     subst (λ (n : ℕ). nat_eq n c.self.inside.examined ≡ is_done c.args.self.now) (sym count)
-    (done-count (the_view c.self.inside) (IsReachable-sound (the_view c.self.inside) c.self.invariant.pool.reachable) unspent ∙ ap is_done c.self.view_is)
+    (done-count (the_view c.self.inside) (IsReachable-sound (the_view c.self.inside) c.self.invariant.kept.pool.reachable) unspent ∙ ap is_done c.self.view_is)

@@ -11,9 +11,9 @@ pub round_at-requires : goal.round_at-requires
 round_at-requires c = some_and-some (λ (round : Round). left_of round ≡ 0) _ c.requires
 
 pub new_design-requires-clause-table : goal.new_design-requires-clause-table
-new_design-requires-clause-table c = c.deref-2.ensures ∙ (c.self.invariant.table_is ∙ sym c.deref.ensures)
+new_design-requires-clause-table c = c.deref-2.ensures ∙ (c.self.invariant.kept.table_is ∙ sym c.deref.ensures)
 
 pub new_design-requires-clause-paths : goal.new_design-requires-clause-paths
 new_design-requires-clause-paths c =
     subst (λ (p : Parts). ArePaths p c.in_ok-paths.paths) (sym (c.deref.ensures ∙ ap (λ (s : State). s.problem) c.self.view_is))
-    (complete-paths c.args.self.now c.args.node c.round_at.result.now c.in_ok-paths.paths (subst IsReachable c.self.view_is c.self.invariant.pool.reachable) c.requires c.round_at.ensures c.in_ok-paths.ensures)
+    (complete-paths c.args.self.now c.args.node c.round_at.result.now c.in_ok-paths.paths (subst IsReachable c.self.view_is c.self.invariant.kept.pool.reachable) c.requires c.round_at.ensures c.in_ok-paths.ensures)

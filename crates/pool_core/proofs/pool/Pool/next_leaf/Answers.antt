@@ -11,7 +11,7 @@ loop-place-init c = record { found = tt; none = λ e n below. absurd (omega arit
 
 pub overflow_cast-place : goal.overflow_cast-place
 overflow_cast-place c =
-    let few : length c.self.inside.nodes.items ≤ 8193 = nodes-few (the_view c.self.inside) c.self.inside.places.items c.self.invariant.pool in
+    let few : length c.self.inside.nodes.items ≤ 8193 = nodes-few (the_view c.self.inside) c.self.inside.places.items c.self.invariant.kept.pool in
     search rules
 
 pub loop-place-preserved : goal.loop-place-preserved
@@ -26,6 +26,6 @@ returns c = record {
   none = λ e.
       let all : length (the_view c.self.inside).nodes ≤ c.loop-place.place = search rules in
       let all_places : length c.args.self.now.nodes ≤ c.loop-place.place = subst (λ (s : State). length s.nodes ≤ c.loop-place.place) c.self.view_is all in
-      never-none c.args.self.now (subst IsReachable c.self.view_is c.self.invariant.pool.reachable) c.requires.not_done
+      never-none c.args.self.now (subst IsReachable c.self.view_is c.self.invariant.kept.pool.reachable) c.requires.not_done
       (λ n below. c.loop-place.invariant.none e n (omega (arith, all_places, below)));
 }

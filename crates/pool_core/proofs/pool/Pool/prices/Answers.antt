@@ -13,19 +13,19 @@ pub index-requires : goal.index-requires
 index-requires c =
     let named : holder_in (slice_get c.self.inside.places.items c.args.slot) ≡ Some c.in-Some.node =
     subst (λ (xs : List Slot). holder_in (slice_get xs c.args.slot) ≡ Some c.in-Some.node) c.as_slice.ensures.value (sym c.holder.ensures ∙ c.in-Some.is) in
-    let within : c.in-Some.node.0 < length c.self.inside.nodes.items = holder-within (the_view c.self.inside) c.self.inside.places.items c.self.invariant.pool c.args.slot c.in-Some.node named in
+    let within : c.in-Some.node.0 < length c.self.inside.nodes.items = holder-within (the_view c.self.inside) c.self.inside.places.items c.self.invariant.kept.pool c.args.slot c.in-Some.node named in
     search rules
 
 pub returns-in-Some : goal.returns-in-Some
 returns-in-Some c =
     let named : holder_in (slice_get c.self.inside.places.items c.args.slot) ≡ Some c.in-Some.node =
     subst (λ (xs : List Slot). holder_in (slice_get xs c.args.slot) ≡ Some c.in-Some.node) c.as_slice.ensures.value (sym c.holder.ensures ∙ c.in-Some.is) in
-    let within : c.in-Some.node.0 < length c.self.inside.nodes.items = holder-within (the_view c.self.inside) c.self.inside.places.items c.self.invariant.pool c.args.slot c.in-Some.node named in
+    let within : c.in-Some.node.0 < length c.self.inside.nodes.items = holder-within (the_view c.self.inside) c.self.inside.places.items c.self.invariant.kept.pool c.args.slot c.in-Some.node named in
     if_ok c.published.result _ _
     (λ found shown. subst (λ (s : State). IsPublishedAt s c.args.slot found) c.self.view_is
     (published-here (the_view c.self.inside) c.args.slot c.in-Some.node c.index.result.now found
     (slice_get-get_or c.self.inside.nodes.items c.in-Some.node.0 c.index.result.now within ∙ ap (λ (x : _). Some x) (sym c.index.ensures))
-    (held-by (the_view c.self.inside) c.self.inside.places.items c.self.invariant.pool c.args.slot c.in-Some.node named) shown))
+    (held-by (the_view c.self.inside) c.self.inside.places.items c.self.invariant.kept.pool c.args.slot c.in-Some.node named) shown))
     c.published.ensures
 
 pub returns-in-None : goal.returns-in-None
@@ -33,4 +33,4 @@ returns-in-None c =
     let none : holder_in (slice_get c.self.inside.places.items c.args.slot) ≡ None =
     subst (λ (xs : List Slot). holder_in (slice_get xs c.args.slot) ≡ None) c.as_slice.ensures.value (sym c.holder.ensures ∙ c.in-None.is) in
     subst (λ (s : State). IsPublishedAt s c.args.slot None) c.self.view_is
-    (none-published (the_view c.self.inside) c.self.inside.places.items c.self.invariant.pool c.args.slot none)
+    (none-published (the_view c.self.inside) c.self.inside.places.items c.self.invariant.kept.pool c.args.slot none)

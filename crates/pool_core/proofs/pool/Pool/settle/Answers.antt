@@ -1,39 +1,37 @@
-use Rattle.std.proofs.Common.{◌≡◌, ◌<◌, length, rules, None, sym, subst, ◌∙◌, ap}
-use Rattle.pool_core.specs.contracts.pool.Pool.{the_view}
-use Rattle.pool_machine.specs.State.{State, Node}
-use Rattle.pool_machine.specs.Settling.{settle_fault, Settles}
-use Rattle.pool_machine.specs.Changes.{with_node}
-use Rattle.pool_core.proofs.Answering.{settle_fault-within, settle_fault-settles, settle_fault-refusal, settle-IsPool}
-use Rattle.pool_nodes.proofs.Grounds.{HasGrounds-set}
+use Rattle.std.proofs.Common.{sym, subst, ◌∙◌, rules}
+use Rattle.std.proofs.lemmas.Int.{to_z-of_z}
+use mir.Syntax.{w128}
+use mir.Val.{SFits}
+use Rattle.pool_machine.specs.State.{State}
+use Rattle.pool_machine.specs.Settling.{Settles}
+use Rattle.pool_core.specs.Valuing.{IsToSettle}
+use Rattle.pool_core.proofs.Answering.{settle_fault-none, settle_fault-refusal}
+use Rattle.pool_core.proofs.Valuing.{if_some, if_none}
+use Rattle.pool_core.proofs.Settlings.{to-gathered, to-settle, improvable}
 use Rattle.pool_core.proofs.pool.Pool.settle.Goals as goal
 
 pub returns-in-Some : goal.returns-in-Some
 returns-in-Some c = record { event = settle_fault-refusal c.args.self.now c.args.node c.args.version c.in-Some.refusal (sym c.settle_refusal.ensures ∙ c.in-Some.is) }
 
-pub index_mut-settled-requires : goal.index_mut-settled-requires
-index_mut-settled-requires c =
-    let below : c.args.node.0 < length c.self.inside.nodes.items = settle_fault-within (the_view c.self.inside) c.args.node c.args.version
-    (subst (λ (s : State). settle_fault s c.args.node c.args.version ≡ None) (sym c.self.view_is) (sym c.settle_refusal.ensures ∙ c.in_default.is)) in
-    search rules
+pub improvement-requires : goal.improvement-requires
+improvement-requires c =
+    to-gathered c.args.self.now c.args.node c.args.version (settle_fault-none c.args.self.now c.args.node c.args.version (sym c.settle_refusal.ensures ∙ c.in_default.is))
 
-pub invariant_of-self : goal.invariant_of-self
-invariant_of-self c = record {
-  pool =
-      settle-IsPool (the_view c.self.inside) _ c.self.inside.places.items c.args.node c.args.version c.self.invariant.pool
-      (settle_fault-settles (the_view c.self.inside) c.args.node c.args.version c.index_mut-settled.result.now c.settle.new.self
-      (subst (λ (s : State). settle_fault s c.args.node c.args.version ≡ None) (sym c.self.view_is) (sym c.settle_refusal.ensures ∙ c.in_default.is))
-      c.index_mut-settled.ensures.value c.settle.ensures);
-  table_is = c.self.invariant.table_is;
-  has_grounds = HasGrounds-set _ c.self.inside.nodes.items c.self.inside.grounds.items c.args.node.0 c.index_mut-settled.result.now c.settle.new.self
-      (settle_fault-within (the_view c.self.inside) c.args.node c.args.version
-      (subst (λ (s : State). settle_fault s c.args.node c.args.version ≡ None) (sym c.self.view_is) (sym c.settle_refusal.ensures ∙ c.in_default.is)))
-      c.index_mut-settled.ensures.value (ap (λ (x : Node). x.limits) c.settle.ensures) (ap (λ (x : Node). x.fate) c.settle.ensures) c.self.invariant.has_grounds;
-}
+pub returns-in-Some-improvement : goal.returns-in-Some-improvement
+returns-in-Some-improvement c =
+    let g = settle_fault-none c.args.self.now c.args.node c.args.version (sym c.settle_refusal.ensures ∙ c.in_default.is) in
+    let old_fits : SFits w128 c.in-Some-improvement.old = search rules in
+    let new_fits : SFits w128 c.in-Some-improvement.new = search rules in
+    record {
+      event = rw (to_z-of_z w128 c.in-Some-improvement.old old_fits, to_z-of_z w128 c.in-Some-improvement.new new_fits)
+          (improvable c.args.self.now c.improvement.new.self c.args.node c.args.version c.in-Some-improvement.old c.in-Some-improvement.new g (if_some c.improvement.result _ _ c.in-Some-improvement.is c.improvement.ensures.some) c.improvement.ensures.unchanged);
+    }
+
+pub mark_settled-requires : goal.mark_settled-requires
+mark_settled-requires c =
+    let g = settle_fault-none c.args.self.now c.args.node c.args.version (sym c.settle_refusal.ensures ∙ c.in_default.is) in
+    subst (λ (x : State). IsToSettle x c.args.node c.args.version) (sym c.improvement.ensures.unchanged)
+    (to-settle c.args.self.now c.args.node c.args.version g (if_none c.improvement.result _ c.in_default-improvement.is c.improvement.ensures.none))
 
 pub returns : goal.returns
-returns c = record {
-  event = subst (λ (s : State). Settles s c.args.node c.args.version (with_node (the_view c.self.inside) c.args.node c.settle.new.self)) c.self.view_is
-      (settle_fault-settles (the_view c.self.inside) c.args.node c.args.version c.index_mut-settled.result.now c.settle.new.self
-      (subst (λ (s : State). settle_fault s c.args.node c.args.version ≡ None) (sym c.self.view_is) (sym c.settle_refusal.ensures ∙ c.in_default.is))
-      c.index_mut-settled.ensures.value c.settle.ensures);
-}
+returns c = record { event = subst (λ (x : State). Settles x c.args.node c.args.version c.mark_settled.new.self) c.improvement.ensures.unchanged c.mark_settled.ensures }

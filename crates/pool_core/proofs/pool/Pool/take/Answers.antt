@@ -16,22 +16,26 @@ use Rattle.pool_core.proofs.pool.Pool.take.Goals as goal
 pub index_mut-priced-requires : goal.index_mut-priced-requires
 index_mut-priced-requires c =
     let s = the_view c.self.inside in
-    let sound : IsSound s = IsReachable-sound s c.self.invariant.pool.reachable in
+    let sound : IsSound s = IsReachable-sound s c.self.invariant.kept.pool.reachable in
     let may : MayOffer s c.args.offer = offer_fault-none s c.args.offer sound (subst (λ (s : State). offer_fault s c.args.offer ≡ None) (sym c.self.view_is) c.requires) in
     let within : c.args.offer.node.0 < length c.self.inside.nodes.items = slice_get_within c.self.inside.nodes.items c.args.offer.node.0 may.node may.fits.is_node in
     search rules
 
 pub invariant_of-self : goal.invariant_of-self
-invariant_of-self c =
-    let s = the_view c.self.inside in
-    let sound : IsSound s = IsReachable-sound s c.self.invariant.pool.reachable in
-    let may : MayOffer s c.args.offer = offer_fault-none s c.args.offer sound (subst (λ (s : State). offer_fault s c.args.offer ≡ None) (sym c.self.view_is) c.requires) in
-    cut-kept s c.args.offer may c.index_mut-priced.result.now c.index_mut-priced.ensures.value c.in-NoPath.reached c.in-NoPath.is c.hold_cut.new.self c.hold_cut.ensures _ c.self.inside.grounds.items c.self.inside.places.items c.self.invariant
+invariant_of-self c = record {
+  kept = (
+      let s = the_view c.self.inside in
+      let sound : IsSound s = IsReachable-sound s c.self.invariant.kept.pool.reachable in
+      let may : MayOffer s c.args.offer = offer_fault-none s c.args.offer sound (subst (λ (s : State). offer_fault s c.args.offer ≡ None) (sym c.self.view_is) c.requires) in
+      cut-kept s c.args.offer may c.index_mut-priced.result.now c.index_mut-priced.ensures.value c.in-NoPath.reached c.in-NoPath.is c.hold_cut.new.self c.hold_cut.ensures _ c.self.inside.grounds.items c.self.inside.places.items c.self.invariant.kept
+      );
+  room_is = c.self.invariant.room_is;
+}
 
 pub returns-in-NoPath : goal.returns-in-NoPath
 returns-in-NoPath c =
     let s = the_view c.self.inside in
-    let sound : IsSound s = IsReachable-sound s c.self.invariant.pool.reachable in
+    let sound : IsSound s = IsReachable-sound s c.self.invariant.kept.pool.reachable in
     let may : MayOffer s c.args.offer = offer_fault-none s c.args.offer sound (subst (λ (s : State). offer_fault s c.args.offer ≡ None) (sym c.self.view_is) c.requires) in
     record {
       event = subst (λ (s : State). TakesCut s c.args.offer (with_node (the_view c.self.inside) c.args.offer.node c.hold_cut.new.self)) c.self.view_is
@@ -41,14 +45,14 @@ returns-in-NoPath c =
 pub put-left-requires-clause-sound : goal.put-left-requires-clause-sound
 put-left-requires-clause-sound c =
     let s = the_view c.self.inside in
-    let sound : IsSound s = IsReachable-sound s c.self.invariant.pool.reachable in
+    let sound : IsSound s = IsReachable-sound s c.self.invariant.kept.pool.reachable in
     let may : MayOffer s c.args.offer = offer_fault-none s c.args.offer sound (subst (λ (s : State). offer_fault s c.args.offer ≡ None) (sym c.self.view_is) c.requires) in
     subst (λ (p : Parts). IsSoundNode p c.index_mut-priced.result.now) (sym c.deref.ensures) (put-sound s c.args.offer may c.index_mut-priced.result.now c.index_mut-priced.ensures.value sound)
 
 pub put-left-requires-clause-round : goal.put-left-requires-clause-round
 put-left-requires-clause-round c =
     let s = the_view c.self.inside in
-    let sound : IsSound s = IsReachable-sound s c.self.invariant.pool.reachable in
+    let sound : IsSound s = IsReachable-sound s c.self.invariant.kept.pool.reachable in
     let may : MayOffer s c.args.offer = offer_fault-none s c.args.offer sound (subst (λ (s : State). offer_fault s c.args.offer ≡ None) (sym c.self.view_is) c.requires) in
     subst (λ (p : Parts). IsSomeAnd c.index_mut-priced.result.now.round (λ round. (slice_get round.found c.args.offer.demand.0 ≡ Some None)
     × IsLeastPath p round.prices c.args.offer.demand.0 (restriction_of c.index_mut-priced.result.now) c.in-Path.path c.in-Path.length)) (sym c.deref.ensures)
@@ -57,26 +61,30 @@ put-left-requires-clause-round c =
 pub overflow_add-self : goal.overflow_add-self
 overflow_add-self c =
     let s = the_view c.self.inside in
-    let sound : IsSound s = IsReachable-sound s c.self.invariant.pool.reachable in
+    let sound : IsSound s = IsReachable-sound s c.self.invariant.kept.pool.reachable in
     let may : MayOffer s c.args.offer = offer_fault-none s c.args.offer sound (subst (λ (s : State). offer_fault s c.args.offer ≡ None) (sym c.self.view_is) c.requires) in
     let takes = subst (λ (p : Parts). IfSome c.index_mut-priced.result.now.round (λ round. TakesRound p c.index_mut-priced.result.now (with_found round c.args.offer.demand.0 (record { path = c.in-Path.path; price = c.in-Path.length })) c.put-left.new.self))
     c.deref.ensures c.put-left.ensures.takes in
-    let small : c.self.inside.accepted + 1 < 2 ^ 64 = accepted-small s c.args.offer may c.index_mut-priced.result.now c.index_mut-priced.ensures.value (record { path = c.in-Path.path; price = c.in-Path.length }) _ c.in-Path.is c.put-left.result (c.self.inside.accepted + 1) c.put-left.new.self c.put-left.ensures.left takes (add-one c.self.inside.accepted) c.self.inside.places.items c.self.invariant.pool in
+    let small : c.self.inside.accepted + 1 < 2 ^ 64 = accepted-small s c.args.offer may c.index_mut-priced.result.now c.index_mut-priced.ensures.value (record { path = c.in-Path.path; price = c.in-Path.length }) _ c.in-Path.is c.put-left.result (c.self.inside.accepted + 1) c.put-left.new.self c.put-left.ensures.left takes (add-one c.self.inside.accepted) c.self.inside.places.items c.self.invariant.kept.pool in
     search rules
 
 pub invariant_of-self-in-Path : goal.invariant_of-self-in-Path
-invariant_of-self-in-Path c =
-    let s = the_view c.self.inside in
-    let sound : IsSound s = IsReachable-sound s c.self.invariant.pool.reachable in
-    let may : MayOffer s c.args.offer = offer_fault-none s c.args.offer sound (subst (λ (s : State). offer_fault s c.args.offer ≡ None) (sym c.self.view_is) c.requires) in
-    let takes = subst (λ (p : Parts). IfSome c.index_mut-priced.result.now.round (λ round. TakesRound p c.index_mut-priced.result.now (with_found round c.args.offer.demand.0 (record { path = c.in-Path.path; price = c.in-Path.length })) c.put-left.new.self))
-    c.deref.ensures c.put-left.ensures.takes in
-    accepted-kept s c.args.offer may c.index_mut-priced.result.now c.index_mut-priced.ensures.value (record { path = c.in-Path.path; price = c.in-Path.length }) _ c.in-Path.is c.put-left.result (c.self.inside.accepted + 1) c.put-left.new.self c.put-left.ensures.left takes (add-one c.self.inside.accepted) _ c.self.inside.grounds.items c.self.inside.places.items c.self.invariant
+invariant_of-self-in-Path c = record {
+  kept = (
+      let s = the_view c.self.inside in
+      let sound : IsSound s = IsReachable-sound s c.self.invariant.kept.pool.reachable in
+      let may : MayOffer s c.args.offer = offer_fault-none s c.args.offer sound (subst (λ (s : State). offer_fault s c.args.offer ≡ None) (sym c.self.view_is) c.requires) in
+      let takes = subst (λ (p : Parts). IfSome c.index_mut-priced.result.now.round (λ round. TakesRound p c.index_mut-priced.result.now (with_found round c.args.offer.demand.0 (record { path = c.in-Path.path; price = c.in-Path.length })) c.put-left.new.self))
+      c.deref.ensures c.put-left.ensures.takes in
+      accepted-kept s c.args.offer may c.index_mut-priced.result.now c.index_mut-priced.ensures.value (record { path = c.in-Path.path; price = c.in-Path.length }) _ c.in-Path.is c.put-left.result (c.self.inside.accepted + 1) c.put-left.new.self c.put-left.ensures.left takes (add-one c.self.inside.accepted) _ c.self.inside.grounds.items c.self.inside.places.items c.self.invariant.kept
+      );
+  room_is = c.self.invariant.room_is;
+}
 
 pub returns-in-Path : goal.returns-in-Path
 returns-in-Path c =
     let s = the_view c.self.inside in
-    let sound : IsSound s = IsReachable-sound s c.self.invariant.pool.reachable in
+    let sound : IsSound s = IsReachable-sound s c.self.invariant.kept.pool.reachable in
     let may : MayOffer s c.args.offer = offer_fault-none s c.args.offer sound (subst (λ (s : State). offer_fault s c.args.offer ≡ None) (sym c.self.view_is) c.requires) in
     let takes = subst (λ (p : Parts). IfSome c.index_mut-priced.result.now.round (λ round. TakesRound p c.index_mut-priced.result.now (with_found round c.args.offer.demand.0 (record { path = c.in-Path.path; price = c.in-Path.length })) c.put-left.new.self))
     c.deref.ensures c.put-left.ensures.takes in

@@ -11,7 +11,7 @@ returns-in_default-restriction c =
     let s = c.args.self.now in
     let id = c.args.offer.now.node in
     let is : round_of s id ≡ Some c.in-Some.round.now = sym c.in-Some.ensures in
-    let reachable : IsReachable s = subst IsReachable c.self.view_is c.self.invariant.pool.reachable in
+    let reachable : IsReachable s = subst IsReachable c.self.view_is c.self.invariant.kept.pool.reachable in
     let has : IsSome c.restriction.result = c.restriction.ensures.leaf.1 (unfit-open s id c.in-Some.round.now is reachable) in
     let bad : false ≡ true = rw c.in_default-restriction.is at has in
     absurd (cc)
@@ -21,7 +21,7 @@ fault_of-requires-clause-prices c =
     let s = c.args.self.now in
     let id = c.args.offer.now.node in
     let is : round_of s id ≡ Some c.in-Some.round.now = sym c.in-Some.ensures in
-    let reachable : IsReachable s = subst IsReachable c.self.view_is c.self.invariant.pool.reachable in
+    let reachable : IsReachable s = subst IsReachable c.self.view_is c.self.invariant.kept.pool.reachable in
     unfit-prices s id c.in-Some.round.now is s.problem c.in-Some.round.now.prices reachable refl refl
 
 pub returns : goal.returns

@@ -1,0 +1,180 @@
+-- What a master task of one thread does: the columns are gathered, and prices are published or the node is settled.
+use Rattle.std.proofs.Common.{◌≡◌, ℕ, ◌<◌, ◌≤◌, ◌⊎◌, inl, inr, Bool, true, false, List, length, slice_index, Some, None, slice_get, refl, sym, ap, subst, ◌∙◌, arith}
+use Rattle.std.specs.Prelude.{Result, Ok, Err, if◌then◌else◌}
+use Rattle.std.specs.declared.alloc.AllocError.{AllocError}
+use Rattle.std.proofs.lemmas.List.Elements.{All-from_get_or}
+use Rattle.plan_base.specs.declared.ids.BranchId.{BranchId}
+use Rattle.plan_base.specs.declared.parts.Parts.{Parts}
+use Rattle.plan_base.specs.Facts.{price_limit, is_useful}
+use Rattle.plan_base.specs.Arcs.{link_at}
+use Rattle.arc_restrict.specs.Prices.{AreWithinLimit}
+use Rattle.column_pool.specs.declared.brief.Brief.{Brief}
+use Rattle.column_pool.specs.Columns.{columns_at}
+use Rattle.column_pool.specs.Briefs.{IsBriefFor}
+use Rattle.master_step.specs.Columns.{HasColumns}
+use Rattle.master_step.specs.Outcomes.{HasStalled, AreCrowdPrices}
+use Rattle.leaf_work.specs.Advances.{IsNext}
+use Rattle.pool_machine.specs.declared.limits.TheConstants.{MAX_VERSIONS}
+use Rattle.pool_machine.specs.declared.answers.Gather.{Gather}
+use Rattle.pool_machine.specs.declared.answers.Gather.TheVariants as gather
+use Rattle.pool_machine.specs.declared.answers.Publish.{Publish}
+use Rattle.pool_machine.specs.declared.answers.Settle.{Settle}
+use Rattle.pool_machine.specs.State.{Node, State}
+use Rattle.pool_machine.specs.Gathering.{columns_for, GatherStep}
+use Rattle.pool_machine.specs.Settling.{SettleStep}
+use Rattle.pool_machine.specs.Publishing.{MayFollow, IsBetterStep, IsCrowdStep, PublishStep}
+use Rattle.pool_machine.specs.Machine.{Gathering, Publishing, Settling, to_gathering, to_publishing, to_settling, IsReachable}
+use Rattle.pool_machine.specs.Soundness.{IsSound}
+use Rattle.pool_machine.specs.Tasks.{LeadsTo, IsToAdvance}
+use Rattle.pool_machine.proofs.Frames.{one_at}
+use Rattle.pool_machine.proofs.Leads.{LeadsTo-one, LeadsTo-trans}
+use Rattle.pool_machine.proofs.Runs.{IsReachable-sound}
+use Rattle.pool_machine.proofs.MasterEvents.{gather-goes, gather-gathers, brief-fits, settle-goes, same-stalled, rise-better, publish-goes}
+use Rattle.pool_machine.proofs.GatheredRounds.{gathered-columns}
+use Rattle.pool_core.specs.Valuing.{IsCompleteAt}
+use Rattle.pool_core.specs.Work.{IsCloser, KeepsNodes, IsBriefed}
+use Rattle.pool_core.proofs.Steps.{keeps-same, settled-closer, published-closer}
+
+-- Gathering
+
+keeps-columns : (s t u : State) → LeadsTo s t → t ≡ u → u.problem ≡ s.problem → u.nodes ≡ s.nodes → u.examined ≡ s.examined → u.budget ≡ s.budget → KeepsNodes s t
+keeps-columns s t u leads is p n e b = record {
+  leads = leads;
+  problem = ap (λ (x : State). x.problem) is ∙ p;
+  nodes = ap (λ (x : State). x.nodes) is ∙ n;
+  examined = ap (λ (x : State). x.examined) is ∙ e;
+  budget = ap (λ (x : State). x.budget) is ∙ b;
+}
+
+pub gathered-keeps : (s t : State) (id : BranchId) (version : ℕ) (answer : Result Gather AllocError) → GatherStep s id version answer t → KeepsNodes s t
+gathered-keeps s t id version answer e = by answer e (LeadsTo-one s t (Gathering id version) (to_gathering answer) e)
+  where
+    same : t ≡ s → KeepsNodes s t
+    same is = subst (KeepsNodes s) (sym is) (keeps-same s)
+
+    by : (a : Result Gather AllocError) → GatherStep s id version a t → LeadsTo s t → KeepsNodes s t
+    by (Ok (gather.Taken brief)) x leads = keeps-columns s t _ leads x.becomes refl refl refl refl
+    by (Ok (gather.Spent y)) x leads = same x.1
+    by (Ok (gather.Stale y)) x leads = same x.1
+    by (Ok (gather.Incomplete y)) x leads = same x.1
+    by (Err wanting) x leads = elim x [ inl is ↦ same is | inr front ↦ keeps-columns s t _ leads front.becomes refl refl refl refl ]
+
+module _ (s t : State) (id : BranchId) (version : ℕ) (reachable : IsReachable s) (h : IsCompleteAt s id version) where
+  -- a gathering that takes no memory away is taken
+  pub told-taken : (answer : Gather) → GatherStep s id version (Ok answer) t → ((brief : Brief) → answer ≡ gather.Taken brief → ⊥) → ⊥
+  told-taken answer e refused = let w = gather-goes s t id version h.node h.round answer h.is_complete e in refused w.0 w.1
+
+  pub told-briefed : (answer : Gather) (brief : Brief) → answer ≡ gather.Taken brief → GatherStep s id version (Ok answer) t → IsBriefed t id version brief
+  told-briefed answer brief is step =
+      let e : GatherStep s id version (Ok (gather.Taken brief)) t = subst (λ (a : Gather). GatherStep s id version (Ok a) t) is step in
+      record {
+        node = e.node;
+        round = e.round;
+        is_gathered = gather-gathers s t id version brief (IsReachable-sound s reachable) e;
+        is_brief = e.is_brief;
+      }
+
+-- What the brief is for
+
+module _ (t : State) (id : BranchId) (version : ℕ) (brief : Brief) (sound : IsSound t) (b : IsBriefed t id version brief) where
+  pub briefed-fits : IsBriefFor t.problem brief.prices brief.columns
+  briefed-fits = brief-fits t id version b.node b.round brief sound b.is_gathered.complete_round b.is_brief
+
+  pub briefed-columns : HasColumns t.problem (columns_at brief.columns)
+  briefed-columns k below =
+      subst (λ (paths : List _). 0 < length paths) (sym (b.is_brief.columns k below)) (gathered-columns t id version b.node b.round sound b.is_gathered k below)
+
+  -- what is settled or published
+
+  briefed-tried : brief.crowd_tried ≡ true → b.node.crowd_tried ≡ true
+  briefed-tried h = sym b.is_brief.crowd_tried ∙ h
+
+  pub briefed-no_more : IsNext t.problem brief None → (b.node.crowd_tried ≡ true) ⊎ HasStalled t.problem (columns_for t b.node) b.round.prices
+  briefed-no_more h = elim h [
+    | inl tried ↦ inl (briefed-tried tried)
+    | inr stalled ↦ inr (same-stalled t id b.node b.round brief stalled.0 b.is_brief stalled.1)
+  ]
+
+  pub briefed-gains : (prices : List ℕ) → IsNext t.problem brief (Some prices) → IsBetterStep t b.node b.round prices ⊎ IsCrowdStep t b.node b.round prices
+  briefed-gains prices h = elim h [
+    | inl raised ↦ inl (rise-better t id b.node b.round brief raised.old prices raised.new b.is_brief raised.is_rise)
+    | inr crowd ↦ inr (record {
+      not_tried = sym b.is_brief.crowd_tried ∙ crowd.not_tried;
+      crowding = record {
+        stalled = same-stalled t id b.node b.round brief crowd.stalled.0 b.is_brief crowd.stalled.1;
+        are_crowd = subst (λ (ps : List ℕ). AreCrowdPrices t.problem ps prices) b.is_brief.prices crowd.are_crowd;
+      };
+    })
+  ]
+
+crowd-within : (p : Parts) (old new : List ℕ) → length old ≡ length p.links → AreWithinLimit p old → AreCrowdPrices p old new → AreWithinLimit p new
+crowd-within p old new count within h =
+    All-from_get_or (λ price. price ≤ price_limit p) new 0 (λ e here.
+    (let below : e < length p.links = omega (arith, h.count) in
+    subst (λ (x : ℕ). x ≤ price_limit p) (sym (h.each e below)) (either (is_useful (link_at p e)) (slice_index old e) (within e 0 (omega (arith, count))))))
+  where
+    either : (b : Bool) (price : ℕ) → price ≤ price_limit p → (if b then 0 else price) ≤ price_limit p
+    either true price most = omega arith
+    either false price most = most
+
+next-count : (p : Parts) (brief : Brief) (prices : List ℕ) → IsNext p brief (Some prices) → length prices ≡ length p.links
+next-count p brief prices h = elim h [ inl raised ↦ raised.is_rise.are_prices.count | inr crowd ↦ crowd.are_crowd.count ]
+
+next-within : (p : Parts) (brief : Brief) (prices : List ℕ) → IsBriefFor p brief.prices brief.columns → IsNext p brief (Some prices) → AreWithinLimit p prices
+next-within p brief prices fits h = elim h [
+  | inl raised ↦ raised.is_rise.are_prices.within
+  | inr crowd ↦ crowd-within p brief.prices prices fits.price_count fits.price_limit crowd.are_crowd
+]
+
+-- The whole task: from s a design is sought, which leads to r, and the columns are gathered, which leads to t
+
+-- the round that is gone on with is complete, after steps that keep the nodes
+pub advancing-complete : (s t : State) (id : BranchId) (version : ℕ) → IsToAdvance s id version → KeepsNodes s t → IsCompleteAt t id version
+advancing-complete s t id version advance keeps = record {
+  node = advance.node;
+  round = advance.round;
+  is_complete = record {
+    not_spent = (let spent = advance.not_spent in let e = keeps.examined in let b = keeps.budget in omega arith);
+    is_node = ap (λ (xs : List Node). slice_get xs id.0) keeps.nodes ∙ advance.active.is_node;
+    is_round = advance.active.is_round;
+    is_version = advance.active.version_is;
+    complete = advance.complete;
+  };
+}
+
+pub keeps-trans : (s r t : State) → KeepsNodes s r → KeepsNodes r t → KeepsNodes s t
+keeps-trans s r t a b = record {
+  leads = LeadsTo-trans s r t a.leads b.leads;
+  problem = b.problem ∙ a.problem;
+  nodes = b.nodes ∙ a.nodes;
+  examined = b.examined ∙ a.examined;
+  budget = b.budget ∙ a.budget;
+}
+
+module _ (s t u : State) (id : BranchId) (version : ℕ) (reachable : IsReachable s) (sound : IsSound t) (advance : IsToAdvance s id version) (keeps : KeepsNodes s t) (brief : Brief) (b : IsBriefed t id version brief) where
+  same-node : b.node ≡ advance.node
+  same-node = one_at s.nodes id.0 b.node advance.node (ap (λ (xs : List Node). slice_get xs id.0) (sym keeps.nodes) ∙ b.is_gathered.complete_round.is_node) advance.active.is_node
+
+  may-follow : (prices : List ℕ) → IsNext t.problem brief (Some prices) → MayFollow t id version prices b.node b.round
+  may-follow prices h = record {
+    is_gathered = b.is_gathered;
+    not_settled = ap (λ (x : Node). x.settled) same-node ∙ advance.not_settled;
+    room = subst (λ (x : Node). x.completed < MAX_VERSIONS) (sym same-node) advance.room;
+    count = next-count t.problem brief prices h;
+    within_limit = next-within t.problem brief prices (briefed-fits t id version brief sound b) h;
+  }
+
+  pub advanced-published : (prices : List ℕ) (answer : Publish) → IsNext t.problem brief (Some prices) → PublishStep t id version prices answer u → IsCloser s u id
+  advanced-published prices answer h e =
+      let w = publish-goes t u id version prices b.node b.round answer (may-follow prices h) (briefed-gains t id version brief sound b prices h) e in
+      published-closer s t id version advance keeps u prices w.0 w.1 reachable w.3
+
+  pub advanced-settled : (answer : Settle) → IsNext t.problem brief None → SettleStep t id version answer u → IsCloser s u id
+  advanced-settled answer h e =
+      settled-closer s t id version advance keeps u reachable (settle-goes t u id version b.node b.round answer b.is_gathered (briefed-no_more t id version brief sound b h) e)
+
+  pub published-leads : (prices : List ℕ) (answer : Publish) → PublishStep t id version prices answer u → LeadsTo s u
+  published-leads prices answer e = LeadsTo-trans s t u keeps.leads (LeadsTo-one t u (Publishing id version prices) (to_publishing answer) e)
+
+  pub settled-leads_on : (answer : Settle) → SettleStep t id version answer u → LeadsTo s u
+  settled-leads_on answer e = LeadsTo-trans s t u keeps.leads (LeadsTo-one t u (Settling id version) (to_settling answer) e)

@@ -1,0 +1,156 @@
+-- A publishing: the node's round as it is emptied, and the pool afterwards.
+use Rattle.std.proofs.Common.{◌≡◌, ℕ, suc, ◌<◌, ◌≤◌, Bool, List, length, get_or, set, replicate, Option, Some, None, slice_get, refl, sym, ap, subst, ◌∙◌}
+use Rattle.std.specs.Prelude.{IfSome, IsSome, IsSomeAnd}
+use Rattle.std.proofs.lemmas.List.{length-replicate}
+use Rattle.std.proofs.lemmas.Option.{slice_get_within, get_or_from_slice_get}
+use Rattle.plan_base.specs.declared.ids.BranchId.{BranchId}
+use Rattle.plan_base.specs.declared.parts.Parts.{Parts}
+use Rattle.arc_restrict.specs.Rows.{Rows}
+use Rattle.pool_machine.specs.declared.answers.Publish.TheVariants as publish
+use Rattle.pool_machine.specs.declared.tree.Fate.TheVariants.{Undone}
+use Rattle.pool_machine.specs.State.{Round, Node, State, restriction_of, round_of}
+use Rattle.pool_machine.specs.Changes.{TakesRound}
+use Rattle.pool_machine.specs.Opening.{empty_round}
+use Rattle.pool_machine.specs.Publishing.{Publishes}
+use Rattle.pool_machine.specs.Nodes.{IsSoundRound, IsSoundNode}
+use Rattle.pool_machine.specs.Machine.{Publishing, to_publishing}
+use Rattle.pool_machine.proofs.Opening.{none_found}
+use Rattle.pool_machine.proofs.Replacing.{node_at}
+use Rattle.pool_machine.proofs.Runs.{IsReachable-sound, IsReachable-step}
+use Rattle.pool_machine.proofs.Small.{IsSound-next_version}
+use Rattle.pool_nodes.specs.declared.slot.Slot.{Slot}
+use Rattle.pool_nodes.specs.Rounds.{MayComplete}
+use Rattle.pool_nodes.proofs.Completing.{TakesRound-round, TakesRound-limits, TakesRound-fate, TakesRound-from}
+use Rattle.pool_nodes.proofs.Grounds.{HasGrounds-set}
+use Rattle.pool_core.specs.Views.{HasPlaces, IsPool, IsKeptPool}
+use Rattle.pool_core.specs.Valuing.{IsToPublish}
+use Rattle.pool_core.proofs.TaskLaws.{HasRound, round_of-has, has-some}
+use Rattle.pool_core.proofs.OfferPool.{HasPlaces-slot}
+
+abbrev to_publish-round : (s : State) (id : BranchId) (seen : ℕ) (prices : List ℕ) (mark : Bool) → IsToPublish s id seen prices mark → HasRound s id
+to_publish-round s id seen prices mark to =
+    let is = to.may.is_gathered.complete_round in
+    record { node = to.node; round = to.round; is_node = is.is_node; is_round = is.is_round }
+
+pub to_publish-some : (s : State) (id : BranchId) (seen : ℕ) (prices : List ℕ) (mark : Bool) → IsToPublish s id seen prices mark → IsSome (round_of s id)
+to_publish-some s id seen prices mark to = has-some s id (to_publish-round s id seen prices mark to)
+
+-- the slot of the round that is read
+pub to_publish-slot : (s : State) (id : BranchId) (seen : ℕ) (prices : List ℕ) (mark : Bool) (to : IsToPublish s id seen prices mark) (read : Round) (slot : ℕ) → Some read ≡ round_of s id → slot ≡ read.slot → slot ≡ to.round.slot
+to_publish-slot s id seen prices mark to read slot is is_slot =
+    let both : Some read ≡ Some to.round = is ∙ round_of-has s id (to_publish-round s id seen prices mark to) in
+    let rounds : read ≡ to.round = cc in
+    is_slot ∙ ap (λ (r : Round). r.slot) rounds
+
+module _ (s : State) (places : List Slot) (id : BranchId) (seen : ℕ) (prices : List ℕ) (mark : Bool) (h : IsPool s places) (to : IsToPublish s id seen prices mark) where
+  is_node : slice_get s.nodes id.0 ≡ Some to.node
+  is_node = to.may.is_gathered.complete_round.is_node
+
+  is_round : to.node.round ≡ Some to.round
+  is_round = to.may.is_gathered.complete_round.is_round
+
+  at_node : IsSoundNode s.problem to.node
+  at_node = node_at s id.0 to.node (IsReachable-sound s h.reachable) is_node
+
+  undone : to.node.fate ≡ Undone
+  undone = (rw is_round at (at_node.round)).0
+
+  had-sound : IsSoundRound s.problem (restriction_of to.node) to.round
+  had-sound = (rw is_round at (at_node.round)).1
+
+  abbrev marked : Node
+  marked = record to.node { crowd_tried = mark }
+
+  abbrev empty : Round
+  empty = empty_round s to.round.slot prices
+
+  empty-sound : IsSoundRound s.problem (restriction_of to.node) empty
+  empty-sound = record {
+    slot = had-sound.slot;
+    count = length-replicate (length s.problem.demands) None;
+    prices = record { count = to.may.count; within_limit = to.may.within_limit };
+    least = λ j found is. absurd (none_found (length s.problem.demands) j found is);
+  }
+
+  pub renew-within : id.0 < length s.nodes
+  renew-within = slice_get_within s.nodes id.0 to.node is_node
+
+  pub renew-small : s.next_version ≤ 139282
+  renew-small = IsSound-next_version s (IsReachable-sound s h.reachable) h.budget
+
+  -- The node as it is read, and as its round has begun anew
+
+  module _ (item : Node) (at_item : item ≡ get_or s.nodes id.0 item) where
+    item_is : item ≡ to.node
+    item_is = at_item ∙ get_or_from_slice_get s.nodes id.0 to.node item is_node
+
+    pub renew-fits : IsSomeAnd item.round (λ round. length prices ≡ length round.prices)
+    renew-fits =
+        subst (λ (x : Node). IsSomeAnd x.round (λ round. length prices ≡ length round.prices)) (sym item_is)
+        (subst (λ (o : Option Round). IsSomeAnd o (λ round. length prices ≡ length round.prices)) (sym is_round) (to.may.count ∙ sym had-sound.prices.count))
+
+    -- the round that a round is renewed as
+    abbrev renewed_round : Round → Round
+    renewed_round round = record { slot = round.slot; version = s.next_version; prices = prices; found = replicate (length round.found) None }
+
+    module _ (mid : Node) (renewed : IfSome item.round (λ round. mid ≡ record item { crowd_tried = mark; round = Some (renewed_round round) })) where
+      mid_is : mid ≡ record marked { round = Some empty }
+      mid_is =
+          let make : Node → Round → Node = λ x r. record x { crowd_tried = mark; round = Some r } in
+          let there : IfSome to.node.round (λ round. mid ≡ make to.node (renewed_round round)) = subst (λ (x : Node). IfSome x.round (λ round. mid ≡ make x (renewed_round round))) item_is renewed in
+          let at : mid ≡ make to.node (renewed_round to.round) = subst (λ (o : Option Round). IfSome o (λ round. mid ≡ make to.node (renewed_round round))) is_round there in
+          let none : ℕ → Round = λ n. record { slot = to.round.slot; version = s.next_version; prices = prices; found = replicate n None } in
+          at ∙ ap (λ (n : ℕ). make to.node (none n)) had-sound.count
+
+      pub renewed-ready : MayComplete s.problem mid
+      renewed-ready = subst (MayComplete s.problem) (sym mid_is) (record {
+        undone = undone;
+        price_count = at_node.first_prices.count;
+        version_count = at_node.version_count;
+        is_sound = empty-sound;
+      })
+
+      pub renewed-takes : (new : Node) → IfSome mid.round (λ r. TakesRound s.problem mid r new) → TakesRound s.problem marked empty new
+      renewed-takes new takes = TakesRound-from s.problem marked mid new empty mid_is takes
+
+  -- The state after
+
+  module _ (after : Node) (takes : TakesRound s.problem marked empty after) (version : ℕ) (version_is : version ≡ suc s.next_version) where
+    abbrev next : State
+    next = record s { nodes = set s.nodes id.0 after; next_version = version }
+
+    pub publishes : (slot : ℕ) → slot ≡ to.round.slot → Publishes s id seen prices slot s.next_version next
+    publishes slot slot_is = record {
+      node = to.node;
+      round = to.round;
+      may = to.may;
+      gains = to.gains;
+      slot_is = slot_is;
+      version_is = refl;
+      mark = mark;
+      is_mark = to.is_mark;
+      after = after;
+      takes = takes;
+      becomes = ap (λ (n : ℕ). let t : State = record s { nodes = set s.nodes id.0 after; next_version = n } in t) version_is;
+    }
+
+    has_places : HasPlaces next places
+    has_places =
+        let p = HasPlaces-slot s id to.node after to.round empty is_node is_round (TakesRound-round s.problem marked empty after takes) refl places s.accepted h.has_places in
+        record { count = p.count; total = p.total; taken = p.taken; free = p.free; slot_is = p.slot_is; demands = p.demands; prices = p.prices }
+
+    pub renewed-kept : (table : Parts) (grounds : List (Option Rows)) (item : Node) → item ≡ get_or s.nodes id.0 item → IsKeptPool s table grounds places → IsKeptPool next table grounds places
+    renewed-kept table grounds item at_item kept =
+        let same : item ≡ to.node = at_item ∙ get_or_from_slice_get s.nodes id.0 to.node item is_node in
+        record {
+          pool = record {
+            some_budget = h.some_budget;
+            budget = h.budget;
+            reachable = IsReachable-step s next (Publishing id seen prices) (to_publishing (publish.Published to.round.slot s.next_version)) h.reachable (publishes to.round.slot refl);
+            has_places = has_places;
+          };
+          table_is = kept.table_is;
+          has_grounds = HasGrounds-set s.problem s.nodes grounds id.0 item after (slice_get_within s.nodes id.0 to.node is_node) at_item
+              (TakesRound-limits s.problem marked empty after takes ∙ ap (λ (x : Node). x.limits) (sym same))
+              (TakesRound-fate s.problem marked empty after takes ∙ ap (λ (x : Node). x.fate) (sym same)) kept.has_grounds;
+        }

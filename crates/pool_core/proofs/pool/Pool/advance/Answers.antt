@@ -1,0 +1,72 @@
+use Rattle.std.proofs.Common.{◌≡◌, ℕ, List, Option, Some, None, sym, ap, subst, ◌∙◌}
+use Rattle.plan_base.specs.declared.parts.Parts.{Parts}
+use Rattle.column_pool.specs.Columns.{columns_at}
+use Rattle.column_pool.specs.Briefs.{IsBriefFor}
+use Rattle.master_step.specs.Columns.{HasColumns}
+use Rattle.leaf_work.specs.Advances.{IsNext}
+use Rattle.pool_machine.specs.State.{State}
+use Rattle.pool_machine.specs.Machine.{IsReachable}
+use Rattle.pool_machine.specs.Soundness.{IsSound}
+use Rattle.pool_machine.proofs.Leads.{LeadsTo-trans, LeadsTo-reachable}
+use Rattle.pool_machine.proofs.Runs.{IsReachable-sound}
+use Rattle.pool_core.specs.Work.{KeepsNodes}
+use Rattle.pool_core.proofs.Steps.{advance-complete, keeps-same}
+use Rattle.pool_core.proofs.Advancing.{advancing-complete, keeps-trans, briefed-fits, briefed-columns, advanced-published, advanced-settled, published-leads, settled-leads_on}
+use Rattle.pool_core.proofs.pool.Pool.advance.Goals as goal
+
+pub seek_design-requires : goal.seek_design-requires
+seek_design-requires c = advance-complete c.args.self.now c.args.self.now c.args.node c.args.version c.requires.advance (keeps-same c.args.self.now)
+
+pub told-requires-clause-reachable : goal.told-requires-clause-reachable
+told-requires-clause-reachable c = LeadsTo-reachable c.args.self.now c.seek_design.new.self c.requires.reachable c.seek_design.ensures.leads
+
+pub told-requires-clause-complete : goal.told-requires-clause-complete
+told-requires-clause-complete c = advancing-complete c.args.self.now c.seek_design.new.self c.args.node c.args.version c.requires.advance c.seek_design.ensures
+
+pub returns-in_err-seek_design-clause-leads : goal.returns-in_err-seek_design-clause-leads
+returns-in_err-seek_design-clause-leads c = c.seek_design.ensures.leads
+
+pub returns-in_err-brief-clause-leads : goal.returns-in_err-brief-clause-leads
+returns-in_err-brief-clause-leads c = LeadsTo-trans c.args.self.now c.seek_design.new.self c.told.new.self c.seek_design.ensures.leads c.told.ensures.keeps.leads
+
+pub next_prices-requires : goal.next_prices-requires
+next_prices-requires c =
+    let t = c.told.new.self in
+    let sound : IsSound t = IsReachable-sound t (subst IsReachable c.self.view_is c.self.invariant.kept.pool.reachable) in
+    let is_p : c.deref.result.now ≡ t.problem = c.deref.ensures ∙ ap (λ (s : State). s.problem) c.self.view_is in
+    record {
+      table = c.deref-2.ensures ∙ (c.self.invariant.kept.table_is ∙ sym c.deref.ensures);
+      brief = subst (λ (p : Parts). IsBriefFor p c.in_ok-brief.brief.prices c.in_ok-brief.brief.columns) (sym is_p) (briefed-fits t c.args.node c.args.version c.in_ok-brief.brief sound c.in_ok-brief.ensures.briefed);
+      columns = subst (λ (p : Parts). HasColumns p (columns_at c.in_ok-brief.brief.columns)) (sym is_p) (briefed-columns t c.args.node c.args.version c.in_ok-brief.brief sound c.in_ok-brief.ensures.briefed);
+    }
+
+pub returns-in_err-prices-clause-leads : goal.returns-in_err-prices-clause-leads
+returns-in_err-prices-clause-leads c = LeadsTo-trans c.args.self.now c.seek_design.new.self c.told.new.self c.seek_design.ensures.leads c.told.ensures.keeps.leads
+
+pub returns-in-Some : goal.returns-in-Some
+returns-in-Some c =
+    let s = c.args.self.now in
+    let t = c.told.new.self in
+    let sound : IsSound t = IsReachable-sound t (subst IsReachable c.self.view_is c.self.invariant.kept.pool.reachable) in
+    let keeps : KeepsNodes s t = keeps-trans s c.seek_design.new.self t c.seek_design.ensures c.told.ensures.keeps in
+    let next : IsNext t.problem c.in_ok-brief.brief (Some c.in-Some.prices) =
+    subst (λ (p : Parts). IsNext p c.in_ok-brief.brief (Some c.in-Some.prices)) (c.deref.ensures ∙ ap (λ (x : State). x.problem) c.self.view_is)
+    (subst (λ (o : Option (List ℕ)). IsNext c.deref.result.now c.in_ok-brief.brief o) c.in-Some.is c.in_ok-prices.ensures) in
+    record {
+      leads = published-leads s t c.publish-answer.new.self c.args.node c.args.version c.requires.reachable sound c.requires.advance keeps c.in_ok-brief.brief c.in_ok-brief.ensures.briefed c.in-Some.prices c.publish-answer.result c.publish-answer.ensures.event;
+      closer = advanced-published s t c.publish-answer.new.self c.args.node c.args.version c.requires.reachable sound c.requires.advance keeps c.in_ok-brief.brief c.in_ok-brief.ensures.briefed c.in-Some.prices c.publish-answer.result next c.publish-answer.ensures.event;
+    }
+
+pub returns : goal.returns
+returns c =
+    let s = c.args.self.now in
+    let t = c.told.new.self in
+    let sound : IsSound t = IsReachable-sound t (subst IsReachable c.self.view_is c.self.invariant.kept.pool.reachable) in
+    let keeps : KeepsNodes s t = keeps-trans s c.seek_design.new.self t c.seek_design.ensures c.told.ensures.keeps in
+    let next : IsNext t.problem c.in_ok-brief.brief None =
+    subst (λ (p : Parts). IsNext p c.in_ok-brief.brief None) (c.deref.ensures ∙ ap (λ (x : State). x.problem) c.self.view_is)
+    (subst (λ (o : Option (List ℕ)). IsNext c.deref.result.now c.in_ok-brief.brief o) c.in-None.is c.in_ok-prices.ensures) in
+    record {
+      leads = settled-leads_on s t c.settle-answer.new.self c.args.node c.args.version c.requires.reachable sound c.requires.advance keeps c.in_ok-brief.brief c.in_ok-brief.ensures.briefed c.settle-answer.result c.settle-answer.ensures.event;
+      closer = advanced-settled s t c.settle-answer.new.self c.args.node c.args.version c.requires.reachable sound c.requires.advance keeps c.in_ok-brief.brief c.in_ok-brief.ensures.briefed c.settle-answer.result next c.settle-answer.ensures.event;
+    }

@@ -1,0 +1,89 @@
+use Rattle.std.proofs.Common.{◌≡◌, ◌<◌, length, refl, sym, ap, subst, ◌∙◌, rules}
+use Rattle.arc_restrict.specs.Rows.{forbids}
+use Rattle.pool_core.specs.contracts.pool.Pool.{the_view}
+use Rattle.plan_base.specs.declared.parts.Parts.{Parts}
+use Rattle.master_step.specs.Outcomes.{HasGain, HasStalled}
+use Rattle.pool_machine.specs.State.{State, restriction_of}
+use Rattle.pool_machine.specs.Gathering.{columns_for}
+use Rattle.pool_machine.specs.Nodes.{IsPriceList}
+use Rattle.pool_machine.specs.Soundness.{IsSound}
+use Rattle.pool_machine.proofs.Runs.{IsReachable-sound}
+use Rattle.pool_core.specs.Valuing.{IsGatheredAt, ForRound}
+use Rattle.pool_core.proofs.Valuing.{gathered-round, gathered-some, read-prices, round-price_list, ask-count, ask-limit, ask-columns, ask-permitted, tell-round, some_then, none_then}
+use Rattle.pool_core.proofs.Reading.{read-rows, read-forbids, read-round, rows-within, shown-some, has-within}
+use Rattle.pool_core.proofs.pool.Pool.gain.Goals as goal
+
+pub index-requires : goal.index-requires
+index-requires c =
+    let s = the_view c.self.inside in
+    let at : IsGatheredAt s c.args.node = subst (λ (x : State). IsGatheredAt x c.args.node) (sym c.self.view_is) c.requires in
+    let within : c.args.node.0 < length c.self.inside.grounds.items = rows-within s c.args.node c.self.inside.grounds.items c.self.invariant.kept.has_grounds (gathered-round s c.args.node at) in
+    search rules
+
+pub unwrap-rows-requires : goal.unwrap-rows-requires
+unwrap-rows-requires c =
+    let s = the_view c.self.inside in
+    let at : IsGatheredAt s c.args.node = subst (λ (x : State). IsGatheredAt x c.args.node) (sym c.self.view_is) c.requires in
+    let w = read-rows s c.args.node c.self.inside.grounds.items c.index.result.now (IsReachable-sound s c.self.invariant.kept.pool.reachable) c.self.invariant.kept.has_grounds (gathered-round s c.args.node at) c.index.ensures in
+    shown-some _ _ _ (c.rows.ensures ∙ w.1) refl
+
+pub index-requires-2 : goal.index-requires-2
+index-requires-2 c =
+    let s = the_view c.self.inside in
+    let at : IsGatheredAt s c.args.node = subst (λ (x : State). IsGatheredAt x c.args.node) (sym c.self.view_is) c.requires in
+    let within : c.args.node.0 < length c.self.inside.nodes.items = has-within s c.args.node (gathered-round s c.args.node at) in
+    search rules
+
+pub unwrap-round-requires : goal.unwrap-round-requires
+unwrap-round-requires c =
+    let s = the_view c.self.inside in
+    let at : IsGatheredAt s c.args.node = subst (λ (x : State). IsGatheredAt x c.args.node) (sym c.self.view_is) c.requires in
+    let read = read-round c.self.inside.nodes.items c.args.node.0 c.index-2.result.now (has-within s c.args.node (gathered-round s c.args.node at)) c.index-2.ensures in
+    shown-some _ _ _ (c.round.ensures ∙ sym read) (gathered-some s c.args.node at)
+
+pub gain-requires : goal.gain-requires
+gain-requires c =
+    let s = the_view c.self.inside in
+    let sound : IsSound s = IsReachable-sound s c.self.invariant.kept.pool.reachable in
+    let at : IsGatheredAt s c.args.node = subst (λ (x : State). IsGatheredAt x c.args.node) (sym c.self.view_is) c.requires in
+    let forbidden : forbids c.deref-3.result.now ≡ restriction_of at.node =
+    read-forbids _ s c.args.node c.self.inside.grounds.items c.index.result.now _ _ c.deref-3.result.now sound c.self.invariant.kept.has_grounds (gathered-round s c.args.node at) c.index.ensures c.rows.ensures c.unwrap-rows.ensures c.deref-3.ensures in
+    let is_prices = read-prices _ s c.args.node c.index-2.result.now _ _ c.prices.result.now at c.index-2.ensures c.round.ensures c.unwrap-round.ensures c.prices.ensures in
+    let prices : IsPriceList s.problem c.prices.result.now = subst (IsPriceList s.problem) (sym is_prices) (round-price_list s c.args.node sound at) in
+    record {
+      table = c.deref-2.ensures ∙ (c.self.invariant.kept.table_is ∙ sym c.deref.ensures);
+      price_count = ask-count s c.args.node sound at c.deref.result.now c.deref-3.result.now c.deref.ensures forbidden c.prices.result.now prices;
+      price_limit = ask-limit s c.args.node sound at c.deref.result.now c.deref-3.result.now c.deref.ensures forbidden c.prices.result.now prices;
+      columns = ask-columns s c.args.node sound at c.deref.result.now c.deref-3.result.now c.deref.ensures forbidden;
+      permitted = ask-permitted s c.args.node sound at c.deref.result.now c.deref-3.result.now c.deref.ensures forbidden;
+      room = c.self.invariant.room_is ∙ ap (λ (p : Parts). length p.links) (sym c.deref.ensures);
+    }
+
+pub invariant_of-self : goal.invariant_of-self
+invariant_of-self c = record { kept = c.self.invariant.kept; room_is = c.gain.ensures.room ∙ c.self.invariant.room_is }
+
+pub returns-clause-some : goal.returns-clause-some
+returns-clause-some c =
+    let s = the_view c.self.inside in
+    let sound : IsSound s = IsReachable-sound s c.self.invariant.kept.pool.reachable in
+    let at : IsGatheredAt s c.args.node = subst (λ (x : State). IsGatheredAt x c.args.node) (sym c.self.view_is) c.requires in
+    let forbidden : forbids c.deref-3.result.now ≡ restriction_of at.node =
+    read-forbids _ s c.args.node c.self.inside.grounds.items c.index.result.now _ _ c.deref-3.result.now sound c.self.invariant.kept.has_grounds (gathered-round s c.args.node at) c.index.ensures c.rows.ensures c.unwrap-rows.ensures c.deref-3.ensures in
+    let is_prices = read-prices _ s c.args.node c.index-2.result.now _ _ c.prices.result.now at c.index-2.ensures c.round.ensures c.unwrap-round.ensures c.prices.ensures in
+    some_then c.gain.result _ _
+    (λ new has. subst (λ (x : State). ForRound x c.args.node (λ n round. HasGain x.problem (columns_for x n) round.prices new)) c.self.view_is
+    (tell-round s c.args.node sound at c.deref.result.now c.deref-3.result.now c.deref.ensures forbidden (λ p choices prices. HasGain p choices prices new) c.prices.result.now is_prices has))
+    c.gain.ensures.some
+
+pub returns-clause-none : goal.returns-clause-none
+returns-clause-none c =
+    let s = the_view c.self.inside in
+    let sound : IsSound s = IsReachable-sound s c.self.invariant.kept.pool.reachable in
+    let at : IsGatheredAt s c.args.node = subst (λ (x : State). IsGatheredAt x c.args.node) (sym c.self.view_is) c.requires in
+    let forbidden : forbids c.deref-3.result.now ≡ restriction_of at.node =
+    read-forbids _ s c.args.node c.self.inside.grounds.items c.index.result.now _ _ c.deref-3.result.now sound c.self.invariant.kept.has_grounds (gathered-round s c.args.node at) c.index.ensures c.rows.ensures c.unwrap-rows.ensures c.deref-3.ensures in
+    let is_prices = read-prices _ s c.args.node c.index-2.result.now _ _ c.prices.result.now at c.index-2.ensures c.round.ensures c.unwrap-round.ensures c.prices.ensures in
+    none_then c.gain.result _ _
+    (λ stalled. subst (λ (x : State). ForRound x c.args.node (λ n round. HasStalled x.problem (columns_for x n) round.prices)) c.self.view_is
+    (tell-round s c.args.node sound at c.deref.result.now c.deref-3.result.now c.deref.ensures forbidden HasStalled c.prices.result.now is_prices stalled))
+    c.gain.ensures.none

@@ -1,0 +1,63 @@
+-- A node whose round is complete or gathered, and what may come of it; no public contract cites it.
+use Rattle.std.specs.Prelude.{ℕ, ◌≡◌, ◌<◌, ◌⊎◌, Bool, true, List, length, Some, slice_get, ℤ, ◌≤ℤ◌}
+use Rattle.plan_base.specs.declared.ids.BranchId.{BranchId}
+use Rattle.master_step.specs.Restricted.{IsRestrictedValue}
+use Rattle.master_step.specs.Outcomes.{HasStalled}
+use Rattle.pool_machine.specs.State.{Round, Node, State}
+use Rattle.arc_restrict.specs.Restrictions.{Forbidden}
+use Rattle.column_pool.specs.Columns.{Columns, columns_at, permitted_at}
+use Rattle.pool_machine.specs.Gathering.{columns_for, IsCompleteRound, IsGathered}
+use Rattle.pool_machine.specs.Publishing.{MayFollow, IsBetterStep, IsCrowdStep, IsMark}
+
+-- the node of the number has a gathered round
+pub record IsGatheredAt (s : State) (id : BranchId) : Type 0 where
+  pub version : ℕ
+  pub node : Node
+  pub round : Round
+  pub is_gathered : IsGathered s id version node round
+
+-- it is so of the node of the number and its round
+abbrev pub ForRound : State → BranchId → (Node → Round → Type 0) → Type 0
+ForRound s id Holds = (node : Node) (round : Round) → slice_get s.nodes id.0 ≡ Some node → node.round ≡ Some round → Holds node round
+
+-- its crowd prices were tried, or no step gains
+abbrev pub HasNoMore : State → Node → Round → Type 0
+HasNoMore s node round = (node.crowd_tried ≡ true) ⊎ HasStalled s.problem (columns_for s node) round.prices
+
+-- the node of the number may be settled
+pub record IsToSettle (s : State) (id : BranchId) (version : ℕ) : Type 0 where
+  pub node : Node
+  pub round : Round
+  pub is_gathered : IsGathered s id version node round
+  pub no_more : HasNoMore s node round
+
+-- the node of the number has a complete round of the version
+pub record IsCompleteAt (s : State) (id : BranchId) (version : ℕ) : Type 0 where
+  pub node : Node
+  pub round : Round
+  pub is_complete : IsCompleteRound s id version node round
+
+-- for each of so many demands the columns that a restriction permits
+pub record ArePermittedLists (count : ℕ) (r : Forbidden) (columns lists : Columns) : Type 0 where
+  pub count_is : length lists ≡ count
+  pub each : (k : ℕ) → k < count → columns_at lists k ≡ permitted_at r columns k
+
+-- the prices are better than those of the round or its crowd step, and this is the mark that follows
+pub record MayReplace (s : State) (node : Node) (round : Round) (prices : List ℕ) (mark : Bool) : Type 0 where
+  pub gains : IsBetterStep s node round prices ⊎ IsCrowdStep s node round prices
+  pub is_mark : IsMark s node round prices mark
+
+-- the prices are neither, and these are the restricted values of the round's prices and of them
+pub record HasNoGain (s : State) (node : Node) (round : Round) (prices : List ℕ) (before after : ℤ) : Type 0 where
+  pub is_before : IsRestrictedValue s.problem (columns_for s node) round.prices before
+  pub is_after : IsRestrictedValue s.problem (columns_for s node) prices after
+  pub not_greater : after ≤ℤ before
+  pub no_crowd_step : IsCrowdStep s node round prices → ⊥
+
+-- the prices may be published for the node of the number, with this mark
+pub record IsToPublish (s : State) (id : BranchId) (seen : ℕ) (prices : List ℕ) (mark : Bool) : Type 0 where
+  pub node : Node
+  pub round : Round
+  pub may : MayFollow s id seen prices node round
+  pub gains : IsBetterStep s node round prices ⊎ IsCrowdStep s node round prices
+  pub is_mark : IsMark s node round prices mark

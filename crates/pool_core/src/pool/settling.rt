@@ -1,0 +1,81 @@
+//! Nodes of which no further version is published.
+
+ghost use Rattle.std.specs.Prelude.{◌≡◌, false, IfSome, IfNone};
+ghost use Rattle.pool_machine.specs.Gathering.{columns_for};
+ghost use Rattle.pool_machine.specs.Settling.{settle_fault, Settles, SettleStep};
+ghost use Rattle.master_step.specs.Outcomes.{IsGain};
+ghost use Rattle.pool_core.specs.Valuing.{IsGatheredAt, ForRound, HasNoMore, IsToSettle};
+
+use super::Pool;
+use plan_base::BranchId;
+use pool_machine::Settle;
+
+impl Pool {
+    #[tactic(auto, unfolding(pool_machine::specs::Settling::settle_fault))]
+    fn settle_refusal(&self, node: BranchId, version: u64) -> Option<Settle>
+        ensures { result ≡ settle_fault self.now node version }
+    {
+        if self.is_spent() {
+            return Some(Settle::Spent {
+                examined: self.examined,
+            });
+        }
+        let current = self.current(node);
+        if !super::is_version(current, version) {
+            return Some(Settle::Stale { current });
+        }
+        if let Some(demand) = self.first_gap(node) {
+            return Some(Settle::Incomplete { demand });
+        }
+        self.first_ungathered(node)
+            .map(|demand| Settle::Ungathered { demand })
+    }
+
+    /// The restricted value of the prices of the node's round, and what a master step raises it to, where one gains and
+    /// the node's crowd prices were not tried.
+    fn improvement(&mut self, node: BranchId) -> Option<(i128, i128)>
+        requires { IsGatheredAt self.old node }
+        ensures unchanged { self.new ≡ self.old }
+        ensures some { IfSome result (λ both. ForRound self.old node (λ x round. (x.crowd_tried ≡ false) × IsGain self.old.problem (columns_for self.old x) round.prices both.0 both.1)) }
+        ensures none { IfNone result (ForRound self.old node (HasNoMore self.old)) }
+    {
+        if self.nodes[node.0 as usize].crowd_tried() {
+            return None;
+        }
+        let Some(new) = self.gain(node) else {
+            return None;
+        };
+        let old = self.value(node, self.round_at(node).prices());
+        Some((old, new))
+    }
+
+    /// Marks a node that may be settled.
+    fn mark_settled(&mut self, node: BranchId, version: u64)
+        requires { IsToSettle self.old node version }
+        ensures { Settles self.old node version self.new }
+    {
+        let settled = &mut self.nodes[node.0 as usize];
+        settled.settle();
+    }
+
+    /// Marks a node of which no further version is published. Takes no memory.
+    ///
+    /// - Takes: the version of its round.
+    /// - Gives: in this order, `Spent` where the budget is spent; `Stale` where the node has no round of the version;
+    ///   `Incomplete` with the first demand that is not priced; `Ungathered` with the first demand whose path is none of
+    ///   its columns; `Improves` where a master step gains and the node's crowd prices were not tried, with the
+    ///   restricted values before and after that step; else `Done`.
+    /// - Rule: docs/METHOD.md, "The search as a machine".
+    pub fn settle(&mut self, node: BranchId, version: u64) -> Settle
+        ensures event { SettleStep self.old node version result self.new }
+    {
+        if let Some(refusal) = self.settle_refusal(node, version) {
+            return refusal;
+        }
+        if let Some((old, new)) = self.improvement(node) {
+            return Settle::Improves { old, new };
+        }
+        self.mark_settled(node, version);
+        Settle::Done
+    }
+}

@@ -1,0 +1,5 @@
+use Rattle.pool_machine.proofs.Unrefused.{master-gathers}
+use Rattle.pool_machine.proofs.laws.master_gathers.Goals as goal
+
+pub returns : goal.returns
+returns c = master-gathers
