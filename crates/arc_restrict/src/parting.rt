@@ -10,7 +10,7 @@ use plan_base::{ArcId, Instance, NodeId, Path};
 /// - Takes: two simple paths of one demand.
 /// - Gives: `None` exactly where the paths are equal; else the node, the first path's arc and the
 ///   second path's arc.
-/// - Rule: docs/DEFINITIONS.md, "Where two paths part".
+/// - Rule: docs/METHOD.md, "Where two paths part".
 pub fn divergence(inst: &Instance, first: &Path, second: &Path) -> Option<(NodeId, ArcId, ArcId)>
     requires { AreOfOneDemand inst.now first.now second.now }
     ensures none { IsNone result ↔ (first.now ≡ second.now) }

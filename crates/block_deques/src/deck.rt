@@ -58,7 +58,7 @@ impl Deck {
     /// - Takes: a slot, a node and a version, as the board shows them; the first demand and how many there are.
     /// - Gives: the index, which is the number of blocks put before.
     /// - Errors: want of memory alone, also where the deque gives no place. The deck is then as it was.
-    /// - Rule: docs/DEFINITIONS.md, "Decks".
+    /// - Rule: docs/METHOD.md, "Decks".
     pub fn put(
         &mut self,
         slot: u32,
@@ -95,7 +95,7 @@ impl Deck {
     /// Takes the first block of its own deque.
     ///
     /// - Gives: None only where the deque was empty at a moment of this call.
-    /// - Rule: docs/DEFINITIONS.md, "Decks".
+    /// - Rule: docs/METHOD.md, "Decks".
     pub fn pop(&mut self) -> Option<Block>
         ensures same { IsSameDeck self.old self.new }
         ensures put { put_by self.new ≡ put_by self.old }
@@ -112,7 +112,7 @@ impl Deck {
     ///
     /// - Takes: the number of the other deck, of the same making.
     /// - Gives: None only where that deque was empty at a moment of this call.
-    /// - Rule: docs/DEFINITIONS.md, "Decks".
+    /// - Rule: docs/METHOD.md, "Decks".
     pub fn steal<R: Wait>(&mut self, rt: &R, victim: u32) -> Option<Block>
         requires victim { victim < count_of self.old }
         requires other { victim ≢ number_of self.old }

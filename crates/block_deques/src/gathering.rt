@@ -104,7 +104,7 @@ fn gather_in_order(alloc: Global, decks: Vec<Deck>) -> Result<Vec<Block>, AllocE
 ///
 /// - Takes: all decks of one making, in any order.
 /// - Errors: want of memory alone. The blocks are then gone.
-/// - Rule: docs/DEFINITIONS.md, "Decks".
+/// - Rule: docs/METHOD.md, "Decks".
 pub fn gather_decks(alloc: Global, mut decks: Vec<Deck>) -> Result<Vec<Block>, AllocError>
     requires { AreAllDecks decks.items }
     ensures whole { IfOk result (λ left. HaveSame (all_put decks.items) (all_taken decks.items ++ left.items)) }

@@ -110,7 +110,7 @@ fn put_together(
 ///
 /// - Takes: how many, from 1 to `MAX_DECKS`.
 /// - Errors: want of memory alone.
-/// - Rule: docs/DEFINITIONS.md, "Decks".
+/// - Rule: docs/METHOD.md, "Decks".
 pub fn decks(alloc: Global, count: u32) -> Result<Vec<Deck>, AllocError>
     requires some { 0 < count }
     requires few { count ≤ MAX_DECKS }

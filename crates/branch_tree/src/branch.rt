@@ -93,7 +93,7 @@ impl Branch {
     ///
     /// - Takes: prices in thousandths of a cost grain per load grain, one for each link.
     /// - Errors: want of memory.
-    /// - Rule: docs/DEFINITIONS.md, "Search trees".
+    /// - Rule: docs/METHOD.md, "Search trees".
     pub fn new(alloc: Global, root: Prices) -> Result<Branch, AllocError>
         ensures value { IfOk result (λ nodes. nodes ≡ record { limits = []; fate = Fate.Open root } ∷ []) }
         ensures of { IfOk result (λ nodes. (p : AnyParts) → IsTreeOf p nodes) }
@@ -115,7 +115,7 @@ impl Branch {
     /// - Errors: `NotOpen`, `NotPermitted`, `SamePath`, in this order; or want of memory, which may
     ///   come in place of any answer, and which a tree of more than 2^32 - 1 nodes counts as. The
     ///   tree is then unchanged.
-    /// - Rule: docs/DEFINITIONS.md, "Search trees".
+    /// - Rule: docs/METHOD.md, "Search trees".
     /// - Time: linear in the leaving arcs of the node and in what is forbidden there, and the size
     ///   of a restriction.
     pub fn split(
@@ -204,7 +204,7 @@ impl Branch {
     ///
     /// - Takes: a node of the tree, and the instance of all calls on it.
     /// - Errors: want of memory.
-    /// - Rule: docs/DEFINITIONS.md, "Search trees".
+    /// - Rule: docs/METHOD.md, "Search trees".
     /// - Time: the size of a restriction, and linear in what is forbidden there.
     pub fn restriction(&self, inst: &Instance, node: BranchId) -> Result<Restriction, AllocError>
         requires node { node.0 < length self.now }
@@ -220,7 +220,7 @@ impl Branch {
     ///
     /// - Gives: a valid tree, where each leaf has its evidence.
     /// - Errors: want of memory, which a tree of 2^32 - 1 records or more counts as.
-    /// - Rule: docs/DEFINITIONS.md, "Search trees".
+    /// - Rule: docs/METHOD.md, "Search trees".
     /// - Time: linear in the records and their lists.
     pub fn into_tree(self) -> Result<Tree, AllocError>
         ensures value { IfOk result (λ tree. tree ≡ records_of self) }

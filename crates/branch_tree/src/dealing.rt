@@ -51,7 +51,7 @@ impl Sides {
 /// - Takes: the arcs of the two paths where they part, and the arcs that leave the node there,
 ///   ascending.
 /// - Errors: want of memory alone.
-/// - Rule: docs/DEFINITIONS.md, "Search trees".
+/// - Rule: docs/METHOD.md, "Search trees".
 /// - Time: linear in the arcs and in what is forbidden to the demand.
 pub fn deal(
     alloc: Global,

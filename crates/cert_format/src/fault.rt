@@ -4,7 +4,7 @@ use thiserror::Error;
 
 /// Why a plan text is not read. Places are counted in bytes from 0.
 ///
-/// - Rule: docs/DEFINITIONS.md, "Plan texts".
+/// - Rule: docs/FORMATS.md, "Plan texts".
 #[derive(Clone, Copy, Debug, PartialEq, Eq, Error)]
 pub enum PlanFault {
     #[error("a line cannot stand where it stands")]

@@ -379,7 +379,7 @@ fn whole_plan(alloc: Global, text: &[u8]) -> Result<Plan, Stop>
 /// - Errors: `Line`, exactly where a line cannot stand where it stands, at the first such line, a last
 ///   line without its end too; `Ended`, exactly where all lines can stand and a further one must
 ///   follow; `OutOfMemory` may stand in place of any answer.
-/// - Rule: docs/DEFINITIONS.md, "Plan texts".
+/// - Rule: docs/FORMATS.md, "Plan texts".
 /// - Time: linear in the text.
 #[tactic(auto, using(crate::proofs::OneFault::answers_plan, crate::proofs::OneFault::answers_fault, crate::proofs::OneFault::answers_only_plan, crate::proofs::OneFault::answers_only_fault))]
 pub fn read_plan(alloc: Global, text: &[u8]) -> Result<Plan, PlanFault>

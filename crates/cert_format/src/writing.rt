@@ -353,7 +353,7 @@ fn push_records(alloc: Global, nodes: &[TreeNode], out: &mut Vec<u8>) -> Result<
 /// - Takes: a plan whose `fits` holds.
 /// - Gives: the lines of the plan, each with its line end; `read_plan` answers this plan for them.
 /// - Errors: want of memory alone.
-/// - Rule: docs/DEFINITIONS.md, "Plan texts".
+/// - Rule: docs/FORMATS.md, "Plan texts".
 /// - Time: linear in the text.
 pub fn write_plan(alloc: Global, plan: &Plan) -> Result<Vec<u8>, AllocError>
     requires fits { IsSpellable plan.now }

@@ -8,7 +8,7 @@ use std::alloc::{AllocError, AllocFailed};
 
 /// The first rule that a plan breaks. Records are counted from 0 in preorder, and the rules of a record from 1.
 ///
-/// - Rule: docs/DEFINITIONS.md, "Rules of a plan".
+/// - Rule: docs/FORMATS.md, "Rules of a plan".
 #[derive(Clone, Copy, Debug, PartialEq, Eq)]
 pub enum Rejected {
     /// The design is none of the instance.

@@ -116,7 +116,7 @@ fn check_plan(
 /// - Errors: the first rule that is broken, in this order: the sizes, the design, its cost, each record in preorder (its
 ///   kind first, then the rules of a split or of a leaf), an undecided plan without an open leaf, the count of examined
 ///   nodes, the budget, the bound.
-/// - Rule: docs/DEFINITIONS.md, "Rules of a plan".
+/// - Rule: docs/FORMATS.md, "Rules of a plan".
 /// - Time: linear in the tree, but for each leaf: demands times nodes times arcs to price it, and as often the arcs of
 ///   the paths where the leaf is closed by them.
 pub fn verify(

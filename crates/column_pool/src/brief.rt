@@ -52,7 +52,7 @@ impl Brief {
     /// Whether the brief is one for the instance: its prices fit, and it has one list of columns for each demand, each of
     /// simple paths of that demand. Takes no memory.
     ///
-    /// - Rule: docs/DEFINITIONS.md, "Columns".
+    /// - Rule: docs/METHOD.md, "Columns".
     /// - Time: linear in the links and in the arcs of all columns.
     pub fn fits(&self, inst: &Instance) -> bool
         ensures { IsTrue result ↔ IsBriefFor inst.now self.now.prices self.now.columns }

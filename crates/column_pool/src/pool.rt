@@ -2,7 +2,7 @@
 
 ghost use Rattle.std.specs.Prelude.{◌≡◌, ◌≤◌, ◌<◌, length, slice_get, Some, IfOk, IsErr};
 ghost use Rattle.arc_restrict.specs.Rows.{forbids};
-ghost use Rattle.column_pool.specs.Columns.{no_columns, columns_at, columns_with, answer_of, permitted_at};
+ghost use Rattle.column_pool.specs.Columns.{no_columns, columns_at, columns_with, answer_of, is_column, permitted_at};
 
 use crate::limits::MAX_COLUMNS;
 use crate::row::{Added, Row};
@@ -32,7 +32,7 @@ impl ColumnPool {
     /// No columns, with a list for each demand of the instance.
     ///
     /// - Errors: want of memory alone.
-    /// - Rule: docs/DEFINITIONS.md, "Columns".
+    /// - Rule: docs/METHOD.md, "Columns".
     /// - Time: linear in the demands.
     pub fn new(alloc: Global, inst: &Instance) -> Result<ColumnPool, AllocError>
         ensures { IfOk result (λ pool. pool ≡ no_columns inst.now) }
@@ -50,7 +50,7 @@ impl ColumnPool {
     /// - Gives: `There` where the path is a column already: it keeps its place. Else `New`: it goes last, and where there
     ///   are `MAX_COLUMNS` already the oldest goes.
     /// - Errors: want of memory alone; then nothing changes.
-    /// - Rule: docs/DEFINITIONS.md, "Columns".
+    /// - Rule: docs/METHOD.md, "Columns".
     /// - Time: linear in the arcs of the demand's columns.
     pub fn add(&mut self, demand: DemandId, path: &Path) -> Result<Added, AllocError>
         requires { demand.0 < length self.old }
@@ -61,9 +61,21 @@ impl ColumnPool {
         self.rows[demand.0 as usize].add(path)
     }
 
+    /// Whether the path is one of the columns of a demand.
+    ///
+    /// - Takes: a demand that there is a list for.
+    /// - Rule: docs/METHOD.md, "Columns".
+    /// - Time: linear in the arcs of the demand's columns.
+    pub fn has(&self, demand: DemandId, path: &Path) -> bool
+        requires { demand.0 < length self.now }
+        ensures { result ≡ is_column (columns_at self.now demand.0) path.now }
+    {
+        self.rows[demand.0 as usize].has(path)
+    }
+
     /// How many columns a demand has.
     ///
-    /// - Rule: docs/DEFINITIONS.md, "Columns".
+    /// - Rule: docs/METHOD.md, "Columns".
     /// - Time: constant.
     pub fn count(&self, demand: DemandId) -> u32
         requires { demand.0 < length self.now }
@@ -76,7 +88,7 @@ impl ColumnPool {
     /// The column of a demand at a place.
     ///
     /// - Takes: a place below the count of the demand's columns; the oldest is at place 0.
-    /// - Rule: docs/DEFINITIONS.md, "Columns".
+    /// - Rule: docs/METHOD.md, "Columns".
     /// - Time: constant.
     pub fn column(&self, demand: DemandId, place: u32) -> &Path
         requires demand { demand.0 < length self.now }
@@ -89,7 +101,7 @@ impl ColumnPool {
     /// Copies of the columns of a demand that a restriction permits, in their order.
     ///
     /// - Errors: want of memory alone.
-    /// - Rule: docs/DEFINITIONS.md, "Columns".
+    /// - Rule: docs/METHOD.md, "Columns".
     /// - Time: linear in the arcs of the demand's columns.
     pub fn permitted(
         &self,

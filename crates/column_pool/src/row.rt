@@ -55,7 +55,7 @@ impl Row {
     }
 
     /// Whether the path is one of the columns.
-    fn has(&self, path: &Path) -> bool
+    pub fn has(&self, path: &Path) -> bool
         ensures { result ≡ is_column self.now path.now }
     {
         self.paths.as_slice().contains(path)

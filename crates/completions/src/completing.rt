@@ -58,7 +58,7 @@ fn complete_link(
 /// - Gives: the cost in cost grains and a feasible design in shape with just these paths; None exactly where some link
 ///   cannot carry its load by any counts.
 /// - Errors: want of memory alone. The paths are spent.
-/// - Rule: docs/DEFINITIONS.md, "Completions".
+/// - Rule: docs/METHOD.md, "Completions".
 /// - Time: linear in the arcs of all paths and in the counts of all links.
 pub fn complete(
     alloc: Global,
@@ -108,7 +108,7 @@ fn can_carry(inst: &Instance, table: &StepTable, link: LinkId, load: u64) -> boo
 ///
 /// - Takes: an instance and its step table; a design with one simple path for each demand, in order. Its counts are not
 ///   read.
-/// - Rule: docs/DEFINITIONS.md, "Completions".
+/// - Rule: docs/METHOD.md, "Completions".
 /// - Time: linear in the arcs of all paths, and for each link the logarithm of the number of its steps.
 pub fn overfull_link(inst: &Instance, table: &StepTable, design: &Design) -> Option<LinkId>
     requires table { table.now ≡ inst.now }

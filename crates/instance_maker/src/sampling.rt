@@ -23,7 +23,7 @@ const MILLIONTHS: u64 = 1_000_000;
 /// - Gives: that many nodes in a ring, a chord from each node of the first half to one that is no neighbour of
 ///   it, and that many demands. What is drawn, and in which order, is in `specs/Samples.antt`.
 /// - Errors: want of memory alone.
-/// - Rule: docs/DEFINITIONS.md, "Sample networks".
+/// - Rule: docs/FORMATS.md, "The network of `sample`".
 /// - Time: linear in nodes and demands.
 pub fn sample(
     alloc: Global,

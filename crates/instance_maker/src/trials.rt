@@ -31,7 +31,7 @@ pub struct Problem {
 /// The model of each trial.
 ///
 /// - Gives: undirected demands and links, modules, single paths on all links, and nothing else.
-/// - Rule: docs/DEFINITIONS.md, "Sample networks".
+/// - Rule: docs/FORMATS.md, "The network of `sample`".
 pub fn trial_model() -> ModelFile
     ensures { result ≡ trial_model }
 {
@@ -88,7 +88,7 @@ fn sample_instance(
 ///
 /// - Takes: where memory comes from; the number; 4 to 64 nodes; at most 4,096 demands.
 /// - Errors: want of memory alone: no sample is refused.
-/// - Rule: docs/DEFINITIONS.md, "Sample networks".
+/// - Rule: docs/FORMATS.md, "The network of `sample`".
 pub fn sample_problem(
     alloc: Global,
     number: u32,

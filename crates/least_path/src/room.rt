@@ -46,7 +46,7 @@ impl Room {
     /// - Takes: weights as `search` does.
     /// - Errors: want of memory alone. None where the room was made for the instance, and the path that was in it has
     ///   memory for as many arcs as there are nodes.
-    /// - Rule: docs/DEFINITIONS.md, "Least paths".
+    /// - Rule: docs/METHOD.md, "Least paths".
     /// - Time: as `search`, without potentials.
     pub fn search(
         &mut self,

@@ -145,7 +145,7 @@ fn first_labels(alloc: Global, nodes: u32, source: NodeId) -> Result<Vec<Option<
 /// - Gives: the path, its weight and potentials that show that none is lighter; or the nodes that are
 ///   reached, exactly where usable arcs do not lead to the target.
 /// - Errors: want of memory alone.
-/// - Rule: docs/DEFINITIONS.md, "Least paths".
+/// - Rule: docs/METHOD.md, "Least paths".
 /// - Time: the square of the count of nodes, and linear in arcs.
 pub fn search(
     alloc: Global,

@@ -18,7 +18,7 @@ fn are_small(weights: &[Option<u128>]) -> bool
 
 /// Whether there are as many weights as arc numbers, twice the count of links, and none is above `MAX_WEIGHT`.
 ///
-/// - Rule: docs/DEFINITIONS.md, "Least paths".
+/// - Rule: docs/METHOD.md, "Least paths".
 /// - Time: linear in the weights.
 pub fn are_weights(inst: &Instance, weights: &[Option<u128>]) -> bool
     ensures fits { IsTrue result ↔ AreWeights inst.now weights.now }

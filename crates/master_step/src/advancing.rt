@@ -62,7 +62,7 @@ fn raise(alloc: Global, master: &Master<'_>) -> Result<Step, AllocError>
 /// - Gives: `Raised` with the first trial of greatest value; `Same` where none has more; `Bare` exactly where a demand has
 ///   no column, with the first such demand.
 /// - Errors: want of memory alone.
-/// - Rule: docs/DEFINITIONS.md, "Master step".
+/// - Rule: docs/METHOD.md, "Master step".
 /// - Time: 26 times the arcs of all columns, and as often one link value for each link.
 pub fn advance(
     alloc: Global,
@@ -93,7 +93,7 @@ pub fn advance(
 /// - Takes: the instance and its table; one price for each link, of at most the price limit; columns of the instance, of
 ///   which the restriction permits at least one to each demand; room that was made for the instance.
 /// - Gives: thousandths of a cost grain; None exactly where no trial has a greater value than the prices.
-/// - Rule: docs/DEFINITIONS.md, "Master step".
+/// - Rule: docs/METHOD.md, "Master step".
 /// - Time: 26 times the arcs of all columns, and as often one link value for each link.
 pub fn gain(
     inst: &Instance,

@@ -217,7 +217,7 @@ pub struct Ascent {
 /// - Takes: the instance and its table; a brief that fits it, with a column for each demand.
 /// - Gives: prices that fit the instance; their restricted value is at least that of the brief's prices.
 /// - Errors: want of memory alone.
-/// - Rule: docs/DEFINITIONS.md, "Restricted value".
+/// - Rule: docs/METHOD.md, "Restricted value".
 /// - Time: links times the arcs of all columns.
 pub fn ascend(
     alloc: Global,

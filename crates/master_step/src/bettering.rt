@@ -50,7 +50,7 @@ fn raise_or_same(value: i128, ascent: Ascent) -> Step
 ///   master step raises it to; `Same` only where the master step gains nothing; `Bare` exactly where a demand has no
 ///   column, with the first such demand.
 /// - Errors: want of memory alone.
-/// - Rule: docs/DEFINITIONS.md, "Master step".
+/// - Rule: docs/METHOD.md, "Master step".
 /// - Time: that of `advance` and of `ascend`.
 pub fn best_step(
     alloc: Global,

@@ -11,7 +11,7 @@ use std::alloc::{AllocError, Global};
 /// - Takes: one price for each link.
 /// - Gives: one price for each link, in thousandths of a cost grain per load grain.
 /// - Errors: want of memory alone.
-/// - Rule: docs/DEFINITIONS.md, "Master step".
+/// - Rule: docs/METHOD.md, "Master step".
 /// - Time: linear in the links and their modules.
 pub fn crowd_prices(alloc: Global, inst: &Instance, prices: &Prices) -> Result<Prices, AllocError>
     requires { length prices.now ≡ length inst.now.links }

@@ -66,7 +66,7 @@ pub fn value_of(inst: &Instance, table: &StepTable, prices: &Prices, source: &So
 /// - Takes: the instance and its table; one price for each link, of at most the price limit; columns of the instance, of
 ///   which the restriction permits at least one to each demand.
 /// - Gives: thousandths of a cost grain; it may be negative.
-/// - Rule: docs/DEFINITIONS.md, "Restricted value".
+/// - Rule: docs/METHOD.md, "Restricted value".
 /// - Time: linear in the arcs of all columns, and one link value for each link.
 pub fn value(
     inst: &Instance,

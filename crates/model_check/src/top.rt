@@ -24,7 +24,7 @@ use std::alloc::Global;
 ///   outside the profile; undirected demands on directed links, told of the key of demands; the first
 ///   fault of the parts, which is a loop or one of the limits 3 to 8. Or want of memory, which may
 ///   come in place of any answer.
-/// - Rule: docs/DEFINITIONS.md, "Two files as an instance".
+/// - Rule: docs/FORMATS.md, "Two files as an instance".
 /// - Time: linear in nodes, links, modules and demands.
 #[tactic(auto, using(crate::proofs::Possible::told_can))]
 pub fn to_instance(

@@ -211,7 +211,7 @@ impl Query<'_> {
 ///   the length at the target, or a path whose price is not the length (`WrongLength`). Of a set: its count
 ///   of entries, the source outside, or the target inside (`BadSet`); the first permitted arc that leaves it
 ///   (`NotClosed`). A sum that is only compared is exact, also past 128 bits.
-/// - Rule: docs/DEFINITIONS.md, "Least prices".
+/// - Rule: docs/METHOD.md, "Least prices".
 /// - Time: linear in nodes, links and the path's arcs. Takes no memory.
 #[tactic(auto, using(crate::proofs::FaultLaws::fault_laws))]
 pub fn check_priced(

@@ -67,7 +67,7 @@ fn priced(found: Search) -> Priced
 /// - Gives: a permitted path, its price and potentials; or, exactly where no permitted path exists, the
 ///   set of nodes that permitted arcs reach from the demand's source. `check_priced` accepts either.
 /// - Errors: want of memory alone.
-/// - Rule: docs/DEFINITIONS.md, "Least prices".
+/// - Rule: docs/METHOD.md, "Least prices".
 /// - Time: the square of the count of nodes, and linear in links.
 #[tactic(auto, using(crate::proofs::FoundLaws::found_laws))]
 pub fn price(

@@ -45,7 +45,7 @@ impl Plan {
     /// Whether the plan's lists, sets and numbers are of the sizes that a plan text can hold.
     ///
     /// - Gives: no word on whether the plan is valid.
-    /// - Rule: docs/DEFINITIONS.md, "Plans that a text can spell".
+    /// - Rule: docs/FORMATS.md, "Plan texts".
     /// - Time: linear in the plan.
     pub fn fits(&self) -> bool
         ensures { IsTrue result ↔ IsSpellable self.now }

@@ -58,7 +58,7 @@ fn scaled(scan: Scan, scale: u32) -> Result<u128, NumberFault>
 /// - Errors: `NotANumber`, exactly where the text spells no number, with the first place that fits no
 ///   continuation; `Finer`, exactly where the number is not whole at the scale; `TooLarge`, exactly where
 ///   it is whole and `10^12` or more.
-/// - Rule: docs/DEFINITIONS.md, "Numbers in texts".
+/// - Rule: docs/FORMATS.md, "Numbers in texts".
 /// - Time: one pass, whatever the digits and the exponent. No memory.
 pub fn read_decimal(text: &[u8], scale: u32) -> Result<u128, NumberFault>
     requires scale { scale ≤ 6 }

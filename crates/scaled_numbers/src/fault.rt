@@ -2,7 +2,7 @@
 
 /// Why a text is not read as a whole number of grains.
 ///
-/// - Rule: docs/DEFINITIONS.md, "Numbers in texts".
+/// - Rule: docs/FORMATS.md, "Numbers in texts".
 #[derive(Clone, Copy, Debug, PartialEq, Eq)]
 pub enum NumberFault {
     /// The text spells no number: the first place, in bytes, that fits no continuation.

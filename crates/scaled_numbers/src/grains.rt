@@ -59,7 +59,7 @@ fn grains_in_one(scale: u32) -> u64
 ///
 /// - Takes: the value in grains, and the scale: `10^scale` grains are one unit.
 /// - Errors: want of memory alone; then nothing is appended.
-/// - Rule: docs/DEFINITIONS.md, "Canonical decimals".
+/// - Rule: docs/FORMATS.md, "Numbers in texts".
 #[tactic(auto, using(crate::proofs::Fractions::two_pieces))]
 pub fn write_grains(value: u128, scale: u32, out: &mut Vec<u8>) -> Result<(), AllocError>
     requires scale { scale ≤ 12 }
@@ -81,7 +81,7 @@ pub fn write_grains(value: u128, scale: u32, out: &mut Vec<u8>) -> Result<(), Al
 ///
 /// - Takes: thousandths of a cost grain, which may be negative.
 /// - Gives: cost grains: the least whole number whose thousandfold is not below the total.
-/// - Rule: docs/DEFINITIONS.md, "Rounding up to a grain".
+/// - Rule: docs/DEFINITIONS.md, "Bounds".
 pub fn up_to_grain(total: i128) -> i128
     ensures reaches { total ≤ℤ (pos 1000 *ℤ result) }
     ensures least { (other : ℤ) → total ≤ℤ (pos 1000 *ℤ other) → result ≤ℤ other }

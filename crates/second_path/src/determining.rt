@@ -102,7 +102,7 @@ fn first_two(
 ///   permitted arcs lead to; else `Two` for the first demand with two, by larger load and then by
 ///   lower number; else `One`, the only path of each.
 /// - Errors: want of memory.
-/// - Rule: docs/DEFINITIONS.md, "What a restriction leaves".
+/// - Rule: docs/METHOD.md, "What a restriction leaves".
 /// - Time: demands times nodes times arcs.
 pub fn determine(alloc: Global, inst: &Instance, r: &Restriction) -> Result<Determined, AllocError>
     ensures { IfOk result (IsDetermined inst.now (forbids r.now)) }

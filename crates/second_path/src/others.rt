@@ -119,7 +119,7 @@ pub(crate) fn other_path(
 /// - Takes: a permitted simple path of the demand.
 /// - Gives: a simple path, or `None` exactly where there is no other.
 /// - Errors: want of memory.
-/// - Rule: docs/DEFINITIONS.md, "Other paths".
+/// - Rule: docs/METHOD.md, "Other paths".
 /// - Time: nodes times arcs.
 pub fn second(
     alloc: Global,

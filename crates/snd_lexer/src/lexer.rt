@@ -18,7 +18,7 @@ use std::alloc::Global;
 /// - Takes: a text of at most `MAX_TEXT_BYTES` bytes.
 /// - Errors: `Control` exactly where a byte that may stand in comments only stands in none, with the
 ///   place of the first such byte; `OutOfMemory` where the tokens find no memory.
-/// - Rule: docs/DEFINITIONS.md, "Tokens of a text".
+/// - Rule: docs/FORMATS.md, "Tokens of a text".
 /// - Time: linear in the bytes, one pass.
 pub fn lex(alloc: Global, text: &[u8], dialect: Dialect) -> Result<Tokens, LexFault>
     requires length { length text.now ≤ MAX_TEXT_BYTES }

@@ -37,7 +37,7 @@ impl Token {
     /// The bytes of the token.
     ///
     /// - Takes: the text that the token was cut from, or another that is long enough.
-    /// - Rule: docs/DEFINITIONS.md, "Tokens of a text".
+    /// - Rule: docs/FORMATS.md, "Tokens of a text".
     /// - Time: constant.
     pub fn bytes(self, text: &[u8]) -> &[u8]
         requires { IsWithin (length text.now) self }

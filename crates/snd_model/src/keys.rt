@@ -27,7 +27,7 @@ impl Key {
 
     /// The word of the key.
     ///
-    /// - Rule: docs/DEFINITIONS.md, "The model table".
+    /// - Rule: docs/FORMATS.md, "Model texts".
     /// - Time: constant.
     pub fn word(self) -> &'static [u8]
         ensures { result.now ≡ key_word self }
@@ -46,7 +46,7 @@ impl Key {
 
     /// The key of this word.
     ///
-    /// - Rule: docs/DEFINITIONS.md, "The model table".
+    /// - Rule: docs/FORMATS.md, "Model texts".
     /// - Time: constant.
     pub fn named(word: &[u8]) -> Option<Key>
         ensures { result ≡ key_named word.now }

@@ -28,7 +28,7 @@ const HEADER: &[u8] = b"?SNDlib native format; type: model; version: 1.0";
 ///   `Ended`, exactly at the first bad token, the end of the text being a token too; `OutOfMemory` in
 ///   place of any answer. `Unexpected` tells what is wanted there: `Key`, `Equals` or `Value`, and
 ///   `Nothing` behind the eighth pair. `Number`, `Unknown` and `LongId` never come.
-/// - Rule: docs/DEFINITIONS.md, "Model texts".
+/// - Rule: docs/FORMATS.md, "Model texts".
 /// - Time: linear in the text.
 pub fn read_model(alloc: Global, text: &[u8]) -> Result<ModelFile, TextFault>
     requires length { length text.now ≤ MAX_TEXT_BYTES }

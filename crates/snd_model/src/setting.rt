@@ -26,7 +26,7 @@ impl Setting {
     /// The setting of this key and this spelling.
     ///
     /// - Gives: `None` exactly where the word is not in the key's row.
-    /// - Rule: docs/DEFINITIONS.md, "The model table".
+    /// - Rule: docs/FORMATS.md, "Model texts".
     /// - Time: constant.
     pub fn named(key: Key, word: &[u8]) -> Option<Setting>
         ensures { result ≡ setting_named key word.now }
@@ -84,7 +84,7 @@ impl Setting {
 
     /// The first spelling of the value, which the canonical text and the faults show.
     ///
-    /// - Rule: docs/DEFINITIONS.md, "The model table".
+    /// - Rule: docs/FORMATS.md, "Model texts".
     /// - Time: constant.
     pub fn word(self) -> &'static [u8]
         ensures { result.now ≡ spelling self }
@@ -103,7 +103,7 @@ impl Setting {
 
     /// The number of the value in the key's row, from 0 on.
     ///
-    /// - Rule: docs/DEFINITIONS.md, "The model table".
+    /// - Rule: docs/FORMATS.md, "Model texts".
     /// - Time: constant.
     pub fn number(self) -> u8
         ensures { result ≡ number_of self }

@@ -12,7 +12,7 @@ use std::alloc::{AllocError, Global};
 /// - Gives: the header line, then a line `KEY = VALUE` for each key in the order of the model table,
 ///   with the first spelling of its value. `read_model` reads it as the same model.
 /// - Errors: want of memory alone.
-/// - Rule: docs/DEFINITIONS.md, "Canonical model text".
+/// - Rule: docs/FORMATS.md, "Model texts".
 /// - Time: linear in the text.
 pub fn write_model(alloc: Global, file: &ModelFile) -> Result<Vec<u8>, AllocError>
     ensures { IfOk result (λ text. text.items ≡ model_text file.now) }

@@ -34,7 +34,7 @@ const HEADER: &[u8] = b"?SNDlib native format; type: network; version: 1.0";
 ///   byte that may stand in comments only stands in none, at the first; else `Unexpected`, `Number`,
 ///   `Twice`, `LongId` or `Ended`, exactly at the first bad token; else `Unknown`, exactly at the first
 ///   name that is no node, those of links before those of demands; `OutOfMemory` may stand in place of any answer.
-/// - Rule: docs/DEFINITIONS.md, "Network texts".
+/// - Rule: docs/FORMATS.md, "Network texts".
 /// - Time: linear in the text but for the look-up of names.
 pub fn read_network(alloc: Global, text: &[u8]) -> Result<NetworkFile, TextFault>
     requires length { length text.now ≤ MAX_TEXT_BYTES }

@@ -21,7 +21,7 @@ impl NetworkFile {
     /// among links and among demands; coordinates are words that spell numbers; ends are among the
     /// nodes; and each number has a value below `10^12`.
     ///
-    /// - Rule: docs/DEFINITIONS.md, "Networks that a text can hold".
+    /// - Rule: docs/FORMATS.md, "Network texts".
     /// - Time: linear, but for the names, each of which is compared with those before it. No memory.
     pub fn well_formed(&self) -> bool
         ensures { IsTrue result ↔ IsWellFormed self.now }

@@ -19,7 +19,7 @@ use std::alloc::{AllocError, Global};
 /// - Takes: a network that is `well_formed`.
 /// - Gives: the header line; then nodes, links and demands, a line for each record.
 /// - Errors: want of memory alone.
-/// - Rule: docs/DEFINITIONS.md, "Canonical network texts".
+/// - Rule: docs/FORMATS.md, "Network texts".
 /// - Time: linear in the text.
 pub fn write_network(alloc: Global, file: &NetworkFile) -> Result<Vec<u8>, AllocError>
     requires { IsWellFormed file.now }

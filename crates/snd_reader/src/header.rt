@@ -9,7 +9,7 @@ ghost use Rattle.snd_reader.specs.Header.{is_line_blank, ends_line, HasHeader};
 ///
 /// - Takes: the header line, without its LF; a text.
 /// - Gives: the text from the LF that ends the first line on, or its empty end.
-/// - Rule: docs/DEFINITIONS.md, "First line of a text".
+/// - Rule: docs/FORMATS.md, "Tokens of a text".
 /// - Time: linear in the line.
 pub fn behind_header<'a>(header: &[u8], text: &'a [u8]) -> Option<&'a [u8]>
     ensures header { MatchOption result ((rest : List ℕ) → HasHeader header.now text.now rest → ⊥) (λ rest. HasHeader header.now text.now rest.now) }
