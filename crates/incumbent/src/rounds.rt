@@ -307,14 +307,12 @@ impl Rounds {
     }
 
     /// Rounds until the searches are spent.
-    pub fn run(&mut self, inst: &Instance, table: &StepTable) -> Result<(), AllocError>
+    fn spend_searches(&mut self, inst: &Instance, table: &StepTable) -> Result<(), AllocError>
         requires table { table.now ≡ inst.now }
         requires search { IsSearch inst.now self.old }
+        requires some { 0 < length inst.now.demands }
         ensures search { OnOk result (IsSearch inst.now self.new) }
     {
-        if inst.demands() == 0 {
-            return Ok(());
-        }
         let cooling = Cooling::new(inst, self.now.cost);
         for _round in 0..cooling.limit() {
             if self.now.searches >= cooling.limit() {
@@ -323,6 +321,18 @@ impl Rounds {
             self.round(inst, table, &cooling)?;
         }
         Ok(())
+    }
+
+    /// Rounds until the searches are spent; none where there are no demands.
+    pub fn run(&mut self, inst: &Instance, table: &StepTable) -> Result<(), AllocError>
+        requires table { table.now ≡ inst.now }
+        requires search { IsSearch inst.now self.old }
+        ensures search { OnOk result (IsSearch inst.now self.new) }
+    {
+        if inst.demands() == 0 {
+            return Ok(());
+        }
+        self.spend_searches(inst, table)
     }
 
     /// The paths of the cheapest design met.

@@ -1,5 +1,5 @@
 use Rattle.incumbent.specs.Routings.{IsSearch}
-use Rattle.incumbent.proofs.rounds.Rounds.run.Given as goal
+use Rattle.incumbent.proofs.rounds.Rounds.spend_searches.Given as goal
 
 abbrev pub invariant-loop-round : goal.invariant-loop-round
 invariant-loop-round l = IsSearch l.inst l.self
