@@ -4,13 +4,14 @@ use Rattle.std.specs.Io.KnownBytes.{Appends}
 use Rattle.plan_base.specs.declared.parts.Parts.{Parts}
 use Rattle.snd_network.specs.declared.file.NetworkFile.{NetworkFile}
 use Rattle.proof_tree.specs.declared.plan.Plan.{Plan}
+use Rattle.plan_report.specs.Reports.{IsReadFrom}
 use Rattle.plan_texts.specs.declared.answer.Answer.{Answer}
 use Rattle.plan_texts.specs.declared.stop.Stop.{Stop}
 use Rattle.plan_texts.specs.declared.status.Status.{Status}
 use Rattle.plan_texts.specs.declared.status.Status.TheVariants.{WriteFault}
 use Rattle.plan_texts.specs.Texts.{Told, Texts, HoldsOfTexts}
 use Rattle.plan_texts.specs.Refusals.{IsProblem, HoldsOfProblem}
-use Rattle.plan_texts.specs.Answers.{IsCheck, IsVerdict, IsChecked, IsVerified, IsWhole, IsWritten, whole, cut}
+use Rattle.plan_texts.specs.Answers.{IsCheck, IsVerdict, IsReport, IsChecked, IsVerified, IsReported, IsWhole, IsWritten, whole, cut}
 
 -- what holds of what the texts spell holds of a problem of the texts
 pub of_problem : (names : Texts) (shelf : Told) (begun : ℕ) (net : NetworkFile) (parts : Parts) (plan : Option Plan) (Holds : NetworkFile → Parts → Option Plan → Type 0) → HoldsOfTexts shelf names begun (λ texts. IsProblem texts net parts plan) → Holds net parts plan → HoldsOfTexts shelf names begun (λ texts. HoldsOfProblem texts Holds)
@@ -21,6 +22,13 @@ checked_texts names shelf begun net parts status bytes h is = of_problem names s
 
 pub verified_texts : (names : Texts) (shelf : Told) (begun : ℕ) (net : NetworkFile) (parts : Parts) (plan : Plan) (status : Status) (bytes : List ℕ) → HoldsOfTexts shelf names begun (λ texts. IsProblem texts net parts (Some plan)) → IsVerdict parts plan status bytes → HoldsOfTexts shelf names begun (λ texts. IsVerified texts status bytes)
 verified_texts names shelf begun net parts plan status bytes h is = record { texts = h.texts; read = h.read; holds = record { net = net; parts = parts; plan = Some plan; problem = h.holds; holds = is } }
+
+pub reported_texts : (names : Texts) (shelf : Told) (begun : ℕ) (net : NetworkFile) (parts : Parts) (plan : Plan) (status : Status) (bytes : List ℕ) → HoldsOfTexts shelf names begun (λ texts. IsProblem texts net parts (Some plan)) → IsReport net parts plan status bytes → HoldsOfTexts shelf names begun (λ texts. IsReported texts status bytes)
+reported_texts names shelf begun net parts plan status bytes h is = record { texts = h.texts; read = h.read; holds = record { net = net; parts = parts; plan = Some plan; problem = h.holds; holds = is } }
+
+-- the instance of a problem of texts is read from its network
+pub read_from : (names : Texts) (shelf : Told) (begun : ℕ) (net : NetworkFile) (parts : Parts) (plan : Option Plan) → HoldsOfTexts shelf names begun (λ texts. IsProblem texts net parts plan) → IsReadFrom net parts
+read_from names shelf begun net parts plan h = record { model = h.holds.reads.options; reads = h.holds.reads.stands }
 
 -- ---- what is written of an answer
 

@@ -2,3 +2,4 @@ pub mod Begins
 pub mod Answering
 mod StopLaws
 pub mod OneRefusal
+mod OneReport

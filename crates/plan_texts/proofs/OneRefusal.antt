@@ -126,7 +126,7 @@ no-files below texts cause net parts misfit some reads =
     let is : IsCheckFault net reads.options cause = subst (λ (o : ModelFile). IsCheckFault net o cause) models (subst (λ (n : NetworkFile). IsCheckFault n misfit.options cause) nets misfit.is) in
     some (below.no_refusal net reads.options parts cause reads.stands reads.lawful is)
 
-same-parts : Below → (texts : Texts) (one_net other_net : NetworkFile) (a b : Parts) → Reads texts one_net a → Reads texts other_net b → a ≡ b
+pub same-parts : Below → (texts : Texts) (one_net other_net : NetworkFile) (a b : Parts) → Reads texts one_net a → Reads texts other_net b → a ≡ b
 same-parts below texts one_net other_net a b one other =
     let nets : one_net ≡ other_net = below.one_network texts.network one_net other_net one.network_text other.network_text in
     let models : one.options ≡ other.options = below.one_model texts.model one.options other.options one.model_text other.model_text in
@@ -233,7 +233,7 @@ good_where_valid below texts net parts plan status bytes reads its done =
     (valid-if parts plan status bytes verdict, good-if parts plan status bytes verdict)
 
 -- two rejections of a plan have one line
-same-line : Below → (parts : Parts) (plan : Plan) (bytes more : List ℕ) → IsRejection parts plan bytes → IsRejection parts plan more → bytes ≡ more
+pub same-line : Below → (parts : Parts) (plan : Plan) (bytes more : List ℕ) → IsRejection parts plan bytes → IsRejection parts plan more → bytes ≡ more
 same-line below parts plan bytes more one two =
     let both : ◌≡◌ {A = Option Rejection} (Some one.fault) (Some two.fault) = below.one_rejection parts plan (Some one.fault) (Some two.fault) one.first two.first in
     let same : one.fault ≡ two.fault = cc in

@@ -1,7 +1,8 @@
--- What is written of texts without a search: the line of a check and that of a verdict, and what becomes of an answer.
+-- What is written of texts without a search: the line of a check, that of a verdict and the text of a report, and what becomes of an answer.
 use Rattle.std.specs.Prelude.{ℕ, ◌≡◌, ◌≢◌, ◌<◌, List, [], length, take, Option, Some, Result, Ok, Err, IsSomeAnd}
 use Rattle.std.specs.Io.KnownBytes.{Appends}
 use Rattle.plan_base.specs.declared.parts.Parts.{Parts}
+use Rattle.snd_network.specs.declared.file.NetworkFile.{NetworkFile}
 use Rattle.proof_tree.specs.declared.plan.Plan.{Plan}
 use Rattle.proof_tree.specs.Plans.{IsValidPlan, HasItsClaim}
 use Rattle.cert_verifier.specs.declared.rejected.Rejected.{Rejected as Rejection}
@@ -9,6 +10,7 @@ use Rattle.cert_verifier.specs.declared.rejected.Rejected.TheVariants as rejecti
 use Rattle.cert_verifier.specs.PlanRules.{PlanFinds}
 use Rattle.plan_report.specs.Lines.{fault_line, IsCheckLine}
 use Rattle.plan_report.specs.Verdicts.{accepted_line, rejected_line}
+use Rattle.plan_report.specs.Reports.{report_text}
 use Rattle.plan_texts.specs.declared.answer.Answer.{Answer}
 use Rattle.plan_texts.specs.declared.status.Status.{Status}
 use Rattle.plan_texts.specs.declared.status.Status.TheVariants.{Good, WriteFault, OutOfMemory, Rejected}
@@ -44,6 +46,17 @@ pub data IsVerdict (parts : Parts) (plan : Plan) (status : Status) (bytes : List
   accepted : status ≡ Good → IsAcceptance parts plan bytes → IsVerdict parts plan status bytes
   rejected : status ≡ Rejected → IsRejection parts plan bytes → IsVerdict parts plan status bytes
 
+-- the plan is a valid one of the instance, so what it claims is so, and this text tells it by the names of the network
+pub record IsReportOf (net : NetworkFile) (parts : Parts) (plan : Plan) (bytes : List ℕ) : Type 0 where
+  pub valid : IsValidPlan parts plan
+  pub claim : HasItsClaim parts plan
+  pub text : bytes ≡ report_text net parts plan
+
+-- a valid plan is told, and any other is rejected, with the status that goes with it
+pub data IsReport (net : NetworkFile) (parts : Parts) (plan : Plan) (status : Status) (bytes : List ℕ) : Type 0 where
+  reported : status ≡ Good → IsReportOf net parts plan bytes → IsReport net parts plan status bytes
+  unreported : status ≡ Rejected → IsRejection parts plan bytes → IsReport net parts plan status bytes
+
 -- ---- what is written of texts
 
 -- the texts spell an instance within its limits, and this is its line
@@ -53,6 +66,10 @@ IsChecked texts status bytes = HoldsOfProblem texts (λ net parts plan. IsCheck 
 -- the texts spell an instance within its limits and a plan, and this is the verdict on it
 abbrev pub IsVerified : Texts → Status → List ℕ → Type 0
 IsVerified texts status bytes = HoldsOfProblem texts (λ net parts plan. IsSomeAnd plan (λ made. IsVerdict parts made status bytes))
+
+-- the texts spell an instance within its limits and a plan, and this is the report on it
+abbrev pub IsReported : Texts → Status → List ℕ → Type 0
+IsReported texts status bytes = HoldsOfProblem texts (λ net parts plan. IsSomeAnd plan (λ made. IsReport net parts made status bytes))
 
 -- ---- what becomes of an answer
 

@@ -10,7 +10,7 @@ ghost use Rattle.plan_texts.specs.declared.status.Status.{Status as AnyStatus};
 ghost use Rattle.plan_texts.specs.declared.status.Status.TheVariants as statuses;
 ghost use Rattle.plan_texts.specs.Texts.{Texts};
 ghost use Rattle.plan_texts.specs.Refusals.{Reads, SpellsItsPlan, IsProblem, AreRefused};
-ghost use Rattle.plan_texts.specs.Answers.{IsVerified};
+ghost use Rattle.plan_texts.specs.Answers.{IsVerified, IsReported};
 ghost use Rattle.plan_texts.specs.OneAnswer.{Below};
 
 /// What the crates below say: a text, two files, a link and a plan have one answer each.
@@ -61,6 +61,23 @@ pub fn accepted_where_valid()
 pub fn one_verdict()
     ensures { (texts : Texts) (status other : AnyStatus) (bytes more : List ℕ) →
         IsVerified texts status bytes → IsVerified texts other more → (status ≡ other) × (bytes ≡ more) }
+{
+    one_answer_below();
+}
+
+/// Where texts read as an instance and a plan, the plan is told exactly if it is a valid one of the instance.
+pub fn told_where_valid()
+    ensures { (texts : Texts) (net : AnyNetwork) (parts : AnyParts) (plan : AnyPlan) (status : AnyStatus) (bytes : List ℕ) →
+        Reads texts net parts → SpellsItsPlan texts.plan (Some plan) → IsReported texts status bytes
+        → (status ≡ statuses.Good) ↔ IsValidPlan parts plan }
+{
+    one_answer_below();
+}
+
+/// Three texts get one report: its status and its text.
+pub fn one_report()
+    ensures { (texts : Texts) (status other : AnyStatus) (bytes more : List ℕ) →
+        IsReported texts status bytes → IsReported texts other more → (status ≡ other) × (bytes ≡ more) }
 {
     one_answer_below();
 }

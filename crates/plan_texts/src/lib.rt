@@ -20,4 +20,4 @@ pub use answer::{Answer, write_answer};
 pub use problem::{Problem, read_planned, read_problem};
 pub use status::Status;
 pub use stop::Stop;
-pub use verdict::{check, verify_plan};
+pub use verdict::{check, report, verify_plan};

@@ -3,8 +3,9 @@
 ghost use Rattle.std.specs.Prelude.{◌≡◌, ◌≤◌, IfOk, IfErr};
 ghost use Rattle.plan_io.specs.Causes.{Rose};
 ghost use Rattle.proof_tree.specs.Spellings.{IsSpellable};
+ghost use Rattle.plan_report.specs.Reports.{IsReadFrom};
 ghost use Rattle.plan_texts.specs.Texts.{Begun, two, three, HoldsOfTexts};
-ghost use Rattle.plan_texts.specs.Answers.{IsCheck, IsVerdict, IsChecked, IsVerified};
+ghost use Rattle.plan_texts.specs.Answers.{IsCheck, IsVerdict, IsReport, IsChecked, IsVerified, IsReported};
 ghost use Rattle.plan_texts.specs.Stops.{IsReadStop, Stops};
 
 use crate::answer::Answer;
@@ -13,7 +14,7 @@ use crate::status::Status;
 use crate::stop::Stop;
 use cert_verifier::{Rejected, verify};
 use plan_io::{Gate, Shelf};
-use plan_report::{check_line, verdict_line};
+use plan_report::{check_line, report_text, verdict_line};
 use proof_tree::Plan;
 use std::alloc::{AllocError, Global};
 
@@ -38,6 +39,27 @@ fn verdict(alloc: Global, problem: &Problem, plan: &Plan) -> Result<Answer, Allo
         Ok(()) => Ok(Answer {
             status: Status::Good,
             text: verdict_line(alloc, plan, &Ok(()))?,
+        }),
+        Err(Rejected::OutOfMemory) => Err(AllocError),
+        Err(fault) => Ok(Answer {
+            status: Status::Rejected,
+            text: verdict_line(alloc, plan, &Err(fault))?,
+        }),
+    }
+}
+
+/// What is written of a plan of an instance by the names of the network, once it is verified.
+fn report_on(alloc: Global, problem: &Problem, plan: &Plan) -> Result<Answer, AllocError>
+    requires table { problem.now.table ≡ problem.now.inst }
+    requires read { IsReadFrom problem.now.network problem.now.inst }
+    requires fits { IsSpellable plan.now }
+    ensures { IfOk result (λ answer. IsReport problem.now.network problem.now.inst plan.now answer.status answer.text.items) }
+{
+    let verified = verify(alloc, &problem.inst, &problem.table, plan);
+    match verified {
+        Ok(()) => Ok(Answer {
+            status: Status::Good,
+            text: report_text(alloc, &problem.network, &problem.inst, plan)?,
         }),
         Err(Rejected::OutOfMemory) => Err(AllocError),
         Err(fault) => Ok(Answer {
@@ -107,6 +129,40 @@ pub fn verify_plan<S: Shelf, G: Gate>(
         Err(stop) => return Err(stop),
     };
     match verdict(alloc, &planned.problem, &planned.plan) {
+        Ok(answer) => Ok(answer),
+        Err(AllocError) => Err(Stop::OutOfMemory),
+    }
+}
+
+/// Reads a network text, a model text and a plan text, and tells the plan by the names of the network, once it is verified; a plan
+/// that is no valid one gets the line of `verify`.
+///
+/// - Takes: the names of the three texts.
+/// - Errors: the first refusal of the texts in the order of their rules, a fault of the shelf, or want of memory.
+/// - Rule: docs/DEFINITIONS.md, "Runs"; docs/FORMATS.md, "The text of `report`".
+/// - Time: linear in the texts' bytes, and that of verifying and telling the plan.
+#[tactic(auto, using(crate::proofs::Begins::memory_after_three, crate::proofs::Answering::read_from, crate::proofs::Answering::reported_texts))]
+pub fn report<S: Shelf, G: Gate>(
+    alloc: Global,
+    network: &str,
+    model: &str,
+    plan: &str,
+    shelf: &mut S,
+    gate: &G,
+) -> Result<Answer, Stop>
+    ensures done { IfOk result (λ answer. HoldsOfTexts (S.text shelf.old) (three network.now model.now plan.now) 3
+        (λ texts. IsReported texts answer.status answer.text.items)) }
+    ensures begun { IfOk result (λ _. Begun 3 (S.begins shelf.old) (S.begins shelf.new)) }
+    ensures stop { IfErr result (Stops (three network.now model.now plan.now) (S.text shelf.old)
+        (S.begins shelf.old) (S.begins shelf.new)) }
+    ensures read_fault { IfErr result (λ stop. IsReadStop stop → Rose (S.faults shelf.old) (S.faults shelf.new)) }
+    ensures later { S.faults shelf.old ≤ S.faults shelf.new }
+{
+    let planned = match read_planned(alloc, network, model, plan, shelf, gate) {
+        Ok(planned) => planned,
+        Err(stop) => return Err(stop),
+    };
+    match report_on(alloc, &planned.problem, &planned.plan) {
         Ok(answer) => Ok(answer),
         Err(AllocError) => Err(Stop::OutOfMemory),
     }
