@@ -1,43 +1,98 @@
 -- The words that are read are more than the texts that they name.
-use Rattle.std.proofs.Common.{◌≡◌, ◌+◌, ◌≤◌, ℕ, Bool, true, false, if◌then◌else◌, List, [], ◌∷◌, length, Option, Some, None, option_map, sym, ap, arith}
-use Rattle.std.specs.Prelude.{codes}
+use Rattle.std.proofs.Common.{◌≡◌, ◌+◌, ◌≤◌, ℕ, Bool, true, false, if◌then◌else◌, List, [], ◌∷◌, length, take, drop, Option, Some, None, option_map, refl, sym, ap, arith}
+use Rattle.std.specs.Prelude.{codes, is_some, option_and_then}
 use Rattle.std.specs.Str.{bytes_eq}
+use Rattle.std.specs.List.{fold}
+use Rattle.std.proofs.lemmas.List.{length-append}
 use Rattle.command_words.specs.declared.command.Command.{Command}
-use Rattle.command_words.specs.declared.command.Command.TheVariants.{Plan, Check, Verify}
-use Rattle.command_words.specs.declared.command.TheConstants.{DEFAULT_BUDGET}
-use Rattle.command_words.specs.Words.{budget_of, command_in, name_count}
+use Rattle.command_words.specs.declared.command.Command.TheVariants.{Plan, Check, Verify, Report}
+use Rattle.command_words.specs.declared.command.SampleKey.{SampleKey}
+use Rattle.command_words.specs.Words.{Word, Heard, begins_with_dash, is_option, with_name, with_value, with_own_value, with_option, with_word, heard_on, heard_in, nothing_heard, budget_of, sample_key, sample_of, trial_of, with_names, command_of, command_in, name_count}
 
--- the names of a command that is read, and its word
-abbrev counted : Option (Command (List ℕ)) → ℕ
+-- how many names were heard
+abbrev few : Option Heard → ℕ
+few None = 0
+few (Some h) = length h.names
+
+choose : (b : Bool) (x y : Option Heard) (most : ℕ) → few x ≤ most → few y ≤ most → few (if b then x else y) ≤ most
+choose true x y most one other = one
+choose false x y most one other = other
+
+name-few : (word : Word) (h : Heard) → few (Some (with_name word h)) ≤ length h.names + 1
+name-few word h = omega (arith, length-append h.names (word ∷ []))
+
+value-few : (word : Word) (h : Heard) → few (with_value word h) ≤ length h.names + 1
+value-few word h = choose (is_some h.budget) _ _ (length h.names + 1) (omega arith) (omega arith)
+
+own-few : (word : Word) (h : Heard) → few (with_own_value word h) ≤ length h.names + 1
+own-few word h = choose (begins_with_dash word) _ _ (length h.names + 1) (omega arith) (value-few word h)
+
+option-few : (word : Word) (h : Heard) → few (with_option word h) ≤ length h.names + 1
+option-few word h =
+    choose (bytes_eq word (codes "--")) _ _ (length h.names + 1) (omega arith)
+    (choose (bytes_eq word (codes "--nodes")) _ _ (length h.names + 1) (omega arith)
+    (choose (bytes_eq (take 8 word) (codes "--nodes=")) _ _ (length h.names + 1) (value-few (drop 8 word) h) (omega arith)))
+
+word-few : (word : Word) (h : Heard) → few (with_word word h) ≤ length h.names + 1
+word-few word h =
+    choose h.only_names _ _ (length h.names + 1) (name-few word h)
+    (choose h.awaits_value _ _ (length h.names + 1) (own-few word h)
+    (choose (is_option word) _ _ (length h.names + 1) (option-few word h) (name-few word h)))
+
+step-few : (said : Option Heard) (word : Word) → few (heard_on said word) ≤ few said + 1
+step-few None word = omega arith
+step-few (Some h) word = word-few word h
+
+fold-few : (words : List Word) (said : Option Heard) → few (fold heard_on said words) ≤ few said + length words
+fold-few [] said = omega arith
+fold-few (word ∷ words) said = omega (arith, fold-few words (heard_on said word), step-few said word)
+
+-- the names of a command that is read
+abbrev counted : Option (Command Word) → ℕ
 counted None = 0
-counted (Some command) = name_count command + 1
-
-two-named : (network model : List ℕ) (budget : ℕ) (is_plan is_check : Bool) (command : Command (List ℕ)) → (if is_plan then Some (Plan network model budget) else if is_check then Some (Check network model) else None) ≡ Some command → name_count command + 1 ≡ 3
-two-named network model budget true is_check command is = sym (ap counted is)
-two-named network model budget false true command is = sym (ap counted is)
-two-named network model budget false false command is = absurd cc
-
-three-named : (network model plan : List ℕ) (is_verify : Bool) (command : Command (List ℕ)) → (if is_verify then Some (Verify network model plan) else None) ≡ Some command → name_count command + 1 ≡ 4
-three-named network model plan true command is = sym (ap counted is)
-three-named network model plan false command is = absurd cc
-
-within-named : (network model : List ℕ) (is_plan : Bool) (budget : Option ℕ) (command : Command (List ℕ)) → (if is_plan then option_map (λ number. Plan network model number) budget else None) ≡ Some command → name_count command + 1 ≡ 3
-within-named network model true (Some budget) command is = sym (ap counted is)
-within-named network model true None command is = absurd cc
-within-named network model false budget command is = absurd cc
+counted (Some command) = name_count command
 
 at-most : (count all : ℕ) → count ≡ all → count ≤ all
 at-most count all is = omega (arith, is)
 
-three-of-five : (count : ℕ) → count ≡ 3 → count ≤ 5
-three-of-five count is = omega (arith, is)
+two-named : (network model : Word) (is_plan has is_check : Bool) (number : Option ℕ) (command : Command Word) → (if is_plan then option_map (λ (n : ℕ). Plan network model n) number else if has then None else if is_check then Some (Check network model) else None) ≡ Some command → name_count command ≡ 2
+two-named network model true has is_check (Some number) command is = sym (ap counted is)
+two-named network model true has is_check None command is = absurd cc
+two-named network model false true is_check number command is = absurd cc
+two-named network model false false true number command is = sym (ap counted is)
+two-named network model false false false number command is = absurd cc
+
+none-named : (made : SampleKey → Command Word) → ((key : SampleKey) → name_count (made key) ≡ 0) → (key : Option SampleKey) (command : Command Word) → option_map made key ≡ Some command → name_count command ≤ 3
+none-named made none None command is = absurd cc
+none-named made none (Some key) command is = let same : name_count (made key) ≡ name_count command = ap counted is in omega (arith, same, none key)
+
+sample-named : (is_sample is_trial : Bool) (key : Option SampleKey) (command : Command Word) → (if is_sample then option_map sample_of key else if is_trial then option_map trial_of key else None) ≡ Some command → name_count command ≤ 3
+sample-named true is_trial key command is = none-named sample_of (λ k. refl) key command is
+sample-named false true key command is = none-named trial_of (λ k. refl) key command is
+sample-named false false key command is = absurd cc
+
+three-named : (first second third : Word) (has is_verify is_report is_sample is_trial : Bool) (key : Option SampleKey) (command : Command Word) → (if has then None else if is_verify then Some (Verify first second third) else if is_report then Some (Report first second third) else if is_sample then option_map sample_of key else if is_trial then option_map trial_of key else None) ≡ Some command → name_count command ≤ 3
+three-named first second third true is_verify is_report is_sample is_trial key command is = absurd cc
+three-named first second third false true is_report is_sample is_trial key command is = at-most (name_count command) 3 (sym (ap counted is))
+three-named first second third false false true is_sample is_trial key command is = at-most (name_count command) 3 (sym (ap counted is))
+three-named first second third false false false is_sample is_trial key command is = sample-named is_sample is_trial key command is
+
+names-few : (word : Word) (names : List Word) (budget : Option Word) (command : Command Word) → with_names word names budget ≡ Some command → name_count command ≤ length names
+names-few word [] budget command is = absurd cc
+names-few word (a ∷ []) budget command is = absurd cc
+names-few word (network ∷ model ∷ []) budget command is = at-most (name_count command) 2 (two-named network model (bytes_eq word (codes "plan")) (is_some budget) (bytes_eq word (codes "check")) (budget_of budget) command is)
+names-few word (first ∷ second ∷ third ∷ []) budget command is = three-named first second third (is_some budget) (bytes_eq word (codes "verify")) (bytes_eq word (codes "report")) (bytes_eq word (codes "sample")) (bytes_eq word (codes "trial")) (sample_key first second third) command is
+names-few word (a ∷ b ∷ c ∷ d ∷ more) budget command is = absurd cc
+
+whole-few : (word : Word) (names : List Word) (budget : Option Word) (awaits : Bool) (command : Command Word) → (if awaits then None else with_names word names budget) ≡ Some command → name_count command ≤ length names
+whole-few word names budget true command is = absurd cc
+whole-few word names budget false command is = names-few word names budget command is
+
+heard-few : (word : Word) (said : Option Heard) (command : Command Word) → option_and_then (command_of word) said ≡ Some command → name_count command ≤ few said
+heard-few word None command is = absurd cc
+heard-few word (Some h) command is = whole-few word h.names h.budget h.awaits_value command is
 
 -- the words that are read are more than the texts that they name
-pub word_count : (words : List (List ℕ)) (command : Command (List ℕ)) → command_in words ≡ Some command → name_count command + 1 ≤ length words
+pub word_count : (words : List Word) (command : Command Word) → command_in words ≡ Some command → name_count command + 1 ≤ length words
 word_count [] command is = absurd cc
-word_count (word ∷ []) command is = absurd cc
-word_count (word ∷ network ∷ []) command is = absurd cc
-word_count (word ∷ network ∷ model ∷ []) command is = at-most (name_count command + 1) 3 (two-named network model DEFAULT_BUDGET (bytes_eq word (codes "plan")) (bytes_eq word (codes "check")) command is)
-word_count (word ∷ network ∷ model ∷ plan ∷ []) command is = at-most (name_count command + 1) 4 (three-named network model plan (bytes_eq word (codes "verify")) command is)
-word_count (word ∷ network ∷ model ∷ option ∷ number ∷ []) command is = three-of-five (name_count command + 1) (within-named network model (bytes_eq word (codes "plan")) (budget_of option number) command is)
-word_count (word ∷ network ∷ model ∷ option ∷ number ∷ more ∷ rest) command is = absurd cc
+word_count (word ∷ rest) command is = omega (arith, heard-few word (heard_in rest) command is, fold-few rest (Some nothing_heard))

@@ -1,2 +1,3 @@
 pub mod Counts
-mod Budgets
+mod Numbers
+mod Folds

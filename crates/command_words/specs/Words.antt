@@ -1,74 +1,198 @@
--- What the words of a command ask for.
-use Rattle.std.specs.Prelude.{ℕ, ◌≤◌, List, [], ◌∷◌, Option, Some, None, Bool, ◌&&◌, if◌then◌else◌, codes, nat_le, option_map}
-use Rattle.std.specs.Char.{is_ascii_digit}
-use Rattle.std.specs.List.{list_all}
-use Rattle.std.specs.Str.{bytes_eq}
-use Rattle.std.specs.Str.Parse.{digits_value}
+-- How the words of a command line are read.
+use Rattle.std.specs.Prelude.{ℕ, ◌≤◌, ◌==◌, List, [], ◌∷◌, ◌++◌, length, take, drop, slice_index, Option, Some, None, Bool, true, false, ◌&&◌, if◌then◌else◌, codes, nat_le, nat_lt, is_some, map, option_map, option_and_then}
+use Rattle.std.specs.List.{fold}
+use Rattle.std.specs.Str.{bytes_eq, all_ascii_digits}
+use Rattle.std.specs.Str.Parse.{digits_value, without_leading_plus}
 use Rattle.std.specs.Borrow.{Bor}
 use Rattle.proof_tree.specs.declared.limits.TheConstants.{MAX_BUDGET}
+use Rattle.instance_maker.specs.declared.limits.TheConstants.{MAX_NUMBER, MIN_NODES, MAX_NODES, MAX_DEMANDS}
 use Rattle.command_words.specs.declared.command.Command.{Command}
-use Rattle.command_words.specs.declared.command.Command.TheVariants.{Plan, Check, Verify}
+use Rattle.command_words.specs.declared.command.SampleKey.{SampleKey}
+use Rattle.command_words.specs.declared.command.Command.TheVariants.{Plan, Check, Verify, Report, Sample, Trial}
 use Rattle.command_words.specs.declared.command.TheConstants.{DEFAULT_BUDGET}
+use Rattle.command_words.specs.declared.heard.Heard.{Heard as OwnHeard}
 
 -- the bytes of a word
 abbrev pub Word : Type 0
 Word = List ℕ
 
--- so many nodes may be examined
-abbrev pub may_examine : ℕ → Bool
-may_examine number = nat_le 1 number && nat_le number MAX_BUDGET
+-- ---- numbers
 
--- the budget that a word of plain digits gives
-abbrev pub budget_named : Word → Option ℕ
-budget_named word =
-    if list_all is_ascii_digit word && may_examine (digits_value 10 word) then Some (digits_value 10 word)
+-- digits, at least one
+abbrev pub is_numeral : Word → Bool
+is_numeral digits = nat_lt 0 (length digits) && all_ascii_digits digits
+
+-- the number of a word that is an optional plus and digits, where it lies in this range
+abbrev pub number_within : ℕ → ℕ → Word → Option ℕ
+number_within least most word =
+    let digits = without_leading_plus word in
+    if is_numeral digits && nat_le least (digits_value 10 digits) && nat_le (digits_value 10 digits) most then Some (digits_value 10 digits)
     else None
 
--- the command of a word about these two texts
-abbrev pub command_named : Word → Word → Word → Option (Command Word)
-command_named word network model =
-    if bytes_eq word (codes "plan") then Some (Plan network model DEFAULT_BUDGET)
+-- ---- the words behind the command
+
+-- what the words behind the command have said so far: the names, and the value of `--nodes`
+pub record Heard : Type 0 where
+  pub names : List Word
+  pub budget : Option Word
+  -- the next word is the value of `--nodes`
+  pub awaits_value : Bool
+  -- `--` was among them, so every further word is a name
+  pub only_names : Bool
+
+-- nothing was said
+abbrev pub nothing_heard : Heard
+nothing_heard = record { names = []; budget = None; awaits_value = false; only_names = false }
+
+-- the first byte of a word is `-`, which is 45
+abbrev pub begins_with_dash : Word → Bool
+begins_with_dash word = slice_index word 0 == 45
+
+-- a word of more than one byte that begins with `-`
+abbrev pub is_option : Word → Bool
+is_option word = begins_with_dash word && nat_lt 1 (length word)
+
+-- the word is a name
+abbrev pub with_name : Word → Heard → Heard
+with_name word h = record h { names = h.names ++ word ∷ [] }
+
+-- the word is the value of `--nodes`, which may be given once
+abbrev pub with_value : Word → Heard → Option Heard
+with_value word h = if is_some h.budget then None else Some (record h { budget = Some word; awaits_value = false })
+
+-- a value that is a word of its own does not begin with `-`
+abbrev pub with_own_value : Word → Heard → Option Heard
+with_own_value word h = if begins_with_dash word then None else with_value word h
+
+-- an option: `--nodes`, or `--nodes=` and its value
+abbrev pub with_option : Word → Heard → Option Heard
+with_option word h =
+    if bytes_eq word (codes "--") then Some (record h { only_names = true })
+    else if bytes_eq word (codes "--nodes") then Some (record h { awaits_value = true })
+    else if bytes_eq (take 8 word) (codes "--nodes=") then with_value (drop 8 word) h
+    else None
+
+-- one word more
+abbrev pub with_word : Word → Heard → Option Heard
+with_word word h =
+    if h.only_names then Some (with_name word h)
+    else if h.awaits_value then with_own_value word h
+    else if is_option word then with_option word h
+    else Some (with_name word h)
+
+-- one word more, where those before it were read
+abbrev pub heard_on : Option Heard → Word → Option Heard
+heard_on None word = None
+heard_on (Some h) word = with_word word h
+
+-- what the words behind the command say, where they are read
+abbrev pub heard_in : List Word → Option Heard
+heard_in words = fold heard_on (Some nothing_heard) words
+
+-- ---- the command
+
+-- the budget of `plan`: a number from 1 to 4,096, or what stands for none
+abbrev pub budget_of : Option Word → Option ℕ
+budget_of None = Some DEFAULT_BUDGET
+budget_of (Some word) = number_within 1 MAX_BUDGET word
+
+-- the command of a word about two texts
+abbrev pub on_network : Word → Word → Word → Option Word → Option (Command Word)
+on_network word network model budget =
+    if bytes_eq word (codes "plan") then option_map (λ number. Plan network model number) (budget_of budget)
+    else if is_some budget then None
     else if bytes_eq word (codes "check") then Some (Check network model)
     else None
 
--- the command of a word about these three texts
-abbrev pub command_on_plan : Word → Word → Word → Word → Option (Command Word)
-command_on_plan word network model plan = if bytes_eq word (codes "verify") then Some (Verify network model plan) else None
+-- the sample of this number with so many nodes and demands
+abbrev pub key_of : ℕ → ℕ → ℕ → SampleKey
+key_of number nodes demands = record { number = number; nodes = nodes; demands = demands }
 
--- the budget of an option with its number
-abbrev pub budget_of : Word → Word → Option ℕ
-budget_of option number = if bytes_eq option (codes "--nodes") then budget_named number else None
+-- the sample that three words name: its number, how many nodes, and how many demands
+abbrev pub sample_key : Word → Word → Word → Option SampleKey
+sample_key number nodes demands =
+    option_and_then (λ first. option_and_then (λ second. option_map (key_of first second)
+    (number_within 0 MAX_DEMANDS demands)) (number_within MIN_NODES MAX_NODES nodes)) (number_within 0 MAX_NUMBER number)
 
--- the command of a word about these two texts, with the budget of an option
-abbrev pub command_within : Word → Word → Word → Word → Word → Option (Command Word)
-command_within word network model option number = if bytes_eq word (codes "plan") then option_map (λ budget. Plan network model budget) (budget_of option number) else None
+-- the command that writes this sample
+abbrev pub sample_of : SampleKey → Command Word
+sample_of key = Sample key
+
+-- the command that plans this sample
+abbrev pub trial_of : SampleKey → Command Word
+trial_of key = Trial key
+
+-- the command of a word about a sample
+abbrev pub on_sample : Word → Word → Word → Word → Option (Command Word)
+on_sample word number nodes demands =
+    if bytes_eq word (codes "sample") then option_map sample_of (sample_key number nodes demands)
+    else if bytes_eq word (codes "trial") then option_map trial_of (sample_key number nodes demands)
+    else None
+
+-- the command of a word about three texts, or about a sample
+abbrev pub on_three : Word → Word → Word → Word → Option Word → Option (Command Word)
+on_three word first second third budget =
+    if is_some budget then None
+    else if bytes_eq word (codes "verify") then Some (Verify first second third)
+    else if bytes_eq word (codes "report") then Some (Report first second third)
+    else on_sample word first second third
+
+-- the command of a word with these names
+abbrev pub with_names : Word → List Word → Option Word → Option (Command Word)
+with_names word (network ∷ model ∷ []) budget = on_network word network model budget
+with_names word (first ∷ second ∷ third ∷ []) budget = on_three word first second third budget
+with_names word names budget = None
+
+-- the command of a word and what the words behind it say; no value is left to come
+abbrev pub command_of : Word → Heard → Option (Command Word)
+command_of word h = if h.awaits_value then None else with_names word h.names h.budget
 
 -- the command that the words ask for, where they are read
 abbrev pub command_in : List Word → Option (Command Word)
-command_in (word ∷ network ∷ model ∷ []) = command_named word network model
-command_in (word ∷ network ∷ model ∷ plan ∷ []) = command_on_plan word network model plan
-command_in (word ∷ network ∷ model ∷ option ∷ number ∷ []) = command_within word network model option number
-command_in _ = None
+command_in [] = None
+command_in (word ∷ rest) = option_and_then (command_of word) (heard_in rest)
+
+-- ---- of the code
 
 -- the command with what is behind its references
 abbrev pub command_now : {N : Type 0} → Command (Bor N) → Command N
 command_now (Plan network model budget) = Plan network.now model.now budget
 command_now (Check network model) = Check network.now model.now
 command_now (Verify network model plan) = Verify network.now model.now plan.now
+command_now (Report network model plan) = Report network.now model.now plan.now
+command_now (Sample key) = Sample key
+command_now (Trial key) = Trial key
+
+-- what was heard, with what is behind its references
+abbrev pub heard_now : OwnHeard → Heard
+heard_now h = record { names = map (λ name. name.now) h.names.items; budget = option_map (λ word. word.now) h.budget; awaits_value = h.awaits_value; only_names = h.only_names }
 
 -- how many texts the command names
 abbrev pub name_count : {N : Type 0} → Command N → ℕ
 name_count (Plan network model budget) = 2
 name_count (Check network model) = 2
 name_count (Verify network model plan) = 3
+name_count (Report network model plan) = 3
+name_count (Sample key) = 0
+name_count (Trial key) = 0
 
 -- so many nodes may be examined
 pub record IsBudget (budget : ℕ) : Type 0 where
   pub some : 1 ≤ budget
   pub within : budget ≤ MAX_BUDGET
 
--- the budget of a command, where it has one, may be given
-abbrev pub HasBudget : {N : Type 0} → Command N → Type 0
-HasBudget (Plan network model budget) = IsBudget budget
-HasBudget (Check network model) = Unit {0}
-HasBudget (Verify network model plan) = Unit {0}
+-- a sample of this number, with so many nodes and demands, is made
+pub record IsSampleKey (key : SampleKey) : Type 0 where
+  pub number : key.number ≤ MAX_NUMBER
+  pub some : MIN_NODES ≤ key.nodes
+  pub few : key.nodes ≤ MAX_NODES
+  pub demands : key.demands ≤ MAX_DEMANDS
+
+-- the numbers of a command, where it has some, are within their ranges
+abbrev pub IsInRange : {N : Type 0} → Command N → Type 0
+IsInRange (Plan network model budget) = IsBudget budget
+IsInRange (Check network model) = Unit {0}
+IsInRange (Verify network model plan) = Unit {0}
+IsInRange (Report network model plan) = Unit {0}
+IsInRange (Sample key) = IsSampleKey key
+IsInRange (Trial key) = IsSampleKey key

@@ -1,14 +1,26 @@
-//! What the words of a command ask for.
+//! What the words of a command line ask for.
 
-ghost use Rattle.std.specs.Prelude.{◌≡◌, map, string_bytes, option_map, IfSome};
-ghost use Rattle.std.specs.Char.{is_ascii_digit};
-ghost use Rattle.std.specs.List.{list_all};
-ghost use Rattle.command_words.specs.Words.{may_examine, budget_named, command_named, command_on_plan, budget_of, command_within, command_now, command_in, IsBudget, HasBudget};
+ghost use Rattle.std.specs.Prelude.{◌≡◌, ◌≤◌, ◌<◌, ◌^◌, map, string_bytes, option_map, IfOk, IfSome};
+ghost use Rattle.command_words.specs.Words.{number_within, budget_of, on_network, sample_key, on_sample, on_three, with_names, command_of, command_now, heard_now, command_in, IsBudget, IsSampleKey, IsInRange};
 
+use crate::heard::{Heard, heard_in};
+use instance_maker::limits::{MAX_DEMANDS, MAX_NODES, MAX_NUMBER, MIN_NODES};
 use proof_tree::limits::MAX_BUDGET;
+use std::alloc::{AllocError, Global};
 
 /// How many nodes of the search tree may be examined where the words name no number.
 pub const DEFAULT_BUDGET: u32 = 1000;
+
+/// Which sample is meant.
+#[derive(Clone, Copy, Debug, PartialEq, Eq)]
+pub struct SampleKey {
+    /// What its numbers are drawn from.
+    pub number: u32,
+    /// How many nodes it has.
+    pub nodes: u32,
+    /// How many demands it has.
+    pub demands: u32,
+}
 
 /// What a run is to do. A text is named by an `N`: by its name, or by the bytes of its name.
 #[derive(Debug, Drop)]
@@ -31,138 +43,171 @@ pub enum Command<N> {
         model: N,
         plan: N,
     },
+    /// Tells the plan by the names of the network, where it is a valid one of it.
+    Report {
+        network: N,
+        model: N,
+        plan: N,
+    },
+    /// Writes the network of a sample.
+    Sample(SampleKey),
+    /// Plans the network of a sample, and tells what its plan claims.
+    Trial(SampleKey),
 }
 
-/// Whether so many nodes may be examined.
-fn may_examine(number: u32) -> bool
-    ensures { result ≡ may_examine number }
+/// The number of a word that is an optional plus and digits, where it lies in this range.
+fn number_within(least: u32, most: u32, word: &str) -> Option<u32>
+    ensures value { result ≡ number_within least most word.now }
+    ensures least { IfSome result (λ number. least ≤ number) }
+    ensures most { IfSome result (λ number. number ≤ most) }
 {
-    1 <= number && number <= MAX_BUDGET
-}
-
-/// Whether a word has no other bytes than digits.
-fn has_only_digits(word: &str) -> bool
-    ensures { result ≡ list_all is_ascii_digit word.now }
-{
-    word.as_bytes().iter().all(|byte| byte.is_ascii_digit())
-}
-
-/// The budget that a word of plain digits gives.
-fn budget_named(word: &str) -> Option<u32>
-    ensures value { result ≡ budget_named word.now }
-    ensures lawful { IfSome result IsBudget }
-{
-    if !has_only_digits(word) {
-        return None;
-    }
     let Ok(number) = word.parse::<u32>() else {
         return None;
     };
-    if !may_examine(number) {
+    if number < least {
+        return None;
+    }
+    if number > most {
         return None;
     }
     Some(number)
 }
 
-/// The command of this word about these two texts.
-fn command_named<'a>(word: &str, network: &'a str, model: &'a str) -> Option<Command<&'a str>>
-    ensures value { option_map command_now result ≡ command_named word.now network.now model.now }
-    ensures budget { IfSome result (λ command. HasBudget (command_now command)) }
+/// The budget of `plan`.
+fn budget_of(word: Option<&str>) -> Option<u32>
+    ensures value { result ≡ budget_of (option_map (λ w. w.now) word.entry) }
+    ensures lawful { IfSome result IsBudget }
 {
     match word {
-        "plan" => Some(Command::Plan {
+        None => Some(DEFAULT_BUDGET),
+        Some(word) => number_within(1, MAX_BUDGET, word),
+    }
+}
+
+/// The command of a word about two texts.
+fn on_network<'a>(
+    word: &str,
+    network: &'a str,
+    model: &'a str,
+    budget: Option<&str>,
+) -> Option<Command<&'a str>>
+    ensures value { option_map command_now result
+        ≡ on_network word.now network.now model.now (option_map (λ w. w.now) budget.entry) }
+    ensures range { IfSome result (λ command. IsInRange (command_now command)) }
+{
+    if word == "plan" {
+        let budget = budget_of(budget)?;
+        return Some(Command::Plan {
             network,
             model,
-            budget: DEFAULT_BUDGET,
-        }),
+            budget,
+        });
+    }
+    if budget.is_some() {
+        return None;
+    }
+    match word {
         "check" => Some(Command::Check { network, model }),
         _ => None,
     }
 }
 
-/// The command of this word about these three texts.
-fn command_on_plan<'a>(
-    word: &str,
-    network: &'a str,
-    model: &'a str,
-    plan: &'a str,
-) -> Option<Command<&'a str>>
-    ensures value { option_map command_now result ≡ command_on_plan word.now network.now model.now plan.now }
-    ensures budget { IfSome result (λ command. HasBudget (command_now command)) }
+/// The sample that three words name.
+fn sample_key(number: &str, nodes: &str, demands: &str) -> Option<SampleKey>
+    ensures value { result ≡ sample_key number.now nodes.now demands.now }
+    ensures range { IfSome result IsSampleKey }
+{
+    let number = number_within(0, MAX_NUMBER, number)?;
+    let nodes = number_within(MIN_NODES, MAX_NODES, nodes)?;
+    let demands = number_within(0, MAX_DEMANDS, demands)?;
+    Some(SampleKey {
+        number,
+        nodes,
+        demands,
+    })
+}
+
+/// The command of a word about a sample.
+fn on_sample<'a>(word: &str, number: &str, nodes: &str, demands: &str) -> Option<Command<&'a str>>
+    ensures value { option_map command_now result ≡ on_sample word.now number.now nodes.now demands.now }
+    ensures range { IfSome result (λ command. IsInRange (command_now command)) }
 {
     match word {
-        "verify" => Some(Command::Verify {
-            network,
-            model,
-            plan,
-        }),
+        "sample" => Some(Command::Sample(sample_key(number, nodes, demands)?)),
+        "trial" => Some(Command::Trial(sample_key(number, nodes, demands)?)),
         _ => None,
     }
 }
 
-/// The budget of an option with its number.
-fn budget_of(option: &str, number: &str) -> Option<u32>
-    ensures value { result ≡ budget_of option.now number.now }
-    ensures lawful { IfSome result IsBudget }
-{
-    match option {
-        "--nodes" => budget_named(number),
-        _ => None,
-    }
-}
-
-/// The command of this word about these two texts, with the budget of an option.
-fn command_within<'a>(
+/// The command of a word about three texts, or about a sample.
+fn on_three<'a>(
     word: &str,
-    network: &'a str,
-    model: &'a str,
-    option: &str,
-    number: &str,
+    first: &'a str,
+    second: &'a str,
+    third: &'a str,
+    budget: Option<&str>,
 ) -> Option<Command<&'a str>>
     ensures value { option_map command_now result
-        ≡ command_within word.now network.now model.now option.now number.now }
-    ensures budget { IfSome result (λ command. HasBudget (command_now command)) }
+        ≡ on_three word.now first.now second.now third.now (option_map (λ w. w.now) budget.entry) }
+    ensures range { IfSome result (λ command. IsInRange (command_now command)) }
 {
+    if budget.is_some() {
+        return None;
+    }
     match word {
-        "plan" => {
-            let budget = budget_of(option, number)?;
-            Some(Command::Plan {
-                network,
-                model,
-                budget,
-            })
-        }
+        "verify" => Some(Command::Verify {
+            network: first,
+            model: second,
+            plan: third,
+        }),
+        "report" => Some(Command::Report {
+            network: first,
+            model: second,
+            plan: third,
+        }),
+        _ => on_sample(word, first, second, third),
+    }
+}
+
+/// The command of a word with these names.
+fn with_names<'a>(word: &str, names: &[&'a str], budget: Option<&str>) -> Option<Command<&'a str>>
+    ensures value { option_map command_now result
+        ≡ with_names word.now (map (λ name. name.now) names.now) (option_map (λ w. w.now) budget.entry) }
+    ensures range { IfSome result (λ command. IsInRange (command_now command)) }
+{
+    match names {
+        [network, model] => on_network(word, network, model, budget),
+        [first, second, third] => on_three(word, first, second, third, budget),
         _ => None,
     }
+}
+
+/// The command of a word and what the words behind it say.
+fn command_of<'a>(word: &str, heard: &Heard<'a>) -> Option<Command<&'a str>>
+    ensures value { option_map command_now result ≡ command_of word.now (heard_now heard.now) }
+    ensures range { IfSome result (λ command. IsInRange (command_now command)) }
+{
+    if heard.awaits_value {
+        return None;
+    }
+    with_names(word, heard.names.as_slice(), heard.budget)
 }
 
 /// The command that the words ask for, where they are read.
 ///
 /// - Takes: the words after the program's name.
+/// - Errors: want of memory alone.
 /// - Rule: docs/DEFINITIONS.md, "Runs".
-pub fn command_in(words: &[String]) -> Option<Command<&str>>
-    ensures value { option_map command_now result ≡ command_in (map string_bytes words.now) }
-    ensures budget { IfSome result (λ command. HasBudget (command_now command)) }
+/// - Time: linear in the bytes of the words.
+pub fn command_in(alloc: Global, words: &[String]) -> Result<Option<Command<&str>>, AllocError>
+    ensures value { IfOk result (λ asked. option_map command_now asked ≡ command_in (map string_bytes words.now)) }
+    ensures range { IfOk result (λ asked. IfSome asked (λ command. IsInRange (command_now command))) }
 {
-    match words {
-        [word, network, model] => { command_named(word.as_str(), network.as_str(), model.as_str()) }
-        [word, network, model, plan] => {
-            command_on_plan(
-                word.as_str(),
-                network.as_str(),
-                model.as_str(),
-                plan.as_str(),
-            )
-        }
-        [word, network, model, option, number] => {
-            command_within(
-                word.as_str(),
-                network.as_str(),
-                model.as_str(),
-                option.as_str(),
-                number.as_str(),
-            )
-        }
-        _ => None,
+    let [word, rest @ ..] = words else {
+        return Ok(None);
+    };
+    match heard_in(alloc, rest)? {
+        Some(heard) => Ok(command_of(word.as_str(), &heard)),
+        None => Ok(None),
     }
 }

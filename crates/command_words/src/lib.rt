@@ -5,5 +5,6 @@
 #![tactic(auto)]
 
 mod command;
+mod heard;
 
-pub use command::{Command, command_in};
+pub use command::{Command, SampleKey, command_in};

@@ -1,16 +1,15 @@
 -- What is done is not refused, and the plan that is written is accepted.
-use Rattle.std.proofs.Common.{◌≡◌, ℕ, List, Option, Some, None}
+use Rattle.std.proofs.Common.{◌≡◌, ℕ, List, Some}
 use Rattle.plan_base.specs.declared.parts.Parts.{Parts}
 use Rattle.snd_network.specs.declared.file.NetworkFile.{NetworkFile}
-use Rattle.proof_tree.specs.declared.plan.Plan.{Plan as AnyPlan}
 use Rattle.plan_report.specs.declared.run_fault.RunFault.{RunFault}
 use Rattle.command_words.specs.declared.command.Command.{Command}
-use Rattle.command_words.specs.declared.command.Command.TheVariants.{Plan, Check, Verify}
+use Rattle.command_words.specs.declared.command.Command.TheVariants.{Plan, Check, Verify, Report, Sample, Trial}
 use Rattle.command_words.specs.Words.{Word}
 use Rattle.plan_texts.specs.declared.status.Status.{Status}
 use Rattle.plan_texts.specs.declared.status.Status.TheVariants.{Good}
 use Rattle.plan_texts.specs.Texts.{Text, Texts, two, three}
-use Rattle.plan_texts.specs.Refusals.{Reads, IsProblem, AreRefused}
+use Rattle.plan_texts.specs.Refusals.{Reads, AreRefused}
 use Rattle.plan_texts.specs.Answers.{IsVerified}
 use Rattle.plan_texts.specs.OneAnswer.{Below}
 use Rattle.plan_texts.proofs.OneRefusal.{refused_or_read, verdict-of, good-if}
@@ -21,6 +20,9 @@ pub refused_or_done : Below → (command : Command Word) (texts : Texts) (fault 
 refused_or_done below (Plan network model budget) texts fault status bytes refused done = refused_or_read below texts done.net done.parts done.plan fault refused done.problem
 refused_or_done below (Check network model) texts fault status bytes refused done = refused_or_read below texts done.net done.parts done.plan fault refused done.problem
 refused_or_done below (Verify network model plan) texts fault status bytes refused done = refused_or_read below texts done.net done.parts done.plan fault refused done.problem
+refused_or_done below (Report network model plan) texts fault status bytes refused done = refused_or_read below texts done.net done.parts done.plan fault refused done.problem
+refused_or_done below (Sample key) texts fault status bytes refused done = done
+refused_or_done below (Trial key) texts fault status bytes refused done = done
 
 -- what network and model read as does not depend on a plan
 reads-with : (network model text : Text) (net : NetworkFile) (parts : Parts) → Reads (two network model) net parts → Reads (three network model text) net parts

@@ -1,15 +1,15 @@
 -- What the status of a run says, from what was found and what was written.
-use Rattle.std.proofs.Common.{◌≡◌, ◌+◌, ◌-◌, ◌≤◌, ◌<◌, ◌⊎◌, ◌^◌, ℕ, List, [], length, take, Option, Some, None, Result, Ok, Err, refl, sym, subst, ◌∙◌, arith, inl, inr}
+use Rattle.std.proofs.Common.{◌≡◌, ◌+◌, ◌≤◌, ◌<◌, ◌⊎◌, ◌^◌, ℕ, List, [], take, Option, Some, None, Result, Ok, Err, refl, sym, subst, ◌∙◌, arith, inl, inr}
 use Rattle.std.specs.Prelude.{IfOk, IfErr, IsSomeAnd, IsSome}
-use Rattle.std.specs.Io.KnownBytes.{Appends}
 use Rattle.proof_tree.specs.declared.plan.PlanStatus.{PlanStatus}
 use Rattle.proof_tree.specs.declared.plan.PlanStatus.TheVariants as claims
 use Rattle.plan_report.specs.declared.run_fault.RunFault.{RunFault}
 use Rattle.plan_report.specs.declared.run_fault.RunFault.TheVariants as faults
 use Rattle.command_words.specs.declared.command.Command.{Command}
-use Rattle.command_words.specs.declared.command.Command.TheVariants.{Plan, Check, Verify}
+use Rattle.command_words.specs.declared.command.Command.TheVariants.{Plan, Check, Verify, Report, Sample, Trial}
 use Rattle.command_words.specs.Words.{Word, command_in}
 use Rattle.plan_base.specs.declared.parts.Parts.{Parts}
+use Rattle.snd_network.specs.declared.file.NetworkFile.{NetworkFile}
 use Rattle.proof_tree.specs.declared.plan.Plan.{Plan as AnyPlan}
 use Rattle.plan_texts.specs.declared.answer.Answer.{Answer}
 use Rattle.plan_texts.specs.declared.status.Status.{Status}
@@ -17,10 +17,10 @@ use Rattle.plan_texts.specs.declared.status.Status.TheVariants.{Good, Usage, Bad
 use Rattle.plan_texts.specs.declared.stop.Stop.{Stop}
 use Rattle.plan_texts.specs.declared.stop.Stop.TheVariants as stops
 use Rattle.plan_texts.specs.Statuses.{status_of, status_of_plan}
-use Rattle.plan_texts.specs.Texts.{Told, Texts, Begun}
-use Rattle.plan_texts.specs.Answers.{IsVerdict, accepted, rejected, IsWhole, IsWritten, whole, cut, wanting}
+use Rattle.plan_texts.specs.Texts.{Told, Begun}
+use Rattle.plan_texts.specs.Answers.{IsVerdict, accepted, rejected, IsReport, reported, unreported, IsWhole, IsWritten, whole, cut, wanting}
 use Rattle.plan_texts.specs.Stops.{IsReadStop}
-use Rattle.plan_run.specs.Runs.{IsDone, IsDoneBy, IsRefusal, IsDoneSo, IsAnswer, Says, IsRun, IsOwnAnswer}
+use Rattle.plan_run.specs.Runs.{IsDoneBy, IsRefusal, IsDoneSo, IsAnswer, Says, IsRun, IsOwnAnswer}
 use Rattle.plan_run.specs.Supports.{EndsWith}
 use Rattle.plan_run.specs.Found.{IsFound, IsResult}
 
@@ -36,10 +36,18 @@ verdict-ends parts None status bytes is = absurd is
 verdict-ends parts (Some plan) status bytes (accepted good is) = inl good
 verdict-ends parts (Some plan) status bytes (rejected bad is) = inr bad
 
-pub done-ends : (command : Command Word) (texts : Texts) (status : Status) (bytes : List ℕ) → IsDone command texts status bytes → EndsWith command status
-done-ends (Plan network model budget) texts status bytes done = planned-ends done.holds.plan.status status done.holds.is_status
-done-ends (Check network model) texts status bytes done = done.holds.good
-done-ends (Verify network model plan) texts status bytes done = verdict-ends done.parts done.plan status bytes done.holds
+report-ends : (net : NetworkFile) (parts : Parts) (plan : Option AnyPlan) (status : Status) (bytes : List ℕ) → IsSomeAnd plan (λ made. IsReport net parts made status bytes) → (status ≡ Good) ⊎ (status ≡ Rejected)
+report-ends net parts None status bytes is = absurd is
+report-ends net parts (Some plan) status bytes (reported good is) = inl good
+report-ends net parts (Some plan) status bytes (unreported bad is) = inr bad
+
+pub done-ends : (command : Command Word) (shelf : Told) (begun : ℕ) (status : Status) (bytes : List ℕ) → IsDoneBy command shelf begun status bytes → EndsWith command status
+done-ends (Plan network model budget) shelf begun status bytes done = planned-ends done.holds.holds.plan.status status done.holds.holds.is_status
+done-ends (Check network model) shelf begun status bytes done = done.holds.holds.good
+done-ends (Verify network model plan) shelf begun status bytes done = verdict-ends done.holds.parts done.holds.plan status bytes done.holds.holds
+done-ends (Report network model plan) shelf begun status bytes done = report-ends done.holds.net done.holds.parts done.holds.plan status bytes done.holds.holds
+done-ends (Sample key) shelf begun status bytes done = done.1.good
+done-ends (Trial key) shelf begun status bytes done = planned-ends done.1.plan.status status done.1.is_status
 
 -- the statuses of work that was done
 abbrev IsOfWork : Status → Type 0
@@ -52,10 +60,16 @@ of-work (Plan network model budget) status (inr (inr is)) = inr (inr (inl is))
 of-work (Check network model) status is = inl is
 of-work (Verify network model plan) status (inl is) = inl is
 of-work (Verify network model plan) status (inr is) = inr (inr (inr is))
+of-work (Report network model plan) status (inl is) = inl is
+of-work (Report network model plan) status (inr is) = inr (inr (inr is))
+of-work (Sample key) status is = inl is
+of-work (Trial key) status (inl is) = inl is
+of-work (Trial key) status (inr (inl is)) = inr (inl is)
+of-work (Trial key) status (inr (inr is)) = inr (inr (inl is))
 
 of-some : (command : Option (Command Word)) (shelf : Told) (begun : ℕ) (status : Status) (bytes : List ℕ) → IsSomeAnd command (λ command. IsDoneBy command shelf begun status bytes) → IsOfWork status
 of-some None shelf begun status bytes done = absurd done
-of-some (Some command) shelf begun status bytes done = of-work command status (done-ends command done.texts status bytes done.holds)
+of-some (Some command) shelf begun status bytes done = of-work command status (done-ends command shelf begun status bytes done)
 
 -- work that was done ends with its own statuses alone
 not-read : IsOfWork ReadFault → ⊥

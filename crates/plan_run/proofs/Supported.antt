@@ -14,8 +14,8 @@ use Rattle.plan_texts.specs.Texts.{Text, Name, Told, Texts, most_bytes, IsPlanRe
 use Rattle.plan_texts.specs.Refusals.{AreRefused, IsTooLong, IsRefusalOf}
 use Rattle.plan_texts.specs.OneAnswer.{Below}
 use Rattle.plan_texts.proofs.OneRefusal.{refused_or_read}
-use Rattle.plan_run.specs.Runs.{names_of, IsDoneBy, IsRefusedBy, IsRefusal, IsDoneSo, IsAnswer, Says}
-use Rattle.plan_run.specs.Supports.{IsPlanTold, AreToldWell, AreSupported, EndsWith}
+use Rattle.plan_run.specs.Runs.{names_of, IsDoneBy, IsRefusedFor, IsRefusedBy, IsRefusal, IsAnswer, Says}
+use Rattle.plan_run.specs.Supports.{IsPlanTold, AreToldWell, AreAllTold, AreSupported, EndsWith}
 use Rattle.plan_run.proofs.Says.{done-ends}
 
 -- a text that was read is the one that is told
@@ -73,6 +73,11 @@ only-read below shelf names begun (faults.LoopDemand demand) s refusal = absurd 
 only-read below shelf names begun (faults.Unsupported key value) s refusal = absurd (not-refused below shelf names begun (faults.Unsupported key value) s refusal)
 only-read below shelf names begun (faults.OverLimit limit at) s refusal = absurd (not-refused below shelf names begun (faults.OverLimit limit at) s refusal)
 
+-- the same of a command, which may be about no texts
+only-read-for : Below → (shelf : Told) (names : Option Texts) (begun : ℕ) (fault : RunFault) → AreAllTold shelf names → IsRefusedFor names shelf begun fault → status_of fault ≡ ReadFault
+only-read-for below shelf None begun fault s refusal = absurd refusal
+only-read-for below shelf (Some names) begun fault s refusal = only-read below shelf names begun fault s refusal
+
 -- what holds of the words' command holds of this one
 of-words : (words : List Word) (command : Command Word) (Holds : Command Word → Type 0) → command_in words ≡ Some command → IsSomeAnd (command_in words) Holds → Holds command
 of-words words command Holds is h = subst (λ (o : Option (Command Word)). IsSomeAnd o Holds) is h
@@ -93,10 +98,10 @@ by-command words shelf begun command (faults.OverLimit limit at) is refusal = of
 
 answer-ends : Below → (words : List Word) (shelf : Told) (begun : ℕ) (command : Command Word) (status : Status) (bytes : List ℕ) → AreSupported words shelf command → IsAnswer words shelf begun status bytes → EndsWith command status ⊎ (status ≡ ReadFault) ⊎ (status ≡ WriteFault) ⊎ (status ≡ OutOfMemory)
 answer-ends below words shelf begun command status bytes s (inl refused) =
-    inr (inl (refused.is_status ∙ only-read below shelf (names_of command) begun refused.fault s.texts (by-command words shelf begun command refused.fault s.asked refused.refusal)))
+    inr (inl (refused.is_status ∙ only-read-for below shelf (names_of command) begun refused.fault s.texts (by-command words shelf begun command refused.fault s.asked refused.refusal)))
 answer-ends below words shelf begun command status bytes s (inr done) =
     let did : IsDoneBy command shelf begun status bytes = of-words words command (λ command. IsDoneBy command shelf begun status bytes) s.asked done in
-    inl (done-ends command did.texts status bytes did.holds)
+    inl (done-ends command shelf begun status bytes did)
 
 pub done_where_supported : Below → (words : List Word) (shelf : Told) (begun : ℕ) (command : Command Word) (status : Status) (bytes : List ℕ) → AreSupported words shelf command → Says words shelf begun status bytes → EndsWith command status ⊎ (status ≡ ReadFault) ⊎ (status ≡ WriteFault) ⊎ (status ≡ OutOfMemory)
 done_where_supported below words shelf begun command WriteFault bytes s says = inr (inr (inl refl))

@@ -1,12 +1,12 @@
 -- Texts that are supported: what a command ends with where it does its work for them.
-use Rattle.std.specs.Prelude.{ℕ, ◌≡◌, ◌≤◌, ◌⊎◌, List, length, Option, Some, None}
+use Rattle.std.specs.Prelude.{◌≡◌, ◌≤◌, ◌⊎◌, List, length, Option, Some, None}
 use Rattle.plan_base.specs.declared.parts.Parts.{Parts}
 use Rattle.snd_network.specs.declared.file.NetworkFile.{NetworkFile}
 use Rattle.proof_tree.specs.declared.plan.Plan.{Plan as AnyPlan}
 use Rattle.plan_report.specs.declared.run_fault.FileKind.{FileKind}
 use Rattle.plan_report.specs.declared.run_fault.FileKind.TheVariants as files
 use Rattle.command_words.specs.declared.command.Command.{Command}
-use Rattle.command_words.specs.declared.command.Command.TheVariants.{Plan, Check, Verify}
+use Rattle.command_words.specs.declared.command.Command.TheVariants.{Plan, Check, Verify, Report, Sample, Trial}
 use Rattle.command_words.specs.Words.{Word, command_in}
 use Rattle.plan_texts.specs.declared.status.Status.{Status}
 use Rattle.plan_texts.specs.declared.status.Status.TheVariants.{Good, Rejected, Infeasible, Undecided}
@@ -36,13 +36,21 @@ pub record AreToldWell (shelf : Told) (names : Texts) : Type 0 where
   pub plan : Option AnyPlan
   pub problem : IsProblem texts net parts plan
 
--- the words ask for the command, and the shelf tells the texts that they name: an instance within its limits, and a plan where one is named
+-- the same of the texts of a command, where it is about texts
+abbrev pub AreAllTold : Told → Option Texts → Type 0
+AreAllTold shelf None = Unit {0}
+AreAllTold shelf (Some names) = AreToldWell shelf names
+
+-- the words ask for the command, and the shelf tells the texts that they name, if any: an instance within its limits, and a plan where one is named
 pub record AreSupported (words : List Word) (shelf : Told) (command : Command Word) : Type 0 where
   pub asked : command_in words ≡ Some command
-  pub texts : AreToldWell shelf (names_of command)
+  pub texts : AreAllTold shelf (names_of command)
 
 -- how a command ends that does its work
 abbrev pub EndsWith : Command Word → Status → Type 0
 EndsWith (Plan network model budget) status = (status ≡ Good) ⊎ (status ≡ Infeasible) ⊎ (status ≡ Undecided)
 EndsWith (Check network model) status = status ≡ Good
 EndsWith (Verify network model plan) status = (status ≡ Good) ⊎ (status ≡ Rejected)
+EndsWith (Report network model plan) status = (status ≡ Good) ⊎ (status ≡ Rejected)
+EndsWith (Sample key) status = status ≡ Good
+EndsWith (Trial key) status = (status ≡ Good) ⊎ (status ≡ Infeasible) ⊎ (status ≡ Undecided)

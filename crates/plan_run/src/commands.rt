@@ -2,26 +2,27 @@
 
 ghost use Rattle.std.specs.Prelude.{◌≡◌, ◌≤◌, map, string_bytes, IfOk, IfErr};
 ghost use Rattle.plan_io.specs.Causes.{Rose};
-ghost use Rattle.command_words.specs.Words.{command_now, HasBudget};
+ghost use Rattle.command_words.specs.Words.{command_now, IsInRange};
 ghost use Rattle.plan_texts.specs.Stops.{IsReadStop};
 ghost use Rattle.plan_run.specs.Found.{IsFoundBy, IsFound};
 
 use crate::planning::plan;
+use crate::samples::{try_sample, write_sample};
 use command_words::{Command, command_in};
 use plan_io::{Gate, Shelf};
 use plan_report::RunFault;
-use plan_texts::{Answer, Stop, check, verify_plan};
-use std::alloc::Global;
+use plan_texts::{Answer, Stop, check, report, verify_plan};
+use std::alloc::{AllocError, Global};
 
 /// What a command has to say.
-#[tactic(auto, using(crate::proofs::Finding::found))]
+#[tactic(auto, using(crate::proofs::Finding::found, crate::proofs::Finding::found_sample, crate::proofs::Finding::found_trial, crate::proofs::Finding::found_short))]
 fn do_command<S: Shelf, G: Gate>(
     alloc: Global,
     command: Command<&str>,
     shelf: &mut S,
     gate: &G,
 ) -> Result<Answer, Stop>
-    requires { HasBudget (command_now command) }
+    requires { IsInRange (command_now command) }
     ensures found { IsFoundBy (command_now command.entry) (S.text shelf.old) (S.begins shelf.old) (S.begins shelf.new) result }
     ensures read_fault { IfErr result (λ stop. IsReadStop stop → Rose (S.faults shelf.old) (S.faults shelf.new)) }
     ensures later { S.faults shelf.old ≤ S.faults shelf.new }
@@ -38,11 +39,24 @@ fn do_command<S: Shelf, G: Gate>(
             model,
             plan,
         } => verify_plan(alloc, network, model, plan, shelf, gate),
+        Command::Report {
+            network,
+            model,
+            plan,
+        } => report(alloc, network, model, plan, shelf, gate),
+        Command::Sample(key) => match write_sample(alloc, key) {
+            Ok(answer) => Ok(answer),
+            Err(AllocError) => Err(Stop::OutOfMemory),
+        },
+        Command::Trial(key) => match try_sample(alloc, key) {
+            Ok(answer) => Ok(answer),
+            Err(AllocError) => Err(Stop::OutOfMemory),
+        },
     }
 }
 
 /// What a run of these words has to say.
-#[tactic(auto, using(crate::proofs::Finding::found_unread, crate::proofs::Finding::found_read))]
+#[tactic(auto, using(crate::proofs::Finding::found_unread, crate::proofs::Finding::found_wanting, crate::proofs::Finding::found_read))]
 pub fn answer_to<S: Shelf, G: Gate>(
     alloc: Global,
     words: &[String],
@@ -54,7 +68,11 @@ pub fn answer_to<S: Shelf, G: Gate>(
     ensures read_fault { IfErr result (λ stop. IsReadStop stop → Rose (S.faults shelf.old) (S.faults shelf.new)) }
     ensures later { S.faults shelf.old ≤ S.faults shelf.new }
 {
-    match command_in(words) {
+    let asked = match command_in(alloc, words) {
+        Ok(asked) => asked,
+        Err(AllocError) => return Err(Stop::OutOfMemory),
+    };
+    match asked {
         Some(command) => do_command(alloc, command, shelf, gate),
         None => Err(Stop::Refused(RunFault::Usage)),
     }

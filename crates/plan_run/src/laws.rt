@@ -61,7 +61,8 @@ pub fn accepted_where_planned()
 }
 
 /// Where the texts of a command are supported, it does its work, unless something outside fails or memory is
-/// wanting. So `plan` ends with a plan, `check` with its line and `verify` with a verdict.
+/// wanting. So `plan` ends with a plan, `check` with its line, `verify` with a verdict and `report` with a report or a
+/// rejection; `sample` and `trial`, which name no text, end with a network and with the line of a plan.
 pub fn done_where_supported()
     ensures { (words : List Word) (shelf : Told) (begun : ℕ) (command : AnyCommand Word)
         (status : AnyStatus) (bytes : List ℕ) → AreSupported words shelf command → Says words shelf begun status bytes

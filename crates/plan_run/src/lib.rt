@@ -10,6 +10,7 @@
 mod commands;
 pub mod laws;
 mod planning;
+mod samples;
 mod searching;
 mod top_call;
 

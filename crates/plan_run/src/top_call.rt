@@ -14,7 +14,7 @@ use std::alloc::Global;
 /// output is made.
 ///
 /// - Takes: the words after the program's name; a shelf that has the texts that they name; the sink
-///   that the answer goes to; a gate that is passed once, between reading and the work.
+///   that the answer goes to; a gate that is passed once, between reading texts and the work.
 /// - Gives: how the run ended.
 /// - Rule: docs/DEFINITIONS.md, "Runs"; docs/FORMATS.md.
 /// - Time: linear in the texts' bytes, and that of the search or of verifying the plan.

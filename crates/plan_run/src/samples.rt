@@ -1,0 +1,45 @@
+//! The commands about samples, which read no text.
+
+ghost use Rattle.std.specs.Prelude.{◌≡◌, IfOk};
+ghost use Rattle.command_words.specs.Words.{IsSampleKey};
+ghost use Rattle.plan_run.specs.Samples.{IsSampled, IsTried};
+
+use crate::searching::search;
+use command_words::SampleKey;
+use instance_maker::laws::samples_are_instances;
+use instance_maker::{TRIAL_BUDGET, sample, sample_problem};
+use plan_report::trial_line;
+use plan_texts::{Answer, Status};
+use snd_network::write_network;
+use std::alloc::{AllocError, Global};
+use std::sync::Arc;
+
+/// Writes the network of a sample.
+pub fn write_sample(alloc: Global, key: SampleKey) -> Result<Answer, AllocError>
+    requires { IsSampleKey key }
+    ensures { IfOk result (λ answer. IsSampled key answer.status answer.text.items) }
+{
+    let network = sample(alloc, key.number, key.nodes, key.demands)?;
+    let text = write_network(alloc, &network)?;
+    Ok(Answer {
+        status: Status::Good,
+        text,
+    })
+}
+
+/// Plans the network of a sample, and tells what its plan claims.
+pub fn try_sample(alloc: Global, key: SampleKey) -> Result<Answer, AllocError>
+    requires { IsSampleKey key }
+    ensures { IfOk result (λ answer. IsTried key answer.status answer.text.items) }
+{
+    samples_are_instances();
+    let problem = sample_problem(alloc, key.number, key.nodes, key.demands)?;
+    let inst = Arc::new(alloc, problem.inst)?;
+    let table = Arc::new(alloc, problem.table)?;
+    let plan = search(alloc, Arc::try_clone(&inst)?, table, TRIAL_BUDGET)?;
+    let text = trial_line(alloc, &*inst, &plan)?;
+    Ok(Answer {
+        status: Status::of_plan(plan.status),
+        text,
+    })
+}
