@@ -21,7 +21,7 @@ use std::{env, fs, io};
 use texts::Texts;
 
 /// How many bytes a text may have.
-const ROOM: usize = 100_000;
+const ROOM: usize = 200_000;
 
 /// The words of this line, which single blanks part.
 fn words_of(alloc: Global, line: &str) -> Result<Vec<String>, AllocError> {
