@@ -2,7 +2,8 @@
 //!
 //! Promises a simple path of usable arcs that no other undercuts, with a potential for each node that shows it; or, exactly
 //! where there is no such path, the set of nodes that are reached. Begin at `search`; the words of its contract are in
-//! `specs/Paths.antt`. Stands on `plan_base`. What weights mean, and which arcs may be used, is left to the caller.
+//! `specs/Paths.antt`. `Tree` has the ways from one node to all others, of which nothing is promised. Stands on
+//! `plan_base`. What weights mean, and which arcs may be used, is left to the caller.
 #![tactic(auto)]
 
 mod answer;
@@ -10,12 +11,14 @@ mod label;
 pub mod limits;
 mod room;
 mod spread;
+mod tree;
 mod way;
 mod weights;
 
 pub use answer::Search;
 pub use room::Room;
 pub use spread::search;
+pub use tree::Tree;
 pub use weights::are_weights;
 
 #[cfg(test)]

@@ -129,7 +129,11 @@ pub fn set_first(
 }
 
 /// The labels before the first node is settled.
-fn first_labels(alloc: Global, nodes: u32, source: NodeId) -> Result<Vec<Option<Label>>, AllocError>
+pub fn first_labels(
+    alloc: Global,
+    nodes: u32,
+    source: NodeId,
+) -> Result<Vec<Option<Label>>, AllocError>
     requires { source.0 < nodes }
     ensures { IfOk result (λ labels. labels.items ≡ first_labels_of nodes source.0) }
 {

@@ -67,3 +67,31 @@ fn two_light_arcs_beat_a_heavy_one(rt: HostRuntime) -> Result<(), Fail> {
     }
     Ok(())
 }
+
+#[test]
+fn a_tree_has_the_ways_to_all_nodes(rt: HostRuntime) -> Result<(), Fail> {
+    let inst = Instance::build(rt.alloc(), square(rt.alloc())?)?;
+    let weights = [
+        Some(5),
+        Some(5),
+        Some(5),
+        Some(5),
+        Some(12),
+        Some(12),
+        Some(3),
+        None,
+    ];
+    assert!(rt; inst.nodes() == 4);
+    assert!(rt; are_weights(&inst, &weights));
+    let first = Tree::grow(rt.alloc(), &inst, &weights, NodeId(0))?;
+    let lengths = first.lengths(rt.alloc())?;
+    assert_eq!(rt; lengths.as_slice(), [0, 5, 10, 8].as_slice());
+    match first.way(rt.alloc(), &inst, NodeId(2))? {
+        Some(way) => assert_eq!(rt; way.as_slice(), [ArcId(0), ArcId(2)].as_slice()),
+        None => assert!(rt; false),
+    }
+    let last = Tree::grow(rt.alloc(), &inst, &weights, NodeId(3))?;
+    assert!(rt; last.length(NodeId(2)).is_none());
+    assert!(rt; last.way(rt.alloc(), &inst, NodeId(2))?.is_none());
+    Ok(())
+}

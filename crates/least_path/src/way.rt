@@ -30,7 +30,7 @@ fn potential(known: Option<Label>, length: u128) -> u128
 }
 
 /// The potentials of all nodes, where the target's length is this.
-fn potentials(
+pub fn potentials(
     alloc: Global,
     labels: &[Option<Label>],
     length: u128,
