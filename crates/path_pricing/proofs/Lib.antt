@@ -8,3 +8,4 @@ pub mod FaultLaws
 mod WeightLaws
 mod FoundLaws
 mod PriceSums
+mod DoubledPrices

@@ -265,3 +265,61 @@ fn prices_are_the_least_of_all_listed_paths(rt: HostRuntime) -> Result<(), Fail>
     }
     Ok(())
 }
+
+/// What the tree of the demand's source gives, where prices and demand fit.
+fn found_by_tree(alloc: Global, query: &Query) -> Result<Option<Priced>, AllocError> {
+    let Query {
+        inst,
+        prices,
+        demand,
+        restriction,
+    } = *query;
+    if !prices.fits(inst) || demand.0 >= inst.demands() {
+        return Ok(None);
+    }
+    let tree = SourceTree::grow(alloc, inst, prices, inst.demand(demand).source)?;
+    tree.priced(alloc, inst, prices, demand, restriction)
+}
+
+/// The length of the path, where one is found.
+fn length_of(found: &Option<Priced>) -> Option<u128> {
+    match found {
+        Some(Priced::Path { length, .. }) => Some(*length),
+        _ => None,
+    }
+}
+
+/// Whether the tree for a network by chance gives the least of the listed prices where nothing is forbidden, and no
+/// other one where something is.
+fn tree_agrees(alloc: Global, dice: &mut Dice) -> Result<bool, BuildFault> {
+    let inst = Instance::build(alloc, network(alloc, dice)?)?;
+    let prices = some_prices(alloc, dice, inst.links())?;
+    let free = Restriction::none(alloc, &inst)?;
+    let restriction = some_restriction(alloc, dice, &inst)?;
+    let query = Query {
+        inst: &inst,
+        prices: &prices,
+        demand: DemandId(0),
+        restriction: &free,
+    };
+    let narrower = Query {
+        restriction: &restriction,
+        ..query
+    };
+    let target = NodeId(inst.nodes().saturating_sub(1));
+    let first = found_by_tree(alloc, &query)?;
+    let second = found_by_tree(alloc, &narrower)?;
+    let least = listed_least(alloc, &query, NodeId(0), target)?;
+    let narrower_least = listed_least(alloc, &narrower, NodeId(0), target)?;
+    let length = length_of(&second);
+    Ok(length_of(&first) == least && (length.is_none() || length == narrower_least))
+}
+
+#[test]
+fn a_tree_gives_the_least_of_all_listed_paths(rt: HostRuntime) -> Result<(), Fail> {
+    let mut dice = Dice { state: 2 };
+    for _ in 0..300 {
+        assert!(rt; tree_agrees(rt.alloc(), &mut dice)?);
+    }
+    Ok(())
+}
