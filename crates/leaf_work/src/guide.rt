@@ -1,13 +1,22 @@
-//! What a search goes by beside its state. No contract rests on it.
+//! What a search goes by beside its state. No contract rests on what it keeps.
+
+ghost use Rattle.std.specs.Prelude.{◌≡◌, ◌<◌, None, length, IfOk};
+ghost use Rattle.std.specs.Arc.{arc_value};
+ghost use Rattle.arc_restrict.specs.Rows.{forbids};
+ghost use Rattle.path_pricing.specs.Priced.{ArePrices, IsPriced};
+ghost use Rattle.path_pricing.specs.Faults.{priced_fault};
 
 use crate::known::{Known, KnownAbove};
+use crate::pricing::{searched, still_shown};
+use crate::trees::Trees;
+use arc_restrict::Restriction;
 use incumbent::DesignSearch;
 use path_pricing::Priced;
-use plan_base::{BranchId, DemandId};
+use plan_base::{BranchId, DemandId, Instance, Prices};
 use std::alloc::{AllocError, Global};
 use std::sync::Arc;
 
-/// What is known of nodes before they are priced, and the searches for designs.
+/// What is known of nodes before they are priced, the trees of least paths, and the searches for designs.
 #[derive(Drop)]
 pub struct Guide {
     alloc: Global,
@@ -17,8 +26,10 @@ pub struct Guide {
     above: KnownAbove,
     /// What they found above the node that is worked off.
     tried: Option<Arc<Known>>,
-    /// What they have found at that node.
+    /// What they found last at that node.
     found: Known,
+    /// The trees under the version that is priced.
+    trees: Trees,
 }
 
 impl Guide {
@@ -30,6 +41,7 @@ impl Guide {
             above: KnownAbove::nothing(alloc),
             tried: None,
             found: Known::nothing(alloc),
+            trees: Trees::none(alloc),
         }
     }
 
@@ -40,10 +52,47 @@ impl Guide {
     }
 
     /// What the demand found above the node that is worked off, where that is known.
-    pub fn tried(&self, demand: DemandId) -> Option<&Arc<Priced>> {
+    fn tried(&self, demand: DemandId) -> Option<&Arc<Priced>> {
         match &self.tried {
             Some(known) => known.of(demand),
             None => None,
+        }
+    }
+
+    /// What the demand found last: under an earlier version at the node that is worked off, or above it.
+    fn known(&self, demand: DemandId) -> Option<&Arc<Priced>> {
+        match self.found.of(demand) {
+            Some(found) => Some(found),
+            None => self.tried(demand),
+        }
+    }
+
+    /// A least path of the demand under the prices of a version, or a set that shows that it has none. What is known is
+    /// taken where it still shows this, else the path in the tree of the demand's source, which is grown once under a
+    /// version; where the demand may not take that path, it is searched alone.
+    ///
+    /// - Errors: want of memory alone.
+    /// - Rule: docs/METHOD.md, "The search in one thread".
+    pub fn find(
+        &mut self,
+        inst: &Instance,
+        version: u64,
+        prices: &Prices,
+        demand: DemandId,
+        restriction: &Restriction,
+    ) -> Result<Arc<Priced>, AllocError>
+        requires prices { ArePrices inst.now prices.now }
+        requires demand { demand.0 < length inst.now.demands }
+        ensures least { IfOk result (λ found. IsPriced inst.now prices.now demand.0 (forbids restriction.now) (arc_value found)) }
+        ensures accepted { IfOk result (λ found. priced_fault inst.now prices.now demand.0 (forbids restriction.now) (arc_value found) ≡ None) }
+    {
+        let known = self.known(demand);
+        if let Some(found) = still_shown(inst, prices, demand, restriction, known)? {
+            return Ok(found);
+        }
+        match self.trees.find(inst, version, prices, demand, restriction)? {
+            Some(found) => Ok(Arc::new(self.alloc, found)?),
+            None => searched(self.alloc, inst, prices, demand, restriction),
         }
     }
 

@@ -1,10 +1,10 @@
 //! What one task of the search computes, without the pool: what a demand finds under prices, a design for the paths of a
 //! round, and the prices that follow those of a brief.
 //!
-//! Promises that what is found fits, as an offer has to, and that a design is good. Begin at `find`, `new_design` and
-//! `next_prices`. Stands on `plan_base`, `link_steps`, `arc_restrict`, `path_pricing`, `column_pool`, `master_step`,
-//! `completions` and `incumbent`. What is done with it is left to `pool_core`: nothing here is believed there without a
-//! test.
+//! Promises that what is found fits, as an offer has to, and that a design is good. Begin at `find`, `Guide::find`,
+//! `new_design` and `next_prices`. Stands on `plan_base`, `link_steps`, `arc_restrict`, `path_pricing`, `column_pool`,
+//! `master_step`, `completions` and `incumbent`. What is done with it is left to `pool_core`: nothing here is believed
+//! there without a test.
 #![tactic(auto)]
 
 mod advancing;
@@ -13,6 +13,7 @@ mod known;
 mod pricing;
 mod routing;
 mod shared;
+mod trees;
 
 pub use advancing::next_prices;
 pub use guide::Guide;

@@ -1,6 +1,6 @@
 //! What a demand finds under prices, at a restriction: tried from what is known, or found anew.
 
-ghost use Rattle.std.specs.Prelude.{◌≡◌, ◌<◌, None, length, IfOk};
+ghost use Rattle.std.specs.Prelude.{◌≡◌, ◌<◌, None, length, IfOk, IfSome};
 ghost use Rattle.std.specs.Arc.{arc_value};
 ghost use Rattle.arc_restrict.specs.Rows.{forbids};
 ghost use Rattle.path_pricing.specs.Priced.{ArePrices, IsPriced};
@@ -8,12 +8,78 @@ ghost use Rattle.path_pricing.specs.Faults.{priced_fault};
 
 use arc_restrict::Restriction;
 use path_pricing::{Priced, check_priced, price};
-use plan_base::{DemandId, Instance, Prices};
+use plan_base::{ArcId, DemandId, Instance, Prices};
 use std::alloc::{AllocError, Global};
 use std::sync::Arc;
 
+/// The sum of the prices of the arcs' links, as far as a number can hold it; None where a link has no price.
+fn summed(prices: &[u128], arcs: &[ArcId]) -> Option<u128> {
+    let mut sum: u128 = 0;
+    for arc in arcs {
+        sum = sum.saturating_add(*prices.get((arc.0 / 2) as usize)?);
+    }
+    Some(sum)
+}
+
+/// Whether a known path has its length under these prices too: a look at few links, before each arc is tested.
+fn has_length(prices: &Prices, known: &Priced) -> bool {
+    match known {
+        Priced::Path {
+            path,
+            length,
+            potentials: _potentials,
+        } => summed(prices.as_slice(), path.as_slice()) == Some(*length),
+        Priced::NoPath { reached: _reached } => true,
+    }
+}
+
+/// What is known of the demand, where it still shows what it says. That takes a look at each arc, and no search.
+///
+/// - Errors: want of memory alone.
+pub fn still_shown(
+    inst: &Instance,
+    prices: &Prices,
+    demand: DemandId,
+    restriction: &Restriction,
+    known: Option<&Arc<Priced>>,
+) -> Result<Option<Arc<Priced>>, AllocError>
+    requires prices { ArePrices inst.now prices.now }
+    requires demand { demand.0 < length inst.now.demands }
+    ensures least { IfOk result (λ found. IfSome found (λ shared. IsPriced inst.now prices.now demand.0 (forbids restriction.now) (arc_value shared))) }
+    ensures accepted { IfOk result (λ found. IfSome found (λ shared. priced_fault inst.now prices.now demand.0 (forbids restriction.now) (arc_value shared) ≡ None)) }
+{
+    if let Some(known) = known {
+        if !has_length(prices, &**known) {
+            return Ok(None);
+        }
+        if check_priced(inst, prices, demand, restriction, &**known).is_ok() {
+            return Ok(Some(known.clone()?));
+        }
+    }
+    Ok(None)
+}
+
+/// What a search for the demand alone finds.
+///
+/// - Errors: want of memory alone.
+pub fn searched(
+    alloc: Global,
+    inst: &Instance,
+    prices: &Prices,
+    demand: DemandId,
+    restriction: &Restriction,
+) -> Result<Arc<Priced>, AllocError>
+    requires prices { ArePrices inst.now prices.now }
+    requires demand { demand.0 < length inst.now.demands }
+    ensures least { IfOk result (λ found. IsPriced inst.now prices.now demand.0 (forbids restriction.now) (arc_value found)) }
+    ensures accepted { IfOk result (λ found. priced_fault inst.now prices.now demand.0 (forbids restriction.now) (arc_value found) ≡ None) }
+{
+    let found = price(alloc, inst, prices, demand, restriction)?;
+    Ok(Arc::new(alloc, found)?)
+}
+
 /// A least path of the demand, or a set that shows that it has none. What is known is taken where it still shows
-/// this; that takes a look at each arc, and no search.
+/// this.
 pub fn find(
     alloc: Global,
     inst: &Instance,
@@ -27,13 +93,10 @@ pub fn find(
     ensures least { IfOk result (λ found. IsPriced inst.now prices.now demand.0 (forbids restriction.now) (arc_value found)) }
     ensures accepted { IfOk result (λ found. priced_fault inst.now prices.now demand.0 (forbids restriction.now) (arc_value found) ≡ None) }
 {
-    if let Some(known) = known {
-        if check_priced(inst, prices, demand, restriction, &**known).is_ok() {
-            return Ok(known.clone()?);
-        }
+    if let Some(found) = still_shown(inst, prices, demand, restriction, known)? {
+        return Ok(found);
     }
-    let found = price(alloc, inst, prices, demand, restriction)?;
-    Ok(Arc::new(alloc, found)?)
+    searched(alloc, inst, prices, demand, restriction)
 }
 
 /// The same, not shared.

@@ -1,0 +1,95 @@
+//! The trees of least paths under the prices of one version, one for each source whose demands asked.
+
+ghost use Rattle.std.specs.Prelude.{◌≡◌, ◌<◌, None, length, IfOk, IfSome};
+ghost use Rattle.arc_restrict.specs.Rows.{forbids};
+ghost use Rattle.path_pricing.specs.Priced.{ArePrices, IsPriced};
+ghost use Rattle.path_pricing.specs.Faults.{priced_fault};
+
+use arc_restrict::Restriction;
+use path_pricing::{Priced, SourceTree};
+use plan_base::{DemandId, Instance, NodeId, Prices};
+use std::alloc::{AllocError, Global};
+
+/// The trees under the prices of a version. No contract rests on them: a tree tests what it gives.
+#[derive(Drop)]
+pub struct Trees {
+    alloc: Global,
+    version: u64,
+    /// For each node the tree that was grown from it.
+    grown: Vec<Option<SourceTree>>,
+}
+
+impl Trees {
+    /// No tree is grown.
+    pub fn none(alloc: Global) -> Trees {
+        Trees {
+            alloc,
+            version: 0,
+            grown: Vec::new(alloc),
+        }
+    }
+
+    /// Lets go of all trees, where they are those of another version.
+    fn turn_to(&mut self, version: u64) {
+        if self.version != version {
+            self.version = version;
+            self.grown.clear();
+        }
+    }
+
+    /// The tree of a source, where it is grown.
+    fn of(&self, source: NodeId) -> Option<&SourceTree> {
+        match self.grown.get(source.0 as usize) {
+            Some(Some(tree)) => Some(tree),
+            _ => None,
+        }
+    }
+
+    /// Grows the tree of a source, where it is not grown yet.
+    fn grow(&mut self, inst: &Instance, prices: &Prices, source: NodeId) -> Result<(), AllocError>
+        requires prices { ArePrices inst.now prices.now }
+        requires source { source.0 < inst.now.nodes }
+    {
+        if self.of(source).is_some() {
+            return Ok(());
+        }
+        let tree = SourceTree::grow(self.alloc, inst, prices, source)?;
+        for _ in self.grown.len()..=source.0 as usize {
+            self.grown.push(None)?;
+        }
+        if let Some(entry) = self.grown.get_mut(source.0 as usize) {
+            *entry = Some(tree);
+        }
+        Ok(())
+    }
+
+    /// The path to the demand's target in the tree of its source, where the demand may take it.
+    ///
+    /// - Takes: an instance, a version and its prices, a demand and a restriction. All demands that ask under one
+    ///   version have the same prices.
+    /// - Gives: None where the tree has no such path; then the demand is searched alone.
+    /// - Errors: want of memory alone.
+    /// - Time: that of one search where the demand is the first of its source under the version; else linear in nodes,
+    ///   links and the path's arcs.
+    pub fn find(
+        &mut self,
+        inst: &Instance,
+        version: u64,
+        prices: &Prices,
+        demand: DemandId,
+        restriction: &Restriction,
+    ) -> Result<Option<Priced>, AllocError>
+        requires prices { ArePrices inst.now prices.now }
+        requires demand { demand.0 < length inst.now.demands }
+        ensures least { IfOk result (λ found. IfSome found (IsPriced inst.now prices.now demand.0 (forbids restriction.now))) }
+        ensures accepted { IfOk result (λ found. IfSome found (λ priced. priced_fault inst.now prices.now demand.0 (forbids restriction.now) priced ≡ None)) }
+    {
+        let source = inst.demand(demand).source;
+        self.turn_to(version);
+        self.grow(inst, prices, source)?;
+        match self.of(source) {
+            Some(tree) => tree.priced(self.alloc, inst, prices, demand, restriction),
+            None => Ok(None),
+        }
+    }
+}
