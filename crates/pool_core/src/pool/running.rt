@@ -11,7 +11,7 @@ ghost use Rattle.pool_machine.specs.Tasks.{LeadsTo};
 ghost use Rattle.pool_core.specs.Work.{is_next, IsGap, IsCloser, KeepsNodes};
 
 use super::Pool;
-use leaf_work::{Guide, KnownAbove, copy_of, find};
+use leaf_work::{Guide, KnownAbove, copy_of};
 use path_pricing::Priced;
 use plan_base::{BranchId, DemandId, Design};
 use pool_machine::{ExamineFault, Examined, Offer, Task};
@@ -19,12 +19,14 @@ use std::alloc::AllocError;
 use std::sync::Arc;
 
 impl Pool {
-    /// What a demand finds under the prices of the node's round and the node's restriction.
+    /// What a demand finds under the prices of the node's round, which are those of the version, and the node's
+    /// restriction.
     fn found(
         &self,
         node: BranchId,
+        version: u64,
         demand: DemandId,
-        guide: &Guide,
+        guide: &mut Guide,
     ) -> Result<Arc<Priced>, AllocError>
         requires round { IsSome (round_of self.now node) }
         requires demand { demand.0 < length self.now.problem.demands }
@@ -32,15 +34,7 @@ impl Pool {
     {
         let round = self.round_at(node);
         let rows = self.grounds[node.0 as usize].rows().unwrap();
-        let known = guide.tried(demand);
-        find(
-            self.alloc,
-            &*self.problem,
-            round.prices(),
-            demand,
-            &**rows,
-            known,
-        )
+        guide.find(&*self.problem, version, round.prices(), demand, &**rows)
     }
 
     /// Prices a demand in the node's round.
@@ -56,7 +50,7 @@ impl Pool {
         ensures leads { LeadsTo self.old self.new }
         ensures closer { OnOk result (IsCloser self.old self.new node) }
     {
-        let known = self.found(node, demand, guide)?;
+        let known = self.found(node, version, demand, guide)?;
         let found = copy_of(&*known)?;
         guide.keep(demand, known)?;
         let _answer = self.take(Offer {
