@@ -1,0 +1,266 @@
+//! The hub.
+
+ghost use Rattle.std.specs.Prelude.{◌≡◌, ◌+◌, ◌<◌, ◌≤◌, length, slice_get, IfOk, IfSome, sum_by};
+ghost use Rattle.std.specs.Arc.{arc_value};
+ghost use Rattle.pool_machine.specs.Offering.{accepted_by};
+ghost use Rattle.pool_machine.specs.Tasks.{IsSearchState};
+ghost use Rattle.pool_hub.specs.declared.limits.TheConstants.{MAX_WORKERS};
+
+use crate::kept::Kept;
+use crate::naming::Naming;
+use crate::seat::Seat;
+use arc_restrict::Restriction;
+use dual_versions::Published;
+use link_steps::StepTable;
+use plan_base::{BranchId, Design, DesignFault, Instance, Prices};
+use pool_core::{
+    Better, Closing, ExamineFault, Examined, Gather, Offer, Offered, Opened, Pool, Publish,
+    RoundFault, Settle, Task,
+};
+use std::alloc::{AllocError, Global};
+use std::sync::ledger::{Blank, Share};
+use std::sync::{Arc, Mutex, Wait};
+
+/// The pool behind one lock, and beside it the instance and the step table, for those who work on it.
+///
+/// Each call takes the lock, makes the pool's call once and lets go of the lock; its answer is the pool's.
+#[derive(Drop)]
+pub struct Hub<N: Naming> {
+    kept: Mutex<Kept<N>>,
+    pub(crate) problem: Arc<Instance>,
+    pub(crate) table: Arc<StepTable>,
+    ghost problem_is: { arc_value problem ≡ N.problem },
+    ghost table_is: { arc_value table ≡ N.problem },
+}
+
+/// So many seats, each with a part of the ledger and nothing booked.
+fn seats_of<N: Naming>(
+    alloc: Global,
+    mut all: Share<N>,
+    workers: u32,
+) -> Result<Vec<Seat<N>>, AllocError>
+    requires few { workers ≤ MAX_WORKERS }
+    requires all { (all.parts ≡ workers) × (all.amount ≡ 0) }
+    ensures count { IfOk result (λ seats. length seats.items ≡ workers) }
+    ensures booked { IfOk result (λ seats. sum_by (λ s. s.share.amount) seats.items ≡ 0) }
+{
+    let mut seats = Vec::new(alloc);
+    for number in 0..workers {
+        let share = all.split_off(1, 0);
+        seats.push(Seat { number, share })?;
+    }
+    Ok(seats)
+}
+
+/// The shares of all seats as one.
+fn merged<N: Naming>(mut seats: Vec<Seat<N>>) -> Share<N>
+    requires { 0 < length seats.items }
+    ensures parts { result.parts ≡ length seats.items }
+    ensures amount { result.amount ≡ sum_by (λ s. s.share.amount) seats.items }
+{
+    let Some(seat) = seats.pop() else {
+        unreachable!()
+    };
+    let Seat {
+        number: _number,
+        share: mut all,
+    } = seat;
+    while let Some(seat) = seats.pop() {
+        let Seat {
+            number: _number,
+            share,
+        } = seat;
+        all.merge(share);
+    }
+    all
+}
+
+impl<N: Naming> Hub<N> {
+    /// A hub for a pool, and a seat for each worker.
+    ///
+    /// - Takes: the blank of a ledger with as many parts as there are workers; a pool that has accepted nothing yet;
+    ///   1 to 64 workers.
+    /// - Errors: want of memory alone.
+    pub fn new(
+        alloc: Global,
+        blank: Blank,
+        pool: Pool,
+        workers: u32,
+    ) -> Result<(Hub<N>, Vec<Seat<N>>), AllocError>
+        requires workers { (1 ≤ workers) × (workers ≤ MAX_WORKERS) }
+        requires name { blank.name ≡ N.name }
+        requires parts { (blank.parts ≡ N.parts) × (N.parts ≡ workers) }
+        requires search { (pool.problem ≡ N.problem) × (pool.budget ≡ N.budget) }
+        requires fresh { pool.accepted ≡ 0 }
+        ensures count { IfOk result (λ made. length made.1.items ≡ workers) }
+        ensures booked { IfOk result (λ made. sum_by (λ s. s.share.amount) made.1.items ≡ 0) }
+    {
+        let (offers, all) = blank.open::<N>();
+        let seats = seats_of(alloc, all, workers)?;
+        let problem = pool.instance().clone()?;
+        let table = pool.table().clone()?;
+        let kept = Mutex::new(Kept { pool, offers });
+        let hub = Hub {
+            kept,
+            problem,
+            table,
+        };
+        Ok((hub, seats))
+    }
+
+    /// What may be done next.
+    pub fn task<W: Wait>(&self, rt: &W, seat: &mut Seat<N>) -> Task
+        ensures { seat.new ≡ seat.old }
+    {
+        self.kept.lock(rt).task(seat.number)
+    }
+
+    /// A copy of what is published of the slot.
+    ///
+    /// - Errors: want of memory alone.
+    pub fn prices<W: Wait>(
+        &self,
+        rt: &W,
+        seat: &mut Seat<N>,
+        slot: u32,
+    ) -> Result<Option<Published>, AllocError>
+        ensures { seat.new ≡ seat.old }
+    {
+        let _seat = seat;
+        self.kept.lock(rt).prices(slot)
+    }
+
+    /// What is forbidden at an open leaf, shared.
+    ///
+    /// - Errors: want of memory alone.
+    pub fn ground<W: Wait>(
+        &self,
+        rt: &W,
+        seat: &mut Seat<N>,
+        node: BranchId,
+    ) -> Result<Option<Arc<Restriction>>, AllocError>
+        ensures { seat.new ≡ seat.old }
+    {
+        let _seat = seat;
+        self.kept.lock(rt).ground(node)
+    }
+
+    /// Gives a node a round, as `Pool::open_round` says. Takes no memory.
+    pub fn open<W: Wait>(
+        &self,
+        rt: &W,
+        seat: &mut Seat<N>,
+        node: BranchId,
+    ) -> Result<Opened, RoundFault>
+        ensures { seat.new ≡ seat.old }
+    {
+        let _seat = seat;
+        self.kept.lock(rt).open(node)
+    }
+
+    /// Takes what a demand has found, as `Pool::offer` says, and books it in the seat's share where it is accepted.
+    /// Takes no memory.
+    pub fn offer<W: Wait>(&self, rt: &W, seat: &mut Seat<N>, offer: Offer) -> Offered
+        ensures booked { seat.new.share.amount ≡ seat.old.share.amount + accepted_by result }
+        ensures number { seat.new.number ≡ seat.old.number }
+    {
+        self.kept.lock(rt).offer(offer, &mut seat.share)
+    }
+
+    /// Makes the paths of a complete round columns, as `Pool::gather` says.
+    ///
+    /// - Errors: want of memory alone; then some of the paths may have become columns.
+    pub fn gather<W: Wait>(
+        &self,
+        rt: &W,
+        seat: &mut Seat<N>,
+        node: BranchId,
+        version: u64,
+    ) -> Result<Gather, AllocError>
+        ensures { seat.new ≡ seat.old }
+    {
+        let _seat = seat;
+        self.kept.lock(rt).gather(node, version)
+    }
+
+    /// Gives the round of a node further prices, as `Pool::publish` says. Takes no memory.
+    pub fn publish<W: Wait>(
+        &self,
+        rt: &W,
+        seat: &mut Seat<N>,
+        node: BranchId,
+        seen: u64,
+        prices: &Prices,
+    ) -> Publish
+        ensures { seat.new ≡ seat.old }
+    {
+        let _seat = seat;
+        self.kept.lock(rt).publish(node, seen, prices)
+    }
+
+    /// Marks a node of which no further version is published, as `Pool::settle` says. Takes no memory.
+    pub fn settle<W: Wait>(
+        &self,
+        rt: &W,
+        seat: &mut Seat<N>,
+        node: BranchId,
+        version: u64,
+    ) -> Settle
+        ensures { seat.new ≡ seat.old }
+    {
+        let _seat = seat;
+        self.kept.lock(rt).settle(node, version)
+    }
+
+    /// Closes a leaf, as `Pool::close_by_bound` says. Takes no memory.
+    pub fn close<W: Wait>(&self, rt: &W, seat: &mut Seat<N>, node: BranchId) -> Closing
+        ensures { seat.new ≡ seat.old }
+    {
+        let _seat = seat;
+        self.kept.lock(rt).close(node)
+    }
+
+    /// Closes or divides a leaf, as `Pool::examine` says.
+    pub fn examine<W: Wait>(
+        &self,
+        rt: &W,
+        seat: &mut Seat<N>,
+        node: BranchId,
+    ) -> Result<Examined, ExamineFault>
+        ensures { seat.new ≡ seat.old }
+    {
+        let _seat = seat;
+        self.kept.lock(rt).examine(node)
+    }
+
+    /// Takes a cheaper design, as `Pool::better` says. Takes no memory.
+    pub fn better<W: Wait>(
+        &self,
+        rt: &W,
+        seat: &mut Seat<N>,
+        design: Design,
+    ) -> Result<Better, DesignFault>
+        ensures { seat.new ≡ seat.old }
+    {
+        let _seat = seat;
+        self.kept.lock(rt).better(design)
+    }
+
+    /// The pool: a sound state of this search, which has accepted what all seats have booked. Takes no memory.
+    ///
+    /// - Takes: all seats of this hub.
+    pub fn end(self, seats: Vec<Seat<N>>) -> Pool
+        requires all { length seats.items ≡ N.parts }
+        requires some { 0 < length seats.items }
+        ensures accepted { result.accepted ≡ sum_by (λ s. s.share.amount) seats.items }
+        ensures search { IsSearchState N.problem N.budget result }
+    {
+        let Hub {
+            kept,
+            problem: _problem,
+            table: _table,
+        } = self;
+        let all = merged(seats);
+        kept.into_inner().end(all)
+    }
+}

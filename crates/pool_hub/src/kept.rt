@@ -1,0 +1,150 @@
+//! What lies under the lock.
+
+ghost use Rattle.std.specs.Prelude.{◌≡◌, ◌+◌, ◌<◌, ◌↔◌, true, IfOk, IfSome, IsSome, slice_get};
+ghost use Rattle.std.specs.Arc.{arc_value};
+ghost use Rattle.arc_restrict.specs.Rows.{forbids};
+ghost use Rattle.pool_machine.specs.declared.task.Task.{Task};
+ghost use Rattle.pool_machine.specs.State.{state_of, restriction_of};
+ghost use Rattle.pool_machine.specs.Changes.{is_open_state};
+ghost use Rattle.pool_machine.specs.Opening.{OpenStep};
+ghost use Rattle.pool_machine.specs.Offering.{OfferStep, accepted_by};
+ghost use Rattle.pool_machine.specs.Gathering.{GatherStep};
+ghost use Rattle.pool_machine.specs.Publishing.{PublishStep};
+ghost use Rattle.pool_machine.specs.Settling.{SettleStep};
+ghost use Rattle.pool_machine.specs.Closing.{CloseStep};
+ghost use Rattle.pool_machine.specs.Examining.{ExamineStep};
+ghost use Rattle.pool_machine.specs.Bettering.{BetterStep};
+ghost use Rattle.pool_machine.specs.PlanOf.{is_done};
+ghost use Rattle.pool_machine.specs.Tasks.{IsLawfulTask, IsSearchState};
+ghost use Rattle.pool_core.specs.Views.{IsPublishedAt};
+
+use crate::naming::Naming;
+use arc_restrict::Restriction;
+use dual_versions::Published;
+use plan_base::{BranchId, Design, DesignFault, Prices};
+use pool_core::{
+    Better, Closing, ExamineFault, Examined, Gather, Offer, Offered, Opened, Pool, Publish,
+    RoundFault, Settle, Task,
+};
+use std::alloc::AllocError;
+use std::sync::Arc;
+use std::sync::ledger::{Book, Share};
+
+/// A pool of the search that the type names, and the book of all paths that it accepted.
+///
+/// Each call is one event of the pool, or none where it only tells something.
+#[derive(Drop)]
+pub struct Kept<N: Naming> {
+    pub(crate) pool: Pool,
+    pub(crate) offers: Book<N>,
+    ghost counted: { pool.accepted ≡ offers.total },
+    ghost problem_is: { pool.problem ≡ N.problem },
+    ghost budget_is: { pool.budget ≡ N.budget },
+}
+
+impl<N: Naming> Kept<N> {
+    /// What may be done next.
+    pub fn task(&mut self, worker: u32) -> Task
+        ensures unchanged { self.new.pool ≡ self.old.pool }
+        ensures lawful { IsLawfulTask self.old.pool result }
+        ensures done { (result ≡ Task.Done) ↔ (is_done self.old.pool ≡ true) }
+    {
+        self.pool.next_task(worker)
+    }
+
+    /// A copy of what is published of the slot.
+    pub fn prices(&self, slot: u32) -> Result<Option<Published>, AllocError>
+        ensures { IfOk result (IsPublishedAt self.now.pool slot) }
+    {
+        self.pool.prices(slot)
+    }
+
+    /// What is forbidden at an open leaf, shared; None exactly where the node is none.
+    pub fn ground(&self, node: BranchId) -> Result<Option<Arc<Restriction>>, AllocError>
+        ensures leaf { IfOk result (λ found. IsSome found ↔ (is_open_state (state_of self.now.pool node) ≡ true)) }
+        ensures value { IfOk result (λ found. IfSome found (λ rows. IfSome (slice_get self.now.pool.nodes node.0)
+            (λ x. forbids (arc_value rows) ≡ restriction_of x))) }
+    {
+        match self.pool.restriction(node) {
+            Some(rows) => Ok(Some(rows.clone()?)),
+            None => Ok(None),
+        }
+    }
+
+    /// An opening.
+    pub fn open(&mut self, node: BranchId) -> Result<Opened, RoundFault>
+        ensures event { OpenStep self.old.pool node result self.new.pool }
+    {
+        self.pool.open_round(node)
+    }
+
+    /// An offer, which is booked in the share where it is accepted.
+    pub fn offer(&mut self, offer: Offer, mine: &mut Share<N>) -> Offered
+        requires part { 0 < mine.old.parts }
+        ensures event { OfferStep self.old.pool offer result self.new.pool }
+        ensures booked { mine.new.amount ≡ mine.old.amount + accepted_by result }
+        ensures parts { mine.new.parts ≡ mine.old.parts }
+    {
+        let answer = self.pool.offer(offer);
+        if let Offered::Accepted { left: _left } = answer {
+            self.offers.add(mine, 1);
+        }
+        answer
+    }
+
+    /// A gathering.
+    pub fn gather(&mut self, node: BranchId, version: u64) -> Result<Gather, AllocError>
+        ensures event { GatherStep self.old.pool node version result self.new.pool }
+    {
+        self.pool.gather(node, version)
+    }
+
+    /// A publishing.
+    pub fn publish(&mut self, node: BranchId, seen: u64, prices: &Prices) -> Publish
+        ensures event { PublishStep self.old.pool node seen prices.now result self.new.pool }
+    {
+        self.pool.publish(node, seen, prices)
+    }
+
+    /// A settling.
+    pub fn settle(&mut self, node: BranchId, version: u64) -> Settle
+        ensures event { SettleStep self.old.pool node version result self.new.pool }
+    {
+        self.pool.settle(node, version)
+    }
+
+    /// A closing.
+    pub fn close(&mut self, node: BranchId) -> Closing
+        ensures event { CloseStep self.old.pool node result self.new.pool }
+    {
+        self.pool.close_by_bound(node)
+    }
+
+    /// An examination.
+    pub fn examine(&mut self, node: BranchId) -> Result<Examined, ExamineFault>
+        ensures event { ExamineStep self.old.pool node result self.new.pool }
+    {
+        self.pool.examine(node)
+    }
+
+    /// A design that may be better.
+    pub fn better(&mut self, design: Design) -> Result<Better, DesignFault>
+        ensures event { BetterStep self.old.pool design result self.new.pool }
+    {
+        self.pool.better(design)
+    }
+
+    /// The pool, which has accepted what the whole share says.
+    pub fn end(self, mut all: Share<N>) -> Pool
+        requires whole { all.parts ≡ N.parts }
+        ensures pool { result ≡ self.pool }
+        ensures accepted { result.accepted ≡ all.amount }
+        ensures search { IsSearchState N.problem N.budget result }
+    {
+        let Kept { pool, mut offers } = self;
+        offers.audit(&mut all);
+        // Whoever asks for the instance knows that the pool's state is sound.
+        let _inst = pool.instance();
+        pool
+    }
+}

@@ -1,0 +1,30 @@
+//! One pool behind a lock, the seats of those who work on it at once, and their work.
+//!
+//! Promises that each holding of the lock is one event of the machine, whoever makes the call and when; that whenever
+//! the lock is free the pool is in a sound state of the search that the hub's type names; and that the pool of an ended
+//! hub has accepted just what all seats have booked. Begin at `Hub`, what lies under its lock is `Kept`. Stands on
+//! `pool_core` for what a call does, and on `leaf_work` for what a task computes, which no lock covers. That workers run
+//! at the same time, and that a wait ends, no contract says.
+#![tactic(auto)]
+
+mod bench;
+mod ground;
+mod hub;
+mod kept;
+pub mod limits;
+mod naming;
+mod running;
+mod seat;
+mod shared;
+mod told;
+mod working;
+
+pub use hub::Hub;
+pub use kept::Kept;
+pub use naming::Naming;
+pub use running::search;
+pub use seat::Seat;
+pub use working::work;
+
+#[cfg(test)]
+mod tests;
