@@ -1,0 +1,147 @@
+//! Searches for designs of made networks with several seeds each, and searches on from what was found.
+//!
+//! The networks are those of `instance_maker::sample`, the same ones in each run. A design with the least paths at the
+//! start prices is improved with each seed, then the cheapest of what comes out, and then its answer. A line tells of
+//! each network the least, the mean and the greatest cost, and the costs of the two answers, in units. An error comes
+//! where an answer is dearer than what was improved, or the designs cost more in the mean than they may. How cheap a
+//! design is, no clause says: so the lines are what shows that the search is the same. Begin at `write_costs`. Stands
+//! on `incumbent` and `instance_maker`, and promises nothing of its own.
+#![tactic(auto)]
+
+mod starts;
+
+ghost use Rattle.std.specs.Prelude.{◌≡◌};
+ghost use Rattle.plan_base.specs.Designs.{IsGoodDesign};
+
+use anyhow::{Context, Result, bail, ensure};
+use incumbent::{improve, improve_seeded};
+use instance_maker::limits::{MAX_DEMANDS, MAX_NODES, MIN_NODES};
+use instance_maker::{Problem, sample_problem};
+use plan_base::{Design, check_design};
+use starts::start_design;
+use std::alloc::Global;
+use std::io;
+use std::io::Write;
+
+/// The number, the nodes and the demands of each network, with how many seeds its design is improved, and the most that
+/// comes out may cost in the mean, in units.
+const NETWORKS: [(u32, u32, u32, u32, u128); 10] = [
+    (1, 6, 6, 10, 77),
+    (2, 8, 10, 10, 135),
+    (3, 12, 20, 10, 264),
+    (4, 16, 40, 10, 516),
+    (5, 32, 200, 10, 2_360),
+    (6, 64, 1_000, 2, 15_880),
+    (7, 10, 15, 10, 214),
+    (8, 12, 30, 10, 303),
+    (9, 14, 20, 10, 251),
+    (10, 16, 60, 10, 730),
+];
+
+/// How many cost grains a tenth of a unit of cost has.
+const TENTH: u128 = 100_000_000_000;
+
+/// What searches with some seeds found.
+#[derive(Drop)]
+struct Found {
+    /// The least cost, in cost grains.
+    least: u128,
+    /// The greatest cost, in cost grains.
+    greatest: u128,
+    /// All costs together, in cost grains.
+    total: u128,
+    /// The cheapest design.
+    best: Option<Design>,
+}
+
+/// What searches from a design find with so many seeds.
+fn find_all(alloc: Global, problem: &Problem, start: &Design, seeds: u32) -> Result<Found>
+    requires table { problem.now.table ≡ problem.now.inst }
+    requires start { IsGoodDesign problem.now.inst start.now }
+{
+    let mut found = Found {
+        least: u128::MAX,
+        greatest: 0,
+        total: 0,
+        best: None,
+    };
+    for seed in 0..seeds {
+        let copy = start.copy()?;
+        let (cost, design) = improve_seeded(alloc, &problem.inst, &problem.table, copy, seed)?;
+        found.total = found.total.saturating_add(cost);
+        found.greatest = found.greatest.max(cost);
+        if cost < found.least {
+            found.least = cost;
+            found.best = Some(design);
+        }
+    }
+    Ok(found)
+}
+
+/// What `improve` gives for a design, and what that costs, in cost grains.
+fn improved(alloc: Global, problem: &Problem, design: Design) -> Result<(u128, Design)>
+    requires { problem.now.table ≡ problem.now.inst }
+{
+    let Ok(cost) = check_design(&problem.inst, &design) else {
+        bail!("no good design");
+    };
+    let (better, design) = improve(alloc, &problem.inst, &problem.table, design)?;
+    ensure!(better <= cost, "a dearer design");
+    Ok((better, design))
+}
+
+/// Searches for designs, and writes what they cost, in units.
+fn write_costs<W: Write>(
+    alloc: Global,
+    problem: &Problem,
+    seeds: u32,
+    most: u128,
+    out: &mut W,
+) -> Result<()>
+    requires { problem.now.table ≡ problem.now.inst }
+{
+    let start = start_design(alloc, &problem.inst, &problem.table)?;
+    let found = find_all(alloc, problem, &start, seeds)?;
+    let mean = found.total / u128::from(seeds.max(1)) / TENTH;
+    ensure!(mean <= most.saturating_mul(10), "too dear");
+    let (again, design) = improved(alloc, problem, found.best.context("no best design")?)?;
+    let (once_more, _design) = improved(alloc, problem, design)?;
+    writeln!(
+        out,
+        " {} {}.{} {}, then {} {}",
+        found.least / TENTH / 10,
+        mean / 10,
+        mean % 10,
+        found.greatest / TENTH / 10,
+        again / TENTH / 10,
+        once_more / TENTH / 10
+    )?;
+    Ok(())
+}
+
+/// Writes the line of a network.
+fn write_network<W: Write>(
+    alloc: Global,
+    number: u32,
+    nodes: u32,
+    demands: u32,
+    seeds: u32,
+    most: u128,
+    out: &mut W,
+) -> Result<()> {
+    ensure!(MIN_NODES <= nodes && nodes <= MAX_NODES, "nodes");
+    ensure!(demands <= MAX_DEMANDS, "demands");
+    let problem = sample_problem(alloc, number, nodes, demands)?;
+    write!(out, "sample {number} {nodes} {demands}:")?;
+    write_costs(alloc, &problem, seeds, most, out)
+}
+
+fn main(rt: HostRuntime) -> Result<()> {
+    let mut out = io::writer(&rt);
+    for (number, nodes, demands, seeds, most) in NETWORKS {
+        write_network(rt.alloc(), number, nodes, demands, seeds, most, &mut out).context(
+            format_args!("sample {number} {nodes} {demands}"),
+        )?;
+    }
+    Ok(())
+}
