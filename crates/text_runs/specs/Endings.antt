@@ -1,0 +1,68 @@
+-- How a run of a program about named texts ends: what its status says of the texts begun and of the bytes written.
+use Rattle.std.specs.Prelude.{ℕ, ◌≡◌, ◌+◌, ◌^◌, ◌<◌, ◌≤◌, ◌⊎◌, List, [], length, take, Option, Some, None}
+use Rattle.std.specs.Io.KnownBytes.{Appends}
+use Rattle.plan_report.specs.declared.run_fault.RunFault.{RunFault}
+use Rattle.plan_report.specs.Lines.{fault_line}
+use Rattle.plan_texts.specs.declared.status.Status.{Status}
+use Rattle.plan_texts.specs.declared.status.Status.TheVariants.{Good, Usage, BadText, Unsupported, OverLimit, WriteFault, OutOfMemory, Rejected}
+use Rattle.plan_texts.specs.Statuses.{status_of}
+use Rattle.plan_texts.specs.Texts.{Told, Texts, text_count, HoldsOfTexts}
+use Rattle.plan_texts.specs.Refusals.{IsRefusalOf}
+
+-- ---- answers
+
+-- the words are not read: no text is begun, and the line tells how the program is called
+pub record IsUsage (usage_line : List ℕ) (begun : ℕ) (status : Status) (bytes : List ℕ) : Type 0 where
+  pub none : begun ≡ 0
+  pub is_status : status ≡ Usage
+  pub line : bytes ≡ usage_line
+
+-- texts of these names, so many of which were begun, are refused, with the status and the line of the cause
+pub record IsRefusedSo (names : Texts) (shelf : Told) (begun : ℕ) (status : Status) (bytes : List ℕ) : Type 0 where
+  pub fault : RunFault
+  pub refusal : IsRefusalOf names shelf begun fault
+  pub is_status : status ≡ status_of fault
+  pub line : bytes ≡ fault_line fault
+
+-- The words give these names or none. Names that are given have their texts refused, or the work is done for their texts.
+abbrev pub IsAnswer : List ℕ → (Texts → Status → List ℕ → Type 0) → Option Texts → Told → ℕ → Status → List ℕ → Type 0
+IsAnswer usage_line Done None shelf begun status bytes = IsUsage usage_line begun status bytes
+IsAnswer usage_line Done (Some names) shelf begun status bytes = IsRefusedSo names shelf begun status bytes ⊎ HoldsOfTexts shelf names begun (λ texts. Done texts status bytes)
+
+-- how many texts are named
+abbrev pub name_count : Option Texts → ℕ
+name_count None = 0
+name_count (Some names) = text_count names
+
+-- ---- the run
+
+-- these bytes are a front of the whole text of an answer, and not all of it
+pub record IsCutAnswer (usage_line : List ℕ) (Done : Texts → Status → List ℕ → Type 0) (names : Option Texts) (shelf : Told) (begun : ℕ) (bytes : List ℕ) : Type 0 where
+  pub status : Status
+  pub whole : List ℕ
+  pub written : ℕ
+  pub answer : IsAnswer usage_line Done names shelf begun status whole
+  pub cut : written < length whole
+  pub front : bytes ≡ take written whole
+
+-- what each status says of the texts begun and of the bytes written
+abbrev pub Says : List ℕ → (Texts → Status → List ℕ → Type 0) → Option Texts → Told → ℕ → Status → List ℕ → Type 0
+Says usage_line Done names shelf begun WriteFault bytes = IsCutAnswer usage_line Done names shelf begun bytes
+Says usage_line Done names shelf begun OutOfMemory bytes = (begun ≤ name_count names) × (bytes ≡ [])
+Says usage_line Done names shelf begun status bytes = IsAnswer usage_line Done names shelf begun status bytes
+
+-- A run began so many texts, wrote these bytes and nothing else, and its status says so.
+pub record IsTextRun (usage_line : List ℕ) (Done : Texts → Status → List ℕ → Type 0) (names : Option Texts) (shelf : Told) (begins_before begins_now : ℕ) (before now : Option (List ℕ)) (status : Status) : Type 0 where
+  pub begun : ℕ
+  pub bytes : List ℕ
+  pub rise : begins_before < 2 ^ 62 → begins_now ≡ begins_before + begun
+  pub says : Says usage_line Done names shelf begun status bytes
+  pub written : Appends before now bytes
+
+-- how a run ends where nothing outside fails: its work is done, its words or texts are refused, or memory is wanting
+abbrev pub IsOwnEnd : Status → Type 0
+IsOwnEnd status = (status ≡ Good) ⊎ (status ≡ Rejected) ⊎ (status ≡ Usage) ⊎ (status ≡ BadText) ⊎ (status ≡ Unsupported) ⊎ (status ≡ OverLimit) ⊎ (status ≡ OutOfMemory)
+
+-- the statuses of work that is done
+abbrev pub IsEndOfWork : Status → Type 0
+IsEndOfWork status = (status ≡ Good) ⊎ (status ≡ Rejected) ⊎ (status ≡ Usage)

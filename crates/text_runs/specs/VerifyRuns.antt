@@ -1,0 +1,19 @@
+-- The main statement of the verifier alone: verify_run of src/verifying.rt has it as its contract.
+use Rattle.std.specs.Prelude.{ℕ, List, [], ◌∷◌, codes, Option, Some, None}
+use Rattle.plan_texts.specs.declared.status.Status.{Status}
+use Rattle.plan_texts.specs.Texts.{Name, Told, Texts, three}
+use Rattle.plan_texts.specs.Answers.{IsVerified}
+use Rattle.text_runs.specs.Endings.{IsTextRun}
+
+-- the names that the words give: those of a network, a model and a plan
+abbrev pub names_in : List Name → Option Texts
+names_in (network ∷ model ∷ plan ∷ []) = Some (three network model plan)
+names_in _ = None
+
+-- how the program is called
+abbrev pub usage_line : List ℕ
+usage_line = codes "usage: sndverify NET MODEL PLAN\n"
+
+-- a run of these words ends with the verdict on the plan that they name, with a refusal of words or texts, with a front of such an answer, or with nothing
+abbrev pub IsVerifyRun : List Name → Told → ℕ → ℕ → Option (List ℕ) → Option (List ℕ) → Status → Type 0
+IsVerifyRun words shelf begins_before begins_now before now status = IsTextRun usage_line IsVerified (names_in words) shelf begins_before begins_now before now status
