@@ -62,7 +62,7 @@ fn answer_to<S: Shelf, G: Gate>(
 ///   shelf that has these texts; the sink that the answer goes to; a gate that is passed once, between reading and the
 ///   work.
 /// - Gives: how the run ended.
-/// - Rule: docs/DEFINITIONS.md, "Runs"; docs/FORMATS.md, "The verifier alone".
+/// - Rule: docs/DEFINITIONS.md, "Runs"; docs/FORMATS.md, "Commands".
 /// - Time: linear in the texts' bytes, and that of verifying the plan.
 #[tactic(auto, using(crate::proofs::Ending::own_end, crate::proofs::Ending::read_rose, crate::proofs::Ending::no_write_fault, crate::proofs::Ending::verified_ends))]
 pub fn verify_run<S: Shelf, W: Sink, G: Gate>(
