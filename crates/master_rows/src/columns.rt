@@ -1,0 +1,131 @@
+//! What `value` and `gain` answer to the columns of a brief, put into a pool.
+
+ghost use Rattle.std.specs.Prelude.{◌≡◌, ◌<◌, length, IfOk, IsTrue};
+ghost use Rattle.plan_base.specs.Arcs.{demand_at};
+ghost use Rattle.plan_base.specs.Paths.{IsSimplePath};
+ghost use Rattle.arc_restrict.specs.Rows.{forbids};
+ghost use Rattle.column_pool.specs.Columns.{permitted_at, AreColumns};
+ghost use Rattle.master_step.specs.Columns.{HasColumns};
+
+use anyhow::Result;
+use arc_restrict::Restriction;
+use column_pool::laws::columns_stay;
+use column_pool::{Brief, ColumnPool};
+use link_steps::StepTable;
+use master_step::{Room, gain, value};
+use plan_base::{DemandId, Instance, Items, Path, is_simple_path};
+use std::alloc::{AllocError, Global};
+
+/// Adds a path to the columns of the demand, where it is a simple path of it.
+fn add_simple(
+    inst: &Instance,
+    pool: &mut ColumnPool,
+    demand: DemandId,
+    path: &Path,
+) -> Result<(), AllocError>
+    requires demand { demand.0 < length inst.now.demands }
+    requires columns { AreColumns inst.now pool.old }
+    ensures { AreColumns inst.now pool.new }
+{
+    columns_stay();
+    if is_simple_path(inst, demand, path) {
+        pool.add(demand, path)?;
+    }
+    Ok(())
+}
+
+/// Adds the simple paths of a list to the columns of the demand.
+fn add_all(
+    inst: &Instance,
+    pool: &mut ColumnPool,
+    demand: DemandId,
+    paths: &[Path],
+) -> Result<(), AllocError>
+    requires demand { demand.0 < length inst.now.demands }
+    requires columns { AreColumns inst.now pool.old }
+    ensures { AreColumns inst.now pool.new }
+{
+    for path in paths {
+        add_simple(inst, pool, demand, path)?;
+    }
+    Ok(())
+}
+
+/// The columns of these lists.
+fn pool_of(alloc: Global, inst: &Instance, lists: &[Items<Path>]) -> Result<ColumnPool, AllocError>
+    requires { length lists.now ≡ length inst.now.demands }
+    ensures { IfOk result (AreColumns inst.now) }
+{
+    let mut pool = ColumnPool::new(alloc, inst)?;
+    for place in 0..inst.demands() {
+        add_all(
+            inst,
+            &mut pool,
+            DemandId(place),
+            lists[place as usize].as_slice(),
+        )?;
+    }
+    Ok(pool)
+}
+
+/// Whether the restriction permits a column to each demand.
+fn have_columns(
+    alloc: Global,
+    inst: &Instance,
+    pool: &ColumnPool,
+    restriction: &Restriction,
+) -> Result<bool, AllocError>
+    requires { AreColumns inst.now pool.now }
+    ensures { IfOk result (λ have. IsTrue have → HasColumns inst.now (permitted_at (forbids restriction.now) pool.now)) }
+{
+    for place in 0..inst.demands() {
+        if pool
+            .permitted(alloc, DemandId(place), restriction)?
+            .is_empty()
+        {
+            return Ok(false);
+        }
+    }
+    Ok(true)
+}
+
+/// The value of the brief's prices; None where the brief does not fit.
+pub(crate) fn value_of(
+    alloc: Global,
+    inst: &Instance,
+    table: &StepTable,
+    brief: &Brief,
+) -> Result<Option<i128>>
+    requires { table.now ≡ inst.now }
+{
+    if !brief.fits(inst) {
+        return Ok(None);
+    }
+    let pool = pool_of(alloc, inst, brief.columns.as_slice())?;
+    let restriction = Restriction::none(alloc, inst)?;
+    if !have_columns(alloc, inst, &pool, &restriction)? {
+        return Ok(None);
+    }
+    Ok(Some(value(inst, table, &brief.prices, &pool, &restriction)))
+}
+
+/// The gain of the brief's prices; None where the brief does not fit.
+pub(crate) fn gain_of(
+    alloc: Global,
+    inst: &Instance,
+    table: &StepTable,
+    brief: &Brief,
+) -> Result<Option<Option<i128>>>
+    requires { table.now ≡ inst.now }
+{
+    if !brief.fits(inst) {
+        return Ok(None);
+    }
+    let pool = pool_of(alloc, inst, brief.columns.as_slice())?;
+    let restriction = Restriction::none(alloc, inst)?;
+    if !have_columns(alloc, inst, &pool, &restriction)? {
+        return Ok(None);
+    }
+    let mut room = Room::new(alloc, inst)?;
+    Ok(Some(gain(inst, table, &brief.prices, &pool, &restriction, &mut room)))
+}
