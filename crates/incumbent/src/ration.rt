@@ -18,6 +18,9 @@ use std::alloc::{AllocError, Global};
 /// How many nodes are examined when each search is due.
 const DUE: [u32; 7] = [0, 0, 4, 16, 64, 256, 1_024];
 
+/// How many seeds a seat has: one for each of its searches.
+const SEEDS: u32 = 7;
+
 /// While the paths give no design to begin with, demands are laid one by one at the first asking and at each one so many
 /// later.
 const LAYING_TURN: u32 = 16;
@@ -28,8 +31,13 @@ const MOST_TRIES: u32 = 64;
 /// Searches for better designs, each of which takes some tenths of a second: so there are few of them. The first two
 /// begin with two different designs, and each later one with the cheapest design so far, where one demand has another
 /// path.
+///
+/// Where several search at once, each has a seat of its own. Searches at different seats draw differently, so that from
+/// the same paths, or the same cheapest design, they go to different designs.
 #[derive(Debug, Drop)]
 pub struct DesignSearch {
+    /// The number of the seat.
+    seat: u32,
     /// How often a design was asked for.
     asked: u32,
     /// How many searches there were.
@@ -148,8 +156,11 @@ fn varied(
 
 impl DesignSearch {
     /// No search yet.
-    pub fn new() -> DesignSearch {
+    ///
+    /// - Takes: the number of the seat, 0 where nobody else searches. Only what is drawn depends on it.
+    pub fn new(seat: u32) -> DesignSearch {
         DesignSearch {
+            seat,
             asked: 0,
             searches: 0,
             best: None,
@@ -264,7 +275,8 @@ impl DesignSearch {
             return Ok(None);
         };
         self.searches = self.searches.saturating_add(1);
-        let seed = self.searches;
+        // No two searches share a seed, whichever seats they are of.
+        let seed = self.seat.wrapping_mul(SEEDS).wrapping_add(self.searches);
         let (_cost, design) = improve_seeded(alloc, inst, table, start, seed)?;
         self.keep(inst, &design)?;
         Ok(Some(design))

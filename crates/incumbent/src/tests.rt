@@ -145,7 +145,7 @@ fn designs_found(alloc: Global) -> Option<(u32, u128)> {
     let paths = paths_of(alloc, &[4, 0])?;
     let counts = counts_of(alloc, &[1, 0, 1])?;
     let design = good_design(&inst, paths, counts)?;
-    let mut designs = DesignSearch::new();
+    let mut designs = DesignSearch::new(0);
     let mut count: u32 = 0;
     let mut cost = 0;
     for _asking in 0..3 {

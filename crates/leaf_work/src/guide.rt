@@ -34,10 +34,12 @@ pub struct Guide {
 
 impl Guide {
     /// Nothing is known of any node, and no design was searched for.
-    pub fn new(alloc: Global) -> Guide {
+    ///
+    /// - Takes: the number of the seat that searches for designs, as `DesignSearch::new` does.
+    pub fn new(alloc: Global, seat: u32) -> Guide {
         Guide {
             alloc,
-            designs: DesignSearch::new(),
+            designs: DesignSearch::new(seat),
             above: KnownAbove::nothing(alloc),
             tried: None,
             found: Known::nothing(alloc),

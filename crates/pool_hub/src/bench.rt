@@ -66,7 +66,7 @@ impl<N: Naming> Bench<N> {
             alloc,
             ground: None,
             known: Known::nothing(alloc),
-            designs: DesignSearch::new(),
+            designs: DesignSearch::new(worker),
             waits: worker,
         }
     }
