@@ -24,3 +24,4 @@ pub mod Publishable
 pub mod Crowdings
 pub mod Gatherings
 pub mod Advancing
+pub mod Claiming

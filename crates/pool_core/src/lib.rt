@@ -7,6 +7,7 @@
 //! call, and when, is left to the callers: any order is right.
 #![tactic(auto)]
 
+mod claims;
 pub mod limits;
 mod pool;
 mod shared;

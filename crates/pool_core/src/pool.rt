@@ -6,6 +6,7 @@ ghost use Rattle.pool_machine.specs.Opening.{open_fault, OpenStep, is_waiting};
 ghost use Rattle.pool_machine.specs.Changes.{is_spent, version_in, is_version, first_gap};
 
 mod advancing;
+mod claiming;
 mod closing;
 mod dividing;
 mod examining;
@@ -20,6 +21,7 @@ mod settling;
 mod tasks;
 mod valuing;
 
+use crate::claims::Claims;
 use column_pool::ColumnPool;
 use leaf_work::KnownAbove;
 use link_steps::StepTable;
@@ -54,6 +56,8 @@ pub struct Pool {
     budget: u32,
     next_version: u64,
     accepted: u64,
+    /// What each worker was given last; no part of the state.
+    claims: Claims,
     /// What is known above nodes that wait, so that their bounds are found sooner.
     known: KnownAbove,
 }

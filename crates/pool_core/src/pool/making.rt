@@ -7,6 +7,7 @@ ghost use Rattle.pool_machine.specs.Machine.{IsOpeningState};
 ghost use Rattle.pool_core.specs.Views.{AreFreePlaces};
 
 use super::Pool;
+use crate::claims::Claims;
 use arc_restrict::Restriction;
 use column_pool::ColumnPool;
 use leaf_work::KnownAbove;
@@ -62,6 +63,7 @@ impl Pool {
         let grounds = vec![in alloc; Ground::of(rows)]?;
         let columns = ColumnPool::new(alloc, &*inst)?;
         let room = Room::new(alloc, &*inst)?;
+        let claims = Claims::none(alloc)?;
         Ok(Pool {
             alloc,
             problem: inst,
@@ -76,6 +78,7 @@ impl Pool {
             budget,
             next_version: 1,
             accepted: 0,
+            claims,
             known: KnownAbove::nothing(alloc),
         })
     }

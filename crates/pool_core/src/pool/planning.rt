@@ -40,6 +40,7 @@ impl Pool {
             budget,
             next_version,
             accepted,
+            claims: _claims,
             known,
         } = self;
         let assembly = Assembly {

@@ -35,7 +35,7 @@ impl Pool {
     }
 
     /// Whether a slot is free.
-    fn has_room(&self) -> bool
+    pub(super) fn has_room(&self) -> bool
         ensures { result ≡ nat_lt (active_count self.now) MAX_ROUNDS }
     {
         self.active() < MAX_ROUNDS
@@ -44,7 +44,7 @@ impl Pool {
     /// Whether the node is an open leaf that has a round, or for whose round a slot is free.
     ///
     /// - Takes: whether a slot is free, which is counted once for all nodes.
-    fn is_next(&self, node: BranchId, has_room: bool) -> bool
+    pub(super) fn is_next(&self, node: BranchId, has_room: bool) -> bool
         requires { has_room ≡ nat_lt (active_count self.now) MAX_ROUNDS }
         ensures { result ≡ is_next self.now node }
     {
@@ -56,7 +56,7 @@ impl Pool {
     }
 
     /// What the choice goes by.
-    fn rank(&self, node: BranchId) -> Rank {
+    pub(super) fn rank(&self, node: BranchId) -> Rank {
         match self.node(node) {
             Some(node) => node.rank(),
             None => Rank::root(),
@@ -151,25 +151,39 @@ impl Pool {
         }
     }
 
+    /// What a worker does next while a leaf is open.
+    fn open_task(&self, worker: u32) -> Task
+        requires reachable { IsReachable self.now }
+        requires not_done { is_done self.now ≡ false }
+        ensures lawful { IsLawfulTask self.now result }
+        ensures not_done { result ≢ Task.Done }
+    {
+        if let Some(task) = self.unclaimed(worker) {
+            return task;
+        }
+        match self.next_leaf() {
+            Some(node) => self.step_at(node),
+            None => unreachable!(),
+        }
+    }
+
     /// What may be done next. Takes no memory.
     ///
+    /// - Takes: the number of the worker that asks.
     /// - Gives: a task whose call would not be refused now, want of memory aside; `Done` exactly where the budget
-    ///   is spent or no leaf is open.
+    ///   is spent or no leaf is open. A task that no other worker was given last comes first; where there is none, one
+    ///   is given again, so that no worker waits for another.
     /// - Rule: docs/METHOD.md, "The search as a machine".
     pub fn next_task(&mut self, worker: u32) -> Task
         ensures unchanged { self.new ≡ self.old }
         ensures lawful { IsLawfulTask self.old result }
         ensures done { (result ≡ Task.Done) ↔ (is_done self.old ≡ true) }
     {
-        let _worker = worker;
-        // Whoever looks into the pool knows what its type keeps, which the proof needs.
-        let _ = &self.nodes;
         if self.is_done() {
             return Task::Done;
         }
-        match self.next_leaf() {
-            Some(node) => self.step_at(node),
-            None => unreachable!(),
-        }
+        let task = self.open_task(worker);
+        self.claims.give(worker, task);
+        task
     }
 }
