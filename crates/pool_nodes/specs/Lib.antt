@@ -2,3 +2,4 @@ pub mod Rounds
 pub mod Records
 pub mod Grounds
 pub mod Slots
+pub mod Ranks

@@ -1,6 +1,6 @@
 //! A node of the pool's tree.
 
-ghost use Rattle.std.specs.Prelude.{◌≡◌, true, None, Some, length, replicate, option_map, IfOk};
+ghost use Rattle.std.specs.Prelude.{◌≡◌, true, None, Some, length, replicate, option_map, IfOk, IfSome};
 ghost use Rattle.pool_machine.specs.State.{Node, Round, state_by};
 ghost use Rattle.pool_machine.specs.Changes.{version_in, first_gap, bound_in, has_cut};
 ghost use Rattle.pool_machine.specs.Offering.{is_priced};
@@ -188,7 +188,9 @@ impl PoolNode {
     }
 
     /// By what the node is chosen while it is an open leaf: its recorded bound, or else that of its parent.
-    pub fn rank(&self) -> Rank {
+    pub fn rank(&self) -> Rank
+        ensures { IfSome self.now.best (λ best. result.bound ≡ Some best.bound) }
+    {
         self.above.at_bound(self.best_bound)
     }
 
