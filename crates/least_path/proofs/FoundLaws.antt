@@ -27,7 +27,7 @@ rises p ws s t potential arcs start along h (suc i) within =
     let more : sum_by (λ b. weight_at ws b) (take (suc i) arcs) ≡ sum_by (λ b. weight_at ws b) (take i arcs) + weight_at ws a = subst (λ (k : ℕ). sum_by (λ b. weight_at ws b) (take k arcs) ≡ sum_by (λ b. weight_at ws b) (take i arcs) + weight_at ws a) (let e : i + 1 ≡ suc i = omega arith in e) (sum_by_more (λ b. weight_at ws b) arcs i no_arc (omega arith)) in
     omega (arith, before, step, tail, more)
 
-least : (p : Parts) (ws : Weights) (s t : NodeId) (weight : ℕ) (potentials : List ℕ) → ArePotentials p ws s t weight potentials → (other : List ArcId) → IsUsablePath p ws s t other → weight ≤ weight_of ws other
+pub least : (p : Parts) (ws : Weights) (s t : NodeId) (weight : ℕ) (potentials : List ℕ) → ArePotentials p ws s t weight potentials → (other : List ArcId) → IsUsablePath p ws s t other → weight ≤ weight_of ws other
 least p ws s t weight potentials h other path =
     let up = rises p ws s t (λ v. get_or potentials v 0) other h.at_source h.along path (length other) (omega arith) in
     let end : get_or potentials (node_at p s other (length other)) 0 ≡ weight = ap (λ (v : ℕ). get_or potentials v 0) path.simple.ends_at_target ∙ h.at_target in
@@ -42,24 +42,24 @@ first true b h = refl
 first false b h = h
 
 -- the ends of an arc are nodes
-head-within : (p : Parts) (a : ArcId) → IsInstance p → is_arc p a ≡ true → (head_of p a).0 < p.nodes
+pub head-within : (p : Parts) (a : ArcId) → IsInstance p → is_arc p a ≡ true → (head_of p a).0 < p.nodes
 head-within p a inst is =
     let lawful = inst.links (link_of a) no_link (ltb-true (link_of a) (length p.links) (first _ _ is)) in
     either (is_back a) (λ (n : NodeId). n.0 < p.nodes) lawful.source lawful.target
 
-tail-within : (p : Parts) (a : ArcId) → IsInstance p → is_arc p a ≡ true → (tail_of p a).0 < p.nodes
+pub tail-within : (p : Parts) (a : ArcId) → IsInstance p → is_arc p a ≡ true → (tail_of p a).0 < p.nodes
 tail-within p a inst is =
     let lawful = inst.links (link_of a) no_link (ltb-true (link_of a) (length p.links) (first _ _ is)) in
     either (is_back a) (λ (n : NodeId). n.0 < p.nodes) lawful.target lawful.source
 
-potential-at_most : (weight : ℕ) (x : Option Label) → potential_of weight x ≤ weight
+pub potential-at_most : (weight : ℕ) (x : Option Label) → potential_of weight x ≤ weight
 potential-at_most weight None = omega arith
 potential-at_most weight (Some l) = omega arith
 
-potential-at : (ls : Labels) (weight v : ℕ) → v < length ls → get_or (map (potential_of weight) ls) v 0 ≡ potential_of weight (label_at ls v)
+pub potential-at : (ls : Labels) (weight v : ℕ) → v < length ls → get_or (map (potential_of weight) ls) v 0 ≡ potential_of weight (label_at ls v)
 potential-at ls weight v within = get_or-map (potential_of weight) ls v None 0 within
 
-potential-label : (ls : Labels) (weight v : ℕ) (l : Label) → label_at ls v ≡ Some l → get_or (map (potential_of weight) ls) v 0 ≡ min l.length weight
+pub potential-label : (ls : Labels) (weight v : ℕ) (l : Label) → label_at ls v ≡ Some l → get_or (map (potential_of weight) ls) v 0 ≡ min l.length weight
 potential-label ls weight v l is = potential-at ls weight v (label_within ls v l is) ∙ ap (potential_of weight) is
 
 -- along an arc whose tail has this label
@@ -95,7 +95,7 @@ potentials-right p ws s t ls stop inst h near target =
 
 pub found-path : (p : Parts) (ws : Weights) (s t : NodeId) (ls : Labels) (stop : Stop) → IsInstance p → IsSearch p ws s t ls → IsNearest ls stop → stop.node.0 ≡ t.0 → IsLeastPath p ws s t (way p ls stop.label.steps stop.label) stop.label.length
 found-path p ws s t ls stop inst h near target =
-    let path = way-path p ws s t ls stop.node.0 stop.label h.labels near.is target in
+    let path = way-path p ws s t t ls stop.node.0 stop.label h.labels near.is target in
     record {
       path = path.path;
       weight_is = path.weight;
@@ -115,9 +115,9 @@ closed-no_path p ws s t reached set = λ arcs path.
     let bad : true ≡ false = sym there ∙ set.lacks_target in
     cc
 
-record IsSomeLabel (x : Option Label) : Type 0 where
-  label : Label
-  is : x ≡ Some label
+pub record IsSomeLabel (x : Option Label) : Type 0 where
+  pub label : Label
+  pub is : x ≡ Some label
 
 some-label : (x : Option Label) → is_labelled x ≡ true → IsSomeLabel x
 some-label None h = absurd (let bad : false ≡ true = h in cc)
@@ -126,13 +126,13 @@ some-label (Some l) h = record { label = l; is = refl }
 lt_or_le : (v n : ℕ) → (v < n) ⊎ (n ≤ v)
 lt_or_le v n = grind arith
 
-in-label : (ls : Labels) (v : ℕ) → IsIn (map is_labelled ls) v → IsSomeLabel (label_at ls v)
+pub in-label : (ls : Labels) (v : ℕ) → IsIn (map is_labelled ls) v → IsSomeLabel (label_at ls v)
 in-label ls v h = elim (lt_or_le v (length ls)) [
   | inl within ↦ some-label (label_at ls v) (sym (get_or-map is_labelled ls v None false within) ∙ h)
   | inr past ↦ absurd (let bad : false ≡ true = sym (get_or_past (map is_labelled ls) v false (omega (arith, past, length-map {A = Option Label} {B = Bool} ls is_labelled))) ∙ h in cc)
 ]
 
-label-in : (ls : Labels) (v : ℕ) (l : Label) → label_at ls v ≡ Some l → IsIn (map is_labelled ls) v
+pub label-in : (ls : Labels) (v : ℕ) (l : Label) → label_at ls v ≡ Some l → IsIn (map is_labelled ls) v
 label-in ls v l is = get_or-map is_labelled ls v None false (label_within ls v l is) ∙ ap (λ (x : Option Label). is_labelled x) is
 
 no_label_at : (x : Option Label) → ((l : Label) → x ≡ Some l → ⊥) → x ≡ None

@@ -3,3 +3,4 @@ pub mod OfferLaws
 pub mod SettleLaws
 pub mod WayLaws
 pub mod FoundLaws
+pub mod TreeLaws

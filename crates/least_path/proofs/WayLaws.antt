@@ -92,15 +92,15 @@ same_steps ls v i j a b =
     let same = ap (λ (l : Label). l.steps) (some_same (label_at ls v) a.label b.label a.is b.is) in
     omega (arith, same, a.steps_are, b.steps_are)
 
--- the way of the target's label
+-- the way of a node's label
 pub record IsPathOf (p : Parts) (ws : Weights) (s t : NodeId) (l : Label) (arcs : List ArcId) : Type 0 where
   pub path : IsUsablePath p ws s t arcs
   pub weight : weight_of ws arcs ≡ l.length
 
-pub way-path : (p : Parts) (ws : Weights) (s t : NodeId) (ls : Labels) (v : ℕ) (l : Label) → AreLabels p ws s t ls → label_at ls v ≡ Some l → v ≡ t.0 → IsPathOf p ws s t l (way p ls l.steps l)
-way-path p ws s t ls v l h at target =
+pub way-path : (p : Parts) (ws : Weights) (s outside t : NodeId) (ls : Labels) (v : ℕ) (l : Label) → AreLabels p ws s outside ls → label_at ls v ≡ Some l → v ≡ t.0 → IsPathOf p ws s t l (way p ls l.steps l)
+way-path p ws s outside t ls v l h at target =
     let arcs = way p ls l.steps l in
-    let w = is-way p ws s t ls h l.steps v l at refl in
+    let w = is-way p ws s outside ls h l.steps v l at refl in
     record {
       path = record {
         simple = record {

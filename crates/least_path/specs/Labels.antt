@@ -1,4 +1,4 @@
--- Pieces of the search by settled nodes. No public clause cites this module.
+-- Pieces of the search by settled nodes. Of public clauses those of a tree alone cite it.
 use Rattle.std.specs.Prelude.{Bool, true, false, not, ◌&&◌, ℕ, zero, suc, ◌≡◌, ◌≢◌, ◌<◌, ◌≤◌, ◌+◌, ◌*◌, List, [], ◌∷◌, ◌++◌, length, Option, Some, None, slice_index_or, slice_set, sum_by, nat_lt, if◌then◌else◌, min, replicate}
 use Rattle.std.specs.Option.{unwrap_or}
 use Rattle.plan_base.specs.declared.ids.NodeId.{NodeId}

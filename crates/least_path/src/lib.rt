@@ -2,7 +2,7 @@
 //!
 //! Promises a simple path of usable arcs that no other undercuts, with a potential for each node that shows it; or, exactly
 //! where there is no such path, the set of nodes that are reached. Begin at `search`; the words of its contract are in
-//! `specs/Paths.antt`. `Tree` has the ways from one node to all others, of which nothing is promised. Stands on
+//! `specs/Paths.antt`. `Tree` has such paths from one node to all others, with words in `specs/Trees.antt`. Stands on
 //! `plan_base`. What weights mean, and which arcs may be used, is left to the caller.
 #![tactic(auto)]
 

@@ -1,4 +1,4 @@
-use Rattle.std.proofs.Common.{subst, sym, ap, ◌≡◌, ◌∙◌, List, ℕ, map}
+use Rattle.std.proofs.Common.{subst, sym, ap, ◌∙◌, List, ℕ, map}
 use Rattle.plan_base.specs.declared.ids.ArcId.{ArcId}
 use Rattle.least_path.specs.Paths.{IsLeastPath}
 use Rattle.least_path.specs.Labels.{Labels, IsSearch, is_labelled, way, first_labels_of}
