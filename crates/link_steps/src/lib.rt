@@ -19,6 +19,3 @@ mod table;
 pub use reading::LinkValue;
 pub use step_fault::StepFault;
 pub use table::StepTable;
-
-#[cfg(test)]
-mod tests;

@@ -22,6 +22,3 @@ pub use checking::check_priced;
 pub use priced::{Priced, Unfit};
 pub use pricing::price;
 pub use source_tree::SourceTree;
-
-#[cfg(test)]
-mod tests;

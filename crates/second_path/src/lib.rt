@@ -16,6 +16,3 @@ mod ways;
 pub use determined::Determined;
 pub use determining::determine;
 pub use others::second;
-
-#[cfg(test)]
-mod tests;

@@ -1,0 +1,16 @@
+//! Networks of a line, for programs whose files of rows are about small networks.
+//!
+//! A row is `NAME DIRECTION NODES : LINK, LINK, .. : DEMAND, DEMAND, ..`, where DIRECTION is `directed` or `undirected`, a
+//! LINK is `SOURCE TARGET PRE ROUTING` and then, for each module, `/ CAPACITY COST`, and a DEMAND is `SOURCE TARGET LOAD`;
+//! `-` stands for no demand.
+//! Begin at `network_of`. Stands on `plan_base` and `link_steps`, serves programs for the gate alone, and promises nothing
+//! but that a table is that of its instance.
+#![tactic(auto)]
+
+mod networks;
+mod numbers;
+mod tables;
+
+pub use networks::{Network, find, network_of};
+pub use numbers::numbers_of;
+pub use tables::table_of;
