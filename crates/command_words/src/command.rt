@@ -1,12 +1,16 @@
 //! What the words of a command line ask for.
 
 ghost use Rattle.std.specs.Prelude.{◌≡◌, ◌≤◌, ◌<◌, ◌^◌, map, string_bytes, option_map, IfOk, IfSome};
-ghost use Rattle.command_words.specs.Words.{number_within, budget_of, on_network, sample_key, on_sample, on_three, with_names, command_of, command_now, heard_now, command_in, IsBudget, IsSampleKey, IsInRange};
+ghost use Rattle.command_words.specs.Words.{number_within, budget_of, workers_of, plan_of, on_network, sample_key, on_sample, on_three, with_names, command_of, command_now, heard_now, command_in, IsBudget, AreWorkers, IsSampleKey, IsInRange};
 
 use crate::heard::{Heard, heard_in};
 use instance_maker::limits::{MAX_DEMANDS, MAX_NODES, MAX_NUMBER, MIN_NODES};
+use plan_io::MAX_WORKERS;
 use proof_tree::limits::MAX_BUDGET;
 use std::alloc::{AllocError, Global};
+
+/// How many workers there are where the words name no number.
+pub const DEFAULT_WORKERS: u32 = 4;
 
 /// How many nodes of the search tree may be examined where the words name no number.
 pub const DEFAULT_BUDGET: u32 = 1000;
@@ -29,6 +33,8 @@ pub enum Command<N> {
     Plan {
         network: N,
         model: N,
+        /// How many workers search at once.
+        workers: u32,
         /// How many nodes of the search tree may be examined.
         budget: u32,
     },
@@ -84,26 +90,54 @@ fn budget_of(word: Option<&str>) -> Option<u32>
     }
 }
 
+/// The workers of `plan`.
+fn workers_of(word: Option<&str>) -> Option<u32>
+    ensures value { result ≡ workers_of (option_map (λ w. w.now) word.entry) }
+    ensures lawful { IfSome result AreWorkers }
+{
+    match word {
+        None => Some(DEFAULT_WORKERS),
+        Some(word) => number_within(1, MAX_WORKERS, word),
+    }
+}
+
+/// The command `plan` of two texts.
+fn plan_of<'a>(
+    network: &'a str,
+    model: &'a str,
+    workers: Option<&str>,
+    budget: Option<&str>,
+) -> Option<Command<&'a str>>
+    ensures value { option_map command_now result
+        ≡ plan_of network.now model.now (option_map (λ w. w.now) workers.entry) (option_map (λ w. w.now) budget.entry) }
+    ensures range { IfSome result (λ command. IsInRange (command_now command)) }
+{
+    let workers = workers_of(workers)?;
+    let budget = budget_of(budget)?;
+    Some(Command::Plan {
+        network,
+        model,
+        workers,
+        budget,
+    })
+}
+
 /// The command of a word about two texts.
 fn on_network<'a>(
     word: &str,
     network: &'a str,
     model: &'a str,
+    workers: Option<&str>,
     budget: Option<&str>,
 ) -> Option<Command<&'a str>>
     ensures value { option_map command_now result
-        ≡ on_network word.now network.now model.now (option_map (λ w. w.now) budget.entry) }
+        ≡ on_network word.now network.now model.now (option_map (λ w. w.now) workers.entry) (option_map (λ w. w.now) budget.entry) }
     ensures range { IfSome result (λ command. IsInRange (command_now command)) }
 {
     if word == "plan" {
-        let budget = budget_of(budget)?;
-        return Some(Command::Plan {
-            network,
-            model,
-            budget,
-        });
+        return plan_of(network, model, workers, budget);
     }
-    if budget.is_some() {
+    if workers.is_some() || budget.is_some() {
         return None;
     }
     match word {
@@ -145,13 +179,14 @@ fn on_three<'a>(
     first: &'a str,
     second: &'a str,
     third: &'a str,
+    workers: Option<&str>,
     budget: Option<&str>,
 ) -> Option<Command<&'a str>>
     ensures value { option_map command_now result
-        ≡ on_three word.now first.now second.now third.now (option_map (λ w. w.now) budget.entry) }
+        ≡ on_three word.now first.now second.now third.now (option_map (λ w. w.now) workers.entry) (option_map (λ w. w.now) budget.entry) }
     ensures range { IfSome result (λ command. IsInRange (command_now command)) }
 {
-    if budget.is_some() {
+    if workers.is_some() || budget.is_some() {
         return None;
     }
     match word {
@@ -170,14 +205,19 @@ fn on_three<'a>(
 }
 
 /// The command of a word with these names.
-fn with_names<'a>(word: &str, names: &[&'a str], budget: Option<&str>) -> Option<Command<&'a str>>
+fn with_names<'a>(
+    word: &str,
+    names: &[&'a str],
+    workers: Option<&str>,
+    budget: Option<&str>,
+) -> Option<Command<&'a str>>
     ensures value { option_map command_now result
-        ≡ with_names word.now (map (λ name. name.now) names.now) (option_map (λ w. w.now) budget.entry) }
+        ≡ with_names word.now (map (λ name. name.now) names.now) (option_map (λ w. w.now) workers.entry) (option_map (λ w. w.now) budget.entry) }
     ensures range { IfSome result (λ command. IsInRange (command_now command)) }
 {
     match names {
-        [network, model] => on_network(word, network, model, budget),
-        [first, second, third] => on_three(word, first, second, third, budget),
+        [network, model] => on_network(word, network, model, workers, budget),
+        [first, second, third] => on_three(word, first, second, third, workers, budget),
         _ => None,
     }
 }
@@ -187,10 +227,10 @@ fn command_of<'a>(word: &str, heard: &Heard<'a>) -> Option<Command<&'a str>>
     ensures value { option_map command_now result ≡ command_of word.now (heard_now heard.now) }
     ensures range { IfSome result (λ command. IsInRange (command_now command)) }
 {
-    if heard.awaits_value {
+    if heard.awaits.is_some() {
         return None;
     }
-    with_names(word, heard.names.as_slice(), heard.budget)
+    with_names(word, heard.names.as_slice(), heard.workers, heard.budget)
 }
 
 /// The command that the words ask for, where they are read.

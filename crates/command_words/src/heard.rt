@@ -1,19 +1,30 @@
 //! What the words behind a command say.
 
 ghost use Rattle.std.specs.Prelude.{◌≡◌, ◌==◌, Some, map, string_bytes, option_map, slice_index, IfOk};
-ghost use Rattle.command_words.specs.Words.{begins_with_dash, is_option, with_name, with_value, with_own_value, with_option, with_word, heard_in, heard_now};
+ghost use Rattle.command_words.specs.Words.{begins_with_dash, is_option, with_name, with_value, with_own_value, with_option, with_inside_value, with_word, heard_in, heard_now};
 
 use std::alloc::{AllocError, Global};
+
+/// An option that has a value.
+#[derive(Clone, Copy, Debug)]
+pub enum Setting {
+    /// `--workers`.
+    Workers,
+    /// `--nodes`.
+    Nodes,
+}
 
 /// What the words behind a command have said so far.
 #[derive(Drop)]
 pub struct Heard<'a> {
     /// The words that are names.
     pub names: Vec<&'a str>,
+    /// The value of `--workers`.
+    pub workers: Option<&'a str>,
     /// The value of `--nodes`.
     pub budget: Option<&'a str>,
-    /// Whether the next word is the value of `--nodes`.
-    pub awaits_value: bool,
+    /// The option whose value the next word is.
+    pub awaits: Option<Setting>,
     /// Whether every further word is a name.
     pub only_names: bool,
 }
@@ -43,28 +54,55 @@ fn with_name<'a>(mut heard: Heard<'a>, word: &'a str) -> Result<Heard<'a>, Alloc
     Ok(heard)
 }
 
-/// The word is the value of `--nodes`.
-fn with_value<'a>(heard: Heard<'a>, word: &'a str) -> Option<Heard<'a>>
-    ensures { option_map heard_now result ≡ with_value word.now (heard_now heard.entry) }
+/// The word is the value of an option.
+fn with_value<'a>(setting: Setting, heard: Heard<'a>, word: &'a str) -> Option<Heard<'a>>
+    ensures { option_map heard_now result ≡ with_value setting word.now (heard_now heard.entry) }
 {
-    if heard.budget.is_some() {
-        return None;
+    match setting {
+        Setting::Workers => {
+            if heard.workers.is_some() {
+                return None;
+            }
+            Some(Heard {
+                workers: Some(word),
+                awaits: None,
+                ..heard
+            })
+        }
+        Setting::Nodes => {
+            if heard.budget.is_some() {
+                return None;
+            }
+            Some(Heard {
+                budget: Some(word),
+                awaits: None,
+                ..heard
+            })
+        }
     }
-    Some(Heard {
-        budget: Some(word),
-        awaits_value: false,
-        ..heard
-    })
 }
 
-/// The word is the value of `--nodes`, and one of its own.
-fn with_own_value<'a>(heard: Heard<'a>, word: &'a str) -> Option<Heard<'a>>
-    ensures { option_map heard_now result ≡ with_own_value word.now (heard_now heard.entry) }
+/// The word is the value of an option, and one of its own.
+fn with_own_value<'a>(setting: Setting, heard: Heard<'a>, word: &'a str) -> Option<Heard<'a>>
+    ensures { option_map heard_now result ≡ with_own_value setting word.now (heard_now heard.entry) }
 {
     if begins_with_dash(word) {
         return None;
     }
-    with_value(heard, word)
+    with_value(setting, heard, word)
+}
+
+/// The word is an option and its value.
+fn with_inside_value<'a>(heard: Heard<'a>, word: &'a str) -> Option<Heard<'a>>
+    ensures { option_map heard_now result ≡ with_inside_value word.now (heard_now heard.entry) }
+{
+    if let Some(value) = word.strip_prefix("--workers=") {
+        return with_value(Setting::Workers, heard, value);
+    }
+    match word.strip_prefix("--nodes=") {
+        Some(value) => with_value(Setting::Nodes, heard, value),
+        None => None,
+    }
 }
 
 /// The word is an option.
@@ -77,16 +115,19 @@ fn with_option<'a>(heard: Heard<'a>, word: &'a str) -> Option<Heard<'a>>
             ..heard
         });
     }
-    if word == "--nodes" {
+    if word == "--workers" {
         return Some(Heard {
-            awaits_value: true,
+            awaits: Some(Setting::Workers),
             ..heard
         });
     }
-    match word.strip_prefix("--nodes=") {
-        Some(value) => with_value(heard, value),
-        None => None,
+    if word == "--nodes" {
+        return Some(Heard {
+            awaits: Some(Setting::Nodes),
+            ..heard
+        });
     }
+    with_inside_value(heard, word)
 }
 
 /// What is said with one word more.
@@ -96,8 +137,8 @@ fn with_word<'a>(heard: Heard<'a>, word: &'a str) -> Result<Option<Heard<'a>>, A
     if heard.only_names {
         return Ok(Some(with_name(heard, word)?));
     }
-    if heard.awaits_value {
-        return Ok(with_own_value(heard, word));
+    if let Some(setting) = heard.awaits {
+        return Ok(with_own_value(setting, heard, word));
     }
     if is_option(word) {
         return Ok(with_option(heard, word));
@@ -111,8 +152,9 @@ pub fn heard_in(alloc: Global, words: &[String]) -> Result<Option<Heard<'_>>, Al
 {
     let mut heard = Heard {
         names: Vec::new(alloc),
+        workers: None,
         budget: None,
-        awaits_value: false,
+        awaits: None,
         only_names: false,
     };
     for word in words {

@@ -6,5 +6,6 @@
 
 mod command;
 mod heard;
+pub mod laws;
 
 pub use command::{Command, SampleKey, command_in};

@@ -1,5 +1,8 @@
 //! A place to hold workers up.
 
+/// How many workers a run may have.
+pub const MAX_WORKERS: u32 = 64;
+
 /// What a worker passes between taking a task and handing its result in. It answers nothing, so no
 /// promise depends on it: tests hold workers here to force an order.
 ///

@@ -3,10 +3,11 @@
 //! The networks have 4 to 12 nodes and come from a small generator (`made`), the same ones in each run: with directed
 //! and undirected links, none to three modules on a link, whole and decimal numbers, and some that have no design.
 //! Each plan must be accepted by `verify`, and state its status and its budget. The plans of one network must agree:
-//! a greater budget never knows less. Where few paths can be chosen from, the least cost of all choices, which
-//! `choices` finds by trying them, must lie where each plan says. The program writes a line for each network, and ends
-//! with an error at the first plan that is not as it must be; the error names the network and the budget. Begin at
-//! `plan_network`. Stands on `plan_run` and promises nothing of its own.
+//! a greater budget never knows less, and what several workers find contradicts nothing. Where few paths can be chosen
+//! from, the least cost of all choices, which `choices` finds by trying them, must lie where each plan says. The
+//! program writes a line for each network, and ends with an error at the first plan that is not as it must be; the
+//! error names the network and the budget. Begin at `plan_network`. Stands on `plan_run` and promises nothing of its
+//! own.
 #![tactic(auto)]
 
 mod choices;
@@ -24,6 +25,8 @@ use made::made_network;
 use std::alloc::Global;
 use std::io;
 use std::io::Write;
+use std::sync::Wait;
+use std::thread::Threads;
 use texts::Texts;
 use trials::plan_within;
 
@@ -36,17 +39,21 @@ const BUDGETS: [u32; 6] = [1, 2, 3, 10, 100, 1_000];
 /// The most nodes of the search tree. Each network whose best design is known is planned with them too.
 const MOST_NODES: u32 = 4_096;
 
+/// How many workers plan each network once more.
+const WORKERS: u32 = 3;
+
+/// With how many nodes of the search tree these plan.
+const SHARED_NODES: u32 = 64;
+
 /// Of so many networks, one is planned with the most nodes whatever is known.
 const ONE_OF: u32 = 10;
 
-/// Looks whether a plan may claim this, where the one with the budget before claimed the former.
-fn compare(former: Range, claimed: Range, tried: Tried) -> Result<()> {
+/// Looks whether a plan may claim this.
+fn look_over(claimed: Range, tried: Tried) -> Result<()> {
     ensure!(
         claimed.lower <= claimed.upper,
         "the bound is above the cost"
     );
-    ensure!(former.lower <= claimed.lower, "the bound fell");
-    ensure!(claimed.upper <= former.upper, "the cost rose");
     if let Tried::All { least, .. } = tried {
         ensure!(claimed.lower <= least, "a choice of paths costs less");
         ensure!(least <= claimed.upper, "no choice of paths costs so little");
@@ -54,40 +61,85 @@ fn compare(former: Range, claimed: Range, tried: Tried) -> Result<()> {
     Ok(())
 }
 
-/// Plans a network with this budget. Gives what the plan claims.
-fn claimed_within(
+/// Looks whether a plan may claim this, where the one with the budget before claimed the former.
+fn compare(former: Range, claimed: Range, tried: Tried) -> Result<()> {
+    look_over(claimed, tried)?;
+    ensure!(former.lower <= claimed.lower, "the bound fell");
+    ensure!(claimed.upper <= former.upper, "the cost rose");
+    Ok(())
+}
+
+/// Plans a network by one worker with this budget. Gives what the plan claims.
+fn claimed_within<R: Threads + Wait + Sync>(
+    rt: &R,
     alloc: Global,
     texts: &Texts,
     budget: u32,
     former: Range,
     tried: Tried,
 ) -> Result<Range> {
-    let claimed = plan_within(alloc, texts, budget).context(format_args!("budget {budget}"))?;
+    let claimed = plan_within(rt, alloc, texts, 1, budget).context(format_args!(
+        "budget {budget}"
+    ))?;
     compare(former, claimed, tried).context(format_args!("budget {budget}"))?;
     Ok(claimed)
 }
 
-/// Plans the network of this number with its budgets. Gives what the last plan claims.
-fn plan_network(alloc: Global, number: u32, texts: &Texts, tried: Tried) -> Result<Range> {
+/// Plans a network by several workers. Their plan must agree with what one worker's claims.
+fn plan_together<R: Threads + Wait + Sync>(
+    rt: &R,
+    alloc: Global,
+    texts: &Texts,
+    known: Range,
+    tried: Tried,
+) -> Result<()> {
+    let claimed = plan_within(rt, alloc, texts, WORKERS, SHARED_NODES)?;
+    look_over(claimed, tried)?;
+    ensure!(
+        claimed.lower <= known.upper,
+        "the bound is above one worker's cost"
+    );
+    ensure!(
+        known.lower <= claimed.upper,
+        "the cost is below one worker's bound"
+    );
+    Ok(())
+}
+
+/// Plans the network of this number with its budgets, by one worker and then by several. Gives what the last plan of
+/// one worker claims.
+fn plan_network<R: Threads + Wait + Sync>(
+    rt: &R,
+    alloc: Global,
+    number: u32,
+    texts: &Texts,
+    tried: Tried,
+) -> Result<Range> {
     let mut known = Range::any();
     for budget in BUDGETS.iter() {
-        known = claimed_within(alloc, texts, *budget, known, tried)?;
+        known = claimed_within(rt, alloc, texts, *budget, known, tried)?;
         if known.is_decided() {
             break;
         }
     }
     if known.is_decided() || number % ONE_OF == 0 {
-        known = claimed_within(alloc, texts, MOST_NODES, known, tried)?;
+        known = claimed_within(rt, alloc, texts, MOST_NODES, known, tried)?;
     }
+    plan_together(rt, alloc, texts, known, tried).context("several workers")?;
     Ok(known)
 }
 
 /// Plans the network of this number, and writes its line.
-fn write_network<W: Write>(alloc: Global, number: u32, out: &mut W) -> Result<()> {
+fn write_network<R: Threads + Wait + Sync, W: Write>(
+    rt: &R,
+    alloc: Global,
+    number: u32,
+    out: &mut W,
+) -> Result<()> {
     let network = made_network(alloc, number)?;
     let texts = Texts::of(alloc, &network)?;
     let tried = least_cost(alloc, &network)?;
-    let known = plan_network(alloc, number, &texts, tried).context(format_args!(
+    let known = plan_network(rt, alloc, number, &texts, tried).context(format_args!(
         "network {number}"
     ))?;
     writeln!(out, "{number}: {network}, {known}, {tried}")?;
@@ -97,7 +149,7 @@ fn write_network<W: Write>(alloc: Global, number: u32, out: &mut W) -> Result<()
 fn main(rt: HostRuntime) -> Result<()> {
     let mut out = io::writer(&rt);
     for number in 0..NETWORKS {
-        write_network(rt.alloc(), number, &mut out)?;
+        write_network(&rt, rt.alloc(), number, &mut out)?;
     }
     Ok(())
 }

@@ -6,6 +6,8 @@ use anyhow::{Result, ensure};
 use plan_io::{MemSink, NoGate, SureShelf};
 use plan_run::{Status, run};
 use std::alloc::{AllocError, Global};
+use std::sync::Wait;
+use std::thread::Threads;
 
 /// How many bytes a plan may have here.
 const PLAN_ROOM: usize = 4_000_000;
@@ -21,7 +23,8 @@ fn words_of(alloc: Global, line: &str) -> Result<Vec<String>, AllocError> {
 }
 
 /// How a run of this line's words over these texts ends, and what it writes.
-fn ends(
+fn ends<R: Threads + Wait + Sync>(
+    rt: &R,
     alloc: Global,
     line: &str,
     named: &[(&str, &[u8])],
@@ -30,7 +33,7 @@ fn ends(
     let words = words_of(alloc, line)?;
     let mut shelf = SureShelf::new(alloc, named)?;
     let mut out = MemSink::new(alloc, room, &[])?;
-    let status = run(alloc, words.as_slice(), &mut shelf, &mut out, &NoGate);
+    let status = run(rt, alloc, words.as_slice(), &mut shelf, &mut out, &NoGate);
     Ok((status, out))
 }
 
@@ -46,13 +49,19 @@ fn accepting_line(alloc: Global, claim: &Claim<'_>) -> Result<String, AllocError
 }
 
 /// Has `verify` look at the text of this plan, which claims this.
-fn verify_plan(alloc: Global, texts: &Texts, plan: &str, claim: &Claim<'_>) -> Result<()> {
+fn verify_plan<R: Threads + Wait + Sync>(
+    rt: &R,
+    alloc: Global,
+    texts: &Texts,
+    plan: &str,
+    claim: &Claim<'_>,
+) -> Result<()> {
     let named = [
         ("net", texts.network.as_bytes()),
         ("model", texts.model.as_bytes()),
         ("plan", plan.as_bytes()),
     ];
-    let (status, line) = ends(alloc, "verify net model plan", &named, LINE_ROOM)?;
+    let (status, line) = ends(rt, alloc, "verify net model plan", &named, LINE_ROOM)?;
     let written = str::from_utf8(line.bytes())?;
     ensure!(status == Status::Good, "verify: {written}");
     let wanted = accepting_line(alloc, claim)?;
@@ -60,19 +69,26 @@ fn verify_plan(alloc: Global, texts: &Texts, plan: &str, claim: &Claim<'_>) -> R
     Ok(())
 }
 
-/// Plans a network with this budget, and has the plan verified. Gives what it claims of the cost of the best design.
-pub(crate) fn plan_within(alloc: Global, texts: &Texts, budget: u32) -> Result<Range> {
+/// Plans a network with so many workers and this budget, and has the plan verified. Gives what it claims of the cost of
+/// the best design.
+pub(crate) fn plan_within<R: Threads + Wait + Sync>(
+    rt: &R,
+    alloc: Global,
+    texts: &Texts,
+    workers: u32,
+    budget: u32,
+) -> Result<Range> {
     let named = [
         ("net", texts.network.as_bytes()),
         ("model", texts.model.as_bytes()),
     ];
-    let line = format!(in alloc; "plan net model --nodes {budget}")?;
-    let (status, out) = ends(alloc, line.as_str(), &named, PLAN_ROOM)?;
+    let line = format!(in alloc; "plan net model --workers {workers} --nodes {budget}")?;
+    let (status, out) = ends(rt, alloc, line.as_str(), &named, PLAN_ROOM)?;
     let plan = str::from_utf8(out.bytes())?;
     let claim = claim_of(plan)?;
     ensure!(status == claim.ends_with()?, "another status");
     ensure!(claim.budget == budget, "another budget");
     ensure!(claim.keeps_budget(), "examined: {}", claim.examined);
-    verify_plan(alloc, texts, plan, &claim)?;
+    verify_plan(rt, alloc, texts, plan, &claim)?;
     Ok(claim.range)
 }

@@ -23,7 +23,7 @@ named None = 0
 named (Some names) = text_count names
 
 counts : (command : Command Word) → named (names_of command) ≡ name_count command
-counts (Plan network model budget) = refl
+counts (Plan network model workers budget) = refl
 counts (Check network model) = refl
 counts (Verify network model plan) = refl
 counts (Report network model plan) = refl
@@ -31,7 +31,7 @@ counts (Sample key) = refl
 counts (Trial key) = refl
 
 few-names : (command : Command Word) → name_count command ≤ 3
-few-names (Plan network model budget) = omega arith
+few-names (Plan network model workers budget) = omega arith
 few-names (Check network model) = omega arith
 few-names (Verify network model plan) = omega arith
 few-names (Report network model plan) = omega arith

@@ -17,7 +17,7 @@ use Rattle.plan_run.specs.Plans.{IsPlanDone}
 use Rattle.plan_run.specs.Runs.{IsDone}
 
 pub refused_or_done : Below → (command : Command Word) (texts : Texts) (fault : RunFault) (status : Status) (bytes : List ℕ) → AreRefused texts fault → IsDone command texts status bytes → ⊥
-refused_or_done below (Plan network model budget) texts fault status bytes refused done = refused_or_read below texts done.net done.parts done.plan fault refused done.problem
+refused_or_done below (Plan network model workers budget) texts fault status bytes refused done = refused_or_read below texts done.net done.parts done.plan fault refused done.problem
 refused_or_done below (Check network model) texts fault status bytes refused done = refused_or_read below texts done.net done.parts done.plan fault refused done.problem
 refused_or_done below (Verify network model plan) texts fault status bytes refused done = refused_or_read below texts done.net done.parts done.plan fault refused done.problem
 refused_or_done below (Report network model plan) texts fault status bytes refused done = refused_or_read below texts done.net done.parts done.plan fault refused done.problem

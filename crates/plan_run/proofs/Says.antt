@@ -42,7 +42,7 @@ report-ends net parts (Some plan) status bytes (reported good is) = inl good
 report-ends net parts (Some plan) status bytes (unreported bad is) = inr bad
 
 pub done-ends : (command : Command Word) (shelf : Told) (begun : ℕ) (status : Status) (bytes : List ℕ) → IsDoneBy command shelf begun status bytes → EndsWith command status
-done-ends (Plan network model budget) shelf begun status bytes done = planned-ends done.holds.holds.plan.status status done.holds.holds.is_status
+done-ends (Plan network model workers budget) shelf begun status bytes done = planned-ends done.holds.holds.plan.status status done.holds.holds.is_status
 done-ends (Check network model) shelf begun status bytes done = done.holds.holds.good
 done-ends (Verify network model plan) shelf begun status bytes done = verdict-ends done.holds.parts done.holds.plan status bytes done.holds.holds
 done-ends (Report network model plan) shelf begun status bytes done = report-ends done.holds.net done.holds.parts done.holds.plan status bytes done.holds.holds
@@ -54,9 +54,9 @@ abbrev IsOfWork : Status → Type 0
 IsOfWork status = (status ≡ Good) ⊎ (status ≡ Infeasible) ⊎ (status ≡ Undecided) ⊎ (status ≡ Rejected)
 
 of-work : (command : Command Word) (status : Status) → EndsWith command status → IsOfWork status
-of-work (Plan network model budget) status (inl is) = inl is
-of-work (Plan network model budget) status (inr (inl is)) = inr (inl is)
-of-work (Plan network model budget) status (inr (inr is)) = inr (inr (inl is))
+of-work (Plan network model workers budget) status (inl is) = inl is
+of-work (Plan network model workers budget) status (inr (inl is)) = inr (inl is)
+of-work (Plan network model workers budget) status (inr (inr is)) = inr (inr (inl is))
 of-work (Check network model) status is = inl is
 of-work (Verify network model plan) status (inl is) = inl is
 of-work (Verify network model plan) status (inr is) = inr (inr (inr is))

@@ -20,7 +20,7 @@ use Rattle.plan_run.specs.Samples.{IsSampled, IsTried}
 
 -- the names of the texts that a command is about, where it is about texts
 abbrev pub names_of : Command Word → Option Texts
-names_of (Plan network model budget) = Some (two network model)
+names_of (Plan network model workers budget) = Some (two network model)
 names_of (Check network model) = Some (two network model)
 names_of (Verify network model plan) = Some (three network model plan)
 names_of (Report network model plan) = Some (three network model plan)
@@ -29,7 +29,7 @@ names_of (Trial key) = None
 
 -- the texts spell what the command works on, and it does its work with this status and this text
 abbrev pub IsDone : Command Word → Texts → Status → List ℕ → Type 0
-IsDone (Plan network model budget) texts status bytes = IsPlanDone budget texts status bytes
+IsDone (Plan network model workers budget) texts status bytes = IsPlanDone budget texts status bytes
 IsDone (Check network model) texts status bytes = IsChecked texts status bytes
 IsDone (Verify network model plan) texts status bytes = IsVerified texts status bytes
 IsDone (Report network model plan) texts status bytes = IsReported texts status bytes

@@ -48,7 +48,7 @@ pub record AreSupported (words : List Word) (shelf : Told) (command : Command Wo
 
 -- how a command ends that does its work
 abbrev pub EndsWith : Command Word → Status → Type 0
-EndsWith (Plan network model budget) status = (status ≡ Good) ⊎ (status ≡ Infeasible) ⊎ (status ≡ Undecided)
+EndsWith (Plan network model workers budget) status = (status ≡ Good) ⊎ (status ≡ Infeasible) ⊎ (status ≡ Undecided)
 EndsWith (Check network model) status = status ≡ Good
 EndsWith (Verify network model plan) status = (status ≡ Good) ⊎ (status ≡ Rejected)
 EndsWith (Report network model plan) status = (status ≡ Good) ⊎ (status ≡ Rejected)

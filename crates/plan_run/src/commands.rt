@@ -13,10 +13,13 @@ use plan_io::{Gate, Shelf};
 use plan_report::RunFault;
 use plan_texts::{Answer, Stop, check, report, verify_plan};
 use std::alloc::{AllocError, Global};
+use std::sync::Wait;
+use std::thread::Threads;
 
 /// What a command has to say.
 #[tactic(auto, using(crate::proofs::Finding::found, crate::proofs::Finding::found_sample, crate::proofs::Finding::found_trial, crate::proofs::Finding::found_short))]
-fn do_command<S: Shelf, G: Gate>(
+fn do_command<R: Threads + Wait + Sync, S: Shelf, G: Gate>(
+    rt: &R,
     alloc: Global,
     command: Command<&str>,
     shelf: &mut S,
@@ -31,8 +34,9 @@ fn do_command<S: Shelf, G: Gate>(
         Command::Plan {
             network,
             model,
+            workers,
             budget,
-        } => plan(alloc, network, model, budget, shelf, gate),
+        } => plan(rt, alloc, network, model, workers, budget, shelf, gate),
         Command::Check { network, model } => check(alloc, network, model, shelf, gate),
         Command::Verify {
             network,
@@ -57,7 +61,8 @@ fn do_command<S: Shelf, G: Gate>(
 
 /// What a run of these words has to say.
 #[tactic(auto, using(crate::proofs::Finding::found_unread, crate::proofs::Finding::found_wanting, crate::proofs::Finding::found_read))]
-pub fn answer_to<S: Shelf, G: Gate>(
+pub fn answer_to<R: Threads + Wait + Sync, S: Shelf, G: Gate>(
+    rt: &R,
     alloc: Global,
     words: &[String],
     shelf: &mut S,
@@ -73,7 +78,7 @@ pub fn answer_to<S: Shelf, G: Gate>(
         Err(AllocError) => return Err(Stop::OutOfMemory),
     };
     match asked {
-        Some(command) => do_command(alloc, command, shelf, gate),
+        Some(command) => do_command(rt, alloc, command, shelf, gate),
         None => Err(Stop::Refused(RunFault::Usage)),
     }
 }

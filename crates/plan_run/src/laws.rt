@@ -20,10 +20,13 @@ use plan_texts::Status;
 use plan_texts::laws::one_answer_below;
 pub use plan_texts::laws::{accepted_where_valid, one_refusal, one_verdict, refused_or_read};
 use std::alloc::Global;
+use std::sync::Wait;
+use std::thread::Threads;
 
 /// Over a shelf and a sink that never fail, a run whose words are read ends with the work done, with a
 /// refusal of its texts, or with want of memory.
-pub fn run_surely<G: Gate>(
+pub fn run_surely<R: Threads + Wait + Sync, G: Gate>(
+    rt: &R,
     alloc: Global,
     words: &[String],
     shelf: &mut SureShelf,
@@ -37,7 +40,7 @@ pub fn run_surely<G: Gate>(
     ensures no_read_fault { result ≡ Status.ReadFault → ⊥ }
     ensures no_write_fault { result ≡ Status.WriteFault → ⊥ }
 {
-    run(alloc, words, shelf, out, gate)
+    run(rt, alloc, words, shelf, out, gate)
 }
 
 /// Where texts are refused, no command does its work for them.

@@ -2,7 +2,7 @@
 
 ghost use Rattle.std.specs.Prelude.{◌≡◌, ◌≤◌, IfOk, IfErr};
 ghost use Rattle.plan_io.specs.Causes.{Rose};
-ghost use Rattle.command_words.specs.Words.{IsBudget};
+ghost use Rattle.command_words.specs.Words.{AreWorkers, IsBudget};
 ghost use Rattle.plan_texts.specs.Texts.{Begun, two, HoldsOfTexts};
 ghost use Rattle.plan_texts.specs.Stops.{IsReadStop, Stops};
 ghost use Rattle.plan_run.specs.Plans.{IsPlanned, IsPlanDone};
@@ -12,17 +12,26 @@ use cert_format::write_plan;
 use plan_io::{Gate, Shelf};
 use plan_texts::{Answer, Problem, Status, Stop, read_problem};
 use std::alloc::{AllocError, Global};
-use std::sync::Arc;
+use std::sync::{Arc, Wait};
+use std::thread::Threads;
 
 /// What is written of the plan of an instance.
-fn planned(alloc: Global, problem: Problem, budget: u32) -> Result<Answer, AllocError>
+fn planned<R: Threads + Wait + Sync, G: Gate>(
+    rt: &R,
+    alloc: Global,
+    problem: Problem,
+    workers: u32,
+    budget: u32,
+    gate: &G,
+) -> Result<Answer, AllocError>
     requires table { problem.table ≡ problem.inst }
+    requires workers { AreWorkers workers }
     requires budget { IsBudget budget }
     ensures { IfOk result (λ answer. IsPlanned problem.inst budget answer.status answer.text.items) }
 {
     let inst = Arc::new(alloc, problem.inst)?;
     let table = Arc::new(alloc, problem.table)?;
-    let plan = search(alloc, inst, table, budget)?;
+    let plan = search(rt, alloc, inst, table, workers, budget, gate)?;
     let text = write_plan(alloc, &plan)?;
     Ok(Answer {
         status: Status::of_plan(plan.status),
@@ -32,15 +41,18 @@ fn planned(alloc: Global, problem: Problem, budget: u32) -> Result<Answer, Alloc
 
 /// Reads a network text and a model text, and plans the network.
 #[tactic(auto, using(plan_texts::proofs::Begins::memory_after_two, crate::proofs::PlannedTexts::planned_texts))]
-pub fn plan<S: Shelf, G: Gate>(
+pub fn plan<R: Threads + Wait + Sync, S: Shelf, G: Gate>(
+    rt: &R,
     alloc: Global,
     network: &str,
     model: &str,
+    workers: u32,
     budget: u32,
     shelf: &mut S,
     gate: &G,
 ) -> Result<Answer, Stop>
-    requires { IsBudget budget }
+    requires workers { AreWorkers workers }
+    requires budget { IsBudget budget }
     ensures done { IfOk result (λ answer. HoldsOfTexts (S.text shelf.old) (two network.now model.now) 2
         (λ texts. IsPlanDone budget texts answer.status answer.text.items)) }
     ensures begun { IfOk result (λ _. Begun 2 (S.begins shelf.old) (S.begins shelf.new)) }
@@ -53,7 +65,7 @@ pub fn plan<S: Shelf, G: Gate>(
         Ok(problem) => problem,
         Err(stop) => return Err(stop),
     };
-    match planned(alloc, problem, budget) {
+    match planned(rt, alloc, problem, workers, budget, gate) {
         Ok(answer) => Ok(answer),
         Err(AllocError) => Err(Stop::OutOfMemory),
     }

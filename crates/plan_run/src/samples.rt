@@ -4,7 +4,7 @@ ghost use Rattle.std.specs.Prelude.{◌≡◌, IfOk};
 ghost use Rattle.command_words.specs.Words.{IsSampleKey};
 ghost use Rattle.plan_run.specs.Samples.{IsSampled, IsTried};
 
-use crate::searching::search;
+use crate::searching::search_alone;
 use command_words::SampleKey;
 use instance_maker::laws::samples_are_instances;
 use instance_maker::{TRIAL_BUDGET, sample, sample_problem};
@@ -36,7 +36,7 @@ pub fn try_sample(alloc: Global, key: SampleKey) -> Result<Answer, AllocError>
     let problem = sample_problem(alloc, key.number, key.nodes, key.demands)?;
     let inst = Arc::new(alloc, problem.inst)?;
     let table = Arc::new(alloc, problem.table)?;
-    let plan = search(alloc, Arc::try_clone(&inst)?, table, TRIAL_BUDGET)?;
+    let plan = search_alone(alloc, Arc::try_clone(&inst)?, table, TRIAL_BUDGET)?;
     let text = trial_line(alloc, &*inst, &plan)?;
     Ok(Answer {
         status: Status::of_plan(plan.status),

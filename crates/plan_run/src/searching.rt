@@ -1,27 +1,41 @@
-//! The search in one thread.
+//! The search, by several workers or alone.
 
 ghost use Rattle.std.specs.Prelude.{◌≡◌, IfOk};
 ghost use Rattle.std.specs.Arc.{arc_value};
 ghost use Rattle.proof_tree.specs.Spellings.{IsSpellable};
-ghost use Rattle.command_words.specs.Words.{IsBudget};
+ghost use Rattle.command_words.specs.Words.{AreWorkers, IsBudget};
 ghost use Rattle.plan_run.specs.Searches.{IsSearched};
 
 use link_steps::StepTable;
 use plan_base::Instance;
+use plan_io::Gate;
 use pool_core::Pool;
 use proof_tree::Plan;
 use std::alloc::{AllocError, Global};
-use std::sync::Arc;
+use std::sync::{Arc, Wait};
+use std::thread::Threads;
 
-/// The plan of an instance that a search gives which examines at most so many nodes.
+/// The plan of a pool, once nothing is left to do.
+fn finished_plan(mut pool: Pool) -> Result<Plan, AllocError>
+    ensures searched { IfOk result (IsSearched pool.problem pool.budget) }
+    ensures fits { IfOk result IsSpellable }
+{
+    proof_tree::laws::claim();
+    pool.finish()?;
+    // Whoever asks for the instance knows that the pool's state is sound and reachable.
+    let _inst = pool.instance();
+    pool.into_plan()
+}
+
+/// The plan of an instance that one thread finds, the same at each run.
 ///
 /// - Takes: an instance and its step table; a budget of 1 to 4,096 nodes.
-/// - Gives: a valid plan with this budget, which a plan text can hold, and each split of which parts two paths; the
-///   bound of an undecided plan is at least the bound of the root at the start prices.
+/// - Gives: what `search` gives.
 /// - Errors: want of memory alone.
 /// - Rule: docs/DEFINITIONS.md, "Runs".
-/// - Time: that of pricing each demand once for each version of prices, of which each node that is examined has at most 16.
-pub fn search(
+/// - Time: that of pricing each demand once for each version of prices, of which each node that is examined has at most
+///   16.
+pub fn search_alone(
     alloc: Global,
     inst: Arc<Instance>,
     table: Arc<StepTable>,
@@ -32,9 +46,39 @@ pub fn search(
     ensures searched { IfOk result (IsSearched (arc_value inst) budget) }
     ensures fits { IfOk result IsSpellable }
 {
-    pool_core::laws::every_run();
-    proof_tree::laws::claim();
-    let mut pool = Pool::new(alloc, inst, table, budget)?;
-    pool.finish()?;
-    pool.into_plan()
+    let pool = Pool::new(alloc, inst, table, budget)?;
+    finished_plan(pool)
+}
+
+/// The plan of an instance that so many workers find, which together examine at most so many nodes.
+///
+/// - Takes: what starts threads; an instance and its step table; 1 to 64 workers; a budget of 1 to 4,096 nodes; a gate
+///   that each worker passes with each task.
+/// - Gives: a valid plan with this budget, which a plan text can hold, and each split of which parts two paths; the
+///   bound of an undecided plan is at least the bound of the root at the start prices. One worker starts no thread; the
+///   plan of several may be another one at each run.
+/// - Errors: want of memory alone. What a worker leaves that stops for want of memory is finished by one thread.
+/// - Rule: docs/DEFINITIONS.md, "Runs".
+/// - Time: a worker goes through the same steps as one thread; it may wait for another one, or do what that one did.
+pub fn search<R: Threads + Wait + Sync, G: Gate>(
+    rt: &R,
+    alloc: Global,
+    inst: Arc<Instance>,
+    table: Arc<StepTable>,
+    workers: u32,
+    budget: u32,
+    gate: &G,
+) -> Result<Plan, AllocError>
+    requires workers { AreWorkers workers }
+    requires budget { IsBudget budget }
+    requires table { arc_value table ≡ arc_value inst }
+    ensures searched { IfOk result (IsSearched (arc_value inst) budget) }
+    ensures fits { IfOk result IsSpellable }
+{
+    if workers == 1 {
+        return search_alone(alloc, inst, table, budget);
+    }
+    let opened = Pool::new(alloc, inst, table, budget)?;
+    let pool = pool_hub::search(rt, alloc, opened, workers, gate)?;
+    finished_plan(pool)
 }

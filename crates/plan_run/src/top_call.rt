@@ -9,17 +9,21 @@ use crate::commands::answer_to;
 use plan_io::{Gate, Shelf, Sink};
 use plan_texts::{Status, write_answer};
 use std::alloc::Global;
+use std::sync::Wait;
+use std::thread::Threads;
 
 /// Runs the command of these words, and writes its answer. Nothing is written before the whole
 /// output is made.
 ///
-/// - Takes: the words after the program's name; a shelf that has the texts that they name; the sink
-///   that the answer goes to; a gate that is passed once, between reading texts and the work.
+/// - Takes: what starts threads; the words after the program's name; a shelf that has the texts that they name; the
+///   sink that the answer goes to; a gate that is passed once, between reading texts and the work, and then by each of
+///   several workers with each task.
 /// - Gives: how the run ended.
 /// - Rule: docs/DEFINITIONS.md, "Runs"; docs/FORMATS.md.
 /// - Time: linear in the texts' bytes, and that of the search or of verifying the plan.
 #[tactic(auto, using(crate::proofs::Says::run_says, crate::proofs::Says::own_answer, crate::proofs::Says::read_rose, crate::proofs::Says::no_write_fault))]
-pub fn run<S: Shelf, W: Sink, G: Gate>(
+pub fn run<R: Threads + Wait + Sync, S: Shelf, W: Sink, G: Gate>(
+    rt: &R,
     alloc: Global,
     words: &[String],
     shelf: &mut S,
@@ -37,6 +41,6 @@ pub fn run<S: Shelf, W: Sink, G: Gate>(
     ensures shelf_later { S.faults shelf.old ≤ S.faults shelf.new }
     ensures sink_later { W.faults out.old ≤ W.faults out.new }
 {
-    let found = answer_to(alloc, words, shelf, gate);
+    let found = answer_to(rt, alloc, words, shelf, gate);
     write_answer(alloc, out, found)
 }

@@ -1,11 +1,10 @@
 //! What a worker keeps from one task to the next, and what it computes there. No lock is held meanwhile.
 
-ghost use Rattle.std.specs.Prelude.{◌≡◌, ◌<◌, ◌↔◌, length, IfOk, IfSome, IsSomeAnd, IsTrue, None};
+ghost use Rattle.std.specs.Prelude.{◌≡◌, ◌<◌, ◌↔◌, length, IfOk, IfSome, IsSome, IsSomeAnd, IsTrue, None};
 ghost use Rattle.std.specs.Arc.{arc_value};
 ghost use Rattle.plan_base.specs.Designs.{IsGoodDesign};
-ghost use Rattle.arc_restrict.specs.Rows.{forbids};
-ghost use Rattle.path_pricing.specs.Priced.{IsPriced};
-ghost use Rattle.path_pricing.specs.Faults.{priced_fault};
+ghost use Rattle.arc_restrict.specs.Rows.{forbids, HasSizeOf};
+ghost use Rattle.path_pricing.specs.Priced.{ArePrices};
 ghost use Rattle.pool_hub.specs.Offers.{IsFor, IsFitting};
 
 use crate::ground::Ground;
@@ -13,61 +12,38 @@ use crate::naming::Naming;
 use crate::told::Told;
 use arc_restrict::Restriction;
 use dual_versions::Published;
-use incumbent::DesignSearch;
-use leaf_work::{Known, copy_of, find, new_design};
+use leaf_work::{Guide, new_design};
 use link_steps::StepTable;
-use path_pricing::Priced;
 use plan_base::{BranchId, DemandId, Design, Instance};
 use pool_core::Offer;
 use std::alloc::{AllocError, Global};
 use std::sync::Arc;
 
-/// The version that a worker prices, what demands have found, and its searches for designs.
+/// The version that a worker prices, and what it goes by: what demands have found, the trees of least paths of this
+/// version, and its searches for designs.
 ///
-/// What demands have found is kept from version to version: it is tested before it is used again.
+/// What a demand has found is kept from node to node. It is a hint, tested before it is used again, and where it fails
+/// the tree of the demand's source is at hand. So nothing is kept for the children of a node that is divided: another
+/// worker may take them, and this one would never let go of it.
 #[derive(Drop)]
 pub struct Bench<N: Naming> {
     alloc: Global,
     ground: Option<Ground<N>>,
-    known: Known,
-    designs: DesignSearch,
-    /// How many complete versions this worker still lets go by before its first search for a design.
-    waits: u32,
-}
-
-/// What a demand finds at a ground, which is kept to be tried again.
-fn found<N: Naming>(
-    alloc: Global,
-    inst: &Instance,
-    ground: &Ground<N>,
-    demand: DemandId,
-    known: &mut Known,
-) -> Result<Arc<Priced>, AllocError>
-    requires inst { inst.now ≡ N.problem }
-    requires demand { demand.0 < length inst.now.demands }
-    ensures least { IfOk result (λ found. IsPriced inst.now ground.now.published.prices demand.0
-        (forbids (arc_value ground.now.rows)) (arc_value found)) }
-    ensures fits { IfOk result (λ found. priced_fault inst.now ground.now.published.prices demand.0
-        (forbids (arc_value ground.now.rows)) (arc_value found) ≡ None) }
-{
-    let tried = known.of(demand);
-    let found = find(alloc, inst, ground.prices(), demand, &*ground.rows, tried)?;
-    known.keep(demand, found.clone()?)?;
-    Ok(found)
+    guide: Guide,
 }
 
 impl<N: Naming> Bench<N> {
     /// A bench with nothing on it.
     ///
-    /// - Takes: the worker's number. So many complete versions go by before its first search for a design, so that
-    ///   workers begin with different ones.
-    pub fn new(alloc: Global, worker: u32) -> Bench<N> {
+    /// - Takes: the worker's number. Its searches for designs draw by it, so that workers with the same columns find
+    ///   different designs.
+    pub fn new(alloc: Global, worker: u32) -> Bench<N>
+        ensures { result.ground ≡ None }
+    {
         Bench {
             alloc,
             ground: None,
-            known: Known::nothing(alloc),
-            designs: DesignSearch::new(worker),
-            waits: worker,
+            guide: Guide::new(alloc, worker),
         }
     }
 
@@ -84,7 +60,8 @@ impl<N: Naming> Bench<N> {
     /// Puts what came out of the lock on the bench, where it fits the instance.
     pub fn put(&mut self, inst: &Instance, published: Published, rows: Arc<Restriction>)
         requires { inst.now ≡ N.problem }
-        ensures { IfSome self.new.ground (λ ground. (ground.published ≡ published) × (ground.rows ≡ rows)) }
+        ensures some { IsSome self.new.ground ↔ ArePrices inst.now published.prices × HasSizeOf inst.now (arc_value rows) }
+        ensures ground { IfSome self.new.ground (λ ground. (ground.published ≡ published) × (ground.rows ≡ rows)) }
     {
         self.ground = Ground::tested(inst, published, rows);
     }
@@ -101,16 +78,16 @@ impl<N: Naming> Bench<N> {
         demand: DemandId,
     ) -> Result<Option<Offer>, AllocError>
         requires inst { inst.now ≡ N.problem }
+        ensures made { IfOk result (λ made. IsSome made ↔ IsSomeAnd self.old.ground (λ ground. (ground.published.node ≡ node) × (ground.published.version ≡ version))
+            × (demand.0 < length inst.now.demands)) }
         ensures task { IfOk result (λ made. IfSome made (IsFor node version demand)) }
         ensures fits { IfOk result (λ made. IfSome made (λ offer. IsSomeAnd self.old.ground
             (λ ground. IsFitting inst.now ground.published (forbids (arc_value ground.rows)) offer))) }
     {
         let Bench {
-            alloc,
+            alloc: _alloc,
             ground,
-            known,
-            designs: _designs,
-            waits: _waits,
+            guide,
         } = self;
         let Some(ground) = ground else {
             return Ok(None);
@@ -118,19 +95,18 @@ impl<N: Naming> Bench<N> {
         if !ground.is_of(node, version) || demand.0 >= inst.demands() {
             return Ok(None);
         }
-        let found = found(*alloc, inst, ground, demand, known)?;
         Ok(Some(Offer {
             node,
             version,
             demand,
-            found: copy_of(&*found)?,
+            found: ground.found(inst, demand, guide)?,
         }))
     }
 
     /// A design that a search finds, which begins with the least of the columns that a master step is told of, or with
     /// the cheapest design of this worker so far.
     ///
-    /// - Gives: None where this worker waits for a later version, no search is due, or there is no design to begin with.
+    /// - Gives: None where no search of this worker is due, or there is no design to begin with.
     /// - Errors: want of memory alone.
     pub fn design(
         &mut self,
@@ -142,15 +118,18 @@ impl<N: Naming> Bench<N> {
         requires table { table.now ≡ inst.now }
         ensures { IfOk result (λ found. IfSome found (IsGoodDesign inst.now)) }
     {
-        if self.waits > 0 {
-            self.waits -= 1;
-            return Ok(None);
-        }
         let examined = told.examined();
-        if !self.designs.is_due(examined) {
+        if !self.guide.designs().is_due(examined) {
             return Ok(None);
         }
         let paths = told.least_paths(self.alloc, inst)?;
-        new_design(self.alloc, inst, table, &paths, examined, &mut self.designs)
+        new_design(
+            self.alloc,
+            inst,
+            table,
+            &paths,
+            examined,
+            self.guide.designs(),
+        )
     }
 }

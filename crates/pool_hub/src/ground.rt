@@ -1,14 +1,18 @@
 //! What a worker prices by: it came out of the lock, and was tested.
 
-ghost use Rattle.std.specs.Prelude.{◌≡◌, ◌↔◌, IsTrue, IfSome};
+ghost use Rattle.std.specs.Prelude.{◌≡◌, ◌<◌, ◌↔◌, length, IsTrue, IfOk, IfSome, IsSome, None};
 ghost use Rattle.std.specs.Arc.{arc_value};
-ghost use Rattle.arc_restrict.specs.Rows.{HasSizeOf};
+ghost use Rattle.arc_restrict.specs.Rows.{forbids, HasSizeOf};
 ghost use Rattle.path_pricing.specs.Priced.{ArePrices};
+ghost use Rattle.path_pricing.specs.Faults.{priced_fault};
 
 use crate::naming::Naming;
 use arc_restrict::Restriction;
 use dual_versions::Published;
-use plan_base::{BranchId, Instance, Prices};
+use leaf_work::{Guide, copy_of};
+use path_pricing::Priced;
+use plan_base::{BranchId, DemandId, Instance};
+use std::alloc::AllocError;
 use std::marker::PhantomData;
 use std::sync::Arc;
 
@@ -16,7 +20,7 @@ use std::sync::Arc;
 #[derive(Drop)]
 pub struct Ground<N: Naming> {
     published: Published,
-    pub(crate) rows: Arc<Restriction>,
+    rows: Arc<Restriction>,
     of: PhantomData<N>,
     ghost prices_fit: { ArePrices N.problem published.prices },
     ghost rows_fit: { HasSizeOf N.problem (arc_value rows) },
@@ -30,6 +34,7 @@ impl<N: Naming> Ground<N> {
         rows: Arc<Restriction>,
     ) -> Option<Ground<N>>
         requires { inst.now ≡ N.problem }
+        ensures some { IsSome result ↔ ArePrices inst.now published.prices × HasSizeOf inst.now (arc_value rows) }
         ensures published { IfSome result (λ ground. ground.published ≡ published) }
         ensures rows { IfSome result (λ ground. ground.rows ≡ rows) }
     {
@@ -53,11 +58,24 @@ impl<N: Naming> Ground<N> {
         self.published.node == node && self.published.version == version
     }
 
-    /// The prices, one for each link, in thousandths of a cost grain per load grain.
-    pub fn prices(&self) -> &Prices
-        ensures value { result.now ≡ self.now.published.prices }
-        ensures fit { ArePrices N.problem result.now }
+    /// What the demand finds here, which the guide keeps to be tried again.
+    ///
+    /// - Errors: want of memory alone.
+    pub fn found(
+        &self,
+        inst: &Instance,
+        demand: DemandId,
+        guide: &mut Guide,
+    ) -> Result<Priced, AllocError>
+        requires inst { inst.now ≡ N.problem }
+        requires demand { demand.0 < length inst.now.demands }
+        ensures { IfOk result (λ found. priced_fault inst.now self.now.published.prices demand.0
+            (forbids (arc_value self.now.rows)) found ≡ None) }
     {
-        &self.published.prices
+        let version = self.published.version;
+        let known = guide.find(inst, version, &self.published.prices, demand, &*self.rows)?;
+        let found = copy_of(&*known)?;
+        guide.keep(demand, known)?;
+        Ok(found)
     }
 }

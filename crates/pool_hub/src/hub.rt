@@ -1,10 +1,22 @@
 //! The hub.
 
-ghost use Rattle.std.specs.Prelude.{◌≡◌, ◌+◌, ◌<◌, ◌≤◌, length, slice_get, IfOk, IfSome, sum_by};
+ghost use Rattle.std.specs.Prelude.{◌≡◌, ◌+◌, ◌<◌, ◌≤◌, ◌↔◌, true, length, slice_get, IfOk, IfSome, IsSome, sum_by};
 ghost use Rattle.std.specs.Arc.{arc_value};
-ghost use Rattle.pool_machine.specs.Offering.{accepted_by};
-ghost use Rattle.pool_machine.specs.Tasks.{IsSearchState};
-ghost use Rattle.pool_hub.specs.declared.limits.TheConstants.{MAX_WORKERS};
+ghost use Rattle.arc_restrict.specs.Rows.{forbids};
+ghost use Rattle.pool_machine.specs.State.{state_of, restriction_of};
+ghost use Rattle.pool_machine.specs.Changes.{is_open_state};
+ghost use Rattle.pool_machine.specs.Opening.{OpenStep};
+ghost use Rattle.pool_machine.specs.Offering.{OfferStep, accepted_by};
+ghost use Rattle.pool_machine.specs.Gathering.{GatherStep};
+ghost use Rattle.pool_machine.specs.Publishing.{PublishStep};
+ghost use Rattle.pool_machine.specs.Settling.{SettleStep};
+ghost use Rattle.pool_machine.specs.Closing.{CloseStep};
+ghost use Rattle.pool_machine.specs.Examining.{ExamineStep};
+ghost use Rattle.pool_machine.specs.Bettering.{BetterStep};
+ghost use Rattle.pool_machine.specs.Tasks.{IsLawfulTask, IsSearchState};
+ghost use Rattle.pool_core.specs.Views.{IsPublishedAt};
+ghost use Rattle.pool_hub.specs.States.{HasState, HasStep};
+ghost use Rattle.plan_io.specs.declared.gate.TheConstants.{MAX_WORKERS};
 
 use crate::kept::Kept;
 use crate::naming::Naming;
@@ -23,7 +35,8 @@ use std::sync::{Arc, Mutex, Wait};
 
 /// The pool behind one lock, and beside it the instance and the step table, for those who work on it.
 ///
-/// Each call takes the lock, makes the pool's call once and lets go of the lock; its answer is the pool's.
+/// Each call takes the lock, makes the pool's call once and lets go of the lock. Its answer is one that the pool gives in
+/// some sound state of this search.
 #[derive(Drop)]
 pub struct Hub<N: Naming> {
     kept: Mutex<Kept<N>>,
@@ -110,7 +123,8 @@ impl<N: Naming> Hub<N> {
 
     /// What may be done next.
     pub fn task<W: Wait>(&self, rt: &W, seat: &mut Seat<N>) -> Task
-        ensures { seat.new ≡ seat.old }
+        ensures answer { HasState N.problem N.budget (λ s. IsLawfulTask s result) }
+        ensures seat { seat.new ≡ seat.old }
     {
         self.kept.lock(rt).task(seat.number)
     }
@@ -124,7 +138,8 @@ impl<N: Naming> Hub<N> {
         seat: &mut Seat<N>,
         slot: u32,
     ) -> Result<Option<Published>, AllocError>
-        ensures { seat.new ≡ seat.old }
+        ensures answer { IfOk result (λ found. HasState N.problem N.budget (λ s. IsPublishedAt s slot found)) }
+        ensures seat { seat.new ≡ seat.old }
     {
         let _seat = seat;
         self.kept.lock(rt).prices(slot)
@@ -139,7 +154,9 @@ impl<N: Naming> Hub<N> {
         seat: &mut Seat<N>,
         node: BranchId,
     ) -> Result<Option<Arc<Restriction>>, AllocError>
-        ensures { seat.new ≡ seat.old }
+        ensures answer { IfOk result (λ found. HasState N.problem N.budget (λ s. (IsSome found ↔ (is_open_state (state_of s node) ≡ true))
+            × IfSome found (λ rows. IfSome (slice_get s.nodes node.0) (λ x. forbids (arc_value rows) ≡ restriction_of x)))) }
+        ensures seat { seat.new ≡ seat.old }
     {
         let _seat = seat;
         self.kept.lock(rt).ground(node)
@@ -152,7 +169,8 @@ impl<N: Naming> Hub<N> {
         seat: &mut Seat<N>,
         node: BranchId,
     ) -> Result<Opened, RoundFault>
-        ensures { seat.new ≡ seat.old }
+        ensures answer { HasStep N.problem N.budget (λ old new. OpenStep old node result new) }
+        ensures seat { seat.new ≡ seat.old }
     {
         let _seat = seat;
         self.kept.lock(rt).open(node)
@@ -161,6 +179,7 @@ impl<N: Naming> Hub<N> {
     /// Takes what a demand has found, as `Pool::offer` says, and books it in the seat's share where it is accepted.
     /// Takes no memory.
     pub fn offer<W: Wait>(&self, rt: &W, seat: &mut Seat<N>, offer: Offer) -> Offered
+        ensures answer { HasStep N.problem N.budget (λ old new. OfferStep old offer result new) }
         ensures booked { seat.new.share.amount ≡ seat.old.share.amount + accepted_by result }
         ensures number { seat.new.number ≡ seat.old.number }
     {
@@ -177,7 +196,8 @@ impl<N: Naming> Hub<N> {
         node: BranchId,
         version: u64,
     ) -> Result<Gather, AllocError>
-        ensures { seat.new ≡ seat.old }
+        ensures answer { HasStep N.problem N.budget (λ old new. GatherStep old node version result new) }
+        ensures seat { seat.new ≡ seat.old }
     {
         let _seat = seat;
         self.kept.lock(rt).gather(node, version)
@@ -192,7 +212,8 @@ impl<N: Naming> Hub<N> {
         seen: u64,
         prices: &Prices,
     ) -> Publish
-        ensures { seat.new ≡ seat.old }
+        ensures answer { HasStep N.problem N.budget (λ old new. PublishStep old node seen prices.now result new) }
+        ensures seat { seat.new ≡ seat.old }
     {
         let _seat = seat;
         self.kept.lock(rt).publish(node, seen, prices)
@@ -206,7 +227,8 @@ impl<N: Naming> Hub<N> {
         node: BranchId,
         version: u64,
     ) -> Settle
-        ensures { seat.new ≡ seat.old }
+        ensures answer { HasStep N.problem N.budget (λ old new. SettleStep old node version result new) }
+        ensures seat { seat.new ≡ seat.old }
     {
         let _seat = seat;
         self.kept.lock(rt).settle(node, version)
@@ -214,7 +236,8 @@ impl<N: Naming> Hub<N> {
 
     /// Closes a leaf, as `Pool::close_by_bound` says. Takes no memory.
     pub fn close<W: Wait>(&self, rt: &W, seat: &mut Seat<N>, node: BranchId) -> Closing
-        ensures { seat.new ≡ seat.old }
+        ensures answer { HasStep N.problem N.budget (λ old new. CloseStep old node result new) }
+        ensures seat { seat.new ≡ seat.old }
     {
         let _seat = seat;
         self.kept.lock(rt).close(node)
@@ -227,7 +250,8 @@ impl<N: Naming> Hub<N> {
         seat: &mut Seat<N>,
         node: BranchId,
     ) -> Result<Examined, ExamineFault>
-        ensures { seat.new ≡ seat.old }
+        ensures answer { HasStep N.problem N.budget (λ old new. ExamineStep old node result new) }
+        ensures seat { seat.new ≡ seat.old }
     {
         let _seat = seat;
         self.kept.lock(rt).examine(node)
@@ -240,7 +264,8 @@ impl<N: Naming> Hub<N> {
         seat: &mut Seat<N>,
         design: Design,
     ) -> Result<Better, DesignFault>
-        ensures { seat.new ≡ seat.old }
+        ensures answer { HasStep N.problem N.budget (λ old new. BetterStep old design result new) }
+        ensures seat { seat.new ≡ seat.old }
     {
         let _seat = seat;
         self.kept.lock(rt).better(design)

@@ -43,28 +43,41 @@ pub struct Kept<N: Naming> {
 }
 
 impl<N: Naming> Kept<N> {
+    /// Whoever looks knows that the pool's state is one of the search.
+    fn look(&self)
+        ensures { IsSearchState N.problem N.budget self.now.pool }
+    {
+        let _inst = self.pool.instance();
+    }
+
     /// What may be done next.
     pub fn task(&mut self, worker: u32) -> Task
+        ensures search { IsSearchState N.problem N.budget self.old.pool }
         ensures unchanged { self.new.pool ≡ self.old.pool }
         ensures lawful { IsLawfulTask self.old.pool result }
         ensures done { (result ≡ Task.Done) ↔ (is_done self.old.pool ≡ true) }
     {
+        self.look();
         self.pool.next_task(worker)
     }
 
     /// A copy of what is published of the slot.
     pub fn prices(&self, slot: u32) -> Result<Option<Published>, AllocError>
-        ensures { IfOk result (IsPublishedAt self.now.pool slot) }
+        ensures search { IsSearchState N.problem N.budget self.now.pool }
+        ensures published { IfOk result (IsPublishedAt self.now.pool slot) }
     {
+        self.look();
         self.pool.prices(slot)
     }
 
     /// What is forbidden at an open leaf, shared; None exactly where the node is none.
     pub fn ground(&self, node: BranchId) -> Result<Option<Arc<Restriction>>, AllocError>
+        ensures search { IsSearchState N.problem N.budget self.now.pool }
         ensures leaf { IfOk result (λ found. IsSome found ↔ (is_open_state (state_of self.now.pool node) ≡ true)) }
         ensures value { IfOk result (λ found. IfSome found (λ rows. IfSome (slice_get self.now.pool.nodes node.0)
             (λ x. forbids (arc_value rows) ≡ restriction_of x))) }
     {
+        self.look();
         match self.pool.restriction(node) {
             Some(rows) => Ok(Some(rows.clone()?)),
             None => Ok(None),
@@ -73,18 +86,22 @@ impl<N: Naming> Kept<N> {
 
     /// An opening.
     pub fn open(&mut self, node: BranchId) -> Result<Opened, RoundFault>
+        ensures search { IsSearchState N.problem N.budget self.old.pool }
         ensures event { OpenStep self.old.pool node result self.new.pool }
     {
+        self.look();
         self.pool.open_round(node)
     }
 
     /// An offer, which is booked in the share where it is accepted.
     pub fn offer(&mut self, offer: Offer, mine: &mut Share<N>) -> Offered
         requires part { 0 < mine.old.parts }
+        ensures search { IsSearchState N.problem N.budget self.old.pool }
         ensures event { OfferStep self.old.pool offer result self.new.pool }
         ensures booked { mine.new.amount ≡ mine.old.amount + accepted_by result }
         ensures parts { mine.new.parts ≡ mine.old.parts }
     {
+        self.look();
         let answer = self.pool.offer(offer);
         if let Offered::Accepted { left: _left } = answer {
             self.offers.add(mine, 1);
@@ -94,43 +111,55 @@ impl<N: Naming> Kept<N> {
 
     /// A gathering.
     pub fn gather(&mut self, node: BranchId, version: u64) -> Result<Gather, AllocError>
+        ensures search { IsSearchState N.problem N.budget self.old.pool }
         ensures event { GatherStep self.old.pool node version result self.new.pool }
     {
+        self.look();
         self.pool.gather(node, version)
     }
 
     /// A publishing.
     pub fn publish(&mut self, node: BranchId, seen: u64, prices: &Prices) -> Publish
+        ensures search { IsSearchState N.problem N.budget self.old.pool }
         ensures event { PublishStep self.old.pool node seen prices.now result self.new.pool }
     {
+        self.look();
         self.pool.publish(node, seen, prices)
     }
 
     /// A settling.
     pub fn settle(&mut self, node: BranchId, version: u64) -> Settle
+        ensures search { IsSearchState N.problem N.budget self.old.pool }
         ensures event { SettleStep self.old.pool node version result self.new.pool }
     {
+        self.look();
         self.pool.settle(node, version)
     }
 
     /// A closing.
     pub fn close(&mut self, node: BranchId) -> Closing
+        ensures search { IsSearchState N.problem N.budget self.old.pool }
         ensures event { CloseStep self.old.pool node result self.new.pool }
     {
+        self.look();
         self.pool.close_by_bound(node)
     }
 
     /// An examination.
     pub fn examine(&mut self, node: BranchId) -> Result<Examined, ExamineFault>
+        ensures search { IsSearchState N.problem N.budget self.old.pool }
         ensures event { ExamineStep self.old.pool node result self.new.pool }
     {
+        self.look();
         self.pool.examine(node)
     }
 
     /// A design that may be better.
     pub fn better(&mut self, design: Design) -> Result<Better, DesignFault>
+        ensures search { IsSearchState N.problem N.budget self.old.pool }
         ensures event { BetterStep self.old.pool design result self.new.pool }
     {
+        self.look();
         self.pool.better(design)
     }
 
@@ -141,10 +170,9 @@ impl<N: Naming> Kept<N> {
         ensures accepted { result.accepted ≡ all.amount }
         ensures search { IsSearchState N.problem N.budget result }
     {
+        self.look();
         let Kept { pool, mut offers } = self;
         offers.audit(&mut all);
-        // Whoever asks for the instance knows that the pool's state is sound.
-        let _inst = pool.instance();
         pool
     }
 }

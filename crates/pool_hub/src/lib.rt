@@ -1,17 +1,17 @@
 //! One pool behind a lock, the seats of those who work on it at once, and their work.
 //!
 //! Promises that each holding of the lock is one event of the machine, whoever makes the call and when; that whenever
-//! the lock is free the pool is in a sound state of the search that the hub's type names; and that the pool of an ended
-//! hub has accepted just what all seats have booked. Begin at `Hub`, what lies under its lock is `Kept`. Stands on
-//! `pool_core` for what a call does, and on `leaf_work` for what a task computes, which no lock covers. That workers run
-//! at the same time, and that a wait ends, no contract says.
+//! the lock is free the pool is in a sound state of the search that the hub's type names, in which each answer was given;
+//! that a worker ends only where nothing is left to do or memory is wanting; and that the pool of an ended hub has
+//! accepted just what all seats have booked. Begin at `Hub`, what lies under its lock is `Kept`. Stands on `pool_core`
+//! for what a call does, and on `leaf_work` for what a task computes, which no lock covers. That workers run at the same
+//! time, and that a wait ends, no contract says.
 #![tactic(auto)]
 
 mod bench;
 mod ground;
 mod hub;
 mod kept;
-pub mod limits;
 mod naming;
 mod running;
 mod seat;

@@ -2,7 +2,7 @@
 
 ghost use Rattle.std.specs.Prelude.{◌≡◌, ◌≤◌, ◌<◌, length, IfOk};
 ghost use Rattle.pool_machine.specs.Tasks.{IsSearchState};
-ghost use Rattle.pool_hub.specs.declared.limits.TheConstants.{MAX_WORKERS};
+ghost use Rattle.plan_io.specs.declared.gate.TheConstants.{MAX_WORKERS};
 
 use crate::hub::Hub;
 use crate::naming::Naming;

@@ -1,6 +1,6 @@
 //! What a master step goes by: it came out of the lock, and was tested.
 
-ghost use Rattle.std.specs.Prelude.{◌≡◌, ◌<◌, ◌↔◌, length, IsTrue, IfOk, IfSome};
+ghost use Rattle.std.specs.Prelude.{◌≡◌, ◌<◌, ◌/◌, ◌↔◌, length, IsTrue, IfOk, IfSome, IsSome};
 ghost use Rattle.plan_base.specs.Arcs.{demand_at};
 ghost use Rattle.plan_base.specs.Paths.{IsSimplePath};
 ghost use Rattle.completions.specs.Completions.{ArePaths};
@@ -65,7 +65,8 @@ impl<N: Naming> Told<N> {
     /// What came out of the lock, where it fits the instance and each demand has a column.
     pub fn tested(inst: &Instance, brief: Brief) -> Option<Told<N>>
         requires { inst.now ≡ N.problem }
-        ensures { IfSome result (λ told. told.brief ≡ brief) }
+        ensures some { IsSome result ↔ IsBriefFor inst.now brief.prices brief.columns × HasColumns inst.now (columns_at brief.columns) }
+        ensures brief { IfSome result (λ told. told.brief ≡ brief) }
     {
         if !brief.fits(inst) {
             return None;
@@ -89,7 +90,9 @@ impl<N: Naming> Told<N> {
     }
 
     /// How many nodes were examined, at least, when the node was made: nodes are made two at a time.
-    pub fn examined(&self) -> u32 {
+    pub fn examined(&self) -> u32
+        ensures { result ≡ self.now.brief.node.0 / 2 }
+    {
         self.brief.node.0 / 2
     }
 

@@ -1,6 +1,8 @@
 //! What a worker does: it takes a task, does it while no lock is held, and hands in the result.
 
-ghost use Rattle.std.specs.Prelude.{◌≡◌};
+ghost use Rattle.std.specs.Prelude.{◌≡◌, true, OnOk};
+ghost use Rattle.pool_machine.specs.PlanOf.{is_done};
+ghost use Rattle.pool_hub.specs.States.{HasState};
 
 use crate::bench::Bench;
 use crate::hub::Hub;
@@ -171,7 +173,7 @@ fn do_task<N: Naming, W: Wait>(
     }
 }
 
-/// Does tasks until none is left.
+/// Does tasks until none is left: until the budget of the search is spent or no leaf is open.
 ///
 /// - Takes: a hub, a seat of it, and a gate, which is passed between the taking of a task and its work.
 /// - Errors: want of memory alone. Then the seat is as the calls made so far left it.
@@ -182,7 +184,8 @@ pub fn work<N: Naming, W: Wait, G: Gate>(
     seat: &mut Seat<N>,
     gate: &G,
 ) -> Result<(), AllocError>
-    ensures { seat.new.number ≡ seat.old.number }
+    ensures done { OnOk result (HasState N.problem N.budget (λ s. is_done s ≡ true)) }
+    ensures number { seat.new.number ≡ seat.old.number }
 {
     let mut bench = Bench::new(alloc, seat.number());
     let mut turn: u64 = 0;

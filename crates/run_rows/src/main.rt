@@ -7,16 +7,20 @@
 //! promises nothing of its own.
 #![tactic(auto)]
 
+mod meeting;
 mod rows;
 mod texts;
 
 use anyhow::{Context, Result, bail};
-use plan_io::{FileShelf, MemShelf, MemSink, NoGate, OutSink, SureShelf};
+use meeting::Meeting;
+use plan_io::{FileShelf, Gate, MemShelf, MemSink, NoGate, OutSink, SureShelf};
 use plan_run::{Status, run};
 use rows::{Block, blocks_of};
 use std::alloc::{AllocError, Global};
 use std::io::Write;
 use std::rt::Files;
+use std::sync::Wait;
+use std::thread::Threads;
 use std::{env, fs, io};
 use texts::Texts;
 
@@ -62,23 +66,52 @@ fn write_lines<W: Write>(
 }
 
 /// Runs these words over the texts. Gives the status and what was written.
-fn ends(alloc: Global, texts: &Texts, line: &str) -> Result<(Status, MemSink), AllocError> {
+fn ends<R: Threads + Wait + Sync, G: Gate>(
+    rt: &R,
+    alloc: Global,
+    texts: &Texts,
+    line: &str,
+    gate: &G,
+) -> Result<(Status, MemSink), AllocError> {
     let named = texts.named(alloc)?;
     let words = words_of(alloc, line)?;
     let mut shelf = SureShelf::new(alloc, named.as_slice())?;
     let mut sink = MemSink::new(alloc, ROOM, &[])?;
-    let status = run(alloc, words.as_slice(), &mut shelf, &mut sink, &NoGate);
+    let status = run(rt, alloc, words.as_slice(), &mut shelf, &mut sink, gate);
     Ok((status, sink))
 }
 
 /// Runs words over the texts, and adds what is written to them.
-fn run_row<W: Write>(alloc: Global, texts: &mut Texts, rest: &str, out: &mut W) -> Result<()> {
+fn run_row<R: Threads + Wait + Sync, W: Write>(
+    rt: &R,
+    alloc: Global,
+    texts: &mut Texts,
+    rest: &str,
+    out: &mut W,
+) -> Result<()> {
     let (name, rest) = rest.split_once(' ').context("no name")?;
     let (firsts, line) = rest.split_once(" : ").context("no lines")?;
-    let (status, sink) = ends(alloc, texts, line)?;
+    let (status, sink) = ends(rt, alloc, texts, line, &NoGate)?;
     let text = str::from_utf8(sink.bytes())?;
     write_lines(name, firsts, status, text, out)?;
     texts.add(alloc, name, text)?;
+    Ok(())
+}
+
+/// Runs words over the texts, where the first two workers wait for each other, and writes whether they met.
+fn meet_row<R: Threads + Wait + Sync, W: Write>(
+    rt: &R,
+    alloc: Global,
+    texts: &Texts,
+    rest: &str,
+    out: &mut W,
+) -> Result<()> {
+    let (name, rest) = rest.split_once(' ').context("no name")?;
+    let (firsts, line) = rest.split_once(" : ").context("no lines")?;
+    let gate = Meeting::new();
+    let (status, sink) = ends(rt, alloc, texts, line, &gate)?;
+    write_lines(name, firsts, status, str::from_utf8(sink.bytes())?, out)?;
+    writeln!(out, "  {}", if gate.have_met() { "met" } else { "alone" })?;
     Ok(())
 }
 
@@ -92,7 +125,13 @@ fn failing(alloc: Global, word: &str) -> Result<Vec<u64>> {
 }
 
 /// Runs words where a call of the shelf and one of the sink fail, and the sink has this room.
-fn fails_row<W: Write>(alloc: Global, texts: &Texts, rest: &str, out: &mut W) -> Result<()> {
+fn fails_row<R: Threads + Wait + Sync, W: Write>(
+    rt: &R,
+    alloc: Global,
+    texts: &Texts,
+    rest: &str,
+    out: &mut W,
+) -> Result<()> {
     let (name, rest) = rest.split_once(' ').context("no name")?;
     let (shelf_call, rest) = rest.split_once(' ').context("no call of the shelf")?;
     let (sink_call, rest) = rest.split_once(' ').context("no call of the sink")?;
@@ -103,19 +142,24 @@ fn fails_row<W: Write>(alloc: Global, texts: &Texts, rest: &str, out: &mut W) ->
     let mut shelf = MemShelf::new(alloc, named.as_slice(), shelf_fails.as_slice())?;
     let mut sink = MemSink::new(alloc, room.parse::<usize>()?, sink_fails.as_slice())?;
     let words = words_of(alloc, line)?;
-    let status = run(alloc, words.as_slice(), &mut shelf, &mut sink, &NoGate);
+    let status = run(rt, alloc, words.as_slice(), &mut shelf, &mut sink, &NoGate);
     let text = str::from_utf8(sink.bytes())?;
     write_lines(name, "*", status, text, out)
 }
 
 /// Runs words over the files of the folder that the program runs in.
-fn files_row<W: Write>(rt: &HostRuntime, rest: &str, out: &mut W) -> Result<()> {
+fn files_row<R: Files + Threads + Wait + Sync, W: Write>(
+    rt: &R,
+    alloc: Global,
+    rest: &str,
+    out: &mut W,
+) -> Result<()> {
     let (name, line) = rest.split_once(' ').context("no name")?;
-    let words = words_of(rt.alloc(), line)?;
+    let words = words_of(alloc, line)?;
     let mut shelf = FileShelf::new(rt);
     let mut room = [0u8; 64];
     let mut sink = OutSink::new(&mut room[..]);
-    let status = run(rt.alloc(), words.as_slice(), &mut shelf, &mut sink, &NoGate);
+    let status = run(rt, alloc, words.as_slice(), &mut shelf, &mut sink, &NoGate);
     let text = str::from_utf8(room.as_slice())?;
     let (text, _) = text.split_once('\0').context("no room is left")?;
     write_lines(name, "*", status, text, out)
@@ -130,13 +174,13 @@ fn change_text(alloc: Global, texts: &mut Texts, rest: &str, lines: &str) -> Res
 }
 
 /// Takes a block: adds its text, or does its run.
-fn take_block<W: Write>(
-    rt: &HostRuntime,
+fn take_block<R: Files + Threads + Wait + Sync, W: Write>(
+    rt: &R,
+    alloc: Global,
     texts: &mut Texts,
     block: &Block,
     out: &mut W,
 ) -> Result<()> {
-    let alloc = rt.alloc();
     let (kind, rest) = block.head.as_str().split_once(' ').context("one word")?;
     match kind {
         "text" => {
@@ -144,24 +188,26 @@ fn take_block<W: Write>(
             Ok(())
         }
         "change" => change_text(alloc, texts, rest, block.text.as_str()),
-        "run" => run_row(alloc, texts, rest, out),
-        "fails" => fails_row(alloc, texts, rest, out),
-        "files" => files_row(rt, rest, out),
+        "run" => run_row(rt, alloc, texts, rest, out),
+        "meet" => meet_row(rt, alloc, texts, rest, out),
+        "fails" => fails_row(rt, alloc, texts, rest, out),
+        "files" => files_row(rt, alloc, rest, out),
         _ => bail!("no kind of row"),
     }
 }
 
 fn main(rt: HostRuntime) -> Result<()> {
+    let alloc = rt.alloc();
     let Some(name) = env::args(&rt)?.nth(1) else {
         bail!("usage: run_rows FILE")
     };
     let text = fs::read_to_string(&rt, name.as_str())?;
-    let blocks = blocks_of(rt.alloc(), text.as_str())?;
-    let mut texts = Texts::new(rt.alloc());
+    let blocks = blocks_of(alloc, text.as_str())?;
+    let mut texts = Texts::new(alloc);
     let mut out = io::writer(&rt);
     for block in blocks.iter() {
         let head = block.head.as_str();
-        take_block(&rt, &mut texts, block, &mut out).context(format_args!("row: {head}"))?;
+        take_block(&rt, alloc, &mut texts, block, &mut out).context(format_args!("row: {head}"))?;
     }
     Ok(())
 }

@@ -23,6 +23,13 @@ fn main(rt: HostRuntime) -> ExitCode {
     };
     let mut shelf = FileShelf::new(&rt);
     let mut out = OutSink::new(io::writer(&rt));
-    let status = run(rt.alloc(), words.as_slice(), &mut shelf, &mut out, &NoGate);
+    let status = run(
+        &rt,
+        rt.alloc(),
+        words.as_slice(),
+        &mut shelf,
+        &mut out,
+        &NoGate,
+    );
     ExitCode::from(status as u8)
 }

@@ -17,6 +17,8 @@ use rows::{Block, Row, blocks_of, row_of};
 use std::alloc::{AllocError, Global};
 use std::io::Write;
 use std::rt::Files;
+use std::sync::Wait;
+use std::thread::Threads;
 use std::{env, fs, io};
 use text_runs::verify_run;
 
@@ -46,7 +48,13 @@ fn ends_so(
 }
 
 /// Writes the name of this row, the status of its run and what that writes.
-fn write_row<W: Write>(alloc: Global, words: &[String], row: Row<'_>, out: &mut W) -> Result<()> {
+fn write_row<R: Threads + Wait + Sync, W: Write>(
+    rt: &R,
+    alloc: Global,
+    words: &[String],
+    row: Row<'_>,
+    out: &mut W,
+) -> Result<()> {
     let texts = [
         ("net", row.network.as_bytes()),
         ("model", row.model.as_bytes()),
@@ -54,7 +62,7 @@ fn write_row<W: Write>(alloc: Global, words: &[String], row: Row<'_>, out: &mut 
     ];
     let mut shelf = SureShelf::new(alloc, &texts)?;
     let mut line = MemSink::new(alloc, ROOM, &[])?;
-    let status = run(alloc, words, &mut shelf, &mut line, &NoGate);
+    let status = run(rt, alloc, words, &mut shelf, &mut line, &NoGate);
     let names = words.get(1..).unwrap_or(&[]);
     if !ends_so(alloc, &texts, names, status as u8, line.bytes())? {
         bail!("the verifier alone ends otherwise: {}", row.name)
@@ -65,12 +73,17 @@ fn write_row<W: Write>(alloc: Global, words: &[String], row: Row<'_>, out: &mut 
 }
 
 /// Writes a line for each plan among these blocks.
-fn write_rows<W: Write>(alloc: Global, blocks: &[Block], out: &mut W) -> Result<()> {
+fn write_rows<R: Threads + Wait + Sync, W: Write>(
+    rt: &R,
+    alloc: Global,
+    blocks: &[Block],
+    out: &mut W,
+) -> Result<()> {
     let words = words_of_verify(alloc)?;
     for block in blocks.iter() {
         if block.is_plan() {
             let row = row_of(blocks, block).context(format_args!("no row: {}", block.head))?;
-            write_row(alloc, words.as_slice(), row, out)?;
+            write_row(rt, alloc, words.as_slice(), row, out)?;
         }
     }
     Ok(())
@@ -83,5 +96,5 @@ fn main(rt: HostRuntime) -> Result<()> {
     };
     let text = fs::read_to_string(&rt, name.as_str())?;
     let blocks = blocks_of(alloc, text.as_str())?;
-    write_rows(alloc, blocks.as_slice(), &mut io::writer(&rt))
+    write_rows(&rt, alloc, blocks.as_slice(), &mut io::writer(&rt))
 }

@@ -1,0 +1,61 @@
+//! A gate at which two workers wait for each other.
+
+use plan_io::Gate;
+use std::sync::atomic::{AtomicBool, Ordering};
+use std::thread;
+
+/// At their second task the first two workers each raise a flag and wait for the other's, for so many yields at most.
+/// The first pass of a run is none of a worker's.
+#[derive(Drop)]
+pub(crate) struct Meeting {
+    first: AtomicBool,
+    second: AtomicBool,
+    first_met: AtomicBool,
+    second_met: AtomicBool,
+}
+
+impl Meeting {
+    /// Nobody has come yet.
+    pub(crate) fn new() -> Meeting {
+        Meeting {
+            first: AtomicBool::new(false),
+            second: AtomicBool::new(false),
+            first_met: AtomicBool::new(false),
+            second_met: AtomicBool::new(false),
+        }
+    }
+
+    /// Whether each of the two has seen the other's flag.
+    pub(crate) fn have_met(&self) -> bool {
+        self.first_met.load(Ordering::SeqCst) && self.second_met.load(Ordering::SeqCst)
+    }
+}
+
+/// Whether the flag rises within so many yields.
+fn rises(flag: &AtomicBool) -> bool {
+    for _ in 0..2_000_000 {
+        if flag.load(Ordering::SeqCst) {
+            return true;
+        }
+        thread::yield_now();
+    }
+    false
+}
+
+impl Gate for Meeting {
+    fn pass(&self, worker: u32, turn: u64) {
+        if turn != 1 {
+            return;
+        }
+        if worker == 0 {
+            self.first.store(true, Ordering::SeqCst);
+            let met = rises(&self.second);
+            self.first_met.store(met, Ordering::SeqCst);
+        }
+        if worker == 1 {
+            self.second.store(true, Ordering::SeqCst);
+            let met = rises(&self.first);
+            self.second_met.store(met, Ordering::SeqCst);
+        }
+    }
+}
