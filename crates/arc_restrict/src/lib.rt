@@ -13,6 +13,3 @@ mod shared;
 
 pub use parting::divergence;
 pub use restriction::Restriction;
-
-#[cfg(test)]
-mod tests;

@@ -22,6 +22,3 @@ mod writing;
 pub use fault::PlanFault;
 pub use reading::read_plan;
 pub use writing::write_plan;
-
-#[cfg(test)]
-mod tests;

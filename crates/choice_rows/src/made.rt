@@ -1,8 +1,8 @@
 //! Choices that are made from a number. They are small, so that many cost or carry the same.
 
-use crate::draws::Draws;
 use explicit_steps::Choice;
 use explicit_steps::limits::MAX_CHOICES;
+use row_draws::Draws;
 use std::alloc::{AllocError, Global};
 
 /// Of so many links, one has as many choices as a link may have.

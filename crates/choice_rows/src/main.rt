@@ -6,7 +6,6 @@
 //! first link where the two differ. Begin at `compare`. Stands on `explicit_steps` and promises nothing of its own.
 #![tactic(auto)]
 
-mod draws;
 mod made;
 mod twin;
 

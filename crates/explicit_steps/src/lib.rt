@@ -13,6 +13,3 @@ mod steps;
 pub use choices::{Choice, ChoiceStep};
 pub use reaches::reach_of;
 pub use steps::choice_steps;
-
-#[cfg(test)]
-mod tests;

@@ -15,6 +15,3 @@ mod trials;
 
 pub use sampling::sample;
 pub use trials::{Problem, TRIAL_BUDGET, sample_problem, trial_model};
-
-#[cfg(test)]
-mod tests;

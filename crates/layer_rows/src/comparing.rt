@@ -6,6 +6,7 @@ ghost use Rattle.arc_restrict.specs.Restrictions.{IsPermittedPath};
 ghost use Rattle.second_path.specs.Others.{AreOnlyPaths, IsDetermined};
 
 use crate::listing::{Asked, Walk, arcs_of, listed};
+use arc_restrict::Restriction;
 use path_pricing::{Priced, SourceTree, check_priced, price};
 use plan_base::{DemandId, Instance, Path};
 use second_path::{Determined, determine, second};
@@ -50,16 +51,6 @@ fn least_agrees(alloc: Global, asked: Asked<'_>, demand: DemandId) -> Result<boo
     Ok(is_accepted && agrees)
 }
 
-/// Whether the least path of each demand is as the lists tell.
-fn all_least_agree(alloc: Global, asked: Asked<'_>) -> Result<bool, AllocError> {
-    for place in 0..asked.inst.demands() {
-        if !least_agrees(alloc, asked, DemandId(place))? {
-            return Ok(false);
-        }
-    }
-    Ok(true)
-}
-
 /// The length of the way to the demand's target in the tree of its source, where the demand may take it.
 fn length_by_tree(
     alloc: Global,
@@ -83,14 +74,33 @@ fn length_by_tree(
     }
 }
 
-/// Whether the trees of the demands' sources give the least price of the listed paths, or none where they may miss one.
-fn all_trees_agree(alloc: Global, asked: Asked<'_>, may_miss: bool) -> Result<bool, AllocError> {
+/// Whether the tree of the demand's source gives the least price of the listed paths, or none where it may miss one.
+fn tree_agrees(
+    alloc: Global,
+    asked: Asked<'_>,
+    demand: DemandId,
+    may_miss: bool,
+) -> Result<bool, AllocError>
+    requires { demand.0 < length asked.inst.now.demands }
+{
+    let paths = listed(alloc, asked, demand)?;
+    let found = length_by_tree(alloc, asked, demand)?;
+    let is_missed = may_miss && found.is_none();
+    Ok(found == least_of(&paths) || is_missed)
+}
+
+/// Whether least paths and those of trees are as the lists tell: of each demand, and of trees with nothing forbidden too.
+fn least_agree(alloc: Global, asked: Asked<'_>, free: &Restriction) -> Result<bool, AllocError> {
+    let open = Asked {
+        restriction: free,
+        ..asked
+    };
     for place in 0..asked.inst.demands() {
         let demand = DemandId(place);
-        let paths = listed(alloc, asked, demand)?;
-        let found = length_by_tree(alloc, asked, demand)?;
-        let is_missed = may_miss && found.is_none();
-        if found != least_of(&paths) && !is_missed {
+        let agree = least_agrees(alloc, asked, demand)?
+            && tree_agrees(alloc, open, demand, false)?
+            && tree_agrees(alloc, asked, demand, true)?;
+        if !agree {
             return Ok(false);
         }
     }
@@ -194,16 +204,11 @@ fn left_agrees(alloc: Global, asked: Asked<'_>) -> Result<bool, AllocError> {
 
 /// Whether least paths, trees and what is left are as the lists tell.
 ///
-/// - Takes: what is asked, and the same with nothing forbidden.
+/// - Takes: what is asked, and a restriction that forbids nothing.
 pub(crate) fn all_agree(
     alloc: Global,
     asked: Asked<'_>,
-    open: Asked<'_>,
+    free: &Restriction,
 ) -> Result<bool, AllocError> {
-    Ok(
-        all_least_agree(alloc, asked)?
-            && all_trees_agree(alloc, open, false)?
-            && all_trees_agree(alloc, asked, true)?
-            && left_agrees(alloc, asked)?,
-    )
+    Ok(least_agree(alloc, asked, free)? && left_agrees(alloc, asked)?)
 }

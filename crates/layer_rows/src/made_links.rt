@@ -3,10 +3,10 @@
 ghost use Rattle.std.specs.Prelude.{◌<◌, ◌≡◌, ◌≤◌, length, IfSome};
 ghost use Rattle.plan_base.specs.Facts.{price_limit, total_load};
 
-use crate::draws::Draws;
 use crate::trying::{Costs, SmallLink, tried_costs, tried_gain, tried_start};
 use link_steps::StepTable;
 use plan_base::{Demand, Instance, Items, Link, LinkId, Module, NodeId, Orient, Parts, Prices};
+use row_draws::Draws;
 use row_networks::table_of;
 use std::alloc::{AllocError, Global};
 

@@ -3,11 +3,11 @@
 ghost use Rattle.std.specs.Prelude.{◌<◌};
 
 use crate::comparing::all_agree;
-use crate::draws::Draws;
 use crate::listing::Asked;
 use crate::restricting::forbid;
 use arc_restrict::Restriction;
 use plan_base::{Demand, Instance, Items, Link, NodeId, Orient, Parts, Prices};
+use row_draws::Draws;
 use std::alloc::{AllocError, Global};
 
 /// How many networks are made.
@@ -113,11 +113,7 @@ fn next_agrees(alloc: Global, draws: &mut Draws) -> Option<bool> {
         prices: &prices,
         restriction: &restriction,
     };
-    let open = Asked {
-        restriction: &free,
-        ..asked
-    };
-    all_agree(alloc, asked, open).ok()
+    all_agree(alloc, asked, &free).ok()
 }
 
 /// Adds the first made network for which an answer is not as the lists of all paths tell.

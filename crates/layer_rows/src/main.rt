@@ -8,8 +8,8 @@
 //! `second_path` and promises nothing of its own.
 #![tactic(auto)]
 
+mod asking;
 mod comparing;
-mod draws;
 mod listing;
 mod made_links;
 mod made_networks;
@@ -20,33 +20,36 @@ mod trying;
 mod ways;
 
 use anyhow::{Result, bail};
+use asking::Question;
 use row_networks::{Network, find, network_of};
 use std::alloc::Global;
 use std::io::Write;
 use std::rt::Files;
 use std::{env, fs, io};
+use steps::Wanted;
 
-/// Adds the answer to a question about the network of a name.
+/// Adds the answer to a question of this kind about the network of a name.
 fn tell(
     alloc: Global,
     networks: &[Network],
-    question: &str,
+    kind: &str,
     rest: &str,
     text: &mut String,
 ) -> Option<()> {
-    let (name, rest) = rest.split_once(' ').unwrap_or((rest, ""));
+    let (name, words) = rest.split_once(' ').unwrap_or((rest, ""));
     let inst = find(networks, name)?;
-    match question {
+    let question = Question { inst, words };
+    match kind {
         "steps" => steps::tell_steps(alloc, inst, text),
         "start" => steps::tell_start(alloc, inst, text),
-        "cost" => steps::tell_cost(alloc, inst, rest, text),
-        "counts" => steps::tell_counts(alloc, inst, rest, text),
-        "value" => steps::tell_value(alloc, inst, rest, text),
-        "way" => ways::tell_way(alloc, inst, rest, text),
-        "tree" => ways::tell_tree(alloc, inst, rest, text),
-        "price" => paths::tell_price(alloc, inst, rest, text),
-        "allowed" => paths::tell_allowed(alloc, inst, rest, text),
-        "left" => paths::tell_left(alloc, inst, rest, text),
+        "cost" => steps::tell_load(alloc, question, Wanted::Cost, text),
+        "counts" => steps::tell_load(alloc, question, Wanted::Counts, text),
+        "value" => steps::tell_value(alloc, question, text),
+        "way" => ways::tell_way(alloc, question, text),
+        "tree" => ways::tell_tree(alloc, question, text),
+        "price" => paths::tell_price(alloc, question, text),
+        "allowed" => paths::tell_allowed(alloc, question, text),
+        "left" => paths::tell_left(alloc, question, text),
         _ => None,
     }
 }

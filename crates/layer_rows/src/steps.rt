@@ -1,9 +1,17 @@
 //! What loads cost on links, and what prices give to links.
 
+use crate::asking::Question;
 use link_steps::StepTable;
 use plan_base::{Instance, LinkId};
 use row_networks::{numbers_of, table_of};
 use std::alloc::Global;
+
+/// What is asked of a load on a link.
+#[derive(Clone, Copy)]
+pub(crate) enum Wanted {
+    Cost,
+    Counts,
+}
 
 /// Adds how many steps each link takes, or why there are too many.
 pub(crate) fn tell_steps(alloc: Global, inst: &Instance, text: &mut String) -> Option<()> {
@@ -27,8 +35,8 @@ pub(crate) fn tell_start(alloc: Global, inst: &Instance, text: &mut String) -> O
 }
 
 /// The link and the amount of a question.
-fn link_and_amount(alloc: Global, rest: &str) -> Option<(LinkId, u64)> {
-    let numbers = numbers_of(alloc, rest, ' ')?;
+fn link_and_amount(alloc: Global, words: &str) -> Option<(LinkId, u64)> {
+    let numbers = numbers_of(alloc, words, ' ')?;
     let [link, amount] = numbers.as_slice() else {
         return None;
     };
@@ -36,45 +44,32 @@ fn link_and_amount(alloc: Global, rest: &str) -> Option<(LinkId, u64)> {
     Some((LinkId(link), *amount))
 }
 
-/// Adds the least module cost of a load on a link.
-pub(crate) fn tell_cost(
+/// Adds the least module cost of a load on a link, or counts of modules that carry the load at that cost.
+pub(crate) fn tell_load(
     alloc: Global,
-    inst: &Instance,
-    rest: &str,
+    question: Question<'_>,
+    wanted: Wanted,
     text: &mut String,
 ) -> Option<()> {
-    let (link, load) = link_and_amount(alloc, rest)?;
+    let Question { inst, words } = question;
+    let (link, load) = link_and_amount(alloc, words)?;
     let table = table_of(alloc, inst)?;
     if link.0 >= inst.links() || load > inst.total_load() {
         return None;
     }
-    write!(text, " {:?}", table.at(link, load)).ok()
-}
-
-/// Adds counts of modules that carry a load on a link at its least module cost.
-pub(crate) fn tell_counts(
-    alloc: Global,
-    inst: &Instance,
-    rest: &str,
-    text: &mut String,
-) -> Option<()> {
-    let (link, load) = link_and_amount(alloc, rest)?;
-    let table = table_of(alloc, inst)?;
-    if link.0 >= inst.links() || load > inst.total_load() {
-        return None;
+    match wanted {
+        Wanted::Cost => write!(text, " {:?}", table.at(link, load)).ok(),
+        Wanted::Counts => {
+            let counts = table.counts(alloc, link, load).ok()??;
+            write!(text, " {:?}", counts.as_slice()).ok()
+        }
     }
-    let counts = table.counts(alloc, link, load).ok()??;
-    write!(text, " {:?}", counts.as_slice()).ok()
 }
 
 /// Adds the link value of a price, and the first load that has it.
-pub(crate) fn tell_value(
-    alloc: Global,
-    inst: &Instance,
-    rest: &str,
-    text: &mut String,
-) -> Option<()> {
-    let (link, price) = link_and_amount(alloc, rest)?;
+pub(crate) fn tell_value(alloc: Global, question: Question<'_>, text: &mut String) -> Option<()> {
+    let Question { inst, words } = question;
+    let (link, price) = link_and_amount(alloc, words)?;
     let price = u128::from(price);
     let table = table_of(alloc, inst)?;
     if link.0 >= inst.links() || price > inst.price_limit() {

@@ -1,8 +1,9 @@
 //! Ways of least weight, by themselves and as trees.
 
+use crate::asking::Question;
 use crate::paths::tell_path;
 use least_path::{Search, Tree, are_weights, search};
-use plan_base::{Instance, NodeId};
+use plan_base::NodeId;
 use std::alloc::Global;
 
 /// The weight of an arc: a number, or `-` where the arc may not be used.
@@ -22,13 +23,13 @@ fn weights_of(alloc: Global, word: &str) -> Option<Vec<Option<u128>>> {
     Some(weights)
 }
 
-/// The two nodes of a question, and the rest of it.
-fn ends_of(rest: &str) -> Option<(NodeId, NodeId, &str)> {
-    let (source, rest) = rest.split_once(' ')?;
-    let (target, rest) = rest.split_once(' ')?;
+/// The two nodes and the weights of a question.
+fn asked_of(alloc: Global, words: &str) -> Option<(NodeId, NodeId, Vec<Option<u128>>)> {
+    let (source, words) = words.split_once(' ')?;
+    let (target, weights) = words.split_once(' ')?;
     let source = source.parse::<u32>().ok()?;
     let target = target.parse::<u32>().ok()?;
-    Some((NodeId(source), NodeId(target), rest))
+    Some((NodeId(source), NodeId(target), weights_of(alloc, weights)?))
 }
 
 /// Adds the arcs of a way, its length and the potentials, or which nodes are reached.
@@ -54,14 +55,9 @@ fn tell_search(found: &Search, text: &mut String) -> Option<()> {
 }
 
 /// Adds a way of least weight from one node to another.
-pub(crate) fn tell_way(
-    alloc: Global,
-    inst: &Instance,
-    rest: &str,
-    text: &mut String,
-) -> Option<()> {
-    let (source, target, word) = ends_of(rest)?;
-    let weights = weights_of(alloc, word)?;
+pub(crate) fn tell_way(alloc: Global, question: Question<'_>, text: &mut String) -> Option<()> {
+    let Question { inst, words } = question;
+    let (source, target, weights) = asked_of(alloc, words)?;
     if !are_weights(inst, &weights) || source.0 >= inst.nodes() || target.0 >= inst.nodes() {
         return None;
     }
@@ -70,14 +66,9 @@ pub(crate) fn tell_way(
 }
 
 /// Adds the lengths of the ways of one node's tree, and the way to another one.
-pub(crate) fn tell_tree(
-    alloc: Global,
-    inst: &Instance,
-    rest: &str,
-    text: &mut String,
-) -> Option<()> {
-    let (source, target, word) = ends_of(rest)?;
-    let weights = weights_of(alloc, word)?;
+pub(crate) fn tell_tree(alloc: Global, question: Question<'_>, text: &mut String) -> Option<()> {
+    let Question { inst, words } = question;
+    let (source, target, weights) = asked_of(alloc, words)?;
     if !are_weights(inst, &weights) || source.0 >= inst.nodes() {
         return None;
     }

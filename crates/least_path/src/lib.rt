@@ -20,6 +20,3 @@ pub use room::Room;
 pub use spread::search;
 pub use tree::Tree;
 pub use weights::are_weights;
-
-#[cfg(test)]
-mod tests;

@@ -1,11 +1,11 @@
 //! Instances and briefs that are made from a number.
 
-use crate::draws::Draws;
 use column_pool::Brief;
 use plan_base::{
     ArcId, BranchId, Demand, DemandId, Instance, Items, Link, Module, NodeId, Orient, Parts, Path,
     Prices,
 };
+use row_draws::Draws;
 use std::alloc::{AllocError, Global};
 
 /// The ends of the links: three from a to b, three from b to c, two from a to c.

@@ -11,7 +11,6 @@
 ghost use Rattle.std.specs.Prelude.{◌≡◌};
 
 mod columns;
-mod draws;
 mod made;
 mod twin;
 mod worked;
@@ -19,11 +18,11 @@ mod worked;
 use anyhow::{Context, Result, bail, ensure};
 use column_pool::Brief;
 use columns::{gain_of, value_of};
-use draws::Draws;
 use link_steps::StepTable;
 use made::{made_brief, made_parts};
 use master_step::{Step, advance, best_step};
 use plan_base::{Instance, Module, Parts};
+use row_draws::Draws;
 use std::alloc::Global;
 use std::io;
 use std::io::Write;

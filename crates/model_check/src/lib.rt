@@ -16,6 +16,3 @@ mod valuing;
 
 pub use fault::CheckFault;
 pub use top::to_instance;
-
-#[cfg(test)]
-mod tests;

@@ -35,6 +35,3 @@ pub use parts::{Demand, Link, Module, Orient, Parts};
 pub use path::{Design, Path};
 pub use prices::Prices;
 pub use walks::is_simple_path;
-
-#[cfg(test)]
-mod tests;

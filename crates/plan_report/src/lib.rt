@@ -23,6 +23,3 @@ pub use reports::report_text;
 pub use run_fault::{FileKind, RunFault};
 pub use trial_lines::trial_line;
 pub use verdict_lines::verdict_line;
-
-#[cfg(test)]
-mod tests;

@@ -2,8 +2,8 @@
 
 ghost use Rattle.std.specs.Prelude.{◌≤◌};
 
-use crate::draws::Draws;
 use crate::network::{Demand, Link, Module, Network};
+use row_draws::Draws;
 use std::alloc::{AllocError, Global};
 
 /// How the numbers of a network are drawn.

@@ -12,7 +12,6 @@
 
 mod choices;
 mod claims;
-mod draws;
 mod made;
 mod network;
 mod texts;

@@ -16,6 +16,3 @@ mod tree;
 
 pub use plan::{Plan, PlanStatus};
 pub use tree::{Evidence, ShapeFault, Tree, TreeNode};
-
-#[cfg(test)]
-mod tests;

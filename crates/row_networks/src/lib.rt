@@ -1,4 +1,4 @@
-//! Networks of a line, for programs whose files of rows are about small networks.
+//! Networks of a line and lists of a word, for programs whose files of rows are about small networks.
 //!
 //! A row is `NAME DIRECTION NODES : LINK, LINK, .. : DEMAND, DEMAND, ..`, where DIRECTION is `directed` or `undirected`, a
 //! LINK is `SOURCE TARGET PRE ROUTING` and then, for each module, `/ CAPACITY COST`, and a DEMAND is `SOURCE TARGET LOAD`;
@@ -7,10 +7,12 @@
 //! but that a table is that of its instance.
 #![tactic(auto)]
 
+mod lists;
 mod networks;
 mod numbers;
 mod tables;
 
+pub use lists::{list_of, path_of, prices_of};
 pub use networks::{Network, find, network_of};
 pub use numbers::numbers_of;
 pub use tables::table_of;

@@ -82,35 +82,33 @@ fn ends<R: Threads + Wait + Sync, G: Gate>(
 }
 
 /// Runs words over the texts, and adds what is written to them.
-fn run_row<R: Threads + Wait + Sync, W: Write>(
+fn run_row<R: Threads + Wait + Sync, G: Gate, W: Write>(
     rt: &R,
     alloc: Global,
     texts: &mut Texts,
     rest: &str,
+    gate: &G,
     out: &mut W,
 ) -> Result<()> {
     let (name, rest) = rest.split_once(' ').context("no name")?;
     let (firsts, line) = rest.split_once(" : ").context("no lines")?;
-    let (status, sink) = ends(rt, alloc, texts, line, &NoGate)?;
+    let (status, sink) = ends(rt, alloc, texts, line, gate)?;
     let text = str::from_utf8(sink.bytes())?;
     write_lines(name, firsts, status, text, out)?;
     texts.add(alloc, name, text)?;
     Ok(())
 }
 
-/// Runs words over the texts, where the first two workers wait for each other, and writes whether they met.
+/// The same, where the first two workers wait for each other, and writes whether they met.
 fn meet_row<R: Threads + Wait + Sync, W: Write>(
     rt: &R,
     alloc: Global,
-    texts: &Texts,
+    texts: &mut Texts,
     rest: &str,
     out: &mut W,
 ) -> Result<()> {
-    let (name, rest) = rest.split_once(' ').context("no name")?;
-    let (firsts, line) = rest.split_once(" : ").context("no lines")?;
     let gate = Meeting::new();
-    let (status, sink) = ends(rt, alloc, texts, line, &gate)?;
-    write_lines(name, firsts, status, str::from_utf8(sink.bytes())?, out)?;
+    run_row(rt, alloc, texts, rest, &gate, out)?;
     writeln!(out, "  {}", if gate.have_met() { "met" } else { "alone" })?;
     Ok(())
 }
@@ -173,6 +171,13 @@ fn change_text(alloc: Global, texts: &mut Texts, rest: &str, lines: &str) -> Res
     texts.change(alloc, name, base, part, other)
 }
 
+/// Adds the text of a block's lines, some of which are repeated.
+fn repeat_text(alloc: Global, texts: &mut Texts, rest: &str, lines: &str) -> Result<()> {
+    let (name, count) = rest.split_once(' ').context("no count")?;
+    texts.repeat(alloc, name, count.parse::<u32>()?, lines)?;
+    Ok(())
+}
+
 /// Takes a block: adds its text, or does its run.
 fn take_block<R: Files + Threads + Wait + Sync, W: Write>(
     rt: &R,
@@ -188,7 +193,8 @@ fn take_block<R: Files + Threads + Wait + Sync, W: Write>(
             Ok(())
         }
         "change" => change_text(alloc, texts, rest, block.text.as_str()),
-        "run" => run_row(rt, alloc, texts, rest, out),
+        "repeat" => repeat_text(alloc, texts, rest, block.text.as_str()),
+        "run" => run_row(rt, alloc, texts, rest, &NoGate, out),
         "meet" => meet_row(rt, alloc, texts, rest, out),
         "fails" => fails_row(rt, alloc, texts, rest, out),
         "files" => files_row(rt, alloc, rest, out),

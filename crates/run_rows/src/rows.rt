@@ -12,15 +12,13 @@ pub(crate) struct Block {
     pub(crate) text: String,
 }
 
-/// Adds this line and its end to the text. Where the line ends in `\` it gets no end.
+/// Adds this line and its end to the text. Where the line ends in `\` it gets no end; a `\.` that it ends in is left out.
 fn push_line(text: &mut String, line: &str) -> Result<(), AllocError> {
-    match line.strip_suffix("\\") {
-        Some(front) => text.push_str(front),
-        None => {
-            text.push_str(line)?;
-            text.push_str("\n")
-        }
+    if let Some(front) = line.strip_suffix("\\") {
+        return text.push_str(front);
     }
+    text.push_str(line.strip_suffix("\\.").unwrap_or(line))?;
+    text.push_str("\n")
 }
 
 /// Takes one line of the file: two spaces begin a line of the last block, and any other line begins a block.

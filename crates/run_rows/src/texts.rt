@@ -16,6 +16,17 @@ pub(crate) struct Texts {
     texts: Vec<Text>,
 }
 
+/// Adds a line so many times, each with its number, from 0 on, in the place of a `#`.
+fn push_copies(text: &mut String, line: &str, count: u32) -> Result<(), AllocError> {
+    for number in 0..count {
+        match line.split_once('#') {
+            Some((front, rest)) => write!(text, "{front}{number}{rest}\n")?,
+            None => write!(text, "{line}\n")?,
+        }
+    }
+    Ok(())
+}
+
 impl Texts {
     /// No text.
     pub(crate) fn new(alloc: Global) -> Texts {
@@ -57,6 +68,24 @@ impl Texts {
         let bytes = format!(in alloc; "{front}{other}{rest}")?;
         self.add(alloc, name, bytes.as_str())?;
         Ok(())
+    }
+
+    /// Adds a text of these lines, where one that begins with `*` stands so many times.
+    pub(crate) fn repeat(
+        &mut self,
+        alloc: Global,
+        name: &str,
+        count: u32,
+        lines: &str,
+    ) -> Result<(), AllocError> {
+        let mut bytes = String::new(alloc);
+        for line in lines.lines() {
+            match line.strip_prefix("*") {
+                Some(line) => push_copies(&mut bytes, line, count)?,
+                None => push_copies(&mut bytes, line, 1)?,
+            }
+        }
+        self.add(alloc, name, bytes.as_str())
     }
 
     /// The texts with their names.

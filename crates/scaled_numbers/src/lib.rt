@@ -14,8 +14,6 @@ mod grains;
 pub mod laws;
 pub mod limits;
 mod scan;
-#[cfg(test)]
-mod tests;
 
 pub use decimal::read_decimal;
 pub use fault::NumberFault;

@@ -18,6 +18,3 @@ pub use laws::{cut_once, shown_once, shows_bytes};
 pub use lexer::lex;
 pub use limits::MAX_TEXT_BYTES;
 pub use token::{Dialect, Token, TokenKind, Tokens};
-
-#[cfg(test)]
-mod tests;

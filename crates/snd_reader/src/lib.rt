@@ -15,6 +15,3 @@ pub use cursor::Cursor;
 pub use fault::{Complaint, TextFault, Wanted};
 pub use header::behind_header;
 pub use lexeme::Lexeme;
-
-#[cfg(test)]
-mod tests;

@@ -1,16 +1,19 @@
-//! Reads network and model texts, and writes what is told of each.
+//! Reads network and model texts, tokens and numbers, and writes what is told of each.
 //!
 //! The file of rows, whose name is the program's one word, has texts that are read, in every part of their grammar, and
 //! texts with one or more faults each. To add one, write it there in the form that the head of the file explains, and
 //! what is told of it, worked out by hand, at the same place of the file `stdout`. Begin at `write_row`. Stands on
-//! `snd_network` and `snd_model` and promises nothing of its own.
+//! `snd_network`, `snd_model` and what these stand on, and promises nothing of its own.
 #![tactic(auto)]
 
 mod models;
 mod networks;
+mod numbers;
+mod pieces;
 mod texts;
 
 use anyhow::{Context, Result, bail};
+use snd_lexer::Dialect;
 use std::alloc::Global;
 use std::io::Write;
 use std::rt::Files;
@@ -21,6 +24,23 @@ const NETWORK: &str = "?SNDlib native format; type: network; version: 1.0\n";
 
 /// The first line of a model text.
 const MODEL: &str = "?SNDlib native format; type: model; version: 1.0\n";
+
+/// What is told of numbers, tokens and first lines. None where the row has another kind, and where memory is wanting.
+fn answer_of(alloc: Global, kind: &str, part: &str) -> Option<String> {
+    let mut text = String::new(alloc);
+    match kind {
+        "number" => numbers::tell(alloc, part, &mut text)?,
+        "zeros" => numbers::tell_zeros(alloc, part, &mut text)?,
+        "grains" => numbers::tell_grains(alloc, part, &mut text)?,
+        "grain" => numbers::tell_grain(part, &mut text)?,
+        "tokens" => pieces::tell(alloc, part, Dialect::Network, &mut text)?,
+        "model-tokens" => pieces::tell(alloc, part, Dialect::Model, &mut text)?,
+        "bytes" => pieces::tell_numbers(alloc, part, &mut text)?,
+        "header" => pieces::tell_header(alloc, part, &mut text)?,
+        _ => return None,
+    }
+    Some(text)
+}
 
 /// Writes what is told of the text of a row, which stands before the text in the same line.
 fn write_row<W: Write>(alloc: Global, row: &str, out: &mut W) -> Result<()> {
@@ -33,7 +53,10 @@ fn write_row<W: Write>(alloc: Global, row: &str, out: &mut W) -> Result<()> {
         "model-text" => models::tell(alloc, "", part, out)?,
         "model-line" => models::tell_line(alloc, MODEL, part, out)?,
         "model-again" => models::write_again(alloc, part, out)?,
-        _ => bail!("no kind of row"),
+        _ => {
+            let text = answer_of(alloc, kind, part).context("no kind of row")?;
+            out.write_all(text.as_bytes())?;
+        }
     }
     writeln!(out, " | {part}")?;
     Ok(())

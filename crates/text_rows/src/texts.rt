@@ -3,14 +3,20 @@
 use anyhow::{Result, bail};
 use std::alloc::Global;
 
-/// What stands behind a `\` in a row for a character, and that character.
-const SIGNS: [(&str, &str); 6] = [
+/// What stands behind a `\` in a row for a character or for nothing, and that character.
+const SIGNS: [(&str, &str); 12] = [
     ("n", "\n"),
     ("r", "\r"),
     ("t", "\t"),
     ("0", "\x00"),
     ("1", "\x01"),
     ("7", "\x7f"),
+    ("8", "\x08"),
+    ("v", "\x0b"),
+    ("f", "\x0c"),
+    ("u", "\x1f"),
+    ("s", " "),
+    ("e", ""),
 ];
 
 /// Adds what stands behind a `\` of a row.

@@ -1,0 +1,92 @@
+//! Texts of plans that are written back, and a plan that has no text.
+
+use crate::plans::plan_with;
+use cert_format::{read_plan, write_plan};
+use plan_base::{DemandId, Items};
+use proof_tree::{Evidence, Plan, PlanStatus};
+use std::alloc::Global;
+
+/// A plan of a triangle, of which one leaf has a bound and the other one its only path.
+const TRIANGLE_PLAN: &str = "SNDPLAN 1
+SIZE 3 3 1
+STATUS OPTIMAL
+BUDGET 1000
+EXAMINED 3
+COST 10
+PATH 2 0 2
+MODULES 1 1
+MODULES 1 1
+MODULES 1 0
+TREE 3
+SPLIT 0 0 1 0 1 4
+PRICED 0 0 1666666667
+ROUTED
+END
+";
+
+/// Each kind of record and the greatest numbers.
+const EACH_KIND: &str = "SNDPLAN 1
+SIZE 4 2 1
+STATUS UNDECIDED
+BUDGET 4096
+EXAMINED 4294967295
+COST 340282366920938463463374607.431768211455
+PATH 0
+MODULES 0
+MODULES 2 18446744073709551615 0
+BOUND -170141183460469231731687303.715884105728
+TREE 11
+SPLIT 0 1 1 0 1 1
+SPLIT 4294967295 0 0 2 3 4294967295
+SPLIT 0 0 0 0
+SPLIT 0 0 0 0
+SPLIT 0 0 0 0
+PRICED 0 340282366920938463463374607431768211455
+ROUTED
+OVERFULL 7
+CUT 0 2 0 3
+CROWD 1 2
+OPEN 0 0
+END
+";
+
+/// Adds the text of the plan that this text spells.
+fn tell_again(alloc: Global, plan: &str, text: &mut Vec<u8>) -> Option<()> {
+    if plan.len() > 1000 {
+        return None;
+    }
+    let plan = read_plan(alloc, plan.as_bytes()).ok()?;
+    if !plan.fits() {
+        return None;
+    }
+    let again = write_plan(alloc, &plan).ok()?;
+    text.extend_from_slice(again.as_slice()).ok()
+}
+
+/// Adds a line where the plan has a text.
+fn tell_fits(plan: &Plan, text: &mut Vec<u8>) -> Option<()> {
+    if plan.fits() {
+        text.extend_from_slice(b"fits\n").ok()
+    } else {
+        text.extend_from_slice(b"does not fit\n").ok()
+    }
+}
+
+/// Adds whether the plan of a cut of two nodes has a text, and whether it has one where it tells of three nodes.
+fn tell_cut(alloc: Global, text: &mut Vec<u8>) -> Option<()> {
+    let cut = Evidence::Cut {
+        demand: DemandId(0),
+        reached: Items::from_vec(vec![in alloc; false, true].ok()?),
+    };
+    let mut plan = plan_with(alloc, cut, PlanStatus::Infeasible, None, None)?;
+    tell_fits(&plan, text)?;
+    plan.nodes = 3;
+    tell_fits(&plan, text)
+}
+
+/// Adds two texts of plans again, and which plan has one.
+pub(crate) fn tell_texts(alloc: Global, text: &mut Vec<u8>) -> Option<()> {
+    tell_again(alloc, TRIANGLE_PLAN, text)?;
+    tell_again(alloc, EACH_KIND, text)?;
+    tell_cut(alloc, text)
+}

@@ -1,0 +1,118 @@
+//! Makes calls of the pool one after the other, and writes what it answers.
+//!
+//! The file of rows, whose name is the program's one word, has small networks and dialogues: each begins with a pool on a
+//! network and goes on with calls. Each call is made with ample memory, each refusal comes in its order, and small
+//! networks are searched from their first price to the plan. To add a call, write it there in the form that the head of
+//! the file explains, and its answer, worked out by hand, at the same place of the file `stdout`. Begin at `answer_of`.
+//! Stands on `pool_core` and on what makes its arguments; promises nothing of its own.
+#![tactic(auto)]
+
+mod calls;
+mod handing;
+mod planning;
+mod telling;
+mod words;
+mod working;
+
+use anyhow::{Result, bail};
+use pool_core::Pool;
+use row_networks::{Network, find, network_of, table_of};
+use std::alloc::Global;
+use std::io::Write;
+use std::rt::Files;
+use std::sync::Arc;
+use std::{env, fs, io};
+
+/// A pool on the network of a name, with a budget.
+fn pool_of(alloc: Global, networks: &[Network], rest: &str) -> Option<Pool> {
+    let (name, budget) = rest.split_once(' ')?;
+    let budget = budget.parse::<u32>().ok()?;
+    if budget == 0 || budget > 4096 {
+        return None;
+    }
+    let inst = find(networks, name)?.copy(alloc).ok()?;
+    let table = table_of(alloc, &inst)?;
+    let inst = Arc::new(alloc, inst).ok()?;
+    let table = Arc::new(alloc, table).ok()?;
+    Pool::new(alloc, inst, table, budget).ok()
+}
+
+/// Makes the call of a row, and adds the answer.
+fn tell(alloc: Global, pool: &mut Pool, kind: &str, rest: &str, text: &mut String) -> Option<()> {
+    match kind {
+        "open" => calls::tell_opened(pool, rest, text),
+        "gather" => calls::tell_gathered(pool, rest, text),
+        "settle" => calls::tell_settled(pool, rest, text),
+        "close" => calls::tell_closed(pool, rest, text),
+        "examine" => calls::tell_examined(pool, rest, text),
+        "task" => calls::tell_task(pool, text),
+        "offer" => handing::tell_offered(alloc, pool, rest, text),
+        "better" => handing::tell_better(alloc, pool, rest, text),
+        "publish" => handing::tell_published(alloc, pool, rest, text),
+        "node" => telling::tell_node(pool, rest, text),
+        "slot" => telling::tell_slot(pool, rest, text),
+        "counts" => telling::tell_counts(pool, text),
+        "price" => working::tell_priced(alloc, pool, rest, text),
+        "divide" => working::tell_divided(alloc, pool, rest, text),
+        "work" => working::tell_worked(alloc, pool, rest, text),
+        "finish" => planning::tell_finished(pool, text),
+        _ => None,
+    }
+}
+
+/// The line of a row and its answer, where the row is a pool or a call of one. None where it is not, and where memory is
+/// wanting.
+fn answer_of(
+    alloc: Global,
+    networks: &[Network],
+    pool: &mut Option<Pool>,
+    row: &str,
+) -> Option<String> {
+    let (kind, rest) = row.split_once(' ').unwrap_or((row, ""));
+    let mut text = format!(in alloc; "{row}:").ok()?;
+    match kind {
+        "pool" => *pool = Some(pool_of(alloc, networks, rest)?),
+        "plan" => planning::tell_plan(alloc, pool.take()?, &mut text)?,
+        _ => tell(alloc, pool.as_mut()?, kind, rest, &mut text)?,
+    }
+    text.push_str("\n").ok()?;
+    Some(text)
+}
+
+/// Keeps the network of a row, or writes the row and the answer to its call.
+fn take_row<W: Write>(
+    alloc: Global,
+    networks: &mut Vec<Network>,
+    pool: &mut Option<Pool>,
+    row: &str,
+    out: &mut W,
+) -> Result<()> {
+    if let Some(rest) = row.strip_prefix("network ") {
+        let Some(network) = network_of(alloc, rest) else {
+            bail!("no network: {row}")
+        };
+        networks.push(network)?;
+        return Ok(());
+    }
+    let Some(text) = answer_of(alloc, networks.as_slice(), pool, row) else {
+        bail!("no call: {row}")
+    };
+    out.write_all(text.as_bytes())?;
+    Ok(())
+}
+
+fn main(rt: HostRuntime) -> Result<()> {
+    let Some(name) = env::args(&rt)?.nth(1) else {
+        bail!("usage: pool_rows FILE")
+    };
+    let rows = fs::read_to_string(&rt, name.as_str())?;
+    let mut networks = Vec::new(rt.alloc());
+    let mut pool = None;
+    let mut out = io::writer(&rt);
+    for row in rows.lines() {
+        if !row.is_empty() && !row.starts_with('#') {
+            take_row(rt.alloc(), &mut networks, &mut pool, row, &mut out)?;
+        }
+    }
+    Ok(())
+}

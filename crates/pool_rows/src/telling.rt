@@ -1,0 +1,67 @@
+//! What the pool tells without an event.
+
+use crate::words::node_of;
+use arc_restrict::Restriction;
+use plan_base::{ArcId, DemandId, Instance};
+use pool_core::Pool;
+
+/// Adds which arcs are forbidden, each as its demand and its number.
+fn tell_forbidden(inst: &Instance, rows: &Restriction, text: &mut String) -> Option<()> {
+    text.push_str(" forbidden").ok()?;
+    for demand in 0..inst.demands() {
+        for arc in 0..inst.links().saturating_mul(2) {
+            if !rows.allows(DemandId(demand), ArcId(arc)) {
+                write!(text, " {demand}:{arc}").ok()?;
+            }
+        }
+    }
+    Some(())
+}
+
+/// Adds what a node is, its bound, the prices that it begins with where it waits, and what is forbidden where it is an
+/// open leaf.
+pub(crate) fn tell_node(pool: &Pool, rest: &str, text: &mut String) -> Option<()> {
+    let node = node_of(rest)?;
+    write!(text, " {:?} bound {:?}", pool.state(node), pool.bound(node)).ok()?;
+    if let Some(prices) = pool.first_prices(node) {
+        write!(text, " first {:?}", prices.as_slice()).ok()?;
+    }
+    match pool.restriction(node) {
+        Some(rows) => tell_forbidden(&**pool.instance(), &**rows, text),
+        None => Some(()),
+    }
+}
+
+/// Adds the node, the version and the prices of the round in a slot.
+pub(crate) fn tell_slot(pool: &Pool, rest: &str, text: &mut String) -> Option<()> {
+    let slot = rest.parse::<u32>().ok()?;
+    match pool.prices(slot).ok()? {
+        Some(published) => write!(
+            text,
+            " node {} version {} prices {:?}",
+            published.node.0,
+            published.version,
+            published.prices.as_slice()
+        )
+        .ok(),
+        None => text.push_str(" free").ok(),
+    }
+}
+
+/// Adds how many nodes were examined, the cost of the best design, and whether the search is done.
+pub(crate) fn tell_progress(pool: &Pool, text: &mut String) -> Option<()> {
+    write!(
+        text,
+        " examined {} best {:?} done {}",
+        pool.examined(),
+        pool.incumbent(),
+        pool.is_done()
+    )
+    .ok()
+}
+
+/// Adds how many paths were accepted, and how far the search is.
+pub(crate) fn tell_counts(pool: &Pool, text: &mut String) -> Option<()> {
+    write!(text, " accepted {}", pool.accepted()).ok()?;
+    tell_progress(pool, text)
+}
