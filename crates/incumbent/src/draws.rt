@@ -42,7 +42,7 @@ fn stirred_by(path: &Path, start: u64) -> u64
 
 impl Draws {
     /// Draws that begin with these paths and this seed.
-    pub fn new(paths: &[Path], seed: u32) -> Draws {
+    pub(crate) fn new(paths: &[Path], seed: u32) -> Draws {
         let mut state = (u64::from(seed) + 1) % CIRCLE;
         for path in paths {
             state = stirred_by(path, state);
@@ -73,7 +73,7 @@ impl Draws {
     }
 
     /// How many draws of 0 or 1 give 1 before the first 0.
-    pub fn ones(&mut self) -> u32
+    pub(crate) fn ones(&mut self) -> u32
         ensures { result ≤ MOST_ONES }
     {
         for count in 0..MOST_ONES {

@@ -1,11 +1,11 @@
 //! When better designs are searched for, and from where.
 
-ghost use Rattle.std.specs.Prelude.{◌≡◌, ◌<◌, ◌≤◌, ◌↔◌, length, slice_set, IfOk, OnOk, IfSome, IfNone, IsSomeAnd, IsTrue};
+ghost use Rattle.std.specs.Prelude.{◌≡◌, ◌<◌, ◌≤◌, ◌+◌, ◌-◌, ◌%◌, ◌^◌, ◌↔◌, min, length, slice_set, Some, IfOk, OnOk, OnErr, IfSome, IfNone, IsSomeAnd, IsTrue};
 ghost use Rattle.plan_base.specs.Arcs.{demand_at};
 ghost use Rattle.plan_base.specs.Paths.{IsSimplePath};
 ghost use Rattle.plan_base.specs.Designs.{cost_of, IsDesign, IsGoodDesign};
 ghost use Rattle.completions.specs.Completions.{ArePaths, HasOverfull};
-ghost use Rattle.incumbent.specs.Searches.{IsDue};
+ghost use Rattle.incumbent.specs.Searches.{IsDue, IsOpening, IsCheaper, next_place, HasSearched, HasWaited};
 
 use crate::held::{roomy_copies, set_path};
 use crate::improving::improve_seeded;
@@ -32,18 +32,35 @@ const MOST_TRIES: u32 = 64;
 /// begin with two different designs, and each later one with the cheapest design so far, where one demand has another
 /// path.
 ///
-/// Where several search at once, each has a seat of its own. Searches at different seats draw differently, so that from
-/// the same paths, or the same cheapest design, they go to different designs.
+/// Where several search at once, each has a seat of its own, and may learn the cheapest design of all. Every seat makes
+/// the first search, and the others are dealt out: together the seats make each of them once. So that they go to
+/// different designs, searches at different seats draw differently, and the first one of an odd seat begins as the
+/// second one of a single seat does.
 #[derive(Debug, Drop)]
 pub struct DesignSearch {
     /// The number of the seat.
     seat: u32,
+    /// How many seats there are.
+    seats: u32,
     /// How often a design was asked for.
     asked: u32,
     /// How many searches there were.
     searches: u32,
-    /// The cheapest design that they gave.
+    /// The place of the next search among all of them, which tells when it is due.
+    place: u32,
+    /// The cheapest design that they gave, or that was learnt.
     best: Option<Design>,
+}
+
+/// The place of the search that a seat makes after one at this place: all seats make the first search, and the others
+/// are dealt out to them in turn.
+pub(crate) fn place_after(seat: u32, seats: u32, place: u32) -> u32
+    ensures { result ≡ next_place seat seats place }
+{
+    if place == 0 {
+        return seat.saturating_add(1);
+    }
+    place.saturating_add(seats)
 }
 
 /// The cheapest design with these paths, where the links can carry them.
@@ -154,27 +171,73 @@ fn varied(
     Ok(None)
 }
 
+/// Whether so much is less than what a design costs, where there is one and it is good.
+fn is_less(inst: &Instance, cost: u128, best: &Option<Design>) -> bool
+    ensures { IsTrue result ↔ IfSome best.now (λ best. IsGoodDesign inst.now best → cost < cost_of inst.now best) }
+{
+    match best {
+        Some(best) => match check_design(inst, best) {
+            Ok(other) => cost < other,
+            Err(_) => true,
+        },
+        None => true,
+    }
+}
+
+/// Whether a design is a good one, and cheaper than another, where there is one and it is good.
+fn is_cheaper(inst: &Instance, design: &Design, best: &Option<Design>) -> bool
+    ensures { IsTrue result ↔ IsCheaper inst.now design.now best.now }
+{
+    match check_design(inst, design) {
+        Ok(cost) => is_less(inst, cost, best),
+        Err(_) => false,
+    }
+}
+
 impl DesignSearch {
     /// No search yet.
     ///
-    /// - Takes: the number of the seat, 0 where nobody else searches. Only what is drawn depends on it.
-    pub fn new(seat: u32) -> DesignSearch {
+    /// - Takes: the number of the seat, and how many seats there are: 0 and 1 where nobody else searches. What is
+    ///   drawn, which searches are made, and what the first of them begins with depend on them.
+    pub fn new(seat: u32, seats: u32) -> DesignSearch
+        requires { seat < seats }
+        ensures { IsOpening seat seats result }
+    {
         DesignSearch {
             seat,
+            seats,
             asked: 0,
             searches: 0,
+            place: 0,
             best: None,
         }
     }
 
-    /// Whether a search is due once so many nodes are examined: the first two at once, then at 4, 16, 64, 256 and 1,024.
+    /// Whether the next search of this seat is due once so many nodes are examined: each seat's first one at once, and
+    /// of those that are dealt out the first one at once too, the others at 4, 16, 64, 256 and 1,024 nodes.
     pub fn is_due(&self, examined: u32) -> bool
-        ensures { IsTrue result ↔ IsDue self.now.searches examined }
+        ensures { IsTrue result ↔ IsDue self.now.place examined }
     {
-        match DUE.get(self.searches as usize) {
+        match DUE.get(self.place as usize) {
             Some(due) => examined >= *due,
             None => false,
         }
+    }
+
+    /// Whether demands are laid at this asking, though the paths may give a design by and by.
+    fn is_laying_turn(&self) -> bool
+        ensures { IsTrue result ↔ (self.now.asked % LAYING_TURN ≡ 1) }
+    {
+        self.asked % LAYING_TURN == 1
+    }
+
+    /// Whether the next search begins with paths that are laid one by one: the second one of all does, and the first one
+    /// of an odd seat.
+    fn begins_laid(&self) -> bool {
+        if self.place == 0 {
+            return self.seat % 2 == 1 && self.is_laying_turn();
+        }
+        self.place == 1
     }
 
     /// A design to begin with: that of these paths and that of paths laid one by one, in this order or the other one.
@@ -199,7 +262,7 @@ impl DesignSearch {
         if let Some(found) = completed(alloc, inst, table, paths)? {
             return Ok(Some(found));
         }
-        if self.asked % LAYING_TURN != 1 {
+        if !self.is_laying_turn() {
             return Ok(None);
         }
         laid(alloc, inst, table, paths)
@@ -217,8 +280,8 @@ impl DesignSearch {
         requires paths { ArePaths inst.now paths.now }
         ensures { IfOk result (λ found. IfSome found (IsGoodDesign inst.now)) }
     {
-        if self.searches < 2 {
-            return self.fresh(alloc, inst, table, paths, self.searches == 1);
+        if self.place < 2 {
+            return self.fresh(alloc, inst, table, paths, self.begins_laid());
         }
         let Some(best) = &self.best else {
             return Ok(None);
@@ -229,23 +292,22 @@ impl DesignSearch {
         varied(alloc, inst, table, best, paths, self.asked)
     }
 
-    /// Holds a copy of the design, where it is cheaper than the one that is held.
-    fn keep(&mut self, inst: &Instance, design: &Design) -> Result<(), AllocError>
-        ensures searches { self.new.searches ≡ self.old.searches }
+    /// Holds a copy of the design, where it is cheaper than the one that is held: the later searches begin with it.
+    ///
+    /// - Takes: a design that a search gave, or that another seat's gave.
+    /// - Errors: want of memory alone.
+    pub fn learn(&mut self, inst: &Instance, design: &Design) -> Result<(), AllocError>
+        ensures seat { self.new.seat ≡ self.old.seat }
+        ensures seats { self.new.seats ≡ self.old.seats }
         ensures asked { self.new.asked ≡ self.old.asked }
+        ensures searches { self.new.searches ≡ self.old.searches }
+        ensures place { self.new.place ≡ self.old.place }
+        ensures learnt { IsCheaper inst.now design.now self.old.best → OnOk result (self.new.best ≡ Some design.now) }
+        ensures kept { (IsCheaper inst.now design.now self.old.best → ⊥) → self.new.best ≡ self.old.best }
+        ensures no_memory { OnErr result (self.new.best ≡ self.old.best) }
         ensures best { OnOk result (IsGoodDesign inst.now design.now → IsSomeAnd self.new.best (λ best. cost_of inst.now best ≤ cost_of inst.now design.now)) }
     {
-        let Ok(cost) = check_design(inst, design) else {
-            return Ok(());
-        };
-        let is_cheaper = match &self.best {
-            Some(best) => match check_design(inst, best) {
-                Ok(other) => cost < other,
-                Err(_) => true,
-            },
-            None => true,
-        };
-        if is_cheaper {
+        if is_cheaper(inst, design, &self.best) {
             self.best = Some(design.copy()?);
         }
         Ok(())
@@ -265,7 +327,13 @@ impl DesignSearch {
     ) -> Result<Option<Design>, AllocError>
         requires table { table.now ≡ inst.now }
         requires paths { ArePaths inst.now paths.now }
-        ensures { IfOk result (λ found. IfSome found (IsGoodDesign inst.now)) }
+        ensures good { IfOk result (λ found. IfSome found (IsGoodDesign inst.now)) }
+        ensures made { IfOk result (λ found. IfSome found (λ design. HasSearched self.old examined self.new)) }
+        ensures waited { IfOk result (λ found. IfNone found (HasWaited self.old self.new)) }
+        ensures best { IfOk result (λ found. IfSome found (λ design. IsSomeAnd self.new.best (λ best. cost_of inst.now best ≤ cost_of inst.now design))) }
+        ensures asked { self.new.asked ≡ min (self.old.asked + 1) (2 ^ 32 - 1) }
+        ensures seat { self.new.seat ≡ self.old.seat }
+        ensures seats { self.new.seats ≡ self.old.seats }
     {
         self.asked = self.asked.saturating_add(1);
         if !self.is_due(examined) {
@@ -275,10 +343,11 @@ impl DesignSearch {
             return Ok(None);
         };
         self.searches = self.searches.saturating_add(1);
+        self.place = place_after(self.seat, self.seats, self.place);
         // No two searches share a seed, whichever seats they are of.
         let seed = self.seat.wrapping_mul(SEEDS).wrapping_add(self.searches);
         let (_cost, design) = improve_seeded(alloc, inst, table, start, seed)?;
-        self.keep(inst, &design)?;
+        self.learn(inst, &design)?;
         Ok(Some(design))
     }
 }

@@ -194,7 +194,7 @@ fn set_group_back(
 
 impl Rounds {
     /// The search that begins with these paths once no single reroute helps.
-    pub fn new(
+    pub(crate) fn new(
         alloc: Global,
         inst: &Instance,
         table: &StepTable,
@@ -324,7 +324,7 @@ impl Rounds {
     }
 
     /// Rounds until the searches are spent; none where there are no demands.
-    pub fn run(&mut self, inst: &Instance, table: &StepTable) -> Result<(), AllocError>
+    pub(crate) fn run(&mut self, inst: &Instance, table: &StepTable) -> Result<(), AllocError>
         requires table { table.now ≡ inst.now }
         requires search { IsSearch inst.now self.old }
         ensures search { OnOk result (IsSearch inst.now self.new) }
@@ -336,7 +336,7 @@ impl Rounds {
     }
 
     /// The paths of the cheapest design met.
-    pub fn into_best(self) -> Items<Path>
+    pub(crate) fn into_best(self) -> Items<Path>
         ensures { result ≡ self.best.paths.items }
     {
         Items::from_vec(self.best.paths)

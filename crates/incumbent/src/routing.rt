@@ -1,6 +1,7 @@
 //! Paths of all demands, and what the links carry and cost with them.
 
-ghost use Rattle.std.specs.Prelude.{◌≡◌, ◌<◌, true, false, length, IfOk, OnOk, IfSome, IfNone, IsTrue, IsFalse};
+ghost use Rattle.std.specs.Prelude.{◌≡◌, ◌<◌, ◌≤◌, ◌+◌, ◌-◌, ◌^◌, min, true, false, length, IfOk, OnOk, IfSome, IfNone, IsTrue, IsFalse};
+ghost use Rattle.std.specs.Option.{unwrap_or};
 ghost use Rattle.plan_base.specs.Arcs.{demand_at};
 ghost use Rattle.plan_base.specs.Designs.{path_at};
 ghost use Rattle.plan_base.specs.Paths.{IsSimplePath};
@@ -35,7 +36,11 @@ pub struct Routing {
 
 impl Routing {
     /// These paths, none of them laid.
-    pub fn new(alloc: Global, inst: &Instance, paths: Vec<Path>) -> Result<Routing, AllocError>
+    pub(crate) fn new(
+        alloc: Global,
+        inst: &Instance,
+        paths: Vec<Path>,
+    ) -> Result<Routing, AllocError>
         requires { ArePaths inst.now paths.items }
         ensures routing { IfOk result (IsRouting inst.now) }
         ensures paths { IfOk result (λ routing. routing.paths.items ≡ paths.items) }
@@ -52,13 +57,16 @@ impl Routing {
     }
 
     /// Lays a demand on the links of its path. One that is laid stays so.
-    pub fn put_on(&mut self, inst: &Instance, table: &StepTable, demand: DemandId)
+    pub(crate) fn put_on(&mut self, inst: &Instance, table: &StepTable, demand: DemandId)
         requires table { table.now ≡ inst.now }
         requires demand { demand.0 < length inst.now.demands }
         requires routing { IsRouting inst.now self.old }
         ensures routing { IsRouting inst.now self.new }
         ensures paths { self.new.paths ≡ self.old.paths }
         ensures on { is_marked self.new.laid.items demand.0 ≡ true }
+        ensures searches { self.new.searches ≡ self.old.searches }
+        ensures cost { self.old.cost ≤ self.new.cost }
+        ensures laid { is_marked self.old.laid.items demand.0 ≡ true → self.new.cost ≡ self.old.cost }
     {
         let _demands = inst.demands();
         let place = demand.0 as usize;
@@ -75,13 +83,20 @@ impl Routing {
 
     /// Takes a demand off the links of its path, and tells what their step costs fall by, in cost grains. One that is off
     /// stays so.
-    pub fn take_off(&mut self, inst: &Instance, table: &StepTable, demand: DemandId) -> Option<u128>
+    pub(crate) fn take_off(
+        &mut self,
+        inst: &Instance,
+        table: &StepTable,
+        demand: DemandId,
+    ) -> Option<u128>
         requires table { table.now ≡ inst.now }
         requires demand { demand.0 < length inst.now.demands }
         requires routing { IsRouting inst.now self.old }
         ensures routing { IsRouting inst.now self.new }
         ensures paths { self.new.paths ≡ self.old.paths }
         ensures off { is_marked self.new.laid.items demand.0 ≡ false }
+        ensures searches { self.new.searches ≡ self.old.searches }
+        ensures cost { self.new.cost ≡ self.old.cost - unwrap_or result 0 }
         ensures fall { IfSome result (λ fall. AreRises inst.now self.new.loads (demand_at inst.now demand.0).load (path_at (with_paths self.old.paths.items) demand.0) u128.MAX fall) }
         ensures none { is_marked self.old.laid.items demand.0 ≡ true → IfNone result (HasTooMuch inst.now self.new.loads (demand_at inst.now demand.0).load (path_at (with_paths self.old.paths.items) demand.0)) }
     {
@@ -111,6 +126,9 @@ impl Routing {
         requires routing { IsRouting inst.now self.old }
         ensures routing { IsRouting inst.now self.new }
         ensures same { HasSameRoutes self.old self.new }
+        ensures searches { self.new.searches ≡ min (self.old.searches + 1) (2 ^ 32 - 1) }
+        ensures no_fewer { self.old.searches ≤ self.new.searches }
+        ensures cost { self.new.cost ≡ self.old.cost }
         ensures cheapest { IfOk result (λ found. IfSome found (IsCheapestWay inst.now self.new.loads (demand_at inst.now demand.0) self.new.room)) }
         ensures none { IfOk result (λ found. IfNone found (HasNoWay inst.now self.new.loads (demand_at inst.now demand.0))) }
     {
@@ -134,6 +152,8 @@ impl Routing {
         requires routing { IsRouting inst.now self.old }
         ensures routing { IsRouting inst.now self.new }
         ensures same { HasSameRoutes self.old self.new }
+        ensures searches { self.new.searches ≡ min (self.old.searches + 1) (2 ^ 32 - 1) }
+        ensures cost { self.new.cost ≡ self.old.cost }
         ensures least { IfOk result (λ found. IfSome found (IsLeastWay inst.now self.new.loads (demand_at inst.now demand.0) far self.new.room)) }
         ensures none { IfOk result (λ found. IfNone found (HasNoFarWay inst.now self.new.loads (demand_at inst.now demand.0) far)) }
     {
@@ -160,6 +180,8 @@ impl Routing {
         ensures routing { IsRouting inst.now self.new }
         ensures laid { self.new.laid ≡ self.old.laid }
         ensures loads { self.new.loads ≡ self.old.loads }
+        ensures searches { self.new.searches ≡ self.old.searches }
+        ensures cost { self.new.cost ≡ self.old.cost }
         ensures path { path_at (with_paths self.new.paths.items) demand.0 ≡ self.old.room }
     {
         let _demands = inst.demands();
@@ -180,6 +202,11 @@ impl Routing {
         requires off { is_marked self.old.laid.items demand.0 ≡ false }
         ensures routing { IsRouting inst.now self.new }
         ensures laid { self.new.laid ≡ self.old.laid }
+        ensures cost { self.new.cost ≡ self.old.cost }
+        ensures no_fewer { self.old.searches ≤ self.new.searches }
+        ensures one_more { self.new.searches ≤ self.old.searches + 1 }
+        ensures searches { IfNone own (self.new.searches ≡ min (self.old.searches + 1) (2 ^ 32 - 1)) }
+        ensures kept { IfOk result (λ taken. IsFalse taken → self.new.paths ≡ self.old.paths) }
         ensures cheaper { IfOk result (λ taken. IsTrue taken → IsCheaperWay inst.now self.new.loads (demand_at inst.now demand.0) own (path_at (with_paths self.new.paths.items) demand.0)) }
         ensures none { IfOk result (λ taken. IsFalse taken → IfNone own (HasNoWay inst.now self.new.loads (demand_at inst.now demand.0))) }
     {
@@ -199,7 +226,7 @@ impl Routing {
     }
 
     /// Moves a demand to the path that raises the step costs least, where that is cheaper than its own.
-    pub fn reroute(
+    pub(crate) fn reroute(
         &mut self,
         inst: &Instance,
         table: &StepTable,
@@ -210,6 +237,9 @@ impl Routing {
         requires routing { IsRouting inst.now self.old }
         ensures routing { IsRouting inst.now self.new }
         ensures on { OnOk result (is_marked self.new.laid.items demand.0 ≡ true) }
+        ensures kept { IfOk result (λ helps. IsFalse helps → self.new.paths ≡ self.old.paths) }
+        ensures no_fewer { self.old.searches ≤ self.new.searches }
+        ensures one_more { self.new.searches ≤ self.old.searches + 1 }
     {
         let own = self.take_off(inst, table, demand);
         let helps = self.take_cheaper(inst, table, demand, own)?;
@@ -218,7 +248,7 @@ impl Routing {
     }
 
     /// Lays a demand on the path that raises the step costs least, where there is one whose links can carry it.
-    pub fn lay_least(
+    pub(crate) fn lay_least(
         &mut self,
         inst: &Instance,
         table: &StepTable,
@@ -228,6 +258,7 @@ impl Routing {
         requires demand { demand.0 < length inst.now.demands }
         requires routing { IsRouting inst.now self.old }
         ensures routing { IsRouting inst.now self.new }
+        ensures searches { self.new.searches ≡ min (self.old.searches + 1) (2 ^ 32 - 1) }
         ensures on { IfOk result (λ found. IsTrue found → is_marked self.new.laid.items demand.0 ≡ true) }
         ensures stuck { IfOk result (λ found. IsFalse found → IsStuck inst.now) }
     {
@@ -240,7 +271,7 @@ impl Routing {
     }
 
     /// Lays a demand on a path of least weight, where far more load is looked at too.
-    pub fn lay_far(
+    pub(crate) fn lay_far(
         &mut self,
         inst: &Instance,
         table: &StepTable,
@@ -251,6 +282,7 @@ impl Routing {
         requires demand { demand.0 < length inst.now.demands }
         requires routing { IsRouting inst.now self.old }
         ensures routing { IsRouting inst.now self.new }
+        ensures searches { self.new.searches ≡ min (self.old.searches + 1) (2 ^ 32 - 1) }
         ensures on { IfOk result (λ found. IsTrue found → is_marked self.new.laid.items demand.0 ≡ true) }
         ensures off { IfOk result (λ found. IsFalse found → is_marked self.new.laid.items demand.0 ≡ false) }
     {
@@ -264,7 +296,7 @@ impl Routing {
     }
 
     /// Lays a demand on this path, in place of its own.
-    pub fn set_back(
+    pub(crate) fn set_back(
         &mut self,
         inst: &Instance,
         table: &StepTable,
@@ -276,6 +308,7 @@ impl Routing {
         requires routing { IsRouting inst.now self.old }
         requires path { IsSimplePath inst.now (demand_at inst.now demand.0) path.now }
         ensures routing { OnOk result (IsRouting inst.now self.new) }
+        ensures searches { self.new.searches ≡ self.old.searches }
         ensures on { OnOk result (is_marked self.new.laid.items demand.0 ≡ true) }
     {
         let _fall = self.take_off(inst, table, demand);

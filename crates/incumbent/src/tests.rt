@@ -4,6 +4,7 @@ ghost use Rattle.plan_base.specs.Designs.{IsGoodDesign};
 ghost use Rattle.completions.specs.Completions.{ArePaths};
 
 use super::*;
+use crate::ration::place_after;
 use least_path::{Search, are_weights, search};
 use link_steps::StepTable;
 use plan_base::{
@@ -145,7 +146,7 @@ fn designs_found(alloc: Global) -> Option<(u32, u128)> {
     let paths = paths_of(alloc, &[4, 0])?;
     let counts = counts_of(alloc, &[1, 0, 1])?;
     let design = good_design(&inst, paths, counts)?;
-    let mut designs = DesignSearch::new(0);
+    let mut designs = DesignSearch::new(0, 1);
     let mut count: u32 = 0;
     let mut cost = 0;
     for _asking in 0..3 {
@@ -163,6 +164,26 @@ fn designs_found(alloc: Global) -> Option<(u32, u128)> {
 #[test]
 fn two_searches_are_due_before_the_first_node(rt: HostRuntime) {
     assert!(rt; designs_found(rt.alloc()) == Some((2, 15_000_000_000_000)));
+}
+
+/// How many of four seats make the search at each place.
+fn makers() -> [u32; 7] {
+    let mut makers = [0; 7];
+    for seat in 0..4 {
+        let mut place: u32 = 0;
+        for _search in 0..7 {
+            if let Some(count) = makers.get_mut(place as usize) {
+                *count = u32::saturating_add(*count, 1);
+            }
+            place = place_after(seat, 4, place);
+        }
+    }
+    makers
+}
+
+#[test]
+fn four_seats_deal_the_later_searches_out(rt: HostRuntime) {
+    assert!(rt; makers() == [4, 1, 1, 1, 1, 1, 1]);
 }
 
 #[test]

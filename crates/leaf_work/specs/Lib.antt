@@ -1,1 +1,4 @@
 pub mod Advances
+pub mod Entries
+pub mod Guides
+pub mod Lending

@@ -1,7 +1,12 @@
-//! What a search goes by beside its state. No contract rests on what it keeps.
+//! What a search goes by beside its state. Whoever takes what it keeps tests it anew.
 
-ghost use Rattle.std.specs.Prelude.{◌≡◌, ◌<◌, None, length, IfOk};
+ghost use Rattle.std.specs.Prelude.{ℕ, ◌≡◌, ◌≢◌, ◌<◌, [], Some, None, length, IfOk, OnOk, option_map};
 ghost use Rattle.std.specs.Arc.{arc_value};
+ghost use Rattle.std.specs.Borrow.{sem};
+ghost use Rattle.incumbent.specs.Searches.{IsOpening};
+ghost use Rattle.leaf_work.specs.Entries.{entry_at};
+ghost use Rattle.leaf_work.specs.Guides.{known_in};
+ghost use Rattle.leaf_work.specs.Lending.{LendsDesigns};
 ghost use Rattle.arc_restrict.specs.Rows.{forbids};
 ghost use Rattle.path_pricing.specs.Priced.{ArePrices, IsPriced};
 ghost use Rattle.path_pricing.specs.Faults.{priced_fault};
@@ -14,6 +19,7 @@ use incumbent::DesignSearch;
 use path_pricing::Priced;
 use plan_base::{BranchId, DemandId, Instance, Prices};
 use std::alloc::{AllocError, Global};
+use std::marker::Model;
 use std::sync::Arc;
 
 /// What is known of nodes before they are priced, the trees of least paths, and the searches for designs.
@@ -32,14 +38,30 @@ pub struct Guide {
     trees: Trees,
 }
 
+impl Model for Guide {
+    ghost use Rattle.std.specs.Prelude.{option_map};
+    ghost use Rattle.std.specs.Arc.{arc_value};
+    ghost use Rattle.leaf_work.specs.Guides.{Guided};
+
+    ghost Value = { Guided };
+
+    ghost view = { λ a. record { designs = a.designs; above = a.above; tried = option_map arc_value a.tried; found = a.found } };
+}
+
 impl Guide {
     /// Nothing is known of any node, and no design was searched for.
     ///
-    /// - Takes: the number of the seat that searches for designs, as `DesignSearch::new` does.
-    pub fn new(alloc: Global, seat: u32) -> Guide {
+    /// - Takes: the number of the seat that searches for designs and the count of seats, as `DesignSearch::new` does.
+    pub fn new(alloc: Global, seat: u32, seats: u32) -> Guide
+        requires { seat < seats }
+        ensures designs { IsOpening seat seats result.designs }
+        ensures above { result.above ≡ [] }
+        ensures tried { result.tried ≡ None }
+        ensures found { result.found ≡ [] }
+    {
         Guide {
             alloc,
-            designs: DesignSearch::new(seat),
+            designs: DesignSearch::new(seat, seats),
             above: KnownAbove::nothing(alloc),
             tried: None,
             found: Known::nothing(alloc),
@@ -48,13 +70,21 @@ impl Guide {
     }
 
     /// A node is worked off from now on.
-    pub fn begin(&mut self, node: BranchId) {
+    pub fn begin(&mut self, node: BranchId)
+        ensures tried { self.new.tried ≡ entry_at self.old.above node.0 }
+        ensures found { self.new.found ≡ [] }
+        ensures designs { self.new.designs ≡ self.old.designs }
+        ensures forgotten { entry_at self.new.above node.0 ≡ None }
+        ensures others { (n : ℕ) → n ≢ node.0 → entry_at self.new.above n ≡ entry_at self.old.above n }
+    {
         self.tried = self.above.take(node);
         self.found = Known::nothing(self.alloc);
     }
 
     /// What the demand found above the node that is worked off, where that is known.
-    fn tried(&self, demand: DemandId) -> Option<&Arc<Priced>> {
+    fn tried(&self, demand: DemandId) -> Option<&Arc<Priced>>
+        ensures { option_map (λ found. arc_value found.now) result ≡ known_in self.now.tried demand.0 }
+    {
         match &self.tried {
             Some(known) => known.of(demand),
             None => None,
@@ -87,6 +117,7 @@ impl Guide {
         requires demand { demand.0 < length inst.now.demands }
         ensures least { IfOk result (λ found. IsPriced inst.now prices.now demand.0 (forbids restriction.now) (arc_value found)) }
         ensures accepted { IfOk result (λ found. priced_fault inst.now prices.now demand.0 (forbids restriction.now) (arc_value found) ≡ None) }
+        ensures unchanged { self.new ≡ self.old }
     {
         let known = self.known(demand);
         if let Some(found) = still_shown(inst, prices, demand, restriction, known)? {
@@ -101,24 +132,42 @@ impl Guide {
     /// Keeps what the demand has found at the node that is worked off.
     ///
     /// - Errors: want of memory alone.
-    pub fn keep(&mut self, demand: DemandId, found: Arc<Priced>) -> Result<(), AllocError> {
+    pub fn keep(&mut self, demand: DemandId, found: Arc<Priced>) -> Result<(), AllocError>
+        ensures kept { OnOk result (entry_at self.new.found demand.0 ≡ Some (arc_value found)) }
+        ensures others { (k : ℕ) → k ≢ demand.0 → entry_at self.new.found k ≡ entry_at self.old.found k }
+        ensures above { self.new.above ≡ self.old.above }
+        ensures tried { self.new.tried ≡ self.old.tried }
+        ensures designs { self.new.designs ≡ self.old.designs }
+    {
         self.found.keep(demand, found)
     }
 
     /// What is known above the nodes that still wait.
-    pub fn into_above(self) -> KnownAbove {
+    pub fn into_above(self) -> KnownAbove
+        ensures { result ≡ self.above }
+    {
         self.above
     }
 
     /// The searches for designs.
-    pub fn designs(&mut self) -> &mut DesignSearch {
+    pub fn designs(&mut self) -> &mut DesignSearch
+        ensures value { result.now ≡ self.old.designs }
+        ensures* writes_back { sem 𝓛 (LendsDesigns self.entry result) }
+    {
         &mut self.designs
     }
 
     /// Keeps what was found at the node that is worked off for its two children.
     ///
     /// - Errors: want of memory alone.
-    pub fn divide(&mut self, left: BranchId, right: BranchId) -> Result<(), AllocError> {
+    pub fn divide(&mut self, left: BranchId, right: BranchId) -> Result<(), AllocError>
+        ensures left { OnOk result (entry_at self.new.above left.0 ≡ Some self.old.found) }
+        ensures right { OnOk result (entry_at self.new.above right.0 ≡ Some self.old.found) }
+        ensures found { OnOk result (self.new.found ≡ []) }
+        ensures tried { self.new.tried ≡ self.old.tried }
+        ensures designs { self.new.designs ≡ self.old.designs }
+        ensures others { (n : ℕ) → n ≢ left.0 → n ≢ right.0 → entry_at self.new.above n ≡ entry_at self.old.above n }
+    {
         let none = Known::nothing(self.alloc);
         let found = Arc::new(self.alloc, std::mem::replace(&mut self.found, none))?;
         self.above.put(left, found.clone()?)?;

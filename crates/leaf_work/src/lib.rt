@@ -8,6 +8,7 @@
 #![tactic(auto)]
 
 mod advancing;
+mod entries;
 mod guide;
 mod known;
 mod pricing;

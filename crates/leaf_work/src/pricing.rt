@@ -36,7 +36,7 @@ fn has_length(prices: &Prices, known: &Priced) -> bool {
 /// What is known of the demand, where it still shows what it says. That takes a look at each arc, and no search.
 ///
 /// - Errors: want of memory alone.
-pub fn still_shown(
+pub(crate) fn still_shown(
     inst: &Instance,
     prices: &Prices,
     demand: DemandId,
@@ -62,7 +62,7 @@ pub fn still_shown(
 /// What a search for the demand alone finds.
 ///
 /// - Errors: want of memory alone.
-pub fn searched(
+pub(crate) fn searched(
     alloc: Global,
     inst: &Instance,
     prices: &Prices,

@@ -1,8 +1,9 @@
 //! Designs for the paths of a round.
 
-ghost use Rattle.std.specs.Prelude.{◌≡◌, IfOk, IfSome};
-ghost use Rattle.plan_base.specs.Designs.{IsGoodDesign};
+ghost use Rattle.std.specs.Prelude.{◌≡◌, ◌≤◌, IfOk, IfSome, IfNone, IsSomeAnd};
+ghost use Rattle.plan_base.specs.Designs.{cost_of, IsGoodDesign};
 ghost use Rattle.completions.specs.Completions.{ArePaths};
+ghost use Rattle.incumbent.specs.Searches.{HasSearched, HasWaited};
 
 use incumbent::DesignSearch;
 use link_steps::StepTable;
@@ -24,7 +25,10 @@ pub fn new_design(
 ) -> Result<Option<Design>, AllocError>
     requires table { table.now ≡ inst.now }
     requires paths { ArePaths inst.now paths.now }
-    ensures { IfOk result (λ found. IfSome found (λ design. IsGoodDesign inst.now design)) }
+    ensures good { IfOk result (λ found. IfSome found (λ design. IsGoodDesign inst.now design)) }
+    ensures made { IfOk result (λ found. IfSome found (λ design. HasSearched designs.old examined designs.new)) }
+    ensures waited { IfOk result (λ found. IfNone found (HasWaited designs.old designs.new)) }
+    ensures best { IfOk result (λ found. IfSome found (λ design. IsSomeAnd designs.new.best (λ best. cost_of inst.now best ≤ cost_of inst.now design))) }
 {
     designs.next_design(alloc, inst, table, paths, examined)
 }

@@ -12,7 +12,7 @@ use std::alloc::{AllocError, Global};
 
 /// The trees under the prices of a version. No contract rests on them: a tree tests what it gives.
 #[derive(Drop)]
-pub struct Trees {
+pub(crate) struct Trees {
     alloc: Global,
     version: u64,
     /// For each node the tree that was grown from it.
@@ -21,7 +21,7 @@ pub struct Trees {
 
 impl Trees {
     /// No tree is grown.
-    pub fn none(alloc: Global) -> Trees {
+    pub(crate) fn none(alloc: Global) -> Trees {
         Trees {
             alloc,
             version: 0,
@@ -71,7 +71,7 @@ impl Trees {
     /// - Errors: want of memory alone.
     /// - Time: that of one search where the demand is the first of its source under the version; else linear in nodes,
     ///   links and the path's arcs.
-    pub fn find(
+    pub(crate) fn find(
         &mut self,
         inst: &Instance,
         version: u64,
