@@ -29,7 +29,7 @@ struct Choice {
 /// What the columns cost at some prices, and which of them go over each link. No contract rests on it: what comes of it is
 /// valued anew.
 #[derive(Drop)]
-pub struct Crossings {
+pub(crate) struct Crossings {
     choices: Vec<Choice>,
     /// What each column costs, in thousandths of a cost grain per load grain; those of one demand behind those of another.
     lengths: Vec<u128>,
@@ -112,7 +112,7 @@ impl Crossings {
     /// - Takes: a list of columns for each demand, and a price for each link.
     /// - Errors: want of memory alone.
     /// - Time: linear in the links and in the arcs of all columns.
-    pub fn new(
+    pub(crate) fn new(
         alloc: Global,
         inst: &Instance,
         lists: &[Items<Path>],
@@ -150,7 +150,7 @@ impl Crossings {
     ///
     /// - Errors: want of memory alone.
     /// - Time: linear in the columns of the demands that have one over the link.
-    pub fn fill_share(
+    pub(crate) fn fill_share(
         &self,
         link: LinkId,
         price: u128,
@@ -200,7 +200,7 @@ impl Crossings {
     /// Puts the lengths after the price of a link moved.
     ///
     /// - Time: linear in the columns over the link.
-    pub fn move_price(&mut self, link: LinkId, old: u128, new: u128) {
+    pub(crate) fn move_price(&mut self, link: LinkId, old: u128, new: u128) {
         if let Some(row) = self.over.get(link.0 as usize) {
             move_lengths(self.lengths.as_mut_slice(), row.as_slice(), old, new);
         }

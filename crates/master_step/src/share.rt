@@ -13,14 +13,14 @@ struct Tie {
 /// The least that a demand's columns cost beside a link, in thousandths of a cost grain per load grain: of those over the
 /// link, and of the others.
 #[derive(Clone, Copy)]
-pub struct Ways {
+pub(crate) struct Ways {
     pub over: Option<u128>,
     pub around: Option<u128>,
 }
 
 /// What the price of one link brings in from the demands that may use it.
 #[derive(Drop)]
-pub struct Share {
+pub(crate) struct Share {
     /// The load that has no other way, in load grains.
     held: u128,
     ties: Vec<Tie>,
@@ -28,7 +28,7 @@ pub struct Share {
 
 impl Share {
     /// No demand uses the link.
-    pub fn new(alloc: Global) -> Share {
+    pub(crate) fn new(alloc: Global) -> Share {
         Share {
             held: 0,
             ties: Vec::new(alloc),
@@ -36,13 +36,13 @@ impl Share {
     }
 
     /// Forgets all demands.
-    pub fn clear(&mut self) {
+    pub(crate) fn clear(&mut self) {
         self.held = 0;
         self.ties.clear();
     }
 
     /// Adds what a demand of this load does with the link.
-    pub fn add(&mut self, ways: Ways, load: u128) -> Result<(), AllocError> {
+    pub(crate) fn add(&mut self, ways: Ways, load: u128) -> Result<(), AllocError> {
         match (ways.over, ways.around) {
             (Some(_), None) => self.held = self.held.saturating_add(load),
             (Some(over), Some(around)) if over < around => {
@@ -57,7 +57,7 @@ impl Share {
     }
 
     /// What the price brings in, up to the greatest number, in thousandths of a cost grain.
-    pub fn income(&self, price: u128) -> i128 {
+    pub(crate) fn income(&self, price: u128) -> i128 {
         let mut total = self.held.saturating_mul(price);
         for tie in &self.ties {
             total = total.saturating_add(tie.load.saturating_mul(tie.price.min(price)));

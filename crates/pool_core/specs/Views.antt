@@ -1,7 +1,8 @@
 -- How the pool's fields show a state, and what holds of them.
-use Rattle.std.specs.Prelude.{ℕ, ◌≡◌, ◌<◌, ◌≤◌, ◌+◌, List, length, count_by, Option, Some, None, slice_get}
+use Rattle.std.specs.Prelude.{ℕ, ◌≡◌, ◌<◌, ◌≤◌, ◌+◌, List, length, count_by, Option, Some, None, option_map, slice_get}
 use Rattle.pool_machine.specs.declared.limits.TheConstants.{MAX_ROUNDS, MAX_BUDGET}
 use Rattle.plan_base.specs.declared.parts.Parts.{Parts}
+use Rattle.plan_base.specs.declared.path.Design.{Design}
 use Rattle.arc_restrict.specs.Rows.{Rows}
 use Rattle.dual_versions.specs.declared.published.Published.{Published}
 use Rattle.plan_base.specs.declared.ids.BranchId.{BranchId}
@@ -55,6 +56,10 @@ pub record IsKeptPool (s : State) (table : Parts) (grounds : List (Option Rows))
 pub record IsFittedPool (s : State) (table : Parts) (room : ℕ) (grounds : List (Option Rows)) (places : List Slot) : Type 0 where
   pub kept : IsKeptPool s table grounds places
   pub room_is : room ≡ length s.problem.links
+
+-- the best design so far, or none
+abbrev pub design_of : State → Option Design
+design_of s = option_map (λ held. held.design) s.incumbent
 
 -- what is published of a slot: the prices and version of the round that has it, and its node; nothing where no round has it
 abbrev pub IsPublishedAt : State → ℕ → Option Published → Type 0

@@ -8,7 +8,7 @@ use std::alloc::{AllocError, Global};
 
 /// The last task of each worker, by its number.
 #[derive(Drop)]
-pub struct Claims {
+pub(crate) struct Claims {
     /// For each worker the task that it was given last; `Done` for one that has none.
     given: Vec<Task>,
     /// How many of the first workers have been given one.
@@ -39,7 +39,7 @@ impl Claims {
     /// No worker has a task. There is room for as many workers as rounds may be active, and it is taken here.
     ///
     /// - Errors: want of memory alone.
-    pub fn none(alloc: Global) -> Result<Claims, AllocError> {
+    pub(crate) fn none(alloc: Global) -> Result<Claims, AllocError> {
         Ok(Claims {
             given: vec![in alloc; Task::Done; MAX_ROUNDS as usize]?,
             workers: 0,
@@ -47,7 +47,7 @@ impl Claims {
     }
 
     /// The node at which the worker was given its last task.
-    pub fn last_node(&self, worker: u32) -> Option<BranchId> {
+    pub(crate) fn last_node(&self, worker: u32) -> Option<BranchId> {
         match self.given.get(worker as usize) {
             Some(task) => node_of(*task),
             None => None,
@@ -55,7 +55,7 @@ impl Claims {
     }
 
     /// Whether the task is the last one of another worker.
-    pub fn is_taken(&self, task: Task, worker: u32) -> bool {
+    pub(crate) fn is_taken(&self, task: Task, worker: u32) -> bool {
         for place in 0..self.workers {
             if place != worker as usize && self.given.get(place) == Some(&task) {
                 return true;
@@ -65,7 +65,7 @@ impl Claims {
     }
 
     /// Gives the worker the task, in place of its last one. A worker for whom there is no room claims nothing.
-    pub fn give(&mut self, worker: u32, task: Task) {
+    pub(crate) fn give(&mut self, worker: u32, task: Task) {
         let place = worker as usize;
         if let Some(given) = self.given.get_mut(place) {
             *given = task;

@@ -1,6 +1,6 @@
 //! A node of the pool's tree.
 
-ghost use Rattle.std.specs.Prelude.{◌≡◌, true, None, Some, length, replicate, option_map, IfOk, IfSome};
+ghost use Rattle.std.specs.Prelude.{◌≡◌, ◌<◌, ◌^◌, true, None, Some, length, replicate, option_map, IfOk, IfSome};
 ghost use Rattle.pool_machine.specs.State.{Node, Round, state_by};
 ghost use Rattle.pool_machine.specs.Changes.{version_in, first_gap, bound_in, has_cut};
 ghost use Rattle.pool_machine.specs.Offering.{is_priced};
@@ -14,7 +14,7 @@ mod planning;
 mod renewing;
 mod working;
 
-use crate::rank::Rank;
+use crate::rank::{Rank, depth_below, either};
 use crate::round::PoolRound;
 use branch_tree::Limit;
 use dual_versions::Published;
@@ -42,8 +42,8 @@ pub struct PoolNode {
     settled: bool,
     crowd_tried: bool,
     round: Option<PoolRound>,
-    /// What was known when it was made.
-    above: Rank,
+    /// What was recorded of its parent when it was made, in cost grains.
+    above: Option<i128>,
 }
 
 impl Model for PoolNode {
@@ -187,11 +187,16 @@ impl PoolNode {
         }
     }
 
-    /// By what the node is chosen while it is an open leaf: its recorded bound, or else that of its parent.
+    /// By what the node is chosen while it is an open leaf: its recorded bound, or else that of its parent, and how many
+    /// splits are above it.
     pub fn rank(&self) -> Rank
-        ensures { IfSome self.now.best (λ best. result.bound ≡ Some best.bound) }
+        ensures bound { IfSome self.now.best (λ best. result.bound ≡ Some best.bound) }
+        ensures depth { length self.now.limits < 2 ^ 32 → result.depth ≡ length self.now.limits }
     {
-        self.above.at_bound(self.best_bound)
+        Rank {
+            bound: either(self.best_bound, self.above),
+            depth: depth_below(self.limits.len()),
+        }
     }
 
     /// Whether the node has a cut.

@@ -1,15 +1,32 @@
 //! By what open leaves are chosen. No contract of a search rests on it.
 
-ghost use Rattle.std.specs.Prelude.{◌≡◌, ◌<◌, ◌+◌, ◌^◌, ◌↔◌, Some, None, MatchOption, IsTrue};
+ghost use Rattle.std.specs.Prelude.{◌≡◌, ◌<◌, ◌^◌, ◌↔◌, Some, None, MatchOption, IsTrue};
 ghost use Rattle.pool_nodes.specs.Ranks.{ComesBefore};
 
-/// What is known of a node before it is priced.
+/// By what an open leaf is chosen.
 #[derive(Clone, Copy, Debug)]
 pub struct Rank {
-    /// A bound on what the node can lead to, in cost grains; None where none is known.
+    /// The bound that is recorded of it or else of its parent, in cost grains; None where there is neither.
     pub bound: Option<i128>,
     /// How many splits are above it.
     pub depth: u32,
+}
+
+/// The first bound where there is one, else the second.
+pub(crate) fn either(bound: Option<i128>, other: Option<i128>) -> Option<i128>
+    ensures { MatchOption bound (result ≡ other) (λ known. result ≡ Some known) }
+{
+    match bound {
+        Some(_) => bound,
+        None => other,
+    }
+}
+
+/// So many splits, up to the greatest number.
+pub(crate) fn depth_below(splits: usize) -> u32
+    ensures { splits < 2 ^ 32 → result ≡ splits }
+{
+    u32::try_from(splits).unwrap_or(u32::MAX)
 }
 
 impl Rank {
@@ -21,31 +38,6 @@ impl Rank {
         Rank {
             bound: None,
             depth: 0,
-        }
-    }
-
-    /// The rank of a child of a node with this rank and this recorded bound.
-    pub fn below(self, bound: Option<i128>) -> Rank
-        ensures bound { result.bound ≡ bound }
-        ensures deeper { self.depth + 1 < 2 ^ 32 → result.depth ≡ self.depth + 1 }
-    {
-        Rank {
-            bound,
-            depth: self.depth.saturating_add(1),
-        }
-    }
-
-    /// The same, with a bound of its own where there is one.
-    pub fn at_bound(self, bound: Option<i128>) -> Rank
-        ensures bound { MatchOption bound (result.bound ≡ self.bound) (λ known. result.bound ≡ Some known) }
-        ensures depth { result.depth ≡ self.depth }
-    {
-        match bound {
-            Some(_) => Rank {
-                bound,
-                depth: self.depth,
-            },
-            None => self,
         }
     }
 

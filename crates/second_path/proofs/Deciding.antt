@@ -1,5 +1,5 @@
 -- What is held after each demand.
-use Rattle.std.proofs.Common.{◌≡◌, ℕ, ◌<◌, ◌+◌, inl, inr, List, [], length, Option, Some, None, slice_index_or, sym, subst, arith}
+use Rattle.std.proofs.Common.{ℕ, ◌<◌, ◌+◌, inl, inr, List, [], length, Option, Some, None, slice_index_or, sym, subst, arith}
 use Rattle.plan_base.specs.declared.ids.ArcId.{ArcId}
 use Rattle.plan_base.specs.declared.parts.Parts.{Parts}
 use Rattle.arc_restrict.specs.Restrictions.{Forbidden, IsPermittedPath, IsOnlyPath}
@@ -28,11 +28,11 @@ held_only p r paths n (Some held) only h = record {
 pub has_paths : (p : Parts) (r : Forbidden) (n : ℕ) (paths : List (List ArcId)) → ArePaths p r n paths → (m : ℕ) → m < n → HasPath p r m
 has_paths p r n paths h m below = record { path = slice_index_or paths m []; permitted = h.permitted m below }
 
-pub is_two : (p : Parts) (r : Forbidden) (paths : List (List ArcId)) (held : Held) (first : List ArcId) → ArePaths p r (length p.demands) paths → IsHeld p r paths (length p.demands) held → first ≡ slice_index_or paths held.demand.0 [] → IsFirstTwo p r held.demand.0 first held.other
-is_two p r paths held first h is_held is_first = record {
+pub is_two : (p : Parts) (r : Forbidden) (paths : List (List ArcId)) (held : Held) (first second : List ArcId) → ArePaths p r (length p.demands) paths → IsHeld p r paths (length p.demands) held → IsPermittedPath p r held.demand.0 first → IsOtherPath p r held.demand.0 first second → IsFirstTwo p r held.demand.0 first second
+is_two p r paths held first second h is_held permitted other = record {
   is_demand = is_held.within;
-  permitted = subst (IsPermittedPath p r held.demand.0) (sym is_first) (h.permitted held.demand.0 is_held.within);
-  other = subst (λ arcs. IsOtherPath p r held.demand.0 arcs held.other) (sym is_first) is_held.other;
+  permitted = permitted;
+  other = other;
   all = has_paths p r (length p.demands) paths h;
   others = λ m below before. (slice_index_or paths m [], is_held.before m below before);
 }

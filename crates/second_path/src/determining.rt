@@ -4,7 +4,7 @@ ghost use Rattle.std.specs.Prelude.{◌≡◌, ◌<◌, ◌+◌, List, [], lengt
 ghost use Rattle.plan_base.specs.declared.ids.ArcId.{ArcId as AnyArc};
 ghost use Rattle.arc_restrict.specs.Rows.{forbids};
 ghost use Rattle.arc_restrict.specs.Restrictions.{IsPermittedPath};
-ghost use Rattle.second_path.specs.Others.{IsDetermined, IsFirstEmpty};
+ghost use Rattle.second_path.specs.Others.{IsOtherPath, IsDetermined, IsFirstEmpty};
 ghost use Rattle.second_path.specs.Searching.{HasRoom, ArePaths, IsHeldTo};
 
 use crate::determined::Determined;
@@ -87,6 +87,7 @@ fn first_two(
     requires paths { ArePaths inst.now (forbids r.now) (length inst.now.demands) paths.now }
     requires room { HasRoom inst.now.nodes search.old }
     ensures held { IfOk result (IsHeldTo inst.now (forbids r.now) paths.now (length inst.now.demands)) }
+    ensures room { OnOk result (HasRoom inst.now.nodes search.new) }
 {
     let mut held = None;
     for place in 0..inst.demands() {
@@ -94,6 +95,31 @@ fn first_two(
         held = hold_next(alloc, inst, DemandId(place), r, path, held, search)?;
     }
     Ok(held)
+}
+
+/// Two paths of a demand that has two: those that a search finds which knows none of them.
+fn pair_of(
+    alloc: Global,
+    inst: &Instance,
+    k: DemandId,
+    r: &Restriction,
+    path: &Path,
+    other: Path,
+    search: &mut Search,
+) -> Result<(Path, Path), AllocError>
+    requires demand { k.0 < length inst.now.demands }
+    requires path { IsPermittedPath inst.now (forbids r.now) k.0 path.now }
+    requires other { IsOtherPath inst.now (forbids r.now) k.0 path.now other }
+    requires room { HasRoom inst.now.nodes search.old }
+    ensures first { IfOk result (λ pair. IsPermittedPath inst.now (forbids r.now) k.0 pair.0) }
+    ensures second { IfOk result (λ pair. IsOtherPath inst.now (forbids r.now) k.0 pair.0 pair.1) }
+{
+    if let Some(first) = first_path(alloc, inst, k, r, search)? {
+        if let Some(second) = other_path(alloc, inst, k, r, &first, search)? {
+            return Ok((first, second));
+        }
+    }
+    Ok((path.copy()?, other))
 }
 
 /// Which demands have no permitted path, one or more.
@@ -113,12 +139,36 @@ pub fn determine(alloc: Global, inst: &Instance, r: &Restriction) -> Result<Dete
         let reached = search.into_met();
         return Ok(Determined::Empty { demand, reached });
     }
+    determine_among(alloc, inst, r, Items::from_vec(paths))
+}
+
+/// The same, where a permitted path of each demand is known. The answer does not depend on which paths these are.
+///
+/// - Takes: a permitted simple path of each demand, in order.
+/// - Gives: `Two` for the first demand with two paths, by larger load and then by lower number; else `One`.
+/// - Errors: want of memory.
+/// - Rule: docs/METHOD.md, "What a restriction leaves".
+/// - Time: nodes times arcs for each demand that has one path and no smaller load than the first with two.
+pub fn determine_among(
+    alloc: Global,
+    inst: &Instance,
+    r: &Restriction,
+    paths: Items<Path>,
+) -> Result<Determined, AllocError>
+    requires { ArePaths inst.now (forbids r.now) (length inst.now.demands) paths }
+    ensures { IfOk result (IsDetermined inst.now (forbids r.now)) }
+{
+    let mut search = Search::new(alloc, inst)?;
     match first_two(alloc, inst, r, paths.as_slice(), &mut search)? {
-        Some(Held { demand, other }) => Ok(Determined::Two {
-            demand,
-            first: paths[demand.0 as usize].copy()?,
-            second: other,
-        }),
-        None => Ok(Determined::One(Items::from_vec(paths))),
+        Some(Held { demand, other }) => {
+            let path = &paths.as_slice()[demand.0 as usize];
+            let (first, second) = pair_of(alloc, inst, demand, r, path, other, &mut search)?;
+            Ok(Determined::Two {
+                demand,
+                first,
+                second,
+            })
+        }
+        None => Ok(Determined::One(paths)),
     }
 }

@@ -14,5 +14,5 @@ mod search;
 mod ways;
 
 pub use determined::Determined;
-pub use determining::determine;
+pub use determining::{determine, determine_among};
 pub use others::second;

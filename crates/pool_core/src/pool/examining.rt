@@ -1,20 +1,24 @@
 //! Examinations: an open leaf is closed or divided.
 
-ghost use Rattle.std.specs.Prelude.{◌≡◌, not, ◌&&◌, nat_lt, Ok, IfOk, OnErr, slice_get};
+ghost use Rattle.std.specs.Prelude.{◌≡◌, not, ◌&&◌, nat_lt, Ok, IfOk, IfSome, OnErr, slice_get};
+ghost use Rattle.arc_restrict.specs.Rows.{forbids};
+ghost use Rattle.second_path.specs.Others.{IsDetermined};
 ghost use Rattle.pool_machine.specs.declared.limits.TheConstants.{MAX_VERSIONS};
+ghost use Rattle.pool_machine.specs.State.{restriction_of};
 ghost use Rattle.pool_machine.specs.Readiness.{completed_in, settled_in, ready_fault, examine_refusal};
 ghost use Rattle.pool_machine.specs.Examining.{ExamineStep};
 ghost use Rattle.pool_core.specs.Examining.{IsReadyAt, HasOnlyPaths, IsDeterminedAt};
 
 use super::Pool;
 use super::closing::is_open_state;
+use arc_restrict::Restriction;
 use completions::{complete, overfull_link};
 use plan_base::{BranchId, Design, Items, Path};
 use pool_machine::limits::MAX_VERSIONS;
 use pool_machine::{ExamineFault, Examined};
 use pool_nodes::Reason;
 use proof_tree::Evidence;
-use second_path::{Determined, determine};
+use second_path::{Determined, determine, determine_among};
 use std::alloc::AllocError;
 
 /// Whether a node is not settled and has room for more versions.
@@ -85,6 +89,21 @@ impl Pool {
         self.ready_refusal(node)
     }
 
+    /// What the restriction of a node leaves to the demands. Where its round is complete, a path of each is known.
+    fn determined(&self, node: BranchId, rows: &Restriction) -> Result<Determined, AllocError>
+        requires { IfSome (slice_get self.now.nodes node.0) (λ x. forbids rows.now ≡ restriction_of x) }
+        ensures { IfOk result (IsDetermined self.now.problem (forbids rows.now)) }
+    {
+        let Some(round) = self.active_round(node) else {
+            return determine(self.alloc, &*self.problem, rows);
+        };
+        if round.left() > 0 {
+            return determine(self.alloc, &*self.problem, rows);
+        }
+        let paths = round.paths(self.alloc)?;
+        determine_among(self.alloc, &*self.problem, rows, paths)
+    }
+
     /// What the restriction of a node that may be examined leaves to the demands.
     fn determine_at(&self, node: BranchId) -> Result<Determined, AllocError>
         requires { IsReadyAt self.now node }
@@ -94,7 +113,7 @@ impl Pool {
         let Some(rows) = ground.rows() else {
             unreachable!();
         };
-        determine(self.alloc, &*self.problem, &**rows)
+        self.determined(node, &**rows)
     }
 
     /// Closes a node that leaves each demand one path: by the first link that these paths overfill, or else with

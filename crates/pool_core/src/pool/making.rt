@@ -15,7 +15,7 @@ use link_steps::StepTable;
 use master_step::Room;
 use plan_base::{Instance, Items, Prices};
 use pool_machine::limits::MAX_ROUNDS;
-use pool_nodes::{Ground, PoolNode, PoolRound, Rank, Slot};
+use pool_nodes::{Ground, PoolNode, PoolRound, Slot};
 use std::alloc::{AllocError, Global};
 use std::sync::Arc;
 
@@ -58,7 +58,7 @@ impl Pool {
         let places = free_places(alloc, &*inst, &prices)?;
         let none = Restriction::none(alloc, &*inst)?;
         let rows = Arc::new(alloc, none)?;
-        let root = PoolNode::new(Items::new(alloc), prices, Rank::root())?;
+        let root = PoolNode::new(Items::new(alloc), prices, None)?;
         let nodes = vec![in alloc; root]?;
         let grounds = vec![in alloc; Ground::of(rows)]?;
         let columns = ColumnPool::new(alloc, &*inst)?;

@@ -8,13 +8,13 @@ ghost use Rattle.pool_machine.specs.Changes.{bound_in, is_open_state};
 ghost use Rattle.pool_machine.specs.Opening.{is_waiting};
 ghost use Rattle.pool_machine.specs.Machine.{IsReachable};
 ghost use Rattle.pool_machine.specs.Soundness.{IsSound};
-ghost use Rattle.pool_core.specs.Views.{IsPublishedAt};
+ghost use Rattle.pool_core.specs.Views.{IsPublishedAt, design_of};
 
 use super::Pool;
 use arc_restrict::Restriction;
 use dual_versions::Published;
 use link_steps::StepTable;
-use plan_base::{BranchId, Instance, Prices};
+use plan_base::{BranchId, Design, Instance, Prices};
 use pool_nodes::holder;
 use std::alloc::AllocError;
 use std::sync::Arc;
@@ -42,6 +42,18 @@ impl Pool {
         match &self.incumbent {
             Some(held) => Some(held.cost),
             None => None,
+        }
+    }
+
+    /// A copy of the best design so far; None exactly where there is none.
+    ///
+    /// - Errors: want of memory alone.
+    pub fn best_design(&self) -> Result<Option<Design>, AllocError>
+        ensures { IfOk result (λ found. found ≡ design_of self.now) }
+    {
+        match &self.incumbent {
+            Some(held) => Ok(Some(held.design.copy()?)),
+            None => Ok(None),
         }
     }
 

@@ -200,7 +200,7 @@ impl Pool {
         ensures problem { self.new.problem ≡ self.old.problem }
         ensures budget { self.new.budget ≡ self.old.budget }
     {
-        let mut guide = Guide::new(self.alloc, 0);
+        let mut guide = Guide::new(self.alloc, 0, 1);
         let worked = self.work_all(&mut guide);
         self.remember(guide.into_above());
         worked

@@ -58,11 +58,7 @@ impl PoolNode {
         ensures { IfOk result (λ child. child ≡ child_of self.now (arc_value limit).demand (arc_value limit).arcs) }
     {
         let limits = limits_below(alloc, limit, self.limits.as_slice())?;
-        PoolNode::new(
-            limits,
-            self.kept_prices().copy()?,
-            self.above.below(self.best_bound),
-        )
+        PoolNode::new(limits, self.kept_prices().copy()?, self.best_bound)
     }
 }
 

@@ -5,7 +5,6 @@ ghost use Rattle.std.specs.Arc.{arc_value};
 ghost use Rattle.pool_machine.specs.Changes.{waiting_with};
 
 use super::PoolNode;
-use crate::rank::Rank;
 use branch_tree::Limit;
 use plan_base::{Items, Prices};
 use pool_machine::Fate;
@@ -15,13 +14,13 @@ use std::sync::Arc;
 impl PoolNode {
     /// A node that waits and has nothing recorded, with room for its best prices and for a crowd proof.
     ///
-    /// - Takes: what the splits above it forbid, the last one first; the prices with which it begins; by what it is
-    ///   chosen.
+    /// - Takes: what the splits above it forbid, the last one first; the prices with which it begins; the bound by which
+    ///   it is chosen while it has none of its own, in cost grains.
     /// - Errors: want of memory alone.
     pub fn new(
         limits: Items<Arc<Limit>>,
         first_prices: Prices,
-        above: Rank,
+        above: Option<i128>,
     ) -> Result<PoolNode, AllocError>
         ensures { IfOk result (λ node. node ≡ waiting_with (map arc_value limits) first_prices) }
     {

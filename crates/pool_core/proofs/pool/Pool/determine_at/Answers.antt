@@ -1,10 +1,9 @@
-use Rattle.std.proofs.Common.{◌≡◌, ◌<◌, length, rules, sym, ap, subst, ◌∙◌}
-use Rattle.std.specs.Prelude.{IfOk}
+use Rattle.std.proofs.Common.{◌≡◌, ◌<◌, length, Option, slice_get, rules, sym, ap, subst, ◌∙◌}
+use Rattle.std.specs.Prelude.{IfOk, IfSome}
 use Rattle.std.specs.Arc.{arc_value}
-use Rattle.plan_base.specs.declared.parts.Parts.{Parts}
 use Rattle.arc_restrict.specs.Rows.{forbids}
 use Rattle.pool_core.specs.contracts.pool.Pool.{the_view}
-use Rattle.pool_machine.specs.State.{State, restriction_of}
+use Rattle.pool_machine.specs.State.{Node, State, restriction_of}
 use Rattle.second_path.specs.Others.{IsDetermined}
 use Rattle.pool_core.specs.Examining.{IsReadyAt, IsDeterminedAt}
 use Rattle.pool_core.proofs.Examining.{ready-ground-within, ready-ground, ground-none, ground-some, determined-ok}
@@ -21,13 +20,21 @@ unreachable-requires c =
     let g = ready-ground (the_view c.self.inside) _ c.self.inside.grounds.items c.self.inside.places.items c.self.invariant.kept c.args.node (subst (λ (s : State). IsReadyAt s c.args.node) (sym c.self.view_is) c.requires) c.index-ground.result.now c.index-ground.ensures in
     ground-none _ c.rows.result c.index-ground.result.now g.0 c.rows.ensures g.1 c.in_default.is
 
+pub determined-requires : goal.determined-requires
+determined-requires c =
+    let at : IsReadyAt (the_view c.self.inside) c.args.node = (subst (λ (s : State). IsReadyAt s c.args.node) (sym c.self.view_is) c.requires) in
+    let g = ready-ground (the_view c.self.inside) _ c.self.inside.grounds.items c.self.inside.places.items c.self.invariant.kept c.args.node at c.index-ground.result.now c.index-ground.ensures in
+    let rows : arc_value c.in-Some.rows.now ≡ g.0 = ground-some _ c.rows.result c.index-ground.result.now g.0 c.in-Some.rows c.rows.ensures g.1 c.in-Some.is in
+    subst (λ (s : State). IfSome (slice_get s.nodes c.args.node.0) (λ (x : Node). forbids c.deref.result.now ≡ restriction_of x)) c.self.view_is
+    (subst (λ (o : Option Node). IfSome o (λ (x : Node). forbids c.deref.result.now ≡ restriction_of x)) (sym at.ready.open_node.is_node) (ap forbids (c.deref.ensures ∙ rows) ∙ g.2))
+
 pub returns : goal.returns
 returns c =
     let at : IsReadyAt (the_view c.self.inside) c.args.node = (subst (λ (s : State). IsReadyAt s c.args.node) (sym c.self.view_is) c.requires) in
-    let g = ready-ground (the_view c.self.inside) _ c.self.inside.grounds.items c.self.inside.places.items c.self.invariant.kept c.args.node (subst (λ (s : State). IsReadyAt s c.args.node) (sym c.self.view_is) c.requires) c.index-ground.result.now c.index-ground.ensures in
+    let g = ready-ground (the_view c.self.inside) _ c.self.inside.grounds.items c.self.inside.places.items c.self.invariant.kept c.args.node at c.index-ground.result.now c.index-ground.ensures in
     let rows : arc_value c.in-Some.rows.now ≡ g.0 = ground-some _ c.rows.result c.index-ground.result.now g.0 c.in-Some.rows c.rows.ensures g.1 c.in-Some.is in
-    let same : forbids c.deref-2.result.now ≡ restriction_of at.node = ap forbids (c.deref-2.ensures ∙ rows) ∙ g.2 in
-    let found : IfOk c.determine.result (IsDetermined (the_view c.self.inside).problem (forbids c.deref-2.result.now)) =
-    subst (λ (p : Parts). IfOk c.determine.result (IsDetermined p (forbids c.deref-2.result.now))) c.deref.ensures c.determine.ensures in
-    subst (λ (s : State). IfOk c.determine.result (IsDeterminedAt s c.args.node)) c.self.view_is
-    (determined-ok (the_view c.self.inside) c.args.node c.determine.result (forbids c.deref-2.result.now) c.self.invariant.kept.pool.reachable at same found)
+    let same : forbids c.deref.result.now ≡ restriction_of at.node = ap forbids (c.deref.ensures ∙ rows) ∙ g.2 in
+    let found : IfOk c.determined.result (IsDetermined (the_view c.self.inside).problem (forbids c.deref.result.now)) =
+    subst (λ (s : State). IfOk c.determined.result (IsDetermined s.problem (forbids c.deref.result.now))) (sym c.self.view_is) c.determined.ensures in
+    subst (λ (s : State). IfOk c.determined.result (IsDeterminedAt s c.args.node)) c.self.view_is
+    (determined-ok (the_view c.self.inside) c.args.node c.determined.result (forbids c.deref.result.now) c.self.invariant.kept.pool.reachable at same found)
