@@ -35,15 +35,16 @@ pub struct Bench<N: Naming> {
 impl<N: Naming> Bench<N> {
     /// A bench with nothing on it.
     ///
-    /// - Takes: the worker's number. Its searches for designs draw by it, so that workers with the same columns find
-    ///   different designs.
-    pub fn new(alloc: Global, worker: u32) -> Bench<N>
+    /// - Takes: the worker's number, and how many workers there are. The searches for designs are dealt out to them, and
+    ///   draw by the number, so that workers with the same columns find different designs.
+    pub fn new(alloc: Global, worker: u32, workers: u32) -> Bench<N>
+        requires { worker < workers }
         ensures { result.ground ≡ None }
     {
         Bench {
             alloc,
             ground: None,
-            guide: Guide::new(alloc, worker),
+            guide: Guide::new(alloc, worker, workers),
         }
     }
 
@@ -103,8 +104,20 @@ impl<N: Naming> Bench<N> {
         }))
     }
 
+    /// Whether a search for a design is due for this worker.
+    pub fn is_design_due(&mut self, told: &Told<N>) -> bool {
+        self.guide.designs().is_due(told.examined())
+    }
+
+    /// Lets the worker's later searches begin with this design, where it is cheaper than its own.
+    ///
+    /// - Errors: want of memory alone.
+    pub fn learn(&mut self, inst: &Instance, design: &Design) -> Result<(), AllocError> {
+        self.guide.designs().learn(inst, design)
+    }
+
     /// A design that a search finds, which begins with the least of the columns that a master step is told of, or with
-    /// the cheapest design of this worker so far.
+    /// the cheapest design that this worker knows.
     ///
     /// - Gives: None where no search of this worker is due, or there is no design to begin with.
     /// - Errors: want of memory alone.
@@ -118,17 +131,13 @@ impl<N: Naming> Bench<N> {
         requires table { table.now ≡ inst.now }
         ensures { IfOk result (λ found. IfSome found (IsGoodDesign inst.now)) }
     {
-        let examined = told.examined();
-        if !self.guide.designs().is_due(examined) {
-            return Ok(None);
-        }
         let paths = told.least_paths(self.alloc, inst)?;
         new_design(
             self.alloc,
             inst,
             table,
             &paths,
-            examined,
+            told.examined(),
             self.guide.designs(),
         )
     }

@@ -14,7 +14,7 @@ ghost use Rattle.pool_machine.specs.Closing.{CloseStep};
 ghost use Rattle.pool_machine.specs.Examining.{ExamineStep};
 ghost use Rattle.pool_machine.specs.Bettering.{BetterStep};
 ghost use Rattle.pool_machine.specs.Tasks.{IsLawfulTask, IsSearchState};
-ghost use Rattle.pool_core.specs.Views.{IsPublishedAt};
+ghost use Rattle.pool_core.specs.Views.{IsPublishedAt, design_of};
 ghost use Rattle.pool_hub.specs.States.{HasState, HasStep};
 ghost use Rattle.plan_io.specs.declared.gate.TheConstants.{MAX_WORKERS};
 
@@ -60,7 +60,11 @@ fn seats_of<N: Naming>(
     let mut seats = Vec::new(alloc);
     for number in 0..workers {
         let share = all.split_off(1, 0);
-        seats.push(Seat { number, share })?;
+        seats.push(Seat {
+            number,
+            workers,
+            share,
+        })?;
     }
     Ok(seats)
 }
@@ -76,11 +80,13 @@ fn merged<N: Naming>(mut seats: Vec<Seat<N>>) -> Share<N>
     };
     let Seat {
         number: _number,
+        workers: _workers,
         share: mut all,
     } = seat;
     while let Some(seat) = seats.pop() {
         let Seat {
             number: _number,
+            workers: _workers,
             share,
         } = seat;
         all.merge(share);
@@ -143,6 +149,21 @@ impl<N: Naming> Hub<N> {
     {
         let _seat = seat;
         self.kept.lock(rt).prices(slot)
+    }
+
+    /// A copy of the best design so far.
+    ///
+    /// - Errors: want of memory alone.
+    pub fn best_design<W: Wait>(
+        &self,
+        rt: &W,
+        seat: &mut Seat<N>,
+    ) -> Result<Option<Design>, AllocError>
+        ensures answer { IfOk result (λ found. HasState N.problem N.budget (λ s. found ≡ design_of s)) }
+        ensures seat { seat.new ≡ seat.old }
+    {
+        let _seat = seat;
+        self.kept.lock(rt).best_design()
     }
 
     /// What is forbidden at an open leaf, shared.

@@ -16,7 +16,7 @@ ghost use Rattle.pool_machine.specs.Examining.{ExamineStep};
 ghost use Rattle.pool_machine.specs.Bettering.{BetterStep};
 ghost use Rattle.pool_machine.specs.PlanOf.{is_done};
 ghost use Rattle.pool_machine.specs.Tasks.{IsLawfulTask, IsSearchState};
-ghost use Rattle.pool_core.specs.Views.{IsPublishedAt};
+ghost use Rattle.pool_core.specs.Views.{IsPublishedAt, design_of};
 
 use crate::naming::Naming;
 use arc_restrict::Restriction;
@@ -68,6 +68,15 @@ impl<N: Naming> Kept<N> {
     {
         self.look();
         self.pool.prices(slot)
+    }
+
+    /// A copy of the best design so far; None exactly where there is none.
+    pub fn best_design(&self) -> Result<Option<Design>, AllocError>
+        ensures search { IsSearchState N.problem N.budget self.now.pool }
+        ensures design { IfOk result (λ found. found ≡ design_of self.now.pool) }
+    {
+        self.look();
+        self.pool.best_design()
     }
 
     /// What is forbidden at an open leaf, shared; None exactly where the node is none.

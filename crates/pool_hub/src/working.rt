@@ -100,7 +100,8 @@ fn go_on<N: Naming, W: Wait>(
     }
 }
 
-/// Searches for a design, and hands it in.
+/// Searches for a design, where one is due, and hands it in. A search that begins with a design begins with the cheapest
+/// one of all workers.
 fn seek_design<N: Naming, W: Wait>(
     rt: &W,
     hub: &Hub<N>,
@@ -110,6 +111,12 @@ fn seek_design<N: Naming, W: Wait>(
 ) -> Result<(), AllocError>
     ensures { seat.new ≡ seat.old }
 {
+    if !bench.is_design_due(told) {
+        return Ok(());
+    }
+    if let Some(best) = hub.best_design(rt, seat)? {
+        bench.learn(&*hub.problem, &best)?;
+    }
     if let Some(design) = bench.design(&*hub.problem, &*hub.table, told)? {
         let _answer = hub.better(rt, seat, design);
     }
@@ -187,7 +194,7 @@ pub fn work<N: Naming, W: Wait, G: Gate>(
     ensures done { OnOk result (HasState N.problem N.budget (λ s. is_done s ≡ true)) }
     ensures number { seat.new.number ≡ seat.old.number }
 {
-    let mut bench = Bench::new(alloc, seat.number());
+    let mut bench = Bench::new(alloc, seat.number(), seat.workers());
     let mut turn: u64 = 0;
     for _ in rt.forever() {
         let task = hub.task(rt, seat);
