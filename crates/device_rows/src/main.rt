@@ -22,6 +22,8 @@ fn take_row<W: Write>(rt: &HostRuntime, row: &str, out: &mut W) -> Result<()> {
         "files" => reading::read_files(rt, rest, out),
         "sink" => writing::write_memory(rt.alloc(), rest, out),
         "stream" => writing::write_stream(rest, out),
+        "changing" => reading::read_changing(rt, rest, out),
+        "drip" => writing::write_drip(rest, out),
         "read-only" => writing::write_read_only(rt, rest, out),
         _ => bail!("no kind of row"),
     }

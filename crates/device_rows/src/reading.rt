@@ -1,8 +1,9 @@
 //! Shelves.
 
-use anyhow::{Context, Result};
+use anyhow::{Context, Result, bail};
 use plan_io::{FileShelf, MemShelf, Shelf, SureShelf, read_whole};
 use std::alloc::Global;
+use std::fs;
 use std::io::Write;
 
 /// The texts of the shelves in memory.
@@ -60,6 +61,40 @@ pub(crate) fn read_files<W: Write>(rt: &HostRuntime, rest: &str, out: &mut W) ->
     let (limit, names) = rest.split_once(' ').context("no limit")?;
     let mut shelf = FileShelf::new(rt);
     read_all(rt.alloc(), &mut shelf, limit.parse::<u32>()?, names, out)?;
+    write!(out, ", faults {}", shelf.faults())?;
+    Ok(())
+}
+
+/// The file that is written anew while it is read.
+const CHANGING: &str = "changing.txt";
+
+/// Reads at most four bytes, and writes them.
+fn read_piece<S: Shelf, W: Write>(shelf: &mut S, out: &mut W) -> Result<()> {
+    let mut piece = [0u8; 4];
+    match shelf.read(&mut piece) {
+        Ok(count) => {
+            let text = str::from_utf8(&piece[..count])?;
+            write!(out, " {text:?}")?;
+        }
+        Err(fault) => write!(out, " {fault:?}")?,
+    }
+    Ok(())
+}
+
+/// Reads a file of the first text, which has the second one from the second read on, and writes each piece, and how often
+/// that failed.
+pub(crate) fn read_changing<W: Write>(rt: &HostRuntime, rest: &str, out: &mut W) -> Result<()> {
+    let (first, second) = rest.split_once(' ').context("no second text")?;
+    fs::write(rt, CHANGING, first)?;
+    let mut shelf = FileShelf::new(rt);
+    if shelf.begin(CHANGING).is_err() {
+        bail!("the file is not there")
+    }
+    read_piece(&mut shelf, out)?;
+    fs::write(rt, CHANGING, second)?;
+    for _ in 0..3 {
+        read_piece(&mut shelf, out)?;
+    }
     write!(out, ", faults {}", shelf.faults())?;
     Ok(())
 }
