@@ -1,0 +1,5 @@
+use Rattle.pool_machine.proofs.Runs.{Step-sound}
+use Rattle.plain_laws.proofs.searches.each_step.Goals as goal
+
+pub returns : goal.returns
+returns c = Step-sound
