@@ -31,14 +31,14 @@ AreLoads p paths laid loads = (e : ℕ) → e < MAX_LINKS → slice_index loads 
 pub record IsRouting (p : Parts) (r : Routing) : Type 0 where
   pub paths : ArePaths p r.paths.items
   pub marks : length r.laid.items ≡ length p.demands
-  pub loads : AreLoads p r.paths.items r.laid.items r.loads
+  pub loads : AreLoads p r.paths.items r.laid.items r.loads.value
   pub weights : AreWeights p r.weights.items
 
 -- the paths, the marks and the loads are the same
 pub record HasSameRoutes (r s : Routing) : Type 0 where
   pub paths : r.paths ≡ s.paths
   pub laid : r.laid ≡ s.laid
-  pub loads : r.loads ≡ s.loads
+  pub loads : r.loads.value ≡ s.loads.value
 
 -- a path of the demand that raises the step costs by so much where its load comes to what the links carry, and none raises them by less
 pub record IsCheapestWay (p : Parts) (loads : List ℕ) (k : Demand) (arcs : List ArcId) (rise : ℕ) : Type 0 where

@@ -24,8 +24,8 @@ pub struct Routing {
     pub paths: Vec<Path>,
     /// For each demand whether its load is on the links of its path.
     pub laid: Vec<bool>,
-    /// For each link, in load grains.
-    pub loads: [u128; MAX_LINKS],
+    /// For each link, in load grains. They lie apart from the rest, so that a search takes little of the stack.
+    pub loads: Box<[u128; MAX_LINKS]>,
     /// The sum of the step costs, in cost grains.
     pub cost: u128,
     /// How many least paths were searched for.
@@ -48,7 +48,7 @@ impl Routing {
         Ok(Routing {
             paths,
             laid: vec![in alloc; false; inst.demands() as usize]?,
-            loads: [0; MAX_LINKS],
+            loads: Box::new(alloc, [0; MAX_LINKS])?,
             cost: 0,
             searches: 0,
             weights: no_weights(alloc, inst)?,
@@ -97,8 +97,8 @@ impl Routing {
         ensures off { is_marked self.new.laid.items demand.0 ≡ false }
         ensures searches { self.new.searches ≡ self.old.searches }
         ensures cost { self.new.cost ≡ self.old.cost - unwrap_or result 0 }
-        ensures fall { IfSome result (λ fall. AreRises inst.now self.new.loads (demand_at inst.now demand.0).load (path_at (with_paths self.old.paths.items) demand.0) u128.MAX fall) }
-        ensures none { is_marked self.old.laid.items demand.0 ≡ true → IfNone result (HasTooMuch inst.now self.new.loads (demand_at inst.now demand.0).load (path_at (with_paths self.old.paths.items) demand.0)) }
+        ensures fall { IfSome result (λ fall. AreRises inst.now self.new.loads.value (demand_at inst.now demand.0).load (path_at (with_paths self.old.paths.items) demand.0) u128.MAX fall) }
+        ensures none { is_marked self.old.laid.items demand.0 ≡ true → IfNone result (HasTooMuch inst.now self.new.loads.value (demand_at inst.now demand.0).load (path_at (with_paths self.old.paths.items) demand.0)) }
     {
         let _demands = inst.demands();
         let place = demand.0 as usize;
@@ -129,8 +129,8 @@ impl Routing {
         ensures searches { self.new.searches ≡ min (self.old.searches + 1) (2 ^ 32 - 1) }
         ensures no_fewer { self.old.searches ≤ self.new.searches }
         ensures cost { self.new.cost ≡ self.old.cost }
-        ensures cheapest { IfOk result (λ found. IfSome found (IsCheapestWay inst.now self.new.loads (demand_at inst.now demand.0) self.new.room)) }
-        ensures none { IfOk result (λ found. IfNone found (HasNoWay inst.now self.new.loads (demand_at inst.now demand.0))) }
+        ensures cheapest { IfOk result (λ found. IfSome found (IsCheapestWay inst.now self.new.loads.value (demand_at inst.now demand.0) self.new.room)) }
+        ensures none { IfOk result (λ found. IfNone found (HasNoWay inst.now self.new.loads.value (demand_at inst.now demand.0))) }
     {
         let demand = inst.demand(demand);
         weigh(inst, table, &self.loads, demand.load, &mut self.weights);
@@ -154,8 +154,8 @@ impl Routing {
         ensures same { HasSameRoutes self.old self.new }
         ensures searches { self.new.searches ≡ min (self.old.searches + 1) (2 ^ 32 - 1) }
         ensures cost { self.new.cost ≡ self.old.cost }
-        ensures least { IfOk result (λ found. IfSome found (IsLeastWay inst.now self.new.loads (demand_at inst.now demand.0) far self.new.room)) }
-        ensures none { IfOk result (λ found. IfNone found (HasNoFarWay inst.now self.new.loads (demand_at inst.now demand.0) far)) }
+        ensures least { IfOk result (λ found. IfSome found (IsLeastWay inst.now self.new.loads.value (demand_at inst.now demand.0) far self.new.room)) }
+        ensures none { IfOk result (λ found. IfNone found (HasNoFarWay inst.now self.new.loads.value (demand_at inst.now demand.0) far)) }
     {
         let demand = inst.demand(demand);
         weigh_far(
@@ -179,7 +179,7 @@ impl Routing {
         requires simple { IsSimplePath inst.now (demand_at inst.now demand.0) self.old.room }
         ensures routing { IsRouting inst.now self.new }
         ensures laid { self.new.laid ≡ self.old.laid }
-        ensures loads { self.new.loads ≡ self.old.loads }
+        ensures loads { self.new.loads.value ≡ self.old.loads.value }
         ensures searches { self.new.searches ≡ self.old.searches }
         ensures cost { self.new.cost ≡ self.old.cost }
         ensures path { path_at (with_paths self.new.paths.items) demand.0 ≡ self.old.room }
@@ -207,8 +207,8 @@ impl Routing {
         ensures one_more { self.new.searches ≤ self.old.searches + 1 }
         ensures searches { IfNone own (self.new.searches ≡ min (self.old.searches + 1) (2 ^ 32 - 1)) }
         ensures kept { IfOk result (λ taken. IsFalse taken → self.new.paths ≡ self.old.paths) }
-        ensures cheaper { IfOk result (λ taken. IsTrue taken → IsCheaperWay inst.now self.new.loads (demand_at inst.now demand.0) own (path_at (with_paths self.new.paths.items) demand.0)) }
-        ensures none { IfOk result (λ taken. IsFalse taken → IfNone own (HasNoWay inst.now self.new.loads (demand_at inst.now demand.0))) }
+        ensures cheaper { IfOk result (λ taken. IsTrue taken → IsCheaperWay inst.now self.new.loads.value (demand_at inst.now demand.0) own (path_at (with_paths self.new.paths.items) demand.0)) }
+        ensures none { IfOk result (λ taken. IsFalse taken → IfNone own (HasNoWay inst.now self.new.loads.value (demand_at inst.now demand.0))) }
     {
         if let Some(0) = own {
             return Ok(false);

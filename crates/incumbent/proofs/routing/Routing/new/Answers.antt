@@ -12,6 +12,8 @@ returns-clause-routing c =
     record {
       paths = c.requires;
       marks = omega (arith, c.in_ok-vec.ensures.len, c.demands.ensures.value);
-      loads = subst (λ (laid : List Bool). AreLoads p c.args.paths.items laid (replicate MAX_LINKS 0)) (sym items) (loads-none p c.args.paths.items c.demands.result (replicate MAX_LINKS 0) c.demands.ensures.value (λ e below. get_or-replicate MAX_LINKS e 0 0 below));
+      loads =
+          subst (AreLoads p c.args.paths.items c.in_ok-vec.field-0.items) (sym c.in_ok-new.ensures.ok)
+          (subst (λ (laid : List Bool). AreLoads p c.args.paths.items laid (replicate MAX_LINKS 0)) (sym items) (loads-none p c.args.paths.items c.demands.result (replicate MAX_LINKS 0) c.demands.ensures.value (λ e below. get_or-replicate MAX_LINKS e 0 0 below)));
       weights = c.in_ok-no_weights.ensures;
     }

@@ -13,7 +13,7 @@ put_on-requires-clause-routing c =
     let path = c.args.path.now in
     let are = c.take_off-fall.ensures.routing in
     let laid = c.take_off-fall.new.self.laid.items in
-    let loads = c.take_off-fall.new.self.loads in
+    let loads = c.take_off-fall.new.self.loads.value in
     let set = c.in_ok-set_path.ensures in
     record {
       paths = subst (ArePaths p) (sym set) (paths_set p c.take_off-fall.new.self.paths.items k path c.requires.demand are.paths c.requires.path);

@@ -1,11 +1,11 @@
-use Rattle.std.proofs.Common.{◌≡◌, ◌∙◌, ◌<◌, true, false, [], length, sym, ap, arith}
+use Rattle.std.proofs.Common.{◌≡◌, ◌∙◌, ◌<◌, true, false, [], length, subst, sym, ap, arith}
 use Rattle.std.proofs.Math.ListN.{length-set}
 use Rattle.std.proofs.lemmas.List.{get_or_default}
 use Rattle.plan_base.specs.declared.parts.Demand.{Demand}
 use Rattle.plan_base.specs.Arcs.{demand_at}
 use Rattle.plan_base.specs.Designs.{path_at}
 use Rattle.completions.specs.Completions.{with_paths}
-use Rattle.incumbent.specs.Routings.{is_marked}
+use Rattle.incumbent.specs.Routings.{is_marked, AreLoads}
 use Rattle.incumbent.proofs.RoutingLaws.{loads-off}
 use Rattle.incumbent.proofs.routing.Routing.take_off.Goals as goal
 
@@ -21,9 +21,10 @@ returns-clause-routing c =
     let has_path : k < length paths = omega (arith, c.requires.demand, are.paths.count) in
     let path : c.as_slice-arcs.result.now ≡ path_at (with_paths paths) k = c.as_slice-arcs.ensures.value ∙ c.index-2.ensures ∙ get_or_default paths k c.index-2.result.now [] has_path in
     let on : is_marked laid k ≡ true = get_or_default laid k false c.index.result.now marked ∙ sym c.index.ensures ∙ c.if-not-index.false in
+    let loads : AreLoads p paths laid c.deref_mut.result.now = subst (AreLoads p paths laid) (sym c.deref_mut.ensures.value) are.loads in
     record {
       paths = are.paths;
       marks = length-set laid k false ∙ are.marks;
-      loads = loads-off p paths laid c.args.self.now.loads c.remove_load.new.loads k c.demand.result.now.load c.as_slice-arcs.result.now c.demands-demands.ensures.lawful are.paths c.requires.demand are.marks load path are.loads on c.remove_load.ensures;
+      loads = loads-off p paths laid c.deref_mut.result.now c.remove_load.new.loads k c.demand.result.now.load c.as_slice-arcs.result.now c.demands-demands.ensures.lawful are.paths c.requires.demand are.marks load path loads on c.remove_load.ensures;
       weights = are.weights;
     }
