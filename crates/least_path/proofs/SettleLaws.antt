@@ -173,11 +173,11 @@ open_count-at_most (x ∷ ls) =
     let more : open_count (x ∷ ls) ≡ (0 + open_one x) + open_count ls = sum_by-append open_one (x ∷ []) ls in
     omega (arith, more, open_one-at_most x, open_count-at_most ls)
 
-record IsFirst (s w : ℕ) (m : Label) : Type 0 where
-  here : w ≡ s
-  same : first_label_of ≡ m
+pub record IsFirst (s w : ℕ) (m : Label) : Type 0 where
+  pub here : w ≡ s
+  pub same : first_label_of ≡ m
 
-first-only : (n s w : ℕ) (m : Label) → s < n → label_at (first_labels_of n s) w ≡ Some m → IsFirst s w m
+pub first-only : (n s w : ℕ) (m : Label) → s < n → label_at (first_labels_of n s) w ≡ Some m → IsFirst s w m
 first-only n s w m within at = elim (new_or_old (replicate n None) s first_label_of w m (omega (arith, length-replicate {A = Option Label} n None)) at) [
   | inl is ↦ record { here = is.here; same = is.same }
   | inr is ↦ absurd (none-replicated n w m is.is)

@@ -1,3 +1,4 @@
 pub mod Paths
 pub mod Labels
+pub mod Waits
 pub mod Trees

@@ -64,7 +64,7 @@ pub fn nearest(labels: &[Option<Label>]) -> Option<Stop>
 }
 
 /// Whether the label is shorter than what is known.
-fn is_better(label: &Label, known: Option<Label>) -> bool
+pub fn is_better(label: &Label, known: Option<Label>) -> bool
     ensures { result ≡ is_better label.now known }
 {
     match known {

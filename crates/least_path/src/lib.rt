@@ -9,9 +9,11 @@
 mod answer;
 mod label;
 pub mod limits;
+mod queue;
 mod room;
 mod spread;
 mod tree;
+mod walk;
 mod way;
 mod weights;
 
@@ -19,4 +21,5 @@ pub use answer::Search;
 pub use room::Room;
 pub use spread::search;
 pub use tree::Tree;
+pub use walk::search_slow;
 pub use weights::are_weights;

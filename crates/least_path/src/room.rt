@@ -4,7 +4,8 @@ ghost use Rattle.std.specs.Prelude.{◌≡◌, ◌<◌, [], IfOk, IfSome, IfNone
 ghost use Rattle.least_path.specs.Paths.{AreWeights, IsLeastPath, HasNoUsablePath};
 
 use crate::label::Label;
-use crate::spread::{Query, set_first};
+use crate::queue::Queue;
+use crate::spread::{Query, begin, most_waits};
 use plan_base::{Instance, NodeId, Path};
 use std::alloc::{AllocError, Global};
 use std::marker::Model;
@@ -14,6 +15,7 @@ use std::mem;
 #[derive(Debug, Drop)]
 pub struct Room {
     labels: Vec<Option<Label>>,
+    queue: Queue,
     path: Path,
 }
 
@@ -36,6 +38,7 @@ impl Room {
         let nodes = inst.nodes() as usize;
         Ok(Room {
             labels: Vec::with_capacity(alloc, nodes)?,
+            queue: Queue::with_room(alloc, most_waits(inst))?,
             path: Path::from_vec(Vec::with_capacity(alloc, nodes)?),
         })
     }
@@ -69,8 +72,9 @@ impl Room {
             source,
             target,
         };
-        set_first(&mut self.labels, inst.nodes(), source)?;
-        let Some(last) = query.go_out(&mut self.labels) else {
+        begin(&mut self.labels, &mut self.queue, inst.nodes(), source)?;
+        let found = query.go_out(&mut self.labels, &mut self.queue)?;
+        let Some(last) = found else {
             return Ok(None);
         };
         let empty = Path::from_vec(Vec::new(*self.labels.allocator()));

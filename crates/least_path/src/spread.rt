@@ -1,12 +1,14 @@
-//! The search: nodes are settled in the order of their lengths.
+//! The search: nodes are settled in the order of their lengths, which a heap of those that wait tells.
 
-ghost use Rattle.std.specs.Prelude.{◌≡◌, ◌≢◌, ◌<◌, ◌≤◌, [], length, IfOk, OnOk, IfNone, IfSome};
+ghost use Rattle.std.specs.Prelude.{◌≡◌, ◌≢◌, ◌<◌, ◌≤◌, [], length, IfOk, OnOk, IfNone, IfSome, OnSome, Option};
 ghost use Rattle.plan_base.specs.Facts.{IsInstance};
 ghost use Rattle.least_path.specs.Paths.{AreWeights, IsFound};
 ghost use Rattle.least_path.specs.Labels.{IsSearch, IsNearest, IsSpread, HasNoOpen, open_count, first_label_of, first_labels_of};
+ghost use Rattle.least_path.specs.Waits.{AllWait, OthersWait};
 
 use crate::answer::Search;
-use crate::label::{Label, Stop, nearest, offer};
+use crate::label::{Label, Stop};
+use crate::queue::{Queue, next, offer};
 use crate::way::reached_nodes;
 use plan_base::{ArcId, Instance, NodeId};
 use std::alloc::{AllocError, Global};
@@ -23,12 +25,19 @@ pub struct Query<'a> {
 
 impl Query<'_> {
     /// Offers the way through a settled node to each node that a usable arc leads to.
-    fn relax(&self, labels: &mut Vec<Option<Label>>, here: &Stop)
+    fn relax(
+        &self,
+        labels: &mut Vec<Option<Label>>,
+        queue: &mut Queue,
+        here: &Stop,
+    ) -> Result<(), AllocError>
         requires lawful { IsInstance self.now.inst.now }
         requires weights { AreWeights self.now.inst.now self.now.weights.now }
         requires start { IsSpread self.now.inst.now self.now.weights.now self.now.source self.now.target labels.old.items here.now [] 0 }
-        ensures search { IsSearch self.now.inst.now self.now.weights.now self.now.source self.now.target labels.new.items }
-        ensures open { open_count labels.new.items ≡ open_count labels.old.items }
+        requires waits { AllWait labels.old.items queue.old }
+        ensures search { OnOk result (IsSearch self.now.inst.now self.now.weights.now self.now.source self.now.target labels.new.items) }
+        ensures open { OnOk result (open_count labels.new.items ≡ open_count labels.old.items) }
+        ensures waits { OnOk result (AllWait labels.new.items queue.new) }
     {
         for arc in self.inst.leaving(here.node) {
             if let Some(weight) = self.weights[arc.0 as usize] {
@@ -38,20 +47,28 @@ impl Query<'_> {
                     via: *arc,
                     settled: false,
                 };
-                offer(labels, self.inst.head(*arc), label);
+                offer(labels, queue, self.inst.head(*arc), label)?;
             }
         }
+        Ok(())
     }
 
     /// Settles the nearest node.
-    fn settle(&self, labels: &mut Vec<Option<Label>>, here: &Stop)
+    fn settle(
+        &self,
+        labels: &mut Vec<Option<Label>>,
+        queue: &mut Queue,
+        here: &Stop,
+    ) -> Result<(), AllocError>
         requires lawful { IsInstance self.now.inst.now }
         requires weights { AreWeights self.now.inst.now self.now.weights.now }
         requires search { IsSearch self.now.inst.now self.now.weights.now self.now.source self.now.target labels.old.items }
         requires nearest { IsNearest labels.old.items here.now }
         requires other { here.now.node.0 ≢ self.now.target.0 }
-        ensures search { IsSearch self.now.inst.now self.now.weights.now self.now.source self.now.target labels.new.items }
-        ensures fewer { open_count labels.new.items < open_count labels.old.items }
+        requires wait { OthersWait labels.old.items queue.old here.now.node.0 }
+        ensures search { OnOk result (IsSearch self.now.inst.now self.now.weights.now self.now.source self.now.target labels.new.items) }
+        ensures fewer { OnOk result (open_count labels.new.items < open_count labels.old.items) }
+        ensures waits { OnOk result (AllWait labels.new.items queue.new) }
     {
         let settled = Stop {
             node: here.node,
@@ -61,26 +78,55 @@ impl Query<'_> {
             },
         };
         labels[here.node.0 as usize] = Some(settled.label);
-        self.relax(labels, &settled);
+        self.relax(labels, queue, &settled)?;
+        Ok(())
     }
 
     /// Settles one node after the other, until the target is the nearest one; None where no node is left before it is.
-    pub fn go_out(&self, labels: &mut Vec<Option<Label>>) -> Option<Stop>
+    pub fn go_out(
+        &self,
+        labels: &mut Vec<Option<Label>>,
+        queue: &mut Queue,
+    ) -> Result<Option<Stop>, AllocError>
         requires lawful { IsInstance self.now.inst.now }
         requires weights { AreWeights self.now.inst.now self.now.weights.now }
         requires search { IsSearch self.now.inst.now self.now.weights.now self.now.source self.now.target labels.old.items }
-        ensures search { IsSearch self.now.inst.now self.now.weights.now self.now.source self.now.target labels.new.items }
-        ensures nearest { IfSome result (IsNearest labels.new.items) }
-        ensures at_target { IfSome result (λ last. last.node.0 ≡ self.now.target.0) }
-        ensures none { IfNone result (HasNoOpen labels.new.items) }
+        requires waits { AllWait labels.old.items queue.old }
+        ensures search { OnOk result (IsSearch self.now.inst.now self.now.weights.now self.now.source self.now.target labels.new.items) }
+        ensures nearest { IfOk result (λ found. IfSome found (IsNearest labels.new.items)) }
+        ensures at_target { IfOk result (λ found. IfSome found (λ last. last.node.0 ≡ self.now.target.0)) }
+        ensures none { IfOk result (λ found. IfNone found (HasNoOpen labels.new.items)) }
     {
-        while let Some(here) = nearest(labels) {
+        while let Some(here) = next(labels, queue) {
             if here.node == self.target {
-                return Some(here);
+                return Ok(Some(here));
             }
-            self.settle(labels, &here);
+            self.settle(labels, queue, &here)?;
         }
-        None
+        Ok(None)
+    }
+
+    /// The answer, where the target is the nearest node, or no node is left.
+    pub fn told(
+        &self,
+        alloc: Global,
+        labels: &[Option<Label>],
+        found: Option<Stop>,
+    ) -> Result<Search, AllocError>
+        requires lawful { IsInstance self.now.inst.now }
+        requires target { self.now.target.0 < self.now.inst.now.nodes }
+        requires search { IsSearch self.now.inst.now self.now.weights.now self.now.source self.now.target labels.now }
+        requires nearest { IfSome found (IsNearest labels.now) }
+        requires at_target { IfSome found (λ last. last.node.0 ≡ self.now.target.0) }
+        requires none { IfNone found (HasNoOpen labels.now) }
+        ensures { IfOk result (IsFound self.now.inst.now self.now.weights.now self.now.source self.now.target) }
+    {
+        match found {
+            Some(last) => self.path_found(alloc, labels, &last),
+            None => Ok(Search::NoPath {
+                reached: reached_nodes(alloc, labels)?,
+            }),
+        }
     }
 
     /// The answer.
@@ -91,14 +137,17 @@ impl Query<'_> {
         requires target { self.now.target.0 < self.now.inst.now.nodes }
         ensures { IfOk result (IsFound self.now.inst.now self.now.weights.now self.now.source self.now.target) }
     {
-        let mut labels = first_labels(alloc, self.inst.nodes(), self.source)?;
-        match self.go_out(&mut labels) {
-            Some(last) => self.path_found(alloc, &labels, &last),
-            None => Ok(Search::NoPath {
-                reached: reached_nodes(alloc, &labels)?,
-            }),
-        }
+        let mut labels = Vec::new(alloc);
+        let mut queue = Queue::with_room(alloc, most_waits(self.inst))?;
+        begin(&mut labels, &mut queue, self.inst.nodes(), self.source)?;
+        let found = self.go_out(&mut labels, &mut queue)?;
+        self.told(alloc, &labels, found)
     }
+}
+
+/// How many nodes wait at most: the source, and one for each arc.
+pub fn most_waits(inst: &Instance) -> usize {
+    2 * inst.links() as usize + 1
 }
 
 /// The label of the source.
@@ -142,6 +191,23 @@ pub fn first_labels(
     Ok(labels)
 }
 
+/// Sets labels and queue to those before the first node is settled: the source alone is reached, and waits.
+pub fn begin(
+    labels: &mut Vec<Option<Label>>,
+    queue: &mut Queue,
+    nodes: u32,
+    source: NodeId,
+) -> Result<(), AllocError>
+    requires { source.0 < nodes }
+    ensures labels { OnOk result (labels.new.items ≡ first_labels_of nodes source.0) }
+    ensures waits { OnOk result (AllWait labels.new.items queue.new) }
+{
+    set_first(labels, nodes, source)?;
+    queue.clear();
+    queue.push(0, source)?;
+    Ok(())
+}
+
 /// A path of least weight from the source to the target, or the nodes that are reached.
 ///
 /// - Takes: for each arc number, twice the count of links, the weight of that arc; none where the arc
@@ -150,7 +216,7 @@ pub fn first_labels(
 ///   reached, exactly where usable arcs do not lead to the target.
 /// - Errors: want of memory alone.
 /// - Rule: docs/METHOD.md, "Least paths".
-/// - Time: the square of the count of nodes, and linear in arcs.
+/// - Time: the count of arcs times the logarithm of that count, at most, and linear in nodes.
 pub fn search(
     alloc: Global,
     inst: &Instance,

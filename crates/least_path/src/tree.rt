@@ -10,7 +10,8 @@ ghost use Rattle.least_path.specs.Labels.{label_at};
 ghost use Rattle.least_path.specs.Trees.{IsTree, length_of_label, length_at, label_before, AreLengths, RiseAlong};
 
 use crate::label::Label;
-use crate::spread::{Query, first_labels};
+use crate::queue::Queue;
+use crate::spread::{Query, begin, most_waits};
 use crate::way::potentials;
 use plan_base::{Instance, Items, NodeId, Path};
 use std::alloc::{AllocError, Global};
@@ -81,8 +82,10 @@ impl Tree {
             source,
             target: outside,
         };
-        let mut labels = first_labels(alloc, outside.0, source)?;
-        let _last = query.go_out(&mut labels);
+        let mut labels = Vec::new(alloc);
+        let mut queue = Queue::with_room(alloc, most_waits(inst))?;
+        begin(&mut labels, &mut queue, outside.0, source)?;
+        let _last = query.go_out(&mut labels, &mut queue)?;
         Ok(Tree { labels })
     }
 

@@ -9,7 +9,7 @@ ghost use Rattle.path_pricing.specs.Weights.{open_price, weights_below, priced_o
 use crate::priced::Priced;
 use crate::query::Query;
 use arc_restrict::Restriction;
-use least_path::{Search, search};
+use least_path::{Search, search, search_slow};
 use plan_base::{ArcId, DemandId, Instance, Prices};
 use std::alloc::{AllocError, Global};
 
@@ -68,7 +68,7 @@ fn priced(found: Search) -> Priced
 ///   set of nodes that permitted arcs reach from the demand's source. `check_priced` accepts either.
 /// - Errors: want of memory alone.
 /// - Rule: docs/METHOD.md, "Least prices".
-/// - Time: the square of the count of nodes, and linear in links.
+/// - Time: links times the logarithm of their count, at most, and linear in nodes.
 #[tactic(auto, using(crate::proofs::FoundLaws::found_laws))]
 pub fn price(
     alloc: Global,
@@ -92,5 +92,36 @@ pub fn price(
     let weights = query.weights(alloc)?;
     let asked = inst.demand(demand);
     let found = search(alloc, inst, &weights, asked.source, asked.target)?;
+    Ok(priced(found))
+}
+
+/// The same as `price`, found by a walk over all nodes for each one that is settled.
+///
+/// - Errors: want of memory alone.
+/// - Rule: docs/METHOD.md, "Least prices".
+/// - Time: the square of the count of nodes, and linear in links.
+#[tactic(auto, using(crate::proofs::FoundLaws::found_laws))]
+pub fn price_slow(
+    alloc: Global,
+    inst: &Instance,
+    prices: &Prices,
+    demand: DemandId,
+    restriction: &Restriction,
+) -> Result<Priced, AllocError>
+    requires prices { ArePrices inst.now prices.now }
+    requires demand { demand.0 < length inst.now.demands }
+    ensures least { IfOk result (IsPriced inst.now prices.now demand.0 (forbids restriction.now)) }
+    ensures shown { IfOk result (IsShown inst.now prices.now demand.0 (forbids restriction.now)) }
+    ensures accepted { IfOk result (λ found. priced_fault inst.now prices.now demand.0 (forbids restriction.now) found ≡ None) }
+{
+    let query = Query {
+        inst,
+        prices,
+        demand,
+        restriction,
+    };
+    let weights = query.weights(alloc)?;
+    let asked = inst.demand(demand);
+    let found = search_slow(alloc, inst, &weights, asked.source, asked.target)?;
     Ok(priced(found))
 }

@@ -1,7 +1,8 @@
-use Rattle.std.proofs.Common.{subst, sym, ap, ◌∙◌, List, ℕ, map}
+use Rattle.std.proofs.Common.{◌≡◌, subst, sym, ap, ◌∙◌, List, ℕ, map, Option, IfSome, IfNone}
 use Rattle.plan_base.specs.declared.ids.ArcId.{ArcId}
 use Rattle.least_path.specs.Paths.{IsLeastPath}
-use Rattle.least_path.specs.Labels.{Labels, IsSearch, is_labelled, way, first_labels_of}
+use Rattle.least_path.specs.declared.label.Stop.{Stop}
+use Rattle.least_path.specs.Labels.{Labels, IsSearch, IsNearest, HasNoOpen, is_labelled, way, first_labels_of}
 use Rattle.least_path.proofs.SettleLaws.{first-search}
 use Rattle.least_path.proofs.FoundLaws.{reached-closed, closed-no_path, found-path}
 use Rattle.least_path.proofs.room.Room.search.Goals as goal
@@ -10,7 +11,7 @@ pub go_out-requires-clause-search : goal.go_out-requires-clause-search
 go_out-requires-clause-search c =
     let p = c.args.inst.now in
     subst (λ (x : Labels). IsSearch p c.args.weights.now c.args.source c.args.target x)
-    (sym (c.in_ok-set_first.ensures ∙ ap (λ (n : ℕ). first_labels_of n c.args.source.0) c.nodes.ensures.value))
+    (sym (c.in_ok-begin.ensures.labels ∙ ap (λ (n : ℕ). first_labels_of n c.args.source.0) c.nodes.ensures.value))
     (first-search p c.args.weights.now c.args.source c.args.target c.requires.source)
 
 pub returns-in_default-clause-none : goal.returns-in_default-clause-none
@@ -18,7 +19,8 @@ returns-in_default-clause-none c =
     let p = c.args.inst.now in
     let ws = c.args.weights.now in
     let ls = c.go_out.new.labels.items in
-    closed-no_path p ws c.args.source c.args.target (map is_labelled ls) (reached-closed p ws c.args.source c.args.target ls c.requires.target c.in_default.ensures.search c.in_default.ensures.none)
+    let none : HasNoOpen ls = subst (λ (found : Option Stop). IfNone found (HasNoOpen ls)) c.in_default.is c.in_ok-found.ensures.none in
+    closed-no_path p ws c.args.source c.args.target (map is_labelled ls) (reached-closed p ws c.args.source c.args.target ls c.requires.target c.in_ok-found.ensures.search none)
 
 pub returns-clause-path : goal.returns-clause-path
 returns-clause-path c =
@@ -28,5 +30,7 @@ returns-clause-path c =
     let t = c.args.target in
     let stop = c.in-Some.last in
     let ls = c.go_out.new.labels.items in
+    let near = subst (λ (found : Option Stop). IfSome found (IsNearest ls)) c.in-Some.is c.in_ok-found.ensures.nearest in
+    let at_target = subst (λ (found : Option Stop). IfSome found (λ last. last.node.0 ≡ t.0)) c.in-Some.is c.in_ok-found.ensures.at_target in
     subst (λ (arcs : List ArcId). IsLeastPath p ws s t arcs stop.label.length) (sym (c.in_ok-self-inside.ensures ∙ ap (λ (x : Labels). way p x stop.label.steps stop.label) c.deref.ensures.value))
-    (found-path p ws s t ls stop c.links.ensures.lawful c.in-Some.ensures.search c.in-Some.ensures.nearest c.in-Some.ensures.at_target)
+    (found-path p ws s t ls stop c.links.ensures.lawful c.in_ok-found.ensures.search near at_target)

@@ -7,7 +7,7 @@ use Rattle.least_path.specs.Paths.{weight_at}
 use Rattle.least_path.specs.Labels.{Labels, IsSpread, open_count, offered}
 use Rattle.least_path.proofs.OfferLaws.{GoesOn, spread-offered, count-offered, spread-same, spread-next, length-fits}
 use Rattle.least_path.proofs.spread.Query.relax.Goals as goal
-use Rattle.least_path.proofs.spread.Query.relax.Goals.{in-Some, in_default}
+use Rattle.least_path.proofs.spread.Query.relax.Goals.{in-Some+in_ok-offer, in_default}
 
 pub overflow_add-label : goal.overflow_add-label
 overflow_add-label c =
@@ -32,7 +32,7 @@ loop-arc-preserved c =
     let leaving = c.leaving-arc-items.ensures.value in
     let within : i < length arcs = omega arith in
     elim c.match-self-arc.branch [
-      | in-Some w ↦
+      | in-Some+in_ok-offer w ↦
           let weight : weight_at ws a ≡ w.in-Some.weight = ap (λ (x : Option ℕ). unwrap_or x 0) w.in-Some.is in
           let l : Label = record { length = stop.label.length + w.in-Some.weight; steps = stop.label.steps + 1; via = a; settled = false } in
           let head : w.head.result ≡ head_of p a = w.head.ensures.value in
@@ -45,15 +45,17 @@ loop-arc-preserved c =
             via = refl;
             settled = refl;
           } in
-          let items : c.match-self-arc.labels.items ≡ offered ls (head_of p a).0 l = ap (λ (v : Vec (Option Label) Global). v.items) w.labels-is ∙ w.offer.ensures ∙ ap (λ (v : NodeId). offered ls v.0 l) head in
+          let items : c.match-self-arc.labels.items ≡ offered ls (head_of p a).0 l = ap (λ (v : Vec (Option Label) Global). v.items) w.labels-is ∙ w.in_ok-offer.ensures.labels ∙ ap (λ (v : NodeId). offered ls v.0 l) head in
           record {
             spread = subst (λ (x : Labels). IsSpread p ws s t x stop arcs (i + 1)) (sym items) (spread-next p ws s t (offered ls (head_of p a).0 l) stop arcs i (spread-offered p ws s t ls stop arcs i a l c.requires.weights refl c.loop-arc.invariant.spread on));
             open_same = ap open_count items ∙ count-offered p ws s t ls stop arcs i a l c.loop-arc.invariant.spread on ∙ c.loop-arc.invariant.open_same;
+            waits = rw (w.labels-is, w.queue-is) w.in_ok-offer.ensures.waits;
           }
       | in_default w ↦
           let items : c.match-self-arc.labels.items ≡ ls = ap (λ (v : Vec (Option Label) Global). v.items) w.labels-is in
           record {
             spread = subst (λ (x : Labels). IsSpread p ws s t x stop arcs (i + 1)) (sym items) (spread-next p ws s t ls stop arcs i (spread-same p ws s t ls stop arcs i c.loop-arc.invariant.spread (λ usable. absurd (let bad : false ≡ true = subst (λ (x : Option ℕ). IsSome x) w.in_default.is usable.weighted in cc))));
             open_same = ap open_count items ∙ c.loop-arc.invariant.open_same;
+            waits = rw (w.labels-is, w.queue-is) c.loop-arc.invariant.waits;
           }
     ]

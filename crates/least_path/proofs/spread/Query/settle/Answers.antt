@@ -1,9 +1,13 @@
 use Rattle.std.proofs.Common.{arith}
 use Rattle.least_path.proofs.SettleLaws.{spread-start, count-settled}
+use Rattle.least_path.proofs.WaitLaws.{settled-wait}
 use Rattle.least_path.proofs.spread.Query.settle.Goals as goal
 
 pub relax-requires-clause-start : goal.relax-requires-clause-start
 relax-requires-clause-start c = spread-start c.args.self.now.inst.now c.args.self.now.weights.now c.args.self.now.source c.args.self.now.target c.args.labels.now.items c.args.here.now c.requires.search c.requires.nearest c.requires.other
 
 pub returns-clause-fewer : goal.returns-clause-fewer
-returns-clause-fewer c = omega (arith, c.relax.ensures.open, count-settled c.args.labels.now.items c.args.here.now c.requires.nearest)
+returns-clause-fewer c = omega (arith, c.in_ok-relax.ensures.open, count-settled c.args.labels.now.items c.args.here.now c.requires.nearest)
+
+pub relax-requires-clause-waits : goal.relax-requires-clause-waits
+relax-requires-clause-waits c = settled-wait c.args.labels.now.items c.args.queue.now c.args.here.now c.requires.nearest c.requires.wait
