@@ -1,10 +1,11 @@
 //! What a worker keeps from one task to the next, and what it computes there. No lock is held meanwhile.
 
-ghost use Rattle.std.specs.Prelude.{◌≡◌, ◌<◌, ◌↔◌, length, IfOk, IfSome, IsSome, IsSomeAnd, IsTrue, None};
+ghost use Rattle.std.specs.Prelude.{◌≡◌, ◌<◌, ◌≤◌, ◌/◌, ◌↔◌, length, IfOk, OnOk, IfSome, IsSome, IsSomeAnd, IsTrue, None};
 ghost use Rattle.std.specs.Arc.{arc_value};
-ghost use Rattle.plan_base.specs.Designs.{IsGoodDesign};
+ghost use Rattle.plan_base.specs.Designs.{cost_of, IsGoodDesign};
 ghost use Rattle.arc_restrict.specs.Rows.{forbids, HasSizeOf};
 ghost use Rattle.path_pricing.specs.Priced.{ArePrices};
+ghost use Rattle.incumbent.specs.Searches.{IsDue};
 ghost use Rattle.pool_hub.specs.Offers.{IsFor, IsFitting};
 
 use crate::ground::Ground;
@@ -105,14 +106,20 @@ impl<N: Naming> Bench<N> {
     }
 
     /// Whether a search for a design is due for this worker.
-    pub fn is_design_due(&mut self, told: &Told<N>) -> bool {
+    pub fn is_design_due(&mut self, told: &Told<N>) -> bool
+        ensures due { IsTrue result ↔ IsDue self.old.guide.designs.place (told.now.brief.node.0 / 2) }
+        ensures ground { self.new.ground ≡ self.old.ground }
+    {
         self.guide.designs().is_due(told.examined())
     }
 
     /// Lets the worker's later searches begin with this design, where it is cheaper than its own.
     ///
     /// - Errors: want of memory alone.
-    pub fn learn(&mut self, inst: &Instance, design: &Design) -> Result<(), AllocError> {
+    pub fn learn(&mut self, inst: &Instance, design: &Design) -> Result<(), AllocError>
+        ensures learnt { OnOk result (IsGoodDesign inst.now design.now → IsSomeAnd self.new.guide.designs.best (λ best. cost_of inst.now best ≤ cost_of inst.now design.now)) }
+        ensures ground { self.new.ground ≡ self.old.ground }
+    {
         self.guide.designs().learn(inst, design)
     }
 
