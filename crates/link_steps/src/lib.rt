@@ -16,6 +16,6 @@ mod step;
 mod step_fault;
 mod table;
 
-pub use reading::LinkValue;
+pub use reading::{LinkValue, PlacedCost};
 pub use step_fault::StepFault;
 pub use table::StepTable;

@@ -17,6 +17,18 @@ pub struct LinkValue {
     pub load: u64,
 }
 
+/// How many steps are looked at one by one before the others are halved.
+const NEAR: usize = 4;
+
+/// A least module cost, and where its step stands among those of its link.
+#[derive(Clone, Copy, Debug, PartialEq, Eq)]
+pub struct PlacedCost {
+    /// In cost grains.
+    pub cost: u128,
+    /// A place for `StepTable::at_near`.
+    pub place: u32,
+}
+
 /// The place of the first step that reaches the load, in load grains, or the count of steps where none does.
 pub fn first_reaching(steps: &[Step], load: u64) -> usize
     requires { AreRising steps.now }
@@ -24,7 +36,19 @@ pub fn first_reaching(steps: &[Step], load: u64) -> usize
     ensures before { (j : ℕ) → j < result → (step_at steps.now j).reach < load }
     ensures here { result < length steps.now → load ≤ (step_at steps.now result).reach }
 {
-    let mut low = 0;
+    first_reaching_from(steps, load, 0)
+}
+
+/// The same, where no step before this place reaches the load.
+fn first_reaching_from(steps: &[Step], load: u64, from: usize) -> usize
+    requires rising { AreRising steps.now }
+    requires from { from ≤ length steps.now }
+    requires before { (j : ℕ) → j < from → (step_at steps.now j).reach < load }
+    ensures within { result ≤ length steps.now }
+    ensures before { (j : ℕ) → j < result → (step_at steps.now j).reach < load }
+    ensures here { result < length steps.now → load ≤ (step_at steps.now result).reach }
+{
+    let mut low = from;
     let mut high = steps.len();
     while low < high {
         let middle = low + (high - low) / 2;
@@ -35,6 +59,25 @@ pub fn first_reaching(steps: &[Step], load: u64) -> usize
         }
     }
     low
+}
+
+/// The same, found at once where it is this place or one of the next few.
+pub fn first_reaching_near(steps: &[Step], load: u64, near: usize) -> usize
+    requires { AreRising steps.now }
+    ensures within { result ≤ length steps.now }
+    ensures before { (j : ℕ) → j < result → (step_at steps.now j).reach < load }
+    ensures here { result < length steps.now → load ≤ (step_at steps.now result).reach }
+{
+    if near > steps.len() || near > 0 && steps[near - 1].reach >= load {
+        return first_reaching(steps, load);
+    }
+    let end = near.saturating_add(NEAR).min(steps.len());
+    for place in near..end {
+        if steps[place].reach >= load {
+            return place;
+        }
+    }
+    first_reaching_from(steps, load, end)
 }
 
 /// The counts of the modules that the steps to a place add, one after the other.

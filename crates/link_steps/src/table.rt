@@ -10,7 +10,7 @@ ghost use Rattle.link_steps.specs.Values.{IsLinkValue, IsFirstLoad, IsStartPrice
 use crate::ends::{End, best_end, best_ends, least_unit, value_of};
 use crate::limits::MAX_STEPS;
 use crate::making::steps_of;
-use crate::reading::{LinkValue, counts_of, first_reaching};
+use crate::reading::{LinkValue, PlacedCost, counts_of, first_reaching, first_reaching_near};
 use crate::step::Step;
 use crate::step_fault::StepFault;
 use plan_base::limits::{MAX_PRICED_LOAD, MODULE_COST_BOUND};
@@ -99,6 +99,32 @@ impl StepTable {
         let place = first_reaching(steps, load);
         if place < steps.len() {
             Some(steps[place].cost)
+        } else {
+            None
+        }
+    }
+
+    /// The least module cost of a load on a link, and the place of its step. Takes no memory.
+    ///
+    /// - Takes: a link of the instance; a load of at most the total load, in load grains; any place: where it is that of
+    ///   a load a little smaller, the answer is found at once.
+    /// - Gives: what `at` gives.
+    /// - Rule: docs/DEFINITIONS.md, "Least module cost".
+    /// - Time: a few steps behind that place, else the logarithm of the number of steps.
+    pub fn at_near(&self, link: LinkId, load: u64, near: u32) -> Option<PlacedCost>
+        requires link { link.0 < length self.now.links }
+        requires load { load ≤ total_load self.now }
+        ensures least { IfSome result (λ found. IsLeastModuleCost (link_at self.now link.0) load found.cost) }
+        ensures none { IfNone result (CannotCarry (link_at self.now link.0) load) }
+        ensures within { IfSome result (λ found. found.cost ≤ (MAX_STEPS - 1) * MODULE_COST_BOUND) }
+    {
+        let steps = self.steps_of_link(link);
+        let place = first_reaching_near(steps, load, near as usize);
+        if place < steps.len() {
+            Some(PlacedCost {
+                cost: steps[place].cost,
+                place: place as u32,
+            })
         } else {
             None
         }
