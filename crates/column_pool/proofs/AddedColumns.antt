@@ -1,8 +1,8 @@
 -- An addition keeps the columns of a demand different simple paths, and not too many.
-use Rattle.std.proofs.Common.{◌≡◌, ◌≢◌, ℕ, zero, suc, ◌+◌, ◌-◌, ◌<◌, ◌⊎◌, inl, inr, Bool, true, false, not, ◌||◌, ◌&&◌, ◌==◌, List, [], ◌∷◌, ◌++◌, length, get_or, set, take, drop, Option, Some, None, slice_get, refl, sym, ap, subst, ◌∙◌, arith, length-append, length-drop}
+use Rattle.std.proofs.Common.{◌≡◌, ◌≢◌, ℕ, zero, suc, ◌+◌, ◌<◌, ◌⊎◌, inl, inr, Bool, true, false, not, ◌||◌, ◌&&◌, ◌==◌, List, [], ◌∷◌, ◌++◌, length, get_or, take, drop, Option, Some, None, slice_get, refl, sym, ap, subst, ◌∙◌, arith, length-append, length-drop}
 use Rattle.std.specs.Prelude.{nat_lt, if◌then◌else◌, filter}
 use Rattle.std.proofs.lemmas.Bool.{ltb-true, eqb-false}
-use Rattle.std.proofs.lemmas.List.{get_or-set_same, get_or-set_other, get_or-replicate, length-set, length-replicate, set_at, append-nil, drop_all, take_all}
+use Rattle.std.proofs.lemmas.List.{get_or-set_same, get_or-set_other, get_or-replicate, length-set, length-replicate, append-nil}
 use Rattle.std.proofs.lemmas.List.Elements.{All-push, All-drop, All-nil, All-cons, All-head, All-tail, filter_more}
 use Rattle.plan_base.specs.declared.ids.ArcId.{ArcId}
 use Rattle.plan_base.specs.declared.parts.Parts.{Parts}
@@ -155,18 +155,6 @@ told-IsPermitted r k [] h = refl
 told-IsPermitted r k (a ∷ path) h =
     let here : r k a ≡ false = All-head (λ x. r k x ≡ false) a path h in
     rw (here, told-IsPermitted r k path (All-tail (λ x. r k x ≡ false) a path h)) refl
-
--- what is left after a turn by one and a write to the last place
-pub written_last : (paths turned : List (List ArcId)) (n last : ℕ) (path : List ArcId) → 0 < length paths → n ≡ length paths → last ≡ length paths - 1 → turned ≡ drop 1 paths ++ take 1 paths
-    → set (take n (turned ++ drop (length turned) paths)) last path ≡ drop 1 paths ++ path ∷ []
-written_last [] turned n last path some is_n is_last is = absurd (omega arith)
-written_last (oldest ∷ paths) turned n last path some is_n is_last is =
-    let whole : length turned ≡ length (oldest ∷ paths) = ap length is ∙ length-append paths (oldest ∷ []) ∙ (let e : length paths + 1 ≡ suc (length paths) = omega arith in e) in
-    let none : drop (length turned) (oldest ∷ paths) ≡ [] = drop_all (length turned) (oldest ∷ paths) (omega arith) in
-    let all : take n (turned ++ drop (length turned) (oldest ∷ paths)) ≡ turned =
-    ap (λ (xs : List (List ArcId)). take n (turned ++ xs)) none ∙ ap (take n) (append-nil turned) ∙ take_all n turned (omega arith) in
-    let place : last ≡ length paths = omega arith in
-    ap (λ (xs : List (List ArcId)). set xs last path) (all ∙ is) ∙ ap (λ (i : ℕ). set (paths ++ oldest ∷ []) i path) place ∙ set_at paths oldest [] path (length paths) refl
 
 -- one column more is looked at
 pub kept_next : (r : Forbidden) (k : ℕ) (columns kept : List (List ArcId)) (i : ℕ) (path : List ArcId) → i < length columns → path ≡ get_or columns i path → kept ≡ filter (is_permitted r k) (take i columns)

@@ -1,1 +1,2 @@
 pub mod AddedColumns
+mod RowSets

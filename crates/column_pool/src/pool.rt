@@ -51,7 +51,7 @@ impl ColumnPool {
     ///   are `MAX_COLUMNS` already the oldest goes.
     /// - Errors: want of memory alone; then nothing changes.
     /// - Rule: docs/METHOD.md, "Columns".
-    /// - Time: linear in the arcs of the demand's columns.
+    /// - Time: linear in the arcs of the path and in the demand's columns; where hashes clash, in the arcs of these.
     pub fn add(&mut self, demand: DemandId, path: &Path) -> Result<Added, AllocError>
         requires { demand.0 < length self.old }
         ensures added { IfOk result (λ _. self.new ≡ columns_with self.old demand.0 path.now) }
@@ -65,7 +65,7 @@ impl ColumnPool {
     ///
     /// - Takes: a demand that there is a list for.
     /// - Rule: docs/METHOD.md, "Columns".
-    /// - Time: linear in the arcs of the demand's columns.
+    /// - Time: linear in the arcs of the path; where hashes clash, in the arcs of the demand's columns.
     pub fn has(&self, demand: DemandId, path: &Path) -> bool
         requires { demand.0 < length self.now }
         ensures { result ≡ is_column (columns_at self.now demand.0) path.now }

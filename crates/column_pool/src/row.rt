@@ -1,9 +1,10 @@
 //! The columns of one demand.
 
-ghost use Rattle.std.specs.Prelude.{◌≡◌, ◌≤◌, ◌<◌, ◌∷◌, ◌++◌, [], drop, length, IfOk, IsErr};
+ghost use Rattle.std.specs.Prelude.{◌≡◌, ◌≤◌, [], length, false, IfOk, IsErr};
 ghost use Rattle.column_pool.specs.Columns.{is_column, with_last, column_added, answer_of};
 
 use crate::limits::MAX_COLUMNS;
+use indexmap::IndexSet;
 use plan_base::Path;
 use std::alloc::{AllocError, Global};
 use std::marker::Model;
@@ -20,19 +21,20 @@ pub enum Added {
 /// The columns of one demand, the oldest first.
 #[derive(Debug, Drop)]
 pub struct Row {
-    paths: Vec<Path>,
+    paths: IndexSet<Path>,
 }
 
 impl Model for Row {
     ghost use Rattle.std.specs.Prelude.{List, ◌≤◌, length};
+    ghost use Rattle.indexmap.specs.IndexSet.{keys};
     ghost use Rattle.plan_base.specs.declared.ids.ArcId.{ArcId};
     ghost use Rattle.column_pool.specs.declared.limits.TheConstants.{MAX_COLUMNS};
 
     ghost Value = { List (List ArcId) };
 
-    ghost view = { λ a. a.paths.items };
+    ghost view = { λ a. keys a.paths };
 
-    ghost invariant = { λ a. length a.paths.items ≤ MAX_COLUMNS };
+    ghost invariant = { λ a. length (keys a.paths) ≤ MAX_COLUMNS };
 }
 
 impl Row {
@@ -41,7 +43,7 @@ impl Row {
         ensures { result ≡ [] }
     {
         Row {
-            paths: Vec::new(alloc),
+            paths: IndexSet::new(alloc),
         }
     }
 
@@ -55,32 +57,24 @@ impl Row {
     }
 
     /// Whether the path is one of the columns.
+    #[tactic(auto, using(crate::proofs::RowSets::is_column_found))]
     pub fn has(&self, path: &Path) -> bool
         ensures { result ≡ is_column self.now path.now }
     {
-        self.paths.as_slice().contains(path)
+        self.paths.contains(path)
     }
 
-    /// The path goes last, and the oldest column goes.
-    fn replace_oldest(&mut self, path: Path)
-        requires { 0 < length self.old }
-        ensures { self.new ≡ drop 1 self.old ++ (path ∷ []) }
-    {
-        let last = self.paths.len() - 1;
-        self.paths.as_mut_slice().rotate_left(1);
-        self.paths[last] = path;
-    }
-
-    /// The path goes last; where there are too many, the oldest column goes.
+    /// The path, which is no column yet, goes last; where there are too many then, the oldest column goes.
+    #[tactic(auto, using(crate::proofs::RowSets::is_column_found))]
     fn push(&mut self, path: Path) -> Result<(), AllocError>
+        requires { is_column self.old path ≡ false }
         ensures last { IfOk result (λ _. self.new ≡ with_last self.old path) }
         ensures unchanged { IsErr result → self.new ≡ self.old }
     {
-        if self.paths.len() == MAX_COLUMNS {
-            self.replace_oldest(path);
-            return Ok(());
+        self.paths.insert(path)?;
+        if self.paths.len() > MAX_COLUMNS {
+            let _oldest = self.paths.shift_remove_index(0);
         }
-        self.paths.push(path)?;
         Ok(())
     }
 
