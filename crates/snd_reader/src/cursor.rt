@@ -35,7 +35,7 @@ impl<'a> Model for Cursor<'a> {
 }
 
 impl<'a> Cursor<'a> {
-    ghost use Rattle.std.specs.Prelude.{◌≡◌, ◌≤◌, ◌+◌, length};
+    ghost use Rattle.std.specs.Prelude.{◌≡◌, ◌≤◌, ◌+◌, length, OnErr};
     ghost use Rattle.std.specs.List.{All};
     ghost use Rattle.snd_lexer.specs.declared.limits.TheConstants.{MAX_TEXT_BYTES};
     ghost use Rattle.snd_lexer.specs.Cutting.{IsWithin};
@@ -111,9 +111,10 @@ impl<'a> Cursor<'a> {
         }
     }
 
-    /// Goes past the first token where it was found good, and else tells what is wrong with it.
+    /// Goes past the first token where it was found good, and else tells what is wrong with it and stays there.
     pub fn judge<T: Drop>(&mut self, verdict: Result<T, Complaint>) -> Result<T, TextFault>
         ensures gives { Gives (λ x. (x, self.new)) result (judge verdict self.old) }
+        ensures unchanged { OnErr result (self.new ≡ self.old) }
     {
         if self.is_over {
             return Err(TextFault::Ended { at: 0 });
@@ -130,6 +131,7 @@ impl<'a> Cursor<'a> {
     /// Goes past an opening bracket.
     pub fn open(&mut self) -> Result<(), TextFault>
         ensures gives { Gives (λ x. (x, self.new)) result (token (λ t. open_test t.is) self.old) }
+        ensures unchanged { OnErr result (self.new ≡ self.old) }
     {
         let verdict = self.first().open();
         self.judge(verdict)
@@ -138,6 +140,7 @@ impl<'a> Cursor<'a> {
     /// Goes past a closing bracket.
     pub fn close(&mut self) -> Result<(), TextFault>
         ensures gives { Gives (λ x. (x, self.new)) result (token (λ t. close_test t.is) self.old) }
+        ensures unchanged { OnErr result (self.new ≡ self.old) }
     {
         let verdict = self.first().close();
         self.judge(verdict)
@@ -146,6 +149,7 @@ impl<'a> Cursor<'a> {
     /// Goes past an equals sign.
     pub fn equals(&mut self) -> Result<(), TextFault>
         ensures gives { Gives (λ x. (x, self.new)) result (token (λ t. equals_test t.is) self.old) }
+        ensures unchanged { OnErr result (self.new ≡ self.old) }
     {
         let verdict = self.first().equals();
         self.judge(verdict)
@@ -155,6 +159,7 @@ impl<'a> Cursor<'a> {
     pub fn number(&mut self, scale: u32) -> Result<u64, TextFault>
         requires { scale ≤ 6 }
         ensures gives { Gives (λ x. (x, self.new)) result (token (λ t. number_test scale t.is) self.old) }
+        ensures unchanged { OnErr result (self.new ≡ self.old) }
     {
         let verdict = self.first().number(scale);
         self.judge(verdict)
