@@ -4,10 +4,13 @@
 //! start prices is improved with each seed, then the cheapest of what comes out, and then its answer. A line tells of
 //! each network the least, the mean and the greatest cost, and the costs of the two answers, in units. An error comes
 //! where an answer is dearer than what was improved, or the designs cost more in the mean than they may. How cheap a
-//! design is, no clause says: so the lines are what shows that the search is the same. Begin at `write_costs`. Stands
-//! on `incumbent` and `instance_maker`, and promises nothing of its own.
+//! design is, no clause says: so the lines are what shows that the search is the same. Lines of two small networks, which
+//! can be worked out by hand, show when each seat searches, what is found, and a link that is too small. Begin at
+//! `write_costs`, and at `write_small` of the module `small`. Stands on `incumbent` and `instance_maker`, and promises
+//! nothing of its own.
 #![tactic(auto)]
 
+mod small;
 mod starts;
 
 ghost use Rattle.std.specs.Prelude.{◌≡◌};
@@ -18,6 +21,7 @@ use incumbent::{improve, improve_seeded};
 use instance_maker::limits::{MAX_DEMANDS, MAX_NODES, MIN_NODES};
 use instance_maker::{Problem, sample_problem};
 use plan_base::{Design, check_design};
+use small::write_small;
 use starts::start_design;
 use std::alloc::Global;
 use std::io;
@@ -143,5 +147,5 @@ fn main(rt: HostRuntime) -> Result<()> {
             format_args!("sample {number} {nodes} {demands}"),
         )?;
     }
-    Ok(())
+    write_small(rt.alloc(), &mut out)
 }

@@ -1,25 +1,19 @@
 -- Paths and weights stay what they are while demands are rerouted.
-use Rattle.std.proofs.Common.{◌≡◌, ℕ, zero, suc, ◌*◌, ◌<◌, ◌≤◌, inl, inr, List, [], ◌∷◌, length, Option, None, refl, sym, ap, ◌∙◌, arith}
+use Rattle.std.proofs.Common.{◌≡◌, ℕ, zero, suc, ◌*◌, ◌<◌, ◌≤◌, inl, inr, List, [], ◌∷◌, length, Option, None, refl, ap, ◌∙◌, arith}
 use Rattle.std.specs.Option.{unwrap_or}
 use Rattle.std.proofs.Math.ListN.{set, length-set, replicate}
 use Rattle.std.proofs.lemmas.List.Elements.{All-set, All-replicate}
 use Rattle.std.proofs.lemmas.List.{get_or-set_same, get_or-set_other, length-replicate}
 use Rattle.plan_base.specs.declared.ids.ArcId.{ArcId}
-use Rattle.plan_base.specs.declared.parts.Demand.{Demand}
 use Rattle.plan_base.specs.declared.parts.Parts.{Parts}
 use Rattle.plan_base.specs.Arcs.{demand_at}
 use Rattle.plan_base.specs.Paths.{IsSimplePath}
 use Rattle.plan_base.specs.declared.path.Design.{Design}
 use Rattle.plan_base.specs.Designs.{IsDesign, IsGoodDesign}
 use Rattle.least_path.specs.declared.limits.TheConstants.{MAX_WEIGHT}
-use Rattle.least_path.specs.Paths.{Weights, AreWeights, from_to}
+use Rattle.least_path.specs.Paths.{Weights, AreWeights}
 use Rattle.link_steps.proofs.Order.{same_or_not}
 use Rattle.completions.specs.Completions.{ArePaths, IsCompletion}
-
--- a path between the ends of a demand is one of the demand
-pub path_of_ends : (p : Parts) (k : Demand) (arcs : List ArcId) → IsSimplePath p (from_to k.source k.target) arcs → IsSimplePath p k arcs
-path_of_ends p k arcs simple =
-    record { are_arcs = simple.are_arcs; goes_on = simple.goes_on; no_node_twice = simple.no_node_twice; ends_at_target = simple.ends_at_target }
 
 -- the paths of a design
 pub paths_of_design : (p : Parts) (d : Design) → IsDesign p d → ArePaths p d.paths
@@ -28,16 +22,6 @@ paths_of_design p d is = record { count = is.path_count; simple = is.paths }
 -- a completion is a feasible design in shape
 pub good_completion : (p : Parts) (paths : List (List ArcId)) (cost : ℕ) (d : Design) → IsCompletion p paths cost d → IsGoodDesign p d
 good_completion p paths cost d is = is.good
-
--- the path of the only demand
-pub one_path : (p : Parts) (path : List ArcId) (paths : List (List ArcId)) → IsSimplePath p (demand_at p 0) path → paths ≡ path ∷ [] → length p.demands ≡ 1 → ArePaths p paths
-one_path p path paths simple is one =
-    record {
-      count = ap (λ (ps : List (List ArcId)). length ps) is ∙ sym one;
-      simple = λ k below.
-          (let first : k ≡ 0 = omega (arith, one, below) in
-          rw (first, is) simple);
-    }
 
 -- one path is replaced
 pub paths_set : (p : Parts) (paths : List (List ArcId)) (n : ℕ) (path : List ArcId) → n < length p.demands → ArePaths p paths → IsSimplePath p (demand_at p n) path → ArePaths p (set paths n path)

@@ -21,6 +21,3 @@ pub use completions::{complete, overfull_link};
 pub use improving::{improve, improve_seeded};
 pub use laying::lay_all;
 pub use ration::DesignSearch;
-
-#[cfg(test)]
-mod tests;

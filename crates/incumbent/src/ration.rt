@@ -54,7 +54,7 @@ pub struct DesignSearch {
 
 /// The place of the search that a seat makes after one at this place: all seats make the first search, and the others
 /// are dealt out to them in turn.
-pub(crate) fn place_after(seat: u32, seats: u32, place: u32) -> u32
+fn place_after(seat: u32, seats: u32, place: u32) -> u32
     ensures { result ≡ next_place seat seats place }
 {
     if place == 0 {
