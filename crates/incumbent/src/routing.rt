@@ -30,6 +30,8 @@ pub struct Routing {
     pub cost: u128,
     /// How many least paths were searched for.
     pub searches: u32,
+    /// For each link a place near which the step of its load stands, wherever that is.
+    nears: Box<[u32; MAX_LINKS]>,
     weights: Vec<Option<u128>>,
     room: Room,
 }
@@ -51,6 +53,7 @@ impl Routing {
             loads: Box::new(alloc, [0; MAX_LINKS])?,
             cost: 0,
             searches: 0,
+            nears: Box::new(alloc, [0; MAX_LINKS])?,
             weights: no_weights(alloc, inst)?,
             room: Room::new(alloc, inst)?,
         })
@@ -133,7 +136,14 @@ impl Routing {
         ensures none { IfOk result (λ found. IfNone found (HasNoWay inst.now self.new.loads.value (demand_at inst.now demand.0))) }
     {
         let demand = inst.demand(demand);
-        weigh(inst, table, &self.loads, demand.load, &mut self.weights);
+        weigh(
+            inst,
+            table,
+            &self.loads,
+            demand.load,
+            &mut self.nears,
+            &mut self.weights,
+        );
         self.searches = self.searches.saturating_add(1);
         self.room
             .search(inst, &self.weights, demand.source, demand.target)
@@ -164,6 +174,7 @@ impl Routing {
             &self.loads,
             demand.load,
             far,
+            &mut self.nears,
             &mut self.weights,
         );
         self.searches = self.searches.saturating_add(1);

@@ -9,37 +9,75 @@ ghost use Rattle.least_path.specs.Paths.{AreWeights};
 ghost use Rattle.incumbent.specs.Traffic.{IsTooMuch, IsRise, IsAddedCost, AreAddedCosts, span_of, IsFarCost, AreFarCosts, AreRises, HasTooMuch};
 
 use completions::{LINK_COST_BOUND, routing_cost};
-use link_steps::StepTable;
+use link_steps::{PlacedCost, StepTable};
 use plan_base::limits::{MAX_LINKS, MAX_TOTAL_LOAD};
 use plan_base::{ArcId, Instance, LinkId};
 use std::alloc::{AllocError, Global};
 
-/// The step cost of a load on a link, in cost grains; None where it is above the total load or no counts carry it.
-fn step_cost(inst: &Instance, table: &StepTable, link: LinkId, load: u128) -> Option<u128>
+/// The step cost of a load on a link, in cost grains, and the place of its step, which is found at once where it lies
+/// near this one; None where the load is above the total load or no counts carry it.
+fn step_cost(
+    inst: &Instance,
+    table: &StepTable,
+    link: LinkId,
+    load: u128,
+    near: u32,
+) -> Option<PlacedCost>
     requires lawful { IsInstance inst.now }
     requires table { table.now ≡ inst.now }
     requires link { link.0 < length inst.now.links }
     ensures load { IfSome result (λ _. load ≤ total_load inst.now) }
-    ensures some { IfSome result (IsStepCost (link_at inst.now link.0) load) }
+    ensures some { IfSome result (λ found. IsStepCost (link_at inst.now link.0) load found.cost) }
     ensures none { IfNone result (IsTooMuch inst.now link.0 load) }
-    ensures within { IfSome result (λ cost. cost ≤ LINK_COST_BOUND) }
+    ensures within { IfSome result (λ found. found.cost ≤ LINK_COST_BOUND) }
 {
     if load > u128::from(inst.total_load()) {
         return None;
     }
     let load = load as u64;
-    let modules = table.at(link, load)?;
-    Some(routing_cost(inst, link, load) + modules)
+    let modules = table.at_near(link, load, near)?;
+    Some(PlacedCost {
+        cost: routing_cost(inst, link, load) + modules.cost,
+        place: modules.place,
+    })
+}
+
+/// What a link's step cost rises by where a load is added to what it carries at this cost, in cost grains; None where
+/// the link cannot carry the sum.
+fn rise_above(
+    inst: &Instance,
+    table: &StepTable,
+    link: LinkId,
+    before: PlacedCost,
+    carried: u128,
+    load: u128,
+) -> Option<u128>
+    requires lawful { IsInstance inst.now }
+    requires table { table.now ≡ inst.now }
+    requires link { link.0 < length inst.now.links }
+    requires before { IsStepCost (link_at inst.now link.0) carried before.cost }
+    ensures value { IsAddedCost inst.now link.0 carried load result }
+    ensures within { unwrap_or result 0 ≤ LINK_COST_BOUND }
+{
+    let after = step_cost(
+        inst,
+        table,
+        link,
+        carried.saturating_add(load),
+        before.place,
+    )?;
+    Some(after.cost.saturating_sub(before.cost))
 }
 
 /// What a link's step cost rises by where a load is added to what it carries, in cost grains; None where the link
-/// cannot carry the sum.
+/// cannot carry the sum. The step of what it carries is looked for near a place, which becomes its own.
 fn added_cost(
     inst: &Instance,
     table: &StepTable,
     link: LinkId,
     carried: u128,
     load: u128,
+    near: &mut u32,
 ) -> Option<u128>
     requires lawful { IsInstance inst.now }
     requires table { table.now ≡ inst.now }
@@ -47,9 +85,9 @@ fn added_cost(
     ensures value { IsAddedCost inst.now link.0 carried load result }
     ensures within { unwrap_or result 0 ≤ LINK_COST_BOUND }
 {
-    let before = step_cost(inst, table, link, carried)?;
-    let after = step_cost(inst, table, link, carried.saturating_add(load))?;
-    Some(after.saturating_sub(before))
+    let before = step_cost(inst, table, link, carried, *near)?;
+    *near = before.place;
+    rise_above(inst, table, link, before, carried, load)
 }
 
 /// Half of a load's share of what a span of loads costs, which is no shorter.
@@ -85,6 +123,7 @@ fn far_cost(
     carried: u128,
     load: u128,
     far: u128,
+    near: &mut u32,
 ) -> Option<u128>
     requires lawful { IsInstance inst.now }
     requires table { table.now ≡ inst.now }
@@ -92,12 +131,14 @@ fn far_cost(
     ensures value { IsFarCost inst.now link.0 carried load far result }
     ensures within { unwrap_or result 0 ≤ 2 * LINK_COST_BOUND }
 {
-    let rise = added_cost(inst, table, link, carried, load)?;
+    let before = step_cost(inst, table, link, carried, *near)?;
+    *near = before.place;
+    let rise = rise_above(inst, table, link, before, carried, load)?;
     let span = span_of(inst, carried, load, far);
     if span == 0 {
         return Some(rise);
     }
-    let Some(beyond) = added_cost(inst, table, link, carried, span) else {
+    let Some(beyond) = rise_above(inst, table, link, before, carried, span) else {
         return Some(rise);
     };
     Some(rise / 2 + half_share(beyond, load, span))
@@ -111,13 +152,15 @@ pub fn no_weights(alloc: Global, inst: &Instance) -> Result<Vec<Option<u128>>, A
     vec![in alloc; None; 2 * inst.links() as usize]
 }
 
-/// Sets the weight of each arc to what its link's step cost rises by where this load is added.
+/// Sets the weight of each arc to what its link's step cost rises by where this load is added. For each link the place
+/// of the step that carries its load is kept, near which it is looked for the next time.
 #[tactic(auto, using(crate::proofs::ReroutingLaws::weights_set))]
 pub fn weigh(
     inst: &Instance,
     table: &StepTable,
     loads: &[u128; MAX_LINKS],
     load: u128,
+    nears: &mut [u32; MAX_LINKS],
     weights: &mut Vec<Option<u128>>,
 )
     requires table { table.now ≡ inst.now }
@@ -126,7 +169,14 @@ pub fn weigh(
     ensures added { AreAddedCosts inst.now loads.now load (length inst.now.links) weights.new.items }
 {
     for place in 0..inst.links() {
-        let cost = added_cost(inst, table, LinkId(place), loads[place as usize], load);
+        let cost = added_cost(
+            inst,
+            table,
+            LinkId(place),
+            loads[place as usize],
+            load,
+            &mut nears[place as usize],
+        );
         weights[2 * place as usize] = cost;
         weights[2 * place as usize + 1] = cost;
     }
@@ -140,6 +190,7 @@ pub fn weigh_far(
     loads: &[u128; MAX_LINKS],
     load: u128,
     far: u128,
+    nears: &mut [u32; MAX_LINKS],
     weights: &mut Vec<Option<u128>>,
 )
     requires table { table.now ≡ inst.now }
@@ -148,7 +199,15 @@ pub fn weigh_far(
     ensures far { AreFarCosts inst.now loads.now load far (length inst.now.links) weights.new.items }
 {
     for place in 0..inst.links() {
-        let cost = far_cost(inst, table, LinkId(place), loads[place as usize], load, far);
+        let cost = far_cost(
+            inst,
+            table,
+            LinkId(place),
+            loads[place as usize],
+            load,
+            far,
+            &mut nears[place as usize],
+        );
         weights[2 * place as usize] = cost;
         weights[2 * place as usize + 1] = cost;
     }
@@ -170,7 +229,7 @@ fn rise_at(
     if link.0 >= inst.links() {
         return None;
     }
-    added_cost(inst, table, link, loads[link.0 as usize], load)
+    added_cost(inst, table, link, loads[link.0 as usize], load, &mut 0)
 }
 
 /// What the step costs of a path's links rise by where this load is added to what they carry, in cost grains, up to the
