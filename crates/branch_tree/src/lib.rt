@@ -18,6 +18,3 @@ pub use branch::Branch;
 pub use dealing::{Sides, deal};
 pub use node::{BranchNode, Division, Fate, Limit};
 pub use split_fault::SplitFault;
-
-#[cfg(test)]
-mod tests;

@@ -15,6 +15,3 @@ mod shared;
 pub use brief::Brief;
 pub use pool::ColumnPool;
 pub use row::Added;
-
-#[cfg(test)]
-mod tests;

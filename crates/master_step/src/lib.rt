@@ -31,6 +31,3 @@ pub use crowding::crowd_prices;
 pub use rows::Room;
 pub use step::Step;
 pub use valuing::value;
-
-#[cfg(test)]
-mod tests;

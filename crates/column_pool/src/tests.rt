@@ -1,1 +1,0 @@
-//! A list of columns that is full, and a brief.
