@@ -5,5 +5,4 @@ mod Steals
 mod Gains
 mod Drains
 mod Totals
-pub mod Sorts
-pub mod Makings
+mod Sorts

@@ -5,13 +5,13 @@ use Rattle.std.specs.List.{flat_map}
 use Rattle.std.specs.List.Sorted.{IsNonDecreasingBy}
 use Rattle.std.proofs.lemmas.Bool.{eqb-true, eqb-false}
 use Rattle.std.proofs.lemmas.List.Sums.{sum_by-cons}
-use Rattle.std.proofs.lemmas.List.Sorted.{IsPermutation-refl, IsPermutation-sym, Contains-permutation, length_permutation, sum_by-IsPermutation}
+use Rattle.std.proofs.lemmas.List.Sorted.{IsPermutation-sym, Contains-permutation, length_permutation, sum_by-IsPermutation}
 use Rattle.std.proofs.lemmas.Option.{slice_get-get_or, slice_get_within, get_or_from_slice_get}
 use Rattle.block_deques.specs.declared.block.Block.{Block}
 use Rattle.block_deques.specs.declared.deck.Deck.{Deck}
 use Rattle.block_deques.specs.Hands.{weigh}
 use Rattle.block_deques.specs.Decks.{deck_id, number_of}
-use Rattle.block_deques.specs.Wholes.{AreOneMaking, AreAllDecks, HaveSame, IsEachOnce, one_at}
+use Rattle.block_deques.specs.Wholes.{AreOneMaking, HaveSame, IsEachOnce, one_at}
 use Rattle.block_deques.specs.Gathers.{adds}
 use Rattle.block_deques.proofs.Moves.{weigh-append}
 use Rattle.block_deques.proofs.Places.{some_same, map_got}
@@ -137,7 +137,3 @@ pub once_moved : (put : Deck → List Block) (ds es : List Deck) → IsPermutati
 once_moved put ds es moved once deck index =
     let o = once deck index in
     let w = weigh_moved (one_at deck index) put ds es moved in omega arith
-
--- decks that stand in the order of their numbers
-pub in_turn : (ds : List Deck) → AreOneMaking ds → AreAllDecks ds
-in_turn ds making = record { ordered = ds; same = IsPermutation-refl ds; making = making }

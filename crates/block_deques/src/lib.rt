@@ -20,6 +20,3 @@ pub use deck::Deck;
 pub use gathering::gather_decks;
 pub use limits::MAX_DECKS;
 pub use making::decks;
-
-#[cfg(test)]
-mod tests;

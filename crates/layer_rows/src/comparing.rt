@@ -7,7 +7,7 @@ ghost use Rattle.second_path.specs.Others.{AreOnlyPaths, IsDetermined};
 
 use crate::listing::{Asked, Walk, arcs_of, listed};
 use arc_restrict::Restriction;
-use path_pricing::{Priced, SourceTree, check_priced, price};
+use path_pricing::{Priced, SourceTree, check_priced, price, price_slow};
 use plan_base::{DemandId, Instance, Path};
 use second_path::{Determined, determine, second};
 use std::alloc::{AllocError, Global};
@@ -29,7 +29,15 @@ fn has(paths: &[Walk], path: &Path) -> bool {
     paths.iter().any(|listed| listed.arcs == arcs)
 }
 
-/// Whether the least path of a demand is accepted, is listed, and has the least price of the listed ones.
+/// Whether what is found is listed with the least price of the listed paths, or nothing is listed.
+fn is_least(paths: &[Walk], found: &Priced) -> bool {
+    match found {
+        Priced::Path { path, length, .. } => has(paths, path) && least_of(paths) == Some(*length),
+        Priced::NoPath { .. } => paths.is_empty(),
+    }
+}
+
+/// Whether the least path of a demand is accepted, is listed, and has the least price of the listed ones, by both searches.
 fn least_agrees(alloc: Global, asked: Asked<'_>, demand: DemandId) -> Result<bool, AllocError>
     requires { demand.0 < length asked.inst.now.demands }
 {
@@ -44,11 +52,8 @@ fn least_agrees(alloc: Global, asked: Asked<'_>, demand: DemandId) -> Result<boo
     let paths = listed(alloc, asked, demand)?;
     let found = price(alloc, inst, prices, demand, restriction)?;
     let is_accepted = check_priced(inst, prices, demand, restriction, &found).is_ok();
-    let agrees = match &found {
-        Priced::Path { path, length, .. } => has(&paths, path) && least_of(&paths) == Some(*length),
-        Priced::NoPath { .. } => paths.is_empty(),
-    };
-    Ok(is_accepted && agrees)
+    let slow = price_slow(alloc, inst, prices, demand, restriction)?;
+    Ok(is_accepted && is_least(&paths, &found) && is_least(&paths, &slow))
 }
 
 /// The length of the way to the demand's target in the tree of its source, where the demand may take it.

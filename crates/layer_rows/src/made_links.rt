@@ -75,13 +75,26 @@ fn made_instance(alloc: Global) -> Option<Instance>
     Some(inst)
 }
 
+/// Whether the table tells of a load what trying tells, from wherever its step is looked for.
+fn cost_agrees(table: &StepTable, link: LinkId, load: u64, cost: Option<u128>) -> bool
+    requires link { link.0 < length table.now.links }
+    requires load { load ≤ total_load table.now }
+{
+    for near in 0..12 {
+        if table.at_near(link, load, near).map(|found| found.cost) != cost {
+            return false;
+        }
+    }
+    table.at(link, load) == cost
+}
+
 /// Whether the table tells of each load what trying tells.
 fn costs_agree(table: &StepTable, link: LinkId, costs: &Costs) -> bool
     requires link { link.0 < length table.now.links }
     requires total { total_load table.now ≡ 8 }
 {
     for load in 0..9 {
-        if table.at(link, load as u64) != costs[load] {
+        if !cost_agrees(table, link, load as u64, costs[load]) {
             return false;
         }
     }

@@ -1,26 +1,31 @@
 //! Calls the layers below the search over small networks, and writes what they answer.
 //!
 //! The file of rows, whose name is the program's one word, has networks and questions about them: what loads cost on a
-//! link, what prices are worth, ways of least weight, least paths, and what a restriction allows and leaves. To add one,
-//! write it there in the form that the head of the file explains, and the answer, worked out by hand, at the same place
-//! of the file `stdout`. Two rows compare the answers for made links and networks with plain twins, `trying` and
-//! `listing`. Begin at `answer_of`. Stands on `link_steps`, `least_path`, `arc_restrict`, `path_pricing` and
-//! `second_path` and promises nothing of its own.
+//! link, what prices are worth, ways of least weight, least paths, columns, what a restriction allows and leaves, and
+//! splits of a tree. To add one, write it there in the form that the head of the file explains, and the answer, worked
+//! out by hand, at the same place of the file `stdout`. Three rows compare the answers for made links, networks and
+//! columns with plain twins: `trying`, `listing` and lists of numbers. Begin at `answer_of`. Stands on `link_steps`,
+//! `least_path`, `arc_restrict`, `path_pricing`, `second_path`, `column_pool` and `branch_tree`, and promises nothing of
+//! its own.
 #![tactic(auto)]
 
 mod asking;
+mod columns;
 mod comparing;
 mod listing;
+mod made_columns;
 mod made_links;
 mod made_networks;
 mod paths;
 mod restricting;
+mod splits;
 mod steps;
 mod trying;
 mod ways;
 
 use anyhow::{Result, bail};
 use asking::Question;
+use paths::Body;
 use row_networks::{Network, find, network_of};
 use std::alloc::Global;
 use std::io::Write;
@@ -47,9 +52,13 @@ fn tell(
         "value" => steps::tell_value(alloc, question, text),
         "way" => ways::tell_way(alloc, question, text),
         "tree" => ways::tell_tree(alloc, question, text),
-        "price" => paths::tell_price(alloc, question, text),
+        "price" => paths::tell_price(alloc, question, Body::Heap, text),
+        "slow" => paths::tell_price(alloc, question, Body::Walk, text),
+        "least" => paths::tell_least(alloc, inst, text),
+        "columns" => columns::tell_columns(alloc, question, text),
         "allowed" => paths::tell_allowed(alloc, question, text),
         "left" => paths::tell_left(alloc, question, text),
+        "split" => splits::tell_split(alloc, question, text),
         _ => None,
     }
 }
@@ -59,6 +68,7 @@ fn answer_of(alloc: Global, networks: &[Network], row: &str) -> Option<String> {
     let (kind, rest) = row.split_once(' ')?;
     let mut text = format!(in alloc; "{row}:").ok()?;
     match row {
+        "made columns" => made_columns::tell_compared(alloc, &mut text)?,
         "made links" => made_links::tell_compared(alloc, &mut text)?,
         "made networks" => made_networks::tell_compared(alloc, &mut text)?,
         _ => tell(alloc, networks, kind, rest, &mut text)?,

@@ -2,7 +2,7 @@ use Rattle.std.proofs.Common.{◌≡◌, ◌++◌, length, map, Vec, Global}
 use Rattle.std.specs.Vec.Iter.{into_iter_items, into_iter_len}
 use Rattle.block_deques.specs.declared.block.Block.{Block}
 use Rattle.block_deques.specs.declared.deck.Deck.{Deck}
-use Rattle.block_deques.proofs.tests.take_back.Given as goal
+use Rattle.deck_rows.proofs.threads.take_back.Given as goal
 
 abbrev pub invariant-loop-deck : goal.invariant-loop-deck
 invariant-loop-deck l = record {

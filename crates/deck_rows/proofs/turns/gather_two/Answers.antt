@@ -1,7 +1,7 @@
 use Rattle.std.proofs.Common.{[], ◌∷◌, subst, sym}
 use Rattle.std.proofs.lemmas.List.Sorted.{IsPermutation-append_comm}
 use Rattle.block_deques.specs.Wholes.{AreAllDecks}
-use Rattle.block_deques.proofs.tests.gather_two.Goals as goal
+use Rattle.deck_rows.proofs.turns.gather_two.Goals as goal
 
 pub gather_decks-requires : goal.gather_decks-requires
 gather_decks-requires c =

@@ -3,8 +3,8 @@ use Rattle.std.proofs.lemmas.Option.{get_or_from_slice_get, slice_get_within}
 use Rattle.block_deques.specs.declared.block.Block.{Block}
 use Rattle.block_deques.specs.declared.deck.Deck.{Deck}
 use Rattle.block_deques.specs.Decks.{deck_id}
-use Rattle.block_deques.proofs.Makings.{ids_alike, if_both}
-use Rattle.block_deques.proofs.tests.work_all.Goals as goal
+use Rattle.deck_rows.proofs.Makings.{ids_alike, if_both}
+use Rattle.deck_rows.proofs.threads.work_all.Goals as goal
 
 pub returns : goal.returns
 returns g c = if_both {X = Vec (Deck × Vec Block Global) Global} c.map_vec.result _ _ _ c.map_vec.ensures.len c.map_vec.ensures.each

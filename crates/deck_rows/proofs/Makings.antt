@@ -1,10 +1,11 @@
 -- Decks that come back are still all decks of one making.
 use Rattle.std.proofs.Common.{◌≡◌, ℕ, List, [], ◌∷◌, ◌++◌, length, map, slice_get, Some, Result, Ok, Err, IfOk, Vec, Global, refl, ap, sym, subst, ◌∙◌, arith, length-append}
 use Rattle.std.proofs.lemmas.List.{nil_from_length}
+use Rattle.std.proofs.lemmas.List.Sorted.{IsPermutation-refl}
 use Rattle.block_deques.specs.declared.block.Block.{Block}
 use Rattle.block_deques.specs.declared.deck.Deck.{Deck}
 use Rattle.block_deques.specs.Decks.{DeckId, deck_id}
-use Rattle.block_deques.specs.Wholes.{IsMaking, AreOneMaking}
+use Rattle.block_deques.specs.Wholes.{IsMaking, AreOneMaking, AreAllDecks}
 use Rattle.block_deques.proofs.Places.{map-pointwise}
 
 -- the same decks in the same order
@@ -36,3 +37,7 @@ ids_alike ws ds long same = map_map deck_id (λ (w : Deck × Vec Block Global). 
 pub if_both : {X E : Type 0} (r : Result X E) (P Q R : X → Type 0) → IfOk r P → IfOk r Q → ((x : X) → P x → Q x → R x) → IfOk r R
 if_both (Ok x) P Q R p q f = f x p q
 if_both (Err e) P Q R p q f = tt
+
+-- decks that stand in the order of their numbers
+pub in_turn : (ds : List Deck) → AreOneMaking ds → AreAllDecks ds
+in_turn ds making = record { ordered = ds; same = IsPermutation-refl ds; making = making }

@@ -1,5 +1,5 @@
-use Rattle.block_deques.proofs.Makings.{two_popped}
-use Rattle.block_deques.proofs.tests.two_decks.Goals as goal
+use Rattle.deck_rows.proofs.Makings.{two_popped}
+use Rattle.deck_rows.proofs.turns.two_decks.Goals as goal
 
 pub returns : goal.returns
 returns c =
