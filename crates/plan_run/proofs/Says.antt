@@ -1,6 +1,7 @@
 -- What the status of a run says, from what was found and what was written.
 use Rattle.std.proofs.Common.{◌≡◌, ◌+◌, ◌≤◌, ◌<◌, ◌⊎◌, ◌^◌, ℕ, List, [], take, Option, Some, None, Result, Ok, Err, refl, sym, subst, ◌∙◌, arith, inl, inr}
 use Rattle.std.specs.Prelude.{IfOk, IfErr, IsSomeAnd, IsSome}
+use Rattle.plan_io.specs.Causes.{Rose}
 use Rattle.proof_tree.specs.declared.plan.PlanStatus.{PlanStatus}
 use Rattle.proof_tree.specs.declared.plan.PlanStatus.TheVariants as claims
 use Rattle.plan_report.specs.declared.run_fault.RunFault.{RunFault}
@@ -19,7 +20,9 @@ use Rattle.plan_texts.specs.declared.stop.Stop.TheVariants as stops
 use Rattle.plan_texts.specs.Statuses.{status_of, status_of_plan}
 use Rattle.plan_texts.specs.Texts.{Told, Begun}
 use Rattle.plan_texts.specs.Answers.{IsVerdict, accepted, rejected, IsReport, reported, unreported, IsWhole, IsWritten, whole, cut, wanting}
-use Rattle.plan_texts.specs.Stops.{IsReadStop}
+use Rattle.plan_texts.specs.Stops.{IsReadStop, TookMore}
+use Rattle.plan_texts.specs.Refusals.{Counts}
+use Rattle.plan_texts.proofs.Answering.{shown}
 use Rattle.plan_run.specs.Runs.{IsDoneBy, IsRefusal, IsDoneSo, IsAnswer, Says, IsRun, IsOwnAnswer}
 use Rattle.plan_run.specs.Supports.{EndsWith}
 use Rattle.plan_run.specs.Found.{IsFound, IsResult}
@@ -103,48 +106,48 @@ refused-status (faults.OverLimit limit at) = (λ same. cc, λ same. cc)
 refused-status (faults.Read file) = (λ same. cc, λ same. cc)
 
 -- an answer with its status and whole text is what the status says
-says-answer : (words : List Word) (shelf : Told) (begun : ℕ) (status : Status) (bytes : List ℕ) → IsAnswer words shelf begun status bytes → Says words shelf begun status bytes
-says-answer words shelf begun Good bytes is = is
-says-answer words shelf begun Usage bytes is = is
-says-answer words shelf begun BadText bytes is = is
-says-answer words shelf begun Unsupported bytes is = is
-says-answer words shelf begun OverLimit bytes is = is
-says-answer words shelf begun ReadFault bytes is = is
-says-answer words shelf begun Infeasible bytes is = is
-says-answer words shelf begun Rejected bytes is = is
-says-answer words shelf begun Undecided bytes is = is
-says-answer words shelf begun WriteFault bytes (inl refused) = absurd ((refused-status refused.fault).0 (sym refused.is_status))
-says-answer words shelf begun WriteFault bytes (inr done) = absurd (not-write (of-some (command_in words) shelf begun WriteFault bytes done))
-says-answer words shelf begun OutOfMemory bytes (inl refused) = absurd ((refused-status refused.fault).1 (sym refused.is_status))
-says-answer words shelf begun OutOfMemory bytes (inr done) = absurd (not-memory (of-some (command_in words) shelf begun OutOfMemory bytes done))
+says-answer : (words : List Word) (shelf : Told) (counts : Counts) (begun : ℕ) (status : Status) (bytes : List ℕ) → IsAnswer words shelf counts begun status bytes → Says words shelf counts begun status bytes
+says-answer words shelf counts begun Good bytes is = is
+says-answer words shelf counts begun Usage bytes is = is
+says-answer words shelf counts begun BadText bytes is = is
+says-answer words shelf counts begun Unsupported bytes is = is
+says-answer words shelf counts begun OverLimit bytes is = is
+says-answer words shelf counts begun ReadFault bytes is = is
+says-answer words shelf counts begun Infeasible bytes is = is
+says-answer words shelf counts begun Rejected bytes is = is
+says-answer words shelf counts begun Undecided bytes is = is
+says-answer words shelf counts begun WriteFault bytes (inl refused) = absurd ((refused-status refused.fault).0 (sym refused.is_status))
+says-answer words shelf counts begun WriteFault bytes (inr done) = absurd (not-write (of-some (command_in words) shelf begun WriteFault bytes done))
+says-answer words shelf counts begun OutOfMemory bytes (inl refused) = absurd ((refused-status refused.fault).1 (sym refused.is_status))
+says-answer words shelf counts begun OutOfMemory bytes (inr done) = absurd (not-memory (of-some (command_in words) shelf begun OutOfMemory bytes done))
 
 -- ---- what was written
 
 -- a whole text is that of an answer
-answer-of : (words : List Word) (shelf : Told) (begun : ℕ) (found : Result Answer Stop) (status : Status) (text : List ℕ) → IsResult words shelf begun found → IsWhole found status text → IsAnswer words shelf begun status text
-answer-of words shelf begun (Ok answer) status text done is = inr (rw (is.0, is.1) done)
-answer-of words shelf begun (Err (stops.Refused fault)) status text refused is = inl record { fault = fault; refusal = refused; is_status = is.0; line = is.1 }
-answer-of words shelf begun (Err stops.OutOfMemory) status text found is = absurd is
+answer-of : (words : List Word) (shelf : Told) (counts : Counts) (begun : ℕ) (found : Result Answer Stop) (status : Status) (text : List ℕ) → IfErr found (λ stop. IsReadStop stop → Rose counts.faults_before counts.faults_now) → IfErr found (TookMore counts.taken) → IsResult words shelf begun found → IsWhole found status text → IsAnswer words shelf counts begun status text
+answer-of words shelf counts begun (Ok answer) status text rose more done is = inr (rw (is.0, is.1) done)
+answer-of words shelf counts begun (Err (stops.Refused fault)) status text rose more refused is = inl record { fault = fault; refusal = refused; shown = shown counts fault rose more; is_status = is.0; line = is.1 }
+answer-of words shelf counts begun (Err stops.OutOfMemory) status text rose more found is = absurd is
 
 rise : (begun before now : ℕ) → begun ≤ 3 → Begun begun before now → before < 2 ^ 62 → now ≡ before + begun
 rise begun before now short rises below = rises.exact (omega arith)
 
-pub run_says : (words : List Word) (shelf : Told) (begins_before begins_now : ℕ) (found : Result Answer Stop) (before now : Option (List ℕ)) (status : Status) → IsFound words shelf begins_before begins_now found → IsWritten found before now status → IsRun words shelf begins_before begins_now before now status
-run_says words shelf begins_before begins_now found before now status h (whole text is appends) = record {
+pub run_says : (words : List Word) (shelf : Told) (counts : Counts) (begins_before begins_now : ℕ) (found : Result Answer Stop) (before now : Option (List ℕ)) (status : Status) → IfErr found (λ stop. IsReadStop stop → Rose counts.faults_before counts.faults_now) → IfErr found (TookMore counts.taken) → IsFound words shelf begins_before begins_now found → IsWritten found before now status → IsRun words shelf counts begins_before begins_now before now status
+run_says words shelf counts begins_before begins_now found before now status rose more h (whole text is appends) = record {
   begun = h.begun;
   bytes = text;
   rise = rise h.begun begins_before begins_now h.short h.rises;
-  says = says-answer words shelf h.begun status text (answer-of words shelf h.begun found status text h.is is);
+  says = says-answer words shelf counts h.begun status text (answer-of words shelf counts h.begun found status text rose more h.is is);
   written = appends;
 }
-run_says words shelf begins_before begins_now found before now status h (cut other text written is short appends same) = rw same record {
+run_says words shelf counts begins_before begins_now found before now status rose more h (cut other text written is short appends same) = rw same record {
   begun = h.begun;
   bytes = take written text;
   rise = rise h.begun begins_before begins_now h.short h.rises;
-  says = record { status = other; whole = text; written = written; answer = answer-of words shelf h.begun found other text h.is is; cut = short; front = refl };
+  says = record { status = other; whole = text; written = written; answer = answer-of words shelf counts h.begun found other text rose more h.is is; cut = short; front = refl };
   written = appends;
 }
-run_says words shelf begins_before begins_now found before now status h (wanting same appends) = rw same record {
+run_says words shelf counts begins_before begins_now found before now status rose more h (wanting same appends) = rw same record {
   begun = h.begun;
   bytes = [];
   rise = rise h.begun begins_before begins_now h.short h.rises;

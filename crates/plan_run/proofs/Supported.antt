@@ -11,7 +11,7 @@ use Rattle.plan_texts.specs.declared.status.Status.{Status}
 use Rattle.plan_texts.specs.declared.status.Status.TheVariants.{Good, Usage, BadText, Unsupported, OverLimit, ReadFault, WriteFault, OutOfMemory, Infeasible, Undecided, Rejected}
 use Rattle.plan_texts.specs.Statuses.{status_of}
 use Rattle.plan_texts.specs.Texts.{Text, Name, Told, Texts, most_bytes, IsPlanRead, HoldsOfTexts}
-use Rattle.plan_texts.specs.Refusals.{AreRefused, IsTooLong, IsRefusalOf}
+use Rattle.plan_texts.specs.Refusals.{AreRefused, IsTooLong, IsRefusalOf, Counts}
 use Rattle.plan_texts.specs.OneAnswer.{Below}
 use Rattle.plan_texts.proofs.OneRefusal.{refused_or_read}
 use Rattle.plan_run.specs.Runs.{names_of, IsDoneBy, IsRefusedFor, IsRefusedBy, IsRefusal, IsAnswer, Says}
@@ -96,22 +96,22 @@ by-command words shelf begun command (faults.OverLimit limit at) is refusal = of
 
 -- ---- an answer to supported texts
 
-answer-ends : Below → (words : List Word) (shelf : Told) (begun : ℕ) (command : Command Word) (status : Status) (bytes : List ℕ) → AreSupported words shelf command → IsAnswer words shelf begun status bytes → EndsWith command status ⊎ (status ≡ ReadFault) ⊎ (status ≡ WriteFault) ⊎ (status ≡ OutOfMemory)
-answer-ends below words shelf begun command status bytes s (inl refused) =
+answer-ends : Below → (words : List Word) (shelf : Told) (counts : Counts) (begun : ℕ) (command : Command Word) (status : Status) (bytes : List ℕ) → AreSupported words shelf command → IsAnswer words shelf counts begun status bytes → EndsWith command status ⊎ (status ≡ ReadFault) ⊎ (status ≡ WriteFault) ⊎ (status ≡ OutOfMemory)
+answer-ends below words shelf counts begun command status bytes s (inl refused) =
     inr (inl (refused.is_status ∙ only-read-for below shelf (names_of command) begun refused.fault s.texts (by-command words shelf begun command refused.fault s.asked refused.refusal)))
-answer-ends below words shelf begun command status bytes s (inr done) =
+answer-ends below words shelf counts begun command status bytes s (inr done) =
     let did : IsDoneBy command shelf begun status bytes = of-words words command (λ command. IsDoneBy command shelf begun status bytes) s.asked done in
     inl (done-ends command shelf begun status bytes did)
 
-pub done_where_supported : Below → (words : List Word) (shelf : Told) (begun : ℕ) (command : Command Word) (status : Status) (bytes : List ℕ) → AreSupported words shelf command → Says words shelf begun status bytes → EndsWith command status ⊎ (status ≡ ReadFault) ⊎ (status ≡ WriteFault) ⊎ (status ≡ OutOfMemory)
-done_where_supported below words shelf begun command WriteFault bytes s says = inr (inr (inl refl))
-done_where_supported below words shelf begun command OutOfMemory bytes s says = inr (inr (inr refl))
-done_where_supported below words shelf begun command Good bytes s says = answer-ends below words shelf begun command Good bytes s says
-done_where_supported below words shelf begun command Usage bytes s says = answer-ends below words shelf begun command Usage bytes s says
-done_where_supported below words shelf begun command BadText bytes s says = answer-ends below words shelf begun command BadText bytes s says
-done_where_supported below words shelf begun command Unsupported bytes s says = answer-ends below words shelf begun command Unsupported bytes s says
-done_where_supported below words shelf begun command OverLimit bytes s says = answer-ends below words shelf begun command OverLimit bytes s says
-done_where_supported below words shelf begun command ReadFault bytes s says = inr (inl refl)
-done_where_supported below words shelf begun command Infeasible bytes s says = answer-ends below words shelf begun command Infeasible bytes s says
-done_where_supported below words shelf begun command Undecided bytes s says = answer-ends below words shelf begun command Undecided bytes s says
-done_where_supported below words shelf begun command Rejected bytes s says = answer-ends below words shelf begun command Rejected bytes s says
+pub done_where_supported : Below → (words : List Word) (shelf : Told) (counts : Counts) (begun : ℕ) (command : Command Word) (status : Status) (bytes : List ℕ) → AreSupported words shelf command → Says words shelf counts begun status bytes → EndsWith command status ⊎ (status ≡ ReadFault) ⊎ (status ≡ WriteFault) ⊎ (status ≡ OutOfMemory)
+done_where_supported below words shelf counts begun command WriteFault bytes s says = inr (inr (inl refl))
+done_where_supported below words shelf counts begun command OutOfMemory bytes s says = inr (inr (inr refl))
+done_where_supported below words shelf counts begun command Good bytes s says = answer-ends below words shelf counts begun command Good bytes s says
+done_where_supported below words shelf counts begun command Usage bytes s says = answer-ends below words shelf counts begun command Usage bytes s says
+done_where_supported below words shelf counts begun command BadText bytes s says = answer-ends below words shelf counts begun command BadText bytes s says
+done_where_supported below words shelf counts begun command Unsupported bytes s says = answer-ends below words shelf counts begun command Unsupported bytes s says
+done_where_supported below words shelf counts begun command OverLimit bytes s says = answer-ends below words shelf counts begun command OverLimit bytes s says
+done_where_supported below words shelf counts begun command ReadFault bytes s says = inr (inl refl)
+done_where_supported below words shelf counts begun command Infeasible bytes s says = answer-ends below words shelf counts begun command Infeasible bytes s says
+done_where_supported below words shelf counts begun command Undecided bytes s says = answer-ends below words shelf counts begun command Undecided bytes s says
+done_where_supported below words shelf counts begun command Rejected bytes s says = answer-ends below words shelf counts begun command Rejected bytes s says

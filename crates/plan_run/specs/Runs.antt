@@ -11,7 +11,7 @@ use Rattle.plan_texts.specs.declared.status.Status.{Status}
 use Rattle.plan_texts.specs.declared.status.Status.TheVariants.{Good, BadText, Unsupported, OverLimit, WriteFault, OutOfMemory, Infeasible, Undecided, Rejected}
 use Rattle.plan_texts.specs.Statuses.{status_of}
 use Rattle.plan_texts.specs.Texts.{Told, Texts, two, three, HoldsOfTexts}
-use Rattle.plan_texts.specs.Refusals.{IsRefusalOf}
+use Rattle.plan_texts.specs.Refusals.{IsRefusalOf, Counts, IsShownBy}
 use Rattle.plan_texts.specs.Answers.{IsChecked, IsVerified, IsReported}
 use Rattle.plan_run.specs.Plans.{IsPlanDone}
 use Rattle.plan_run.specs.Samples.{IsSampled, IsTried}
@@ -67,10 +67,11 @@ abbrev pub IsRefusal : List Word → Told → ℕ → RunFault → Type 0
 IsRefusal words shelf begun faults.Usage = (command_in words ≡ None) × (begun ≡ 0)
 IsRefusal words shelf begun fault = IsSomeAnd (command_in words) (λ command. IsRefusedBy command shelf begun fault)
 
--- the words or the texts are refused, with the status and the line of the cause
-pub record IsRefusedSo (words : List Word) (shelf : Told) (begun : ℕ) (status : Status) (bytes : List ℕ) : Type 0 where
+-- the words or the texts are refused for a cause that the counts show, with its status and its line
+pub record IsRefusedSo (words : List Word) (shelf : Told) (counts : Counts) (begun : ℕ) (status : Status) (bytes : List ℕ) : Type 0 where
   pub fault : RunFault
   pub refusal : IsRefusal words shelf begun fault
+  pub shown : IsShownBy counts fault
   pub is_status : status ≡ status_of fault
   pub line : bytes ≡ fault_line fault
 
@@ -79,32 +80,32 @@ abbrev pub IsDoneSo : List Word → Told → ℕ → Status → List ℕ → Typ
 IsDoneSo words shelf begun status bytes = IsSomeAnd (command_in words) (λ command. IsDoneBy command shelf begun status bytes)
 
 -- With these words and texts a run that has begun so many texts may end with this status and write this text.
-abbrev pub IsAnswer : List Word → Told → ℕ → Status → List ℕ → Type 0
-IsAnswer words shelf begun status bytes = IsRefusedSo words shelf begun status bytes ⊎ IsDoneSo words shelf begun status bytes
+abbrev pub IsAnswer : List Word → Told → Counts → ℕ → Status → List ℕ → Type 0
+IsAnswer words shelf counts begun status bytes = IsRefusedSo words shelf counts begun status bytes ⊎ IsDoneSo words shelf begun status bytes
 
 -- ---- the run
 
 -- these bytes are a front of the whole text of an answer, and not all of it
-pub record IsCutAnswer (words : List Word) (shelf : Told) (begun : ℕ) (bytes : List ℕ) : Type 0 where
+pub record IsCutAnswer (words : List Word) (shelf : Told) (counts : Counts) (begun : ℕ) (bytes : List ℕ) : Type 0 where
   pub status : Status
   pub whole : List ℕ
   pub written : ℕ
-  pub answer : IsAnswer words shelf begun status whole
+  pub answer : IsAnswer words shelf counts begun status whole
   pub cut : written < length whole
   pub front : bytes ≡ take written whole
 
 -- what each status says of the texts begun and of the bytes written; where memory was wanting no more texts were begun than words follow the command
-abbrev pub Says : List Word → Told → ℕ → Status → List ℕ → Type 0
-Says words shelf begun WriteFault bytes = IsCutAnswer words shelf begun bytes
-Says words shelf begun OutOfMemory bytes = (begun ≤ length words - 1) × (bytes ≡ [])
-Says words shelf begun status bytes = IsAnswer words shelf begun status bytes
+abbrev pub Says : List Word → Told → Counts → ℕ → Status → List ℕ → Type 0
+Says words shelf counts begun WriteFault bytes = IsCutAnswer words shelf counts begun bytes
+Says words shelf counts begun OutOfMemory bytes = (begun ≤ length words - 1) × (bytes ≡ [])
+Says words shelf counts begun status bytes = IsAnswer words shelf counts begun status bytes
 
 -- A run began so many texts, wrote these bytes and nothing else, and its status says so.
-pub record IsRun (words : List Word) (shelf : Told) (begins_before begins_now : ℕ) (before now : Option (List ℕ)) (status : Status) : Type 0 where
+pub record IsRun (words : List Word) (shelf : Told) (counts : Counts) (begins_before begins_now : ℕ) (before now : Option (List ℕ)) (status : Status) : Type 0 where
   pub begun : ℕ
   pub bytes : List ℕ
   pub rise : begins_before < 2 ^ 62 → begins_now ≡ begins_before + begun
-  pub says : Says words shelf begun status bytes
+  pub says : Says words shelf counts begun status bytes
   pub written : Appends before now bytes
 
 -- an answer to words that are read, where nothing outside fails

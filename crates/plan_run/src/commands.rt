@@ -3,7 +3,7 @@
 ghost use Rattle.std.specs.Prelude.{◌≡◌, ◌≤◌, map, string_bytes, IfOk, IfErr};
 ghost use Rattle.plan_io.specs.Causes.{Rose};
 ghost use Rattle.command_words.specs.Words.{command_now, IsInRange};
-ghost use Rattle.plan_texts.specs.Stops.{IsReadStop};
+ghost use Rattle.plan_texts.specs.Stops.{IsReadStop, TookMore};
 ghost use Rattle.plan_run.specs.Found.{IsFoundBy, IsFound};
 
 use crate::planning::plan;
@@ -28,6 +28,7 @@ fn do_command<R: Threads + Wait + Sync, S: Shelf, G: Gate>(
     requires { IsInRange (command_now command) }
     ensures found { IsFoundBy (command_now command.entry) (S.text shelf.old) (S.begins shelf.old) (S.begins shelf.new) result }
     ensures read_fault { IfErr result (λ stop. IsReadStop stop → Rose (S.faults shelf.old) (S.faults shelf.new)) }
+    ensures too_long { IfErr result (TookMore (S.taken shelf.new)) }
     ensures later { S.faults shelf.old ≤ S.faults shelf.new }
 {
     match command {
@@ -71,6 +72,7 @@ pub fn answer_to<R: Threads + Wait + Sync, S: Shelf, G: Gate>(
     ensures found { IsFound (map string_bytes words.now) (S.text shelf.old)
         (S.begins shelf.old) (S.begins shelf.new) result }
     ensures read_fault { IfErr result (λ stop. IsReadStop stop → Rose (S.faults shelf.old) (S.faults shelf.new)) }
+    ensures too_long { IfErr result (TookMore (S.taken shelf.new)) }
     ensures later { S.faults shelf.old ≤ S.faults shelf.new }
 {
     let asked = match command_in(alloc, words) {

@@ -1,14 +1,14 @@
 //! What follows from the contract of the top call.
 
 ghost use Rattle.std.specs.Prelude.{ℕ, List, ◌≡◌, ◌⊎◌, map, string_bytes, None, Some, IsSome};
-ghost use Rattle.plan_io.specs.SureShelf.{text_of, begin_count};
+ghost use Rattle.plan_io.specs.SureShelf.{text_of, begin_count, taken_count};
 ghost use Rattle.plan_report.specs.declared.run_fault.RunFault.{RunFault as AnyFault};
 ghost use Rattle.command_words.specs.declared.command.Command.{Command as AnyCommand};
 ghost use Rattle.command_words.specs.Words.{Word, command_in};
 ghost use Rattle.plan_texts.specs.declared.status.Status.{Status as AnyStatus};
 ghost use Rattle.plan_texts.specs.declared.status.Status.TheVariants as statuses;
 ghost use Rattle.plan_texts.specs.Texts.{Told, Text, Texts, two, three};
-ghost use Rattle.plan_texts.specs.Refusals.{AreRefused};
+ghost use Rattle.plan_texts.specs.Refusals.{AreRefused, Counts, counts_of};
 ghost use Rattle.plan_texts.specs.Answers.{IsVerified};
 ghost use Rattle.plan_run.specs.Plans.{IsPlanDone};
 ghost use Rattle.plan_run.specs.Supports.{AreSupported, EndsWith};
@@ -35,7 +35,7 @@ pub fn run_surely<R: Threads + Wait + Sync, G: Gate>(
 ) -> Status
     // Over a sink that tells nothing the bytes are free, but the begins and the cause are not.
     ensures answer { IsRun (map string_bytes words.now) (λ name. Some (text_of shelf.old name))
-        (begin_count shelf.old) (begin_count shelf.new) None None result }
+        (counts_of 0 0 (taken_count shelf.new)) (begin_count shelf.old) (begin_count shelf.new) None None result }
     ensures complete { IsSome (command_in (map string_bytes words.now)) → IsOwnAnswer result }
     ensures no_read_fault { result ≡ Status.ReadFault → ⊥ }
     ensures no_write_fault { result ≡ Status.WriteFault → ⊥ }
@@ -67,8 +67,8 @@ pub fn accepted_where_planned()
 /// wanting. So `plan` ends with a plan, `check` with its line, `verify` with a verdict and `report` with a report or a
 /// rejection; `sample` and `trial`, which name no text, end with a network and with the line of a plan.
 pub fn done_where_supported()
-    ensures { (words : List Word) (shelf : Told) (begun : ℕ) (command : AnyCommand Word)
-        (status : AnyStatus) (bytes : List ℕ) → AreSupported words shelf command → Says words shelf begun status bytes
+    ensures { (words : List Word) (shelf : Told) (counts : Counts) (begun : ℕ) (command : AnyCommand Word)
+        (status : AnyStatus) (bytes : List ℕ) → AreSupported words shelf command → Says words shelf counts begun status bytes
         → EndsWith command status ⊎ (status ≡ statuses.ReadFault) ⊎ (status ≡ statuses.WriteFault) ⊎ (status ≡ statuses.OutOfMemory) }
 {
     one_answer_below();

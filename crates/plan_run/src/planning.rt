@@ -4,7 +4,7 @@ ghost use Rattle.std.specs.Prelude.{◌≡◌, ◌≤◌, IfOk, IfErr};
 ghost use Rattle.plan_io.specs.Causes.{Rose};
 ghost use Rattle.command_words.specs.Words.{AreWorkers, IsBudget};
 ghost use Rattle.plan_texts.specs.Texts.{Begun, two, HoldsOfTexts};
-ghost use Rattle.plan_texts.specs.Stops.{IsReadStop, Stops};
+ghost use Rattle.plan_texts.specs.Stops.{IsReadStop, TookMore, Stops};
 ghost use Rattle.plan_run.specs.Plans.{IsPlanned, IsPlanDone};
 
 use crate::searching::search;
@@ -59,6 +59,7 @@ pub fn plan<R: Threads + Wait + Sync, S: Shelf, G: Gate>(
     ensures stop { IfErr result (Stops (two network.now model.now) (S.text shelf.old)
         (S.begins shelf.old) (S.begins shelf.new)) }
     ensures read_fault { IfErr result (λ stop. IsReadStop stop → Rose (S.faults shelf.old) (S.faults shelf.new)) }
+    ensures too_long { IfErr result (TookMore (S.taken shelf.new)) }
     ensures later { S.faults shelf.old ≤ S.faults shelf.new }
 {
     let problem = match read_problem(alloc, network, model, shelf, gate) {

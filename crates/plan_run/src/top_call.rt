@@ -3,6 +3,7 @@
 ghost use Rattle.std.specs.Prelude.{◌≡◌, ◌≤◌, ◌⊎◌, map, string_bytes, IsSome};
 ghost use Rattle.plan_io.specs.Causes.{Rose};
 ghost use Rattle.command_words.specs.Words.{command_in};
+ghost use Rattle.plan_texts.specs.Refusals.{counts_of};
 ghost use Rattle.plan_run.specs.Runs.{IsRun, IsOwnAnswer};
 
 use crate::commands::answer_to;
@@ -31,6 +32,7 @@ pub fn run<R: Threads + Wait + Sync, S: Shelf, W: Sink, G: Gate>(
     gate: &G,
 ) -> Status
     ensures answer { IsRun (map string_bytes words.now) (S.text shelf.old)
+        (counts_of (S.faults shelf.old) (S.faults shelf.new) (S.taken shelf.new))
         (S.begins shelf.old) (S.begins shelf.new) (W.contents out.old) (W.contents out.new) result }
     ensures read_fault { result ≡ Status.ReadFault → Rose (S.faults shelf.old) (S.faults shelf.new) }
     ensures write_fault { result ≡ Status.WriteFault → Rose (W.faults out.old) (W.faults out.new) }

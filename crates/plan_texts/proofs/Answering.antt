@@ -1,16 +1,21 @@
 -- What is written of a problem is what is written of the texts that spell it.
 use Rattle.std.proofs.Common.{ℕ, ◌<◌, List, length, take, Option, Some, None, Result, refl}
 use Rattle.std.specs.Io.KnownBytes.{Appends}
+use Rattle.plan_io.specs.Causes.{Rose}
 use Rattle.plan_base.specs.declared.parts.Parts.{Parts}
 use Rattle.snd_network.specs.declared.file.NetworkFile.{NetworkFile}
 use Rattle.proof_tree.specs.declared.plan.Plan.{Plan}
 use Rattle.plan_report.specs.Reports.{IsReadFrom}
+use Rattle.plan_report.specs.declared.run_fault.RunFault.{RunFault}
+use Rattle.plan_report.specs.declared.run_fault.RunFault.TheVariants as faults
 use Rattle.plan_texts.specs.declared.answer.Answer.{Answer}
 use Rattle.plan_texts.specs.declared.stop.Stop.{Stop}
+use Rattle.plan_texts.specs.declared.stop.Stop.TheVariants as stops
 use Rattle.plan_texts.specs.declared.status.Status.{Status}
 use Rattle.plan_texts.specs.declared.status.Status.TheVariants.{WriteFault}
 use Rattle.plan_texts.specs.Texts.{Told, Texts, HoldsOfTexts}
-use Rattle.plan_texts.specs.Refusals.{IsProblem, HoldsOfProblem}
+use Rattle.plan_texts.specs.Refusals.{IsProblem, HoldsOfProblem, Counts, IsShownBy}
+use Rattle.plan_texts.specs.Stops.{IsReadStop, TookMore}
 use Rattle.plan_texts.specs.Answers.{IsCheck, IsVerdict, IsReport, IsChecked, IsVerified, IsReported, IsWhole, IsWritten, whole, cut}
 
 -- what holds of what the texts spell holds of a problem of the texts
@@ -37,3 +42,17 @@ written_whole found before now status text is appends = whole text is appends
 
 pub written_cut : (found : Result Answer Stop) (before now : Option (List ℕ)) (status : Status) (text : List ℕ) (written : ℕ) → IsWhole found status text → written < length text → Appends before now (take written text) → IsWritten found before now WriteFault
 written_cut found before now status text written is short appends = cut status text written is short appends refl
+
+-- ---- what a shelf shows of a refusal
+
+-- the shelf's counts show why texts are refused
+pub shown : (counts : Counts) (fault : RunFault) → (IsReadStop (stops.Refused fault) → Rose counts.faults_before counts.faults_now) → TookMore counts.taken (stops.Refused fault) → IsShownBy counts fault
+shown counts (faults.Read file) rose more = rose (file, refl)
+shown counts (faults.TooLong file) rose more = more file refl
+shown counts faults.Usage rose more = tt
+shown counts (faults.Text file fault) rose more = tt
+shown counts (faults.PlanText rule at) rose more = tt
+shown counts (faults.LoopLink link) rose more = tt
+shown counts (faults.LoopDemand demand) rose more = tt
+shown counts (faults.Unsupported key value) rose more = tt
+shown counts (faults.OverLimit limit at) rose more = tt

@@ -1,15 +1,18 @@
 -- How many texts were begun, and why a command about texts stops there.
-use Rattle.std.proofs.Common.{ℕ, ◌≡◌, ◌+◌, ◌≤◌, ◌<◌, ◌⊎◌, ◌^◌, List, refl, arith, inl, inr}
+use Rattle.std.proofs.Common.{ℕ, ◌≡◌, ◌+◌, ◌≤◌, ◌<◌, ◌⊎◌, ◌^◌, List, refl, subst, arith, inl, inr}
 use Rattle.std.proofs.lemmas.Bool.{cases_lt}
 use Rattle.plan_io.specs.Causes.{CountsUp}
+use Rattle.plan_io.specs.declared.reading.ReadWhole.{ReadWhole}
+use Rattle.plan_io.specs.declared.reading.ReadWhole.TheVariants as read_faults
+use Rattle.plan_report.specs.declared.run_fault.FileKind.{FileKind}
 use Rattle.plan_report.specs.declared.run_fault.FileKind.TheVariants as files
 use Rattle.plan_report.specs.declared.run_fault.RunFault.{RunFault}
 use Rattle.plan_report.specs.declared.run_fault.RunFault.TheVariants as faults
 use Rattle.plan_texts.specs.declared.stop.Stop.{Stop}
 use Rattle.plan_texts.specs.declared.stop.Stop.TheVariants as stops
-use Rattle.plan_texts.specs.Texts.{Told, Texts, Begun, text_count, two, three, IsRead, AreRead}
+use Rattle.plan_texts.specs.Texts.{Told, Texts, Begun, most_bytes, text_count, two, three, IsRead, AreRead}
 use Rattle.plan_texts.specs.Refusals.{AreRefused, IsRefusalOf}
-use Rattle.plan_texts.specs.Stops.{IsUnread, IsTextStop, IsStop, Stops}
+use Rattle.plan_texts.specs.Stops.{stop_of_reading, IsUnread, IsTextStop, TookMore, IsStop, Stops}
 
 one-more : (before now : ℕ) → CountsUp before now → (before < 2 ^ 63) ⊎ (2 ^ 63 ≤ before) → Begun 1 before now
 one-more before now up (inl below) = let is : now ≡ before + 1 = up.below below in record { exact = λ room. is; later = omega arith; few = omega arith }
@@ -43,6 +46,12 @@ pub plan-unread : (first second third : List ℕ) (shelf : Told) (network model 
 plan-unread first second third shelf network model before now (stops.Refused fault) begun one other (inl read) = record { begun = 3; rises = begun; few = omega arith; is = rw read record { name = third; named = refl; place = (refl, (network, one), (model, other)) } }
 plan-unread first second third shelf network model before now (stops.Refused fault) begun one other (inr long) = record { begun = 3; rises = begun; few = omega arith; is = rw long.0 record { name = third; named = refl; place = (refl, (network, one), (model, other)); longer = long.1 } }
 plan-unread first second third shelf network model before now stops.OutOfMemory begun one other unread = record { begun = 3; rises = begun; few = omega arith; is = omega arith }
+
+-- where a text is answered to be too long, more bytes than its limit were taken
+pub long_stop : (file : FileKind) (fault : ReadWhole) (taken : ℕ) → (fault ≡ read_faults.TooLong → most_bytes file < taken) → TookMore taken (stop_of_reading file fault)
+long_stop file read_faults.TooLong taken more other same = let is : file ≡ other = cc in subst (λ (f : FileKind). most_bytes f < taken) is (more refl)
+long_stop file read_faults.ReadFault taken more other same = absurd cc
+long_stop file read_faults.OutOfMemory taken more other same = absurd cc
 
 -- ---- texts that were read
 

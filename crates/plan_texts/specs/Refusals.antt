@@ -1,5 +1,6 @@
 -- Why the texts of a command are refused: the first cause in the order in which they are looked at.
 use Rattle.std.specs.Prelude.{ℕ, ◌≡◌, ◌≢◌, ◌<◌, ◌⊎◌, length, Option, None, Some, IfSome}
+use Rattle.plan_io.specs.Causes.{Rose}
 use Rattle.plan_base.specs.declared.parts.Parts.{Parts}
 use Rattle.plan_base.specs.declared.build_fault.BuildFault.TheVariants as build
 use Rattle.plan_base.specs.Facts.{IsInstance, total_load}
@@ -149,3 +150,21 @@ abbrev pub IsRefusalOf : Texts → Told → ℕ → RunFault → Type 0
 IsRefusalOf names shelf begun (faults.Read file) = IsUnreadable shelf names begun file
 IsRefusalOf names shelf begun (faults.TooLong file) = IsTooLong shelf names begun file
 IsRefusalOf names shelf begun fault = HoldsOfTexts shelf names begun (λ texts. AreRefused texts fault)
+
+-- ---- what a shelf shows of it
+
+-- counts of a shelf: its faults before and now, and the bytes taken since a text was begun last
+pub record Counts : Type 0 where
+  pub faults_before : ℕ
+  pub faults_now : ℕ
+  pub taken : ℕ
+
+-- these counts
+abbrev pub counts_of : ℕ → ℕ → ℕ → Counts
+counts_of faults_before faults_now taken = record { faults_before = faults_before; faults_now = faults_now; taken = taken }
+
+-- the counts show the cause: where a text could not be read a fault rose, where one is too long more bytes than its limit were taken
+abbrev pub IsShownBy : Counts → RunFault → Type 0
+IsShownBy counts (faults.Read file) = Rose counts.faults_before counts.faults_now
+IsShownBy counts (faults.TooLong file) = most_bytes file < counts.taken
+IsShownBy counts fault = Unit {0}

@@ -104,6 +104,10 @@ IsUnread shelf name file OutOfMemory = Unit {0}
 abbrev pub IsReadStop : Stop → Type 0
 IsReadStop stop = (file : FileKind) × (stop ≡ Refused (faults.Read file))
 
+-- where the run stops since a text is too long, more bytes than its limit were taken
+abbrev pub TookMore : ℕ → Stop → Type 0
+TookMore taken stop = (file : FileKind) → stop ≡ Refused (faults.TooLong file) → most_bytes file < taken
+
 -- why a command about texts of these names, so many of which were begun, stops
 abbrev pub IsStop : Texts → Told → ℕ → Stop → Type 0
 IsStop names shelf begun (Refused fault) = IsRefusalOf names shelf begun fault

@@ -8,7 +8,7 @@ ghost use Rattle.model_check.specs.Reading.{ReadsAs};
 ghost use Rattle.proof_tree.specs.Spellings.{IsSpellable};
 ghost use Rattle.plan_texts.specs.Texts.{Begun, two, three, HoldsOfTexts};
 ghost use Rattle.plan_texts.specs.Refusals.{IsProblem, HasFewSteps};
-ghost use Rattle.plan_texts.specs.Stops.{IsFileStop, IsProblemStop, IsTextStop, IsReadStop, Stops};
+ghost use Rattle.plan_texts.specs.Stops.{IsFileStop, IsProblemStop, IsTextStop, IsReadStop, TookMore, Stops};
 
 use crate::files::{model_of, network_of, plan_of};
 use crate::stop::{Stop, stop_of_check};
@@ -128,6 +128,7 @@ pub fn read_problem<S: Shelf, G: Gate>(
     ensures stop { IfErr result (Stops (two network.now model.now) (S.text shelf.old)
         (S.begins shelf.old) (S.begins shelf.new)) }
     ensures read_fault { IfErr result (λ stop. IsReadStop stop → Rose (S.faults shelf.old) (S.faults shelf.new)) }
+    ensures too_long { IfErr result (TookMore (S.taken shelf.new)) }
     ensures later { S.faults shelf.old ≤ S.faults shelf.new }
 {
     let texts = match read_two(alloc, shelf, network, model) {
@@ -162,6 +163,7 @@ pub fn read_planned<S: Shelf, G: Gate>(
     ensures stop { IfErr result (Stops (three network.now model.now plan.now) (S.text shelf.old)
         (S.begins shelf.old) (S.begins shelf.new)) }
     ensures read_fault { IfErr result (λ stop. IsReadStop stop → Rose (S.faults shelf.old) (S.faults shelf.new)) }
+    ensures too_long { IfErr result (TookMore (S.taken shelf.new)) }
     ensures later { S.faults shelf.old ≤ S.faults shelf.new }
 {
     let texts = match read_three(alloc, shelf, network, model, plan) {

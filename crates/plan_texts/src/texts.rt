@@ -4,7 +4,7 @@ ghost use Rattle.std.specs.Prelude.{◌≡◌, ◌≤◌, ◌<◌, ◌^◌, IfOk
 ghost use Rattle.plan_io.specs.Causes.{Rose};
 ghost use Rattle.plan_report.specs.declared.run_fault.FileKind.TheVariants as files;
 ghost use Rattle.plan_texts.specs.Texts.{Begun, most_bytes, two, three, IsRead, AreRead};
-ghost use Rattle.plan_texts.specs.Stops.{IsUnread, IsReadStop, Stops};
+ghost use Rattle.plan_texts.specs.Stops.{IsUnread, IsReadStop, TookMore, Stops};
 
 use crate::stop::{Stop, stop_of_reading};
 use cert_format::limits::MAX_PLAN_BYTES;
@@ -27,7 +27,7 @@ fn most_bytes(file: FileKind) -> u64
 }
 
 /// The text of this name.
-#[tactic(auto, using(crate::proofs::Begins::one_begun))]
+#[tactic(auto, using(crate::proofs::Begins::one_begun, crate::proofs::Begins::long_stop))]
 fn read_text<S: Shelf>(
     alloc: Global,
     shelf: &mut S,
@@ -37,6 +37,7 @@ fn read_text<S: Shelf>(
     ensures read { IfOk result (λ text. IsRead (S.text shelf.old) file name.now text.items) }
     ensures stop { IfErr result (IsUnread (S.text shelf.old) name.now file) }
     ensures read_fault { IfErr result (λ stop. IsReadStop stop → Rose (S.faults shelf.old) (S.faults shelf.new)) }
+    ensures too_long { IfErr result (TookMore (S.taken shelf.new)) }
     ensures later { S.faults shelf.old ≤ S.faults shelf.new }
     ensures begun { Begun 1 (S.begins shelf.old) (S.begins shelf.new) }
     ensures texts { S.text shelf.new ≡ S.text shelf.old }
@@ -68,6 +69,7 @@ pub fn read_two<S: Shelf>(
     ensures stop { IfErr result (Stops (two network.now model.now) (S.text shelf.old)
         (S.begins shelf.old) (S.begins shelf.new)) }
     ensures read_fault { IfErr result (λ stop. IsReadStop stop → Rose (S.faults shelf.old) (S.faults shelf.new)) }
+    ensures too_long { IfErr result (TookMore (S.taken shelf.new)) }
     ensures later { S.faults shelf.old ≤ S.faults shelf.new }
 {
     let network = match read_text(alloc, shelf, network, FileKind::Network) {
@@ -104,6 +106,7 @@ pub fn read_three<S: Shelf>(
     ensures stop { IfErr result (Stops (three network.now model.now plan.now) (S.text shelf.old)
         (S.begins shelf.old) (S.begins shelf.new)) }
     ensures read_fault { IfErr result (λ stop. IsReadStop stop → Rose (S.faults shelf.old) (S.faults shelf.new)) }
+    ensures too_long { IfErr result (TookMore (S.taken shelf.new)) }
     ensures later { S.faults shelf.old ≤ S.faults shelf.new }
 {
     let network = match read_text(alloc, shelf, network, FileKind::Network) {

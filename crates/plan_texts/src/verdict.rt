@@ -6,7 +6,7 @@ ghost use Rattle.proof_tree.specs.Spellings.{IsSpellable};
 ghost use Rattle.plan_report.specs.Reports.{IsReadFrom};
 ghost use Rattle.plan_texts.specs.Texts.{Begun, two, three, HoldsOfTexts};
 ghost use Rattle.plan_texts.specs.Answers.{IsCheck, IsVerdict, IsReport, IsChecked, IsVerified, IsReported};
-ghost use Rattle.plan_texts.specs.Stops.{IsReadStop, Stops};
+ghost use Rattle.plan_texts.specs.Stops.{IsReadStop, TookMore, Stops};
 
 use crate::answer::Answer;
 use crate::problem::{Problem, read_planned, read_problem};
@@ -89,6 +89,7 @@ pub fn check<S: Shelf, G: Gate>(
     ensures stop { IfErr result (Stops (two network.now model.now) (S.text shelf.old)
         (S.begins shelf.old) (S.begins shelf.new)) }
     ensures read_fault { IfErr result (λ stop. IsReadStop stop → Rose (S.faults shelf.old) (S.faults shelf.new)) }
+    ensures too_long { IfErr result (TookMore (S.taken shelf.new)) }
     ensures later { S.faults shelf.old ≤ S.faults shelf.new }
 {
     let problem = match read_problem(alloc, network, model, shelf, gate) {
@@ -122,6 +123,7 @@ pub fn verify_plan<S: Shelf, G: Gate>(
     ensures stop { IfErr result (Stops (three network.now model.now plan.now) (S.text shelf.old)
         (S.begins shelf.old) (S.begins shelf.new)) }
     ensures read_fault { IfErr result (λ stop. IsReadStop stop → Rose (S.faults shelf.old) (S.faults shelf.new)) }
+    ensures too_long { IfErr result (TookMore (S.taken shelf.new)) }
     ensures later { S.faults shelf.old ≤ S.faults shelf.new }
 {
     let planned = match read_planned(alloc, network, model, plan, shelf, gate) {
@@ -156,6 +158,7 @@ pub fn report<S: Shelf, G: Gate>(
     ensures stop { IfErr result (Stops (three network.now model.now plan.now) (S.text shelf.old)
         (S.begins shelf.old) (S.begins shelf.new)) }
     ensures read_fault { IfErr result (λ stop. IsReadStop stop → Rose (S.faults shelf.old) (S.faults shelf.new)) }
+    ensures too_long { IfErr result (TookMore (S.taken shelf.new)) }
     ensures later { S.faults shelf.old ≤ S.faults shelf.new }
 {
     let planned = match read_planned(alloc, network, model, plan, shelf, gate) {

@@ -1,6 +1,7 @@
 -- What the status of a run says, from what was found and what was written.
 use Rattle.std.proofs.Common.{map, ◌≡◌, ◌+◌, ◌≤◌, ◌<◌, ◌⊎◌, ◌^◌, ℕ, List, [], ◌∷◌, length, take, get_or, Option, Some, None, Result, Ok, Err, refl, sym, subst, ◌∙◌, arith, inl, inr}
 use Rattle.std.specs.Prelude.{IfOk, IfErr, IsSomeAnd}
+use Rattle.plan_io.specs.Causes.{Rose}
 use Rattle.plan_base.specs.declared.parts.Parts.{Parts}
 use Rattle.proof_tree.specs.declared.plan.Plan.{Plan}
 use Rattle.plan_report.specs.declared.run_fault.RunFault.{RunFault}
@@ -14,7 +15,9 @@ use Rattle.plan_texts.specs.declared.stop.Stop.TheVariants as stops
 use Rattle.plan_texts.specs.Statuses.{status_of}
 use Rattle.plan_texts.specs.Texts.{Name, Told, Texts, Begun, text_count, count_with, three, HoldsOfTexts}
 use Rattle.plan_texts.specs.Answers.{IsVerdict, IsVerified, accepted, rejected, IsWhole, IsWritten, whole, cut, wanting}
-use Rattle.plan_texts.specs.Stops.{IsReadStop, Stops}
+use Rattle.plan_texts.specs.Stops.{IsReadStop, TookMore, Stops}
+use Rattle.plan_texts.specs.Refusals.{Counts, IsShownBy}
+use Rattle.plan_texts.proofs.Answering.{shown}
 use Rattle.text_runs.specs.Endings.{IsUsage, IsAnswer, Says, IsTextRun, IsOwnEnd, IsEndOfWork, name_count}
 use Rattle.text_runs.specs.VerifyRuns.{names_in, usage_line}
 use Rattle.text_runs.specs.Found.{IsDoneFor, IsRefusalFor, IsResult, IsFound}
@@ -102,40 +105,40 @@ done-ends usage_line Done None shelf begun status bytes ends done = inr (inr don
 done-ends usage_line Done (Some names) shelf begun status bytes ends done = ends done.texts status bytes done.holds
 
 -- an answer has not the status of a write fault or of want of memory
-answer-own : (usage_line : List ℕ) (Done : Texts → Status → List ℕ → Type 0) (names : Option Texts) (shelf : Told) (begun : ℕ) (status : Status) (bytes : List ℕ) → Ends Done → IsAnswer usage_line Done names shelf begun status bytes → (status ≡ WriteFault → ⊥) × (status ≡ OutOfMemory → ⊥)
-answer-own usage_line Done None shelf begun status bytes ends is = (λ same. let no : ◌≡◌ {A = Status} Usage WriteFault = sym is.is_status ∙ same in absurd cc, λ same. let no : ◌≡◌ {A = Status} Usage OutOfMemory = sym is.is_status ∙ same in absurd cc)
-answer-own usage_line Done (Some names) shelf begun status bytes ends (inl refused) = (λ same. (refused-status refused.fault).0 (sym refused.is_status ∙ same), λ same. (refused-status refused.fault).1 (sym refused.is_status ∙ same))
-answer-own usage_line Done (Some names) shelf begun status bytes ends (inr done) = (λ same. not-write (subst IsEndOfWork same (ends done.texts status bytes done.holds)), λ same. not-memory (subst IsEndOfWork same (ends done.texts status bytes done.holds)))
+answer-own : (usage_line : List ℕ) (Done : Texts → Status → List ℕ → Type 0) (names : Option Texts) (shelf : Told) (counts : Counts) (begun : ℕ) (status : Status) (bytes : List ℕ) → Ends Done → IsAnswer usage_line Done names shelf counts begun status bytes → (status ≡ WriteFault → ⊥) × (status ≡ OutOfMemory → ⊥)
+answer-own usage_line Done None shelf counts begun status bytes ends is = (λ same. let no : ◌≡◌ {A = Status} Usage WriteFault = sym is.is_status ∙ same in absurd cc, λ same. let no : ◌≡◌ {A = Status} Usage OutOfMemory = sym is.is_status ∙ same in absurd cc)
+answer-own usage_line Done (Some names) shelf counts begun status bytes ends (inl refused) = (λ same. (refused-status refused.fault).0 (sym refused.is_status ∙ same), λ same. (refused-status refused.fault).1 (sym refused.is_status ∙ same))
+answer-own usage_line Done (Some names) shelf counts begun status bytes ends (inr done) = (λ same. not-write (subst IsEndOfWork same (ends done.texts status bytes done.holds)), λ same. not-memory (subst IsEndOfWork same (ends done.texts status bytes done.holds)))
 
 -- an answer with its status and whole text is what the status says
-says-answer : (usage_line : List ℕ) (Done : Texts → Status → List ℕ → Type 0) (names : Option Texts) (shelf : Told) (begun : ℕ) (status : Status) (bytes : List ℕ) → Ends Done → IsAnswer usage_line Done names shelf begun status bytes → Says usage_line Done names shelf begun status bytes
-says-answer usage_line Done names shelf begun Good bytes ends is = is
-says-answer usage_line Done names shelf begun Usage bytes ends is = is
-says-answer usage_line Done names shelf begun BadText bytes ends is = is
-says-answer usage_line Done names shelf begun Unsupported bytes ends is = is
-says-answer usage_line Done names shelf begun OverLimit bytes ends is = is
-says-answer usage_line Done names shelf begun ReadFault bytes ends is = is
-says-answer usage_line Done names shelf begun Infeasible bytes ends is = is
-says-answer usage_line Done names shelf begun Rejected bytes ends is = is
-says-answer usage_line Done names shelf begun Undecided bytes ends is = is
-says-answer usage_line Done names shelf begun WriteFault bytes ends is = absurd ((answer-own usage_line Done names shelf begun WriteFault bytes ends is).0 refl)
-says-answer usage_line Done names shelf begun OutOfMemory bytes ends is = absurd ((answer-own usage_line Done names shelf begun OutOfMemory bytes ends is).1 refl)
+says-answer : (usage_line : List ℕ) (Done : Texts → Status → List ℕ → Type 0) (names : Option Texts) (shelf : Told) (counts : Counts) (begun : ℕ) (status : Status) (bytes : List ℕ) → Ends Done → IsAnswer usage_line Done names shelf counts begun status bytes → Says usage_line Done names shelf counts begun status bytes
+says-answer usage_line Done names shelf counts begun Good bytes ends is = is
+says-answer usage_line Done names shelf counts begun Usage bytes ends is = is
+says-answer usage_line Done names shelf counts begun BadText bytes ends is = is
+says-answer usage_line Done names shelf counts begun Unsupported bytes ends is = is
+says-answer usage_line Done names shelf counts begun OverLimit bytes ends is = is
+says-answer usage_line Done names shelf counts begun ReadFault bytes ends is = is
+says-answer usage_line Done names shelf counts begun Infeasible bytes ends is = is
+says-answer usage_line Done names shelf counts begun Rejected bytes ends is = is
+says-answer usage_line Done names shelf counts begun Undecided bytes ends is = is
+says-answer usage_line Done names shelf counts begun WriteFault bytes ends is = absurd ((answer-own usage_line Done names shelf counts begun WriteFault bytes ends is).0 refl)
+says-answer usage_line Done names shelf counts begun OutOfMemory bytes ends is = absurd ((answer-own usage_line Done names shelf counts begun OutOfMemory bytes ends is).1 refl)
 
 -- ---- what was written
 
-done-answer : (usage_line : List ℕ) (Done : Texts → Status → List ℕ → Type 0) (names : Option Texts) (shelf : Told) (begun : ℕ) (status : Status) (bytes : List ℕ) → IsDoneFor usage_line Done names shelf begun status bytes → IsAnswer usage_line Done names shelf begun status bytes
-done-answer usage_line Done None shelf begun status bytes done = done
-done-answer usage_line Done (Some names) shelf begun status bytes done = inr done
+done-answer : (usage_line : List ℕ) (Done : Texts → Status → List ℕ → Type 0) (names : Option Texts) (shelf : Told) (counts : Counts) (begun : ℕ) (status : Status) (bytes : List ℕ) → IsDoneFor usage_line Done names shelf begun status bytes → IsAnswer usage_line Done names shelf counts begun status bytes
+done-answer usage_line Done None shelf counts begun status bytes done = done
+done-answer usage_line Done (Some names) shelf counts begun status bytes done = inr done
 
-refused-answer : (usage_line : List ℕ) (Done : Texts → Status → List ℕ → Type 0) (names : Option Texts) (shelf : Told) (begun : ℕ) (fault : RunFault) (status : Status) (bytes : List ℕ) → IsRefusalFor names shelf begun fault → (status ≡ status_of fault) × (bytes ≡ fault_line fault) → IsAnswer usage_line Done names shelf begun status bytes
-refused-answer usage_line Done None shelf begun fault status bytes refused is = absurd refused
-refused-answer usage_line Done (Some names) shelf begun fault status bytes refused is = inl record { fault = fault; refusal = refused; is_status = is.0; line = is.1 }
+refused-answer : (usage_line : List ℕ) (Done : Texts → Status → List ℕ → Type 0) (names : Option Texts) (shelf : Told) (counts : Counts) (begun : ℕ) (fault : RunFault) (status : Status) (bytes : List ℕ) → IsShownBy counts fault → IsRefusalFor names shelf begun fault → (status ≡ status_of fault) × (bytes ≡ fault_line fault) → IsAnswer usage_line Done names shelf counts begun status bytes
+refused-answer usage_line Done None shelf counts begun fault status bytes seen refused is = absurd refused
+refused-answer usage_line Done (Some names) shelf counts begun fault status bytes seen refused is = inl record { fault = fault; refusal = refused; shown = seen; is_status = is.0; line = is.1 }
 
 -- a whole text is that of an answer
-answer-of : (usage_line : List ℕ) (Done : Texts → Status → List ℕ → Type 0) (names : Option Texts) (shelf : Told) (begun : ℕ) (found : Result Answer Stop) (status : Status) (text : List ℕ) → IsResult usage_line Done names shelf begun found → IsWhole found status text → IsAnswer usage_line Done names shelf begun status text
-answer-of usage_line Done names shelf begun (Ok answer) status text done is = rw (is.0, is.1) (done-answer usage_line Done names shelf begun answer.status answer.text.items done)
-answer-of usage_line Done names shelf begun (Err (stops.Refused fault)) status text refused is = refused-answer usage_line Done names shelf begun fault status text refused is
-answer-of usage_line Done names shelf begun (Err stops.OutOfMemory) status text found is = absurd is
+answer-of : (usage_line : List ℕ) (Done : Texts → Status → List ℕ → Type 0) (names : Option Texts) (shelf : Told) (counts : Counts) (begun : ℕ) (found : Result Answer Stop) (status : Status) (text : List ℕ) → IfErr found (λ stop. IsReadStop stop → Rose counts.faults_before counts.faults_now) → IfErr found (TookMore counts.taken) → IsResult usage_line Done names shelf begun found → IsWhole found status text → IsAnswer usage_line Done names shelf counts begun status text
+answer-of usage_line Done names shelf counts begun (Ok answer) status text rose more done is = rw (is.0, is.1) (done-answer usage_line Done names shelf counts begun answer.status answer.text.items done)
+answer-of usage_line Done names shelf counts begun (Err (stops.Refused fault)) status text rose more refused is = refused-answer usage_line Done names shelf counts begun fault status text (shown counts fault rose more) refused is
+answer-of usage_line Done names shelf counts begun (Err stops.OutOfMemory) status text rose more found is = absurd is
 
 few-named : (names : Option Texts) → name_count names ≤ 3
 few-named None = omega arith
@@ -147,22 +150,22 @@ few-named (Some names) = few-with names.plan where
 rise : (begun before now : ℕ) → begun ≤ 3 → Begun begun before now → before < 2 ^ 62 → now ≡ before + begun
 rise begun before now short rises below = rises.exact (omega arith)
 
-pub run_says : (usage_line : List ℕ) (Done : Texts → Status → List ℕ → Type 0) (names : Option Texts) (shelf : Told) (begins_before begins_now : ℕ) (found : Result Answer Stop) (before now : Option (List ℕ)) (status : Status) → Ends Done → IsFound usage_line Done names shelf begins_before begins_now found → IsWritten found before now status → IsTextRun usage_line Done names shelf begins_before begins_now before now status
-run_says usage_line Done names shelf begins_before begins_now found before now status ends h (whole text is appends) = record {
+pub run_says : (usage_line : List ℕ) (Done : Texts → Status → List ℕ → Type 0) (names : Option Texts) (shelf : Told) (counts : Counts) (begins_before begins_now : ℕ) (found : Result Answer Stop) (before now : Option (List ℕ)) (status : Status) → Ends Done → IfErr found (λ stop. IsReadStop stop → Rose counts.faults_before counts.faults_now) → IfErr found (TookMore counts.taken) → IsFound usage_line Done names shelf begins_before begins_now found → IsWritten found before now status → IsTextRun usage_line Done names shelf counts begins_before begins_now before now status
+run_says usage_line Done names shelf counts begins_before begins_now found before now status ends rose more h (whole text is appends) = record {
   begun = h.begun;
   bytes = text;
   rise = rise h.begun begins_before begins_now (omega (arith, h.few, few-named names)) h.rises;
-  says = says-answer usage_line Done names shelf h.begun status text ends (answer-of usage_line Done names shelf h.begun found status text h.is is);
+  says = says-answer usage_line Done names shelf counts h.begun status text ends (answer-of usage_line Done names shelf counts h.begun found status text rose more h.is is);
   written = appends;
 }
-run_says usage_line Done names shelf begins_before begins_now found before now status ends h (cut other text written is short appends same) = rw same record {
+run_says usage_line Done names shelf counts begins_before begins_now found before now status ends rose more h (cut other text written is short appends same) = rw same record {
   begun = h.begun;
   bytes = take written text;
   rise = rise h.begun begins_before begins_now (omega (arith, h.few, few-named names)) h.rises;
-  says = record { status = other; whole = text; written = written; answer = answer-of usage_line Done names shelf h.begun found other text h.is is; cut = short; front = refl };
+  says = record { status = other; whole = text; written = written; answer = answer-of usage_line Done names shelf counts h.begun found other text rose more h.is is; cut = short; front = refl };
   written = appends;
 }
-run_says usage_line Done names shelf begins_before begins_now found before now status ends h (wanting same appends) = rw same record {
+run_says usage_line Done names shelf counts begins_before begins_now found before now status ends rose more h (wanting same appends) = rw same record {
   begun = h.begun;
   bytes = [];
   rise = rise h.begun begins_before begins_now (omega (arith, h.few, few-named names)) h.rises;

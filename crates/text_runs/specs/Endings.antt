@@ -7,7 +7,7 @@ use Rattle.plan_texts.specs.declared.status.Status.{Status}
 use Rattle.plan_texts.specs.declared.status.Status.TheVariants.{Good, Usage, BadText, Unsupported, OverLimit, WriteFault, OutOfMemory, Rejected}
 use Rattle.plan_texts.specs.Statuses.{status_of}
 use Rattle.plan_texts.specs.Texts.{Told, Texts, text_count, HoldsOfTexts}
-use Rattle.plan_texts.specs.Refusals.{IsRefusalOf}
+use Rattle.plan_texts.specs.Refusals.{IsRefusalOf, Counts, IsShownBy}
 
 -- ---- answers
 
@@ -17,17 +17,18 @@ pub record IsUsage (usage_line : List ℕ) (begun : ℕ) (status : Status) (byte
   pub is_status : status ≡ Usage
   pub line : bytes ≡ usage_line
 
--- texts of these names, so many of which were begun, are refused, with the status and the line of the cause
-pub record IsRefusedSo (names : Texts) (shelf : Told) (begun : ℕ) (status : Status) (bytes : List ℕ) : Type 0 where
+-- texts of these names, so many of which were begun, are refused for a cause that the counts show, with its status and its line
+pub record IsRefusedSo (names : Texts) (shelf : Told) (counts : Counts) (begun : ℕ) (status : Status) (bytes : List ℕ) : Type 0 where
   pub fault : RunFault
   pub refusal : IsRefusalOf names shelf begun fault
+  pub shown : IsShownBy counts fault
   pub is_status : status ≡ status_of fault
   pub line : bytes ≡ fault_line fault
 
 -- The words give these names or none. Names that are given have their texts refused, or the work is done for their texts.
-abbrev pub IsAnswer : List ℕ → (Texts → Status → List ℕ → Type 0) → Option Texts → Told → ℕ → Status → List ℕ → Type 0
-IsAnswer usage_line Done None shelf begun status bytes = IsUsage usage_line begun status bytes
-IsAnswer usage_line Done (Some names) shelf begun status bytes = IsRefusedSo names shelf begun status bytes ⊎ HoldsOfTexts shelf names begun (λ texts. Done texts status bytes)
+abbrev pub IsAnswer : List ℕ → (Texts → Status → List ℕ → Type 0) → Option Texts → Told → Counts → ℕ → Status → List ℕ → Type 0
+IsAnswer usage_line Done None shelf counts begun status bytes = IsUsage usage_line begun status bytes
+IsAnswer usage_line Done (Some names) shelf counts begun status bytes = IsRefusedSo names shelf counts begun status bytes ⊎ HoldsOfTexts shelf names begun (λ texts. Done texts status bytes)
 
 -- how many texts are named
 abbrev pub name_count : Option Texts → ℕ
@@ -37,26 +38,26 @@ name_count (Some names) = text_count names
 -- ---- the run
 
 -- these bytes are a front of the whole text of an answer, and not all of it
-pub record IsCutAnswer (usage_line : List ℕ) (Done : Texts → Status → List ℕ → Type 0) (names : Option Texts) (shelf : Told) (begun : ℕ) (bytes : List ℕ) : Type 0 where
+pub record IsCutAnswer (usage_line : List ℕ) (Done : Texts → Status → List ℕ → Type 0) (names : Option Texts) (shelf : Told) (counts : Counts) (begun : ℕ) (bytes : List ℕ) : Type 0 where
   pub status : Status
   pub whole : List ℕ
   pub written : ℕ
-  pub answer : IsAnswer usage_line Done names shelf begun status whole
+  pub answer : IsAnswer usage_line Done names shelf counts begun status whole
   pub cut : written < length whole
   pub front : bytes ≡ take written whole
 
 -- what each status says of the texts begun and of the bytes written
-abbrev pub Says : List ℕ → (Texts → Status → List ℕ → Type 0) → Option Texts → Told → ℕ → Status → List ℕ → Type 0
-Says usage_line Done names shelf begun WriteFault bytes = IsCutAnswer usage_line Done names shelf begun bytes
-Says usage_line Done names shelf begun OutOfMemory bytes = (begun ≤ name_count names) × (bytes ≡ [])
-Says usage_line Done names shelf begun status bytes = IsAnswer usage_line Done names shelf begun status bytes
+abbrev pub Says : List ℕ → (Texts → Status → List ℕ → Type 0) → Option Texts → Told → Counts → ℕ → Status → List ℕ → Type 0
+Says usage_line Done names shelf counts begun WriteFault bytes = IsCutAnswer usage_line Done names shelf counts begun bytes
+Says usage_line Done names shelf counts begun OutOfMemory bytes = (begun ≤ name_count names) × (bytes ≡ [])
+Says usage_line Done names shelf counts begun status bytes = IsAnswer usage_line Done names shelf counts begun status bytes
 
 -- A run began so many texts, wrote these bytes and nothing else, and its status says so.
-pub record IsTextRun (usage_line : List ℕ) (Done : Texts → Status → List ℕ → Type 0) (names : Option Texts) (shelf : Told) (begins_before begins_now : ℕ) (before now : Option (List ℕ)) (status : Status) : Type 0 where
+pub record IsTextRun (usage_line : List ℕ) (Done : Texts → Status → List ℕ → Type 0) (names : Option Texts) (shelf : Told) (counts : Counts) (begins_before begins_now : ℕ) (before now : Option (List ℕ)) (status : Status) : Type 0 where
   pub begun : ℕ
   pub bytes : List ℕ
   pub rise : begins_before < 2 ^ 62 → begins_now ≡ begins_before + begun
-  pub says : Says usage_line Done names shelf begun status bytes
+  pub says : Says usage_line Done names shelf counts begun status bytes
   pub written : Appends before now bytes
 
 -- how a run ends where nothing outside fails: its work is done, its words or texts are refused, or memory is wanting

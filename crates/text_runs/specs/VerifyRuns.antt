@@ -2,6 +2,7 @@
 use Rattle.std.specs.Prelude.{ℕ, List, [], ◌∷◌, codes, Option, Some, None}
 use Rattle.plan_texts.specs.declared.status.Status.{Status}
 use Rattle.plan_texts.specs.Texts.{Name, Told, Texts, three}
+use Rattle.plan_texts.specs.Refusals.{Counts}
 use Rattle.plan_texts.specs.Answers.{IsVerified}
 use Rattle.text_runs.specs.Endings.{IsTextRun}
 
@@ -15,5 +16,5 @@ abbrev pub usage_line : List ℕ
 usage_line = codes "usage: sndverify NET MODEL PLAN\n"
 
 -- a run of these words ends with the verdict on the plan that they name, with a refusal of words or texts, with a front of such an answer, or with nothing
-abbrev pub IsVerifyRun : List Name → Told → ℕ → ℕ → Option (List ℕ) → Option (List ℕ) → Status → Type 0
-IsVerifyRun words shelf begins_before begins_now before now status = IsTextRun usage_line IsVerified (names_in words) shelf begins_before begins_now before now status
+abbrev pub IsVerifyRun : List Name → Told → Counts → ℕ → ℕ → Option (List ℕ) → Option (List ℕ) → Status → Type 0
+IsVerifyRun words shelf counts begins_before begins_now before now status = IsTextRun usage_line IsVerified (names_in words) shelf counts begins_before begins_now before now status

@@ -2,8 +2,9 @@
 
 ghost use Rattle.std.specs.Prelude.{◌≡◌, ◌≤◌, ◌⊎◌, map, string_bytes, IfOk, IfErr};
 ghost use Rattle.plan_io.specs.Causes.{Rose};
+ghost use Rattle.plan_texts.specs.Refusals.{counts_of};
 ghost use Rattle.plan_texts.specs.Answers.{IsVerified};
-ghost use Rattle.plan_texts.specs.Stops.{IsReadStop};
+ghost use Rattle.plan_texts.specs.Stops.{IsReadStop, TookMore};
 ghost use Rattle.text_runs.specs.Endings.{IsOwnEnd, IsUsage};
 ghost use Rattle.text_runs.specs.Found.{IsFound};
 ghost use Rattle.text_runs.specs.VerifyRuns.{names_in, usage_line, IsVerifyRun};
@@ -36,6 +37,7 @@ fn answer_to<S: Shelf, G: Gate>(
     ensures found { IsFound usage_line IsVerified (names_in (map string_bytes words.now)) (S.text shelf.old)
         (S.begins shelf.old) (S.begins shelf.new) result }
     ensures read_fault { IfErr result (λ stop. IsReadStop stop → Rose (S.faults shelf.old) (S.faults shelf.new)) }
+    ensures too_long { IfErr result (TookMore (S.taken shelf.new)) }
     ensures later { S.faults shelf.old ≤ S.faults shelf.new }
 {
     match words {
@@ -73,6 +75,7 @@ pub fn verify_run<S: Shelf, W: Sink, G: Gate>(
     gate: &G,
 ) -> Status
     ensures answer { IsVerifyRun (map string_bytes words.now) (S.text shelf.old)
+        (counts_of (S.faults shelf.old) (S.faults shelf.new) (S.taken shelf.new))
         (S.begins shelf.old) (S.begins shelf.new) (W.contents out.old) (W.contents out.new) result }
     ensures read_fault { result ≡ Status.ReadFault → Rose (S.faults shelf.old) (S.faults shelf.new) }
     ensures write_fault { result ≡ Status.WriteFault → Rose (W.faults out.old) (W.faults out.new) }
