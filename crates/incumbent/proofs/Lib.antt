@@ -1,4 +1,2 @@
 pub mod GroupLaws
-pub mod ReroutingLaws
-pub mod TrafficLaws
-pub mod RoutingLaws
+pub mod DesignLaws

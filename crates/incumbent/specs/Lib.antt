@@ -1,4 +1,3 @@
 pub mod Groups
-pub mod Routings
+pub mod Rounds
 pub mod Searches
-pub mod Traffic

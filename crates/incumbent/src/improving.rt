@@ -3,13 +3,12 @@
 ghost use Rattle.std.specs.Prelude.{◌≡◌, ◌<◌, ◌≤◌, length, IfOk, IfSome};
 ghost use Rattle.plan_base.specs.Paths.{IsSimplePath};
 ghost use Rattle.plan_base.specs.Designs.{cost_of, IsDesign, IsGoodDesign};
-ghost use Rattle.least_path.specs.Paths.{AreWeights};
 ghost use Rattle.completions.specs.Completions.{ArePaths};
 ghost use Rattle.completions.specs.Links.{IsPriced};
 
-use crate::held::roomy_copies;
 use crate::rounds::Rounds;
 use completions::complete;
+use demand_routing::roomy_copies;
 use link_steps::StepTable;
 use plan_base::{Design, Instance, Items, Path, check_design};
 use std::alloc::{AllocError, Global};

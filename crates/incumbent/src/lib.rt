@@ -1,7 +1,7 @@
 //! Designs that are found: a cheaper one by other paths, and when such are searched for.
 //!
 //! Promises that `improve` gives a feasible design that is never dearer. Begin at `improve`; the search is in
-//! `rounds.rt`. Stands on `plan_base`, `link_steps`, `least_path` and `completions`, whose calls stand here too. How
+//! `rounds.rt`. Stands on `plan_base`, `link_steps`, `completions`, whose calls stand here too, and `demand_routing`. How
 //! much cheaper a design of `improve` is, no contract says: it is measured.
 #![tactic(auto)]
 
@@ -11,11 +11,8 @@ mod group;
 mod held;
 mod improving;
 mod laying;
-mod loads;
 mod ration;
 mod rounds;
-mod routing;
-mod weights;
 
 pub use completions::{complete, overfull_link};
 pub use improving::{improve, improve_seeded};

@@ -7,10 +7,10 @@ ghost use Rattle.plan_base.specs.Designs.{cost_of, IsDesign, IsGoodDesign};
 ghost use Rattle.completions.specs.Completions.{ArePaths, HasOverfull};
 ghost use Rattle.incumbent.specs.Searches.{IsDue, IsOpening, IsCheaper, next_place, HasSearched, HasWaited};
 
-use crate::held::{roomy_copies, set_path};
 use crate::improving::improve_seeded;
 use crate::laying::lay_all;
 use completions::complete;
+use demand_routing::{roomy_copies, set_path};
 use link_steps::StepTable;
 use plan_base::{DemandId, Design, Instance, Items, Path, check_design};
 use std::alloc::{AllocError, Global};
@@ -64,7 +64,7 @@ fn place_after(seat: u32, seats: u32, place: u32) -> u32
 }
 
 /// The cheapest design with these paths, where the links can carry them.
-#[tactic(auto, using(crate::proofs::ReroutingLaws::good_completion))]
+#[tactic(auto, using(crate::proofs::DesignLaws::good_completion))]
 fn completed(
     alloc: Global,
     inst: &Instance,
@@ -102,7 +102,7 @@ fn laid(
 }
 
 /// The paths of a design, where that of a demand is another one.
-#[tactic(auto, using(crate::proofs::ReroutingLaws::paths_set, crate::proofs::ReroutingLaws::paths_of_design))]
+#[tactic(auto, using(demand_routing::proofs::ReroutingLaws::paths_set, crate::proofs::DesignLaws::paths_of_design))]
 fn exchanged(
     alloc: Global,
     inst: &Instance,

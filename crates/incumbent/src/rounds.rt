@@ -3,14 +3,15 @@
 
 ghost use Rattle.std.specs.Prelude.{◌≡◌, ◌<◌, ◌%◌, min, length, IfOk, OnOk};
 ghost use Rattle.completions.specs.Completions.{ArePaths};
-ghost use Rattle.incumbent.specs.Routings.{IsRouting, AreDemands, IsSearch};
+ghost use Rattle.demand_routing.specs.Routings.{IsRouting};
+ghost use Rattle.incumbent.specs.Rounds.{AreDemands, IsSearch};
 ghost use Rattle.incumbent.specs.Searches.{far_load};
 
 use crate::cooling::Cooling;
 use crate::draws::Draws;
 use crate::group::draw_group;
-use crate::held::{Held, set_path};
-use crate::routing::Routing;
+use crate::held::Held;
+use demand_routing::{Routing, set_path};
 use link_steps::StepTable;
 use plan_base::{DemandId, Instance, Items, Path};
 use std::alloc::{AllocError, Global};
@@ -154,7 +155,7 @@ fn repair(
 }
 
 /// Keeps the paths of the demands of a group.
-#[tactic(auto, using(crate::proofs::ReroutingLaws::paths_set))]
+#[tactic(auto, using(demand_routing::proofs::ReroutingLaws::paths_set))]
 fn keep_group(
     inst: &Instance,
     group: &[DemandId],

@@ -1,4 +1,4 @@
-use Rattle.incumbent.specs.Routings.{IsRouting}
+use Rattle.demand_routing.specs.Routings.{IsRouting}
 use Rattle.incumbent.proofs.rounds.destroy.Given as goal
 
 abbrev pub invariant-loop-demand : goal.invariant-loop-demand

@@ -1,4 +1,4 @@
-use Rattle.incumbent.specs.Routings.{IsSearch}
+use Rattle.incumbent.specs.Rounds.{IsSearch}
 use Rattle.incumbent.proofs.rounds.Rounds.spend_searches.Given as goal
 
 abbrev pub invariant-loop-round : goal.invariant-loop-round

@@ -1,0 +1,3 @@
+pub mod ReroutingLaws
+pub mod TrafficLaws
+pub mod RoutingLaws

@@ -1,0 +1,2 @@
+pub mod Routings
+pub mod Traffic

@@ -1,0 +1,321 @@
+//! Paths of all demands, and what the links carry and cost with them.
+
+ghost use Rattle.std.specs.Prelude.{◌≡◌, ◌<◌, ◌≤◌, ◌+◌, ◌-◌, ◌^◌, min, true, false, length, IfOk, OnOk, IfSome, IfNone, IsTrue, IsFalse};
+ghost use Rattle.std.specs.Option.{unwrap_or};
+ghost use Rattle.plan_base.specs.Arcs.{demand_at};
+ghost use Rattle.plan_base.specs.Designs.{path_at};
+ghost use Rattle.plan_base.specs.Paths.{IsSimplePath};
+ghost use Rattle.completions.specs.Completions.{ArePaths, with_paths};
+ghost use Rattle.demand_routing.specs.Routings.{IsRouting, HasSameRoutes, IsCheapestWay, IsCheaperWay, IsLeastWay, HasNoWay, HasNoFarWay, IsStuck, is_marked};
+ghost use Rattle.demand_routing.specs.Traffic.{AreRises, HasTooMuch};
+
+use crate::copies::set_path;
+use crate::loads::{add_load, remove_load};
+use crate::weights::{no_weights, rise_along, weigh, weigh_far};
+use least_path::Room;
+use link_steps::StepTable;
+use plan_base::limits::MAX_LINKS;
+use plan_base::{DemandId, Instance, Path};
+use std::alloc::{AllocError, Global};
+
+/// A path for each demand, and what the links carry and cost with those that are laid.
+#[derive(Debug, Drop)]
+pub struct Routing {
+    pub paths: Vec<Path>,
+    /// For each demand whether its load is on the links of its path.
+    pub laid: Vec<bool>,
+    /// For each link, in load grains. They lie apart from the rest, so that a search takes little of the stack.
+    pub loads: Box<[u128; MAX_LINKS]>,
+    /// The sum of the step costs, in cost grains.
+    pub cost: u128,
+    /// How many least paths were searched for.
+    pub searches: u32,
+    /// For each link a place near which the step of its load stands, wherever that is.
+    nears: Box<[u32; MAX_LINKS]>,
+    weights: Vec<Option<u128>>,
+    room: Room,
+}
+
+impl Routing {
+    /// These paths, none of them laid.
+    pub fn new(alloc: Global, inst: &Instance, paths: Vec<Path>) -> Result<Routing, AllocError>
+        requires { ArePaths inst.now paths.items }
+        ensures routing { IfOk result (IsRouting inst.now) }
+        ensures paths { IfOk result (λ routing. routing.paths.items ≡ paths.items) }
+    {
+        Ok(Routing {
+            paths,
+            laid: vec![in alloc; false; inst.demands() as usize]?,
+            loads: Box::new(alloc, [0; MAX_LINKS])?,
+            cost: 0,
+            searches: 0,
+            nears: Box::new(alloc, [0; MAX_LINKS])?,
+            weights: no_weights(alloc, inst)?,
+            room: Room::new(alloc, inst)?,
+        })
+    }
+
+    /// Lays a demand on the links of its path. One that is laid stays so.
+    pub fn put_on(&mut self, inst: &Instance, table: &StepTable, demand: DemandId)
+        requires table { table.now ≡ inst.now }
+        requires demand { demand.0 < length inst.now.demands }
+        requires routing { IsRouting inst.now self.old }
+        ensures routing { IsRouting inst.now self.new }
+        ensures paths { self.new.paths ≡ self.old.paths }
+        ensures on { is_marked self.new.laid.items demand.0 ≡ true }
+        ensures searches { self.new.searches ≡ self.old.searches }
+        ensures cost { self.old.cost ≤ self.new.cost }
+        ensures laid { is_marked self.old.laid.items demand.0 ≡ true → self.new.cost ≡ self.old.cost }
+    {
+        let _demands = inst.demands();
+        let place = demand.0 as usize;
+        if self.laid[place] {
+            return;
+        }
+        let load = inst.demand(demand).load;
+        let arcs = self.paths[place].as_slice();
+        let rise = rise_along(inst, table, &self.loads, arcs, load);
+        add_load(&mut self.loads, arcs, load);
+        self.cost = self.cost.saturating_add(rise.unwrap_or(u128::MAX));
+        self.laid[place] = true;
+    }
+
+    /// Takes a demand off the links of its path, and tells what their step costs fall by, in cost grains. One that is off
+    /// stays so.
+    pub fn take_off(&mut self, inst: &Instance, table: &StepTable, demand: DemandId) -> Option<u128>
+        requires table { table.now ≡ inst.now }
+        requires demand { demand.0 < length inst.now.demands }
+        requires routing { IsRouting inst.now self.old }
+        ensures routing { IsRouting inst.now self.new }
+        ensures paths { self.new.paths ≡ self.old.paths }
+        ensures off { is_marked self.new.laid.items demand.0 ≡ false }
+        ensures searches { self.new.searches ≡ self.old.searches }
+        ensures cost { self.new.cost ≡ self.old.cost - unwrap_or result 0 }
+        ensures fall { IfSome result (λ fall. AreRises inst.now self.new.loads.value (demand_at inst.now demand.0).load (path_at (with_paths self.old.paths.items) demand.0) u128.MAX fall) }
+        ensures none { is_marked self.old.laid.items demand.0 ≡ true → IfNone result (HasTooMuch inst.now self.new.loads.value (demand_at inst.now demand.0).load (path_at (with_paths self.old.paths.items) demand.0)) }
+    {
+        let _demands = inst.demands();
+        let place = demand.0 as usize;
+        if !self.laid[place] {
+            return None;
+        }
+        let load = inst.demand(demand).load;
+        let arcs = self.paths[place].as_slice();
+        remove_load(&mut self.loads, arcs, load);
+        let fall = rise_along(inst, table, &self.loads, arcs, load);
+        self.cost = self.cost.saturating_sub(fall.unwrap_or(0));
+        self.laid[place] = false;
+        fall
+    }
+
+    /// Searches for a path that raises the step costs least, puts it into the room, and gives the rise in cost grains.
+    fn search(
+        &mut self,
+        inst: &Instance,
+        table: &StepTable,
+        demand: DemandId,
+    ) -> Result<Option<u128>, AllocError>
+        requires table { table.now ≡ inst.now }
+        requires demand { demand.0 < length inst.now.demands }
+        requires routing { IsRouting inst.now self.old }
+        ensures routing { IsRouting inst.now self.new }
+        ensures same { HasSameRoutes self.old self.new }
+        ensures searches { self.new.searches ≡ min (self.old.searches + 1) (2 ^ 32 - 1) }
+        ensures no_fewer { self.old.searches ≤ self.new.searches }
+        ensures cost { self.new.cost ≡ self.old.cost }
+        ensures cheapest { IfOk result (λ found. IfSome found (IsCheapestWay inst.now self.new.loads.value (demand_at inst.now demand.0) self.new.room)) }
+        ensures none { IfOk result (λ found. IfNone found (HasNoWay inst.now self.new.loads.value (demand_at inst.now demand.0))) }
+    {
+        let demand = inst.demand(demand);
+        weigh(
+            inst,
+            table,
+            &self.loads,
+            demand.load,
+            &mut self.nears,
+            &mut self.weights,
+        );
+        self.searches = self.searches.saturating_add(1);
+        self.room
+            .search(inst, &self.weights, demand.source, demand.target)
+    }
+
+    /// Searches for a path of least weight, where far more load is looked at too, and puts it into the room.
+    fn search_far(
+        &mut self,
+        inst: &Instance,
+        table: &StepTable,
+        demand: DemandId,
+        far: u128,
+    ) -> Result<Option<u128>, AllocError>
+        requires table { table.now ≡ inst.now }
+        requires demand { demand.0 < length inst.now.demands }
+        requires routing { IsRouting inst.now self.old }
+        ensures routing { IsRouting inst.now self.new }
+        ensures same { HasSameRoutes self.old self.new }
+        ensures searches { self.new.searches ≡ min (self.old.searches + 1) (2 ^ 32 - 1) }
+        ensures cost { self.new.cost ≡ self.old.cost }
+        ensures least { IfOk result (λ found. IfSome found (IsLeastWay inst.now self.new.loads.value (demand_at inst.now demand.0) far self.new.room)) }
+        ensures none { IfOk result (λ found. IfNone found (HasNoFarWay inst.now self.new.loads.value (demand_at inst.now demand.0) far)) }
+    {
+        let demand = inst.demand(demand);
+        weigh_far(
+            inst,
+            table,
+            &self.loads,
+            demand.load,
+            far,
+            &mut self.nears,
+            &mut self.weights,
+        );
+        self.searches = self.searches.saturating_add(1);
+        self.room
+            .search(inst, &self.weights, demand.source, demand.target)
+    }
+
+    /// Gives a demand that is off the path in the room.
+    fn take_path(&mut self, inst: &Instance, demand: DemandId)
+        requires demand { demand.0 < length inst.now.demands }
+        requires routing { IsRouting inst.now self.old }
+        requires off { is_marked self.old.laid.items demand.0 ≡ false }
+        requires simple { IsSimplePath inst.now (demand_at inst.now demand.0) self.old.room }
+        ensures routing { IsRouting inst.now self.new }
+        ensures laid { self.new.laid ≡ self.old.laid }
+        ensures loads { self.new.loads.value ≡ self.old.loads.value }
+        ensures searches { self.new.searches ≡ self.old.searches }
+        ensures cost { self.new.cost ≡ self.old.cost }
+        ensures path { path_at (with_paths self.new.paths.items) demand.0 ≡ self.old.room }
+    {
+        let _demands = inst.demands();
+        self.room.swap(&mut self.paths[demand.0 as usize]);
+    }
+
+    /// Searches for a path that raises the step costs by less than this, and gives it to the demand, which is off.
+    fn take_cheaper(
+        &mut self,
+        inst: &Instance,
+        table: &StepTable,
+        demand: DemandId,
+        own: Option<u128>,
+    ) -> Result<bool, AllocError>
+        requires table { table.now ≡ inst.now }
+        requires demand { demand.0 < length inst.now.demands }
+        requires routing { IsRouting inst.now self.old }
+        requires off { is_marked self.old.laid.items demand.0 ≡ false }
+        ensures routing { IsRouting inst.now self.new }
+        ensures laid { self.new.laid ≡ self.old.laid }
+        ensures cost { self.new.cost ≡ self.old.cost }
+        ensures no_fewer { self.old.searches ≤ self.new.searches }
+        ensures one_more { self.new.searches ≤ self.old.searches + 1 }
+        ensures searches { IfNone own (self.new.searches ≡ min (self.old.searches + 1) (2 ^ 32 - 1)) }
+        ensures kept { IfOk result (λ taken. IsFalse taken → self.new.paths ≡ self.old.paths) }
+        ensures cheaper { IfOk result (λ taken. IsTrue taken → IsCheaperWay inst.now self.new.loads.value (demand_at inst.now demand.0) own (path_at (with_paths self.new.paths.items) demand.0)) }
+        ensures none { IfOk result (λ taken. IsFalse taken → IfNone own (HasNoWay inst.now self.new.loads.value (demand_at inst.now demand.0))) }
+    {
+        if let Some(0) = own {
+            return Ok(false);
+        }
+        let Some(rise) = self.search(inst, table, demand)? else {
+            return Ok(false);
+        };
+        match own {
+            Some(own) if own <= rise => Ok(false),
+            _ => {
+                self.take_path(inst, demand);
+                Ok(true)
+            }
+        }
+    }
+
+    /// Moves a demand to the path that raises the step costs least, where that is cheaper than its own.
+    pub fn reroute(
+        &mut self,
+        inst: &Instance,
+        table: &StepTable,
+        demand: DemandId,
+    ) -> Result<bool, AllocError>
+        requires table { table.now ≡ inst.now }
+        requires demand { demand.0 < length inst.now.demands }
+        requires routing { IsRouting inst.now self.old }
+        ensures routing { IsRouting inst.now self.new }
+        ensures on { OnOk result (is_marked self.new.laid.items demand.0 ≡ true) }
+        ensures kept { IfOk result (λ helps. IsFalse helps → self.new.paths ≡ self.old.paths) }
+        ensures no_fewer { self.old.searches ≤ self.new.searches }
+        ensures one_more { self.new.searches ≤ self.old.searches + 1 }
+    {
+        let own = self.take_off(inst, table, demand);
+        let helps = self.take_cheaper(inst, table, demand, own)?;
+        self.put_on(inst, table, demand);
+        Ok(helps)
+    }
+
+    /// Lays a demand on the path that raises the step costs least, where there is one whose links can carry it.
+    pub fn lay_least(
+        &mut self,
+        inst: &Instance,
+        table: &StepTable,
+        demand: DemandId,
+    ) -> Result<bool, AllocError>
+        requires table { table.now ≡ inst.now }
+        requires demand { demand.0 < length inst.now.demands }
+        requires routing { IsRouting inst.now self.old }
+        ensures routing { IsRouting inst.now self.new }
+        ensures searches { self.new.searches ≡ min (self.old.searches + 1) (2 ^ 32 - 1) }
+        ensures on { IfOk result (λ found. IsTrue found → is_marked self.new.laid.items demand.0 ≡ true) }
+        ensures stuck { IfOk result (λ found. IsFalse found → IsStuck inst.now) }
+    {
+        let _fall = self.take_off(inst, table, demand);
+        let found = self.take_cheaper(inst, table, demand, None)?;
+        if found {
+            self.put_on(inst, table, demand);
+        }
+        Ok(found)
+    }
+
+    /// Lays a demand on a path of least weight, where far more load is looked at too.
+    pub fn lay_far(
+        &mut self,
+        inst: &Instance,
+        table: &StepTable,
+        demand: DemandId,
+        far: u128,
+    ) -> Result<bool, AllocError>
+        requires table { table.now ≡ inst.now }
+        requires demand { demand.0 < length inst.now.demands }
+        requires routing { IsRouting inst.now self.old }
+        ensures routing { IsRouting inst.now self.new }
+        ensures searches { self.new.searches ≡ min (self.old.searches + 1) (2 ^ 32 - 1) }
+        ensures on { IfOk result (λ found. IsTrue found → is_marked self.new.laid.items demand.0 ≡ true) }
+        ensures off { IfOk result (λ found. IsFalse found → is_marked self.new.laid.items demand.0 ≡ false) }
+    {
+        let _fall = self.take_off(inst, table, demand);
+        let Some(_weight) = self.search_far(inst, table, demand, far)? else {
+            return Ok(false);
+        };
+        self.take_path(inst, demand);
+        self.put_on(inst, table, demand);
+        Ok(true)
+    }
+
+    /// Lays a demand on this path, in place of its own.
+    pub fn set_back(
+        &mut self,
+        inst: &Instance,
+        table: &StepTable,
+        demand: DemandId,
+        path: &Path,
+    ) -> Result<(), AllocError>
+        requires table { table.now ≡ inst.now }
+        requires demand { demand.0 < length inst.now.demands }
+        requires routing { IsRouting inst.now self.old }
+        requires path { IsSimplePath inst.now (demand_at inst.now demand.0) path.now }
+        ensures routing { OnOk result (IsRouting inst.now self.new) }
+        ensures searches { self.new.searches ≡ self.old.searches }
+        ensures on { OnOk result (is_marked self.new.laid.items demand.0 ≡ true) }
+    {
+        let _fall = self.take_off(inst, table, demand);
+        set_path(&mut self.paths, demand, path)?;
+        self.put_on(inst, table, demand);
+        Ok(())
+    }
+}

@@ -1,9 +1,0 @@
-use Rattle.std.proofs.Common.{slice_index, arith}
-use Rattle.plan_base.specs.Arcs.{no_arc}
-use Rattle.incumbent.proofs.TrafficLaws.{added-next}
-use Rattle.incumbent.proofs.loads.add_load.Goals as goal
-
-pub loop-arc-preserved : goal.loop-arc-preserved
-loop-arc-preserved c = λ e within.
-    added-next e (slice_index c.args.loads.now e) (slice_index c.add_at.new.loads e) (slice_index c.loop-arc.loads e) c.args.load 340282366920938463463374607431768211455
-    c.args.arcs.now c.loop-arc.arc-index no_arc (omega arith) (c.loop-arc.invariant e within) (c.add_at.ensures e within)

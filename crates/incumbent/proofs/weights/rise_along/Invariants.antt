@@ -1,6 +1,0 @@
-use Rattle.std.proofs.Common.{◌-◌, ◌^◌, take}
-use Rattle.incumbent.specs.Traffic.{AreRises}
-use Rattle.incumbent.proofs.weights.rise_along.Given as goal
-
-abbrev pub invariant-loop-arc : goal.invariant-loop-arc
-invariant-loop-arc l = AreRises l.inst l.loads l.load (take l.arc-index l.arcs) (2 ^ 128 - 1) l.sum
