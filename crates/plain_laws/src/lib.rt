@@ -1,4 +1,4 @@
-//! Laws that stand beside the crates: their limits and exit numbers as plain numbers, and what their lemmas show.
+//! Laws that stand beside the crates: their limits as plain numbers, and what their lemmas show.
 //!
 //! Definitions name the constants of the code. Here each limit stands as a literal, so that a constant which is changed is
 //! refused, whatever else would still be proved; and two laws say in public what lemmas of crates below show. They stand
@@ -6,13 +6,11 @@
 //! Nothing stands on this crate.
 #![tactic(auto)]
 
-mod exits;
 mod instances;
 mod plans;
 mod searches;
 mod texts;
 
-pub use exits::exit_number;
 pub use instances::{amounts_of_instances, built_or_refused, sizes_of_instances, steps_of_links};
 pub use plans::{numbers_of_designs, sizes_of_plans};
 pub use searches::{counts_of_workers, each_step, sizes_of_searches};

@@ -1,7 +1,7 @@
 //! How a run ends.
 
 ghost use Rattle.std.specs.Prelude.{◌≡◌};
-ghost use Rattle.plan_texts.specs.Statuses.{status_of, status_of_plan};
+ghost use Rattle.plan_texts.specs.Statuses.{exit_number, status_of, status_of_plan};
 
 use plan_report::RunFault;
 use proof_tree::PlanStatus;
@@ -34,6 +34,15 @@ pub enum Status {
 }
 
 impl Status {
+    /// The number that the programs exit with.
+    ///
+    /// - Rule: docs/FORMATS.md, "Statuses".
+    pub fn number(self) -> u8
+        ensures { result ≡ exit_number self }
+    {
+        self as u8
+    }
+
     /// How a run ends that refuses its words or texts so.
     pub(crate) fn of_fault(fault: RunFault) -> Status
         ensures { result ≡ status_of fault }

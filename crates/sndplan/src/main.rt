@@ -16,7 +16,7 @@ fn main(rt: HostRuntime) -> ExitCode {
     let words = match words_given(&rt) {
         Ok(words) => words,
         Err(error) if error.kind() == io::ErrorKind::OutOfMemory => {
-            return ExitCode::from(Status::OutOfMemory as u8);
+            return ExitCode::from(Status::OutOfMemory.number());
         }
         // A word that is not UTF-8 is none that is read.
         Err(_) => Vec::new(rt.alloc()),
@@ -31,5 +31,5 @@ fn main(rt: HostRuntime) -> ExitCode {
         &mut out,
         &NoGate,
     );
-    ExitCode::from(status as u8)
+    ExitCode::from(status.number())
 }

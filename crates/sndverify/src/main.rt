@@ -16,7 +16,7 @@ fn main(rt: HostRuntime) -> ExitCode {
     let words = match words_given(&rt) {
         Ok(words) => words,
         Err(error) if error.kind() == io::ErrorKind::OutOfMemory => {
-            return ExitCode::from(Status::OutOfMemory as u8);
+            return ExitCode::from(Status::OutOfMemory.number());
         }
         // A word that is not UTF-8 is none that is read.
         Err(_) => Vec::new(rt.alloc()),
@@ -24,5 +24,5 @@ fn main(rt: HostRuntime) -> ExitCode {
     let mut shelf = FileShelf::new(&rt);
     let mut out = OutSink::new(io::writer(&rt));
     let status = verify_run(rt.alloc(), words.as_slice(), &mut shelf, &mut out, &NoGate);
-    ExitCode::from(status as u8)
+    ExitCode::from(status.number())
 }
