@@ -1,0 +1,5 @@
+mod RowLists
+mod Moves
+mod Puts
+mod Looks
+mod Shows
