@@ -25,3 +25,4 @@ pub mod Crowdings
 pub mod Gatherings
 pub mod Advancing
 pub mod Claiming
+pub mod OnlyAnswers

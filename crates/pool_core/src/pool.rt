@@ -10,6 +10,7 @@ mod claiming;
 mod closing;
 mod dividing;
 mod examining;
+mod foretelling;
 mod gathering;
 mod making;
 mod offering;

@@ -83,7 +83,12 @@ fn either(one: bool, other: bool) -> bool
 impl Pool {
     /// Why prices are refused before they are valued, if they are.
     #[tactic(auto, unfolding(pool_machine::specs::Publishing::publish_fault))]
-    fn publish_refusal(&self, node: BranchId, seen: u64, prices: &Prices) -> Option<Publish>
+    pub(super) fn publish_refusal(
+        &self,
+        node: BranchId,
+        seen: u64,
+        prices: &Prices,
+    ) -> Option<Publish>
         ensures { result ≡ publish_fault self.now node seen prices.now }
     {
         if self.is_spent() {
@@ -127,7 +132,11 @@ impl Pool {
 
     /// The node's mark that its crowd prices were tried, when these prices follow; where they may not, the restricted
     /// values of the round's prices and of these.
-    fn mark_after(&mut self, node: BranchId, prices: &Prices) -> Result<bool, (i128, i128)>
+    pub(super) fn mark_after(
+        &mut self,
+        node: BranchId,
+        prices: &Prices,
+    ) -> Result<bool, (i128, i128)>
         requires gathered { IsGatheredAt self.old node }
         requires prices { IsPriceList self.old.problem prices.now }
         ensures unchanged { self.new ≡ self.old }

@@ -1,6 +1,6 @@
 //! What the pool tells without an event.
 
-ghost use Rattle.std.specs.Prelude.{◌≡◌, ◌↔◌, true, IsSome, IfSome, IfOk, slice_get, option_map};
+ghost use Rattle.std.specs.Prelude.{◌≡◌, ◌↔◌, true, IsSome, IfSome, IfOk, length, slice_get, option_map};
 ghost use Rattle.std.specs.Arc.{arc_value};
 ghost use Rattle.arc_restrict.specs.Rows.{forbids};
 ghost use Rattle.pool_machine.specs.State.{state_of, cutoff_of, restriction_of};
@@ -62,6 +62,7 @@ impl Pool {
     pub fn first_prices(&self, node: BranchId) -> Option<&Prices>
         ensures waits { IsSome result ↔ (is_waiting (state_of self.now node) ≡ true) }
         ensures value { IfSome result (λ prices. IfSome (slice_get self.now.nodes node.0) (λ x. prices.now ≡ x.first_prices)) }
+        ensures count { IfSome result (λ prices. length prices.now ≡ length self.now.problem.links) }
     {
         if !super::is_waiting(self.state(node)) {
             return None;

@@ -1,0 +1,53 @@
+//! What an opening or a publishing would answer now. Who asks has what the answer names ready before the call is made.
+
+ghost use Rattle.std.specs.Prelude.{◌≡◌, ◌<◌, true, length, IfOk};
+ghost use Rattle.pool_machine.specs.declared.limits.TheConstants.{MAX_ROUNDS};
+ghost use Rattle.pool_machine.specs.State.{state_of};
+ghost use Rattle.pool_machine.specs.Opening.{is_waiting};
+ghost use Rattle.pool_core.specs.Foretold.{IsOpenAnswer, IsOnlyOpening, IsPublishAnswer, IfPublished, IsOnlyPublishing};
+
+use super::Pool;
+use plan_base::{BranchId, Prices};
+use pool_machine::{Opened, Publish, RoundFault};
+use pool_nodes::first_free;
+
+impl Pool {
+    /// What `open_round` would answer now. Takes no memory.
+    pub fn open_answer(&self, node: BranchId) -> Result<Opened, RoundFault>
+        ensures answer { IsOpenAnswer self.now node result }
+        ensures only { IfOk result (IsOnlyOpening self.now node) }
+        ensures slot { IfOk result (λ opened. opened.slot < MAX_ROUNDS) }
+        ensures waits { IfOk result (λ opened. is_waiting (state_of self.now node) ≡ true) }
+    {
+        if let Some(fault) = self.open_refusal(node) {
+            return Err(fault);
+        }
+        let slot = first_free(self.places.as_slice());
+        Ok(Opened {
+            slot: slot as u32,
+            version: self.next_version,
+        })
+    }
+
+    /// What `publish` would answer now. Takes no memory.
+    ///
+    /// - Takes: what `publish` takes.
+    pub fn publish_answer(&mut self, node: BranchId, seen: u64, prices: &Prices) -> Publish
+        ensures unchanged { self.new ≡ self.old }
+        ensures answer { IsPublishAnswer self.old node seen prices.now result }
+        ensures only { IfPublished result (λ slot version. IsOnlyPublishing self.old node seen prices.now result) }
+        ensures slot { IfPublished result (λ slot version. slot < MAX_ROUNDS) }
+        ensures count { IfPublished result (λ slot version. length prices.now ≡ length self.old.problem.links) }
+    {
+        if let Some(refusal) = self.publish_refusal(node, seen, prices) {
+            return refusal;
+        }
+        match self.mark_after(node, prices) {
+            Ok(_mark) => Publish::Published {
+                slot: self.round_at(node).slot(),
+                version: self.next_version,
+            },
+            Err((old, new)) => Publish::NoGain { old, new },
+        }
+    }
+}
