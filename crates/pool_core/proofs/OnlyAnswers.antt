@@ -5,7 +5,6 @@ use Rattle.std.proofs.lemmas.Int.{ints}
 use Rattle.plan_base.specs.declared.ids.BranchId.{BranchId}
 use Rattle.master_step.specs.Restricted.{IsRestrictedValue}
 use Rattle.master_step.proofs.Uniqueness.{value-unique}
-use Rattle.pool_machine.specs.declared.limits.TheConstants.{MAX_ROUNDS}
 use Rattle.pool_machine.specs.declared.answers.Opened.{Opened}
 use Rattle.pool_machine.specs.declared.answers.RoundFault.{RoundFault}
 use Rattle.pool_machine.specs.declared.answers.Publish.{Publish}
@@ -15,16 +14,15 @@ use Rattle.pool_machine.specs.State.{Round, Node, State, state_by, state_in, sta
 use Rattle.pool_machine.specs.Gathering.{columns_for}
 use Rattle.pool_machine.specs.Opening.{is_waiting, IsTaken, IsLowestFreeSlot, OpenStep}
 use Rattle.pool_machine.specs.Publishing.{publish_fault, IsBetterStep, IsCrowdStep, Publishes, IsNoGain, PublishStep}
-use Rattle.pool_machine.specs.Soundness.{IsSound}
 use Rattle.pool_machine.proofs.Frames.{one_at}
 use Rattle.pool_nodes.specs.declared.slot.Slot.{Slot}
 use Rattle.pool_nodes.specs.Slots.{IsFirstFree}
 use Rattle.pool_core.specs.Views.{IsPool}
 use Rattle.pool_core.specs.Valuing.{HasNoGain, IsToPublish}
-use Rattle.pool_core.specs.Foretold.{IsOpenAnswer, IsOnlyOpening, WouldPublish, IsPublishAnswer, IfPublished, IsOnlyPublishing}
-use Rattle.pool_core.proofs.OpenPool.{MayOpen, slot-within}
+use Rattle.pool_core.specs.declared.pool.following.Following.{Following}
+use Rattle.pool_core.specs.Foretold.{IsOpenAnswer, IsOnlyOpening, IsFollowing, IsPublishAnswer, IfPublished, IfRefused, IsOnlyPublishing}
+use Rattle.pool_core.proofs.OpenPool.{MayOpen}
 use Rattle.pool_core.proofs.Publishable.{publish_fault-refusal}
-use Rattle.pool_core.proofs.Reading.{sound-round}
 
 -- Openings
 
@@ -49,26 +47,18 @@ only-opening s id opened is (Err fault) new step =
 pub may_open-waits : (s : State) (id : BranchId) → MayOpen s id → is_waiting (state_of s id) ≡ true
 may_open-waits s id may = ap (λ (o : Option Node). is_waiting (state_in o)) may.is_node ∙ ap₂ (λ (f : Fate) (r : Option Round). is_waiting (state_by f r)) may.undone may.no_round
 
--- the first free place is the lowest free slot
-pub lowest-free : (s : State) (places : List Slot) (id : BranchId) (slot : ℕ) → IsPool s places → MayOpen s id → IsFirstFree places slot → IsLowestFreeSlot s slot
-lowest-free s places id slot h may first = record {
-  within = slot-within s places id slot h may first;
-  free = λ taken. h.has_places.free slot first.place first.is_free taken;
-  lowest = λ other below. let w = first.lower other below in let t = h.has_places.taken other w.0 w.1 in (w.0.0, t.0, t.1, t.2);
-}
-
 -- Publishings
 
-module _ (s : State) (id : BranchId) (seen : ℕ) (prices : List ℕ) (slot version : ℕ) (would : WouldPublish s id seen prices slot version) where
+module _ (s : State) (id : BranchId) (seen : ℕ) (prices : List ℕ) (next : Following) (will : IsFollowing s id seen prices next) where
   -- each refusal would be the first cause why not
   not_refused : (refusal : Publish) → publish_fault s id seen prices ≡ Some refusal → ⊥
-  not_refused refusal is = let bad : ◌≡◌ {A = Option Publish} None (Some refusal) = sym would.allowed ∙ is in cc
+  not_refused refusal is = let bad : ◌≡◌ {A = Option Publish} None (Some refusal) = sym will.allowed ∙ is in cc
 
-  no_loss : (before after : ℤ) → HasNoGain s would.node would.round prices before after → ⊥
-  no_loss before after not_so = elim would.gains [
+  no_loss : (before after : ℤ) → HasNoGain s will.node will.round prices before after → ⊥
+  no_loss before after not_so = elim will.gains [
     | inl better ↦
-        let one = value-unique s.problem (columns_for s would.node) would.round.prices better.before before better.is_before not_so.is_before in
-        let two = value-unique s.problem (columns_for s would.node) prices better.after after better.is_after not_so.is_after in
+        let one = value-unique s.problem (columns_for s will.node) will.round.prices better.before before better.is_before not_so.is_before in
+        let two = value-unique s.problem (columns_for s will.node) prices better.after after better.is_after not_so.is_after in
         let greater = better.greater in
         let less = not_so.not_greater in
         absurd (omega (arith, ints))
@@ -76,30 +66,30 @@ module _ (s : State) (id : BranchId) (seen : ℕ) (prices : List ℕ) (slot vers
   ]
 
   -- whatever node and round are there, they are these
-  same_node : (node : Node) → slice_get s.nodes id.0 ≡ Some node → node ≡ would.node
-  same_node node is = one_at s.nodes id.0 node would.node is would.may.is_gathered.complete_round.is_node
+  same_node : (node : Node) → slice_get s.nodes id.0 ≡ Some node → node ≡ will.node
+  same_node node is = one_at s.nodes id.0 node will.node is will.may.is_gathered.complete_round.is_node
 
-  same_round : (node : Node) (round : Round) → slice_get s.nodes id.0 ≡ Some node → node.round ≡ Some round → round ≡ would.round
+  same_round : (node : Node) (round : Round) → slice_get s.nodes id.0 ≡ Some node → node.round ≡ Some round → round ≡ will.round
   same_round node round is_node is_round =
-      let both : Some round ≡ Some would.round = sym is_round ∙ (ap (λ (x : Node). x.round) (same_node node is_node) ∙ would.may.is_gathered.complete_round.is_round) in
+      let both : Some round ≡ Some will.round = sym is_round ∙ (ap (λ (x : Node). x.round) (same_node node is_node) ∙ will.may.is_gathered.complete_round.is_round) in
       cc
 
   no_gainless : (before after : ℤ) (new : State) → IsNoGain s id seen prices before after new → ⊥
   no_gainless before after new step =
       let is = step.may.is_gathered.complete_round in
       let there : HasNoGain s step.node step.round prices before after = record { is_before = step.is_before; is_after = step.is_after; not_greater = step.not_greater; no_crowd_step = step.no_crowd_step } in
-      no_loss before after (subst (λ (r : Round). HasNoGain s would.node r prices before after) (same_round step.node step.round is.is_node is.is_round)
+      no_loss before after (subst (λ (r : Round). HasNoGain s will.node r prices before after) (same_round step.node step.round is.is_node is.is_round)
       (subst (λ (x : Node). HasNoGain s x step.round prices before after) (same_node step.node is.is_node) there))
 
-  published-same : (a b : ℕ) (new : State) → Publishes s id seen prices a b new → publish.Published a b ≡ publish.Published slot version
-  published-same a b new step =
+  published-same : (slot version : ℕ) (new : State) → Publishes s id seen prices slot version new → publish.Published slot version ≡ publish.Published next.slot next.version
+  published-same slot version new step =
       let is = step.may.is_gathered.complete_round in
-      let slots : a ≡ slot = step.slot_is ∙ (ap (λ (r : Round). r.slot) (same_round step.node step.round is.is_node is.is_round) ∙ sym would.slot_is) in
-      let versions : b ≡ version = step.version_is ∙ sym would.version_is in
+      let slots : slot ≡ next.slot = step.slot_is ∙ (ap (λ (r : Round). r.slot) (same_round step.node step.round is.is_node is.is_round) ∙ sym will.slot_is) in
+      let versions : version ≡ next.version = step.version_is ∙ sym will.version_is in
       λ i. publish.Published (slots i) (versions i)
 
-  pub only-publishing : IsOnlyPublishing s id seen prices (publish.Published slot version)
-  only-publishing (publish.Published a b) new step = published-same a b new step
+  pub only-publishing : IsOnlyPublishing s id seen prices (publish.Published next.slot next.version)
+  only-publishing (publish.Published slot version) new step = published-same slot version new step
   only-publishing (publish.NoGain before after) new step = absurd (no_gainless before after new step)
   only-publishing (publish.Spent x) new step = absurd (not_refused (publish.Spent x) step.0)
   only-publishing (publish.Stale x) new step = absurd (not_refused (publish.Stale x) step.0)
@@ -110,46 +100,67 @@ module _ (s : State) (id : BranchId) (seen : ℕ) (prices : List ℕ) (slot vers
   only-publishing (publish.OverPrice x) new step = absurd (not_refused (publish.OverPrice x) step.0)
   only-publishing (publish.Ungathered x) new step = absurd (not_refused (publish.Ungathered x) step.0)
 
-  pub slot-below : IsSound s → slot < MAX_ROUNDS
-  slot-below sound =
-      let is = would.may.is_gathered.complete_round in
-      let below = (sound-round s id sound (record { node = would.node; round = would.round; is_node = is.is_node; is_round = is.is_round })).slot in
-      subst (λ (n : ℕ). n < MAX_ROUNDS) (sym would.slot_is) below
-
-pub would-publish : (s : State) (id : BranchId) (seen : ℕ) (prices : List ℕ) (mark : _) (slot version : ℕ) → publish_fault s id seen prices ≡ None → (to : IsToPublish s id seen prices mark) → slot ≡ to.round.slot → version ≡ s.next_version
-    → WouldPublish s id seen prices slot version
-would-publish s id seen prices mark slot version allowed to slot_is version_is = record { allowed = allowed; node = to.node; round = to.round; may = to.may; gains = to.gains; slot_is = slot_is; version_is = version_is }
+-- what may be published follows
+pub following-of : (s : State) (id : BranchId) (seen : ℕ) (prices : List ℕ) (next : Following) → publish_fault s id seen prices ≡ None → (to : IsToPublish s id seen prices next.crowd_tried) → next.slot ≡ to.round.slot
+    → next.version ≡ s.next_version → IsFollowing s id seen prices next
+following-of s id seen prices next allowed to slot_is version_is =
+    record { allowed = allowed; node = to.node; round = to.round; may = to.may; gains = to.gains; is_mark = to.is_mark; slot_is = slot_is; version_is = version_is }
 
 -- a refusal is no success
-published-never : (s : State) (id : BranchId) (seen : ℕ) (prices : List ℕ) (slot version : ℕ) → publish_fault s id seen prices ≡ Some (publish.Published slot version) → ⊥
-published-never s id seen prices slot version is =
+abbrev IsNoSuccess : Publish → Type 0
+IsNoSuccess answer = IfPublished answer (λ slot version. ⊥)
+
+pub fault-no_success : (s : State) (id : BranchId) (seen : ℕ) (prices : List ℕ) (refusal : Publish) → publish_fault s id seen prices ≡ Some refusal → IsNoSuccess refusal
+fault-no_success s id seen prices (publish.Published slot version) is =
     let step : Publishes s id seen prices slot version s = publish_fault-refusal s id seen prices (publish.Published slot version) is in
     let more : s.next_version ≡ suc s.next_version = ap (λ (t : State). t.next_version) step.becomes in
     omega arith
+fault-no_success s id seen prices (publish.NoGain before after) is = tt
+fault-no_success s id seen prices (publish.Spent x) is = tt
+fault-no_success s id seen prices (publish.Stale x) is = tt
+fault-no_success s id seen prices publish.Settled is = tt
+fault-no_success s id seen prices (publish.Incomplete x) is = tt
+fault-no_success s id seen prices (publish.Rounds x) is = tt
+fault-no_success s id seen prices (publish.PriceCount x) is = tt
+fault-no_success s id seen prices (publish.OverPrice x) is = tt
+fault-no_success s id seen prices (publish.Ungathered x) is = tt
 
-pub refused-not_published : (s : State) (id : BranchId) (seen : ℕ) (prices : List ℕ) (Holds : ℕ → ℕ → Type 0) (refusal : Publish) → publish_fault s id seen prices ≡ Some refusal → IfPublished refusal Holds
-refused-not_published s id seen prices Holds (publish.Published slot version) is = absurd (published-never s id seen prices slot version is)
-refused-not_published s id seen prices Holds (publish.NoGain before after) is = tt
-refused-not_published s id seen prices Holds (publish.Spent x) is = tt
-refused-not_published s id seen prices Holds (publish.Stale x) is = tt
-refused-not_published s id seen prices Holds publish.Settled is = tt
-refused-not_published s id seen prices Holds (publish.Incomplete x) is = tt
-refused-not_published s id seen prices Holds (publish.Rounds x) is = tt
-refused-not_published s id seen prices Holds (publish.PriceCount x) is = tt
-refused-not_published s id seen prices Holds (publish.OverPrice x) is = tt
-refused-not_published s id seen prices Holds (publish.Ungathered x) is = tt
+pub no_success-if : (answer : Publish) (Holds : ℕ → ℕ → Type 0) → IsNoSuccess answer → IfPublished answer Holds
+no_success-if (publish.Published slot version) Holds none = absurd none
+no_success-if (publish.NoGain before after) Holds none = tt
+no_success-if (publish.Spent x) Holds none = tt
+no_success-if (publish.Stale x) Holds none = tt
+no_success-if publish.Settled Holds none = tt
+no_success-if (publish.Incomplete x) Holds none = tt
+no_success-if (publish.Rounds x) Holds none = tt
+no_success-if (publish.PriceCount x) Holds none = tt
+no_success-if (publish.OverPrice x) Holds none = tt
+no_success-if (publish.Ungathered x) Holds none = tt
 
-pub refused-answer : (s : State) (id : BranchId) (seen : ℕ) (prices : List ℕ) (refusal : Publish) → publish_fault s id seen prices ≡ Some refusal → IsPublishAnswer s id seen prices refusal
-refused-answer s id seen prices (publish.Published slot version) is = absurd (published-never s id seen prices slot version is)
-refused-answer s id seen prices (publish.NoGain before after) is = publish_fault-refusal s id seen prices (publish.NoGain before after) is
-refused-answer s id seen prices (publish.Spent x) is = (is, refl)
-refused-answer s id seen prices (publish.Stale x) is = (is, refl)
-refused-answer s id seen prices publish.Settled is = (is, refl)
-refused-answer s id seen prices (publish.Incomplete x) is = (is, refl)
-refused-answer s id seen prices (publish.Rounds x) is = (is, refl)
-refused-answer s id seen prices (publish.PriceCount x) is = (is, refl)
-refused-answer s id seen prices (publish.OverPrice x) is = (is, refl)
-refused-answer s id seen prices (publish.Ungathered x) is = (is, refl)
+-- where there is no success the answer is a refusal
+pub no_success-refused : (answer : Publish) (Holds : Type 0) → Holds → IfRefused answer Holds
+no_success-refused (publish.Published slot version) Holds h = tt
+no_success-refused (publish.NoGain before after) Holds h = h
+no_success-refused (publish.Spent x) Holds h = h
+no_success-refused (publish.Stale x) Holds h = h
+no_success-refused publish.Settled Holds h = h
+no_success-refused (publish.Incomplete x) Holds h = h
+no_success-refused (publish.Rounds x) Holds h = h
+no_success-refused (publish.PriceCount x) Holds h = h
+no_success-refused (publish.OverPrice x) Holds h = h
+no_success-refused (publish.Ungathered x) Holds h = h
+
+pub refusal-answer : (s : State) (id : BranchId) (seen : ℕ) (prices : List ℕ) (answer : Publish) → IsNoSuccess answer → PublishStep s id seen prices answer s → IsPublishAnswer s id seen prices answer
+refusal-answer s id seen prices (publish.Published slot version) none is = absurd none
+refusal-answer s id seen prices (publish.NoGain before after) none is = is
+refusal-answer s id seen prices (publish.Spent x) none is = is
+refusal-answer s id seen prices (publish.Stale x) none is = is
+refusal-answer s id seen prices publish.Settled none is = is
+refusal-answer s id seen prices (publish.Incomplete x) none is = is
+refusal-answer s id seen prices (publish.Rounds x) none is = is
+refusal-answer s id seen prices (publish.PriceCount x) none is = is
+refusal-answer s id seen prices (publish.OverPrice x) none is = is
+refusal-answer s id seen prices (publish.Ungathered x) none is = is
 
 -- an answer that is no success is that of an event which changes nothing
 pub unpublished-step : (s : State) (id : BranchId) (seen : ℕ) (prices : List ℕ) (answer : Publish) → ((slot version : ℕ) → answer ≡ publish.Published slot version → ⊥) → IsPublishAnswer s id seen prices answer → PublishStep s id seen prices answer s

@@ -17,7 +17,7 @@ use Rattle.pool_machine.specs.declared.tree.Fate.{Fate}
 use Rattle.pool_machine.specs.declared.tree.Fate.TheVariants.{Undone, ClosedBy, DividedBy}
 use Rattle.pool_machine.specs.State.{Round, Node, State, restriction_of, rounds_by, rounds_in, active_count, state_by, state_in, state_of}
 use Rattle.pool_machine.specs.Changes.{is_spent, TakesRound}
-use Rattle.pool_machine.specs.Opening.{is_waiting, open_fault, HasSlot, IsTaken, empty_round, Opens}
+use Rattle.pool_machine.specs.Opening.{is_waiting, open_fault, HasSlot, IsTaken, IsLowestFreeSlot, empty_round, Opens}
 use Rattle.pool_machine.specs.Machine.{Opening, to_opening}
 use Rattle.pool_machine.specs.Nodes.{IsSoundRound, IsSoundNode}
 use Rattle.pool_nodes.specs.Slots.{is_free, IsFirstFree}
@@ -78,6 +78,14 @@ module _ (s : State) (places : List Slot) (id : BranchId) (slot : ℕ) (h : IsPo
 
   pub slot-within : slot < MAX_ROUNDS
   slot-within = let w = slice_get_within places slot (Free first.place) first.is_free in let c = h.has_places.count in omega arith
+
+  -- the first free place is the lowest free slot
+  pub lowest-free : IsLowestFreeSlot s slot
+  lowest-free = record {
+    within = slot-within;
+    free = λ taken. h.has_places.free slot first.place first.is_free taken;
+    lowest = λ other below. let w = first.lower other below in let t = h.has_places.taken other w.0 w.1 in (w.0.0, t.0, t.1, t.2);
+  }
 
   is_empty : begun_round first.place may.node.first_prices ≡ empty
   is_empty =
@@ -148,11 +156,7 @@ module _ (s : State) (places : List Slot) (id : BranchId) (slot : ℕ) (h : IsPo
       undone = may.undone;
       no_round = may.no_round;
       room = may.room;
-      slot = record {
-        within = slot-within;
-        free = λ taken. h.has_places.free slot first.place first.is_free taken;
-        lowest = λ other below. let w = first.lower other below in let t = h.has_places.taken other w.0 w.1 in (w.0.0, t.0, t.1, t.2);
-      };
+      slot = lowest-free;
       version = refl;
       after = after;
       takes = takes;

@@ -7,6 +7,7 @@ use Rattle.plan_base.specs.declared.ids.BranchId.{BranchId}
 use Rattle.plan_base.specs.declared.parts.Parts.{Parts}
 use Rattle.arc_restrict.specs.Rows.{Rows}
 use Rattle.pool_machine.specs.declared.answers.Publish.TheVariants as publish
+use Rattle.pool_machine.specs.declared.limits.TheConstants.{MAX_ROUNDS}
 use Rattle.pool_machine.specs.declared.tree.Fate.TheVariants.{Undone}
 use Rattle.pool_machine.specs.State.{Round, Node, State, restriction_of, round_of}
 use Rattle.pool_machine.specs.Changes.{TakesRound}
@@ -14,6 +15,7 @@ use Rattle.pool_machine.specs.Opening.{empty_round}
 use Rattle.pool_machine.specs.Publishing.{Publishes}
 use Rattle.pool_machine.specs.Nodes.{IsSoundRound, IsSoundNode}
 use Rattle.pool_machine.specs.Machine.{Publishing, to_publishing}
+use Rattle.pool_machine.specs.Soundness.{IsSound}
 use Rattle.pool_machine.proofs.Opening.{none_found}
 use Rattle.pool_machine.proofs.Replacing.{node_at}
 use Rattle.pool_machine.proofs.Runs.{IsReachable-sound, IsReachable-step}
@@ -24,8 +26,15 @@ use Rattle.pool_nodes.proofs.Completing.{TakesRound-round, TakesRound-limits, Ta
 use Rattle.pool_nodes.proofs.Grounds.{HasGrounds-set}
 use Rattle.pool_core.specs.Views.{HasPlaces, IsPool, IsKeptPool}
 use Rattle.pool_core.specs.Valuing.{IsToPublish}
+use Rattle.pool_core.specs.declared.pool.following.Following.{Following}
+use Rattle.pool_core.specs.Foretold.{IsFollowing}
+use Rattle.pool_core.proofs.Reading.{sound-round}
 use Rattle.pool_core.proofs.TaskLaws.{HasRound, round_of-has, has-some}
 use Rattle.pool_core.proofs.OfferPool.{HasPlaces-slot}
+
+-- what may follow may be published
+abbrev pub to_publish-of : (s : State) (id : BranchId) (seen : ℕ) (prices : List ℕ) (next : Following) → IsFollowing s id seen prices next → IsToPublish s id seen prices next.crowd_tried
+to_publish-of s id seen prices next will = record { node = will.node; round = will.round; may = will.may; gains = will.gains; is_mark = will.is_mark }
 
 abbrev to_publish-round : (s : State) (id : BranchId) (seen : ℕ) (prices : List ℕ) (mark : Bool) → IsToPublish s id seen prices mark → HasRound s id
 to_publish-round s id seen prices mark to =
@@ -41,6 +50,9 @@ to_publish-slot s id seen prices mark to read slot is is_slot =
     let both : Some read ≡ Some to.round = is ∙ round_of-has s id (to_publish-round s id seen prices mark to) in
     let rounds : read ≡ to.round = cc in
     is_slot ∙ ap (λ (r : Round). r.slot) rounds
+
+pub to_publish-below : (s : State) (id : BranchId) (seen : ℕ) (prices : List ℕ) (mark : Bool) (to : IsToPublish s id seen prices mark) → IsSound s → to.round.slot < MAX_ROUNDS
+to_publish-below s id seen prices mark to sound = (sound-round s id sound (to_publish-round s id seen prices mark to)).slot
 
 module _ (s : State) (places : List Slot) (id : BranchId) (seen : ℕ) (prices : List ℕ) (mark : Bool) (h : IsPool s places) (to : IsToPublish s id seen prices mark) where
   is_node : slice_get s.nodes id.0 ≡ Some to.node

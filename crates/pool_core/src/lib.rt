@@ -13,6 +13,7 @@ mod pool;
 mod shared;
 
 pub use pool::Pool;
+pub use pool::following::Following;
 pub use pool_machine::{
     Better, Closing, ExamineFault, Examined, Fate, Found, Gather, HeldCut, Incumbent, NodeState,
     Offer, Offered, Opened, Publish, RoundFault, Settle, Task, laws,

@@ -10,6 +10,7 @@ mod claiming;
 mod closing;
 mod dividing;
 mod examining;
+pub mod following;
 mod foretelling;
 mod gathering;
 mod making;

@@ -39,15 +39,12 @@ impl Pool {
         ensures slot { IfPublished result (λ slot version. slot < MAX_ROUNDS) }
         ensures count { IfPublished result (λ slot version. length prices.now ≡ length self.old.problem.links) }
     {
-        if let Some(refusal) = self.publish_refusal(node, seen, prices) {
-            return refusal;
-        }
-        match self.mark_after(node, prices) {
-            Ok(_mark) => Publish::Published {
-                slot: self.round_at(node).slot(),
-                version: self.next_version,
+        match self.following(node, seen, prices) {
+            Ok(next) => Publish::Published {
+                slot: next.slot,
+                version: next.version,
             },
-            Err((old, new)) => Publish::NoGain { old, new },
+            Err(refusal) => refusal,
         }
     }
 }

@@ -8,9 +8,12 @@ ghost use Rattle.master_step.specs.Outcomes.{AreCrowdPrices};
 ghost use Rattle.pool_machine.specs.declared.answers.Publish.TheVariants as publish;
 ghost use Rattle.pool_machine.specs.Nodes.{IsPriceList};
 ghost use Rattle.pool_machine.specs.Publishing.{price_fault, publish_fault, IsCrowding, PublishStep};
-ghost use Rattle.pool_core.specs.Valuing.{IsGatheredAt, ForRound, MayReplace, HasNoGain, IsToPublish};
+ghost use Rattle.pool_machine.specs.declared.limits.TheConstants.{MAX_ROUNDS};
+ghost use Rattle.pool_core.specs.Valuing.{IsGatheredAt, ForRound, MayReplace, HasNoGain};
+ghost use Rattle.pool_core.specs.Foretold.{IsFollowing, IfPublished};
 
 use super::Pool;
+use super::following::Following;
 use plan_base::{BranchId, Instance, LinkId, Prices};
 use pool_machine::Publish;
 use pool_machine::limits::MAX_VERSIONS;
@@ -83,12 +86,7 @@ fn either(one: bool, other: bool) -> bool
 impl Pool {
     /// Why prices are refused before they are valued, if they are.
     #[tactic(auto, unfolding(pool_machine::specs::Publishing::publish_fault))]
-    pub(super) fn publish_refusal(
-        &self,
-        node: BranchId,
-        seen: u64,
-        prices: &Prices,
-    ) -> Option<Publish>
+    fn publish_refusal(&self, node: BranchId, seen: u64, prices: &Prices) -> Option<Publish>
         ensures { result ≡ publish_fault self.now node seen prices.now }
     {
         if self.is_spent() {
@@ -132,11 +130,7 @@ impl Pool {
 
     /// The node's mark that its crowd prices were tried, when these prices follow; where they may not, the restricted
     /// values of the round's prices and of these.
-    pub(super) fn mark_after(
-        &mut self,
-        node: BranchId,
-        prices: &Prices,
-    ) -> Result<bool, (i128, i128)>
+    fn mark_after(&mut self, node: BranchId, prices: &Prices) -> Result<bool, (i128, i128)>
         requires gathered { IsGatheredAt self.old node }
         requires prices { IsPriceList self.old.problem prices.now }
         ensures unchanged { self.new ≡ self.old }
@@ -159,18 +153,51 @@ impl Pool {
         Err((old, new))
     }
 
-    /// Gives the node's round its next version, with these prices. Without demands that version is complete at once.
-    fn renew(&mut self, node: BranchId, seen: u64, prices: &Prices, crowd_tried: bool) -> Publish
-        requires { IsToPublish self.old node seen prices.now crowd_tried }
-        ensures { PublishStep self.old node seen prices.now result self.new }
+    /// The version that these prices would have in the node's round; or, where `publish` refuses them, what it answers.
+    /// Takes no memory.
+    ///
+    /// - Takes: what `publish` takes.
+    pub fn following(
+        &mut self,
+        node: BranchId,
+        seen: u64,
+        prices: &Prices,
+    ) -> Result<Following, Publish>
+        ensures unchanged { self.new ≡ self.old }
+        ensures follows { IfOk result (IsFollowing self.old node seen prices.now) }
+        ensures refused { IfErr result (λ refusal. PublishStep self.old node seen prices.now refusal self.old) }
+        ensures no_success { IfErr result (λ refusal. IfPublished refusal (λ slot version. ⊥)) }
+        ensures slot { IfOk result (λ next. next.slot < MAX_ROUNDS) }
+        ensures count { IfOk result (λ next. length prices.now ≡ length self.old.problem.links) }
     {
+        if let Some(refusal) = self.publish_refusal(node, seen, prices) {
+            return Err(refusal);
+        }
+        let crowd_tried = match self.mark_after(node, prices) {
+            Ok(crowd_tried) => crowd_tried,
+            Err((old, new)) => return Err(Publish::NoGain { old, new }),
+        };
         let slot = self.round_at(node).slot();
+        Ok(Following {
+            slot,
+            version: self.next_version,
+            crowd_tried,
+        })
+    }
+
+    /// Publishes prices that `following` let through, and the pool has not changed since. Takes no memory.
+    ///
+    /// - Takes: what `following` was given, and what it gave.
+    /// - Rule: docs/METHOD.md, "The search as a machine".
+    pub fn publish_following(&mut self, node: BranchId, seen: u64, prices: &Prices, next: Following)
+        requires { IsFollowing self.old node seen prices.now next }
+        ensures { PublishStep self.old node seen prices.now (publish.Published next.slot next.version) self.new }
+    {
         let version = self.next_version;
         let renewed = &mut self.nodes[node.0 as usize];
-        renewed.renew(version, prices, crowd_tried);
+        renewed.renew(version, prices, next.crowd_tried);
         renewed.complete(&*self.problem, &*self.table);
         self.next_version = version + 1;
-        Publish::Published { slot, version }
     }
 
     /// Gives the round of a node further prices, under which no demand is priced. Takes no memory.
@@ -186,12 +213,15 @@ impl Pool {
     pub fn publish(&mut self, node: BranchId, seen: u64, prices: &Prices) -> Publish
         ensures event { PublishStep self.old node seen prices.now result self.new }
     {
-        if let Some(refusal) = self.publish_refusal(node, seen, prices) {
-            return refusal;
-        }
-        match self.mark_after(node, prices) {
-            Ok(crowd_tried) => self.renew(node, seen, prices, crowd_tried),
-            Err((old, new)) => Publish::NoGain { old, new },
+        match self.following(node, seen, prices) {
+            Ok(next) => {
+                self.publish_following(node, seen, prices, next);
+                Publish::Published {
+                    slot: next.slot,
+                    version: next.version,
+                }
+            }
+            Err(refusal) => refusal,
         }
     }
 }

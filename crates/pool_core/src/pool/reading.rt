@@ -67,7 +67,7 @@ impl Pool {
         if !super::is_waiting(self.state(node)) {
             return None;
         }
-        Some(self.node(node)?.first_prices())
+        Some(self.nodes.get(node.0 as usize)?.first_prices())
     }
 
     /// What is forbidden at an open leaf; None exactly where the node is none.

@@ -6,8 +6,8 @@ use Rattle.pool_machine.specs.State.{State}
 use Rattle.pool_machine.specs.Opening.{open_fault, IsLowestFreeSlot}
 use Rattle.pool_nodes.specs.Slots.{IsFirstFree}
 use Rattle.pool_core.specs.Foretold.{IsOpenAnswer}
-use Rattle.pool_core.proofs.OpenPool.{MayOpen, open_fault-none, some_free, slot-within}
-use Rattle.pool_core.proofs.OnlyAnswers.{lowest-free, only-opening, may_open-waits}
+use Rattle.pool_core.proofs.OpenPool.{MayOpen, open_fault-none, some_free, slot-within, lowest-free}
+use Rattle.pool_core.proofs.OnlyAnswers.{only-opening, may_open-waits}
 use Rattle.pool_core.proofs.pool.Pool.open_answer.Goals as goal
 
 pub first_free-slot-requires : goal.first_free-slot-requires

@@ -1,0 +1,17 @@
+use Rattle.std.proofs.Common.{◌≡◌, List, length, Some, slice_get, refl, ap, subst, ◌∙◌}
+use Rattle.std.proofs.lemmas.Option.{slice_get_read}
+use Rattle.pool_core.specs.contracts.pool.Pool.{the_view}
+use Rattle.pool_machine.specs.State.{Node, State}
+use Rattle.pool_machine.proofs.Replacing.{node_at}
+use Rattle.pool_machine.proofs.Runs.{IsReachable-sound}
+use Rattle.pool_core.proofs.pool.Pool.first_prices.Goals as goal
+
+pub returns-clause-count : goal.returns-clause-count
+returns-clause-count c =
+    let s = the_view c.self.inside in
+    let look = c.in_ok-get.ensures.lookup in
+    let is_node : slice_get s.nodes c.args.node.0 ≡ Some c.in_ok-get.field-0.now =
+    subst (λ (xs : List Node). slice_get xs c.args.node.0 ≡ Some c.in_ok-get.field-0.now) c.deref.ensures.value
+    (slice_get_read c.deref.result.now (length c.deref.result.now) c.args.node.0 c.in_ok-get.field-0.now refl look.3.0 look.1) in
+    let sound = node_at s c.args.node.0 c.in_ok-get.field-0.now (IsReachable-sound s c.self.invariant.kept.pool.reachable) is_node in
+    ap length c.first_prices.ensures ∙ (sound.first_prices.count ∙ ap (λ (t : State). length t.problem.links) c.self.view_is)
