@@ -25,7 +25,7 @@ mod writing;
 
 pub use failed::Failed;
 pub use file_shelf::FileShelf;
-pub use gate::{Gate, MAX_WORKERS, NoGate};
+pub use gate::{Gate, MAX_WORKERS, NoGate, Standing};
 pub use mem_shelf::MemShelf;
 pub use mem_sink::MemSink;
 pub use out_sink::OutSink;
