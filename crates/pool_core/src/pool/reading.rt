@@ -27,6 +27,13 @@ impl Pool {
         self.accepted
     }
 
+    /// How many nodes may be examined.
+    pub fn budget(&self) -> u32
+        ensures { result ≡ self.now.budget }
+    {
+        self.budget
+    }
+
     /// The greatest bound of a complete version of the node, in cost grains; None exactly where no version of it was
     /// complete.
     pub fn bound(&self, node: BranchId) -> Option<i128>
