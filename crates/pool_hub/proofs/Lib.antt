@@ -1,1 +1,2 @@
 mod PathLists
+mod ShownEntries

@@ -1,3 +1,4 @@
 pub mod Searches
 pub mod Offers
 pub mod States
+pub mod Shown

@@ -1,8 +1,10 @@
 //! The hub.
 
-ghost use Rattle.std.specs.Prelude.{◌≡◌, ◌+◌, ◌<◌, ◌≤◌, ◌↔◌, true, length, slice_get, IfOk, IfSome, IsSome, sum_by};
+ghost use Rattle.std.specs.Prelude.{◌≡◌, ◌+◌, ◌<◌, ◌≤◌, ◌↔◌, true, [], length, slice_get, IfOk, IfSome, IsSome, sum_by};
 ghost use Rattle.std.specs.Arc.{arc_value};
 ghost use Rattle.arc_restrict.specs.Rows.{forbids};
+ghost use Rattle.dual_versions.specs.Boards.{Begins};
+ghost use Rattle.pool_machine.specs.declared.limits.TheConstants.{MAX_ROUNDS};
 ghost use Rattle.pool_machine.specs.State.{state_of, restriction_of};
 ghost use Rattle.pool_machine.specs.Changes.{is_open_state};
 ghost use Rattle.pool_machine.specs.Opening.{OpenStep};
@@ -15,14 +17,16 @@ ghost use Rattle.pool_machine.specs.Examining.{ExamineStep};
 ghost use Rattle.pool_machine.specs.Bettering.{BetterStep};
 ghost use Rattle.pool_machine.specs.Tasks.{IsLawfulTask, IsSearchState};
 ghost use Rattle.pool_core.specs.Views.{IsPublishedAt, design_of};
+ghost use Rattle.pool_core.specs.Foretold.{IfPublished};
 ghost use Rattle.pool_hub.specs.States.{HasState, HasStep};
+ghost use Rattle.pool_hub.specs.Shown.{HasFirst, HasEntry};
 ghost use Rattle.plan_io.specs.declared.gate.TheConstants.{MAX_WORKERS};
 
 use crate::kept::Kept;
 use crate::naming::Naming;
 use crate::seat::Seat;
 use arc_restrict::Restriction;
-use dual_versions::Published;
+use dual_versions::{BoardReader, BoardWriter, Published};
 use link_steps::StepTable;
 use plan_base::{BranchId, Design, DesignFault, Instance, Prices};
 use pool_core::{
@@ -33,37 +37,44 @@ use std::alloc::{AllocError, Global};
 use std::sync::ledger::{Blank, Share};
 use std::sync::{Arc, Mutex, Wait};
 
-/// The pool behind one lock, and beside it the instance and the step table, for those who work on it.
+/// The pool and the writer of a board behind one lock, and beside it the instance and the step table, for those who work
+/// on it.
 ///
 /// Each call takes the lock, makes the pool's call once and lets go of the lock. Its answer is one that the pool gives in
-/// some sound state of this search.
+/// some sound state of this search. The prices of each version are on the board, which seats read without the lock.
 #[derive(Drop)]
-pub struct Hub<N: Naming> {
-    kept: Mutex<Kept<N>>,
+pub struct Hub<N: Naming, R: Wait + Drop> {
+    kept: Mutex<Kept<N, R>>,
     pub(crate) problem: Arc<Instance>,
     pub(crate) table: Arc<StepTable>,
     ghost problem_is: { arc_value problem ≡ N.problem },
     ghost table_is: { arc_value table ≡ N.problem },
 }
 
-/// So many seats, each with a part of the ledger and nothing booked.
+/// So many seats, each with a part of the ledger and nothing booked, and with a reader.
 fn seats_of<N: Naming>(
     alloc: Global,
     mut all: Share<N>,
     workers: u32,
+    mut readers: Vec<BoardReader>,
 ) -> Result<Vec<Seat<N>>, AllocError>
     requires few { workers ≤ MAX_WORKERS }
+    requires readers { length readers.items ≡ workers }
     requires all { (all.parts ≡ workers) × (all.amount ≡ 0) }
     ensures count { IfOk result (λ seats. length seats.items ≡ workers) }
     ensures booked { IfOk result (λ seats. sum_by (λ s. s.share.amount) seats.items ≡ 0) }
 {
     let mut seats = Vec::new(alloc);
     for number in 0..workers {
+        let Some(reader) = readers.pop() else {
+            unreachable!()
+        };
         let share = all.split_off(1, 0);
         seats.push(Seat {
             number,
             workers,
             share,
+            reader,
         })?;
     }
     Ok(seats)
@@ -82,43 +93,56 @@ fn merged<N: Naming>(mut seats: Vec<Seat<N>>) -> Share<N>
         number: _number,
         workers: _workers,
         share: mut all,
+        reader: _reader,
     } = seat;
     while let Some(seat) = seats.pop() {
         let Seat {
             number: _number,
             workers: _workers,
             share,
+            reader: _reader,
         } = seat;
         all.merge(share);
     }
     all
 }
 
-impl<N: Naming> Hub<N> {
+impl<N: Naming, R: Wait + Drop> Hub<N, R> {
     /// A hub for a pool, and a seat for each worker.
     ///
     /// - Takes: the blank of a ledger with as many parts as there are workers; a pool that has accepted nothing yet;
-    ///   1 to 64 workers.
-    /// - Errors: want of memory alone.
+    ///   1 to 64 workers; the writer of a board for the slots and the prices of the pool, on which nothing is pending, and
+    ///   a reader of it for each worker.
+    /// - Errors: want of memory alone. Then the writer has ended.
     pub fn new(
         alloc: Global,
         blank: Blank,
         pool: Pool,
         workers: u32,
-    ) -> Result<(Hub<N>, Vec<Seat<N>>), AllocError>
+        writer: BoardWriter<R>,
+        readers: Vec<BoardReader>,
+    ) -> Result<(Hub<N, R>, Vec<Seat<N>>), AllocError>
         requires workers { (1 ≤ workers) × (workers ≤ MAX_WORKERS) }
         requires name { blank.name ≡ N.name }
         requires parts { (blank.parts ≡ N.parts) × (N.parts ≡ workers) }
         requires search { (pool.problem ≡ N.problem) × (pool.budget ≡ N.budget) }
         requires fresh { pool.accepted ≡ 0 }
+        requires slots { writer.slots ≡ MAX_ROUNDS }
+        requires prices { writer.prices ≡ length pool.problem.links }
+        requires none_pending { writer.pending ≡ [] }
+        requires readers { length readers.items ≡ workers }
         ensures count { IfOk result (λ made. length made.1.items ≡ workers) }
         ensures booked { IfOk result (λ made. sum_by (λ s. s.share.amount) made.1.items ≡ 0) }
     {
         let (offers, all) = blank.open::<N>();
-        let seats = seats_of(alloc, all, workers)?;
+        let seats = seats_of(alloc, all, workers, readers)?;
         let problem = pool.instance().clone()?;
         let table = pool.table().clone()?;
-        let kept = Mutex::new(Kept { pool, offers });
+        let kept = Mutex::new(Kept {
+            pool,
+            board: writer,
+            offers,
+        });
         let hub = Hub {
             kept,
             problem,
@@ -183,18 +207,22 @@ impl<N: Naming> Hub<N> {
         self.kept.lock(rt).ground(node)
     }
 
-    /// Gives a node a round, as `Pool::open_round` says. Takes no memory.
+    /// Gives a node a round, as `Pool::open_round` says, with its prices on the board. The seat sees them there from then
+    /// on, or later ones.
+    ///
+    /// - Errors: want of memory alone. Then nothing changed.
     pub fn open<W: Wait>(
         &self,
         rt: &W,
         seat: &mut Seat<N>,
         node: BranchId,
-    ) -> Result<Opened, RoundFault>
-        ensures answer { HasStep N.problem N.budget (λ old new. OpenStep old node result new) }
-        ensures seat { seat.new ≡ seat.old }
+    ) -> Result<Result<Opened, RoundFault>, AllocError>
+        ensures answer { IfOk result (λ answer. HasStep N.problem N.budget (λ old new. OpenStep old node answer new
+            × IfOk answer (HasFirst old node seat.new.reader))) }
+        ensures later { Begins seat.old.reader seat.new.reader }
+        ensures seat { (seat.new.number ≡ seat.old.number) × (seat.new.share ≡ seat.old.share) }
     {
-        let _seat = seat;
-        self.kept.lock(rt).open(node)
+        self.kept.lock(rt).open(rt, node, &mut seat.reader)
     }
 
     /// Takes what a demand has found, as `Pool::offer` says, and books it in the seat's share where it is accepted.
@@ -224,7 +252,10 @@ impl<N: Naming> Hub<N> {
         self.kept.lock(rt).gather(node, version)
     }
 
-    /// Gives the round of a node further prices, as `Pool::publish` says. Takes no memory.
+    /// Gives the round of a node further prices, as `Pool::publish` says, and shows them on the board. The seat sees them
+    /// there from then on, or later ones.
+    ///
+    /// - Errors: want of memory alone. Then nothing changed.
     pub fn publish<W: Wait>(
         &self,
         rt: &W,
@@ -232,12 +263,15 @@ impl<N: Naming> Hub<N> {
         node: BranchId,
         seen: u64,
         prices: &Prices,
-    ) -> Publish
-        ensures answer { HasStep N.problem N.budget (λ old new. PublishStep old node seen prices.now result new) }
-        ensures seat { seat.new ≡ seat.old }
+    ) -> Result<Publish, AllocError>
+        ensures answer { IfOk result (λ answer. HasStep N.problem N.budget (λ old new. PublishStep old node seen prices.now answer new)) }
+        ensures seen { IfOk result (λ answer. IfPublished answer (HasEntry seat.new.reader node prices.now)) }
+        ensures later { Begins seat.old.reader seat.new.reader }
+        ensures seat { (seat.new.number ≡ seat.old.number) × (seat.new.share ≡ seat.old.share) }
     {
-        let _seat = seat;
-        self.kept.lock(rt).publish(node, seen, prices)
+        self.kept
+            .lock(rt)
+            .publish(rt, node, seen, prices, &mut seat.reader)
     }
 
     /// Marks a node of which no further version is published, as `Pool::settle` says. Takes no memory.
@@ -292,7 +326,8 @@ impl<N: Naming> Hub<N> {
         self.kept.lock(rt).better(design)
     }
 
-    /// The pool: a sound state of this search, which has accepted what all seats have booked. Takes no memory.
+    /// The pool: a sound state of this search, which has accepted what all seats have booked. The board has ended. Takes no
+    /// memory.
     ///
     /// - Takes: all seats of this hub.
     pub fn end(self, seats: Vec<Seat<N>>) -> Pool

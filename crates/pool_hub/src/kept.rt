@@ -1,8 +1,10 @@
 //! What lies under the lock.
 
-ghost use Rattle.std.specs.Prelude.{◌≡◌, ◌+◌, ◌<◌, ◌↔◌, true, IfOk, IfSome, IsSome, slice_get};
+ghost use Rattle.std.specs.Prelude.{◌≡◌, ◌+◌, ◌<◌, ◌↔◌, true, [], length, IfOk, OnErr, IfSome, IsSome, slice_get};
 ghost use Rattle.std.specs.Arc.{arc_value};
 ghost use Rattle.arc_restrict.specs.Rows.{forbids};
+ghost use Rattle.dual_versions.specs.Boards.{Begins};
+ghost use Rattle.pool_machine.specs.declared.limits.TheConstants.{MAX_ROUNDS};
 ghost use Rattle.pool_machine.specs.declared.task.Task.{Task};
 ghost use Rattle.pool_machine.specs.State.{state_of, restriction_of};
 ghost use Rattle.pool_machine.specs.Changes.{is_open_state};
@@ -17,32 +19,40 @@ ghost use Rattle.pool_machine.specs.Bettering.{BetterStep};
 ghost use Rattle.pool_machine.specs.PlanOf.{is_done};
 ghost use Rattle.pool_machine.specs.Tasks.{IsLawfulTask, IsSearchState};
 ghost use Rattle.pool_core.specs.Views.{IsPublishedAt, design_of};
+ghost use Rattle.pool_core.specs.Foretold.{IfPublished, IfRefused};
+ghost use Rattle.pool_hub.specs.Shown.{entry_for, with_entry, ShowsFirst, HasFirst, HasEntry};
 
 use crate::naming::Naming;
 use arc_restrict::Restriction;
-use dual_versions::Published;
+use dual_versions::{BoardReader, BoardWriter, Published};
 use plan_base::{BranchId, Design, DesignFault, Prices};
 use pool_core::{
     Better, Closing, ExamineFault, Examined, Gather, Offer, Offered, Opened, Pool, Publish,
     RoundFault, Settle, Task,
 };
 use std::alloc::AllocError;
-use std::sync::Arc;
 use std::sync::ledger::{Book, Share};
+use std::sync::{Arc, Wait};
 
-/// A pool of the search that the type names, and the book of all paths that it accepted.
+/// A pool of the search that the type names, the writer of a board whose entries fit it and on which nothing is pending,
+/// and the book of all paths that the pool accepted.
 ///
-/// Each call is one event of the pool, or none where it only tells something.
+/// Each call is one event of the pool, or none where it only tells something. The board is written by `open` and
+/// `publish` alone.
 #[derive(Drop)]
-pub struct Kept<N: Naming> {
+pub struct Kept<N: Naming, R: Wait + Drop> {
     pub(crate) pool: Pool,
+    pub(crate) board: BoardWriter<R>,
     pub(crate) offers: Book<N>,
     ghost counted: { pool.accepted ≡ offers.total },
     ghost problem_is: { pool.problem ≡ N.problem },
     ghost budget_is: { pool.budget ≡ N.budget },
+    ghost slots: { board.slots ≡ MAX_ROUNDS },
+    ghost prices: { board.prices ≡ length N.problem.links },
+    ghost none_pending: { board.pending ≡ [] },
 }
 
-impl<N: Naming> Kept<N> {
+impl<N: Naming, R: Wait + Drop> Kept<N, R> {
     /// Whoever looks knows that the pool's state is one of the search.
     fn look(&self)
         ensures { IsSearchState N.problem N.budget self.now.pool }
@@ -53,7 +63,7 @@ impl<N: Naming> Kept<N> {
     /// What may be done next.
     pub fn task(&mut self, worker: u32) -> Task
         ensures search { IsSearchState N.problem N.budget self.old.pool }
-        ensures unchanged { self.new.pool ≡ self.old.pool }
+        ensures unchanged { (self.new.pool ≡ self.old.pool) × (self.new.board ≡ self.old.board) }
         ensures lawful { IsLawfulTask self.old.pool result }
         ensures done { (result ≡ Task.Done) ↔ (is_done self.old.pool ≡ true) }
     {
@@ -93,13 +103,41 @@ impl<N: Naming> Kept<N> {
         }
     }
 
-    /// An opening.
-    pub fn open(&mut self, node: BranchId) -> Result<Opened, RoundFault>
+    /// An opening, which shows the node's first prices on the board. The reader then sees them there.
+    ///
+    /// - Errors: want of memory alone. Then nothing changed.
+    pub fn open<W: Wait>(
+        &mut self,
+        rt: &W,
+        node: BranchId,
+        reader: &mut BoardReader,
+    ) -> Result<Result<Opened, RoundFault>, AllocError>
         ensures search { IsSearchState N.problem N.budget self.old.pool }
-        ensures event { OpenStep self.old.pool node result self.new.pool }
+        ensures event { IfOk result (λ answer. OpenStep self.old.pool node answer self.new.pool) }
+        ensures shows { IfOk result (λ answer. IfOk answer (λ opened. ShowsFirst self.old.pool node self.old.board opened self.new.board)) }
+        ensures refused { IfOk result (λ answer. OnErr answer (self.new.board ≡ self.old.board)) }
+        ensures unchanged { OnErr result ((self.new.pool ≡ self.old.pool) × (self.new.board ≡ self.old.board)) }
+        ensures later { Begins reader.old reader.new }
+        ensures seen { IfOk result (λ answer. IfOk answer (HasFirst self.old.pool node reader.new)) }
     {
         self.look();
-        self.pool.open_round(node)
+        let opened = match self.pool.open_answer(node) {
+            Ok(opened) => opened,
+            Err(fault) => return Ok(Err(fault)),
+        };
+        let Some(prices) = self.pool.first_prices(node) else {
+            unreachable!()
+        };
+        let shown = Published {
+            node,
+            version: opened.version,
+            prices: prices.copy()?,
+        };
+        self.board.put(opened.slot, shown.copy()?)?;
+        let answer = self.pool.open_round(node);
+        self.board.show();
+        reader.reach(rt, opened.slot, &shown);
+        Ok(answer)
     }
 
     /// An offer, which is booked in the share where it is accepted.
@@ -107,6 +145,7 @@ impl<N: Naming> Kept<N> {
         requires part { 0 < mine.old.parts }
         ensures search { IsSearchState N.problem N.budget self.old.pool }
         ensures event { OfferStep self.old.pool offer result self.new.pool }
+        ensures board { self.new.board ≡ self.old.board }
         ensures booked { mine.new.amount ≡ mine.old.amount + accepted_by result }
         ensures parts { mine.new.parts ≡ mine.old.parts }
     {
@@ -122,24 +161,53 @@ impl<N: Naming> Kept<N> {
     pub fn gather(&mut self, node: BranchId, version: u64) -> Result<Gather, AllocError>
         ensures search { IsSearchState N.problem N.budget self.old.pool }
         ensures event { GatherStep self.old.pool node version result self.new.pool }
+        ensures board { self.new.board ≡ self.old.board }
     {
         self.look();
         self.pool.gather(node, version)
     }
 
-    /// A publishing.
-    pub fn publish(&mut self, node: BranchId, seen: u64, prices: &Prices) -> Publish
+    /// A publishing, which shows the prices on the board. The reader then sees them there.
+    ///
+    /// - Errors: want of memory alone. Then nothing changed.
+    pub fn publish<W: Wait>(
+        &mut self,
+        rt: &W,
+        node: BranchId,
+        seen: u64,
+        prices: &Prices,
+        reader: &mut BoardReader,
+    ) -> Result<Publish, AllocError>
         ensures search { IsSearchState N.problem N.budget self.old.pool }
-        ensures event { PublishStep self.old.pool node seen prices.now result self.new.pool }
+        ensures event { IfOk result (λ answer. PublishStep self.old.pool node seen prices.now answer self.new.pool) }
+        ensures shows { IfOk result (λ answer. IfPublished answer (λ slot version. self.new.board ≡ with_entry self.old.board slot (entry_for node version prices.now))) }
+        ensures refused { IfOk result (λ answer. IfRefused answer (self.new.board ≡ self.old.board)) }
+        ensures unchanged { OnErr result ((self.new.pool ≡ self.old.pool) × (self.new.board ≡ self.old.board)) }
+        ensures later { Begins reader.old reader.new }
+        ensures seen { IfOk result (λ answer. IfPublished answer (HasEntry reader.new node prices.now)) }
     {
         self.look();
-        self.pool.publish(node, seen, prices)
+        let answer = self.pool.publish_answer(node, seen, prices);
+        let Publish::Published { slot, version } = answer else {
+            return Ok(answer);
+        };
+        let shown = Published {
+            node,
+            version,
+            prices: prices.copy()?,
+        };
+        self.board.put(slot, shown.copy()?)?;
+        let answer = self.pool.publish(node, seen, prices);
+        self.board.show();
+        reader.reach(rt, slot, &shown);
+        Ok(answer)
     }
 
     /// A settling.
     pub fn settle(&mut self, node: BranchId, version: u64) -> Settle
         ensures search { IsSearchState N.problem N.budget self.old.pool }
         ensures event { SettleStep self.old.pool node version result self.new.pool }
+        ensures board { self.new.board ≡ self.old.board }
     {
         self.look();
         self.pool.settle(node, version)
@@ -149,6 +217,7 @@ impl<N: Naming> Kept<N> {
     pub fn close(&mut self, node: BranchId) -> Closing
         ensures search { IsSearchState N.problem N.budget self.old.pool }
         ensures event { CloseStep self.old.pool node result self.new.pool }
+        ensures board { self.new.board ≡ self.old.board }
     {
         self.look();
         self.pool.close_by_bound(node)
@@ -158,6 +227,7 @@ impl<N: Naming> Kept<N> {
     pub fn examine(&mut self, node: BranchId) -> Result<Examined, ExamineFault>
         ensures search { IsSearchState N.problem N.budget self.old.pool }
         ensures event { ExamineStep self.old.pool node result self.new.pool }
+        ensures board { self.new.board ≡ self.old.board }
     {
         self.look();
         self.pool.examine(node)
@@ -167,12 +237,13 @@ impl<N: Naming> Kept<N> {
     pub fn better(&mut self, design: Design) -> Result<Better, DesignFault>
         ensures search { IsSearchState N.problem N.budget self.old.pool }
         ensures event { BetterStep self.old.pool design result self.new.pool }
+        ensures board { self.new.board ≡ self.old.board }
     {
         self.look();
         self.pool.better(design)
     }
 
-    /// The pool, which has accepted what the whole share says.
+    /// The pool, which has accepted what the whole share says. The board has ended.
     pub fn end(self, mut all: Share<N>) -> Pool
         requires whole { all.parts ≡ N.parts }
         ensures pool { result ≡ self.pool }
@@ -180,8 +251,13 @@ impl<N: Naming> Kept<N> {
         ensures search { IsSearchState N.problem N.budget result }
     {
         self.look();
-        let Kept { pool, mut offers } = self;
+        let Kept {
+            pool,
+            board,
+            mut offers,
+        } = self;
         offers.audit(&mut all);
+        board.end();
         pool
     }
 }

@@ -1,14 +1,17 @@
 //! A search by several workers.
 
-ghost use Rattle.std.specs.Prelude.{◌≡◌, ◌≤◌, ◌<◌, length, IfOk};
+ghost use Rattle.std.specs.Prelude.{◌≡◌, ◌≤◌, ◌<◌, [], length, IfOk};
+ghost use Rattle.pool_machine.specs.declared.limits.TheConstants.{MAX_ROUNDS};
 ghost use Rattle.pool_machine.specs.Tasks.{IsSearchState};
 ghost use Rattle.plan_io.specs.declared.gate.TheConstants.{MAX_WORKERS};
 
 use crate::hub::Hub;
 use crate::naming::Naming;
 use crate::working::work;
+use dual_versions::{BoardReader, BoardWriter, board};
 use plan_io::Gate;
 use pool_core::Pool;
+use pool_machine::limits::MAX_ROUNDS;
 use std::alloc::{AllocError, Global};
 use std::marker::Brand;
 use std::sync::Wait;
@@ -33,17 +36,23 @@ pub fn search<R: Threads + Wait + Sync, G: Gate>(
     requires fresh { pool.accepted ≡ 0 }
     ensures { IfOk result (IsSearchState pool.problem pool.budget) }
 {
+    let links = pool.instance().links();
+    let (writer, readers) = board(rt, alloc, MAX_ROUNDS, workers, links)?;
     let blank = Blank::new(u64::from(workers));
-    search_as::<Brand, R, G>(rt, alloc, blank, pool, workers, gate)
+    search_as::<Brand, R, G>(rt, alloc, blank, pool, workers, writer, readers, gate)
 }
 
 /// The same, for the search that the type names.
-fn search_as<N: Naming + Send + Sync, R: Threads + Wait + Sync, G: Gate>(
-    rt: &R,
+///
+/// - Takes: besides, a board of which nothing was shown or put yet.
+fn search_as<'a, N: Naming + Send + Sync, R: Threads + Wait + Sync, G: Gate>(
+    rt: &'a R,
     alloc: Global,
     blank: Blank,
     pool: Pool,
     workers: u32,
+    writer: BoardWriter<&'a R>,
+    readers: Vec<BoardReader>,
     gate: &G,
 ) -> Result<Pool, AllocError>
     requires workers { (1 ≤ workers) × (workers ≤ MAX_WORKERS) }
@@ -51,9 +60,13 @@ fn search_as<N: Naming + Send + Sync, R: Threads + Wait + Sync, G: Gate>(
     requires parts { (blank.parts ≡ N.parts) × (N.parts ≡ workers) }
     requires search { (pool.problem ≡ N.problem) × (pool.budget ≡ N.budget) }
     requires fresh { pool.accepted ≡ 0 }
+    requires slots { writer.slots ≡ MAX_ROUNDS }
+    requires prices { writer.prices ≡ length pool.problem.links }
+    requires none_pending { writer.pending ≡ [] }
+    requires readers { length readers.items ≡ workers }
     ensures { IfOk result (IsSearchState N.problem N.budget) }
 {
-    let (hub, mut seats) = Hub::<N>::new(alloc, blank, pool, workers)?;
+    let (hub, mut seats) = Hub::<N, &R>::new(alloc, blank, pool, workers, writer, readers)?;
     thread::for_each_mut(
         rt,
         seats.as_mut_slice(),

@@ -9,6 +9,7 @@ use crate::hub::Hub;
 use crate::naming::Naming;
 use crate::seat::Seat;
 use crate::told::Told;
+use dual_versions::Published;
 use leaf_work::next_prices;
 use plan_base::{BranchId, DemandId};
 use plan_io::Gate;
@@ -16,23 +17,43 @@ use pool_core::{ExamineFault, Gather, Task};
 use std::alloc::{AllocError, Global};
 use std::sync::Wait;
 
-/// Takes the prices of a version and what is forbidden at its node out of the lock, where the bench has not got them:
-/// once for each version, not for each demand.
-fn turn_to<N: Naming, W: Wait>(
+/// What is published of the slot: as the board shows it, where its entry is of the version of the node, else as it comes
+/// out of the lock.
+fn published_at<N: Naming, R: Wait + Drop, W: Wait>(
     rt: &W,
-    hub: &Hub<N>,
+    hub: &Hub<N, R>,
+    seat: &mut Seat<N>,
+    node: BranchId,
+    slot: u32,
+    version: u64,
+) -> Result<Option<Published>, AllocError>
+    ensures { seat.new.number ≡ seat.old.number }
+{
+    if let Some(shown) = seat.read(slot)? {
+        if shown.node == node && shown.version == version {
+            return Ok(Some(shown));
+        }
+    }
+    hub.prices(rt, seat, slot)
+}
+
+/// Takes the prices of a version from the board and what is forbidden at its node out of the lock, where the bench has not
+/// got them: once for each version, not for each demand.
+fn turn_to<N: Naming, R: Wait + Drop, W: Wait>(
+    rt: &W,
+    hub: &Hub<N, R>,
     seat: &mut Seat<N>,
     bench: &mut Bench<N>,
     node: BranchId,
     slot: u32,
     version: u64,
 ) -> Result<(), AllocError>
-    ensures { seat.new ≡ seat.old }
+    ensures { seat.new.number ≡ seat.old.number }
 {
     if bench.has(node, version) {
         return Ok(());
     }
-    let Some(published) = hub.prices(rt, seat, slot)? else {
+    let Some(published) = published_at(rt, hub, seat, node, slot, version)? else {
         return Ok(());
     };
     let Some(rows) = hub.ground(rt, seat, published.node)? else {
@@ -43,9 +64,9 @@ fn turn_to<N: Naming, W: Wait>(
 }
 
 /// Prices a demand, and hands in what it finds.
-fn price<N: Naming, W: Wait>(
+fn price<N: Naming, R: Wait + Drop, W: Wait>(
     rt: &W,
-    hub: &Hub<N>,
+    hub: &Hub<N, R>,
     seat: &mut Seat<N>,
     bench: &mut Bench<N>,
     node: BranchId,
@@ -61,9 +82,9 @@ fn price<N: Naming, W: Wait>(
 }
 
 /// What a master step is told of a complete version, where it is the node's still.
-fn told_of<N: Naming, W: Wait>(
+fn told_of<N: Naming, R: Wait + Drop, W: Wait>(
     rt: &W,
-    hub: &Hub<N>,
+    hub: &Hub<N, R>,
     seat: &mut Seat<N>,
     node: BranchId,
     version: u64,
@@ -77,20 +98,20 @@ fn told_of<N: Naming, W: Wait>(
 }
 
 /// Publishes the prices that follow, or settles the node. What is refused is dropped.
-fn go_on<N: Naming, W: Wait>(
+fn go_on<N: Naming, R: Wait + Drop, W: Wait>(
     rt: &W,
     alloc: Global,
-    hub: &Hub<N>,
+    hub: &Hub<N, R>,
     seat: &mut Seat<N>,
     told: &Told<N>,
     node: BranchId,
     version: u64,
 ) -> Result<(), AllocError>
-    ensures { seat.new ≡ seat.old }
+    ensures { seat.new.number ≡ seat.old.number }
 {
     match next_prices(alloc, &*hub.problem, &*hub.table, told.brief())? {
         Some(prices) => {
-            let _answer = hub.publish(rt, seat, node, version, &prices);
+            let _answer = hub.publish(rt, seat, node, version, &prices)?;
             Ok(())
         }
         None => {
@@ -102,9 +123,9 @@ fn go_on<N: Naming, W: Wait>(
 
 /// Searches for a design, where one is due, and hands it in. A search that begins with a design begins with the cheapest
 /// one of all workers.
-fn seek_design<N: Naming, W: Wait>(
+fn seek_design<N: Naming, R: Wait + Drop, W: Wait>(
     rt: &W,
-    hub: &Hub<N>,
+    hub: &Hub<N, R>,
     seat: &mut Seat<N>,
     bench: &mut Bench<N>,
     told: &Told<N>,
@@ -124,16 +145,16 @@ fn seek_design<N: Naming, W: Wait>(
 }
 
 /// Goes on with a complete version, and only then searches for a design, so that no other worker waits for it.
-fn advance<N: Naming, W: Wait>(
+fn advance<N: Naming, R: Wait + Drop, W: Wait>(
     rt: &W,
     alloc: Global,
-    hub: &Hub<N>,
+    hub: &Hub<N, R>,
     seat: &mut Seat<N>,
     bench: &mut Bench<N>,
     node: BranchId,
     version: u64,
 ) -> Result<(), AllocError>
-    ensures { seat.new ≡ seat.old }
+    ensures { seat.new.number ≡ seat.old.number }
 {
     let Some(told) = told_of(rt, hub, seat, node, version)? else {
         return Ok(());
@@ -143,10 +164,10 @@ fn advance<N: Naming, W: Wait>(
 }
 
 /// Does a task.
-fn do_task<N: Naming, W: Wait>(
+fn do_task<N: Naming, R: Wait + Drop, W: Wait>(
     rt: &W,
     alloc: Global,
-    hub: &Hub<N>,
+    hub: &Hub<N, R>,
     seat: &mut Seat<N>,
     bench: &mut Bench<N>,
     task: Task,
@@ -155,7 +176,7 @@ fn do_task<N: Naming, W: Wait>(
 {
     match task {
         Task::Open { node } => {
-            let _answer = hub.open(rt, seat, node);
+            let _answer = hub.open(rt, seat, node)?;
             Ok(())
         }
         Task::Price {
@@ -184,10 +205,10 @@ fn do_task<N: Naming, W: Wait>(
 ///
 /// - Takes: a hub, a seat of it, and a gate, which is passed between the taking of a task and its work.
 /// - Errors: want of memory alone. Then the seat is as the calls made so far left it.
-pub fn work<N: Naming, W: Wait, G: Gate>(
+pub fn work<N: Naming, R: Wait + Drop, W: Wait, G: Gate>(
     rt: &W,
     alloc: Global,
-    hub: &Hub<N>,
+    hub: &Hub<N, R>,
     seat: &mut Seat<N>,
     gate: &G,
 ) -> Result<(), AllocError>

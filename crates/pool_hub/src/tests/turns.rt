@@ -5,10 +5,12 @@ ghost use Rattle.std.specs.Prelude.{◌≡◌, ◌<◌};
 use super::*;
 use crate::naming::Naming;
 use crate::{Hub, Seat, work};
+use dual_versions::board;
 use path_pricing::Priced;
 use plan_base::{ArcId, BranchId, DemandId, Design, Path, Prices};
 use plan_io::NoGate;
 use pool_core::{Better, Closing, Examined, Gather, Offer, Offered, Opened, Publish, Settle};
+use pool_machine::limits::MAX_ROUNDS;
 use std::marker::Brand;
 use std::process::Abort;
 use std::sync::Wait;
@@ -78,10 +80,10 @@ fn direct_design(alloc: Global) -> Result<Design, AllocError> {
 }
 
 /// Two seats price the root's first version in turns.
-fn price_root<N: Naming, R: Wait + Abort>(
+fn price_root<N: Naming, H: Wait + Drop, R: Wait + Abort>(
     rt: &R,
     alloc: Global,
-    hub: &Hub<N>,
+    hub: &Hub<N, H>,
     one: &mut Seat<N>,
     two: &mut Seat<N>,
 ) -> Result<(), Fail> {
@@ -89,7 +91,7 @@ fn price_root<N: Naming, R: Wait + Abort>(
         slot: 0,
         version: 1,
     };
-    assert_eq!(rt; hub.open(rt, one, ROOT), Ok(opened));
+    assert_eq!(rt; hub.open(rt, one, ROOT)?, Ok(opened));
     let priced = hub.offer(rt, one, over_b(alloc, 1, START[0])?);
     assert_eq!(rt; priced, Offered::Accepted { left: 1 });
     assert_eq!(rt;
@@ -102,10 +104,10 @@ fn price_root<N: Naming, R: Wait + Abort>(
 }
 
 /// A seat gathers the root's first version, and the other gives the root further prices.
-fn raise_root<N: Naming, R: Wait + Abort>(
+fn raise_root<N: Naming, H: Wait + Drop, R: Wait + Abort>(
     rt: &R,
     alloc: Global,
-    hub: &Hub<N>,
+    hub: &Hub<N, H>,
     one: &mut Seat<N>,
     two: &mut Seat<N>,
 ) -> Result<(), Fail> {
@@ -115,21 +117,21 @@ fn raise_root<N: Naming, R: Wait + Abort>(
         old: 8_500_000_000_000_000,
         new: 8_500_000_000_000_000,
     };
-    assert_eq!(rt; hub.publish(rt, one, ROOT, 1, &same), no_gain);
+    assert_eq!(rt; hub.publish(rt, one, ROOT, 1, &same)?, no_gain);
     let raised = Prices::from_vec(Vec::from_slice(alloc, &RAISED)?);
     let published = Publish::Published {
         slot: 0,
         version: 2,
     };
-    assert_eq!(rt; hub.publish(rt, two, ROOT, 1, &raised), published);
+    assert_eq!(rt; hub.publish(rt, two, ROOT, 1, &raised)?, published);
     Ok(())
 }
 
 /// Two seats price the root's second version in turns, and one settles it.
-fn settle_root<N: Naming, R: Wait + Abort>(
+fn settle_root<N: Naming, H: Wait + Drop, R: Wait + Abort>(
     rt: &R,
     alloc: Global,
-    hub: &Hub<N>,
+    hub: &Hub<N, H>,
     one: &mut Seat<N>,
     two: &mut Seat<N>,
 ) -> Result<(), Fail> {
@@ -145,14 +147,17 @@ fn settle_root<N: Naming, R: Wait + Abort>(
 }
 
 /// What the hub tells of the root that is settled.
-fn read_root<N: Naming, R: Wait + Abort>(
+fn read_root<N: Naming, H: Wait + Drop, R: Wait + Abort>(
     rt: &R,
-    hub: &Hub<N>,
+    hub: &Hub<N, H>,
     seat: &mut Seat<N>,
 ) -> Result<(), Fail> {
     let published = hub.prices(rt, seat, 0)?.ok_or("a round has slot 0")?;
     assert_eq!(rt; published.version, 2);
     assert!(rt; published.prices.as_slice() == RAISED.as_slice());
+    let shown = seat.read(0)?.ok_or("slot 0 is shown")?;
+    assert_eq!(rt; shown.version, 2);
+    assert!(rt; shown.prices.as_slice() == RAISED.as_slice());
     let rows = hub.ground(rt, seat, ROOT)?.ok_or("the root is open")?;
     for arc in 0..6 {
         assert!(rt; rows.allows(DemandId(0), ArcId(arc)));
@@ -167,10 +172,10 @@ fn read_root<N: Naming, R: Wait + Abort>(
 }
 
 /// One seat hands in a design, and the other divides the root.
-fn divide_root<N: Naming, R: Wait + Abort>(
+fn divide_root<N: Naming, H: Wait + Drop, R: Wait + Abort>(
     rt: &R,
     alloc: Global,
-    hub: &Hub<N>,
+    hub: &Hub<N, H>,
     one: &mut Seat<N>,
     two: &mut Seat<N>,
 ) -> Result<(), Fail> {
@@ -196,7 +201,9 @@ fn take_turns<N: Naming, R: Wait + Abort>(
     requires search { (pool.problem ≡ N.problem) × (pool.budget ≡ N.budget) }
     requires fresh { pool.accepted ≡ 0 }
 {
-    let (hub, mut seats) = Hub::<N>::new(alloc, blank, pool, 2)?;
+    let links = pool.instance().links();
+    let (writer, readers) = board(rt, alloc, MAX_ROUNDS, 2, links)?;
+    let (hub, mut seats) = Hub::<N, &R>::new(alloc, blank, pool, 2, writer, readers)?;
     let (first, second) = seats.as_mut_slice().split_at_mut(1);
     let (one, two) = (&mut first[0], &mut second[0]);
     price_root(rt, alloc, &hub, one, two)?;
