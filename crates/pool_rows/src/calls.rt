@@ -1,7 +1,7 @@
 //! Calls about a node alone, or a node and a version.
 
-use crate::words::{node_of, round_of};
-use pool_core::{Gather, Pool};
+use pool_core::Pool;
+use row_calls::{node_of, round_of, tell_gathered};
 
 /// Opens a round.
 pub(crate) fn tell_opened(pool: &mut Pool, rest: &str, text: &mut String) -> Option<()> {
@@ -9,13 +9,10 @@ pub(crate) fn tell_opened(pool: &mut Pool, rest: &str, text: &mut String) -> Opt
     write!(text, " {opened:?}").ok()
 }
 
-/// Gathers the paths of a complete version, and adds the refusal, or that a master step would be told of them.
-pub(crate) fn tell_gathered(pool: &mut Pool, rest: &str, text: &mut String) -> Option<()> {
+/// Gathers the paths of a complete version.
+pub(crate) fn tell_taken(pool: &mut Pool, rest: &str, text: &mut String) -> Option<()> {
     let (node, version) = round_of(rest)?;
-    match pool.gather(node, version).ok()? {
-        Gather::Taken(_brief) => text.push_str(" Taken").ok(),
-        refusal => write!(text, " {refusal:?}").ok(),
-    }
+    tell_gathered(&pool.gather(node, version).ok()?, text)
 }
 
 /// Settles a version.

@@ -11,37 +11,22 @@ mod calls;
 mod handing;
 mod planning;
 mod telling;
-mod words;
 mod working;
 
 use anyhow::{Result, bail};
 use pool_core::Pool;
-use row_networks::{Network, find, network_of, table_of};
+use row_calls::pool_of;
+use row_networks::{Network, network_of};
 use std::alloc::Global;
 use std::io::Write;
 use std::rt::Files;
-use std::sync::Arc;
 use std::{env, fs, io};
-
-/// A pool on the network of a name, with a budget.
-fn pool_of(alloc: Global, networks: &[Network], rest: &str) -> Option<Pool> {
-    let (name, budget) = rest.split_once(' ')?;
-    let budget = budget.parse::<u32>().ok()?;
-    if budget == 0 || budget > 4096 {
-        return None;
-    }
-    let inst = find(networks, name)?.copy(alloc).ok()?;
-    let table = table_of(alloc, &inst)?;
-    let inst = Arc::new(alloc, inst).ok()?;
-    let table = Arc::new(alloc, table).ok()?;
-    Pool::new(alloc, inst, table, budget).ok()
-}
 
 /// Makes the call of a row, and adds the answer.
 fn tell(alloc: Global, pool: &mut Pool, kind: &str, rest: &str, text: &mut String) -> Option<()> {
     match kind {
         "open" => calls::tell_opened(pool, rest, text),
-        "gather" => calls::tell_gathered(pool, rest, text),
+        "gather" => calls::tell_taken(pool, rest, text),
         "settle" => calls::tell_settled(pool, rest, text),
         "close" => calls::tell_closed(pool, rest, text),
         "examine" => calls::tell_examined(pool, rest, text),

@@ -1,22 +1,7 @@
 //! What the pool tells without an event.
 
-use crate::words::node_of;
-use arc_restrict::Restriction;
-use plan_base::{ArcId, DemandId, Instance};
 use pool_core::Pool;
-
-/// Adds which arcs are forbidden, each as its demand and its number.
-fn tell_forbidden(inst: &Instance, rows: &Restriction, text: &mut String) -> Option<()> {
-    text.push_str(" forbidden").ok()?;
-    for demand in 0..inst.demands() {
-        for arc in 0..inst.links().saturating_mul(2) {
-            if !rows.allows(DemandId(demand), ArcId(arc)) {
-                write!(text, " {demand}:{arc}").ok()?;
-            }
-        }
-    }
-    Some(())
-}
+use row_calls::{node_of, tell_published, tell_restriction};
 
 /// Adds what a node is, its bound, the prices that it begins with where it waits, and what is forbidden where it is an
 /// open leaf.
@@ -27,7 +12,7 @@ pub(crate) fn tell_node(pool: &Pool, rest: &str, text: &mut String) -> Option<()
         write!(text, " first {:?}", prices.as_slice()).ok()?;
     }
     match pool.restriction(node) {
-        Some(rows) => tell_forbidden(&**pool.instance(), &**rows, text),
+        Some(rows) => tell_restriction(&**pool.instance(), &**rows, text),
         None => Some(()),
     }
 }
@@ -35,17 +20,8 @@ pub(crate) fn tell_node(pool: &Pool, rest: &str, text: &mut String) -> Option<()
 /// Adds the node, the version and the prices of the round in a slot.
 pub(crate) fn tell_slot(pool: &Pool, rest: &str, text: &mut String) -> Option<()> {
     let slot = rest.parse::<u32>().ok()?;
-    match pool.prices(slot).ok()? {
-        Some(published) => write!(
-            text,
-            " node {} version {} prices {:?}",
-            published.node.0,
-            published.version,
-            published.prices.as_slice()
-        )
-        .ok(),
-        None => text.push_str(" free").ok(),
-    }
+    let published = pool.prices(slot).ok()?;
+    tell_published(published.as_ref(), text)
 }
 
 /// Adds how many nodes were examined, the cost of the best design, and whether the search is done.

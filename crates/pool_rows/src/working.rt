@@ -1,13 +1,13 @@
 //! Tasks that are done one after the other.
 
 use crate::telling::tell_progress;
-use crate::words::node_of;
 use column_pool::Brief;
 use dual_versions::Published;
 use master_step::{Step, advance};
 use path_pricing::price;
 use plan_base::{BranchId, DemandId, Prices};
 use pool_core::{Closing, Examined, Gather, Offer, Offered, Pool, Publish, Settle, Task};
+use row_calls::node_of;
 use std::alloc::Global;
 
 /// Prices a demand at these prices under its node's restriction, and offers what is found.
