@@ -1,24 +1,18 @@
 -- What an opening or a publishing would answer is what it answers.
 use Rattle.std.proofs.Common.{◌≡◌, ℕ, suc, ◌<◌, ◌⊎◌, inl, inr, List, length, Option, Some, None, slice_get, true, refl, sym, ap, ap₂, subst, ◌∙◌, arith}
-use Rattle.std.specs.Prelude.{⊤, Result, Ok, Err, ◌≤ℤ◌, ◌<ℤ◌, ℤ}
-use Rattle.std.proofs.lemmas.Int.{ints}
+use Rattle.std.specs.Prelude.{Result, Ok, Err}
 use Rattle.plan_base.specs.declared.ids.BranchId.{BranchId}
-use Rattle.master_step.specs.Restricted.{IsRestrictedValue}
-use Rattle.master_step.proofs.Uniqueness.{value-unique}
 use Rattle.pool_machine.specs.declared.answers.Opened.{Opened}
 use Rattle.pool_machine.specs.declared.answers.RoundFault.{RoundFault}
 use Rattle.pool_machine.specs.declared.answers.Publish.{Publish}
 use Rattle.pool_machine.specs.declared.answers.Publish.TheVariants as publish
 use Rattle.pool_machine.specs.declared.tree.Fate.{Fate}
 use Rattle.pool_machine.specs.State.{Round, Node, State, state_by, state_in, state_of}
-use Rattle.pool_machine.specs.Gathering.{columns_for}
-use Rattle.pool_machine.specs.Opening.{is_waiting, IsTaken, IsLowestFreeSlot, OpenStep}
-use Rattle.pool_machine.specs.Publishing.{publish_fault, IsBetterStep, IsCrowdStep, Publishes, IsNoGain, PublishStep}
+use Rattle.pool_machine.specs.Opening.{is_waiting, IsLowestFreeSlot, OpenStep}
+use Rattle.pool_machine.specs.Publishing.{publish_fault, Publishes, PublishStep}
 use Rattle.pool_machine.proofs.Frames.{one_at}
-use Rattle.pool_nodes.specs.declared.slot.Slot.{Slot}
-use Rattle.pool_nodes.specs.Slots.{IsFirstFree}
-use Rattle.pool_core.specs.Views.{IsPool}
-use Rattle.pool_core.specs.Valuing.{HasNoGain, IsToPublish}
+use Rattle.pool_machine.proofs.OneAnswer.{gains-not_no_gain}
+use Rattle.pool_core.specs.Valuing.{IsToPublish}
 use Rattle.pool_core.specs.declared.pool.following.Following.{Following}
 use Rattle.pool_core.specs.Foretold.{IsOpenAnswer, IsOnlyOpening, IsFollowing, IsPublishAnswer, IfPublished, IfRefused, IsOnlyPublishing}
 use Rattle.pool_core.proofs.OpenPool.{MayOpen}
@@ -54,17 +48,6 @@ module _ (s : State) (id : BranchId) (seen : ℕ) (prices : List ℕ) (next : Fo
   not_refused : (refusal : Publish) → publish_fault s id seen prices ≡ Some refusal → ⊥
   not_refused refusal is = let bad : ◌≡◌ {A = Option Publish} None (Some refusal) = sym will.allowed ∙ is in cc
 
-  no_loss : (before after : ℤ) → HasNoGain s will.node will.round prices before after → ⊥
-  no_loss before after not_so = elim will.gains [
-    | inl better ↦
-        let one = value-unique s.problem (columns_for s will.node) will.round.prices better.before before better.is_before not_so.is_before in
-        let two = value-unique s.problem (columns_for s will.node) prices better.after after better.is_after not_so.is_after in
-        let greater = better.greater in
-        let less = not_so.not_greater in
-        absurd (omega (arith, ints))
-    | inr crowd ↦ not_so.no_crowd_step crowd
-  ]
-
   -- whatever node and round are there, they are these
   same_node : (node : Node) → slice_get s.nodes id.0 ≡ Some node → node ≡ will.node
   same_node node is = one_at s.nodes id.0 node will.node is will.may.is_gathered.complete_round.is_node
@@ -73,13 +56,6 @@ module _ (s : State) (id : BranchId) (seen : ℕ) (prices : List ℕ) (next : Fo
   same_round node round is_node is_round =
       let both : Some round ≡ Some will.round = sym is_round ∙ (ap (λ (x : Node). x.round) (same_node node is_node) ∙ will.may.is_gathered.complete_round.is_round) in
       cc
-
-  no_gainless : (before after : ℤ) (new : State) → IsNoGain s id seen prices before after new → ⊥
-  no_gainless before after new step =
-      let is = step.may.is_gathered.complete_round in
-      let there : HasNoGain s step.node step.round prices before after = record { is_before = step.is_before; is_after = step.is_after; not_greater = step.not_greater; no_crowd_step = step.no_crowd_step } in
-      no_loss before after (subst (λ (r : Round). HasNoGain s will.node r prices before after) (same_round step.node step.round is.is_node is.is_round)
-      (subst (λ (x : Node). HasNoGain s x step.round prices before after) (same_node step.node is.is_node) there))
 
   published-same : (slot version : ℕ) (new : State) → Publishes s id seen prices slot version new → publish.Published slot version ≡ publish.Published next.slot next.version
   published-same slot version new step =
@@ -90,7 +66,7 @@ module _ (s : State) (id : BranchId) (seen : ℕ) (prices : List ℕ) (next : Fo
 
   pub only-publishing : IsOnlyPublishing s id seen prices (publish.Published next.slot next.version)
   only-publishing (publish.Published slot version) new step = published-same slot version new step
-  only-publishing (publish.NoGain before after) new step = absurd (no_gainless before after new step)
+  only-publishing (publish.NoGain before after) new step = absurd (gains-not_no_gain s id seen prices new will.node will.round before after will.may will.gains step)
   only-publishing (publish.Spent x) new step = absurd (not_refused (publish.Spent x) step.0)
   only-publishing (publish.Stale x) new step = absurd (not_refused (publish.Stale x) step.0)
   only-publishing publish.Settled new step = absurd (not_refused publish.Settled step.0)
@@ -161,16 +137,3 @@ refusal-answer s id seen prices (publish.Rounds x) none is = is
 refusal-answer s id seen prices (publish.PriceCount x) none is = is
 refusal-answer s id seen prices (publish.OverPrice x) none is = is
 refusal-answer s id seen prices (publish.Ungathered x) none is = is
-
--- an answer that is no success is that of an event which changes nothing
-pub unpublished-step : (s : State) (id : BranchId) (seen : ℕ) (prices : List ℕ) (answer : Publish) → ((slot version : ℕ) → answer ≡ publish.Published slot version → ⊥) → IsPublishAnswer s id seen prices answer → PublishStep s id seen prices answer s
-unpublished-step s id seen prices (publish.Published slot version) not_so is = absurd (not_so slot version refl)
-unpublished-step s id seen prices (publish.NoGain before after) not_so is = is
-unpublished-step s id seen prices (publish.Spent x) not_so is = is
-unpublished-step s id seen prices (publish.Stale x) not_so is = is
-unpublished-step s id seen prices publish.Settled not_so is = is
-unpublished-step s id seen prices (publish.Incomplete x) not_so is = is
-unpublished-step s id seen prices (publish.Rounds x) not_so is = is
-unpublished-step s id seen prices (publish.PriceCount x) not_so is = is
-unpublished-step s id seen prices (publish.OverPrice x) not_so is = is
-unpublished-step s id seen prices (publish.Ungathered x) not_so is = is

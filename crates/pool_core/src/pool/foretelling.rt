@@ -35,7 +35,7 @@ impl Pool {
     pub fn publish_answer(&mut self, node: BranchId, seen: u64, prices: &Prices) -> Publish
         ensures unchanged { self.new ≡ self.old }
         ensures answer { IsPublishAnswer self.old node seen prices.now result }
-        ensures only { IfPublished result (λ slot version. IsOnlyPublishing self.old node seen prices.now result) }
+        ensures only { IsOnlyPublishing self.old node seen prices.now result }
         ensures slot { IfPublished result (λ slot version. slot < MAX_ROUNDS) }
         ensures count { IfPublished result (λ slot version. length prices.now ≡ length self.old.problem.links) }
     {

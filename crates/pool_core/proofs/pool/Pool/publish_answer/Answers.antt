@@ -1,3 +1,4 @@
+use Rattle.pool_machine.proofs.OneAnswer.{publishing-one}
 use Rattle.pool_core.proofs.OnlyAnswers.{only-publishing, refusal-answer, no_success-if}
 use Rattle.pool_core.proofs.pool.Pool.publish_answer.Goals as goal
 
@@ -11,7 +12,7 @@ pub returns-in-Err-clause-answer : goal.returns-in-Err-clause-answer
 returns-in-Err-clause-answer c = refusal-answer c.args.self.now c.args.node c.args.seen c.args.prices.now c.in-Err.refusal c.in-Err.ensures.no_success c.in-Err.ensures.refused
 
 pub returns-in-Err-clause-only : goal.returns-in-Err-clause-only
-returns-in-Err-clause-only c = no_success-if c.in-Err.refusal _ c.in-Err.ensures.no_success
+returns-in-Err-clause-only c = λ given new step. publishing-one c.args.self.now new c.args.self.now c.args.node c.args.seen c.args.prices.now given c.in-Err.refusal step c.in-Err.ensures.refused
 
 pub returns-in-Err-clause-slot : goal.returns-in-Err-clause-slot
 returns-in-Err-clause-slot c = no_success-if c.in-Err.refusal _ c.in-Err.ensures.no_success
