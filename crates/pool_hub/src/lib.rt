@@ -25,6 +25,3 @@ pub use naming::Naming;
 pub use running::search;
 pub use seat::Seat;
 pub use working::work;
-
-#[cfg(test)]
-mod tests;

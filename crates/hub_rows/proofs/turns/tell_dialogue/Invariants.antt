@@ -1,4 +1,4 @@
-use Rattle.pool_hub.proofs.tests.turns.two_seats_take_turns.Given as goal
+use Rattle.hub_rows.proofs.turns.tell_dialogue.Given as goal
 
 abbrev pub ghosts-take_turns-N-Ledger : goal.ghosts-take_turns-N-Ledger
 ghosts-take_turns-N-Ledger g a = record { name = a.blank.name; parts = a.blank.parts }

@@ -1,0 +1,65 @@
+//! Makes calls of a hub by several seats in turns, and writes what each is answered.
+//!
+//! The file of rows, whose name is the program's one word, has small networks and dialogues: each begins with a hub on a
+//! network and its seats, goes on with calls, each by one seat, and ends with the plan of the pool that the ended hub
+//! gives. What the pool alone answers to a call stands in `pool_rows`, and that workers run at once in `run_rows`. To add a
+//! call, write it there in the form that the head of the file explains, and its answer, worked out by hand, at the same
+//! place of the file `stdout`. Begin at `turns::tell_dialogue`. Stands on `pool_hub` and on what makes its arguments;
+//! promises nothing of its own.
+#![tactic(auto)]
+
+mod calls;
+mod turns;
+
+use anyhow::{Result, bail};
+use row_networks::{Network, network_of};
+use std::alloc::Global;
+use std::io::Write;
+use std::sync::Wait;
+use std::{env, fs, io};
+
+/// Keeps the network of a row, or a row of a dialogue. With the last row of it the dialogue is held, and its rows and
+/// their answers are written.
+fn take_row<'a, R: Wait, W: Write>(
+    rt: &R,
+    alloc: Global,
+    networks: &mut Vec<Network>,
+    rows: &mut Vec<&'a str>,
+    row: &'a str,
+    out: &mut W,
+) -> Result<()> {
+    if let Some(rest) = row.strip_prefix("network ") {
+        let Some(network) = network_of(alloc, rest) else {
+            bail!("no network: {row}")
+        };
+        networks.push(network)?;
+        return Ok(());
+    }
+    rows.push(row)?;
+    if row == "end" {
+        let mut text = String::new(alloc);
+        let told = turns::tell_dialogue(rt, alloc, networks.as_slice(), rows.as_slice(), &mut text);
+        out.write_all(text.as_bytes())?;
+        if told.is_none() {
+            bail!("no answer")
+        }
+        rows.clear();
+    }
+    Ok(())
+}
+
+fn main(rt: HostRuntime) -> Result<()> {
+    let Some(name) = env::args(&rt)?.nth(1) else {
+        bail!("usage: hub_rows FILE")
+    };
+    let file = fs::read_to_string(&rt, name.as_str())?;
+    let mut networks = Vec::new(rt.alloc());
+    let mut rows = Vec::new(rt.alloc());
+    let mut out = io::writer(&rt);
+    for row in file.lines() {
+        if !row.is_empty() && !row.starts_with('#') {
+            take_row(&rt, rt.alloc(), &mut networks, &mut rows, row, &mut out)?;
+        }
+    }
+    Ok(())
+}
