@@ -19,6 +19,3 @@ pub use making::board;
 pub use published::Published;
 pub use reader::BoardReader;
 pub use writer::BoardWriter;
-
-#[cfg(test)]
-mod tests;

@@ -1,13 +1,14 @@
-//! Makes calls of a hub by several seats in turns, and writes what each is answered.
+//! Makes calls of a hub by several seats in turns, and of a board, and writes what each is answered.
 //!
 //! The file of rows, whose name is the program's one word, has small networks and dialogues: each begins with a hub on a
 //! network and its seats, goes on with calls, each by one seat, and ends with the plan of the pool that the ended hub
-//! gives. What the pool alone answers to a call stands in `pool_rows`, and that workers run at once in `run_rows`. To add a
+//! gives; or it begins with a board and its readers. What the pool alone answers to a call stands in `pool_rows`, and that workers run at once in `run_rows`. To add a
 //! call, write it there in the form that the head of the file explains, and its answer, worked out by hand, at the same
-//! place of the file `stdout`. Begin at `turns::tell_dialogue`. Stands on `pool_hub` and on what makes its arguments;
+//! place of the file `stdout`. Begin at `tell_rows`. Stands on `pool_hub` and on what makes its arguments;
 //! promises nothing of its own.
 #![tactic(auto)]
 
+mod boards;
 mod calls;
 mod turns;
 
@@ -17,6 +18,23 @@ use std::alloc::Global;
 use std::io::Write;
 use std::sync::Wait;
 use std::{env, fs, io};
+
+/// Holds the dialogue of these rows, and adds them and their answers. None where a row is none, and where memory is wanting;
+/// the last row that was added is then the one without an answer.
+fn tell_rows<R: Wait>(
+    rt: &R,
+    alloc: Global,
+    networks: &[Network],
+    rows: &[&str],
+    text: &mut String,
+) -> Option<()> {
+    let first = rows.first()?;
+    if first.starts_with("board ") {
+        boards::tell_dialogue(rt, alloc, rows, text)
+    } else {
+        turns::tell_dialogue(rt, alloc, networks, rows, text)
+    }
+}
 
 /// Keeps the network of a row, or a row of a dialogue. With the last row of it the dialogue is held, and its rows and
 /// their answers are written.
@@ -38,7 +56,7 @@ fn take_row<'a, R: Wait, W: Write>(
     rows.push(row)?;
     if row == "end" {
         let mut text = String::new(alloc);
-        let told = turns::tell_dialogue(rt, alloc, networks.as_slice(), rows.as_slice(), &mut text);
+        let told = tell_rows(rt, alloc, networks.as_slice(), rows.as_slice(), &mut text);
         out.write_all(text.as_bytes())?;
         if told.is_none() {
             bail!("no answer")

@@ -82,8 +82,7 @@ fn take_turns<N: Naming, R: Wait>(
     tell_plan(hub.end(seats), text)
 }
 
-/// Holds a dialogue, from the row of its hub to the row of its end, and adds the rows and their answers. None where a row
-/// is none, and where memory is wanting; the last row that was added is then the one without an answer.
+/// Holds a dialogue, from the row of its hub to the row of its end.
 pub(crate) fn tell_dialogue<R: Wait>(
     rt: &R,
     alloc: Global,
