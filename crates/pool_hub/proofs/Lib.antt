@@ -1,2 +1,1 @@
 mod PathLists
-mod ShownEntries

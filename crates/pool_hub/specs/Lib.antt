@@ -2,3 +2,4 @@ pub mod Searches
 pub mod Offers
 pub mod States
 pub mod Shown
+pub mod Standings

@@ -1,6 +1,6 @@
 //! The hub.
 
-ghost use Rattle.std.specs.Prelude.{◌≡◌, ◌+◌, ◌<◌, ◌≤◌, ◌↔◌, true, [], length, slice_get, IfOk, IfSome, IsSome, sum_by};
+ghost use Rattle.std.specs.Prelude.{◌≡◌, ◌+◌, ◌<◌, ◌≤◌, ◌↔◌, true, [], length, slice_get, IfOk, OnErr, IfSome, IsSome, sum_by};
 ghost use Rattle.std.specs.Arc.{arc_value};
 ghost use Rattle.arc_restrict.specs.Rows.{forbids};
 ghost use Rattle.dual_versions.specs.Boards.{Begins};
@@ -19,6 +19,7 @@ ghost use Rattle.pool_machine.specs.Tasks.{IsLawfulTask, IsSearchState};
 ghost use Rattle.pool_core.specs.Views.{IsPublishedAt, design_of};
 ghost use Rattle.pool_core.specs.Foretold.{IfPublished};
 ghost use Rattle.pool_hub.specs.States.{HasState, HasStep};
+ghost use Rattle.pool_hub.specs.Standings.{standing_of};
 ghost use Rattle.pool_hub.specs.Shown.{HasFirst, HasEntry};
 ghost use Rattle.plan_io.specs.declared.gate.TheConstants.{MAX_WORKERS};
 
@@ -29,6 +30,7 @@ use arc_restrict::Restriction;
 use dual_versions::{BoardReader, BoardWriter, Published};
 use link_steps::StepTable;
 use plan_base::{BranchId, Design, DesignFault, Instance, Prices};
+use plan_io::Standing;
 use pool_core::{
     Better, Closing, ExamineFault, Examined, Gather, Offer, Offered, Opened, Pool, Publish,
     RoundFault, Settle, Task,
@@ -159,6 +161,16 @@ impl<N: Naming, R: Wait + Drop> Hub<N, R> {
         self.kept.lock(rt).task(seat.number)
     }
 
+    /// What may be done next, and how far the search is then.
+    pub fn standing_task<W: Wait>(&self, rt: &W, seat: &mut Seat<N>) -> (Task, Standing)
+        ensures answer { HasState N.problem N.budget (λ s. IsLawfulTask s result.0 × (result.1 ≡ standing_of s)) }
+        ensures seat { seat.new ≡ seat.old }
+    {
+        let mut kept = self.kept.lock(rt);
+        let standing = kept.standing();
+        (kept.task(seat.number), standing)
+    }
+
     /// A copy of what is published of the slot.
     ///
     /// - Errors: want of memory alone.
@@ -220,6 +232,7 @@ impl<N: Naming, R: Wait + Drop> Hub<N, R> {
         ensures answer { IfOk result (λ answer. HasStep N.problem N.budget (λ old new. OpenStep old node answer new
             × IfOk answer (HasFirst old node seat.new.reader))) }
         ensures later { Begins seat.old.reader seat.new.reader }
+        ensures unchanged { OnErr result (seat.new.reader ≡ seat.old.reader) }
         ensures seat { (seat.new.number ≡ seat.old.number) × (seat.new.share ≡ seat.old.share) }
     {
         self.kept.lock(rt).open(rt, node, &mut seat.reader)
@@ -267,6 +280,7 @@ impl<N: Naming, R: Wait + Drop> Hub<N, R> {
         ensures answer { IfOk result (λ answer. HasStep N.problem N.budget (λ old new. PublishStep old node seen prices.now answer new)) }
         ensures seen { IfOk result (λ answer. IfPublished answer (HasEntry seat.new.reader node prices.now)) }
         ensures later { Begins seat.old.reader seat.new.reader }
+        ensures unchanged { OnErr result (seat.new.reader ≡ seat.old.reader) }
         ensures seat { (seat.new.number ≡ seat.old.number) × (seat.new.share ≡ seat.old.share) }
     {
         self.kept

@@ -116,7 +116,7 @@ impl<N: Naming, R: Wait + Drop> Kept<N, R> {
         ensures event { IfOk result (λ answer. OpenStep self.old.pool node answer self.new.pool) }
         ensures shows { IfOk result (λ answer. IfOk answer (λ opened. ShowsFirst self.old.pool node self.old.board opened self.new.board)) }
         ensures refused { IfOk result (λ answer. OnErr answer (self.new.board ≡ self.old.board)) }
-        ensures unchanged { OnErr result ((self.new.pool ≡ self.old.pool) × (self.new.board ≡ self.old.board)) }
+        ensures unchanged { OnErr result ((self.new.pool ≡ self.old.pool) × (self.new.board ≡ self.old.board) × (reader.new ≡ reader.old)) }
         ensures later { Begins reader.old reader.new }
         ensures seen { IfOk result (λ answer. IfOk answer (HasFirst self.old.pool node reader.new)) }
     {
@@ -182,25 +182,28 @@ impl<N: Naming, R: Wait + Drop> Kept<N, R> {
         ensures event { IfOk result (λ answer. PublishStep self.old.pool node seen prices.now answer self.new.pool) }
         ensures shows { IfOk result (λ answer. IfPublished answer (λ slot version. self.new.board ≡ with_entry self.old.board slot (entry_for node version prices.now))) }
         ensures refused { IfOk result (λ answer. IfRefused answer (self.new.board ≡ self.old.board)) }
-        ensures unchanged { OnErr result ((self.new.pool ≡ self.old.pool) × (self.new.board ≡ self.old.board)) }
+        ensures unchanged { OnErr result ((self.new.pool ≡ self.old.pool) × (self.new.board ≡ self.old.board) × (reader.new ≡ reader.old)) }
         ensures later { Begins reader.old reader.new }
         ensures seen { IfOk result (λ answer. IfPublished answer (HasEntry reader.new node prices.now)) }
     {
         self.look();
-        let answer = self.pool.publish_answer(node, seen, prices);
-        let Publish::Published { slot, version } = answer else {
-            return Ok(answer);
+        let next = match self.pool.following(node, seen, prices) {
+            Ok(next) => next,
+            Err(refusal) => return Ok(refusal),
         };
         let shown = Published {
             node,
-            version,
+            version: next.version,
             prices: prices.copy()?,
         };
-        self.board.put(slot, shown.copy()?)?;
-        let answer = self.pool.publish(node, seen, prices);
+        self.board.put(next.slot, shown.copy()?)?;
+        self.pool.publish_following(node, seen, prices, next);
         self.board.show();
-        reader.reach(rt, slot, &shown);
-        Ok(answer)
+        reader.reach(rt, next.slot, &shown);
+        Ok(Publish::Published {
+            slot: next.slot,
+            version: next.version,
+        })
     }
 
     /// A settling.

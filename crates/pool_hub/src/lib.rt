@@ -16,6 +16,7 @@ mod naming;
 mod running;
 mod seat;
 mod shared;
+mod standing;
 mod told;
 mod working;
 

@@ -218,11 +218,12 @@ pub fn work<N: Naming, R: Wait + Drop, W: Wait, G: Gate>(
     let mut bench = Bench::new(alloc, seat.number(), seat.workers());
     let mut turn: u64 = 0;
     for _ in rt.forever() {
-        let task = hub.task(rt, seat);
+        let (task, standing) = hub.standing_task(rt, seat);
         if let Task::Done = task {
             return Ok(());
         }
         gate.pass(seat.number(), turn);
+        gate.stand(standing);
         turn = turn.saturating_add(1);
         do_task(rt, alloc, hub, seat, &mut bench, task)?;
     }
