@@ -12,14 +12,14 @@ use std::sync::Wait;
 
 /// What all seats of a dialogue have in common.
 #[derive(Drop)]
-pub(crate) struct Common<'a, N: Naming, R: Wait> {
-    pub(crate) rt: &'a R,
+pub(crate) struct Common<'a, 'r, N: Naming, R: Wait> {
+    pub(crate) rt: &'r R,
     pub(crate) alloc: Global,
     pub(crate) inst: &'a Instance,
-    pub(crate) hub: &'a Hub<N, &'a R>,
+    pub(crate) hub: &'a Hub<N, &'r R>,
 }
 
-impl<'a, N: Naming, R: Wait> Common<'a, N, R> {
+impl<'a, 'r, N: Naming, R: Wait> Common<'a, 'r, N, R> {
     /// Opens a round.
     fn tell_opened(&self, seat: &mut Seat<N>, rest: &str, text: &mut String) -> Option<()> {
         let opened = self.hub.open(self.rt, seat, node_of(rest)?).ok()?;
