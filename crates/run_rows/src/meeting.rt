@@ -1,6 +1,6 @@
 //! A gate at which two workers wait for each other.
 
-use plan_io::Gate;
+use plan_io::{Gate, Standing};
 use std::sync::atomic::{AtomicBool, Ordering};
 use std::thread;
 
@@ -12,6 +12,7 @@ pub(crate) struct Meeting {
     second: AtomicBool,
     first_met: AtomicBool,
     second_met: AtomicBool,
+    is_told: AtomicBool,
 }
 
 impl Meeting {
@@ -22,12 +23,15 @@ impl Meeting {
             second: AtomicBool::new(false),
             first_met: AtomicBool::new(false),
             second_met: AtomicBool::new(false),
+            is_told: AtomicBool::new(false),
         }
     }
 
-    /// Whether each of the two has seen the other's flag.
+    /// Whether each of the two has seen the other's flag, and the gate was told how far the search was.
     pub(crate) fn have_met(&self) -> bool {
-        self.first_met.load(Ordering::SeqCst) && self.second_met.load(Ordering::SeqCst)
+        self.first_met.load(Ordering::SeqCst)
+            && self.second_met.load(Ordering::SeqCst)
+            && self.is_told.load(Ordering::SeqCst)
     }
 }
 
@@ -56,6 +60,12 @@ impl Gate for Meeting {
             self.second.store(true, Ordering::SeqCst);
             let met = rises(&self.first);
             self.second_met.store(met, Ordering::SeqCst);
+        }
+    }
+
+    fn stand(&self, standing: Standing) {
+        if standing.examined < standing.budget {
+            self.is_told.store(true, Ordering::SeqCst);
         }
     }
 }

@@ -1,8 +1,10 @@
 //! Plans networks: hands the words, the files and standard output to `run`, and ends with its status.
 #![tactic(auto)]
 
-use plan_io::{FileShelf, NoGate, OutSink};
+use plan_io::{FileShelf, OutSink};
 use plan_run::{Status, run};
+use run_progress::Progress;
+use std::io::IsTerminal;
 use std::process::ExitCode;
 use std::{env, io};
 
@@ -21,15 +23,18 @@ fn main(rt: HostRuntime) -> ExitCode {
         // A word that is not UTF-8 is none that is read.
         Err(_) => Vec::new(rt.alloc()),
     };
+    let is_terminal = rt.stderr().is_terminal();
+    let progress = Progress::new(rt.alloc(), &rt, rt.stderr(), is_terminal);
     let mut shelf = FileShelf::new(&rt);
-    let mut out = OutSink::new(io::writer(&rt));
+    let mut out = OutSink::new(progress.answering(io::writer(&rt)));
     let status = run(
         &rt,
         rt.alloc(),
         words.as_slice(),
         &mut shelf,
         &mut out,
-        &NoGate,
+        &progress,
     );
+    progress.wipe();
     ExitCode::from(status.number())
 }

@@ -1,0 +1,126 @@
+//! A gate that shows how far a run is.
+
+use crate::answering::Answering;
+use crate::line::line_of;
+use plan_io::{Gate, Standing};
+use std::alloc::{AllocError, Global};
+use std::io::{Print, Write};
+use std::sync::atomic::{AtomicBool, AtomicU64, Ordering};
+use std::time::{Clock, Instant};
+
+/// After how many milliseconds of a run its line is shown first.
+const FIRST: u64 = 1_000;
+
+/// How many milliseconds pass from one line to the next.
+const PAUSE: u64 = 250;
+
+/// Begins the line of a terminal anew: a carriage return, and the code that wipes what stands there.
+const ANEW: &[u8] = b"\r\x1b[K";
+
+/// Cuts what is too long for the line of a terminal, where it would go on in the next one.
+const CUT: &[u8] = b"\x1b[?7l";
+
+/// Lets lines go on in the next one again.
+const UNCUT: &[u8] = b"\x1b[?7h";
+
+/// A gate that shows how far a run is, in one line that is written anew again and again.
+///
+/// Nobody waits for it: whoever passes when the line is due writes it.
+#[derive(Drop)]
+pub struct Progress<C: Clock, P: Print> {
+    alloc: Global,
+    clock: C,
+    screen: P,
+    /// When the run began; None where nothing is shown.
+    began: Option<Instant>,
+    /// A bit for each worker that has come.
+    workers: AtomicU64,
+    /// At which millisecond of the run the line is due.
+    due: AtomicU64,
+    /// Whether a line stands at the screen.
+    is_shown: AtomicBool,
+}
+
+impl<C: Clock, P: Print> Progress<C, P> {
+    /// Begins to take the time of a run.
+    ///
+    /// - Takes: where the line is shown, and whether that is a terminal. Nothing is shown where it is none.
+    pub fn new(alloc: Global, clock: C, screen: P, is_terminal: bool) -> Progress<C, P> {
+        let began = if is_terminal {
+            Instant::now(&clock).ok()
+        } else {
+            None
+        };
+        Progress {
+            alloc,
+            clock,
+            screen,
+            began,
+            workers: AtomicU64::new(0),
+            due: AtomicU64::new(FIRST),
+            is_shown: AtomicBool::new(false),
+        }
+    }
+
+    /// How many milliseconds the run has taken, where it is shown.
+    fn millis(&self) -> Option<u64> {
+        let passed = self.began?.elapsed(&self.clock).ok()?;
+        u64::try_from(passed.as_millis()).ok()
+    }
+
+    /// Whether the line is due, and nobody else writes it.
+    fn is_due(&self, millis: u64) -> bool {
+        let due = self.due.load(Ordering::SeqCst);
+        let next = millis.saturating_add(PAUSE);
+        millis >= due
+            && self
+                .due
+                .compare_exchange(due, next, Ordering::SeqCst, Ordering::SeqCst)
+                .is_ok()
+    }
+
+    /// The line, with what puts it in the place of the one before.
+    fn shown(&self, millis: u64, standing: Standing) -> Result<Vec<u8>, AllocError> {
+        let workers = self.workers.load(Ordering::SeqCst).count_ones();
+        let line = line_of(self.alloc, standing, workers, millis / 1_000)?;
+        let mut text = Vec::from_slice(self.alloc, ANEW)?;
+        text.extend_from_slice(CUT)?;
+        text.extend_from_slice(line.as_slice())?;
+        text.extend_from_slice(UNCUT)?;
+        Ok(text)
+    }
+
+    /// Writes the line. Where that fails, or memory is wanting, the run goes on without it.
+    fn show(&self, millis: u64, standing: Standing) {
+        if let Ok(text) = self.shown(millis, standing) {
+            self.is_shown.store(true, Ordering::SeqCst);
+            let _ = self.screen.write_all(text.as_slice());
+        }
+    }
+
+    /// Wipes the line, where one stands there.
+    pub fn wipe(&self) {
+        if self.is_shown.swap(false, Ordering::SeqCst) {
+            let _ = self.screen.write_all(ANEW);
+        }
+    }
+
+    /// A writer of the run's answer, which wipes the line first.
+    pub fn answering<W: Write>(&self, writer: W) -> Answering<'_, C, P, W> {
+        Answering::new(self, writer)
+    }
+}
+
+impl<C: Clock + Sync, P: Print + Sync> Gate for Progress<C, P> {
+    fn pass(&self, worker: u32, _turn: u64) {
+        self.workers.fetch_or(1 << (worker % 64), Ordering::SeqCst);
+    }
+
+    fn stand(&self, standing: Standing) {
+        if let Some(millis) = self.millis()
+            && self.is_due(millis)
+        {
+            self.show(millis, standing);
+        }
+    }
+}
