@@ -1,6 +1,6 @@
 //! Dialogues of several seats with one hub.
 
-ghost use Rattle.std.specs.Prelude.{◌≡◌, ◌≤◌};
+ghost use Rattle.std.specs.Prelude.{◌≡◌, ◌≤◌, length};
 ghost use Rattle.plan_io.specs.declared.gate.TheConstants.{MAX_WORKERS};
 
 use crate::calls::Common;
@@ -22,7 +22,9 @@ fn tell_call<N: Naming, R: Wait>(
     seats: &mut [Seat<N>],
     row: &str,
     text: &mut String,
-) -> Option<()> {
+) -> Option<()>
+    ensures { length seats.new ≡ length seats.old }
+{
     let (number, call) = row.split_once(' ')?;
     let seat = seats.get_mut(number.parse::<usize>().ok()?)?;
     write!(text, "{row}:").ok()?;
@@ -36,7 +38,9 @@ fn tell_calls<N: Naming, R: Wait>(
     seats: &mut [Seat<N>],
     rows: &[&str],
     text: &mut String,
-) -> Option<()> {
+) -> Option<()>
+    ensures { length seats.new ≡ length seats.old }
+{
     for row in rows {
         tell_call(common, seats, row, text)?;
     }
