@@ -1,6 +1,6 @@
 //! Dialogues of several seats with one hub.
 
-ghost use Rattle.std.specs.Prelude.{◌≡◌, ◌≤◌, length};
+ghost use Rattle.std.specs.Prelude.{◌≡◌, ◌≤◌};
 ghost use Rattle.plan_io.specs.declared.gate.TheConstants.{MAX_WORKERS};
 
 use crate::calls::Common;
@@ -22,9 +22,7 @@ fn tell_call<N: Naming, R: Wait>(
     seats: &mut [Seat<N>],
     row: &str,
     text: &mut String,
-) -> Option<()>
-    ensures { length seats.new ≡ length seats.old }
-{
+) -> Option<()> {
     let (number, call) = row.split_once(' ')?;
     let seat = seats.get_mut(number.parse::<usize>().ok()?)?;
     write!(text, "{row}:").ok()?;
@@ -38,9 +36,7 @@ fn tell_calls<N: Naming, R: Wait>(
     seats: &mut [Seat<N>],
     rows: &[&str],
     text: &mut String,
-) -> Option<()>
-    ensures { length seats.new ≡ length seats.old }
-{
+) -> Option<()> {
     for row in rows {
         tell_call(common, seats, row, text)?;
     }
@@ -83,6 +79,10 @@ fn take_turns<N: Naming, R: Wait>(
         hub: &hub,
     };
     tell_calls(&common, seats.as_mut_slice(), rows, text)?;
+    // A hub ends with all its seats.
+    if seats.len() != workers as usize {
+        return None;
+    }
     tell_plan(hub.end(seats), text)
 }
 
