@@ -1,11 +1,13 @@
-//! Reads texts from shelves and writes to sinks that fail, and writes what comes of it.
+//! Reads texts from shelves, writes to sinks that fail and lines to a terminal, and writes what comes of it.
 //!
 //! The file of rows, whose name is the program's one word, says which calls fail and how much room there is. To add a
 //! row, write it there in the form that the head of the file explains, and what comes of it, worked out by hand, at the
-//! same place of the file `stdout`. Begin at `take_row`. Stands on `plan_io` and promises nothing of its own.
+//! same place of the file `stdout`. Begin at `take_row`. Stands on `plan_io` and
+//! `run_progress`, and promises nothing of its own.
 #![tactic(auto)]
 
 mod reading;
+mod showing;
 mod writing;
 
 use anyhow::{Context, Result, bail};
@@ -25,6 +27,8 @@ fn take_row<W: Write>(rt: &HostRuntime, row: &str, out: &mut W) -> Result<()> {
         "changing" => reading::read_changing(rt, rest, out),
         "drip" => writing::write_drip(rest, out),
         "read-only" => writing::write_read_only(rt, rest, out),
+        "line" => showing::write_line(rt.alloc(), rest, out),
+        "shown" => showing::show_line(rt.alloc(), rest, out),
         _ => bail!("no kind of row"),
     }
 }

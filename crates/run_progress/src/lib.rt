@@ -12,6 +12,3 @@ mod progress;
 pub use answering::Answering;
 pub use line::line_of;
 pub use progress::Progress;
-
-#[cfg(test)]
-mod tests;
