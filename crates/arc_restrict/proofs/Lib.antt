@@ -1,3 +1,4 @@
 pub mod PathPrices
 pub mod RowLaws
+pub mod RowsAdded
 pub mod PartingLaws
