@@ -1,31 +1,30 @@
 -- Where no fault is found, the event may come.
 use Rattle.pool_nodes.specs.declared.slot.Slot.{Slot}
-use Rattle.std.proofs.Common.{◌≡◌, ℕ, ◌*◌, ◌<◌, ◌≤◌, inl, inr, Bool, true, false, not, List, length, get_or, Option, Some, None, slice_get, refl, sym, ap, subst, ◌∙◌, arith}
+use Rattle.std.proofs.Common.{◌≡◌, ℕ, ◌<◌, ◌≤◌, inl, inr, Bool, true, false, not, List, length, get_or, Option, Some, None, slice_get, refl, sym, ap, subst, ◌∙◌, arith}
 use Rattle.std.specs.Prelude.{option_map, option_and_then, IsSomeAnd}
 use Rattle.std.proofs.lemmas.Bool.{eqb-true}
 use Rattle.std.proofs.lemmas.Bool.Decides.{nat_tests}
-use Rattle.std.proofs.lemmas.List.Sums.{sum_by-le}
 use Rattle.std.proofs.lemmas.Option.{slice_get_within, get_or_from_slice_get}
 use Rattle.plan_base.specs.declared.ids.DemandId.{DemandId}
 use Rattle.plan_base.specs.declared.ids.BranchId.{BranchId}
-use Rattle.plan_base.specs.First.{◌or_else◌, when, first_in}
+use Rattle.plan_base.specs.First.{◌or_else◌, when}
 use Rattle.plan_base.proofs.Bools.{not-false}
-use Rattle.plan_base.proofs.FirstFault.{or_else-none, when-none, first_in-none}
+use Rattle.plan_base.proofs.FirstFault.{or_else-none, when-none}
 use Rattle.pool_machine.specs.declared.answers.Settle.{Settle}
 use Rattle.pool_machine.specs.declared.answers.Settle.TheVariants as settle
-use Rattle.pool_machine.specs.declared.tree.Found.{Found}
-use Rattle.pool_machine.specs.State.{Round, Node, State, gap_of, left_of, round_of, rounds_by, rounds_in}
-use Rattle.pool_machine.specs.Changes.{is_spent, version_in, is_version, gap_at, first_gap, stale_fault, with_node}
+use Rattle.pool_machine.specs.State.{Round, Node, State, round_of, rounds_by, rounds_in}
+use Rattle.pool_machine.specs.Changes.{is_spent, version_in, is_version, first_gap, stale_fault, with_node}
 use Rattle.pool_machine.specs.Gathering.{first_ungathered, IsGathered}
 use Rattle.pool_machine.specs.Settling.{settle_fault, Settles, SettleStep}
 use Rattle.pool_machine.specs.Opening.{IsTaken}
 use Rattle.pool_machine.specs.Machine.{Settling, to_settling}
 use Rattle.pool_machine.specs.declared.limits.TheConstants.{MAX_BUDGET}
 use Rattle.pool_core.specs.Valuing.{IsToSettle}
-use Rattle.pool_core.specs.Views.{IsTakenBy, HasPlaces, IsPool}
+use Rattle.pool_reading.specs.Views.{IsTakenBy, HasPlaces, IsPool}
 use Rattle.pool_machine.proofs.Lists.{sum_by-set_at, slice_get-set_same, slice_get-set_other, slice_get-set_cases}
 use Rattle.pool_machine.proofs.Frames.{same_or_other, one_at}
 use Rattle.pool_machine.proofs.Runs.{IsReachable-step}
+use Rattle.pool_reading.proofs.Answering.{first_gap-none}
 
 pub is_spent-false : (s : State) → is_spent s ≡ false → s.examined < s.budget
 is_spent-false s h = grind (arith, nat_tests)
@@ -60,16 +59,6 @@ stale_fault-none spent stale s id version h =
       not_spent = is_spent-false s (when-none _ _ both.0);
       has_version = record { node = v.0; round = v.1; is_node = v.2; is_round = v.3; is_version = v.4 };
     }
-
-gap_at-none : (k : ℕ) (o : Option Found) → gap_at k o ≡ None → gap_of o ≤ 0
-gap_at-none k None h = absurd (cc)
-gap_at-none k (Some found) h = omega arith
-
--- where no demand is left, the round is complete
-pub first_gap-none : (round : Round) → first_in gap_at round.found ≡ None → left_of round ≡ 0
-first_gap-none round h =
-    let most : left_of round ≤ length round.found * 0 = sum_by-le gap_of 0 round.found (λ k d within. gap_at-none k (get_or round.found k d) (first_in-none gap_at round.found h k d within)) in
-    omega arith
 
 pub option_map-none : {A B : Type 0} (f : A → B) (o : Option A) → option_map f o ≡ None → o ≡ None
 option_map-none f None h = refl

@@ -8,7 +8,7 @@ use Rattle.pool_machine.specs.declared.answers.Better.TheVariants as better
 use Rattle.pool_machine.specs.State.{State}
 use Rattle.pool_machine.specs.Bettering.{is_cheaper, TakesBetter}
 use Rattle.pool_machine.specs.Machine.{Bettering, to_bettering}
-use Rattle.pool_core.specs.Views.{HasPlaces, IsPool}
+use Rattle.pool_reading.specs.Views.{HasPlaces, IsPool}
 use Rattle.pool_machine.proofs.Runs.{IsReachable-step}
 
 -- the state with this design held

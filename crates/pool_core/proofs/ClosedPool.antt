@@ -1,6 +1,6 @@
 -- A pool in which a node is closed, and its round and its restriction are let go, stays one.
 use Rattle.pool_nodes.specs.declared.slot.Slot.{Slot}
-use Rattle.std.proofs.Common.{◌≡◌, ℕ, suc, ◌<◌, List, [], length, set, get_or, Option, Some, None, slice_get, refl, sym, ap, ap₂, subst, ◌∙◌, true}
+use Rattle.std.proofs.Common.{[], ◌≡◌, ℕ, suc, ◌<◌, List, length, set, get_or, Option, Some, None, slice_get, refl, sym, ap, ap₂, subst, ◌∙◌, true}
 use Rattle.std.specs.Prelude.{IfSome}
 use Rattle.std.proofs.lemmas.List.{append-nil}
 use Rattle.std.proofs.lemmas.Option.{slice_get_within, get_or_from_slice_get}
@@ -13,7 +13,7 @@ use Rattle.pool_machine.specs.Changes.{is_open_state, examined_with}
 use Rattle.pool_machine.specs.Closing.{closed_by}
 use Rattle.pool_machine.specs.Machine.{IsReachable}
 use Rattle.pool_nodes.specs.Slots.{given_back}
-use Rattle.pool_core.specs.Views.{IsKeptPool, closed_at}
+use Rattle.pool_reading.specs.Views.{IsKeptPool, closed_at}
 use Rattle.pool_nodes.specs.Rounds.{evidence_for}
 use Rattle.pool_nodes.specs.declared.reason.Reason.{Reason}
 use Rattle.pool_core.proofs.Closings.{open_state-leaf}

@@ -17,7 +17,7 @@ use Rattle.pool_machine.specs.Changes.{is_spent, is_open_state, bound_in, examin
 use Rattle.pool_machine.specs.Closing.{reaches, is_closable, closable_in, close_fault, closed_by, ClosesBy, by_crowd, by_bound, Closes, CloseStep}
 use Rattle.pool_machine.specs.Machine.{Closing_of, to_closing, IsReachable}
 use Rattle.pool_nodes.specs.Rounds.{proof_of, HasReason}
-use Rattle.pool_core.specs.Views.{closed_at}
+use Rattle.pool_reading.specs.Views.{closed_at}
 use Rattle.pool_nodes.specs.declared.reason.Reason.TheVariants as reason
 use Rattle.pool_machine.proofs.Runs.{IsReachable-step}
 use Rattle.pool_core.proofs.Answering.{is_spent-false}

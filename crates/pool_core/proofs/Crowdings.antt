@@ -10,9 +10,10 @@ use Rattle.master_step.proofs.Trying.{int_lt-true, int_lt-false}
 use Rattle.pool_machine.specs.State.{Round, Node, State, round_of}
 use Rattle.pool_machine.specs.Gathering.{columns_for}
 use Rattle.pool_machine.specs.Publishing.{IsCrowding, IsCrowdStep, IsMark, IsNoGain}
-use Rattle.pool_core.specs.Valuing.{IsGatheredAt, ForRound, MayReplace, HasNoGain, IsToPublish}
+use Rattle.pool_reading.specs.Valuing.{IsGatheredAt, ForRound}
+use Rattle.pool_core.specs.Valuing.{MayReplace, HasNoGain, IsToPublish}
 use Rattle.pool_core.proofs.Publishable.{HasFollowing}
-use Rattle.pool_core.proofs.Valuing.{same-round}
+use Rattle.pool_reading.proofs.Valuing.{same-round}
 
 module _ (s : State) (id : BranchId) (read : Round) (old prices : List ℕ) (p : Parts) (is_p : p ≡ s.problem) (is : Some read ≡ round_of s id) (is_old : old ≡ read.prices) where
   -- the crowd prices of the round that is read are those of the node's own

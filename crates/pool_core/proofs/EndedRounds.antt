@@ -1,7 +1,7 @@
 -- A node whose round ends gives the place back.
 use Rattle.pool_nodes.specs.declared.slot.Slot.{Slot}
 use Rattle.pool_nodes.specs.declared.slot.Slot.TheVariants.{Free, Of}
-use Rattle.std.proofs.Common.{◌≡◌, ◌≢◌, ℕ, suc, ◌+◌, ◌<◌, ◌⊎◌, inl, inr, List, [], ◌∷◌, ◌++◌, length, set, get_or, Option, Some, None, slice_get, refl, sym, ap, subst, ◌∙◌, arith, sum_by, cond, length-set}
+use Rattle.std.proofs.Common.{[], ◌≡◌, ◌≢◌, ℕ, suc, ◌+◌, ◌<◌, ◌⊎◌, inl, inr, List, ◌∷◌, ◌++◌, length, set, get_or, Option, Some, None, slice_get, refl, sym, ap, subst, ◌∙◌, arith, sum_by, cond, length-set}
 use Rattle.std.specs.Prelude.{IsSomeAnd}
 use Rattle.std.proofs.lemmas.Option.{slice_get-get_or}
 use Rattle.std.proofs.lemmas.List.Sums.{sum_by-append, sum_by-cons}
@@ -14,7 +14,7 @@ use Rattle.pool_machine.specs.Nodes.{IsSoundRound}
 use Rattle.pool_machine.specs.Soundness.{IsSound}
 use Rattle.pool_machine.specs.Family.{badge_of}
 use Rattle.pool_nodes.specs.Slots.{is_free, given_back}
-use Rattle.pool_core.specs.Views.{IsTakenBy, HasPlaces}
+use Rattle.pool_reading.specs.Views.{IsTakenBy, HasPlaces}
 use Rattle.pool_nodes.specs.Grounds.{IsGroundOf, HasGrounds}
 use Rattle.pool_machine.proofs.Lists.{sum_by-set_at, slice_get-set_same, slice_get-set_other, slice_get-set_cases, slice_get-append_left, slice_get-append_cases}
 use Rattle.pool_machine.proofs.Frames.{same_or_other, one_at, badge_at-at}

@@ -11,12 +11,8 @@ pub mod Dividings
 pub mod Routings
 pub mod RoutedPool
 pub mod TaskLaws
-pub mod Reading
 pub mod Leaves
-pub mod Fitting
-pub mod Routes
 pub mod Steps
-pub mod Publishing
 pub mod Valuing
 pub mod Settlings
 pub mod Renewing
@@ -24,5 +20,4 @@ pub mod Publishable
 pub mod Crowdings
 pub mod Gatherings
 pub mod Advancing
-pub mod Claiming
 pub mod OnlyAnswers

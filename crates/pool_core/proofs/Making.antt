@@ -1,7 +1,7 @@
 -- What makes a new pool an opening state.
 use Rattle.pool_nodes.specs.declared.slot.Slot.{Slot}
 use Rattle.pool_nodes.specs.declared.slot.Slot.TheVariants.{Free, Of}
-use Rattle.std.proofs.Common.{◌≡◌, ℕ, zero, suc, ◌+◌, ◌<◌, ◌≤◌, ◌⊎◌, inl, inr, List, [], ◌∷◌, ◌++◌, length, Option, Some, None, slice_get, refl, sym, ap, subst, ◌∙◌, arith, sum_by, count_by, cond, length-append}
+use Rattle.std.proofs.Common.{[], ◌≡◌, ℕ, zero, suc, ◌+◌, ◌<◌, ◌≤◌, ◌⊎◌, inl, inr, List, ◌∷◌, ◌++◌, length, Option, Some, None, slice_get, refl, sym, ap, subst, ◌∙◌, arith, sum_by, count_by, cond, length-append}
 use Rattle.std.specs.Prelude.{IsSomeAnd}
 use Rattle.std.proofs.lemmas.Option.{slice_get_within}
 use Rattle.std.proofs.lemmas.List.Sums.{sum_by-cons}
@@ -17,7 +17,7 @@ use Rattle.pool_machine.specs.State.{Round, Node, State, rounds_in, restriction_
 use Rattle.pool_machine.specs.Machine.{root_with, IsOpeningState}
 use Rattle.pool_machine.specs.Opening.{IsTaken}
 use Rattle.pool_nodes.specs.Slots.{is_free}
-use Rattle.pool_core.specs.Views.{AreFreePlaces, HasPlaces, IsKeptPool}
+use Rattle.pool_reading.specs.Views.{AreFreePlaces, HasPlaces, IsKeptPool}
 use Rattle.pool_nodes.specs.Grounds.{IsGroundOf, HasGrounds}
 use Rattle.pool_machine.proofs.Lists.{slice_get-append_left, slice_get-append_right}
 use Rattle.pool_machine.proofs.Frames.{one_at}

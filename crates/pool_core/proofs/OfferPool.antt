@@ -8,12 +8,11 @@ use Rattle.plan_base.specs.declared.ids.BranchId.{BranchId}
 use Rattle.plan_base.specs.declared.parts.Parts.{Parts}
 use Rattle.plan_base.specs.First.{◌or_else◌, when}
 use Rattle.plan_base.proofs.FirstFault.{or_else-none, when-none}
-use Rattle.arc_restrict.specs.Restrictions.{Forbidden}
 use Rattle.arc_restrict.specs.Rows.{Rows}
 use Rattle.path_pricing.specs.declared.priced.Priced.{Priced}
 use Rattle.path_pricing.specs.declared.priced.Priced.TheVariants as priced
 use Rattle.path_pricing.specs.declared.priced.Unfit.{Unfit}
-use Rattle.path_pricing.specs.Priced.{IsLeastPath, ArePrices}
+use Rattle.path_pricing.specs.Priced.{IsLeastPath}
 use Rattle.path_pricing.specs.Faults.{priced_fault}
 use Rattle.path_pricing.proofs.FaultLaws.{IsPriced-priced_fault}
 use Rattle.pool_machine.specs.declared.answers.Offer.{Offer}
@@ -21,16 +20,14 @@ use Rattle.pool_machine.specs.declared.answers.Offered.{Offered}
 use Rattle.pool_machine.specs.declared.answers.Offered.TheVariants as offered
 use Rattle.pool_machine.specs.declared.tree.Found.{Found}
 use Rattle.pool_machine.specs.declared.tree.HeldCut.{HeldCut}
-use Rattle.pool_machine.specs.declared.tree.Fate.{Fate}
-use Rattle.pool_machine.specs.declared.tree.Fate.TheVariants.{Undone}
-use Rattle.pool_machine.specs.State.{Round, Node, State, restriction_of, left_of, rounds_by, rounds_in, state_by, state_in, state_of, round_of}
-use Rattle.pool_machine.specs.Changes.{is_spent, version_in, is_version, has_cut, is_open_state, stale_fault, TakesRound, with_node}
+use Rattle.pool_machine.specs.State.{Round, Node, State, restriction_of, left_of, rounds_by, rounds_in, round_of}
+use Rattle.pool_machine.specs.Changes.{is_spent, version_in, is_version, has_cut, stale_fault, TakesRound, with_node}
 use Rattle.pool_machine.specs.Offering.{is_priced, unfit_in, offer_fault, FitsRound, TakesCut, Accepts, OfferStep, with_found}
 use Rattle.pool_machine.specs.Opening.{HasSlot, IsTaken}
-use Rattle.pool_machine.specs.Machine.{IsReachable, Offering, to_offering}
-use Rattle.pool_machine.specs.Nodes.{IsSoundRound, IsSoundNode}
+use Rattle.pool_machine.specs.Machine.{Offering, to_offering}
+use Rattle.pool_machine.specs.Nodes.{IsSoundNode}
 use Rattle.pool_machine.specs.Soundness.{IsSound}
-use Rattle.pool_core.specs.Views.{IsTakenBy, HasPlaces, IsPool, IsKeptPool}
+use Rattle.pool_reading.specs.Views.{IsTakenBy, HasPlaces, IsPool, IsKeptPool}
 use Rattle.pool_machine.proofs.Lists.{sum_by-set_at, slice_get-set_same, slice_get-set_other, slice_get-set_cases}
 use Rattle.pool_machine.proofs.Frames.{same_or_other, one_at}
 use Rattle.pool_machine.proofs.Replacing.{node_at}
@@ -39,6 +36,7 @@ use Rattle.pool_machine.proofs.Small.{IsSound-accepted}
 use Rattle.pool_core.proofs.Answering.{stale_fault-none}
 use Rattle.pool_nodes.proofs.Grounds.{HasGrounds-set}
 use Rattle.pool_nodes.proofs.Completing.{TakesRound-round, TakesRound-limits, TakesRound-fate}
+use Rattle.pool_reading.proofs.OfferPool.{round_at}
 
 -- Where no fault is found
 
@@ -71,12 +69,6 @@ fits_at p o node round k found at is h =
     let here : option_map offered.Unfit (priced_fault p round.prices k (restriction_of node) found) ≡ None =
     subst (λ (x : Option Round). option_and_then (λ r. option_map offered.Unfit (priced_fault p r.prices k (restriction_of node) found)) x ≡ None) is there in
     no_unfit (priced_fault p round.prices k (restriction_of node) found) here
-
--- a sound round of a node
-pub round_at : (s : State) (n : ℕ) (node : Node) (round : Round) → IsSound s → slice_get s.nodes n ≡ Some node → node.round ≡ Some round
-    → (node.fate ≡ Undone) × IsSoundRound s.problem (restriction_of node) round
-round_at s n node round h at is =
-    subst (λ (o : Option Round). IfSome o (λ r. (node.fate ≡ Undone) × IsSoundRound s.problem (restriction_of node) r)) is (node_at s n node h at).round
 
 -- the offer fits the round of a node
 pub record MayOffer (s : State) (offer : Offer) : Type 0 where
@@ -178,44 +170,6 @@ offer_fault-refusal s offer refusal h = by_cases refusal (subst (λ (o : Option 
     by_cases (offered.NoDemand x) is e = (e, refl)
     by_cases offered.Already is e = (e, refl)
     by_cases (offered.Unfit x) is e = (e, refl)
-
--- What is asked before a check of what was found
-
--- a node with a round is an open leaf
-open_by : (fate : Fate) (round : Option Round) → fate ≡ Undone → is_open_state (state_by fate round) ≡ true
-open_by fate None undone = rw undone refl
-open_by fate (Some round) undone = rw undone refl
-
-pub open_at : (s : State) (id : BranchId) (node : Node) (round : Round) → IsSound s → slice_get s.nodes id.0 ≡ Some node → node.round ≡ Some round → is_open_state (state_of s id) ≡ true
-open_at s id node round h at is =
-    ap (λ (o : Option Node). is_open_state (state_in o)) at ∙ open_by node.fate node.round (round_at s id.0 node round h at is).0
-
-pub prices_at : (s : State) (id : BranchId) (node : Node) (round : Round) → IsSound s → slice_get s.nodes id.0 ≡ Some node → node.round ≡ Some round → ArePrices s.problem round.prices
-prices_at s id node round h at is = let fit = (round_at s id.0 node round h at is).1.prices in record { count = fit.count; within_limit = fit.within_limit }
-
-node_in : (o : Option Node) (round : Round) → option_and_then (λ (node : Node). node.round) o ≡ Some round → (node : Node) × (o ≡ Some node) × (node.round ≡ Some round)
-node_in None round is = absurd (let bad : ◌≡◌ {A = Option Round} None (Some round) = is in cc)
-node_in (Some node) round is = (node, refl, is)
-
-module _ (s : State) (id : BranchId) (round : Round) (is : round_of s id ≡ Some round) where
-  pub unfit-open : IsReachable s → is_open_state (state_of s id) ≡ true
-  unfit-open h = let n = node_in (slice_get s.nodes id.0) round is in open_at s id n.0 round (IsReachable-sound s h) n.1 n.2
-
-  pub unfit-prices : (p : Parts) (prices : List ℕ) → IsReachable s → p ≡ s.problem → prices ≡ round.prices → ArePrices p prices
-  unfit-prices p prices h same same_prices =
-      let n = node_in (slice_get s.nodes id.0) round is in
-      let fit : ArePrices s.problem round.prices = prices_at s id n.0 round (IsReachable-sound s h) n.1 n.2 in
-      subst (λ (q : Parts). ArePrices q prices) (sym same) (subst (ArePrices s.problem) (sym same_prices) fit)
-
-  -- what a check of what was found answers
-  pub unfit-is : (r : Forbidden) (k : ℕ) (found : Priced) → IfSome (slice_get s.nodes id.0) (λ x. r ≡ restriction_of x)
-      → option_map offered.Unfit (priced_fault s.problem round.prices k r found) ≡ unfit_in s.problem (slice_get s.nodes id.0) k found
-  unfit-is r k found ground =
-      let n = node_in (slice_get s.nodes id.0) round is in
-      let same : r ≡ restriction_of n.0 = subst (λ (o : Option Node). IfSome o (λ x. r ≡ restriction_of x)) n.1 ground in
-      ap (λ (q : Forbidden). option_map offered.Unfit (priced_fault s.problem round.prices k q found)) same
-      ∙ sym (ap (λ (x : Option Node). unfit_in s.problem x k found) n.1
-      ∙ ap (λ (x : Option Round). option_and_then (λ y. option_map offered.Unfit (priced_fault s.problem y.prices k (restriction_of n.0) found)) x) n.2)
 
 -- Places
 

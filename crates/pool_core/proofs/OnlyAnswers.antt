@@ -1,6 +1,6 @@
 -- What an opening or a publishing would answer is what it answers.
-use Rattle.std.proofs.Common.{◌≡◌, ℕ, suc, ◌<◌, ◌⊎◌, inl, inr, List, length, Option, Some, None, slice_get, true, refl, sym, ap, ap₂, subst, ◌∙◌, arith}
-use Rattle.std.specs.Prelude.{Result, Ok, Err}
+use Rattle.std.proofs.Common.{◌≡◌, ℕ, suc, ◌<◌, ◌⊎◌, inl, inr, List, Option, Some, None, slice_get, true, sym, ap, ap₂, ◌∙◌, arith}
+use Rattle.std.specs.Prelude.{Ok, Err}
 use Rattle.plan_base.specs.declared.ids.BranchId.{BranchId}
 use Rattle.pool_machine.specs.declared.answers.Opened.{Opened}
 use Rattle.pool_machine.specs.declared.answers.RoundFault.{RoundFault}
@@ -8,7 +8,7 @@ use Rattle.pool_machine.specs.declared.answers.Publish.{Publish}
 use Rattle.pool_machine.specs.declared.answers.Publish.TheVariants as publish
 use Rattle.pool_machine.specs.declared.tree.Fate.{Fate}
 use Rattle.pool_machine.specs.State.{Round, Node, State, state_by, state_in, state_of}
-use Rattle.pool_machine.specs.Opening.{is_waiting, IsLowestFreeSlot, OpenStep}
+use Rattle.pool_machine.specs.Opening.{is_waiting, IsLowestFreeSlot}
 use Rattle.pool_machine.specs.Publishing.{publish_fault, Publishes, PublishStep}
 use Rattle.pool_machine.proofs.Frames.{one_at}
 use Rattle.pool_machine.proofs.OneAnswer.{gains-not_no_gain}

@@ -21,7 +21,7 @@ use Rattle.pool_machine.specs.Opening.{is_waiting, open_fault, HasSlot, IsTaken,
 use Rattle.pool_machine.specs.Machine.{Opening, to_opening}
 use Rattle.pool_machine.specs.Nodes.{IsSoundRound, IsSoundNode}
 use Rattle.pool_nodes.specs.Slots.{is_free, IsFirstFree}
-use Rattle.pool_core.specs.Views.{IsTakenBy, HasPlaces, IsPool, IsKeptPool}
+use Rattle.pool_reading.specs.Views.{IsTakenBy, HasPlaces, IsPool, IsKeptPool}
 use Rattle.pool_machine.proofs.Lists.{sum_by-set_at, slice_get-set_same, slice_get-set_other, slice_get-set_cases}
 use Rattle.pool_machine.proofs.Frames.{same_or_other, one_at}
 use Rattle.pool_machine.proofs.Replacing.{node_at}

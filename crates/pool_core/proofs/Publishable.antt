@@ -18,7 +18,8 @@ use Rattle.pool_machine.specs.Changes.{is_spent, version_in, is_version, stale_f
 use Rattle.pool_machine.specs.Readiness.{completed_in, settled_in}
 use Rattle.pool_machine.specs.Gathering.{first_ungathered}
 use Rattle.pool_machine.specs.Publishing.{price_fault, publish_fault, MayFollow, PublishStep}
-use Rattle.pool_core.proofs.Answering.{stale_fault-none, first_gap-none, option_map-none}
+use Rattle.pool_reading.proofs.Answering.{first_gap-none}
+use Rattle.pool_core.proofs.Answering.{stale_fault-none, option_map-none}
 
 -- the prices may follow those of the node's round
 pub record HasFollowing (s : State) (id : BranchId) (seen : ℕ) (prices : List ℕ) : Type 0 where

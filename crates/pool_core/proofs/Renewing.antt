@@ -24,12 +24,13 @@ use Rattle.pool_nodes.specs.declared.slot.Slot.{Slot}
 use Rattle.pool_nodes.specs.Rounds.{MayComplete}
 use Rattle.pool_nodes.proofs.Completing.{TakesRound-round, TakesRound-limits, TakesRound-fate, TakesRound-from}
 use Rattle.pool_nodes.proofs.Grounds.{HasGrounds-set}
-use Rattle.pool_core.specs.Views.{HasPlaces, IsPool, IsKeptPool}
+use Rattle.pool_reading.specs.Views.{HasPlaces, IsPool, IsKeptPool}
 use Rattle.pool_core.specs.Valuing.{IsToPublish}
 use Rattle.pool_core.specs.declared.pool.following.Following.{Following}
 use Rattle.pool_core.specs.Foretold.{IsFollowing}
-use Rattle.pool_core.proofs.Reading.{sound-round}
-use Rattle.pool_core.proofs.TaskLaws.{HasRound, round_of-has, has-some}
+use Rattle.pool_reading.proofs.Reading.{sound-round}
+use Rattle.pool_reading.proofs.TaskLaws.{HasRound, round_of-has}
+use Rattle.pool_core.proofs.TaskLaws.{has-some}
 use Rattle.pool_core.proofs.OfferPool.{HasPlaces-slot}
 
 -- what may follow may be published

@@ -19,8 +19,8 @@ use Rattle.pool_machine.specs.Changes.{is_open_state}
 use Rattle.pool_machine.specs.Examining.{ClosesOverfull, ClosesRouted}
 use Rattle.pool_machine.specs.Bettering.{BetterStep}
 use Rattle.pool_machine.specs.Machine.{Examining, to_examining, IsReachable}
-use Rattle.pool_core.specs.Views.{closed_at}
-use Rattle.pool_core.specs.Examining.{HasOnlyPaths}
+use Rattle.pool_reading.specs.Views.{closed_at}
+use Rattle.pool_reading.specs.Examining.{HasOnlyPaths}
 use Rattle.pool_core.proofs.Examining.{open-at, shown-closed}
 use Rattle.pool_core.proofs.Routings.{are-paths, overfull-closed, completion-routed, with_cheaper, better-holds}
 use Rattle.pool_machine.proofs.Runs.{IsReachable-step}

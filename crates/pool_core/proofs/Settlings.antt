@@ -8,9 +8,10 @@ use Rattle.master_step.proofs.Uniqueness.{value-unique}
 use Rattle.pool_machine.specs.State.{Round, State, round_of}
 use Rattle.pool_machine.specs.Gathering.{columns_for}
 use Rattle.pool_machine.specs.Settling.{IsImprovable}
-use Rattle.pool_core.specs.Valuing.{IsGatheredAt, ForRound, HasNoMore, IsToSettle}
+use Rattle.pool_reading.specs.Valuing.{IsGatheredAt, ForRound}
+use Rattle.pool_core.specs.Valuing.{HasNoMore, IsToSettle}
 use Rattle.pool_core.proofs.Answering.{HasGathered}
-use Rattle.pool_core.proofs.Valuing.{same-round}
+use Rattle.pool_reading.proofs.Valuing.{same-round}
 
 pub to-gathered : (s : State) (id : BranchId) (version : ℕ) → HasGathered s id version → IsGatheredAt s id
 to-gathered s id version g = record { version = version; node = g.node; round = g.round; is_gathered = g.is_gathered }

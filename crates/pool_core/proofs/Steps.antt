@@ -56,9 +56,11 @@ use Rattle.pool_machine.proofs.Leads.{LeadsTo-stays}
 use Rattle.pool_machine.proofs.Replacing.{node_at}
 use Rattle.pool_machine.proofs.Runs.{IsReachable-sound}
 use Rattle.pool_nodes.proofs.Completing.{TakesRound-fate}
-use Rattle.pool_core.specs.Work.{is_next_in, is_next, IsStepAt, IsGap, cut_left, unsettled_left, versions_left, steps_by, steps_in, steps_left, IsCloser, KeepsNodes}
-use Rattle.pool_core.proofs.TaskLaws.{HasRound, round-undone, round_of-has, spent-false, not_priced-at}
-use Rattle.pool_core.proofs.Reading.{sound-round}
+use Rattle.pool_reading.specs.Work.{is_next_in, is_next, IsStepAt}
+use Rattle.pool_core.specs.Work.{IsGap, cut_left, unsettled_left, versions_left, steps_by, steps_in, steps_left, IsCloser, KeepsNodes}
+use Rattle.pool_reading.proofs.TaskLaws.{HasRound, round-undone, round_of-has, spent-false}
+use Rattle.pool_core.proofs.TaskLaws.{not_priced-at}
+use Rattle.pool_reading.proofs.Reading.{sound-round}
 
 -- what becomes of a node that takes a round
 takes-round : (p : Parts) (old : Node) (round : Round) (new : Node) → TakesRound p old round new → new.round ≡ Some round

@@ -1,92 +1,17 @@
 -- What is read of the pool's fields at a node with a gathered round.
-use Rattle.std.proofs.Common.{◌≡◌, ℕ, ◌≤◌, List, length, get_or, Option, Some, None, slice_get, refl, sym, ap, subst, ◌∙◌, arith}
-use Rattle.std.specs.Prelude.{IsSome, IfSome, IfNone, option_map, option_and_then}
-use Rattle.std.proofs.lemmas.Option.{get_or_from_slice_get}
+use Rattle.std.proofs.Common.{◌≡◌, ℕ, List, get_or, Option, Some, None, sym, ap, subst, ◌∙◌}
+use Rattle.std.specs.Prelude.{IsSome, IfSome, IfNone, option_map}
 use Rattle.plan_base.specs.declared.ids.BranchId.{BranchId}
-use Rattle.plan_base.specs.declared.parts.Parts.{Parts}
-use Rattle.plan_base.specs.declared.limits.TheConstants.{MAX_DEMANDS}
-use Rattle.arc_restrict.specs.Restrictions.{Forbidden}
-use Rattle.arc_restrict.specs.Rows.{Rows, forbids}
-use Rattle.arc_restrict.specs.Prices.{AreWithinLimit}
-use Rattle.column_pool.specs.Columns.{permitted_at, AreColumns}
-use Rattle.master_step.specs.Columns.{Choices, HasColumns}
-use Rattle.pool_machine.specs.State.{Round, Node, State, round_of, restriction_of}
-use Rattle.pool_machine.specs.Gathering.{columns_for}
+use Rattle.pool_machine.specs.State.{Round, Node, State, round_of}
 use Rattle.pool_machine.specs.Nodes.{IsPriceList}
 use Rattle.pool_machine.specs.Soundness.{IsSound}
-use Rattle.pool_machine.proofs.Frames.{one_at}
-use Rattle.pool_machine.proofs.GatheredRounds.{gathered-columns}
-use Rattle.pool_core.specs.Valuing.{IsGatheredAt, ForRound}
-use Rattle.pool_core.proofs.TaskLaws.{HasRound, has-round, round_of-has, has-some}
-use Rattle.pool_core.proofs.Reading.{sound-round, has-within, read-round, shown-value}
-
--- a node with a gathered round
-abbrev pub gathered-round : (s : State) (id : BranchId) → IsGatheredAt s id → HasRound s id
-gathered-round s id h =
-    let is = h.is_gathered.complete_round in
-    record { node = h.node; round = h.round; is_node = is.is_node; is_round = is.is_round }
+use Rattle.pool_reading.specs.Valuing.{IsGatheredAt}
+use Rattle.pool_core.proofs.TaskLaws.{has-some}
+use Rattle.pool_reading.proofs.Reading.{sound-round, has-within, read-round, shown-value}
+use Rattle.pool_reading.proofs.Valuing.{gathered-round, same-round}
 
 pub gathered-some : (s : State) (id : BranchId) → IsGatheredAt s id → IsSome (round_of s id)
 gathered-some s id h = has-some s id (gathered-round s id h)
-
--- the columns of the node, as a restriction that equals its own permits them
-pub rows-columns : (s : State) (id : BranchId) (r : Forbidden) → IsSound s → (h : IsGatheredAt s id) → r ≡ restriction_of h.node → HasColumns s.problem (permitted_at r s.columns)
-rows-columns s id r sound h same =
-    subst (λ (x : Forbidden). HasColumns s.problem (permitted_at x s.columns)) (sym same) (gathered-columns s id h.version h.node h.round sound h.is_gathered)
-
--- a round that is read has a list for each of its demands
-pub round-lists : (s : State) (id : BranchId) (round : Round) → IsSound s → Some round ≡ round_of s id → length round.found ≤ length s.columns
-round-lists s id round sound is =
-    let h = has-round s id (read-some (round_of s id) round (sym is)) in
-    let both : Some round ≡ Some h.round = is ∙ round_of-has s id h in
-    let same : round ≡ h.round = cc in
-    let count : length round.found ≡ length h.round.found = ap (λ (r : Round). length r.found) same in
-    let c = (sound-round s id sound h).count in
-    let l = sound.columns.count in
-    omega arith
-  where
-    read-some : (o : Option Round) (r : Round) → o ≡ Some r → IsSome o
-    read-some None r e = absurd (let bad : ◌≡◌ {A = Option Round} None (Some r) = e in cc)
-    read-some (Some x) r e = refl
-
-pub round-few : (s : State) (id : BranchId) (round : Round) → IsSound s → Some round ≡ round_of s id → length round.found ≤ MAX_DEMANDS
-round-few s id round sound is =
-    let most = round-lists s id round sound is in
-    let l = sound.columns.count in
-    let d = sound.lawful.demand_count in
-    omega arith
-
--- What a valuing asks for, and what it tells, where the instance and the restriction are those of the pool
-
-module _ (s : State) (id : BranchId) (sound : IsSound s) (at : IsGatheredAt s id) (p : Parts) (rows : Rows) (is_p : p ≡ s.problem) (is_rows : forbids rows ≡ restriction_of at.node) where
-  pub ask-count : (prices : List ℕ) → IsPriceList s.problem prices → length prices ≡ length p.links
-  ask-count prices h = subst (λ (q : Parts). length prices ≡ length q.links) (sym is_p) h.count
-
-  pub ask-limit : (prices : List ℕ) → IsPriceList s.problem prices → AreWithinLimit p prices
-  ask-limit prices h = subst (λ (q : Parts). AreWithinLimit q prices) (sym is_p) h.within_limit
-
-  pub ask-columns : AreColumns p s.columns
-  ask-columns = subst (λ (q : Parts). AreColumns q s.columns) (sym is_p) sound.columns
-
-  pub ask-permitted : HasColumns p (permitted_at (forbids rows) s.columns)
-  ask-permitted = subst (λ (q : Parts). HasColumns q (permitted_at (forbids rows) s.columns)) (sym is_p) (rows-columns s id (forbids rows) sound at is_rows)
-
-  -- what is so of the instance and the restriction is so of the node
-  pub tell : (P : Parts → Choices → List ℕ → Type 0) (prices : List ℕ) → P p (permitted_at (forbids rows) s.columns) prices → ForRound s id (λ x round. P s.problem (columns_for s x) prices)
-  tell P prices h node round is_node is_round =
-      let same : node ≡ at.node = one_at s.nodes id.0 node at.node is_node at.is_gathered.complete_round.is_node in
-      let here : P s.problem (permitted_at (restriction_of at.node) s.columns) prices =
-      subst (λ (q : Parts). P q (permitted_at (restriction_of at.node) s.columns) prices) is_p (subst (λ (r : Forbidden). P p (permitted_at r s.columns) prices) is_rows h) in
-      subst (λ (x : Node). P s.problem (columns_for s x) prices) (sym same) here
-
-  -- the same at the prices of the node's round
-  pub tell-round : (P : Parts → Choices → List ℕ → Type 0) (prices : List ℕ) → prices ≡ at.round.prices → P p (permitted_at (forbids rows) s.columns) prices → ForRound s id (λ x round. P s.problem (columns_for s x) round.prices)
-  tell-round P prices is_prices h node round is_node is_round =
-      let same : node ≡ at.node = one_at s.nodes id.0 node at.node is_node at.is_gathered.complete_round.is_node in
-      let both : Some round ≡ Some at.round = sym is_round ∙ ap (λ (x : Node). x.round) same ∙ at.is_gathered.complete_round.is_round in
-      let rounds : round ≡ at.round = cc in
-      let same_prices : prices ≡ round.prices = is_prices ∙ ap (λ (r : Round). r.prices) (sym rounds) in
-      subst (λ (ps : List ℕ). P s.problem (columns_for s node) ps) same_prices (tell P prices h node round is_node is_round)
 
 -- the prices of a gathered round are prices of the instance
 pub round-price_list : (s : State) (id : BranchId) → IsSound s → (at : IsGatheredAt s id) → IsPriceList s.problem at.round.prices
@@ -109,16 +34,6 @@ none_then (Some x) P Q f h = tt
 pub some_then : {X : Type 0} (o : Option X) (P Q : X → Type 0) → ((x : X) → P x → Q x) → IfSome o P → IfSome o Q
 some_then None P Q f h = tt
 some_then (Some x) P Q f h = f x h
-
--- the node that is read at its place
-pub read-node : (s t : State) (id : BranchId) (item x : Node) → s ≡ t → item ≡ get_or s.nodes id.0 item → slice_get t.nodes id.0 ≡ Some x → item ≡ x
-read-node s t id item x same read is = read ∙ get_or_from_slice_get s.nodes id.0 x item (ap (λ (u : State). slice_get u.nodes id.0) same ∙ is)
-
--- the round that is read, at the node's own
-pub same-round : (t : State) (id : BranchId) (read : Round) (x : Node) (round : Round) → Some read ≡ round_of t id → slice_get t.nodes id.0 ≡ Some x → x.round ≡ Some round → read ≡ round
-same-round t id read x round is is_node is_round =
-    let at : round_of t id ≡ Some round = ap (option_and_then (λ (node : Node). node.round)) is_node ∙ is_round in
-    let both : Some read ≡ Some round = is ∙ at in cc
 
 -- the prices of a round that is read
 pub gathered-prices : (s : State) (id : BranchId) (at : IsGatheredAt s id) (read : Round) (prices : List ℕ) → Some read ≡ round_of s id → prices ≡ read.prices → prices ≡ at.round.prices

@@ -1,8 +1,7 @@
-pub mod Views
-pub mod Examining
 pub mod Work
 pub mod Valuing
 pub mod Foretold
+pub use Rattle.pool_reading.specs.Views
 pub use Rattle.pool_machine.specs.State
 pub use Rattle.pool_machine.specs.Opening
 pub use Rattle.pool_machine.specs.Offering

@@ -1,24 +1,11 @@
 -- A node whose round is complete or gathered, and what may come of it; no public contract cites it.
-use Rattle.std.specs.Prelude.{ℕ, ◌≡◌, ◌<◌, ◌⊎◌, Bool, true, List, length, Some, slice_get, ℤ, ◌≤ℤ◌}
+use Rattle.std.specs.Prelude.{ℕ, ◌≡◌, ◌⊎◌, Bool, true, List, ℤ, ◌≤ℤ◌}
 use Rattle.plan_base.specs.declared.ids.BranchId.{BranchId}
 use Rattle.master_step.specs.Restricted.{IsRestrictedValue}
 use Rattle.master_step.specs.Outcomes.{HasStalled}
 use Rattle.pool_machine.specs.State.{Round, Node, State}
-use Rattle.arc_restrict.specs.Restrictions.{Forbidden}
-use Rattle.column_pool.specs.Columns.{Columns, columns_at, permitted_at}
 use Rattle.pool_machine.specs.Gathering.{columns_for, IsCompleteRound, IsGathered}
 use Rattle.pool_machine.specs.Publishing.{MayFollow, IsBetterStep, IsCrowdStep, IsMark}
-
--- the node of the number has a gathered round
-pub record IsGatheredAt (s : State) (id : BranchId) : Type 0 where
-  pub version : ℕ
-  pub node : Node
-  pub round : Round
-  pub is_gathered : IsGathered s id version node round
-
--- it is so of the node of the number and its round
-abbrev pub ForRound : State → BranchId → (Node → Round → Type 0) → Type 0
-ForRound s id Holds = (node : Node) (round : Round) → slice_get s.nodes id.0 ≡ Some node → node.round ≡ Some round → Holds node round
 
 -- its crowd prices were tried, or no step gains
 abbrev pub HasNoMore : State → Node → Round → Type 0
@@ -36,11 +23,6 @@ pub record IsCompleteAt (s : State) (id : BranchId) (version : ℕ) : Type 0 whe
   pub node : Node
   pub round : Round
   pub is_complete : IsCompleteRound s id version node round
-
--- for each of so many demands the columns that a restriction permits
-pub record ArePermittedLists (count : ℕ) (r : Forbidden) (columns lists : Columns) : Type 0 where
-  pub count_is : length lists ≡ count
-  pub each : (k : ℕ) → k < count → columns_at lists k ≡ permitted_at r columns k
 
 -- the prices are better than those of the round or its crowd step, and this is the mark that follows
 pub record MayReplace (s : State) (node : Node) (round : Round) (prices : List ℕ) (mark : Bool) : Type 0 where

@@ -1,48 +1,18 @@
 -- What one thread's steps at a leaf keep; no public contract cites it.
-use Rattle.std.specs.Prelude.{ℕ, zero, suc, ◌+◌, ◌-◌, ◌*◌, ◌≡◌, ◌<◌, Bool, true, false, not, ◌&&◌, length, Option, Some, None, slice_get, nat_lt}
+use Rattle.std.specs.Prelude.{ℕ, zero, suc, ◌+◌, ◌-◌, ◌*◌, ◌≡◌, ◌<◌, Bool, true, false, length, Option, Some, None, slice_get}
 use Rattle.plan_base.specs.declared.ids.BranchId.{BranchId}
 use Rattle.plan_base.specs.declared.ids.DemandId.{DemandId}
-use Rattle.pool_machine.specs.declared.limits.TheConstants.{MAX_ROUNDS, MAX_VERSIONS}
-use Rattle.pool_machine.specs.declared.answers.NodeState.{NodeState}
-use Rattle.pool_machine.specs.declared.answers.NodeState.TheVariants as state
-use Rattle.pool_machine.specs.declared.task.Task.{Task}
-use Rattle.pool_machine.specs.declared.task.Task.TheVariants as task
+use Rattle.pool_machine.specs.declared.limits.TheConstants.{MAX_VERSIONS}
 use Rattle.pool_machine.specs.declared.tree.HeldCut.{HeldCut}
-use Rattle.pool_machine.specs.State.{Round, Node, State, left_of, active_count, state_of}
+use Rattle.pool_machine.specs.State.{Round, Node, State, left_of}
 use Rattle.column_pool.specs.declared.brief.Brief.{Brief}
 use Rattle.pool_machine.specs.Gathering.{IsGathered, IsBriefOf}
-use Rattle.pool_machine.specs.Opening.{open_fault}
-use Rattle.pool_machine.specs.Closing.{close_fault}
-use Rattle.pool_machine.specs.Readiness.{examine_refusal}
-use Rattle.pool_machine.specs.Tasks.{IsToPrice, IsToAdvance, LeadsTo}
-
--- a node in this state has a round, or waits where a slot is free
-abbrev pub is_next_in : Bool → NodeState → Bool
-is_next_in room state.Active = true
-is_next_in room state.Waiting = room
-is_next_in room _ = false
-
--- the node is an open leaf that has a round, or for whose round a slot is free
-abbrev pub is_next : State → BranchId → Bool
-is_next s id = is_next_in (nat_lt (active_count s) MAX_ROUNDS) (state_of s id)
-
--- the node is not settled and has room for more complete versions
-abbrev pub may_go_on_in : Option Node → Bool
-may_go_on_in None = false
-may_go_on_in (Some node) = not node.settled && nat_lt node.completed MAX_VERSIONS
+use Rattle.pool_machine.specs.Tasks.{IsToPrice, LeadsTo}
+use Rattle.pool_reading.specs.Work.{is_next}
 
 -- the demand is to be priced in the node's round of the version
 abbrev pub IsGap : State → BranchId → ℕ → DemandId → Type 0
 IsGap s id version k = (slot : ℕ) × IsToPrice s id slot version k
-
--- the task is one at this node, and its call would not be refused now
-abbrev pub IsStepAt : State → BranchId → Task → Type 0
-IsStepAt s id (task.Open at) = (at ≡ id) × (open_fault s id ≡ None)
-IsStepAt s id (task.Price at slot version k) = (at ≡ id) × IsToPrice s id slot version k
-IsStepAt s id (task.Master at version) = (at ≡ id) × IsToAdvance s id version
-IsStepAt s id (task.Close at) = (at ≡ id) × (close_fault s id ≡ None)
-IsStepAt s id (task.Examine at) = (at ≡ id) × (examine_refusal s id ≡ None)
-IsStepAt s id task.Done = ⊥
 
 -- 1 for a node without a cut
 abbrev pub cut_left : Option HeldCut → ℕ

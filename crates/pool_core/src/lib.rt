@@ -1,13 +1,12 @@
 //! The pool of a branch-and-bound search: a state of the machine, and the calls that lead from one to the next.
 //!
 //! Promises that each call is one event of the machine of `pool_machine`, with its exact answer, that `finish` ends with
-//! nothing left to do, and that `into_plan` gives a valid plan of the state. Begin at `Pool` and `Pool::finish`; what
-//! the pool's fields keep stands in `specs/Views.antt`. Stands on `pool_machine` for what an event is, `pool_nodes` for
-//! what becomes of a node, `leaf_work` for what is computed of it, and `plan_assembly` for the plan. Who makes which
-//! call, and when, is left to the callers: any order is right.
+//! nothing left to do, and that `into_plan` gives a valid plan of the state. Begin at `Pool` and `Pool::finish`. Stands on
+//! `pool_machine` for what an event is, `pool_nodes` for what becomes of a node, `pool_reading` for what the pool's fields
+//! keep and for all that is only read of them, `leaf_work` for prices that follow, and `plan_assembly` for the plan. Who
+//! makes which call, and when, is left to the callers: any order is right.
 #![tactic(auto)]
 
-mod claims;
 pub mod limits;
 mod pool;
 mod shared;

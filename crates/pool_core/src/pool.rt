@@ -1,12 +1,10 @@
 //! The pool: each call is one event of the machine.
 
-ghost use Rattle.std.specs.Prelude.{◌≡◌, ◌<◌, ◌≤◌, ◌↔◌, IsTrue, true, false, None, Some, length, slice_get, option_map};
-ghost use Rattle.pool_machine.specs.State.{State, Node, Round, state_of, round_of, cutoff_of, active_count};
-ghost use Rattle.pool_machine.specs.Opening.{open_fault, OpenStep, is_waiting};
-ghost use Rattle.pool_machine.specs.Changes.{is_spent, version_in, is_version, first_gap};
+ghost use Rattle.std.specs.Prelude.{◌≡◌};
+ghost use Rattle.pool_machine.specs.State.{State, state_of};
+ghost use Rattle.pool_machine.specs.Opening.{OpenStep};
 
 mod advancing;
-mod claiming;
 mod closing;
 mod dividing;
 mod examining;
@@ -23,15 +21,14 @@ mod settling;
 mod tasks;
 mod valuing;
 
-use crate::claims::Claims;
 use column_pool::ColumnPool;
 use leaf_work::KnownAbove;
 use link_steps::StepTable;
 use master_step::Room;
-use plan_base::{BranchId, DemandId, Instance};
-use pool_machine::limits::MAX_ROUNDS;
+use plan_base::{BranchId, Instance};
 use pool_machine::{Incumbent, NodeState, Opened, RoundFault};
-use pool_nodes::{Ground, PoolNode, Slot, first_free, free_count};
+use pool_nodes::{Ground, PoolNode, Slot, first_free};
+use pool_reading::{Claims, PoolView};
 use std::alloc::Global;
 use std::marker::Model;
 use std::sync::Arc;
@@ -67,7 +64,7 @@ pub struct Pool {
 impl Model for Pool {
     ghost use Rattle.std.specs.Arc.{arc_value};
     ghost use Rattle.pool_machine.specs.State.{State};
-    ghost use Rattle.pool_core.specs.Views.{IsFittedPool};
+    ghost use Rattle.pool_reading.specs.Views.{IsFittedPool};
 
     ghost Value = { State };
 
@@ -102,61 +99,32 @@ impl Pool {
         self.examined
     }
 
-    /// The node of this number, if there is one.
-    fn node(&self, node: BranchId) -> Option<&PoolNode>
-        ensures { option_map (λ x. x.now) result ≡ slice_get self.now.nodes node.0 }
+    /// The pool as one that is only read. Takes no memory, and no time to speak of.
+    fn view(&self) -> PoolView<'_>
+        ensures { result ≡ self.now }
     {
-        self.nodes.get(node.0 as usize)
+        PoolView {
+            alloc: self.alloc,
+            problem: &*self.problem,
+            table: &*self.table,
+            nodes: self.nodes.as_slice(),
+            columns: &self.columns,
+            grounds: self.grounds.as_slice(),
+            places: self.places.as_slice(),
+            incumbent: &self.incumbent,
+            examined: self.examined,
+            budget: self.budget,
+            next_version: self.next_version,
+            accepted: self.accepted,
+            claims: &self.claims,
+        }
     }
 
     /// What a node is now; `Unknown` where there is no node of this number.
     pub fn state(&self, node: BranchId) -> NodeState
         ensures { result ≡ state_of self.now node }
     {
-        match self.node(node) {
-            Some(node) => node.state(),
-            None => NodeState::Unknown,
-        }
-    }
-
-    fn is_spent(&self) -> bool
-        ensures { result ≡ is_spent self.now }
-    {
-        self.budget <= self.examined
-    }
-
-    /// The version of the active round of a node.
-    fn current(&self, node: BranchId) -> Option<u64>
-        ensures { result ≡ version_in (round_of self.now node) }
-    {
-        self.node(node)?.version()
-    }
-
-    /// How many rounds are active.
-    fn active(&self) -> u32
-        ensures { result ≡ active_count self.now }
-    {
-        MAX_ROUNDS - free_count(self.places.as_slice()) as u32
-    }
-
-    #[tactic(auto, unfolding(pool_machine::specs::Opening::open_fault))]
-    fn open_refusal(&self, node: BranchId) -> Option<RoundFault>
-        ensures { result ≡ open_fault self.now node }
-    {
-        if self.is_spent() {
-            return Some(RoundFault::Spent {
-                examined: self.examined,
-            });
-        }
-        let state = self.state(node);
-        if !is_waiting(state) {
-            return Some(RoundFault::NotOpen { state });
-        }
-        let active = self.active();
-        if active >= MAX_ROUNDS {
-            return Some(RoundFault::Crowded { active });
-        }
-        None
+        self.view().state(node)
     }
 
     /// Gives a node that waits a round of its first prices, in the lowest free slot. Without demands its version is
@@ -169,7 +137,7 @@ impl Pool {
     pub fn open_round(&mut self, node: BranchId) -> Result<Opened, RoundFault>
         ensures event { OpenStep self.old node result self.new }
     {
-        if let Some(fault) = self.open_refusal(node) {
+        if let Some(fault) = self.view().open_refusal(node) {
             return Err(fault);
         }
         let slot = first_free(self.places.as_slice());
@@ -186,30 +154,5 @@ impl Pool {
             slot: slot as u32,
             version,
         })
-    }
-
-    /// The first demand that the active round of a node has not priced.
-    fn first_gap(&self, node: BranchId) -> Option<DemandId>
-        ensures { result ≡ first_gap (round_of self.now node) }
-    {
-        self.node(node)?.first_gap()
-    }
-}
-
-fn is_waiting(state: NodeState) -> bool
-    ensures { result ≡ is_waiting state }
-{
-    match state {
-        NodeState::Waiting => true,
-        _ => false,
-    }
-}
-
-fn is_version(current: Option<u64>, version: u64) -> bool
-    ensures { result ≡ is_version current version }
-{
-    match current {
-        Some(current) => current == version,
-        None => false,
     }
 }

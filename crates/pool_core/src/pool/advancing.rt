@@ -1,6 +1,6 @@
 //! What one thread does with a complete version.
 
-ghost use Rattle.std.specs.Prelude.{◌≡◌, OnOk, IfOk};
+ghost use Rattle.std.specs.Prelude.{OnOk, IfOk};
 ghost use Rattle.pool_machine.specs.Machine.{IsReachable};
 ghost use Rattle.pool_machine.specs.Tasks.{LeadsTo, IsToAdvance};
 ghost use Rattle.pool_core.specs.Valuing.{IsCompleteAt};

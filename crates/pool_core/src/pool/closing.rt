@@ -1,64 +1,20 @@
 //! Closings by a bound or a crowd proof, and better designs.
 
-ghost use Rattle.std.specs.Prelude.{◌≡◌, ◌<◌, true, false, Some, IfSome, IfNone, length, slice_get};
-ghost use Rattle.pool_machine.specs.State.{state_of, cutoff_of};
-ghost use Rattle.pool_machine.specs.Closing.{close_fault, CloseStep, closable_in};
-ghost use Rattle.pool_machine.specs.Bettering.{BetterStep, is_cheaper};
+ghost use Rattle.std.specs.Prelude.{◌≡◌, ◌<◌, true, Some, IfSome, slice_get};
+ghost use Rattle.pool_machine.specs.State.{state_of};
+ghost use Rattle.pool_machine.specs.Closing.{CloseStep};
+ghost use Rattle.pool_machine.specs.Bettering.{BetterStep};
 ghost use Rattle.pool_machine.specs.Changes.{is_open_state};
 ghost use Rattle.pool_machine.specs.Machine.{IsReachable};
 ghost use Rattle.pool_nodes.specs.Rounds.{HasReason};
-ghost use Rattle.pool_core.specs.Views.{closed_at};
+ghost use Rattle.pool_reading.specs.Views.{closed_at};
 
 use super::Pool;
 use plan_base::{BranchId, Design, DesignFault, check_design};
-use pool_machine::{Better, Closing, Incumbent, NodeState};
+use pool_machine::{Better, Closing, Incumbent};
 use pool_nodes::{Reason, give_back};
 
-/// Whether the node is an open leaf.
-pub fn is_open_state(state: NodeState) -> bool
-    ensures { result ≡ is_open_state state }
-{
-    match state {
-        NodeState::Waiting => true,
-        NodeState::Active => true,
-        _ => false,
-    }
-}
-
 impl Pool {
-    /// Whether the node has a crowd proof, or a bound that is at least the cost of the best design.
-    pub(crate) fn is_closable(&self, node: BranchId) -> bool
-        ensures { result ≡ closable_in (cutoff_of self.now) (slice_get self.now.nodes node.0) }
-    {
-        match self.node(node) {
-            Some(node) => node.is_closable(self.incumbent()),
-            None => false,
-        }
-    }
-
-    /// Why a closing is refused, if it is.
-    #[tactic(auto, unfolding(pool_machine::specs::Closing::close_fault))]
-    fn close_refusal(&self, node: BranchId) -> Option<Closing>
-        ensures { result ≡ close_fault self.now node }
-    {
-        if self.is_spent() {
-            return Some(Closing::Spent {
-                examined: self.examined,
-            });
-        }
-        let state = self.state(node);
-        if !is_open_state(state) {
-            return Some(Closing::NotOpen { state });
-        }
-        if !self.is_closable(node) {
-            return Some(Closing::Weak {
-                bound: self.bound(node),
-                cutoff: self.incumbent(),
-            });
-        }
-        None
-    }
-
     /// Closes an open leaf for a reason: the place of its round is free again, and its restriction is let go. Takes
     /// no memory.
     pub(crate) fn close(&mut self, node: BranchId, reason: Reason)
@@ -87,22 +43,11 @@ impl Pool {
     {
         // Whoever looks into the pool knows what its type keeps, which the proof needs.
         let _ = &self.nodes;
-        if let Some(refusal) = self.close_refusal(node) {
+        if let Some(refusal) = self.view().close_refusal(node) {
             return refusal;
         }
         self.close(node, Reason::Recorded);
         Closing::Closed
-    }
-
-    /// The cost of the best design so far, where it is at most this one.
-    fn held_within(&self, cost: u128) -> Option<u128>
-        ensures some { IfSome result (λ held. (cutoff_of self.now ≡ Some held) × (is_cheaper self.now.incumbent cost ≡ false)) }
-        ensures none { IfNone result (is_cheaper self.now.incumbent cost ≡ true) }
-    {
-        match &self.incumbent {
-            Some(held) if held.cost <= cost => Some(held.cost),
-            _ => None,
-        }
     }
 
     /// Takes a design that costs less than the best one so far. Takes no memory.
@@ -114,7 +59,7 @@ impl Pool {
         ensures event { BetterStep self.old design result self.new }
     {
         let cost = check_design(&*self.problem, &design)?;
-        if let Some(held) = self.held_within(cost) {
+        if let Some(held) = self.view().held_within(cost) {
             return Ok(Better::NotLess { cost, held });
         }
         self.incumbent = Some(Incumbent { cost, design });

@@ -19,7 +19,7 @@ impl Pool {
         ensures slot { IfOk result (λ opened. opened.slot < MAX_ROUNDS) }
         ensures waits { IfOk result (λ opened. is_waiting (state_of self.now node) ≡ true) }
     {
-        if let Some(fault) = self.open_refusal(node) {
+        if let Some(fault) = self.view().open_refusal(node) {
             return Err(fault);
         }
         let slot = first_free(self.places.as_slice());

@@ -4,10 +4,9 @@ ghost use Rattle.std.specs.Prelude.{◌≡◌, ◌<◌, ◌≤◌, length, IfOk}
 ghost use Rattle.std.specs.Arc.{arc_value};
 ghost use Rattle.pool_machine.specs.declared.limits.TheConstants.{MAX_BUDGET, MAX_ROUNDS};
 ghost use Rattle.pool_machine.specs.Machine.{IsOpeningState};
-ghost use Rattle.pool_core.specs.Views.{AreFreePlaces};
+ghost use Rattle.pool_reading.specs.Views.{AreFreePlaces};
 
 use super::Pool;
-use crate::claims::Claims;
 use arc_restrict::Restriction;
 use column_pool::ColumnPool;
 use leaf_work::KnownAbove;
@@ -16,6 +15,7 @@ use master_step::Room;
 use plan_base::{Instance, Items, Prices};
 use pool_machine::limits::MAX_ROUNDS;
 use pool_nodes::{Ground, PoolNode, PoolRound, Slot};
+use pool_reading::Claims;
 use std::alloc::{AllocError, Global};
 use std::sync::Arc;
 

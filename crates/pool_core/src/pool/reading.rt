@@ -1,6 +1,6 @@
 //! What the pool tells without an event.
 
-ghost use Rattle.std.specs.Prelude.{◌≡◌, ◌↔◌, true, IsSome, IfSome, IfOk, length, slice_get, option_map};
+ghost use Rattle.std.specs.Prelude.{◌≡◌, ◌↔◌, true, IsSome, IfSome, IfOk, length, slice_get};
 ghost use Rattle.std.specs.Arc.{arc_value};
 ghost use Rattle.arc_restrict.specs.Rows.{forbids};
 ghost use Rattle.pool_machine.specs.State.{state_of, cutoff_of, restriction_of};
@@ -8,14 +8,13 @@ ghost use Rattle.pool_machine.specs.Changes.{bound_in, is_open_state};
 ghost use Rattle.pool_machine.specs.Opening.{is_waiting};
 ghost use Rattle.pool_machine.specs.Machine.{IsReachable};
 ghost use Rattle.pool_machine.specs.Soundness.{IsSound};
-ghost use Rattle.pool_core.specs.Views.{IsPublishedAt, design_of};
+ghost use Rattle.pool_reading.specs.Views.{IsPublishedAt, design_of};
 
 use super::Pool;
 use arc_restrict::Restriction;
 use dual_versions::Published;
 use link_steps::StepTable;
 use plan_base::{BranchId, Design, Instance, Prices};
-use pool_nodes::holder;
 use std::alloc::AllocError;
 use std::sync::Arc;
 
@@ -39,17 +38,14 @@ impl Pool {
     pub fn bound(&self, node: BranchId) -> Option<i128>
         ensures { result ≡ bound_in (slice_get self.now.nodes node.0) }
     {
-        self.node(node)?.bound()
+        self.view().bound(node)
     }
 
     /// The cost of the best design so far, in cost grains; None exactly where there is none.
     pub fn incumbent(&self) -> Option<u128>
         ensures { result ≡ cutoff_of self.now }
     {
-        match &self.incumbent {
-            Some(held) => Some(held.cost),
-            None => None,
-        }
+        self.view().incumbent()
     }
 
     /// A copy of the best design so far; None exactly where there is none.
@@ -71,10 +67,7 @@ impl Pool {
         ensures value { IfSome result (λ prices. IfSome (slice_get self.now.nodes node.0) (λ x. prices.now ≡ x.first_prices)) }
         ensures count { IfSome result (λ prices. length prices.now ≡ length self.now.problem.links) }
     {
-        if !super::is_waiting(self.state(node)) {
-            return None;
-        }
-        Some(self.nodes.get(node.0 as usize)?.first_prices())
+        self.view().first_prices(node)
     }
 
     /// What is forbidden at an open leaf; None exactly where the node is none.
@@ -82,10 +75,7 @@ impl Pool {
         ensures leaf { IsSome result ↔ (is_open_state (state_of self.now node) ≡ true) }
         ensures value { IfSome result (λ rows. IfSome (slice_get self.now.nodes node.0) (λ x. forbids (arc_value rows.now) ≡ restriction_of x)) }
     {
-        match self.grounds.get(node.0 as usize) {
-            Some(ground) => ground.rows(),
-            None => None,
-        }
+        self.view().restriction(node)
     }
 
     /// A copy of the prices of the round in the slot, in thousandths of a cost grain per load grain, with its node and
@@ -95,10 +85,7 @@ impl Pool {
     pub fn prices(&self, slot: u32) -> Result<Option<Published>, AllocError>
         ensures { IfOk result (IsPublishedAt self.now slot) }
     {
-        match holder(self.places.as_slice(), slot) {
-            Some(node) => self.nodes[node.0 as usize].published(node, slot),
-            None => Ok(None),
-        }
+        self.view().prices(slot)
     }
 
     /// The instance. Whoever asks knows that events lead to the pool's state, and so that it is sound, wherever the pool

@@ -1,42 +1,21 @@
 //! The search of one thread: one open leaf after another is worked off, until nothing is left to do.
 
-ghost use Rattle.std.specs.Prelude.{◌≡◌, ◌<◌, ◌+◌, None, IsSome, IsSomeAnd, IsTrue, IsFalse, OnOk, IfOk, true, false, length, slice_get};
-ghost use Rattle.std.specs.Arc.{arc_value};
+ghost use Rattle.std.specs.Prelude.{◌≡◌, ◌<◌, ◌+◌, None, IsSomeAnd, IsTrue, IsFalse, OnOk, IfOk, true, false};
 ghost use Rattle.pool_machine.specs.State.{left_of, round_of};
-ghost use Rattle.pool_machine.specs.Offering.{unfit_in};
 ghost use Rattle.pool_machine.specs.Readiness.{examine_refusal};
 ghost use Rattle.pool_machine.specs.Machine.{IsReachable};
 ghost use Rattle.pool_machine.specs.PlanOf.{is_done};
 ghost use Rattle.pool_machine.specs.Tasks.{LeadsTo};
-ghost use Rattle.pool_core.specs.Work.{is_next, IsGap, IsCloser, KeepsNodes};
+ghost use Rattle.pool_reading.specs.Work.{is_next};
+ghost use Rattle.pool_core.specs.Work.{IsGap, IsCloser, KeepsNodes};
 
 use super::Pool;
 use leaf_work::{Guide, KnownAbove, copy_of};
-use path_pricing::Priced;
-use plan_base::{BranchId, DemandId, Design};
+use plan_base::{BranchId, DemandId};
 use pool_machine::{ExamineFault, Examined, Offer, Task};
 use std::alloc::AllocError;
-use std::sync::Arc;
 
 impl Pool {
-    /// What a demand finds under the prices of the node's round, which are those of the version, and the node's
-    /// restriction.
-    fn found(
-        &self,
-        node: BranchId,
-        version: u64,
-        demand: DemandId,
-        guide: &mut Guide,
-    ) -> Result<Arc<Priced>, AllocError>
-        requires round { IsSome (round_of self.now node) }
-        requires demand { demand.0 < length self.now.problem.demands }
-        ensures { IfOk result (λ found. unfit_in self.now.problem (slice_get self.now.nodes node.0) demand.0 (arc_value found) ≡ None) }
-    {
-        let round = self.round_at(node);
-        let rows = self.grounds[node.0 as usize].rows().unwrap();
-        guide.find(&*self.problem, version, round.prices(), demand, &**rows)
-    }
-
     /// Prices a demand in the node's round.
     fn price(
         &mut self,
@@ -50,7 +29,7 @@ impl Pool {
         ensures leads { LeadsTo self.old self.new }
         ensures closer { OnOk result (IsCloser self.old self.new node) }
     {
-        let known = self.found(node, version, demand, guide)?;
+        let known = self.view().found(node, version, demand, guide)?;
         let found = copy_of(&*known)?;
         guide.keep(demand, known)?;
         let _answer = self.take(Offer {
@@ -62,21 +41,6 @@ impl Pool {
         Ok(())
     }
 
-    /// A design that a search finds from the paths of the node's round or from the cheapest design so far, where one is due.
-    fn new_design(&self, node: BranchId, guide: &mut Guide) -> Result<Option<Design>, AllocError>
-        requires { IsSomeAnd (round_of self.now node) (λ round. left_of round ≡ 0) }
-    {
-        let paths = self.round_at(node).paths(self.alloc)?;
-        leaf_work::new_design(
-            self.alloc,
-            &*self.problem,
-            &*self.table,
-            &paths,
-            self.examined,
-            guide.designs(),
-        )
-    }
-
     /// Hands in a design for the paths of the node's round or other ones.
     pub(super) fn seek_design(
         &mut self,
@@ -86,7 +50,7 @@ impl Pool {
         requires { IsSomeAnd (round_of self.old node) (λ round. left_of round ≡ 0) }
         ensures { KeepsNodes self.old self.new }
     {
-        let Some(design) = self.new_design(node, guide)? else {
+        let Some(design) = self.view().new_design(node, guide)? else {
             return Ok(());
         };
         let _answer = self.better(design);
@@ -120,7 +84,8 @@ impl Pool {
         ensures ended { IfOk result (λ ended. IsTrue ended → self.new.examined ≡ self.old.examined + 1) }
         ensures closer { IfOk result (λ ended. IsFalse ended → IsCloser self.old self.new node) }
     {
-        match self.step_at(node) {
+        let step = self.view().step_at(node);
+        match step {
             Task::Open { node: _node } => {
                 let _answer = self.open_round(node);
                 Ok(false)
@@ -160,7 +125,7 @@ impl Pool {
         ensures leads { LeadsTo self.old self.new }
         ensures one { OnOk result (self.new.examined ≡ self.old.examined + 1) }
     {
-        let Some(node) = self.next_leaf() else {
+        let Some(node) = self.view().next_leaf() else {
             unreachable!();
         };
         guide.begin(node);

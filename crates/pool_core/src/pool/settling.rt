@@ -2,35 +2,16 @@
 
 ghost use Rattle.std.specs.Prelude.{◌≡◌, false, IfSome, IfNone};
 ghost use Rattle.pool_machine.specs.Gathering.{columns_for};
-ghost use Rattle.pool_machine.specs.Settling.{settle_fault, Settles, SettleStep};
+ghost use Rattle.pool_machine.specs.Settling.{Settles, SettleStep};
 ghost use Rattle.master_step.specs.Outcomes.{IsGain};
-ghost use Rattle.pool_core.specs.Valuing.{IsGatheredAt, ForRound, HasNoMore, IsToSettle};
+ghost use Rattle.pool_reading.specs.Valuing.{IsGatheredAt, ForRound};
+ghost use Rattle.pool_core.specs.Valuing.{HasNoMore, IsToSettle};
 
 use super::Pool;
 use plan_base::BranchId;
 use pool_machine::Settle;
 
 impl Pool {
-    #[tactic(auto, unfolding(pool_machine::specs::Settling::settle_fault))]
-    fn settle_refusal(&self, node: BranchId, version: u64) -> Option<Settle>
-        ensures { result ≡ settle_fault self.now node version }
-    {
-        if self.is_spent() {
-            return Some(Settle::Spent {
-                examined: self.examined,
-            });
-        }
-        let current = self.current(node);
-        if !super::is_version(current, version) {
-            return Some(Settle::Stale { current });
-        }
-        if let Some(demand) = self.first_gap(node) {
-            return Some(Settle::Incomplete { demand });
-        }
-        self.first_ungathered(node)
-            .map(|demand| Settle::Ungathered { demand })
-    }
-
     /// The restricted value of the prices of the node's round, and what a master step raises it to, where one gains and
     /// the node's crowd prices were not tried.
     fn improvement(&mut self, node: BranchId) -> Option<(i128, i128)>
@@ -45,7 +26,8 @@ impl Pool {
         let Some(new) = self.gain(node) else {
             return None;
         };
-        let old = self.value(node, self.round_at(node).prices());
+        let view = self.view();
+        let old = view.value(node, view.round_at(node).prices());
         Some((old, new))
     }
 
@@ -69,7 +51,7 @@ impl Pool {
     pub fn settle(&mut self, node: BranchId, version: u64) -> Settle
         ensures event { SettleStep self.old node version result self.new }
     {
-        if let Some(refusal) = self.settle_refusal(node, version) {
+        if let Some(refusal) = self.view().settle_refusal(node, version) {
             return refusal;
         }
         if let Some((old, new)) = self.improvement(node) {

@@ -1,20 +1,12 @@
-//! What may be done next: the open leaf that comes first, and the step that is next there.
+//! What may be done next, and by whom.
 
-ghost use Rattle.std.specs.Prelude.{◌≡◌, ◌≢◌, ◌<◌, ◌↔◌, true, false, None, Some, IsSome, IfSome, slice_get, nat_lt};
-ghost use Rattle.pool_machine.specs.declared.limits.TheConstants.{MAX_ROUNDS};
+ghost use Rattle.std.specs.Prelude.{◌≡◌, ◌↔◌, true};
 ghost use Rattle.pool_machine.specs.declared.task.Task.{Task};
-ghost use Rattle.pool_machine.specs.declared.answers.NodeState.TheVariants as state;
-ghost use Rattle.pool_machine.specs.State.{state_of, round_of, active_count};
-ghost use Rattle.pool_machine.specs.Machine.{IsReachable};
 ghost use Rattle.pool_machine.specs.PlanOf.{is_done};
 ghost use Rattle.pool_machine.specs.Tasks.{IsLawfulTask};
-ghost use Rattle.pool_core.specs.Work.{is_next, may_go_on_in, IsStepAt};
 
 use super::Pool;
-use plan_base::BranchId;
-use pool_machine::limits::MAX_ROUNDS;
-use pool_machine::{NodeState, Task};
-use pool_nodes::{PoolRound, Rank};
+use pool_machine::Task;
 
 impl Pool {
     /// Whether the budget is spent, or no leaf is open.
@@ -23,148 +15,7 @@ impl Pool {
     pub fn is_done(&self) -> bool
         ensures { result ≡ is_done self.now }
     {
-        self.examined == self.budget || self.nodes.len() == self.examined as usize
-    }
-
-    /// The round of a node that has one.
-    pub(super) fn round_at(&self, node: BranchId) -> &PoolRound
-        requires { IsSome (round_of self.now node) }
-        ensures { Some result.now ≡ round_of self.now node }
-    {
-        self.nodes[node.0 as usize].round().unwrap()
-    }
-
-    /// Whether a slot is free.
-    pub(super) fn has_room(&self) -> bool
-        ensures { result ≡ nat_lt (active_count self.now) MAX_ROUNDS }
-    {
-        self.active() < MAX_ROUNDS
-    }
-
-    /// Whether the node is an open leaf that has a round, or for whose round a slot is free.
-    ///
-    /// - Takes: whether a slot is free, which is counted once for all nodes.
-    pub(super) fn is_next(&self, node: BranchId, has_room: bool) -> bool
-        requires { has_room ≡ nat_lt (active_count self.now) MAX_ROUNDS }
-        ensures { result ≡ is_next self.now node }
-    {
-        match self.state(node) {
-            NodeState::Active => true,
-            NodeState::Waiting => has_room,
-            _ => false,
-        }
-    }
-
-    /// What the choice goes by.
-    pub(super) fn rank(&self, node: BranchId) -> Rank {
-        match self.node(node) {
-            Some(node) => node.rank(),
-            None => Rank::root(),
-        }
-    }
-
-    /// The node, where it is next and does not come behind the first one so far; else that one.
-    ///
-    /// - Takes: whether a slot is free.
-    fn first_of(&self, node: BranchId, has_room: bool, first: Option<BranchId>) -> Option<BranchId>
-        requires room { has_room ≡ nat_lt (active_count self.now) MAX_ROUNDS }
-        requires first { IfSome first (λ other. is_next self.now other ≡ true) }
-        ensures next { IfSome result (λ one. is_next self.now one ≡ true) }
-        ensures none { result ≡ None → (first ≡ None) × (is_next self.now node ≡ false) }
-    {
-        if !self.is_next(node, has_room) {
-            return first;
-        }
-        let Some(other) = first else {
-            return Some(node);
-        };
-        if self.rank(node).is_before(self.rank(other)) {
-            return Some(node);
-        }
-        first
-    }
-
-    /// The open leaf that is worked off next: the one with the lowest bound, and of those the deepest one.
-    pub(super) fn next_leaf(&self) -> Option<BranchId>
-        requires not_done { is_done self.now ≡ false }
-        ensures some { IfSome result (λ node. is_next self.now node ≡ true) }
-        ensures none { result ≢ None }
-    {
-        let has_room = self.has_room();
-        let mut first = None;
-        for place in 0..self.nodes.len() {
-            first = self.first_of(BranchId(place as u32), has_room, first);
-        }
-        first
-    }
-
-    /// Whether the node is not settled and has room for more complete versions.
-    fn may_go_on(&self, node: BranchId) -> bool
-        ensures { result ≡ may_go_on_in (slice_get self.now.nodes node.0) }
-    {
-        match self.node(node) {
-            Some(node) => node.may_go_on(),
-            None => false,
-        }
-    }
-
-    /// What is next at a node with a round: it is examined where it has a cut, closed where it can be, priced until
-    /// its version is complete, given further prices or settled, and then examined.
-    fn step_of_round(&self, node: BranchId) -> Task
-        requires reachable { IsReachable self.now }
-        requires not_spent { self.now.examined < self.now.budget }
-        requires active { state_of self.now node ≡ state.Active }
-        ensures { IsStepAt self.now node result }
-    {
-        if self.has_cut(node) {
-            return Task::Examine { node };
-        }
-        if self.is_closable(node) {
-            return Task::Close { node };
-        }
-        let round = self.round_at(node);
-        let version = round.version();
-        if let Some(demand) = round.first_gap() {
-            return Task::Price {
-                node,
-                slot: round.slot(),
-                version,
-                demand,
-            };
-        }
-        if self.may_go_on(node) {
-            return Task::Master { node, version };
-        }
-        Task::Examine { node }
-    }
-
-    /// What is next at an open leaf. One thread and several go by this choice alike.
-    pub(super) fn step_at(&self, node: BranchId) -> Task
-        requires reachable { IsReachable self.now }
-        requires not_spent { self.now.examined < self.now.budget }
-        requires next { is_next self.now node ≡ true }
-        ensures { IsStepAt self.now node result }
-    {
-        match self.state(node) {
-            NodeState::Active => self.step_of_round(node),
-            _ => Task::Open { node },
-        }
-    }
-
-    /// What a worker does next while a leaf is open.
-    fn open_task(&self, worker: u32) -> Task
-        requires reachable { IsReachable self.now }
-        requires not_done { is_done self.now ≡ false }
-        ensures lawful { IsLawfulTask self.now result }
-        ensures not_done { result ≢ Task.Done }
-    {
-        if let Some(task) = self.unclaimed(worker) {
-            return task;
-        }
-        match self.next_leaf() {
-            Some(node) => self.step_at(node),
-            None => unreachable!(),
-        }
+        self.view().is_done()
     }
 
     /// What may be done next. Takes no memory.
@@ -182,7 +33,7 @@ impl Pool {
         if self.is_done() {
             return Task::Done;
         }
-        let task = self.open_task(worker);
+        let task = self.view().open_task(worker);
         self.claims.give(worker, task);
         task
     }

@@ -5,7 +5,7 @@ use Rattle.pool_machine.specs.Changes.{is_open_state}
 use Rattle.pool_machine.specs.Machine.{IsReachable}
 use Rattle.std.specs.Prelude.{slice_get}
 use Rattle.pool_nodes.specs.Slots.{given_back}
-use Rattle.pool_core.specs.Views.{closed_at}
+use Rattle.pool_reading.specs.Views.{closed_at}
 use Rattle.pool_core.proofs.ClosedPool.{close-place, close-ground, close-state, close-kept}
 use Rattle.pool_core.proofs.pool.Pool.close.Goals as goal
 

@@ -8,9 +8,10 @@ use Rattle.pool_machine.specs.Gathering.{columns_for}
 use Rattle.pool_machine.specs.Nodes.{IsPriceList}
 use Rattle.pool_machine.specs.Soundness.{IsSound}
 use Rattle.pool_machine.proofs.Runs.{IsReachable-sound}
-use Rattle.pool_core.specs.Valuing.{IsGatheredAt, ForRound}
-use Rattle.pool_core.proofs.Valuing.{gathered-round, gathered-some, read-prices, round-price_list, ask-count, ask-limit, ask-columns, ask-permitted, tell-round, some_then, none_then}
-use Rattle.pool_core.proofs.Reading.{read-rows, read-forbids, read-round, rows-within, shown-some, has-within}
+use Rattle.pool_reading.specs.Valuing.{IsGatheredAt, ForRound}
+use Rattle.pool_reading.proofs.Valuing.{gathered-round, ask-count, ask-limit, ask-columns, ask-permitted, tell-round}
+use Rattle.pool_core.proofs.Valuing.{gathered-some, read-prices, round-price_list, some_then, none_then}
+use Rattle.pool_reading.proofs.Reading.{read-rows, read-forbids, read-round, rows-within, shown-some, has-within}
 use Rattle.pool_core.proofs.pool.Pool.gain.Goals as goal
 
 pub index-requires : goal.index-requires

@@ -1,25 +1,29 @@
-use Rattle.std.proofs.Common.{refl, sym, ◌∙◌}
+use Rattle.std.proofs.Common.{refl, sym, ◌∙◌, ap, subst}
 use Rattle.pool_core.specs.Valuing.{IsCompleteAt}
 use Rattle.pool_core.proofs.Gatherings.{gather_fault-none, gather_fault-refusal, wanting-step, added-some, added-front, added-gathers}
+use Rattle.pool_machine.specs.State.{State, round_of}
+use Rattle.pool_machine.specs.Gathering.{gather_fault, IsBriefOf}
+use Rattle.std.specs.Prelude.{IsSome}
+use Rattle.pool_reading.specs.Valuing.{ForRound}
 use Rattle.pool_core.proofs.pool.Pool.gather.Goals as goal
 
 pub returns-in-Some : goal.returns-in-Some
-returns-in-Some c = record { event = gather_fault-refusal c.args.self.now c.args.node c.args.version c.in-Some.refusal (sym c.gather_refusal.ensures ∙ c.in-Some.is) }
+returns-in-Some c = record { event = gather_fault-refusal c.args.self.now c.args.node c.args.version c.in-Some.refusal (sym (c.gather_refusal.ensures ∙ ap (λ (s : State). gather_fault s c.args.node c.args.version) c.view.ensures) ∙ c.in-Some.is) }
 
 pub add_columns-requires : goal.add_columns-requires
-add_columns-requires c = gather_fault-none c.args.self.now c.args.node c.args.version (sym c.gather_refusal.ensures ∙ c.in_default.is)
+add_columns-requires c = gather_fault-none c.args.self.now c.args.node c.args.version (sym (c.gather_refusal.ensures ∙ ap (λ (s : State). gather_fault s c.args.node c.args.version) c.view.ensures) ∙ c.in_default.is)
 
 pub returns-in_err-add_columns : goal.returns-in_err-add_columns
 returns-in_err-add_columns c = record { event = wanting-step c.args.self.now c.add_columns.new.self c.args.node c.args.version c.from_residual.result c.from_residual.ensures.0 (c.in_err-add_columns.ensures.front refl) }
 
 pub brief-requires : goal.brief-requires
 brief-requires c =
-    let h : IsCompleteAt c.args.self.now c.args.node c.args.version = gather_fault-none c.args.self.now c.args.node c.args.version (sym c.gather_refusal.ensures ∙ c.in_default.is) in
-    added-some c.args.self.now c.add_columns.new.self c.args.node c.args.version h c.in_ok-add_columns.ensures.added
+    let h : IsCompleteAt c.args.self.now c.args.node c.args.version = gather_fault-none c.args.self.now c.args.node c.args.version (sym (c.gather_refusal.ensures ∙ ap (λ (s : State). gather_fault s c.args.node c.args.version) c.view.ensures) ∙ c.in_default.is) in
+    subst (λ (s : State). IsSome (round_of s c.args.node)) (sym c.view-2.ensures) (added-some c.args.self.now c.add_columns.new.self c.args.node c.args.version h c.in_ok-add_columns.ensures.added)
 
 pub returns-in_err-brief : goal.returns-in_err-brief
 returns-in_err-brief c =
-    let h : IsCompleteAt c.args.self.now c.args.node c.args.version = gather_fault-none c.args.self.now c.args.node c.args.version (sym c.gather_refusal.ensures ∙ c.in_default.is) in
+    let h : IsCompleteAt c.args.self.now c.args.node c.args.version = gather_fault-none c.args.self.now c.args.node c.args.version (sym (c.gather_refusal.ensures ∙ ap (λ (s : State). gather_fault s c.args.node c.args.version) c.view.ensures) ∙ c.in_default.is) in
     record {
       event = wanting-step c.args.self.now c.add_columns.new.self c.args.node c.args.version c.from_residual-in_err-brief.result c.from_residual-in_err-brief.ensures.0
           (added-front c.args.self.now c.add_columns.new.self c.args.node c.args.version h c.in_ok-add_columns.ensures.added);
@@ -27,5 +31,6 @@ returns-in_err-brief c =
 
 pub returns : goal.returns
 returns c =
-    let h : IsCompleteAt c.args.self.now c.args.node c.args.version = gather_fault-none c.args.self.now c.args.node c.args.version (sym c.gather_refusal.ensures ∙ c.in_default.is) in
-    record { event = added-gathers c.args.self.now c.add_columns.new.self c.args.node c.args.version h c.in_ok-add_columns.ensures.added c.in_ok-brief.brief c.in_ok-brief.ensures }
+    let h : IsCompleteAt c.args.self.now c.args.node c.args.version = gather_fault-none c.args.self.now c.args.node c.args.version (sym (c.gather_refusal.ensures ∙ ap (λ (s : State). gather_fault s c.args.node c.args.version) c.view.ensures) ∙ c.in_default.is) in
+    record { event = added-gathers c.args.self.now c.add_columns.new.self c.args.node c.args.version h c.in_ok-add_columns.ensures.added c.in_ok-brief.brief
+          (subst (λ (s : State). ForRound s c.args.node (λ x round. IsBriefOf s c.args.node x round c.in_ok-brief.brief)) c.view-2.ensures c.in_ok-brief.ensures) }

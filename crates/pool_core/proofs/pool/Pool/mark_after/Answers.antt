@@ -3,14 +3,19 @@ use Rattle.std.proofs.lemmas.Int.{to_z-of_z}
 use mir.Syntax.{w128}
 use mir.Val.{SFits}
 use Rattle.pool_core.specs.contracts.pool.Pool.{the_view}
-use Rattle.pool_machine.specs.State.{State, Node}
+use Rattle.pool_machine.specs.State.{State, Node, round_of}
 use Rattle.pool_machine.specs.Machine.{IsReachable}
 use Rattle.pool_machine.specs.Soundness.{IsSound}
 use Rattle.pool_machine.proofs.Runs.{IsReachable-sound}
-use Rattle.pool_core.specs.Valuing.{IsGatheredAt}
-use Rattle.pool_core.proofs.Reading.{has-within}
-use Rattle.pool_core.proofs.Valuing.{gathered-round, gathered-some, read-node, read-price_list}
+use Rattle.pool_reading.specs.Valuing.{IsGatheredAt, ForRound}
+use Rattle.pool_reading.proofs.Reading.{has-within}
+use Rattle.pool_reading.proofs.Valuing.{gathered-round, read-node}
+use Rattle.pool_core.proofs.Valuing.{gathered-some, read-price_list}
 use Rattle.pool_core.proofs.Crowdings.{value-at, greater-follows, crowd-follows, tried-no_gain, none-no_gain}
+use Rattle.std.specs.Prelude.{IsSome}
+use Rattle.pool_machine.specs.Gathering.{columns_for}
+use Rattle.master_step.specs.Restricted.{IsRestrictedValue}
+use Rattle.pool_machine.specs.Nodes.{IsPriceList}
 use Rattle.pool_core.proofs.pool.Pool.mark_after.Goals as goal
 
 pub index-requires : goal.index-requires
@@ -21,12 +26,21 @@ index-requires c =
     search rules
 
 pub round_at-requires : goal.round_at-requires
-round_at-requires c = gathered-some c.args.self.now c.args.node c.requires.gathered
+round_at-requires c = subst (λ (s : State). IsSome (round_of s c.args.node)) (sym c.view-view.ensures) (gathered-some c.args.self.now c.args.node c.requires.gathered)
+
+pub value-old-requires-clause-gathered : goal.value-old-requires-clause-gathered
+value-old-requires-clause-gathered c = subst (λ (s : State). IsGatheredAt s c.args.node) (sym c.view-view.ensures) c.requires.gathered
 
 pub value-old-requires-clause-prices : goal.value-old-requires-clause-prices
 value-old-requires-clause-prices c =
     let sound : IsSound c.args.self.now = IsReachable-sound c.args.self.now (subst IsReachable c.self.view_is c.self.invariant.kept.pool.reachable) in
-    read-price_list c.args.self.now c.args.self.now c.args.node c.round_at.result.now c.prices.result.now sound c.requires.gathered refl c.round_at.ensures c.prices.ensures
+    read-price_list c.args.self.now c.view-view.result c.args.node c.round_at.result.now c.prices.result.now sound c.requires.gathered c.view-view.ensures c.round_at.ensures c.prices.ensures
+
+pub value-new-requires-clause-gathered : goal.value-new-requires-clause-gathered
+value-new-requires-clause-gathered c = subst (λ (s : State). IsGatheredAt s c.args.node) (sym c.view-view.ensures) c.requires.gathered
+
+pub value-new-requires-clause-prices : goal.value-new-requires-clause-prices
+value-new-requires-clause-prices c = subst (λ (s : State). IsPriceList s.problem c.args.prices.now) (sym c.view-view.ensures) c.requires.prices
 
 pub returns-then-is_less-clause-follows : goal.returns-then-is_less-clause-follows
 returns-then-is_less-clause-follows c =
@@ -34,7 +48,7 @@ returns-then-is_less-clause-follows c =
     let new_fits : SFits w128 c.value-new.result = search rules in
     greater-follows c.args.self.now c.args.node c.args.prices.now c.value-old.result c.value-new.result c.crowd_tried-tried.result c.is_crowding-crowding.result
     (λ x round is_node is_round. c.crowd_tried-tried.ensures ∙ ap (λ (n : Node). n.crowd_tried) (read-node (the_view c.self.inside) c.args.self.now c.args.node c.index.result.now x c.self.view_is c.index.ensures is_node))
-    (value-at c.args.self.now c.args.node c.round_at.result.now c.prices.result.now c.value-old.result c.round_at.ensures c.prices.ensures c.value-old.ensures) c.value-new.ensures c.is_crowding-crowding.ensures.value
+    (value-at c.args.self.now c.args.node c.round_at.result.now c.prices.result.now c.value-old.result (c.round_at.ensures ∙ ap (λ (s : State). round_of s c.args.node) c.view-view.ensures) c.prices.ensures (subst (λ (s : State). ForRound s c.args.node (λ x round. IsRestrictedValue s.problem (columns_for s x) c.prices.result.now c.value-old.result)) c.view-view.ensures c.value-old.ensures)) (subst (λ (s : State). ForRound s c.args.node (λ x round. IsRestrictedValue s.problem (columns_for s x) c.args.prices.now c.value-new.result)) c.view-view.ensures c.value-new.ensures) c.is_crowding-crowding.ensures.value
     c.either.result (rw (to_z-of_z w128 c.value-old.result old_fits, to_z-of_z w128 c.value-new.result new_fits) at (sym c.if-is_less.ensures)) c.either.ensures
 
 pub returns-then-tried-clause-no_gain : goal.returns-then-tried-clause-no_gain
@@ -44,14 +58,14 @@ returns-then-tried-clause-no_gain c =
     rw (to_z-of_z w128 c.value-old.result old_fits, to_z-of_z w128 c.value-new.result new_fits)
     (tried-no_gain c.args.self.now c.args.node c.args.prices.now c.value-old.result c.value-new.result c.crowd_tried-tried.result c.is_crowding-crowding.result
     (λ x round is_node is_round. c.crowd_tried-tried.ensures ∙ ap (λ (n : Node). n.crowd_tried) (read-node (the_view c.self.inside) c.args.self.now c.args.node c.index.result.now x c.self.view_is c.index.ensures is_node))
-    (value-at c.args.self.now c.args.node c.round_at.result.now c.prices.result.now c.value-old.result c.round_at.ensures c.prices.ensures c.value-old.ensures) c.value-new.ensures c.is_crowding-crowding.ensures.value
+    (value-at c.args.self.now c.args.node c.round_at.result.now c.prices.result.now c.value-old.result (c.round_at.ensures ∙ ap (λ (s : State). round_of s c.args.node) c.view-view.ensures) c.prices.ensures (subst (λ (s : State). ForRound s c.args.node (λ x round. IsRestrictedValue s.problem (columns_for s x) c.prices.result.now c.value-old.result)) c.view-view.ensures c.value-old.ensures)) (subst (λ (s : State). ForRound s c.args.node (λ x round. IsRestrictedValue s.problem (columns_for s x) c.args.prices.now c.value-new.result)) c.view-view.ensures c.value-new.ensures) c.is_crowding-crowding.ensures.value
     (rw (to_z-of_z w128 c.value-old.result old_fits, to_z-of_z w128 c.value-new.result new_fits) at (sym c.if-is_less.ensures)) c.if-tried.true)
 
 pub returns-then-crowding-clause-follows : goal.returns-then-crowding-clause-follows
 returns-then-crowding-clause-follows c =
     crowd-follows c.args.self.now c.args.node c.args.prices.now c.value-old.result c.value-new.result c.crowd_tried-tried.result c.is_crowding-crowding.result
     (λ x round is_node is_round. c.crowd_tried-tried.ensures ∙ ap (λ (n : Node). n.crowd_tried) (read-node (the_view c.self.inside) c.args.self.now c.args.node c.index.result.now x c.self.view_is c.index.ensures is_node))
-    (value-at c.args.self.now c.args.node c.round_at.result.now c.prices.result.now c.value-old.result c.round_at.ensures c.prices.ensures c.value-old.ensures) c.value-new.ensures c.is_crowding-crowding.ensures.value
+    (value-at c.args.self.now c.args.node c.round_at.result.now c.prices.result.now c.value-old.result (c.round_at.ensures ∙ ap (λ (s : State). round_of s c.args.node) c.view-view.ensures) c.prices.ensures (subst (λ (s : State). ForRound s c.args.node (λ x round. IsRestrictedValue s.problem (columns_for s x) c.prices.result.now c.value-old.result)) c.view-view.ensures c.value-old.ensures)) (subst (λ (s : State). ForRound s c.args.node (λ x round. IsRestrictedValue s.problem (columns_for s x) c.args.prices.now c.value-new.result)) c.view-view.ensures c.value-new.ensures) c.is_crowding-crowding.ensures.value
     c.if-tried.false c.if-crowding.true
 
 pub returns-clause-no_gain : goal.returns-clause-no_gain
@@ -61,5 +75,5 @@ returns-clause-no_gain c =
     rw (to_z-of_z w128 c.value-old.result old_fits, to_z-of_z w128 c.value-new.result new_fits)
     (none-no_gain c.args.self.now c.args.node c.args.prices.now c.value-old.result c.value-new.result c.crowd_tried-tried.result c.is_crowding-crowding.result
     (λ x round is_node is_round. c.crowd_tried-tried.ensures ∙ ap (λ (n : Node). n.crowd_tried) (read-node (the_view c.self.inside) c.args.self.now c.args.node c.index.result.now x c.self.view_is c.index.ensures is_node))
-    (value-at c.args.self.now c.args.node c.round_at.result.now c.prices.result.now c.value-old.result c.round_at.ensures c.prices.ensures c.value-old.ensures) c.value-new.ensures c.is_crowding-crowding.ensures.value
+    (value-at c.args.self.now c.args.node c.round_at.result.now c.prices.result.now c.value-old.result (c.round_at.ensures ∙ ap (λ (s : State). round_of s c.args.node) c.view-view.ensures) c.prices.ensures (subst (λ (s : State). ForRound s c.args.node (λ x round. IsRestrictedValue s.problem (columns_for s x) c.prices.result.now c.value-old.result)) c.view-view.ensures c.value-old.ensures)) (subst (λ (s : State). ForRound s c.args.node (λ x round. IsRestrictedValue s.problem (columns_for s x) c.args.prices.now c.value-new.result)) c.view-view.ensures c.value-new.ensures) c.is_crowding-crowding.ensures.value
     (rw (to_z-of_z w128 c.value-old.result old_fits, to_z-of_z w128 c.value-new.result new_fits) at (sym c.if-is_less.ensures)) c.if-crowding.false)

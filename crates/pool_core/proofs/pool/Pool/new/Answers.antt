@@ -8,7 +8,7 @@ use Rattle.arc_restrict.specs.Rows.{Rows, HasSizeOf}
 use Rattle.column_pool.specs.Columns.{no_columns}
 use Rattle.pool_machine.specs.State.{Node}
 use Rattle.pool_machine.specs.Machine.{root_with}
-use Rattle.pool_core.specs.Views.{AreFreePlaces}
+use Rattle.pool_reading.specs.Views.{AreFreePlaces}
 use Rattle.pool_core.proofs.Making.{opening-kept-at, opening-state-at}
 use Rattle.pool_core.proofs.pool.Pool.new.Goals as goal
 

@@ -1,6 +1,6 @@
 use Rattle.pool_nodes.specs.declared.slot.Slot.{Slot}
 use Rattle.pool_nodes.specs.declared.slot.Slot.TheVariants.{Free}
-use Rattle.std.proofs.Common.{◌≡◌, ◌<◌, ◌+◌, ◌≤◌, List, None, length, rules, add-one, sym, subst, ◌∙◌}
+use Rattle.std.proofs.Common.{◌≡◌, ◌<◌, ◌+◌, ◌≤◌, List, None, length, rules, add-one, sym, subst, ◌∙◌, ap}
 use Rattle.std.specs.Prelude.{IfSome}
 use Rattle.std.proofs.lemmas.Option.{slice_get_within}
 use Rattle.plan_base.specs.declared.parts.Parts.{Parts}
@@ -15,7 +15,7 @@ use Rattle.pool_core.proofs.pool.Pool.open_round.Goals as goal
 
 pub first_free-slot-requires : goal.first_free-slot-requires
 first_free-slot-requires c =
-    let may : MayOpen (the_view c.self.inside) c.args.node = open_fault-none (the_view c.self.inside) c.args.node (subst (λ (s : State). open_fault s c.args.node ≡ None) (sym c.self.view_is) (sym c.open_refusal.ensures ∙ c.in_default.is)) in
+    let may : MayOpen (the_view c.self.inside) c.args.node = open_fault-none (the_view c.self.inside) c.args.node (subst (λ (s : State). open_fault s c.args.node ≡ None) (sym c.self.view_is) (sym (c.open_refusal.ensures ∙ ap (λ (s : State). open_fault s c.args.node) c.view.ensures) ∙ c.in_default.is)) in
     rw c.as_slice.ensures.value (some_free (the_view c.self.inside) c.self.inside.places.items c.args.node c.self.invariant.kept.pool may)
 
 pub index_mut-free-requires : goal.index_mut-free-requires
@@ -26,40 +26,40 @@ index_mut-free-requires c =
 
 pub unreachable-requires : goal.unreachable-requires
 unreachable-requires c =
-    let may : MayOpen (the_view c.self.inside) c.args.node = open_fault-none (the_view c.self.inside) c.args.node (subst (λ (s : State). open_fault s c.args.node ≡ None) (sym c.self.view_is) (sym c.open_refusal.ensures ∙ c.in_default.is)) in
+    let may : MayOpen (the_view c.self.inside) c.args.node = open_fault-none (the_view c.self.inside) c.args.node (subst (λ (s : State). open_fault s c.args.node ≡ None) (sym c.self.view_is) (sym (c.open_refusal.ensures ∙ ap (λ (s : State). open_fault s c.args.node) c.view.ensures) ∙ c.in_default.is)) in
     let first : IsFirstFree c.self.inside.places.items c.first_free-slot.result = subst (λ (xs : List Slot). IsFirstFree xs c.first_free-slot.result) c.as_slice.ensures.value c.first_free-slot.ensures in
     read-free (the_view c.self.inside) c.self.inside.places.items c.args.node c.first_free-slot.result c.self.invariant.kept.pool may first c.index_mut-free.result.now c.index_mut-free.ensures.value
     (λ place is. c.in_default-replace.not-Free place (c.replace.ensures.value ∙ is))
 
 pub index_mut-opened-requires : goal.index_mut-opened-requires
 index_mut-opened-requires c =
-    let may : MayOpen (the_view c.self.inside) c.args.node = open_fault-none (the_view c.self.inside) c.args.node (subst (λ (s : State). open_fault s c.args.node ≡ None) (sym c.self.view_is) (sym c.open_refusal.ensures ∙ c.in_default.is)) in
+    let may : MayOpen (the_view c.self.inside) c.args.node = open_fault-none (the_view c.self.inside) c.args.node (subst (λ (s : State). open_fault s c.args.node ≡ None) (sym c.self.view_is) (sym (c.open_refusal.ensures ∙ ap (λ (s : State). open_fault s c.args.node) c.view.ensures) ∙ c.in_default.is)) in
     let within : c.args.node.0 < length c.self.inside.nodes.items = slice_get_within c.self.inside.nodes.items c.args.node.0 may.node may.is_node in
     search rules
 
 pub begin-requires : goal.begin-requires
 begin-requires c =
-    let may : MayOpen (the_view c.self.inside) c.args.node = open_fault-none (the_view c.self.inside) c.args.node (subst (λ (s : State). open_fault s c.args.node ≡ None) (sym c.self.view_is) (sym c.open_refusal.ensures ∙ c.in_default.is)) in
+    let may : MayOpen (the_view c.self.inside) c.args.node = open_fault-none (the_view c.self.inside) c.args.node (subst (λ (s : State). open_fault s c.args.node ≡ None) (sym c.self.view_is) (sym (c.open_refusal.ensures ∙ ap (λ (s : State). open_fault s c.args.node) c.view.ensures) ∙ c.in_default.is)) in
     let first : IsFirstFree c.self.inside.places.items c.first_free-slot.result = subst (λ (xs : List Slot). IsFirstFree xs c.first_free-slot.result) c.as_slice.ensures.value c.first_free-slot.ensures in
     place-fits (the_view c.self.inside) c.self.inside.places.items c.args.node c.first_free-slot.result c.self.invariant.kept.pool may first c.index_mut-opened.result.now c.in-Free.place c.index_mut-free.result.now c.index_mut-opened.ensures.value c.index_mut-free.ensures.value (sym c.replace.ensures.value ∙ c.in-Free.is)
 
 pub complete-requires-clause-ready : goal.complete-requires-clause-ready
 complete-requires-clause-ready c =
-    let may : MayOpen (the_view c.self.inside) c.args.node = open_fault-none (the_view c.self.inside) c.args.node (subst (λ (s : State). open_fault s c.args.node ≡ None) (sym c.self.view_is) (sym c.open_refusal.ensures ∙ c.in_default.is)) in
+    let may : MayOpen (the_view c.self.inside) c.args.node = open_fault-none (the_view c.self.inside) c.args.node (subst (λ (s : State). open_fault s c.args.node ≡ None) (sym c.self.view_is) (sym (c.open_refusal.ensures ∙ ap (λ (s : State). open_fault s c.args.node) c.view.ensures) ∙ c.in_default.is)) in
     let first : IsFirstFree c.self.inside.places.items c.first_free-slot.result = subst (λ (xs : List Slot). IsFirstFree xs c.first_free-slot.result) c.as_slice.ensures.value c.first_free-slot.ensures in
     subst (λ (p : Parts). MayComplete p c.begin.new.self) (sym c.deref.ensures)
     (begun-ready (the_view c.self.inside) c.self.inside.places.items c.args.node c.first_free-slot.result c.self.invariant.kept.pool may first c.index_mut-opened.result.now c.in-Free.place c.index_mut-free.result.now c.index_mut-opened.ensures.value c.index_mut-free.ensures.value (sym c.replace.ensures.value ∙ c.in-Free.is) c.begin.new.self c.begin.ensures)
 
 pub overflow_add-self : goal.overflow_add-self
 overflow_add-self c =
-    let may : MayOpen (the_view c.self.inside) c.args.node = open_fault-none (the_view c.self.inside) c.args.node (subst (λ (s : State). open_fault s c.args.node ≡ None) (sym c.self.view_is) (sym c.open_refusal.ensures ∙ c.in_default.is)) in
+    let may : MayOpen (the_view c.self.inside) c.args.node = open_fault-none (the_view c.self.inside) c.args.node (subst (λ (s : State). open_fault s c.args.node ≡ None) (sym c.self.view_is) (sym (c.open_refusal.ensures ∙ ap (λ (s : State). open_fault s c.args.node) c.view.ensures) ∙ c.in_default.is)) in
     let first : IsFirstFree c.self.inside.places.items c.first_free-slot.result = subst (λ (xs : List Slot). IsFirstFree xs c.first_free-slot.result) c.as_slice.ensures.value c.first_free-slot.ensures in
     let small : c.self.inside.next_version ≤ 139282 = version-small (the_view c.self.inside) c.self.inside.places.items c.args.node c.first_free-slot.result c.self.invariant.kept.pool may first in
     search rules
 
 pub overflow_cast-result : goal.overflow_cast-result
 overflow_cast-result c =
-    let may : MayOpen (the_view c.self.inside) c.args.node = open_fault-none (the_view c.self.inside) c.args.node (subst (λ (s : State). open_fault s c.args.node ≡ None) (sym c.self.view_is) (sym c.open_refusal.ensures ∙ c.in_default.is)) in
+    let may : MayOpen (the_view c.self.inside) c.args.node = open_fault-none (the_view c.self.inside) c.args.node (subst (λ (s : State). open_fault s c.args.node ≡ None) (sym c.self.view_is) (sym (c.open_refusal.ensures ∙ ap (λ (s : State). open_fault s c.args.node) c.view.ensures) ∙ c.in_default.is)) in
     let first : IsFirstFree c.self.inside.places.items c.first_free-slot.result = subst (λ (xs : List Slot). IsFirstFree xs c.first_free-slot.result) c.as_slice.ensures.value c.first_free-slot.ensures in
     let small : c.first_free-slot.result < 64 = slot-within (the_view c.self.inside) c.self.inside.places.items c.args.node c.first_free-slot.result c.self.invariant.kept.pool may first in
     search rules
@@ -67,7 +67,7 @@ overflow_cast-result c =
 pub invariant_of-self : goal.invariant_of-self
 invariant_of-self c = record {
   kept = (
-      let may : MayOpen (the_view c.self.inside) c.args.node = open_fault-none (the_view c.self.inside) c.args.node (subst (λ (s : State). open_fault s c.args.node ≡ None) (sym c.self.view_is) (sym c.open_refusal.ensures ∙ c.in_default.is)) in
+      let may : MayOpen (the_view c.self.inside) c.args.node = open_fault-none (the_view c.self.inside) c.args.node (subst (λ (s : State). open_fault s c.args.node ≡ None) (sym c.self.view_is) (sym (c.open_refusal.ensures ∙ ap (λ (s : State). open_fault s c.args.node) c.view.ensures) ∙ c.in_default.is)) in
       let first : IsFirstFree c.self.inside.places.items c.first_free-slot.result = subst (λ (xs : List Slot). IsFirstFree xs c.first_free-slot.result) c.as_slice.ensures.value c.first_free-slot.ensures in
       let takes = begun-takes (the_view c.self.inside) c.self.inside.places.items c.args.node c.first_free-slot.result c.self.invariant.kept.pool may first c.index_mut-opened.result.now c.in-Free.place c.index_mut-free.result.now c.index_mut-opened.ensures.value c.index_mut-free.ensures.value (sym c.replace.ensures.value ∙ c.in-Free.is) c.begin.new.self c.begin.ensures c.complete.new.self
       (subst (λ (p : Parts). IfSome c.begin.new.self.round (λ r. TakesRound p c.begin.new.self r c.complete.new.self)) c.deref.ensures c.complete.ensures) in
@@ -79,7 +79,7 @@ invariant_of-self c = record {
 
 pub returns : goal.returns
 returns c =
-    let may : MayOpen (the_view c.self.inside) c.args.node = open_fault-none (the_view c.self.inside) c.args.node (subst (λ (s : State). open_fault s c.args.node ≡ None) (sym c.self.view_is) (sym c.open_refusal.ensures ∙ c.in_default.is)) in
+    let may : MayOpen (the_view c.self.inside) c.args.node = open_fault-none (the_view c.self.inside) c.args.node (subst (λ (s : State). open_fault s c.args.node ≡ None) (sym c.self.view_is) (sym (c.open_refusal.ensures ∙ ap (λ (s : State). open_fault s c.args.node) c.view.ensures) ∙ c.in_default.is)) in
     let first : IsFirstFree c.self.inside.places.items c.first_free-slot.result = subst (λ (xs : List Slot). IsFirstFree xs c.first_free-slot.result) c.as_slice.ensures.value c.first_free-slot.ensures in
     let takes = begun-takes (the_view c.self.inside) c.self.inside.places.items c.args.node c.first_free-slot.result c.self.invariant.kept.pool may first c.index_mut-opened.result.now c.in-Free.place c.index_mut-free.result.now c.index_mut-opened.ensures.value c.index_mut-free.ensures.value (sym c.replace.ensures.value ∙ c.in-Free.is) c.begin.new.self c.begin.ensures c.complete.new.self
     (subst (λ (p : Parts). IfSome c.begin.new.self.round (λ r. TakesRound p c.begin.new.self r c.complete.new.self)) c.deref.ensures c.complete.ensures) in

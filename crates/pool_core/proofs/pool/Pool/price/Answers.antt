@@ -1,17 +1,20 @@
-use Rattle.std.proofs.Common.{◌≡◌, None, slice_get, refl, sym, subst, ◌∙◌}
+use Rattle.std.proofs.Common.{◌≡◌, None, slice_get, refl, sym, subst, ◌∙◌, ◌<◌, length}
 use Rattle.std.specs.Arc.{arc_value}
 use Rattle.path_pricing.specs.declared.priced.Priced.{Priced}
 use Rattle.pool_machine.specs.declared.answers.Offer.{Offer}
 use Rattle.pool_machine.specs.Offering.{unfit_in}
 use Rattle.pool_machine.proofs.Leads.{LeadsTo-stays}
 use Rattle.pool_core.proofs.Steps.{gap-some, gap-within, none-offer_fault, priced-on, offered-leads}
+use Rattle.std.specs.Prelude.{IsSome}
+use Rattle.pool_machine.specs.State.{State, round_of}
 use Rattle.pool_core.proofs.pool.Pool.price.Goals as goal
 
 pub found-requires-clause-round : goal.found-requires-clause-round
-found-requires-clause-round c = gap-some c.args.self.now c.args.node c.args.version c.args.demand c.requires.gap
+found-requires-clause-round c = subst (λ (s : State). IsSome (round_of s c.args.node)) (sym c.view.ensures) (gap-some c.args.self.now c.args.node c.args.version c.args.demand c.requires.gap)
 
 pub found-requires-clause-demand : goal.found-requires-clause-demand
-found-requires-clause-demand c = gap-within c.args.self.now c.args.node c.args.version c.args.demand c.requires.gap c.requires.reachable
+found-requires-clause-demand c =
+    subst (λ (s : State). c.args.demand.0 < length s.problem.demands) (sym c.view.ensures) (gap-within c.args.self.now c.args.node c.args.version c.args.demand c.requires.gap c.requires.reachable)
 
 pub returns-in_err-known-clause-leads : goal.returns-in_err-known-clause-leads
 returns-in_err-known-clause-leads c = LeadsTo-stays c.args.self.now c.args.self.now refl
@@ -27,7 +30,8 @@ take-answer-requires c =
     let s = c.args.self.now in
     let same : c.in_ok-found.found ≡ arc_value c.in_ok-known.known = c.in_ok-found.ensures ∙ c.deref.ensures in
     let fits : unfit_in s.problem (slice_get s.nodes c.args.node.0) c.args.demand.0 c.in_ok-found.found ≡ None =
-    subst (λ (found : Priced). unfit_in s.problem (slice_get s.nodes c.args.node.0) c.args.demand.0 found ≡ None) (sym same) c.in_ok-known.ensures in
+    subst (λ (found : Priced). unfit_in s.problem (slice_get s.nodes c.args.node.0) c.args.demand.0 found ≡ None) (sym same)
+    (subst (λ (t : State). unfit_in t.problem (slice_get t.nodes c.args.node.0) c.args.demand.0 (arc_value c.in_ok-known.known) ≡ None) c.view.ensures c.in_ok-known.ensures) in
     let offer : Offer = record { node = c.args.node; version = c.args.version; demand = c.args.demand; found = c.in_ok-found.found } in
     none-offer_fault s offer c.requires.reachable c.requires.gap fits
 
@@ -36,7 +40,8 @@ returns c =
     let s = c.args.self.now in
     let same : c.in_ok-found.found ≡ arc_value c.in_ok-known.known = c.in_ok-found.ensures ∙ c.deref.ensures in
     let fits : unfit_in s.problem (slice_get s.nodes c.args.node.0) c.args.demand.0 c.in_ok-found.found ≡ None =
-    subst (λ (found : Priced). unfit_in s.problem (slice_get s.nodes c.args.node.0) c.args.demand.0 found ≡ None) (sym same) c.in_ok-known.ensures in
+    subst (λ (found : Priced). unfit_in s.problem (slice_get s.nodes c.args.node.0) c.args.demand.0 found ≡ None) (sym same)
+    (subst (λ (t : State). unfit_in t.problem (slice_get t.nodes c.args.node.0) c.args.demand.0 (arc_value c.in_ok-known.known) ≡ None) c.view.ensures c.in_ok-known.ensures) in
     let offer : Offer = record { node = c.args.node; version = c.args.version; demand = c.args.demand; found = c.in_ok-found.found } in
     record {
       leads = offered-leads s c.take-answer.new.self offer c.take-answer.result c.take-answer.ensures.event;

@@ -5,8 +5,8 @@ use Rattle.pool_core.specs.contracts.pool.Pool.{the_view}
 use Rattle.pool_machine.specs.State.{Node, State}
 use Rattle.pool_machine.specs.Dividing.{Divides}
 use Rattle.pool_nodes.specs.Slots.{given_back}
-use Rattle.pool_core.specs.Views.{IsKeptPool}
-use Rattle.pool_core.specs.Examining.{IsDivisionAt, AreChildrenAt}
+use Rattle.pool_reading.specs.Views.{IsKeptPool}
+use Rattle.pool_reading.specs.Examining.{IsDivisionAt, AreChildrenAt}
 use Rattle.pool_core.proofs.Dividings.{ground-within, item-within, item-undone, item-place, divided-step, divided-kept, examined-small}
 use Rattle.pool_core.proofs.pool.Pool.put_children.Goals as goal
 

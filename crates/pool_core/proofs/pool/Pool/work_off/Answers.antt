@@ -1,6 +1,8 @@
-use Rattle.std.proofs.Common.{◌≡◌, ◌+◌, ℕ, true, false, refl, ap, ◌∙◌, arith, rules, tests}
+use Rattle.std.proofs.Common.{◌≡◌, ◌+◌, ℕ, true, false, refl, ap, ◌∙◌, arith, rules, tests, subst}
 use Rattle.pool_machine.proofs.Leads.{LeadsTo-stays, LeadsTo-trans, LeadsTo-base, LeadsTo-reachable}
-use Rattle.pool_core.proofs.Leaves.{reachable-unspent}
+use Rattle.pool_reading.proofs.Leaves.{reachable-unspent}
+use Rattle.pool_machine.specs.State.{State}
+use Rattle.pool_reading.specs.Work.{is_next}
 use Rattle.pool_core.proofs.pool.Pool.work_off.Goals as goal
 
 pub unreachable-requires : goal.unreachable-requires
@@ -11,7 +13,7 @@ steps-init c = record {
   reachable = c.requires.reachable;
   leads = LeadsTo-stays c.args.self.now c.args.self.now refl;
   ended = λ bad. absurd (let no : false ≡ true = bad in cc);
-  goes_on = λ still. (refl, c.in-Some.ensures.some);
+  goes_on = λ still. (refl, subst (λ (s : State). is_next s c.in-Some.node ≡ true) c.view.ensures c.in-Some.ensures.some);
 }
 
 pub take_step-requires-clause-not_spent : goal.take_step-requires-clause-not_spent

@@ -1,6 +1,0 @@
-use Rattle.std.proofs.Common.{IfSome}
-use Rattle.pool_machine.specs.Tasks.{IsLawfulTask}
-use Rattle.pool_core.proofs.pool.Pool.first_unclaimed.Given as goal
-
-abbrev pub invariant-loop-place : goal.invariant-loop-place
-invariant-loop-place l = IfSome l.first (λ held. IsLawfulTask l.self held.1)

@@ -1,6 +1,0 @@
-use Rattle.std.proofs.Common.{ℕ, ◌≡◌, ◌<◌, slice_index}
-use Rattle.master_step.specs.Outcomes.{crowd_price}
-use Rattle.pool_core.proofs.pool.publishing.are_crowd_prices.Given as goal
-
-abbrev pub invariant-loop-place : goal.invariant-loop-place
-invariant-loop-place l = (e : ℕ) → e < l.place → slice_index l.crowd e ≡ crowd_price l.inst l.prices e

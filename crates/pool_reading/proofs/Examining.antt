@@ -1,0 +1,103 @@
+-- Where no fault is found, an examination may come.
+use Rattle.pool_nodes.specs.declared.slot.Slot.{Slot}
+use Rattle.std.proofs.Common.{[], ◌≡◌, ℕ, ◌<◌, Bool, true, false, not, ◌&&◌, List, length, get_or, Option, Some, None, refl, sym, ap, subst, ◌∙◌, arith}
+use Rattle.std.specs.Prelude.{IsTrue, IfOk, option_map, Result, Ok, Err}
+use Rattle.plan_base.specs.declared.ids.BranchId.{BranchId}
+use Rattle.plan_base.specs.declared.ids.ArcId.{ArcId}
+use Rattle.plan_base.specs.declared.parts.Parts.{Parts}
+use Rattle.plan_base.specs.Arcs.{is_arc}
+use Rattle.arc_restrict.specs.Restrictions.{Forbidden, HasNoPath}
+use Rattle.std.proofs.lemmas.Option.{slice_get_within, get_or_from_slice_get}
+use Rattle.arc_restrict.specs.Rows.{Rows, forbids, HasSizeOf}
+use Rattle.path_pricing.specs.Priced.{is_open, IsClosedSet}
+use Rattle.path_pricing.specs.declared.priced.Priced.TheVariants as priced
+use Rattle.path_pricing.proofs.FaultLaws.{priced_fault-IsShown, IsPriced-priced_fault}
+use Rattle.second_path.specs.Others.{IsCutOff, IsFirstEmpty, IsDetermined}
+use Rattle.second_path.specs.declared.determined.Determined.{Determined}
+use Rattle.second_path.specs.declared.determined.Determined.TheVariants as determined
+use Rattle.pool_machine.specs.declared.tree.Fate.{Fate}
+use Rattle.pool_machine.specs.declared.tree.Fate.TheVariants.{Undone}
+use Rattle.pool_machine.specs.State.{Best, Node, State, restriction_of}
+use Rattle.pool_machine.specs.Machine.{IsReachable}
+use Rattle.pool_machine.specs.Nodes.{IsSoundNode, IsSoundBest}
+use Rattle.pool_nodes.specs.Grounds.{IsGroundOf}
+use Rattle.pool_reading.specs.Views.{IsKeptPool}
+use Rattle.pool_reading.specs.Examining.{IsReadyAt, IsDeterminedAt}
+use Rattle.pool_machine.proofs.Runs.{IsReachable-sound}
+use Rattle.pool_machine.proofs.Replacing.{node_at}
+
+-- What is determined
+
+open-arc : (p : Parts) (r : Forbidden) (k : ℕ) (a : ArcId) → IsTrue (is_open p r k a) → IsTrue (is_arc p a) × (r k a ≡ false)
+open-arc p r k a h = by_cases (is_arc p a) (r k a) h
+  where
+    by_cases : (x y : Bool) → (x && not y) ≡ true → (x ≡ true) × (y ≡ false)
+    by_cases true false h = (refl, refl)
+    by_cases true true h = absurd (let bad : false ≡ true = h in cc)
+    by_cases false y h = absurd (let bad : false ≡ true = h in cc)
+
+-- a demand that is cut off has no path
+cut_off-none : (p : Parts) (r : Forbidden) (k : ℕ) (set : List Bool) → IsCutOff p r k set → HasNoPath p r k
+cut_off-none p r k set h =
+    let closed : IsClosedSet p k r set = record {
+      count = h.nodes;
+      source = h.source;
+      target = h.target;
+      closed = λ a free at_tail. let both = open-arc p r k a free in h.closed a both.0 both.1 at_tail;
+    } in
+    IsPriced-priced_fault p [] k r (priced.NoPath set) (priced_fault-IsShown p [] k r (priced.NoPath set) closed)
+
+best-there : (best : Option Best) (completed : ℕ) → (best ≡ None → completed ≡ 0) → 0 < completed → (b : Best) × (best ≡ Some b)
+best-there None completed none some = absurd (let zero_ = none refl in omega arith)
+best-there (Some b) completed none some = (b, refl)
+
+-- a node with a complete version leaves each demand a path
+never-empty : (p : Parts) (node : Node) (k : ℕ) (set : List Bool) → IsSoundNode p node → 0 < node.completed → IsFirstEmpty p (restriction_of node) k set → ⊥
+never-empty p node k set sound some empty =
+    let best = best-there node.best node.completed sound.no_best some in
+    let b : IsSoundBest p (restriction_of node) node.first_prices node.completed best.0 = rw best.1 at (sound.best) in
+    let least = b.is_bound.are_least k empty.is_demand in
+    cut_off-none p (restriction_of node) k set empty.cut_off least.path least.permitted
+
+pub determined-at : (s : State) (id : BranchId) (found : Determined) (r : Forbidden) → IsReachable s → (at : IsReadyAt s id) → r ≡ restriction_of at.node
+    → IsDetermined s.problem r found → IsDeterminedAt s id found
+determined-at s id (determined.Empty demand set) r reachable at same h =
+    let is = at.ready.open_node in
+    never-empty s.problem at.node demand.0 set (node_at s id.0 at.node (IsReachable-sound s reachable) is.is_node) at.ready.priced (rw same at h)
+determined-at s id (determined.Two demand first second) r reachable at same h = record { node = at.node; ready = at.ready; two = rw same at h }
+determined-at s id (determined.One paths) r reachable at same h = record { node = at.node; ready = at.ready; only = rw same at h }
+
+-- The ground of a node that may be examined
+module _ (s : State) (table : Parts) (grounds : List (Option Rows)) (places : List Slot) (h : IsKeptPool s table grounds places) (id : BranchId) (at : IsReadyAt s id) where
+  pub ready-node-within : id.0 < length s.nodes
+  ready-node-within = slice_get_within s.nodes id.0 at.node at.ready.open_node.is_node
+
+  pub ready-ground-within : id.0 < length grounds
+  ready-ground-within = subst (λ (n : ℕ). id.0 < n) (sym h.has_grounds.count) (slice_get_within s.nodes id.0 at.node at.ready.open_node.is_node)
+
+  -- it has its restriction in rows of the instance's size
+  pub ready-ground : (ground : Option Rows) → ground ≡ get_or grounds id.0 ground → (rows : Rows) × (ground ≡ Some rows) × (forbids rows ≡ restriction_of at.node) × HasSizeOf s.problem rows
+  ready-ground ground read =
+      let g = h.has_grounds.each id.0 at.node at.ready.open_node.is_node in
+      let same : ground ≡ g.0 = read ∙ get_or_from_slice_get grounds id.0 g.0 ground g.1 in
+      by_cases ground (subst (λ (o : Option Rows). IsGroundOf s.problem (restriction_of at.node) Undone o) (sym same)
+      (subst (λ (f : Fate). IsGroundOf s.problem (restriction_of at.node) f g.0) at.ready.open_node.undone g.2))
+    where
+      by_cases : (o : Option Rows) → IsGroundOf s.problem (restriction_of at.node) Undone o → (rows : Rows) × (o ≡ Some rows) × (forbids rows ≡ restriction_of at.node) × HasSizeOf s.problem rows
+      by_cases None is = absurd is
+      by_cases (Some rows) is = (rows, refl, is.0, is.1)
+
+  pub ready-item : (item : Node) → item ≡ get_or s.nodes id.0 item → item ≡ at.node
+  ready-item item read = read ∙ get_or_from_slice_get s.nodes id.0 at.node item at.ready.open_node.is_node
+
+pub determined-ok : {E : Type 0} (s : State) (id : BranchId) (result : Result Determined E) (r : Forbidden) → IsReachable s → (at : IsReadyAt s id) → r ≡ restriction_of at.node
+    → IfOk result (IsDetermined s.problem r) → IfOk result (IsDeterminedAt s id)
+determined-ok s id (Ok found) r reachable at same h = determined-at s id found r reachable at same h
+determined-ok s id (Err fault) r reachable at same h = tt
+
+-- a ground that is there is not read as none
+pub ground-none : {X Y : Type 0} (f : X → Y) (o : Option X) (ground : Option Y) (y : Y) → option_map f o ≡ ground → ground ≡ Some y → o ≡ None → ⊥
+ground-none {X} {Y} f o ground y mapped is none = let bad : ◌≡◌ {A = Option Y} None (Some y) = sym (ap (option_map f) none) ∙ (mapped ∙ is) in absurd (cc)
+
+pub ground-some : {X Y : Type 0} (f : X → Y) (o : Option X) (ground : Option Y) (y : Y) (x : X) → option_map f o ≡ ground → ground ≡ Some y → o ≡ Some x → f x ≡ y
+ground-some {X} {Y} f o ground y x mapped is there = let both : ◌≡◌ {A = Option Y} (Some (f x)) (Some y) = sym (ap (option_map f) there) ∙ (mapped ∙ is) in cc

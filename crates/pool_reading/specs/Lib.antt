@@ -1,0 +1,17 @@
+pub mod Views
+pub mod Shown
+pub mod Examining
+pub mod Work
+pub mod Valuing
+pub use Rattle.pool_machine.specs.State
+pub use Rattle.pool_machine.specs.Opening
+pub use Rattle.pool_machine.specs.Offering
+pub use Rattle.pool_machine.specs.Gathering
+pub use Rattle.pool_machine.specs.Publishing
+pub use Rattle.pool_machine.specs.Settling
+pub use Rattle.pool_machine.specs.Closing
+pub use Rattle.pool_machine.specs.Readiness
+pub use Rattle.pool_machine.specs.Machine
+pub use Rattle.pool_machine.specs.Soundness
+pub use Rattle.pool_machine.specs.PlanOf
+pub use Rattle.pool_machine.specs.Tasks

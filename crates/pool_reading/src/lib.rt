@@ -1,0 +1,15 @@
+//! What is read of a pool: what may be done next, why a call is refused, and what a call that changes the pool needs
+//! to know before.
+//!
+//! Promises that each answer is the one that the machine of `pool_machine` gives of the state. Begin at `PoolView`; what
+//! the fields of a pool keep stands in `specs/Views.antt`. Stands on `pool_machine` for what an event is, `pool_nodes` for
+//! what is kept of a node, and `leaf_work` for what is computed of it. Nothing is changed here: that is left to
+//! `pool_core`.
+#![tactic(auto)]
+
+mod claims;
+mod view;
+
+pub use claims::Claims;
+pub use view::PoolView;
+pub use view::publishing::are_crowd_prices;

@@ -1,0 +1,152 @@
+//! What is read of a pool: a bundle of references, which is made for each call.
+
+ghost use Rattle.std.specs.Prelude.{◌≡◌, slice_get, option_map};
+ghost use Rattle.pool_machine.specs.State.{state_of, round_of, active_count};
+ghost use Rattle.pool_machine.specs.Opening.{open_fault, is_waiting};
+ghost use Rattle.pool_machine.specs.Changes.{is_spent, version_in, is_version, first_gap};
+
+mod claiming;
+mod closing;
+mod dividing;
+mod examining;
+mod gathering;
+mod offering;
+pub mod publishing;
+mod reading;
+mod settling;
+mod tasks;
+mod valuing;
+mod working;
+
+use crate::claims::Claims;
+use column_pool::ColumnPool;
+use link_steps::StepTable;
+use plan_base::{BranchId, DemandId, Instance};
+use pool_machine::limits::MAX_ROUNDS;
+use pool_machine::{Incumbent, NodeState, RoundFault};
+use pool_nodes::{Ground, PoolNode, Slot, free_count};
+use std::alloc::Global;
+use std::marker::Model;
+
+/// A pool that is only read: references to its fields, and copies of its numbers.
+///
+/// Contracts see it as the state of the machine, as they see the pool.
+#[derive(Drop)]
+pub struct PoolView<'a> {
+    /// Where memory comes from.
+    pub alloc: Global,
+    pub problem: &'a Instance,
+    pub table: &'a StepTable,
+    pub nodes: &'a [PoolNode],
+    pub columns: &'a ColumnPool,
+    /// For each node what is forbidden there, while it is an open leaf.
+    pub grounds: &'a [Ground],
+    /// The slots of rounds, 64.
+    pub places: &'a [Slot],
+    pub incumbent: &'a Option<Incumbent>,
+    pub examined: u32,
+    pub budget: u32,
+    pub next_version: u64,
+    pub accepted: u64,
+    /// What each worker was given last; no part of the state.
+    pub claims: &'a Claims,
+}
+
+impl<'a> Model for PoolView<'a> {
+    ghost use Rattle.pool_machine.specs.State.{State};
+    ghost use Rattle.pool_reading.specs.Views.{IsKeptPool};
+
+    ghost Value = { State };
+
+    ghost use Rattle.pool_reading.specs.Shown.{shown};
+
+    ghost view = { shown };
+
+    ghost invariant = { λ a. IsKeptPool (shown a) a.table.now a.grounds.now a.places.now };
+}
+
+impl<'a> PoolView<'a> {
+    /// The node of this number, if there is one.
+    fn node(&self, node: BranchId) -> Option<&'a PoolNode>
+        ensures { option_map (λ x. x.now) result ≡ slice_get self.now.nodes node.0 }
+    {
+        self.nodes.get(node.0 as usize)
+    }
+
+    /// What a node is now; `Unknown` where there is no node of this number.
+    pub fn state(&self, node: BranchId) -> NodeState
+        ensures { result ≡ state_of self.now node }
+    {
+        match self.node(node) {
+            Some(node) => node.state(),
+            None => NodeState::Unknown,
+        }
+    }
+
+    /// Whether the budget is spent.
+    fn is_spent(&self) -> bool
+        ensures { result ≡ is_spent self.now }
+    {
+        self.budget <= self.examined
+    }
+
+    /// The version of the active round of a node.
+    fn current(&self, node: BranchId) -> Option<u64>
+        ensures { result ≡ version_in (round_of self.now node) }
+    {
+        self.node(node)?.version()
+    }
+
+    /// How many rounds are active.
+    fn active(&self) -> u32
+        ensures { result ≡ active_count self.now }
+    {
+        MAX_ROUNDS - free_count(self.places) as u32
+    }
+
+    /// Why an opening is refused, if it is.
+    #[tactic(auto, unfolding(pool_machine::specs::Opening::open_fault))]
+    pub fn open_refusal(&self, node: BranchId) -> Option<RoundFault>
+        ensures { result ≡ open_fault self.now node }
+    {
+        if self.is_spent() {
+            return Some(RoundFault::Spent {
+                examined: self.examined,
+            });
+        }
+        let state = self.state(node);
+        if !is_waiting(state) {
+            return Some(RoundFault::NotOpen { state });
+        }
+        let active = self.active();
+        if active >= MAX_ROUNDS {
+            return Some(RoundFault::Crowded { active });
+        }
+        None
+    }
+
+    /// The first demand that the active round of a node has not priced.
+    fn first_gap(&self, node: BranchId) -> Option<DemandId>
+        ensures { result ≡ first_gap (round_of self.now node) }
+    {
+        self.node(node)?.first_gap()
+    }
+}
+
+fn is_waiting(state: NodeState) -> bool
+    ensures { result ≡ is_waiting state }
+{
+    match state {
+        NodeState::Waiting => true,
+        _ => false,
+    }
+}
+
+fn is_version(current: Option<u64>, version: u64) -> bool
+    ensures { result ≡ is_version current version }
+{
+    match current {
+        Some(current) => current == version,
+        None => false,
+    }
+}

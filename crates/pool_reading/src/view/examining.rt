@@ -1,0 +1,114 @@
+//! Why an examination is refused, and what a node leaves to the demands.
+
+ghost use Rattle.std.specs.Prelude.{◌≡◌, not, ◌&&◌, nat_lt, IfOk, IfSome, slice_get};
+ghost use Rattle.arc_restrict.specs.Rows.{forbids};
+ghost use Rattle.second_path.specs.Others.{IsDetermined};
+ghost use Rattle.pool_machine.specs.declared.limits.TheConstants.{MAX_VERSIONS};
+ghost use Rattle.pool_machine.specs.State.{restriction_of};
+ghost use Rattle.pool_machine.specs.Readiness.{completed_in, settled_in, ready_fault, examine_refusal};
+ghost use Rattle.pool_reading.specs.Examining.{IsReadyAt, IsDeterminedAt};
+
+use super::PoolView;
+use super::closing::is_open_state;
+use arc_restrict::Restriction;
+use plan_base::BranchId;
+use pool_machine::ExamineFault;
+use pool_machine::limits::MAX_VERSIONS;
+use second_path::{Determined, determine, determine_among};
+use std::alloc::AllocError;
+
+/// Whether a node is not settled and has room for more versions.
+fn is_unsettled(settled: bool, completed: u32) -> bool
+    ensures { result ≡ (not settled && nat_lt completed MAX_VERSIONS) }
+{
+    !settled && completed < MAX_VERSIONS
+}
+
+impl<'a> PoolView<'a> {
+    /// How many versions of the node were complete.
+    pub(super) fn completed(&self, node: BranchId) -> u32
+        ensures { result ≡ completed_in (slice_get self.now.nodes node.0) }
+    {
+        match self.node(node) {
+            Some(node) => node.completed(),
+            None => 0,
+        }
+    }
+
+    /// Whether the node is settled.
+    pub(super) fn is_settled(&self, node: BranchId) -> bool
+        ensures { result ≡ settled_in (slice_get self.now.nodes node.0) }
+    {
+        match self.node(node) {
+            Some(node) => node.is_settled(),
+            None => false,
+        }
+    }
+
+    /// Why a node without a cut is not examined, if it is not.
+    fn ready_refusal(&self, node: BranchId) -> Option<ExamineFault>
+        ensures { result ≡ ready_fault self.now (slice_get self.now.nodes node.0) }
+    {
+        let done = self.completed(node);
+        if done == 0 {
+            return Some(ExamineFault::Unpriced);
+        }
+        if self.is_closable(node) {
+            return Some(ExamineFault::Closable {
+                bound: self.bound(node).unwrap_or(0),
+                cutoff: self.incumbent(),
+            });
+        }
+        if is_unsettled(self.is_settled(node), done) {
+            return Some(ExamineFault::Unsettled { done });
+        }
+        None
+    }
+
+    /// Why an examination is refused, if it is.
+    #[tactic(auto, unfolding(pool_machine::specs::Readiness::examine_refusal))]
+    pub fn examine_refusal(&self, node: BranchId) -> Option<ExamineFault>
+        ensures { result ≡ examine_refusal self.now node }
+    {
+        if self.is_spent() {
+            return Some(ExamineFault::Spent {
+                examined: self.examined,
+            });
+        }
+        let state = self.state(node);
+        if !is_open_state(state) {
+            return Some(ExamineFault::NotOpen { state });
+        }
+        if self.has_cut(node) {
+            return None;
+        }
+        self.ready_refusal(node)
+    }
+
+    /// What the restriction of a node leaves to the demands. Where its round is complete, a path of each is known.
+    fn determined(&self, node: BranchId, rows: &Restriction) -> Result<Determined, AllocError>
+        requires { IfSome (slice_get self.now.nodes node.0) (λ x. forbids rows.now ≡ restriction_of x) }
+        ensures { IfOk result (IsDetermined self.now.problem (forbids rows.now)) }
+    {
+        let Some(round) = self.active_round(node) else {
+            return determine(self.alloc, self.problem, rows);
+        };
+        if round.left() > 0 {
+            return determine(self.alloc, self.problem, rows);
+        }
+        let paths = round.paths(self.alloc)?;
+        determine_among(self.alloc, self.problem, rows, paths)
+    }
+
+    /// What the restriction of a node that may be examined leaves to the demands.
+    pub fn determine_at(&self, node: BranchId) -> Result<Determined, AllocError>
+        requires { IsReadyAt self.now node }
+        ensures { IfOk result (IsDeterminedAt self.now node) }
+    {
+        let ground = &self.grounds[node.0 as usize];
+        let Some(rows) = ground.rows() else {
+            unreachable!();
+        };
+        self.determined(node, &**rows)
+    }
+}

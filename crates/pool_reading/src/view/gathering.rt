@@ -1,0 +1,78 @@
+//! Why a gathering is refused, and what a master step is told.
+
+ghost use Rattle.std.specs.Prelude.{◌≡◌, length, IfOk, IsSome};
+ghost use Rattle.arc_restrict.specs.Rows.{forbids};
+ghost use Rattle.pool_machine.specs.State.{round_of, restriction_of};
+ghost use Rattle.pool_machine.specs.Gathering.{gather_fault, IsBriefOf};
+ghost use Rattle.pool_reading.specs.Valuing.{ForRound, ArePermittedLists};
+
+use super::PoolView;
+use arc_restrict::Restriction;
+use column_pool::{Brief, ColumnPool};
+use plan_base::{BranchId, DemandId, Instance, Items, Path};
+use pool_machine::Gather;
+use std::alloc::{AllocError, Global};
+
+/// For each demand copies of the columns that the restriction permits, in their order.
+fn permitted_lists(
+    alloc: Global,
+    inst: &Instance,
+    columns: &ColumnPool,
+    restriction: &Restriction,
+) -> Result<Items<Items<Path>>, AllocError>
+    requires { length columns.now ≡ length inst.now.demands }
+    ensures { IfOk result (ArePermittedLists (length inst.now.demands) (forbids restriction.now) columns.now) }
+{
+    let mut lists = Vec::new(alloc);
+    for place in 0..inst.demands() {
+        let permitted = columns.permitted(alloc, DemandId(place), restriction)?;
+        lists.push(permitted)?;
+    }
+    Ok(Items::from_vec(lists))
+}
+
+impl<'a> PoolView<'a> {
+    /// Why a gathering is refused, if it is.
+    #[tactic(auto, unfolding(pool_machine::specs::Gathering::gather_fault))]
+    pub fn gather_refusal(&self, node: BranchId, version: u64) -> Option<Gather>
+        ensures { result ≡ gather_fault self.now node version }
+    {
+        if self.is_spent() {
+            return Some(Gather::Spent {
+                examined: self.examined,
+            });
+        }
+        let current = self.current(node);
+        if !super::is_version(current, version) {
+            return Some(Gather::Stale { current });
+        }
+        self.first_gap(node)
+            .map(|demand| Gather::Incomplete { demand })
+    }
+
+    /// Copies of the columns that the node permits, a list for each demand.
+    fn permitted_columns(&self, node: BranchId) -> Result<Items<Items<Path>>, AllocError>
+        requires { IsSome (round_of self.now node) }
+        ensures { IfOk result (λ lists. ForRound self.now node (λ x round. ArePermittedLists (length self.now.problem.demands) (restriction_of x) self.now.columns lists)) }
+    {
+        let rows = self.grounds[node.0 as usize].rows().unwrap();
+        permitted_lists(self.alloc, self.problem, self.columns, &**rows)
+    }
+
+    /// What a master step is told of the node's round.
+    pub fn brief(&self, node: BranchId) -> Result<Brief, AllocError>
+        requires { IsSome (round_of self.now node) }
+        ensures { IfOk result (λ brief. ForRound self.now node (λ x round. IsBriefOf self.now node x round brief)) }
+    {
+        let columns = self.permitted_columns(node)?;
+        let round = self.round_at(node);
+        Ok(Brief {
+            node,
+            version: round.version(),
+            prices: round.prices().copy()?,
+            columns,
+            crowd_tried: self.nodes[node.0 as usize].crowd_tried(),
+            incumbent: self.incumbent(),
+        })
+    }
+}

@@ -1,0 +1,74 @@
+//! What a pool tells of a node, of its best design and of a slot.
+
+ghost use Rattle.std.specs.Prelude.{◌≡◌, ◌↔◌, true, IsSome, IfSome, IfOk, length, slice_get};
+ghost use Rattle.std.specs.Arc.{arc_value};
+ghost use Rattle.arc_restrict.specs.Rows.{forbids};
+ghost use Rattle.pool_machine.specs.State.{state_of, cutoff_of, restriction_of};
+ghost use Rattle.pool_machine.specs.Changes.{bound_in, is_open_state};
+ghost use Rattle.pool_machine.specs.Opening.{is_waiting};
+ghost use Rattle.pool_reading.specs.Views.{IsPublishedAt};
+
+use super::PoolView;
+use arc_restrict::Restriction;
+use dual_versions::Published;
+use plan_base::{BranchId, Prices};
+use pool_nodes::holder;
+use std::alloc::AllocError;
+use std::sync::Arc;
+
+impl<'a> PoolView<'a> {
+    /// The greatest bound of a complete version of the node, in cost grains; None exactly where no version of it was
+    /// complete.
+    pub fn bound(&self, node: BranchId) -> Option<i128>
+        ensures { result ≡ bound_in (slice_get self.now.nodes node.0) }
+    {
+        self.node(node)?.bound()
+    }
+
+    /// The cost of the best design so far, in cost grains; None exactly where there is none.
+    pub fn incumbent(&self) -> Option<u128>
+        ensures { result ≡ cutoff_of self.now }
+    {
+        match self.incumbent {
+            Some(held) => Some(held.cost),
+            None => None,
+        }
+    }
+
+    /// The prices with which a node that waits begins, one for each link, in thousandths of a cost grain per load
+    /// grain; None exactly where the node does not wait.
+    pub fn first_prices(&self, node: BranchId) -> Option<&'a Prices>
+        ensures waits { IsSome result ↔ (is_waiting (state_of self.now node) ≡ true) }
+        ensures value { IfSome result (λ prices. IfSome (slice_get self.now.nodes node.0) (λ x. prices.now ≡ x.first_prices)) }
+        ensures count { IfSome result (λ prices. length prices.now ≡ length self.now.problem.links) }
+    {
+        if !super::is_waiting(self.state(node)) {
+            return None;
+        }
+        Some(self.nodes.get(node.0 as usize)?.first_prices())
+    }
+
+    /// What is forbidden at an open leaf; None exactly where the node is none.
+    pub fn restriction(&self, node: BranchId) -> Option<&'a Arc<Restriction>>
+        ensures leaf { IsSome result ↔ (is_open_state (state_of self.now node) ≡ true) }
+        ensures value { IfSome result (λ rows. IfSome (slice_get self.now.nodes node.0) (λ x. forbids (arc_value rows.now) ≡ restriction_of x)) }
+    {
+        match self.grounds.get(node.0 as usize) {
+            Some(ground) => ground.rows(),
+            None => None,
+        }
+    }
+
+    /// A copy of the prices of the round in the slot, in thousandths of a cost grain per load grain, with its node and
+    /// its version; None exactly where no round has the slot.
+    ///
+    /// - Errors: want of memory alone.
+    pub fn prices(&self, slot: u32) -> Result<Option<Published>, AllocError>
+        ensures { IfOk result (IsPublishedAt self.now slot) }
+    {
+        match holder(self.places, slot) {
+            Some(node) => self.nodes[node.0 as usize].published(node, slot),
+            None => Ok(None),
+        }
+    }
+}

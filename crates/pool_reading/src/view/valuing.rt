@@ -1,0 +1,34 @@
+//! What prices are worth at a node, over the columns that it permits.
+
+ghost use Rattle.std.specs.Prelude.{◌≡◌};
+ghost use Rattle.pool_machine.specs.State.{round_of};
+ghost use Rattle.pool_machine.specs.Gathering.{columns_for, first_ungathered};
+ghost use Rattle.pool_machine.specs.Nodes.{IsPriceList};
+ghost use Rattle.master_step.specs.Restricted.{IsRestrictedValue};
+ghost use Rattle.pool_reading.specs.Valuing.{IsGatheredAt, ForRound};
+
+use super::PoolView;
+use plan_base::{BranchId, DemandId, Prices};
+
+impl<'a> PoolView<'a> {
+    /// The first demand whose path in the node's round is none of its columns.
+    pub(super) fn first_ungathered(&self, node: BranchId) -> Option<DemandId>
+        ensures { result ≡ first_ungathered self.now.columns (round_of self.now node) }
+    {
+        match self.active_round(node) {
+            Some(round) => round.first_ungathered(self.columns),
+            None => None,
+        }
+    }
+
+    /// The restricted value of prices over the columns that the node permits, in thousandths of a cost grain. Takes no
+    /// memory.
+    pub fn value(&self, node: BranchId, prices: &Prices) -> i128
+        requires gathered { IsGatheredAt self.now node }
+        requires prices { IsPriceList self.now.problem prices.now }
+        ensures { ForRound self.now node (λ x round. IsRestrictedValue self.now.problem (columns_for self.now x) prices.now result) }
+    {
+        let rows = self.grounds[node.0 as usize].rows().unwrap();
+        master_step::value(self.problem, self.table, prices, self.columns, &**rows)
+    }
+}
