@@ -24,7 +24,7 @@ use Rattle.pool_machine.specs.Machine.{Examining, to_examining, IsReachable}
 use Rattle.pool_nodes.specs.Slots.{given_back}
 use Rattle.pool_reading.specs.Views.{HasPlaces, IsKeptPool}
 use Rattle.pool_nodes.specs.Grounds.{IsGroundOf, HasGrounds}
-use Rattle.pool_reading.specs.Examining.{IsReadyAt, IsChildAt, IsDivisionAt, AreChildrenAt}
+use Rattle.pool_reading.specs.Examining.{IsChildAt, IsDivisionAt, AreChildrenAt}
 use Rattle.pool_machine.proofs.Lists.{slice_get-append_left, slice_get-append_right, slice_get-append_cases}
 use Rattle.pool_machine.proofs.Frames.{one_at}
 use Rattle.pool_machine.proofs.Runs.{IsReachable-step, IsReachable-sound}
@@ -179,21 +179,3 @@ arc-within p a h = let link = ltb-true _ _ (and-first _ _ h) in below a.0 (lengt
 -- the arcs of a side exist
 pub side-within : (p : Parts) (r : Forbidden) (id : DemandId) (node : NodeId) (arcs : List ArcId) → IsSide p r id node arcs → All (λ a. a.0 < 2 * length p.links) arcs
 side-within p r id node arcs side = λ i d within. arc-within p (get_or arcs i d) (side.are_arcs i d within)
-
--- the two children that were made are those of the division
-pub children-made : (s : State) (id : BranchId) (d : Division) (demand : DemandId) (left right : Node) (left_ground right_ground : Option Rows) (children : List Node) (grounds : List (Option Rows))
-    → d.demand ≡ demand → IsChildAt s id demand d.left left left_ground → IsChildAt s id demand d.right right right_ground
-    → children ≡ left ∷ right ∷ [] → grounds ≡ left_ground ∷ right_ground ∷ [] → AreChildrenAt s id d children grounds
-children-made s id d demand left right left_ground right_ground children grounds same is_left is_right are_children are_grounds = record {
-  left = left;
-  right = right;
-  left_ground = left_ground;
-  right_ground = right_ground;
-  is_left = subst (λ (k : DemandId). IsChildAt s id k d.left left left_ground) (sym same) is_left;
-  is_right = subst (λ (k : DemandId). IsChildAt s id k d.right right right_ground) (sym same) is_right;
-  children_are = are_children;
-  grounds_are = are_grounds;
-}
-
-pub division-ready : (s : State) (id : BranchId) (d : Division) → IsDivisionAt s id d → IsReadyAt s id
-division-ready s id d h = record { node = h.node; ready = h.ready }

@@ -7,8 +7,6 @@ use Rattle.plan_base.specs.declared.ids.BranchId.{BranchId}
 use Rattle.plan_base.specs.First.{◌or_else◌, when}
 use Rattle.plan_base.proofs.Bools.{not-false}
 use Rattle.plan_base.proofs.FirstFault.{or_else-none, when-none}
-use Rattle.path_pricing.specs.Priced.{is_open}
-use Rattle.path_pricing.specs.declared.priced.Priced.TheVariants as priced
 use Rattle.proof_tree.specs.declared.tree.Evidence.{Evidence}
 use Rattle.pool_machine.specs.declared.limits.TheConstants.{MAX_VERSIONS}
 use Rattle.pool_machine.specs.declared.answers.ExamineFault.{ExamineFault}
@@ -125,15 +123,6 @@ ready-at s id may none =
     let no_cut = cut-none may.node.cut (cut-at (slice_get s.nodes id.0) may.node false may.open_node.is_node none) in
     let rest : ready_fault s (slice_get s.nodes id.0) ≡ None = subst (λ (b : Bool). (if b then None else ready_fault s (slice_get s.nodes id.0)) ≡ None) none may.rest in
     record { node = may.node; ready = ready-node s id may.node may.open_node no_cut (subst (λ (o : Option Node). ready_fault s o ≡ None) may.open_node.is_node rest) }
-
--- Closings by what was shown
-
-pub shown-reason : (s : State) (id : BranchId) (found : Evidence) → IfSome (slice_get s.nodes id.0) (λ x. HasReason x (reason.Shown found))
-shown-reason s id found = by_cases (slice_get s.nodes id.0)
-  where
-    by_cases : (o : Option Node) → IfSome o (λ x. HasReason x (reason.Shown found))
-    by_cases None = tt
-    by_cases (Some node) = tt
 
 pub shown-closed : (s : State) (id : BranchId) (node : Node) (found : Evidence) → slice_get s.nodes id.0 ≡ Some node
     → closed_at s id (reason.Shown found) (slice_get s.nodes id.0) ≡ examined_with s id (closed_by found node)

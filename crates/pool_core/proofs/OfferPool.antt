@@ -36,7 +36,7 @@ use Rattle.pool_machine.proofs.Small.{IsSound-accepted}
 use Rattle.pool_core.proofs.Answering.{stale_fault-none}
 use Rattle.pool_nodes.proofs.Grounds.{HasGrounds-set}
 use Rattle.pool_nodes.proofs.Completing.{TakesRound-round, TakesRound-limits, TakesRound-fate}
-use Rattle.pool_reading.proofs.OfferPool.{round_at}
+use Rattle.pool_reading.proofs.Offers.{round_at}
 
 -- Where no fault is found
 

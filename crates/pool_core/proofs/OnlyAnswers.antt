@@ -14,7 +14,7 @@ use Rattle.pool_machine.proofs.Frames.{one_at}
 use Rattle.pool_machine.proofs.OneAnswer.{gains-not_no_gain}
 use Rattle.pool_core.specs.Valuing.{IsToPublish}
 use Rattle.pool_core.specs.declared.pool.following.Following.{Following}
-use Rattle.pool_core.specs.Foretold.{IsOpenAnswer, IsOnlyOpening, IsFollowing, IsPublishAnswer, IfPublished, IfRefused, IsOnlyPublishing}
+use Rattle.pool_core.specs.Foretold.{IsOpenAnswer, IsOnlyOpening, IsFollowing, IsPublishAnswer, IfPublished, IsOnlyPublishing}
 use Rattle.pool_core.proofs.OpenPool.{MayOpen}
 use Rattle.pool_core.proofs.Publishable.{publish_fault-refusal}
 
@@ -112,19 +112,6 @@ no_success-if (publish.Rounds x) Holds none = tt
 no_success-if (publish.PriceCount x) Holds none = tt
 no_success-if (publish.OverPrice x) Holds none = tt
 no_success-if (publish.Ungathered x) Holds none = tt
-
--- where there is no success the answer is a refusal
-pub no_success-refused : (answer : Publish) (Holds : Type 0) → Holds → IfRefused answer Holds
-no_success-refused (publish.Published slot version) Holds h = tt
-no_success-refused (publish.NoGain before after) Holds h = h
-no_success-refused (publish.Spent x) Holds h = h
-no_success-refused (publish.Stale x) Holds h = h
-no_success-refused publish.Settled Holds h = h
-no_success-refused (publish.Incomplete x) Holds h = h
-no_success-refused (publish.Rounds x) Holds h = h
-no_success-refused (publish.PriceCount x) Holds h = h
-no_success-refused (publish.OverPrice x) Holds h = h
-no_success-refused (publish.Ungathered x) Holds h = h
 
 pub refusal-answer : (s : State) (id : BranchId) (seen : ℕ) (prices : List ℕ) (answer : Publish) → IsNoSuccess answer → PublishStep s id seen prices answer s → IsPublishAnswer s id seen prices answer
 refusal-answer s id seen prices (publish.Published slot version) none is = absurd none

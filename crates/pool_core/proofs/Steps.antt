@@ -1,5 +1,5 @@
 -- One step at a leaf: it comes closer to its end, or is closed or divided.
-use Rattle.std.proofs.Common.{◌≡◌, ◌≢◌, ℕ, zero, suc, ◌+◌, ◌-◌, ◌*◌, ◌<◌, ◌≤◌, List, inl, inr, Bool, true, false, length, Option, Some, None, slice_get, refl, sym, ap, subst, ◌∙◌, arith, add-one}
+use Rattle.std.proofs.Common.{◌≡◌, ℕ, zero, suc, ◌+◌, ◌-◌, ◌*◌, ◌<◌, ◌≤◌, List, inl, inr, Bool, true, false, length, Option, Some, None, slice_get, refl, sym, ap, subst, ◌∙◌, arith, add-one}
 use Rattle.std.specs.Prelude.{Result, Ok, Err, nat_le, nat_lt, is_some, ◌||◌, IsSome, IsSomeAnd}
 use Rattle.std.proofs.lemmas.Bool.{eq-eqb}
 use Rattle.std.proofs.Math.Nat.{mul-le-mul}
@@ -20,8 +20,6 @@ use Rattle.pool_machine.specs.declared.answers.Offered.{Offered}
 use Rattle.pool_machine.specs.declared.answers.Offered.TheVariants as offered
 use Rattle.pool_machine.specs.declared.answers.Better.{Better}
 use Rattle.pool_machine.specs.declared.answers.Better.TheVariants as better
-use Rattle.pool_machine.specs.declared.task.Task.{Task}
-use Rattle.pool_machine.specs.declared.task.Task.TheVariants as task
 use Rattle.pool_machine.specs.declared.tree.Fate.{Fate}
 use Rattle.pool_machine.specs.declared.tree.Fate.TheVariants.{Undone}
 use Rattle.pool_machine.specs.declared.tree.HeldCut.{HeldCut}
@@ -29,34 +27,32 @@ use Rattle.std.proofs.lemmas.Bool.Decides.{nat_tests}
 use Rattle.plan_base.specs.declared.ids.BranchId.{BranchId}
 use Rattle.plan_base.specs.declared.parts.Parts.{Parts}
 use Rattle.pool_machine.specs.declared.answers.Closing.{Closing}
-use Rattle.pool_machine.specs.declared.answers.Closing.TheVariants as closing
 use Rattle.pool_machine.specs.declared.answers.Examined.{Examined}
 use Rattle.pool_machine.specs.declared.answers.Examined.TheVariants as examined
 use Rattle.pool_machine.specs.declared.answers.ExamineFault.{ExamineFault}
 use Rattle.pool_machine.specs.declared.answers.ExamineFault.TheVariants as examine_fault
 use Rattle.pool_machine.specs.declared.tree.Found.{Found}
-use Rattle.pool_machine.specs.Settling.{Settles, SettleStep}
+use Rattle.pool_machine.specs.Settling.{Settles}
 use Rattle.pool_machine.specs.Publishing.{Publishes}
-use Rattle.pool_machine.specs.Closing.{close_fault, CloseStep}
+use Rattle.pool_machine.specs.Closing.{CloseStep}
 use Rattle.pool_machine.specs.Readiness.{examine_refusal}
 use Rattle.pool_machine.specs.Examining.{ExamineStep}
 use Rattle.pool_machine.proofs.Lists.{sum_by-set_at}
 use Rattle.pool_machine.proofs.Leads.{LeadsTo-one}
-use Rattle.pool_machine.specs.declared.answers.Settle.{Settle}
 use Rattle.pool_machine.specs.State.{Round, Node, State, gap_of, left_of, active_count, state_by, state_in, round_of}
 use Rattle.pool_machine.specs.Changes.{TakesRound, version_in, is_version, has_cut, stale_fault}
 use Rattle.pool_machine.specs.Opening.{open_fault, empty_round, Opens, OpenStep}
 use Rattle.pool_machine.specs.Offering.{is_priced, unfit_in, offer_fault, TakesCut, with_found, Accepts, OfferStep}
 use Rattle.pool_machine.specs.Bettering.{BetterStep}
-use Rattle.pool_machine.specs.Machine.{Opening, Offering, Settling, Closing_of, Examining, Bettering, to_opening, to_offering, to_settling, to_closing, to_examining, to_bettering, IsReachable}
-use Rattle.pool_machine.specs.Tasks.{IsLawfulTask, IsToPrice, IsToAdvance, LeadsTo}
+use Rattle.pool_machine.specs.Machine.{Opening, Offering, Closing_of, Examining, Bettering, to_opening, to_offering, to_closing, to_examining, to_bettering, IsReachable}
+use Rattle.pool_machine.specs.Tasks.{IsToAdvance, LeadsTo}
 use Rattle.pool_machine.proofs.Frames.{one_at}
 use Rattle.pool_machine.proofs.Lists.{slice_get-set_same}
 use Rattle.pool_machine.proofs.Leads.{LeadsTo-stays}
 use Rattle.pool_machine.proofs.Replacing.{node_at}
 use Rattle.pool_machine.proofs.Runs.{IsReachable-sound}
 use Rattle.pool_nodes.proofs.Completing.{TakesRound-fate}
-use Rattle.pool_reading.specs.Work.{is_next_in, is_next, IsStepAt}
+use Rattle.pool_reading.specs.Work.{is_next_in, is_next}
 use Rattle.pool_core.specs.Work.{IsGap, cut_left, unsettled_left, versions_left, steps_by, steps_in, steps_left, IsCloser, KeepsNodes}
 use Rattle.pool_reading.proofs.TaskLaws.{HasRound, round-undone, round_of-has, spent-false}
 use Rattle.pool_core.proofs.TaskLaws.{not_priced-at}
@@ -97,18 +93,8 @@ never-refused s t id examine_fault.Unpriced none e = absurd (let bad : ◌≡◌
 never-refused s t id (examine_fault.Closable x y) none e = absurd (let bad : ◌≡◌ {A = Option ExamineFault} None (Some (examine_fault.Closable x y)) = sym none ∙ e.0 in cc)
 never-refused s t id (examine_fault.Unsettled x) none e = absurd (let bad : ◌≡◌ {A = Option ExamineFault} None (Some (examine_fault.Unsettled x)) = sym none ∙ e.0 in cc)
 
--- a closing that is not refused raises the count by one
-pub closed-one : (s t : State) (id : BranchId) (answer : Closing) → close_fault s id ≡ None → CloseStep s id answer t → t.examined ≡ s.examined + 1
-closed-one s t id closing.Closed none e = ap (λ (x : State). x.examined) e.becomes ∙ sym (add-one s.examined)
-closed-one s t id (closing.Spent x) none e = absurd (let bad : ◌≡◌ {A = Option Closing} None (Some (closing.Spent x)) = sym none ∙ e.0 in cc)
-closed-one s t id (closing.NotOpen x) none e = absurd (let bad : ◌≡◌ {A = Option Closing} None (Some (closing.NotOpen x)) = sym none ∙ e.0 in cc)
-closed-one s t id (closing.Weak x y) none e = absurd (let bad : ◌≡◌ {A = Option Closing} None (Some (closing.Weak x y)) = sym none ∙ e.0 in cc)
-
 pub closed-leads : (s t : State) (id : BranchId) (answer : Closing) → CloseStep s id answer t → LeadsTo s t
 closed-leads s t id answer e = LeadsTo-one s t (Closing_of id) (to_closing answer) e
-
-pub settled-leads : (s t : State) (id : BranchId) (version : ℕ) (answer : Settle) → SettleStep s id version answer t → LeadsTo s t
-settled-leads s t id version answer e = LeadsTo-one s t (Settling id version) (to_settling answer) e
 
 -- Steps that are left
 
@@ -140,10 +126,6 @@ fewer-versions a b v w m x y before after less short =
   where
     one_more : (n k : ℕ) → (n + 1) * k ≡ n * k + k
     one_more n k = grind arith
-
-versions-le : (completed left : ℕ) → versions_left completed left ≤ 2 * (MAX_VERSIONS - completed) + 1
-versions-le completed zero = omega arith
-versions-le completed (suc left) = omega arith
 
 versions-complete : (completed left : ℕ) → left ≡ 0 → versions_left completed left ≡ 2 * (MAX_VERSIONS - completed) + 1
 versions-complete completed zero none = refl
@@ -398,16 +380,3 @@ module _ (s t : State) (id : BranchId) (version : ℕ) (advance : IsToAdvance s 
   advance-complete =
       let h : HasRound s id = record { node = advance.node; round = advance.round; is_node = advance.active.is_node; is_round = advance.active.is_round } in
       subst (λ (o : Option Round). IsSomeAnd o (λ round. left_of round ≡ 0)) (sym (round_of-has s id h)) advance.complete
-
--- What a step at a node says
-
-pub step-lawful : (s : State) (id : BranchId) (next : Task) → IsStepAt s id next → IsLawfulTask s next
-step-lawful s id (task.Open at) h = subst (λ (x : BranchId). open_fault s x ≡ None) (sym h.0) h.1
-step-lawful s id (task.Price at slot version k) h = subst (λ (x : BranchId). IsToPrice s x slot version k) (sym h.0) h.1
-step-lawful s id (task.Master at version) h = subst (λ (x : BranchId). IsToAdvance s x version) (sym h.0) h.1
-step-lawful s id (task.Close at) h = subst (λ (x : BranchId). close_fault s x ≡ None) (sym h.0) h.1
-step-lawful s id (task.Examine at) h = subst (λ (x : BranchId). examine_refusal s x ≡ None) (sym h.0) h.1
-step-lawful s id task.Done h = absurd h
-
-pub step-some : (s : State) (id : BranchId) (next : Task) → IsStepAt s id next → next ≢ task.Done
-step-some s id next h is = subst (IsStepAt s id) is h

@@ -1,4 +1,4 @@
--- A node whose round is complete or gathered, and what may come of it; no public contract cites it.
+-- What may come of a node whose round is complete or gathered; no public contract cites it.
 use Rattle.std.specs.Prelude.{ℕ, ◌≡◌, ◌⊎◌, Bool, true, List, ℤ, ◌≤ℤ◌}
 use Rattle.plan_base.specs.declared.ids.BranchId.{BranchId}
 use Rattle.master_step.specs.Restricted.{IsRestrictedValue}

@@ -1,4 +1,4 @@
--- Where no fault is found, the event may come.
+-- Where no demand is left to price, the round is complete.
 use Rattle.std.proofs.Common.{◌≡◌, ℕ, ◌*◌, ◌≤◌, length, get_or, Option, Some, None, arith}
 use Rattle.std.proofs.lemmas.List.Sums.{sum_by-le}
 use Rattle.plan_base.specs.First.{first_in}

@@ -1,4 +1,4 @@
--- A division on the pool's own fields is the event, and keeps what the pool is.
+-- What a division is made of: the two sides where paths part, and the children.
 use Rattle.std.proofs.Common.{◌≡◌, ℕ, ◌*◌, ◌<◌, ◌≤◌, inl, inr, List, length, Option, Some, All, sym, ap, ap₂, subst, ◌∙◌, arith}
 use Rattle.std.proofs.lemmas.Bool.{or_left, or_right}
 use Rattle.plan_base.specs.declared.ids.ArcId.{ArcId}

@@ -1,4 +1,4 @@
--- Where no fault is found, an examination may come.
+-- What a node that may be examined leaves to the demands, and what is forbidden there.
 use Rattle.pool_nodes.specs.declared.slot.Slot.{Slot}
 use Rattle.std.proofs.Common.{[], ◌≡◌, ℕ, ◌<◌, Bool, true, false, not, ◌&&◌, List, length, get_or, Option, Some, None, refl, sym, ap, subst, ◌∙◌, arith}
 use Rattle.std.specs.Prelude.{IsTrue, IfOk, option_map, Result, Ok, Err}

@@ -1,5 +1,5 @@
--- The open leaf that comes next, and that a search comes to its end.
-use Rattle.std.proofs.Common.{◌≡◌, ℕ, ◌+◌, ◌-◌, ◌<◌, ◌≤◌, ◌⊎◌, inl, inr, true, false, length, sym, subst, ◌∙◌, arith}
+-- Where no open leaf comes next, all is done.
+use Rattle.std.proofs.Common.{◌≡◌, ℕ, ◌+◌, ◌<◌, ◌≤◌, ◌⊎◌, inl, inr, true, false, length, sym, subst, ◌∙◌, arith}
 use Rattle.pool_machine.specs.State.{State}
 use Rattle.pool_machine.specs.Machine.{IsReachable}
 use Rattle.pool_machine.specs.PlanOf.{is_done}

@@ -1,13 +1,13 @@
 pub mod Answering
-pub mod OfferPool
-pub mod Examining
-pub mod Dividings
+pub mod Offers
+mod Examining
+mod Dividings
 pub mod TaskLaws
 pub mod Reading
 pub mod Leaves
-pub mod Fitting
-pub mod Routes
-pub mod Publishing
+mod Fitting
+mod Routes
+mod Publishing
 pub mod Valuing
-pub mod Gatherings
-pub mod Claiming
+mod Gatherings
+mod Claiming

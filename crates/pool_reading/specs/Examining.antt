@@ -1,4 +1,4 @@
--- What an examination works with; no public contract cites it.
+-- What an examination works with.
 use Rattle.std.specs.Prelude.{[], suc, ◌≡◌, List, ◌∷◌, length, Option, Some, slice_get}
 use Rattle.plan_base.specs.declared.ids.ArcId.{ArcId}
 use Rattle.plan_base.specs.declared.ids.BranchId.{BranchId}

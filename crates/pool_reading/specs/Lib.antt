@@ -10,8 +10,8 @@ pub use Rattle.pool_machine.specs.Gathering
 pub use Rattle.pool_machine.specs.Publishing
 pub use Rattle.pool_machine.specs.Settling
 pub use Rattle.pool_machine.specs.Closing
+pub use Rattle.pool_machine.specs.Bettering
 pub use Rattle.pool_machine.specs.Readiness
 pub use Rattle.pool_machine.specs.Machine
-pub use Rattle.pool_machine.specs.Soundness
 pub use Rattle.pool_machine.specs.PlanOf
 pub use Rattle.pool_machine.specs.Tasks

@@ -1,4 +1,4 @@
--- A node whose round is complete or gathered, and what may come of it; no public contract cites it.
+-- A node whose round is gathered, and the columns that it permits.
 use Rattle.std.specs.Prelude.{ℕ, ◌≡◌, ◌<◌, length, Some, slice_get}
 use Rattle.plan_base.specs.declared.ids.BranchId.{BranchId}
 use Rattle.pool_machine.specs.State.{Round, Node, State}

@@ -1,4 +1,4 @@
--- What one thread's steps at a leaf keep; no public contract cites it.
+-- What is next at an open leaf.
 use Rattle.std.specs.Prelude.{◌≡◌, Bool, true, false, not, ◌&&◌, Option, Some, None, nat_lt}
 use Rattle.plan_base.specs.declared.ids.BranchId.{BranchId}
 use Rattle.pool_machine.specs.declared.limits.TheConstants.{MAX_ROUNDS, MAX_VERSIONS}

@@ -1,4 +1,4 @@
-use Rattle.std.proofs.Common.{◌<◌, ◌*◌, length, All, sym, subst, ◌∙◌}
+use Rattle.std.proofs.Common.{sym, subst, ◌∙◌}
 use Rattle.pool_machine.specs.State.{State, restriction_of}
 use Rattle.pool_reading.specs.Examining.{IsDivisionAt}
 use Rattle.pool_core.proofs.Dividings.{side-within}

@@ -32,5 +32,7 @@ returns-in_err-brief c =
 pub returns : goal.returns
 returns c =
     let h : IsCompleteAt c.args.self.now c.args.node c.args.version = gather_fault-none c.args.self.now c.args.node c.args.version (sym (c.gather_refusal.ensures ∙ ap (λ (s : State). gather_fault s c.args.node c.args.version) c.view.ensures) ∙ c.in_default.is) in
-    record { event = added-gathers c.args.self.now c.add_columns.new.self c.args.node c.args.version h c.in_ok-add_columns.ensures.added c.in_ok-brief.brief
-          (subst (λ (s : State). ForRound s c.args.node (λ x round. IsBriefOf s c.args.node x round c.in_ok-brief.brief)) c.view-2.ensures c.in_ok-brief.ensures) }
+    record {
+      event = added-gathers c.args.self.now c.add_columns.new.self c.args.node c.args.version h c.in_ok-add_columns.ensures.added c.in_ok-brief.brief
+          (subst (λ (s : State). ForRound s c.args.node (λ x round. IsBriefOf s c.args.node x round c.in_ok-brief.brief)) c.view-2.ensures c.in_ok-brief.ensures);
+    }

@@ -1,5 +1,5 @@
 use Rattle.pool_nodes.specs.declared.slot.Slot.{Slot}
-use Rattle.std.proofs.Common.{◌≡◌, ◌<◌, List, None, Some, rules, refl, sym, ap, subst, ◌∙◌}
+use Rattle.std.proofs.Common.{◌≡◌, ◌<◌, List, None, rules, refl, sym, ap, subst, ◌∙◌}
 use Rattle.std.specs.Prelude.{Ok}
 use Rattle.pool_core.specs.contracts.pool.Pool.{the_view}
 use Rattle.pool_machine.specs.State.{State}

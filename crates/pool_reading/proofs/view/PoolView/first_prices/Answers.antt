@@ -1,7 +1,7 @@
-use Rattle.std.proofs.Common.{◌≡◌, List, length, Some, slice_get, refl, ap, subst, ◌∙◌}
+use Rattle.std.proofs.Common.{◌≡◌, length, Some, slice_get, refl, ap, ◌∙◌}
 use Rattle.std.proofs.lemmas.Option.{slice_get_read}
 use Rattle.pool_reading.specs.Shown.{shown}
-use Rattle.pool_machine.specs.State.{Node, State}
+use Rattle.pool_machine.specs.State.{State}
 use Rattle.pool_machine.proofs.Replacing.{node_at}
 use Rattle.pool_machine.proofs.Runs.{IsReachable-sound}
 use Rattle.pool_reading.proofs.view.PoolView.first_prices.Goals as goal

@@ -1,4 +1,4 @@
-use Rattle.std.proofs.Common.{◌≡◌, ℕ, false, ◌==◌, nat_eq, length, sym, ap, subst, ◌∙◌, rules, tests}
+use Rattle.std.proofs.Common.{◌≡◌, false, ◌==◌, ap, ◌∙◌, rules, tests}
 use Rattle.pool_reading.specs.Shown.{shown}
 use Rattle.pool_machine.specs.PlanOf.{is_done}
 use Rattle.pool_machine.proofs.Runs.{IsReachable-sound}

@@ -1,4 +1,4 @@
-use Rattle.std.proofs.Common.{◌≡◌, sym, ap, subst, ◌∙◌}
+use Rattle.std.proofs.Common.{◌≡◌, sym, ap, subst}
 use Rattle.plan_base.specs.declared.parts.Parts.{Parts}
 use Rattle.completions.specs.Completions.{ArePaths}
 use Rattle.pool_machine.specs.State.{State, Round, left_of}

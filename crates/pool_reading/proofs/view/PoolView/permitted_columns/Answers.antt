@@ -1,5 +1,4 @@
-use Rattle.std.proofs.Common.{◌≡◌, ◌<◌, length, IsSome, refl, sym, ap, subst, ◌∙◌, rules}
-use Rattle.plan_base.specs.declared.parts.Parts.{Parts}
+use Rattle.std.proofs.Common.{◌≡◌, ◌<◌, length, IsSome, refl, sym, subst, ◌∙◌, rules}
 use Rattle.arc_restrict.specs.Rows.{forbids}
 use Rattle.pool_reading.specs.Shown.{shown}
 use Rattle.pool_machine.specs.State.{State, round_of, restriction_of}

@@ -1,10 +1,9 @@
-use Rattle.std.proofs.Common.{◌≡◌, ◌<◌, List, Some, None, length, slice_get, rules, sym, ap, subst, ◌∙◌}
+use Rattle.std.proofs.Common.{◌≡◌, ◌<◌, Some, None, length, slice_get, rules, sym, ap, subst, ◌∙◌}
 use Rattle.std.proofs.lemmas.Option.{slice_get-get_or}
 use Rattle.std.specs.Prelude.{IfOk}
 use Rattle.pool_machine.specs.State.{Node, State}
 use Rattle.pool_nodes.specs.Rounds.{IsPublishedBy}
 use Rattle.pool_reading.specs.Shown.{shown}
-use Rattle.pool_nodes.specs.declared.slot.Slot.{Slot}
 use Rattle.pool_nodes.specs.Slots.{holder_in}
 use Rattle.pool_reading.specs.Views.{IsPublishedAt}
 use Rattle.pool_reading.proofs.Reading.{if_ok}

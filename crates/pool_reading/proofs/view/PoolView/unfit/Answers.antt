@@ -3,7 +3,7 @@ use Rattle.std.specs.Prelude.{IsSome, IfSome, slice_get}
 use Rattle.arc_restrict.specs.Rows.{Rows, forbids}
 use Rattle.pool_machine.specs.State.{round_of, restriction_of}
 use Rattle.pool_machine.specs.Machine.{IsReachable}
-use Rattle.pool_reading.proofs.OfferPool.{unfit-open, unfit-prices, unfit-is}
+use Rattle.pool_reading.proofs.Offers.{unfit-open, unfit-prices, unfit-is}
 use Rattle.pool_reading.proofs.view.PoolView.unfit.Goals as goal
 
 pub returns-in_default-restriction : goal.returns-in_default-restriction

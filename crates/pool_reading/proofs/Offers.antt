@@ -1,11 +1,10 @@
--- Offers on the pool's own fields are the events, and keep what the pool is.
+-- What an offer is tested by at an open leaf.
 use Rattle.std.proofs.Common.{◌≡◌, ℕ, true, List, Option, Some, None, slice_get, refl, sym, ap, subst, ◌∙◌}
 use Rattle.std.specs.Prelude.{IfSome, option_map, option_and_then}
 use Rattle.plan_base.specs.declared.ids.BranchId.{BranchId}
 use Rattle.plan_base.specs.declared.parts.Parts.{Parts}
 use Rattle.arc_restrict.specs.Restrictions.{Forbidden}
 use Rattle.path_pricing.specs.declared.priced.Priced.{Priced}
-use Rattle.path_pricing.specs.declared.priced.Unfit.{Unfit}
 use Rattle.path_pricing.specs.Priced.{ArePrices}
 use Rattle.path_pricing.specs.Faults.{priced_fault}
 use Rattle.pool_machine.specs.declared.answers.Offered.TheVariants as offered
