@@ -145,6 +145,34 @@ fn fails_row<R: Threads + Wait + Sync, W: Write>(
     write_lines(name, "*", status, text, out)
 }
 
+/// Checks a text cut after each count of bytes, and writes each status with the least of the counts in a row that give it.
+fn cuts_row<R: Threads + Wait + Sync, W: Write>(
+    rt: &R,
+    alloc: Global,
+    texts: &Texts,
+    rest: &str,
+    out: &mut W,
+) -> Result<()> {
+    let (name, rest) = rest.split_once(' ').context("no name")?;
+    let (base, model) = rest.split_once(' ').context("no model")?;
+    let text = texts.find(base)?.as_bytes();
+    let model = texts.find(model)?.as_bytes();
+    let words = words_of(alloc, "check front model")?;
+    writeln!(out, "{name}")?;
+    let mut last = None;
+    for count in 0..=text.len() {
+        let named = [("front", &text[..count]), ("model", model)];
+        let mut shelf = SureShelf::new(alloc, &named)?;
+        let mut sink = MemSink::new(alloc, ROOM, &[])?;
+        let status = run(rt, alloc, words.as_slice(), &mut shelf, &mut sink, &NoGate) as u8;
+        if last != Some(status) {
+            writeln!(out, "  {status} from {count} on")?;
+            last = Some(status);
+        }
+    }
+    Ok(())
+}
+
 /// Runs words over the files of the folder that the program runs in.
 fn files_row<R: Files + Threads + Wait + Sync, W: Write>(
     rt: &R,
@@ -197,6 +225,7 @@ fn take_block<R: Files + Threads + Wait + Sync, W: Write>(
         "run" => run_row(rt, alloc, texts, rest, &NoGate, out),
         "meet" => meet_row(rt, alloc, texts, rest, out),
         "fails" => fails_row(rt, alloc, texts, rest, out),
+        "cuts" => cuts_row(rt, alloc, texts, rest, out),
         "files" => files_row(rt, alloc, rest, out),
         _ => bail!("no kind of row"),
     }

@@ -43,7 +43,7 @@ impl Texts {
     }
 
     /// The text of this name.
-    fn find(&self, name: &str) -> Result<&str> {
+    pub(crate) fn find(&self, name: &str) -> Result<&str> {
         for text in self.texts.iter() {
             if text.name.as_str() == name {
                 return Ok(text.bytes.as_str());
