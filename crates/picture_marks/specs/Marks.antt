@@ -1,0 +1,105 @@
+-- The marks of a picture. Where they stand and how wide they are is told by their looks.
+use Rattle.std.specs.Prelude.{ℕ, ◌-◌, ◌/◌, List, [], ◌∷◌, ◌++◌, codes, decimal, if◌then◌else◌, nat_eq, nat_le, nat_lt, slice_index_or, Option, Some, None}
+use Rattle.plan_base.specs.declared.parts.Parts.{Parts}
+use Rattle.plan_base.specs.declared.path.Design.{Design}
+use Rattle.plan_base.specs.Arcs.{link_at}
+use Rattle.plan_base.specs.Designs.{path_at, counts_at, load_on, capacity_with}
+use Rattle.plan_base.specs.Paths.{uses}
+use Rattle.scaled_numbers.specs.Canonical.{grains_text}
+use Rattle.picture_marks.specs.declared.marks.TheConstants.{LOAD_SCALE}
+use Rattle.picture_marks.specs.declared.marks.Light.{Light}
+use Rattle.picture_marks.specs.declared.marks.Light.TheVariants as lights
+use Rattle.picture_marks.specs.declared.marks.Traffic.{Traffic}
+use Rattle.mark_places.specs.declared.looks.Spot.{Spot}
+use Rattle.mark_places.specs.declared.looks.NodeLook.{NodeLook}
+use Rattle.mark_places.specs.declared.looks.LinkLook.{LinkLook}
+use Rattle.mark_places.specs.declared.looks.Looks.{Looks}
+use Rattle.picture_marks.specs.Escapes.{escaped}
+
+-- ---- looks
+
+-- the corner of a picture
+abbrev pub corner : Spot
+corner = record { x = 0; y = 0 }
+
+-- the look of the node of this number
+abbrev pub node_look : Looks → ℕ → NodeLook
+node_look looks n = slice_index_or looks.nodes n record { at = corner; label = corner }
+
+-- the look of the link of this number
+abbrev pub link_look : Looks → ℕ → LinkLook
+link_look looks e = slice_index_or looks.links e record { bend = corner; label = corner; width = 0 }
+
+-- two numbers, each behind a blank
+unfoldable pub spot_text : Spot → List ℕ
+spot_text spot = 32 ∷ decimal spot.x ++ 32 ∷ decimal spot.y
+
+-- a name at a place, in this class
+unfoldable pub label_text : List ℕ → Spot → List ℕ → List ℕ
+label_text class spot name =
+    codes "<text class='" ++ class ++ codes "' dy='.35em' transform='translate(" ++ spot_text spot ++ codes ")'>" ++ escaped name ++ codes "</text>\n"
+
+-- ---- nodes
+
+-- the circle of a node of this name at a place
+unfoldable pub circle_text : List ℕ → Spot → List ℕ
+circle_text name at =
+    codes "<circle class='node' r='7' transform='translate(" ++ spot_text at ++ codes ")'><title>" ++ escaped name ++ codes "</title></circle>\n"
+
+-- the mark of a node of this name, and its name
+abbrev pub node_text : List ℕ → NodeLook → List ℕ
+node_text name look = circle_text name look.at ++ label_text (codes "place") look.label name
+
+-- ---- links
+
+-- how full a link is: without a load, up to a half, with a fifth of its capacity left, below its capacity, or at it
+abbrev pub shade : ℕ → ℕ → List ℕ
+shade load capacity =
+    if nat_eq load 0 then codes "unused"
+    else if nat_le load (capacity / 2) then codes "low"
+    else if nat_le load (capacity - capacity / 5) then codes "middle"
+    else if nat_lt load capacity then codes "high"
+    else codes "full"
+
+-- the class that goes with a light, behind a blank
+abbrev pub light_word : Light → List ℕ
+light_word lights.Plain = []
+light_word lights.Lit = codes " lit"
+light_word lights.Dim = codes " dim"
+
+-- the light on a link where the path of this demand is lit, if one is
+abbrev pub light_on : Design → Option ℕ → ℕ → Light
+light_on d None e = lights.Plain
+light_on d (Some k) e = if uses e (path_at d k) then lights.Lit else lights.Dim
+
+-- the load and the capacity of a link, and the light on it
+abbrev pub traffic_on : Parts → Design → Option ℕ → ℕ → Traffic
+traffic_on p d lit e = record { load = load_on p d e; capacity = capacity_with (link_at p e) (counts_at d e); light = light_on d lit e }
+
+-- the classes of a link
+unfoldable pub classes : Option Traffic → List ℕ
+classes None = codes "unused"
+classes (Some on) = shade on.load on.capacity ++ light_word on.light
+
+-- what is told of a link of this name
+unfoldable pub title : List ℕ → Option Traffic → List ℕ
+title name None = escaped name
+title name (Some on) = escaped name ++ codes " load " ++ grains_text on.load LOAD_SCALE ++ codes " capacity " ++ grains_text on.capacity LOAD_SCALE
+
+-- how a link of this width is drawn
+unfoldable pub stroke_text : Option Traffic → ℕ → List ℕ
+stroke_text traffic width = codes "<path class='link " ++ classes traffic ++ codes "' stroke-width='" ++ decimal width
+
+-- the line of a link between the marks of its ends
+unfoldable pub curve_text : Parts → Looks → ℕ → List ℕ
+curve_text p looks e =
+    spot_text (node_look looks (link_at p e).source.0).at ++ codes " Q" ++ spot_text (link_look looks e).bend ++ spot_text (node_look looks (link_at p e).target.0).at
+
+-- what is told of a link of this name, and the end of its mark
+unfoldable pub hover_text : List ℕ → Option Traffic → List ℕ
+hover_text name traffic = codes "'><title>" ++ title name traffic ++ codes "</title></path>\n"
+
+-- the mark of the link of this number, with this name
+abbrev pub link_text : List ℕ → Parts → Looks → Option Traffic → ℕ → List ℕ
+link_text name p looks traffic e =
+    stroke_text traffic (link_look looks e).width ++ codes "' d='M" ++ curve_text p looks e ++ hover_text name traffic

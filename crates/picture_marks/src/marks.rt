@@ -1,0 +1,270 @@
+//! The marks of nodes and links.
+
+ghost use Rattle.std.specs.Prelude.{◌≡◌, ◌<◌, ◌++◌, length, decimal, codes, option_map, OnOk, IfSome};
+ghost use Rattle.plan_base.specs.Facts.{IsInstance};
+ghost use Rattle.plan_base.specs.Designs.{load_on, IsGoodDesign};
+ghost use Rattle.mark_places.specs.Places.{HasLooks};
+ghost use Rattle.picture_marks.specs.Marks.{spot_text, label_text, circle_text, node_text, shade, light_word, light_on, traffic_on, classes, title, stroke_text, curve_text, hover_text, link_text};
+
+use crate::escapes::push_escaped;
+use itoa::Buffer;
+use mark_places::{Looks, NodeLook, Spot};
+use plan_base::{DemandId, Design, Instance, LinkId, capacity_with};
+use scaled_numbers::write_grains;
+use std::alloc::AllocError;
+
+/// Decimals behind the point of a load, in units.
+pub const LOAD_SCALE: u32 = 6;
+
+/// Writes a number.
+fn push_plain(text: &mut Vec<u8>, number: u32) -> Result<(), AllocError>
+    ensures { OnOk result (text.new.items ≡ text.old.items ++ decimal number) }
+{
+    text.extend_from_slice(Buffer::new().format(number).as_bytes())
+}
+
+/// Writes the two numbers of a place, each behind a blank.
+#[tactic(auto, unfolding(crate::specs::Marks::spot_text))]
+fn push_spot(text: &mut Vec<u8>, spot: Spot) -> Result<(), AllocError>
+    ensures { OnOk result (text.new.items ≡ text.old.items ++ spot_text spot) }
+{
+    text.push(b' ')?;
+    push_plain(text, spot.x)?;
+    text.push(b' ')?;
+    push_plain(text, spot.y)
+}
+
+/// Writes a name at a place, in this class.
+///
+/// - Takes: the bytes of the class, which are written as they are; the name, which is escaped.
+/// - Errors: want of memory alone.
+/// - Rule: docs/DEFINITIONS.md, "Pictures".
+#[tactic(auto, unfolding(crate::specs::Marks::label_text))]
+pub fn push_label(
+    text: &mut Vec<u8>,
+    class: &[u8],
+    spot: Spot,
+    name: &[u8],
+) -> Result<(), AllocError>
+    ensures { OnOk result (text.new.items ≡ text.old.items ++ label_text class.now spot name.now) }
+{
+    text.extend_from_slice(b"<text class='")?;
+    text.extend_from_slice(class)?;
+    text.extend_from_slice(b"' dy='.35em' transform='translate(")?;
+    push_spot(text, spot)?;
+    text.extend_from_slice(b")'>")?;
+    push_escaped(text, name)?;
+    text.extend_from_slice(b"</text>\n")
+}
+
+/// Writes the circle of a node of this name.
+fn push_circle(text: &mut Vec<u8>, name: &[u8], at: Spot) -> Result<(), AllocError>
+    ensures { OnOk result (text.new.items ≡ text.old.items ++ circle_text name.now at) }
+{
+    text.extend_from_slice(b"<circle class='node' r='7' transform='translate(")?;
+    push_spot(text, at)?;
+    text.extend_from_slice(b")'><title>")?;
+    push_escaped(text, name)?;
+    text.extend_from_slice(b"</title></circle>\n")?;
+    Ok(())
+}
+
+/// Writes the mark of a node of this name, and its name.
+///
+/// - Errors: want of memory alone.
+/// - Rule: docs/DEFINITIONS.md, "Pictures".
+pub fn push_node(text: &mut Vec<u8>, name: &[u8], look: NodeLook) -> Result<(), AllocError>
+    ensures { OnOk result (text.new.items ≡ text.old.items ++ node_text name.now look) }
+{
+    push_circle(text, name, look.at)?;
+    push_label(text, b"place", look.label, name)
+}
+
+/// How full a link is with this load, both in load grains.
+fn shade(load: u128, capacity: u128) -> &'static [u8]
+    ensures { result.now ≡ shade load capacity }
+{
+    if load == 0 {
+        b"unused"
+    } else if load <= capacity / 2 {
+        b"low"
+    } else if load <= capacity - capacity / 5 {
+        b"middle"
+    } else if load < capacity {
+        b"high"
+    } else {
+        b"full"
+    }
+}
+
+/// How a link is lit.
+#[derive(Clone, Copy, Debug, PartialEq, Eq)]
+pub enum Light {
+    /// No demand is lit.
+    Plain,
+    /// It lies on the path of the demand that is lit.
+    Lit,
+    /// It lies elsewhere.
+    Dim,
+}
+
+impl Light {
+    /// The class that goes with it, behind a blank.
+    fn word(self) -> &'static [u8]
+        ensures { result.now ≡ light_word self }
+    {
+        match self {
+            Light::Plain => b"",
+            Light::Lit => b" lit",
+            Light::Dim => b" dim",
+        }
+    }
+}
+
+/// The light on a link where the path of this demand is lit, if one is.
+fn light_on(design: &Design, lit: Option<DemandId>, id: LinkId) -> Light
+    requires { IfSome lit (λ k. k.0 < length design.now.paths) }
+    ensures { result ≡ light_on design.now (option_map (λ k. k.0) lit) id.0 }
+{
+    match lit {
+        None => Light::Plain,
+        Some(demand) => {
+            if design.paths.as_slice()[demand.0 as usize].uses(id) {
+                Light::Lit
+            } else {
+                Light::Dim
+            }
+        }
+    }
+}
+
+/// The load of a link and what can be carried on it, both in load grains, and the light on it.
+#[derive(Clone, Copy, Debug, PartialEq, Eq)]
+pub struct Traffic {
+    pub load: u128,
+    pub capacity: u128,
+    pub light: Light,
+}
+
+/// The traffic on a link with this load.
+///
+/// - Takes: an instance, a good design of it, the demand whose path is lit, if one is, and a link with its load.
+/// - Rule: docs/DEFINITIONS.md, "Pictures".
+pub fn traffic_on(
+    inst: &Instance,
+    design: &Design,
+    lit: Option<DemandId>,
+    id: LinkId,
+    load: u128,
+) -> Traffic
+    requires link { id.0 < length inst.now.links }
+    requires good { IsGoodDesign inst.now design.now }
+    requires load { load ≡ load_on inst.now design.now id.0 }
+    requires lit { IfSome lit (λ k. k.0 < length inst.now.demands) }
+    ensures { result ≡ traffic_on inst.now design.now (option_map (λ k. k.0) lit) id.0 }
+{
+    let counts = design.counts.as_slice()[id.0 as usize].as_slice();
+    Traffic {
+        load,
+        capacity: capacity_with(inst.link(id), counts),
+        light: light_on(design, lit, id),
+    }
+}
+
+/// Writes the classes of a link.
+#[tactic(auto, unfolding(crate::specs::Marks::classes))]
+fn push_classes(text: &mut Vec<u8>, traffic: Option<Traffic>) -> Result<(), AllocError>
+    ensures { OnOk result (text.new.items ≡ text.old.items ++ classes traffic) }
+{
+    match traffic {
+        Some(traffic) => {
+            text.extend_from_slice(shade(traffic.load, traffic.capacity))?;
+            text.extend_from_slice(traffic.light.word())
+        }
+        None => text.extend_from_slice(b"unused"),
+    }
+}
+
+/// Writes what is told of a link of this name.
+#[tactic(auto, unfolding(crate::specs::Marks::title))]
+fn push_title(text: &mut Vec<u8>, name: &[u8], traffic: Option<Traffic>) -> Result<(), AllocError>
+    ensures { OnOk result (text.new.items ≡ text.old.items ++ title name.now traffic) }
+{
+    push_escaped(text, name)?;
+    match traffic {
+        Some(traffic) => {
+            text.extend_from_slice(b" load ")?;
+            write_grains(traffic.load, LOAD_SCALE, text)?;
+            text.extend_from_slice(b" capacity ")?;
+            write_grains(traffic.capacity, LOAD_SCALE, text)
+        }
+        None => Ok(()),
+    }
+}
+
+/// Writes the line of a link of this number between the marks of its ends.
+#[tactic(auto, unfolding(crate::specs::Marks::curve_text))]
+fn push_curve(
+    text: &mut Vec<u8>,
+    inst: &Instance,
+    looks: &Looks,
+    id: LinkId,
+) -> Result<(), AllocError>
+    requires lawful { IsInstance inst.now }
+    requires link { id.0 < length inst.now.links }
+    requires looks { HasLooks looks.now inst.now.nodes (length inst.now.links) }
+    ensures { OnOk result (text.new.items ≡ text.old.items ++ curve_text inst.now looks.now id.0) }
+{
+    let link = inst.link(id);
+    let nodes = looks.nodes.as_slice();
+    push_spot(text, nodes[link.source.0 as usize].at)?;
+    text.extend_from_slice(b" Q")?;
+    push_spot(text, looks.links.as_slice()[id.0 as usize].bend)?;
+    push_spot(text, nodes[link.target.0 as usize].at)
+}
+
+/// Writes how a link of this width is drawn.
+#[tactic(auto, unfolding(crate::specs::Marks::stroke_text))]
+fn push_stroke(text: &mut Vec<u8>, traffic: Option<Traffic>, width: u32) -> Result<(), AllocError>
+    ensures { OnOk result (text.new.items ≡ text.old.items ++ stroke_text traffic width) }
+{
+    text.extend_from_slice(b"<path class='link ")?;
+    push_classes(text, traffic)?;
+    text.extend_from_slice(b"' stroke-width='")?;
+    push_plain(text, width)
+}
+
+/// Writes what is told of a link of this name, and the end of its mark.
+fn push_hover(text: &mut Vec<u8>, name: &[u8], traffic: Option<Traffic>) -> Result<(), AllocError>
+    ensures { OnOk result (text.new.items ≡ text.old.items ++ hover_text name.now traffic) }
+{
+    text.extend_from_slice(b"'><title>")?;
+    push_title(text, name, traffic)?;
+    text.extend_from_slice(b"</title></path>\n")?;
+    Ok(())
+}
+
+/// Writes the mark of the link of this number, with this name.
+///
+/// - Takes: an instance with a look for each node and each link; the traffic on the link, none where the plan has no
+///   design.
+/// - Errors: want of memory alone.
+/// - Rule: docs/DEFINITIONS.md, "Pictures".
+pub fn push_link(
+    text: &mut Vec<u8>,
+    name: &[u8],
+    inst: &Instance,
+    looks: &Looks,
+    traffic: Option<Traffic>,
+    id: LinkId,
+) -> Result<(), AllocError>
+    requires lawful { IsInstance inst.now }
+    requires link { id.0 < length inst.now.links }
+    requires looks { HasLooks looks.now inst.now.nodes (length inst.now.links) }
+    ensures { OnOk result (text.new.items ≡ text.old.items ++ link_text name.now inst.now looks.now traffic id.0) }
+{
+    push_stroke(text, traffic, looks.links.as_slice()[id.0 as usize].width)?;
+    text.extend_from_slice(b"' d='M")?;
+    push_curve(text, inst, looks, id)?;
+    push_hover(text, name, traffic)
+}
