@@ -1,0 +1,105 @@
+-- The picture of a valid plan.
+use Rattle.std.specs.Prelude.{ℕ, ◌≡◌, ◌<◌, List, [], ◌++◌, length, codes, drop, slice_index, slice_index_or, flat_map, Bool, if◌then◌else◌, Option, Some, None, IfSome}
+use Rattle.std.specs.List.{range_with_len}
+use Rattle.plan_base.specs.declared.limits.TheConstants.{MAX_LINKS}
+use Rattle.plan_base.specs.declared.parts.Orient.{Orient}
+use Rattle.plan_base.specs.declared.parts.Orient.TheVariants.{Directed, Undirected}
+use Rattle.plan_base.specs.declared.parts.Parts.{Parts}
+use Rattle.plan_base.specs.declared.path.Design.{Design}
+use Rattle.plan_base.specs.Designs.{load_on}
+use Rattle.snd_network.specs.declared.file.NetworkFile.{NetworkFile}
+use Rattle.snd_network.specs.WellFormed.{node_names}
+use Rattle.proof_tree.specs.declared.plan.Plan.{Plan}
+use Rattle.plan_report.specs.Reports.{link_name, demand_name, trial_line}
+use Rattle.mark_places.specs.declared.looks.Looks.{Looks}
+use Rattle.mark_places.specs.Places.{HasLooks}
+use Rattle.picture_marks.specs.declared.marks.Traffic.{Traffic}
+use Rattle.picture_marks.specs.Escapes.{escaped}
+use Rattle.picture_marks.specs.Marks.{node_look, link_look, label_text, node_text, link_text, traffic_on}
+
+-- ---- pictures
+
+-- the encoding that a picture states: whether it is UTF-8
+abbrev pub encoding : Bool → List ℕ
+encoding utf8 = if utf8 then codes "UTF-8" else codes "ISO-8859-1"
+
+-- what a picture begins with: its encoding, a frame and a style
+unfoldable pub head : Bool → List ℕ
+head utf8 =
+    codes "<?xml version='1.0' encoding='" ++ encoding utf8
+    ++ codes "'?>\n<svg xmlns='http://www.w3.org/2000/svg' width='1200' height='900' viewBox='0 0 1200 900'>\n<style>\ntext{font-family:sans-serif;fill:#222}\n.place,.name{text-anchor:middle;paint-order:stroke;stroke:#fff;stroke-width:3px}\n.place{font-size:13px;font-weight:bold}\n.name{font-size:10px;fill:#555}\n.legend{font-size:15px}\n.node{fill:#fff;stroke:#222;stroke-width:2px}\n.link,.key{fill:none}\n.directed .link{marker-end:url(#arrow)}\n.unused{stroke:#999;stroke-dasharray:5 5}\n.low{stroke:#2b9348}\n.middle{stroke:#a3a000}\n.high{stroke:#e07a00}\n.full{stroke:#c1121f}\n.dim{opacity:.2}\n</style>\n<defs><marker id='arrow' markerUnits='userSpaceOnUse' markerWidth='14' markerHeight='10' refX='20' refY='5' orient='auto'><path d='M0 0L14 5L0 10z' fill='#444'/></marker></defs>\n<rect width='1200' height='900' fill='#fff'/>\n"
+
+-- the group that has all marks
+abbrev pub group : Orient → List ℕ
+group Directed = codes "<g class='directed'>\n"
+group Undirected = codes "<g class='undirected'>\n"
+
+-- these are the loads of a plan's design, where it has one
+abbrev pub HasLoads : Parts → Option (ℕ × Design) → List ℕ → Type 0
+HasLoads p design loads = IfSome design (λ stated. (e : ℕ) → e < MAX_LINKS → slice_index loads e ≡ load_on p stated.1 e)
+
+-- the traffic on a link of a plan's design, where it has one
+abbrev pub traffic_of : Parts → Option (ℕ × Design) → Option ℕ → ℕ → Option Traffic
+traffic_of p None lit e = None
+traffic_of p (Some design) lit e = Some (traffic_on p design.1 lit e)
+
+-- the mark of the link of this number
+unfoldable pub link_mark : NetworkFile → Parts → Option (ℕ × Design) → Option ℕ → Looks → ℕ → List ℕ
+link_mark net p design lit looks e = link_text (link_name net e) p looks (traffic_of p design lit e) e
+
+-- the marks of so many links
+abbrev pub link_marks : NetworkFile → Parts → Option (ℕ × Design) → Option ℕ → Looks → ℕ → List ℕ
+link_marks net p design lit looks count = flat_map (link_mark net p design lit looks) (range_with_len 0 count)
+
+-- the name of the link of this number, at its place
+unfoldable pub link_label : NetworkFile → Looks → ℕ → List ℕ
+link_label net looks e = label_text (codes "name") (link_look looks e).label (link_name net e)
+
+-- the names of so many links
+abbrev pub link_labels : NetworkFile → Looks → ℕ → List ℕ
+link_labels net looks count = flat_map (link_label net looks) (range_with_len 0 count)
+
+-- the name of the node of this number
+abbrev pub node_name : NetworkFile → ℕ → List ℕ
+node_name net n = slice_index_or (node_names net.nodes) n []
+
+-- the mark of the node of this number, with its name
+unfoldable pub node_mark : NetworkFile → Looks → ℕ → List ℕ
+node_mark net looks n = node_text (node_name net n) (node_look looks n)
+
+-- the marks of so many nodes
+abbrev pub node_marks : NetworkFile → Looks → ℕ → List ℕ
+node_marks net looks count = flat_map (node_mark net looks) (range_with_len 0 count)
+
+-- what is told of the demand of this name, whose path is lit
+unfoldable pub path_text : List ℕ → List ℕ
+path_text name = codes "<text class='legend' x='60' y='820'>the path of " ++ escaped name ++ codes "</text>\n"
+
+-- what is told of the demand that is lit
+abbrev pub lit_text : NetworkFile → Option ℕ → List ℕ
+lit_text net None = []
+lit_text net (Some k) = path_text (demand_name net k)
+
+-- the sizes of the instance and what the plan claims: the line of a trial without its first word
+unfoldable pub claim_text : Parts → Plan → List ℕ
+claim_text p plan = codes "<text class='legend' x='60' y='845'>" ++ drop 6 (trial_line p plan) ++ codes "</text>\n"
+
+-- the colours of links with what they say, and the end
+abbrev pub keys : List ℕ
+keys = codes "<path class='key unused' stroke-width='1' d='M60 870H100'/><text class='legend' x='110' y='875'>no load</text>\n<path class='key low' stroke-width='6' d='M220 870H260'/><text class='legend' x='270' y='875'>up to a half full</text>\n<path class='key middle' stroke-width='6' d='M430 870H470'/><text class='legend' x='480' y='875'>up to four fifths</text>\n<path class='key high' stroke-width='6' d='M640 870H680'/><text class='legend' x='690' y='875'>less than full</text>\n<path class='key full' stroke-width='6' d='M830 870H870'/><text class='legend' x='880' y='875'>full</text>\n</g>\n</svg>\n"
+
+-- the marks of a picture with these looks: the links, their names, the nodes with theirs, and what is told below them
+abbrev pub body_text : NetworkFile → Parts → Plan → Option ℕ → Looks → List ℕ
+body_text net p plan lit looks =
+    group p.orient
+    ++ link_marks net p plan.design lit looks (length p.links)
+    ++ link_labels net looks (length p.links)
+    ++ node_marks net looks p.nodes
+    ++ lit_text net lit ++ claim_text p plan ++ keys
+
+-- a picture of the plan: each node and each link has its mark and its name, wherever they stand and however wide they are
+pub record IsPicture (net : NetworkFile) (p : Parts) (plan : Plan) (lit : Option ℕ) (bytes : List ℕ) : Type 0 where
+  pub utf8 : Bool
+  pub looks : Looks
+  pub has_looks : HasLooks looks p.nodes (length p.links)
+  pub text : bytes ≡ head utf8 ++ body_text net p plan lit looks

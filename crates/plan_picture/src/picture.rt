@@ -1,0 +1,285 @@
+//! The text of a picture.
+
+ghost use Rattle.std.specs.Prelude.{◌≡◌, ◌<◌, ◌++◌, length, option_map, OnOk, IfOk, IfSome};
+ghost use Rattle.proof_tree.specs.Plans.{IsValidPlan};
+ghost use Rattle.plan_report.specs.Reports.{IsReadFrom, HasNames};
+ghost use Rattle.mark_places.specs.Places.{HasLooks};
+ghost use Rattle.plan_picture.specs.Pictures.{HasLoads, node_mark, node_marks, link_mark, link_marks, link_label, link_labels, encoding, head, group, path_text, lit_text, claim_text, body_text, IsPicture};
+
+use crate::names::are_utf8;
+use crate::sites::looks_of_plan;
+use crate::traffic::{loads_of_plan, traffic_of};
+use mark_places::Looks;
+use picture_marks::{push_escaped, push_label, push_link, push_node};
+use plan_base::limits::MAX_LINKS;
+use plan_base::{DemandId, Instance, LinkId, Orient};
+use plan_report::trial_line;
+use proof_tree::Plan;
+use snd_network::NetworkFile;
+use std::alloc::{AllocError, Global};
+
+/// What a picture has behind its encoding.
+const STYLE: &[u8] =
+    b"'?>\n<svg xmlns='http://www.w3.org/2000/svg' width='1200' height='900' viewBox='0 0 1200 900'>\n\
+    <style>\n\
+    text{font-family:sans-serif;fill:#222}\n\
+    .place,.name{text-anchor:middle;paint-order:stroke;stroke:#fff;stroke-width:3px}\n\
+    .place{font-size:13px;font-weight:bold}\n\
+    .name{font-size:10px;fill:#555}\n\
+    .legend{font-size:15px}\n\
+    .node{fill:#fff;stroke:#222;stroke-width:2px}\n\
+    .link,.key{fill:none}\n\
+    .directed .link{marker-end:url(#arrow)}\n\
+    .unused{stroke:#999;stroke-dasharray:5 5}\n\
+    .low{stroke:#2b9348}\n\
+    .middle{stroke:#a3a000}\n\
+    .high{stroke:#e07a00}\n\
+    .full{stroke:#c1121f}\n\
+    .dim{opacity:.2}\n\
+    </style>\n\
+    <defs><marker id='arrow' markerUnits='userSpaceOnUse' markerWidth='14' markerHeight='10' refX='20' refY='5' orient='auto'><path d='M0 0L14 5L0 10z' fill='#444'/></marker></defs>\n\
+    <rect width='1200' height='900' fill='#fff'/>\n";
+
+/// The colours of links with what they say, and the end.
+const KEYS: &[u8] =
+    b"<path class='key unused' stroke-width='1' d='M60 870H100'/><text class='legend' x='110' y='875'>no load</text>\n\
+    <path class='key low' stroke-width='6' d='M220 870H260'/><text class='legend' x='270' y='875'>up to a half full</text>\n\
+    <path class='key middle' stroke-width='6' d='M430 870H470'/><text class='legend' x='480' y='875'>up to four fifths</text>\n\
+    <path class='key high' stroke-width='6' d='M640 870H680'/><text class='legend' x='690' y='875'>less than full</text>\n\
+    <path class='key full' stroke-width='6' d='M830 870H870'/><text class='legend' x='880' y='875'>full</text>\n\
+    </g>\n</svg>\n";
+
+/// The bytes of the first word of a trial's line and of the blank behind it.
+const FIRST_WORD: usize = 6;
+
+/// The encoding of a picture whose names are all in UTF-8, or not.
+fn encoding(utf8: bool) -> &'static [u8]
+    ensures { result.now ≡ encoding utf8 }
+{
+    if utf8 { b"UTF-8" } else { b"ISO-8859-1" }
+}
+
+/// Writes what a picture begins with.
+fn push_head(text: &mut Vec<u8>, utf8: bool) -> Result<(), AllocError>
+    ensures { OnOk result (text.new.items ≡ text.old.items ++ head utf8) }
+{
+    text.extend_from_slice(b"<?xml version='1.0' encoding='")?;
+    text.extend_from_slice(encoding(utf8))?;
+    text.extend_from_slice(STYLE)?;
+    Ok(())
+}
+
+/// Begins the group that has all marks.
+fn push_group(text: &mut Vec<u8>, orient: Orient) -> Result<(), AllocError>
+    ensures { OnOk result (text.new.items ≡ text.old.items ++ group orient) }
+{
+    match orient {
+        Orient::Directed => text.extend_from_slice(b"<g class='directed'>\n"),
+        Orient::Undirected => text.extend_from_slice(b"<g class='undirected'>\n"),
+    }
+}
+
+/// Writes the mark of the node of this number.
+#[tactic(auto, unfolding(crate::specs::Pictures::node_mark))]
+fn push_node_at(
+    text: &mut Vec<u8>,
+    net: &NetworkFile,
+    looks: &Looks,
+    place: usize,
+) -> Result<(), AllocError>
+    requires node { place < length net.now.nodes }
+    requires looks { length looks.now.nodes ≡ length net.now.nodes }
+    ensures { OnOk result (text.new.items ≡ text.old.items ++ node_mark net.now looks.now place) }
+{
+    let name = net.nodes.as_slice()[place].name.as_slice();
+    push_node(text, name, looks.nodes.as_slice()[place])
+}
+
+/// Writes the marks of the nodes.
+#[tactic(auto, using(crate::proofs::Counted::counted_more))]
+fn push_nodes(text: &mut Vec<u8>, net: &NetworkFile, looks: &Looks) -> Result<(), AllocError>
+    requires { length looks.now.nodes ≡ length net.now.nodes }
+    ensures { OnOk result (text.new.items ≡ text.old.items ++ node_marks net.now looks.now (length net.now.nodes)) }
+{
+    for place in 0..net.nodes.len() {
+        push_node_at(text, net, looks, place)?;
+    }
+    Ok(())
+}
+
+/// Writes the mark of the link of this number.
+#[tactic(auto, unfolding(crate::specs::Pictures::link_mark))]
+fn push_link_at(
+    text: &mut Vec<u8>,
+    net: &NetworkFile,
+    inst: &Instance,
+    plan: &Plan,
+    lit: Option<DemandId>,
+    looks: &Looks,
+    loads: &[u128; MAX_LINKS],
+    id: LinkId,
+) -> Result<(), AllocError>
+    requires names { HasNames net.now inst.now }
+    requires valid { IsValidPlan inst.now plan.now }
+    requires lit { IfSome lit (λ k. k.0 < length inst.now.demands) }
+    requires looks { HasLooks looks.now inst.now.nodes (length inst.now.links) }
+    requires loads { HasLoads inst.now plan.now.design loads.now }
+    requires link { id.0 < length inst.now.links }
+    ensures { OnOk result (text.new.items ≡ text.old.items
+        ++ link_mark net.now inst.now plan.now.design (option_map (λ k. k.0) lit) looks.now id.0) }
+{
+    let _links = inst.links();
+    let name = net.links.as_slice()[id.0 as usize].name.as_slice();
+    let traffic = traffic_of(inst, plan, lit, id, loads);
+    push_link(text, name, inst, looks, traffic, id)
+}
+
+/// Writes the marks of the links.
+#[tactic(auto, using(crate::proofs::Counted::counted_more))]
+fn push_links(
+    text: &mut Vec<u8>,
+    net: &NetworkFile,
+    inst: &Instance,
+    plan: &Plan,
+    lit: Option<DemandId>,
+    looks: &Looks,
+    loads: &[u128; MAX_LINKS],
+) -> Result<(), AllocError>
+    requires names { HasNames net.now inst.now }
+    requires valid { IsValidPlan inst.now plan.now }
+    requires lit { IfSome lit (λ k. k.0 < length inst.now.demands) }
+    requires looks { HasLooks looks.now inst.now.nodes (length inst.now.links) }
+    requires loads { HasLoads inst.now plan.now.design loads.now }
+    ensures { OnOk result (text.new.items ≡ text.old.items
+        ++ link_marks net.now inst.now plan.now.design (option_map (λ k. k.0) lit) looks.now (length inst.now.links)) }
+{
+    for place in 0..inst.links() {
+        push_link_at(text, net, inst, plan, lit, looks, loads, LinkId(place))?;
+    }
+    Ok(())
+}
+
+/// Writes the name of the link of this number, at its place.
+#[tactic(auto, unfolding(crate::specs::Pictures::link_label))]
+fn push_link_label(
+    text: &mut Vec<u8>,
+    net: &NetworkFile,
+    looks: &Looks,
+    place: usize,
+) -> Result<(), AllocError>
+    requires link { place < length net.now.links }
+    requires looks { length looks.now.links ≡ length net.now.links }
+    ensures { OnOk result (text.new.items ≡ text.old.items ++ link_label net.now looks.now place) }
+{
+    let name = net.links.as_slice()[place].name.as_slice();
+    push_label(text, b"name", looks.links.as_slice()[place].label, name)
+}
+
+/// Writes the names of the links.
+#[tactic(auto, using(crate::proofs::Counted::counted_more))]
+fn push_link_labels(text: &mut Vec<u8>, net: &NetworkFile, looks: &Looks) -> Result<(), AllocError>
+    requires { length looks.now.links ≡ length net.now.links }
+    ensures { OnOk result (text.new.items ≡ text.old.items ++ link_labels net.now looks.now (length net.now.links)) }
+{
+    for place in 0..net.links.len() {
+        push_link_label(text, net, looks, place)?;
+    }
+    Ok(())
+}
+
+/// Writes which demand's path is lit.
+fn push_path_name(text: &mut Vec<u8>, name: &[u8]) -> Result<(), AllocError>
+    ensures { OnOk result (text.new.items ≡ text.old.items ++ path_text name.now) }
+{
+    text.extend_from_slice(b"<text class='legend' x='60' y='820'>the path of ")?;
+    push_escaped(text, name)?;
+    text.extend_from_slice(b"</text>\n")?;
+    Ok(())
+}
+
+/// Writes what is told of the demand that is lit.
+fn push_lit(text: &mut Vec<u8>, net: &NetworkFile, lit: Option<DemandId>) -> Result<(), AllocError>
+    requires { IfSome lit (λ k. k.0 < length net.now.demands) }
+    ensures { OnOk result (text.new.items ≡ text.old.items ++ lit_text net.now (option_map (λ k. k.0) lit)) }
+{
+    match lit {
+        None => Ok(()),
+        Some(demand) => {
+            let record = &net.demands.as_slice()[demand.0 as usize];
+            push_path_name(text, record.name.as_slice())
+        }
+    }
+}
+
+/// Writes the claim of a plan: its line without its first word.
+#[tactic(auto, using(crate::proofs::Claims::long_line))]
+fn push_claim(
+    alloc: Global,
+    text: &mut Vec<u8>,
+    inst: &Instance,
+    plan: &Plan,
+) -> Result<(), AllocError>
+    ensures { OnOk result (text.new.items ≡ text.old.items ++ claim_text inst.now plan.now) }
+{
+    let line = trial_line(alloc, inst, plan)?;
+    let (_, claim) = line.as_slice().split_at(FIRST_WORD);
+    text.extend_from_slice(b"<text class='legend' x='60' y='845'>")?;
+    text.extend_from_slice(claim)?;
+    text.extend_from_slice(b"</text>\n")?;
+    Ok(())
+}
+
+/// Writes the marks of a picture and its end.
+fn push_body(
+    alloc: Global,
+    text: &mut Vec<u8>,
+    net: &NetworkFile,
+    inst: &Instance,
+    plan: &Plan,
+    lit: Option<DemandId>,
+    looks: &Looks,
+) -> Result<(), AllocError>
+    requires read { IsReadFrom net.now inst.now }
+    requires valid { IsValidPlan inst.now plan.now }
+    requires lit { IfSome lit (λ k. k.0 < length inst.now.demands) }
+    requires looks { HasLooks looks.now inst.now.nodes (length inst.now.links) }
+    ensures { OnOk result (text.new.items ≡ text.old.items
+        ++ body_text net.now inst.now plan.now (option_map (λ k. k.0) lit) looks.now) }
+{
+    let loads = loads_of_plan(inst, plan);
+    push_group(text, inst.orient())?;
+    push_links(text, net, inst, plan, lit, looks, &loads)?;
+    push_link_labels(text, net, looks)?;
+    push_nodes(text, net, looks)?;
+    push_lit(text, net, lit)?;
+    push_claim(alloc, text, inst, plan)?;
+    text.extend_from_slice(KEYS)?;
+    Ok(())
+}
+
+/// The picture of a valid plan as an SVG text: the nodes of the network with their names, its links by how full they
+/// are, with their names, loads and capacities, and what the plan claims.
+///
+/// - Takes: the network, the instance that it stands for, a valid plan of the instance, and the demand whose path is
+///   lit, if one is.
+/// - Errors: want of memory alone.
+/// - Rule: docs/FORMATS.md, "Pictures".
+/// - Time: linear in the text and in the arcs of all paths, and in the square of the links.
+pub fn picture_text(
+    alloc: Global,
+    net: &NetworkFile,
+    inst: &Instance,
+    plan: &Plan,
+    lit: Option<DemandId>,
+) -> Result<Vec<u8>, AllocError>
+    requires read { IsReadFrom net.now inst.now }
+    requires valid { IsValidPlan inst.now plan.now }
+    requires lit { IfSome lit (λ k. k.0 < length inst.now.demands) }
+    ensures { IfOk result (λ text. IsPicture net.now inst.now plan.now (option_map (λ k. k.0) lit) text.items) }
+{
+    let mut text = Vec::new(alloc);
+    let looks = looks_of_plan(alloc, net, inst, plan)?;
+    push_head(&mut text, are_utf8(net))?;
+    push_body(alloc, &mut text, net, inst, plan, lit, &looks)?;
+    Ok(text)
+}
