@@ -1,5 +1,5 @@
 -- The marks of a picture. Where they stand and how wide they are is told by their looks.
-use Rattle.std.specs.Prelude.{ℕ, ◌-◌, ◌/◌, List, [], ◌∷◌, ◌++◌, codes, decimal, if◌then◌else◌, nat_eq, nat_le, nat_lt, slice_index_or, Option, Some, None}
+use Rattle.std.specs.Prelude.{ℕ, ◌-◌, ◌/◌, List, [], ◌∷◌, ◌++◌, codes, decimal, if◌then◌else◌, nat_eq, nat_le, slice_index_or, Option, Some, None}
 use Rattle.plan_base.specs.declared.parts.Parts.{Parts}
 use Rattle.plan_base.specs.declared.path.Design.{Design}
 use Rattle.plan_base.specs.Arcs.{link_at}
@@ -52,14 +52,14 @@ node_text name look = circle_text name look.at ++ label_text (codes "place") loo
 
 -- ---- links
 
--- how full a link is: without a load, up to a half, with a fifth of its capacity left, below its capacity, or at it
+-- how full a link is: without a load, up to a half, at its capacity, with a fifth of it, rounded down, left, or with less
 abbrev pub shade : ℕ → ℕ → List ℕ
 shade load capacity =
     if nat_eq load 0 then codes "unused"
     else if nat_le load (capacity / 2) then codes "low"
+    else if nat_le capacity load then codes "full"
     else if nat_le load (capacity - capacity / 5) then codes "middle"
-    else if nat_lt load capacity then codes "high"
-    else codes "full"
+    else codes "high"
 
 -- the class that goes with a light, behind a blank
 abbrev pub light_word : Light → List ℕ

@@ -88,12 +88,12 @@ fn shade(load: u128, capacity: u128) -> &'static [u8]
         b"unused"
     } else if load <= capacity / 2 {
         b"low"
+    } else if load >= capacity {
+        b"full"
     } else if load <= capacity - capacity / 5 {
         b"middle"
-    } else if load < capacity {
-        b"high"
     } else {
-        b"full"
+        b"high"
     }
 }
 
