@@ -1,0 +1,68 @@
+-- The main statement of the program that draws plans: picture_run of src/running.rt has it as its contract.
+use Rattle.std.specs.Prelude.{ℕ, ◌≡◌, ◌≢◌, ◌<◌, List, [], ◌∷◌, length, codes, if◌then◌else◌, Option, Some, None, IsSomeAnd}
+use Rattle.std.specs.Str.{bytes_eq}
+use Rattle.plan_base.specs.declared.parts.Parts.{Parts}
+use Rattle.snd_network.specs.declared.file.NetworkFile.{NetworkFile}
+use Rattle.proof_tree.specs.declared.plan.Plan.{Plan}
+use Rattle.proof_tree.specs.Plans.{IsValidPlan}
+use Rattle.plan_report.specs.Reports.{demand_name}
+use Rattle.plan_texts.specs.declared.status.Status.{Status}
+use Rattle.plan_texts.specs.declared.status.Status.TheVariants.{Good, Usage, Rejected}
+use Rattle.plan_texts.specs.Answers.{IsRejection}
+use Rattle.plan_texts.specs.Refusals.{HoldsOfProblem, Counts}
+use Rattle.plan_texts.specs.Texts.{Name, Told, Texts, three}
+use Rattle.text_runs.specs.Endings.{IsTextRun}
+use Rattle.plan_picture.specs.Pictures.{IsPicture}
+
+-- how the program is called
+abbrev pub usage_line : List ℕ
+usage_line = codes "usage: sndpicture NET MODEL PLAN [--demand NAME]\n"
+
+-- the names that the words give: those of a network, a model and a plan
+abbrev pub names_in : List Name → Option Texts
+names_in (network ∷ model ∷ plan ∷ []) = Some (three network model plan)
+names_in (network ∷ model ∷ plan ∷ option ∷ name ∷ []) = if bytes_eq option (codes "--demand") then Some (three network model plan) else None
+names_in _ = None
+
+-- the name of the demand that the words ask to be lit
+abbrev pub lit_in : List Name → Option Name
+lit_in (network ∷ model ∷ plan ∷ option ∷ name ∷ []) = Some name
+lit_in _ = None
+
+-- the demand of this number is the one to be lit, and none is where none is named
+abbrev pub IsLit : NetworkFile → Parts → Option Name → Option ℕ → Type 0
+IsLit net p None None = Unit {0}
+IsLit net p (Some name) (Some k) = (k < length p.demands) × (name ≡ demand_name net k)
+IsLit net p name k = ⊥
+
+-- a demand is named, and none has this name
+abbrev pub IsMissing : NetworkFile → Parts → Option Name → Type 0
+IsMissing net p None = ⊥
+IsMissing net p (Some name) = (k : ℕ) → k < length p.demands → name ≢ demand_name net k
+
+-- the plan is a valid one of the instance, and this is a picture of it with the light that is asked for
+pub record IsPictureOf (net : NetworkFile) (p : Parts) (plan : Plan) (name : Option Name) (bytes : List ℕ) : Type 0 where
+  pub valid : IsValidPlan p plan
+  pub lit : Option ℕ
+  pub named : IsLit net p name lit
+  pub picture : IsPicture net p plan lit bytes
+
+-- the plan is a valid one of the instance, and no demand has the name that is asked for, which is told by the usage
+pub record IsNamedInVain (net : NetworkFile) (p : Parts) (plan : Plan) (name : Option Name) (bytes : List ℕ) : Type 0 where
+  pub valid : IsValidPlan p plan
+  pub missing : IsMissing net p name
+  pub line : bytes ≡ usage_line
+
+-- a valid plan is drawn, unless a name is in vain, and any other is rejected, with the status that goes with it
+pub data IsDrawnSo (net : NetworkFile) (p : Parts) (plan : Plan) (name : Option Name) (status : Status) (bytes : List ℕ) : Type 0 where
+  drawn : status ≡ Good → IsPictureOf net p plan name bytes → IsDrawnSo net p plan name status bytes
+  unnamed : status ≡ Usage → IsNamedInVain net p plan name bytes → IsDrawnSo net p plan name status bytes
+  undrawn : status ≡ Rejected → IsRejection p plan bytes → IsDrawnSo net p plan name status bytes
+
+-- the texts spell an instance within its limits and a plan, and this is drawn of it
+abbrev pub IsDrawn : Option Name → Texts → Status → List ℕ → Type 0
+IsDrawn name texts status bytes = HoldsOfProblem texts (λ net p plan. IsSomeAnd plan (λ made. IsDrawnSo net p made name status bytes))
+
+-- a run of these words ends with the picture that they ask for, with a refusal of words, texts or plan, with a front of such an answer, or with nothing
+abbrev pub IsPictureRun : List Name → Told → Counts → ℕ → ℕ → Option (List ℕ) → Option (List ℕ) → Status → Type 0
+IsPictureRun words shelf counts begins_before begins_now before now status = IsTextRun usage_line (IsDrawn (lit_in words)) (names_in words) shelf counts begins_before begins_now before now status

@@ -1,0 +1,235 @@
+//! Pictures, from words to a status and one text.
+
+ghost use Rattle.std.specs.Prelude.{◌≡◌, ◌≤◌, ◌<◌, ◌⊎◌, length, map, string_bytes, option_map, Some, IfOk, IfErr, IfSome, IfNone};
+ghost use Rattle.plan_io.specs.Causes.{Rose};
+ghost use Rattle.proof_tree.specs.Plans.{IsValidPlan};
+ghost use Rattle.proof_tree.specs.Spellings.{IsSpellable};
+ghost use Rattle.plan_report.specs.Reports.{IsReadFrom, HasNames, demand_name};
+ghost use Rattle.plan_texts.specs.Texts.{Begun, three, HoldsOfTexts};
+ghost use Rattle.plan_texts.specs.Refusals.{counts_of};
+ghost use Rattle.plan_texts.specs.Stops.{IsReadStop, TookMore, Stops};
+ghost use Rattle.text_runs.specs.Endings.{IsOwnEnd, IsUsage};
+ghost use Rattle.text_runs.specs.Found.{IsFound};
+ghost use Rattle.plan_picture.specs.Pictures.{IsPicture};
+ghost use Rattle.picture_runs.specs.PictureRuns.{usage_line, names_in, lit_in, IsMissing, IsDrawnSo, IsDrawn, IsPictureRun};
+
+use cert_verifier::{Rejected, verify};
+use plan_base::{DemandId, Instance};
+use plan_io::{Gate, Shelf, Sink};
+use plan_picture::picture_text;
+use plan_report::verdict_line;
+use plan_texts::{Answer, Problem, Status, Stop, read_planned, write_answer};
+use proof_tree::Plan;
+use snd_network::NetworkFile;
+use std::alloc::{AllocError, Global};
+
+/// How the program is called.
+const USAGE_LINE: &[u8] = b"usage: sndpicture NET MODEL PLAN [--demand NAME]\n";
+
+/// The answer to words that are not read, or name no demand.
+fn usage(alloc: Global) -> Result<Answer, AllocError>
+    ensures { IfOk result (λ answer. IsUsage usage_line 0 answer.status answer.text.items) }
+{
+    Ok(Answer {
+        status: Status::Usage,
+        text: Vec::from_slice(alloc, USAGE_LINE)?,
+    })
+}
+
+/// The demand of this name.
+#[tactic(auto, using(crate::proofs::Drawing::none_more))]
+fn demand_named(net: &NetworkFile, inst: &Instance, name: &str) -> Option<DemandId>
+    requires { HasNames net.now inst.now }
+    ensures within { IfSome result (λ k. k.0 < length inst.now.demands) }
+    ensures named { IfSome result (λ k. name.now ≡ demand_name net.now k.0) }
+    ensures missing { IfNone result (IsMissing net.now inst.now (Some name.now)) }
+{
+    for place in 0..inst.demands() {
+        let record = &net.demands.as_slice()[place as usize];
+        if name.as_bytes() == record.name.as_slice() {
+            return Some(DemandId(place));
+        }
+    }
+    None
+}
+
+/// The picture of a valid plan with this demand lit, if one is.
+fn drawing(
+    alloc: Global,
+    problem: &Problem,
+    plan: &Plan,
+    lit: Option<DemandId>,
+) -> Result<Answer, AllocError>
+    requires read { IsReadFrom problem.now.network problem.now.inst }
+    requires valid { IsValidPlan problem.now.inst plan.now }
+    requires lit { IfSome lit (λ k. k.0 < length problem.now.inst.demands) }
+    ensures status { IfOk result (λ answer. answer.status ≡ Status.Good) }
+    ensures picture { IfOk result (λ answer. IsPicture problem.now.network problem.now.inst plan.now
+        (option_map (λ k. k.0) lit) answer.text.items) }
+{
+    Ok(Answer {
+        status: Status::Good,
+        text: picture_text(alloc, &problem.network, &problem.inst, plan, lit)?,
+    })
+}
+
+/// What is written of a valid plan, where the path of the demand of this name is to be lit, if one is named.
+fn drawn(
+    alloc: Global,
+    problem: &Problem,
+    plan: &Plan,
+    name: Option<&str>,
+) -> Result<Answer, AllocError>
+    requires read { IsReadFrom problem.now.network problem.now.inst }
+    requires valid { IsValidPlan problem.now.inst plan.now }
+    ensures { IfOk result (λ answer. IsDrawnSo problem.now.network problem.now.inst plan.now
+        (option_map (λ word. word.now) name.entry) answer.status answer.text.items) }
+{
+    match name {
+        None => drawing(alloc, problem, plan, None),
+        Some(name) => match demand_named(&problem.network, &problem.inst, name) {
+            Some(demand) => drawing(alloc, problem, plan, Some(demand)),
+            None => usage(alloc),
+        },
+    }
+}
+
+/// What is written of a plan, once it is verified.
+fn draw(
+    alloc: Global,
+    problem: &Problem,
+    plan: &Plan,
+    name: Option<&str>,
+) -> Result<Answer, AllocError>
+    requires table { problem.now.table ≡ problem.now.inst }
+    requires read { IsReadFrom problem.now.network problem.now.inst }
+    requires fits { IsSpellable plan.now }
+    ensures { IfOk result (λ answer. IsDrawnSo problem.now.network problem.now.inst plan.now
+        (option_map (λ word. word.now) name.entry) answer.status answer.text.items) }
+{
+    match verify(alloc, &problem.inst, &problem.table, plan) {
+        Ok(()) => drawn(alloc, problem, plan, name),
+        Err(Rejected::OutOfMemory) => Err(AllocError),
+        Err(fault) => Ok(Answer {
+            status: Status::Rejected,
+            text: verdict_line(alloc, plan, &Err(fault))?,
+        }),
+    }
+}
+
+/// Reads a network text, a model text and a plan text, and draws the plan, once it is verified.
+#[tactic(auto, using(plan_texts::proofs::Begins::memory_after_three, plan_texts::proofs::Answering::read_from, crate::proofs::Drawing::drawn_texts))]
+fn draw_plan<S: Shelf, G: Gate>(
+    alloc: Global,
+    network: &str,
+    model: &str,
+    plan: &str,
+    name: Option<&str>,
+    shelf: &mut S,
+    gate: &G,
+) -> Result<Answer, Stop>
+    ensures done { IfOk result (λ answer. HoldsOfTexts (S.text shelf.old) (three network.now model.now plan.now) 3
+        (λ texts. IsDrawn (option_map (λ word. word.now) name.entry) texts answer.status answer.text.items)) }
+    ensures begun { IfOk result (λ _. Begun 3 (S.begins shelf.old) (S.begins shelf.new)) }
+    ensures stop { IfErr result (Stops (three network.now model.now plan.now) (S.text shelf.old)
+        (S.begins shelf.old) (S.begins shelf.new)) }
+    ensures read_fault { IfErr result (λ stop. IsReadStop stop → Rose (S.faults shelf.old) (S.faults shelf.new)) }
+    ensures too_long { IfErr result (TookMore (S.taken shelf.new)) }
+    ensures later { S.faults shelf.old ≤ S.faults shelf.new }
+{
+    let planned = match read_planned(alloc, network, model, plan, shelf, gate) {
+        Ok(planned) => planned,
+        Err(stop) => return Err(stop),
+    };
+    match draw(alloc, &planned.problem, &planned.plan, name) {
+        Ok(answer) => Ok(answer),
+        Err(AllocError) => Err(Stop::OutOfMemory),
+    }
+}
+
+/// The answer to words that are not read.
+fn misread(alloc: Global) -> Result<Answer, Stop>
+    ensures usage { IfOk result (λ answer. IsUsage usage_line 0 answer.status answer.text.items) }
+    ensures wanting { IfErr result (λ stop. stop ≡ Stop.OutOfMemory) }
+{
+    match usage(alloc) {
+        Ok(answer) => Ok(answer),
+        Err(AllocError) => Err(Stop::OutOfMemory),
+    }
+}
+
+/// What a run of these words has to say.
+#[tactic(auto, using(crate::proofs::Drawing::found_other_count))]
+fn answer_to<S: Shelf, G: Gate>(
+    alloc: Global,
+    words: &[String],
+    shelf: &mut S,
+    gate: &G,
+) -> Result<Answer, Stop>
+    ensures found { IsFound usage_line (IsDrawn (lit_in (map string_bytes words.now)))
+        (names_in (map string_bytes words.now)) (S.text shelf.old) (S.begins shelf.old) (S.begins shelf.new) result }
+    ensures read_fault { IfErr result (λ stop. IsReadStop stop → Rose (S.faults shelf.old) (S.faults shelf.new)) }
+    ensures too_long { IfErr result (TookMore (S.taken shelf.new)) }
+    ensures later { S.faults shelf.old ≤ S.faults shelf.new }
+{
+    match words {
+        [network, model, plan] => {
+            draw_plan(
+                alloc,
+                network.as_str(),
+                model.as_str(),
+                plan.as_str(),
+                None,
+                shelf,
+                gate,
+            )
+        }
+        [network, model, plan, option, name] => {
+            if option.as_str() != "--demand" {
+                return misread(alloc);
+            }
+            draw_plan(
+                alloc,
+                network.as_str(),
+                model.as_str(),
+                plan.as_str(),
+                Some(name.as_str()),
+                shelf,
+                gate,
+            )
+        }
+        _ => misread(alloc),
+    }
+}
+
+/// Draws the plan that these words name, and writes the picture. Nothing is written before the whole output is made.
+///
+/// - Takes: the words after the program's name: the names of a network text, a model text and a plan text, and perhaps
+///   `--demand` with the name of a demand whose path is lit; a shelf that has the texts; the sink that the answer goes
+///   to; a gate that is passed once, between reading and the work.
+/// - Gives: how the run ended.
+/// - Rule: docs/FORMATS.md, "Pictures".
+/// - Time: linear in the texts' bytes, that of verifying the plan, and that of drawing it.
+#[tactic(auto, using(text_runs::proofs::Ending::own_end, text_runs::proofs::Ending::read_rose, text_runs::proofs::Ending::no_write_fault, crate::proofs::Drawing::drawn_ends))]
+pub fn picture_run<S: Shelf, W: Sink, G: Gate>(
+    alloc: Global,
+    words: &[String],
+    shelf: &mut S,
+    out: &mut W,
+    gate: &G,
+) -> Status
+    ensures answer { IsPictureRun (map string_bytes words.now) (S.text shelf.old)
+        (counts_of (S.faults shelf.old) (S.faults shelf.new) (S.taken shelf.new))
+        (S.begins shelf.old) (S.begins shelf.new) (W.contents out.old) (W.contents out.new) result }
+    ensures read_fault { result ≡ Status.ReadFault → Rose (S.faults shelf.old) (S.faults shelf.new) }
+    ensures write_fault { result ≡ Status.WriteFault → Rose (W.faults out.old) (W.faults out.new) }
+
+    // There is no other answer, unless something outside failed.
+    ensures complete { IsOwnEnd result
+        ⊎ Rose (S.faults shelf.old) (S.faults shelf.new) ⊎ Rose (W.faults out.old) (W.faults out.new) }
+    ensures shelf_later { S.faults shelf.old ≤ S.faults shelf.new }
+    ensures sink_later { W.faults out.old ≤ W.faults out.new }
+{
+    let found = answer_to(alloc, words, shelf, gate);
+    write_answer(alloc, out, found)
+}
