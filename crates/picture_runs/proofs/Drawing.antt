@@ -2,7 +2,7 @@
 use Rattle.std.proofs.Common.{map, ◌≡◌, ◌≢◌, ◌+◌, ◌≤◌, ◌<◌, ◌⊎◌, ℕ, Bool, not, true, false, true≢false, List, [], ◌∷◌, length, get_or, Option, Some, None, Result, Ok, Err, refl, sym, ◌∙◌, ap, subst, arith, inl, inr, codes, if◌then◌else◌}
 use Rattle.std.specs.Prelude.{IfOk, IfErr, IsSomeAnd}
 use Rattle.std.specs.Str.{bytes_eq}
-use Rattle.std.proofs.lemmas.Bool.{cases_lt, not-true}
+use Rattle.std.proofs.lemmas.Bool.{cases_lt, not-true, not-false}
 use Rattle.std.proofs.lemmas.Slice.Eq.{bytes_eq-Decides}
 use Rattle.plan_base.specs.declared.parts.Parts.{Parts}
 use Rattle.snd_network.specs.declared.file.NetworkFile.{NetworkFile}
@@ -28,6 +28,10 @@ none-at f name n none here k within (inr above) = let last : n ≡ k = omega (ar
 -- none of the names before the next place is this one
 pub none_more : (f : ℕ → List ℕ) (name : List ℕ) (n : ℕ) → ((k : ℕ) → k < n → name ≢ f k) → bytes_eq name (f n) ≡ false → (k : ℕ) → k < n + 1 → name ≢ f k
 none_more f name n none other k within = none-at f name n none (λ same. true≢false (sym ((bytes_eq-Decides name (f n)).1 same) ∙ other)) k within (cases_lt k n)
+
+-- bytes that are equal by the test are equal
+pub same_bytes : (xs ys : List ℕ) → bytes_eq xs ys ≡ true → xs ≡ ys
+same_bytes xs ys = (bytes_eq-Decides xs ys).0
 
 -- ---- texts
 
@@ -62,8 +66,9 @@ found_three name words one two third network model plan shelf before now result 
     rw (three_items words one two third least most a b c) found
 
 -- what is drawn for five words
-pub found_five : {A : Type 0} (name : A → Name) (words : List A) (one two third option_ lit_ : A) (network model plan lit : Name) (shelf : Told) (before now : ℕ) (result : Result Answer Stop) → 5 ≤ length words → length words < 6 → one ≡ get_or words 0 one → two ≡ get_or words 1 two → third ≡ get_or words 2 third → option_ ≡ get_or words 3 option_ → lit_ ≡ get_or words 4 lit_ → network ≡ name one → model ≡ name two → plan ≡ name third → lit ≡ name lit_ → bytes_eq (name option_) (codes "--demand") ≡ true → IfOk result (λ answer. HoldsOfTexts shelf (three network model plan) 3 (λ texts. IsDrawn (Some lit) texts answer.status answer.text.items)) → IfOk result (λ answer. Begun 3 before now) → IfErr result (Stops (three network model plan) shelf before now) → IsFound usage_line (IsDrawn (lit_in (map name words))) (names_in (map name words)) shelf before now result
-found_five name words one two third option_ lit_ network model plan lit shelf before now result least most a b c d e n m p l is done begun stops =
+pub found_five : {A : Type 0} (name : A → Name) (words : List A) (one two third option_ lit_ : A) (network model plan option lit : Name) (differs : Bool) (shelf : Told) (before now : ℕ) (result : Result Answer Stop) → 5 ≤ length words → length words < 6 → one ≡ get_or words 0 one → two ≡ get_or words 1 two → third ≡ get_or words 2 third → option_ ≡ get_or words 3 option_ → lit_ ≡ get_or words 4 lit_ → network ≡ name one → model ≡ name two → plan ≡ name third → option ≡ name option_ → lit ≡ name lit_ → differs ≡ not (bytes_eq option (codes "--demand")) → differs ≡ false → IfOk result (λ answer. HoldsOfTexts shelf (three network model plan) 3 (λ texts. IsDrawn (Some lit) texts answer.status answer.text.items)) → IfOk result (λ answer. Begun 3 before now) → IfErr result (Stops (three network model plan) shelf before now) → IsFound usage_line (IsDrawn (lit_in (map name words))) (names_in (map name words)) shelf before now result
+found_five name words one two third option_ lit_ network model plan option lit differs shelf before now result least most a b c d e n m p o l same no done begun stops =
+    let is : bytes_eq (name option_) (codes "--demand") ≡ true = rw (← o) (not-false (bytes_eq option (codes "--demand")) (sym same ∙ no)) in
     let found : IsFound usage_line (IsDrawn (Some (name lit_))) (Some (three (name one) (name two) (name third))) shelf before now result = rw (← n, ← m, ← p, ← l) (found_named usage_line (IsDrawn (Some lit)) (three network model plan) shelf before now result done begun stops) in
     rw (five_items words one two third option_ lit_ least most a b c d e, is) found
 

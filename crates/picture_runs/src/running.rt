@@ -36,8 +36,16 @@ fn usage(alloc: Global) -> Result<Answer, AllocError>
     })
 }
 
+/// The name of a demand.
+fn name_of(net: &NetworkFile, demand: DemandId) -> &[u8]
+    requires { demand.0 < length net.now.demands }
+    ensures { result.now ≡ demand_name net.now demand.0 }
+{
+    net.demands.as_slice()[demand.0 as usize].name.as_slice()
+}
+
 /// The demand of this name.
-#[tactic(auto, using(crate::proofs::Drawing::none_more))]
+#[tactic(auto, using(crate::proofs::Drawing::none_more, crate::proofs::Drawing::same_bytes))]
 fn demand_named(net: &NetworkFile, inst: &Instance, name: &str) -> Option<DemandId>
     requires { HasNames net.now inst.now }
     ensures within { IfSome result (λ k. k.0 < length inst.now.demands) }
@@ -45,8 +53,7 @@ fn demand_named(net: &NetworkFile, inst: &Instance, name: &str) -> Option<Demand
     ensures missing { IfNone result (IsMissing net.now inst.now (Some name.now)) }
 {
     for place in 0..inst.demands() {
-        let record = &net.demands.as_slice()[place as usize];
-        if name.as_bytes() == record.name.as_slice() {
+        if name.as_bytes() == name_of(net, DemandId(place)) {
             return Some(DemandId(place));
         }
     }
