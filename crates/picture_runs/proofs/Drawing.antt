@@ -67,8 +67,8 @@ found_three name words one two third network model plan shelf before now result 
 
 -- what is drawn for five words
 pub found_five : {A : Type 0} (name : A → Name) (words : List A) (one two third option_ lit_ : A) (network model plan option lit : Name) (differs : Bool) (shelf : Told) (before now : ℕ) (result : Result Answer Stop) → 5 ≤ length words → length words < 6 → one ≡ get_or words 0 one → two ≡ get_or words 1 two → third ≡ get_or words 2 third → option_ ≡ get_or words 3 option_ → lit_ ≡ get_or words 4 lit_ → network ≡ name one → model ≡ name two → plan ≡ name third → option ≡ name option_ → lit ≡ name lit_ → differs ≡ not (bytes_eq option (codes "--demand")) → differs ≡ false → IfOk result (λ answer. HoldsOfTexts shelf (three network model plan) 3 (λ texts. IsDrawn (Some lit) texts answer.status answer.text.items)) → IfOk result (λ answer. Begun 3 before now) → IfErr result (Stops (three network model plan) shelf before now) → IsFound usage_line (IsDrawn (lit_in (map name words))) (names_in (map name words)) shelf before now result
-found_five name words one two third option_ lit_ network model plan option lit differs shelf before now result least most a b c d e n m p o l same no done begun stops =
-    let is : bytes_eq (name option_) (codes "--demand") ≡ true = rw (← o) (not-false (bytes_eq option (codes "--demand")) (sym same ∙ no)) in
+found_five name words one two third option_ lit_ network model plan option lit differs shelf before now result least most a b c d e n m p o l same alike done begun stops =
+    let is : bytes_eq (name option_) (codes "--demand") ≡ true = rw (← o) (not-false (bytes_eq option (codes "--demand")) (sym same ∙ alike)) in
     let found : IsFound usage_line (IsDrawn (Some (name lit_))) (Some (three (name one) (name two) (name third))) shelf before now result = rw (← n, ← m, ← p, ← l) (found_named usage_line (IsDrawn (Some lit)) (three network model plan) shelf before now result done begun stops) in
     rw (five_items words one two third option_ lit_ least most a b c d e, is) found
 
