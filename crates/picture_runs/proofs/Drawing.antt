@@ -1,5 +1,5 @@
 -- From a drawn plan to how a run ends.
-use Rattle.std.proofs.Common.{map, ◌≡◌, ◌≢◌, ◌+◌, ◌≤◌, ◌<◌, ◌⊎◌, ℕ, Bool, not, true, false, true≢false, List, [], ◌∷◌, length, get_or, Option, Some, None, Result, Ok, Err, refl, sym, ◌∙◌, ap, subst, arith, inl, inr, codes, if◌then◌else◌}
+use Rattle.std.proofs.Common.{map, ◌≡◌, ◌≢◌, ◌+◌, ◌≤◌, ◌<◌, ◌⊎◌, ℕ, Bool, not, true, false, true≢false, List, [], ◌∷◌, length, get_or, Option, Some, None, Result, Ok, Err, refl, sym, ◌∙◌, subst, arith, inl, inr, codes}
 use Rattle.std.specs.Prelude.{IfOk, IfErr, IsSomeAnd}
 use Rattle.std.specs.Str.{bytes_eq}
 use Rattle.std.proofs.lemmas.Bool.{cases_lt, not-true, not-false}
