@@ -12,7 +12,6 @@ pub mod SimplePaths
 pub mod PathSums
 pub mod CountSums
 pub mod TopLoads
-pub mod MetLaws
 pub mod WalkLaws
 pub mod AddedLoads
 pub mod LeavingLaws

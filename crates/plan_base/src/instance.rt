@@ -11,13 +11,13 @@ ghost use Rattle.plan_base.specs.Faults.{told_of, is_large, has_large_number_of,
 
 use crate::build_fault::{BuildFault, End};
 use crate::ids::{ArcId, DemandId, LinkId, NodeId};
-use crate::items::Items;
 use crate::leaving::LeavingArcs;
 use crate::limits::{
     CAPACITY_BOUND, MAX_DEMANDS, MAX_LINKS, MAX_MODULES, MAX_NODES, MAX_PRICED_LOAD,
     MAX_ROUTING_COST, MAX_TOTAL_LOAD, MODULE_COST_BOUND,
 };
 use crate::parts::{Demand, Link, Module, Orient, Parts};
+use base_items::Items;
 use std::alloc::{AllocError, Global};
 use std::marker::Model;
 

@@ -3,8 +3,8 @@
 //! Promises that an `Instance` is within all limits, and that `check_design` accepts exactly the
 //! feasible designs in shape, with their cost. Begin at `Instance::build` and `check_design`, whose
 //! words are in `specs/Facts.antt` and `specs/Designs.antt`; what is claimed of designs is in
-//! `specs/Claims.antt`. Stands on std, and on one lemma of
-//! `std_collections`. Finding designs, prices and bounds is left to the crates above.
+//! `specs/Claims.antt`. Stands on `base_items`, and on one lemma of `std_collections`. Finding
+//! designs, prices and bounds is left to the crates above.
 #![tactic(auto)]
 
 mod build_fault;
@@ -12,24 +12,22 @@ mod check;
 mod design_fault;
 mod ids;
 mod instance;
-mod items;
 pub mod laws;
 mod leaving;
 pub mod limits;
 mod loads;
-mod met_nodes;
 mod parts;
 mod path;
 mod prices;
 mod shared;
 mod walks;
 
+pub use base_items::Items;
 pub use build_fault::{BuildFault, End};
 pub use check::{capacity_with, check_design, module_cost_with};
 pub use design_fault::DesignFault;
 pub use ids::{ArcId, BranchId, DemandId, LinkId, NodeId};
 pub use instance::Instance;
-pub use items::Items;
 pub use loads::loads_of;
 pub use parts::{Demand, Link, Module, Orient, Parts};
 pub use path::{Design, Path};

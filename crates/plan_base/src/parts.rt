@@ -3,7 +3,7 @@
 ghost use Rattle.std.specs.Prelude.{◌≡◌, IfOk};
 
 use crate::ids::NodeId;
-use crate::items::Items;
+use base_items::Items;
 use std::alloc::AllocError;
 
 /// Whether links and demands have a direction.
@@ -94,7 +94,7 @@ impl Parts {
 fn copy_links(links: &Items<Link>) -> Result<Items<Link>, AllocError>
     ensures { IfOk result (λ copy. copy ≡ links.now) }
 {
-    let mut copy = Vec::new(links.allocator());
+    let mut copy = links.empty_vec();
     for link in links.as_slice() {
         copy.push(link.copy()?)?;
     }

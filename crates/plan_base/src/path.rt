@@ -4,7 +4,7 @@ ghost use Rattle.std.specs.Prelude.{◌≡◌, IfOk, ◌<◌, ◌↔◌, length,
 ghost use Rattle.plan_base.specs.Paths.{uses};
 
 use crate::ids::{ArcId, LinkId};
-use crate::items::Items;
+use base_items::Items;
 use std::alloc::AllocError;
 use std::hash::{Hash, Hasher};
 use std::marker::Model;
@@ -138,7 +138,7 @@ impl Design {
 fn copy_paths(paths: &Items<Path>) -> Result<Items<Path>, AllocError>
     ensures { IfOk result (λ copy. copy ≡ paths.now) }
 {
-    let mut copy = Vec::new(paths.allocator());
+    let mut copy = paths.empty_vec();
     for path in paths.as_slice() {
         copy.push(path.copy()?)?;
     }
@@ -149,7 +149,7 @@ fn copy_paths(paths: &Items<Path>) -> Result<Items<Path>, AllocError>
 fn copy_counts(counts: &Items<Items<u64>>) -> Result<Items<Items<u64>>, AllocError>
     ensures { IfOk result (λ copy. copy ≡ counts.now) }
 {
-    let mut copy = Vec::new(counts.allocator());
+    let mut copy = counts.empty_vec();
     for list in counts.as_slice() {
         copy.push(list.copy()?)?;
     }

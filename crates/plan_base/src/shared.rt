@@ -3,7 +3,6 @@
 use crate::build_fault::BuildFault;
 use crate::design_fault::DesignFault;
 use crate::instance::Instance;
-use crate::items::Items;
 use crate::parts::{Link, Parts};
 use crate::path::{Design, Path};
 use crate::prices::Prices;
@@ -17,10 +16,9 @@ fn are_inputs_shared(inst: &Instance, parts: &Parts, link: &Link, prices: &Price
     is_shared(prices);
 }
 
-fn are_answers_shared(design: &Design, path: &Path, counts: &Items<u64>) {
+fn are_answers_shared(design: &Design, path: &Path) {
     is_shared(design);
     is_shared(path);
-    is_shared(counts);
 }
 
 fn are_faults_shared(build: &BuildFault, design: &DesignFault) {

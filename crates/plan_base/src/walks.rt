@@ -7,15 +7,15 @@ ghost use Rattle.plan_base.specs.Facts.{IsInstance};
 ghost use Rattle.plan_base.specs.Arcs.{is_arc, tail_of, head_of, demand_at};
 ghost use Rattle.plan_base.specs.Paths.{IsSimplePath};
 ghost use Rattle.plan_base.specs.DesignFaults.{path_fault, demand_path_fault};
-ghost use Rattle.plan_base.specs.Walks.{is_met, AreStampsLow, walk_fault};
+ghost use Rattle.base_items.specs.Met.{is_met};
+ghost use Rattle.plan_base.specs.Walks.{walk_fault};
 
 use crate::design_fault::DesignFault;
 use crate::ids::{ArcId, DemandId, NodeId};
 use crate::instance::Instance;
-use crate::limits::{MAX_DEMANDS, MAX_NODES};
-use crate::met_nodes::MetNodes;
 use crate::parts::Demand;
 use crate::path::{Design, Path};
+use base_items::MetNodes;
 
 /// Whether the arc exists and begins at the node.
 fn leaves(inst: &Instance, arc: ArcId, node: NodeId) -> bool
@@ -35,22 +35,19 @@ fn next_node(
     met: &mut MetNodes,
 ) -> Result<NodeId, DesignFault>
     requires lawful { IsInstance inst.now }
-    requires low { AreStampsLow met.old }
     ensures fault { result_err result ≡ walk_fault inst.now demand met.old here.0 place arc }
     ensures next { IfOk result (λ next. next ≡ head_of inst.now arc) }
     ensures within { IfOk result (λ next. next.0 < inst.now.nodes) }
     ensures met { IfOk result (λ next. (n : ℕ) → is_met met.new n ≡ (is_met met.old n || (next.0 == n))) }
-    ensures stamp { met.new.stamp ≡ met.old.stamp }
-    ensures low { AreStampsLow met.new }
 {
     if !leaves(inst, arc, here) {
         return Err(DesignFault::NotAPath { demand, place });
     }
     let next = inst.head(arc);
-    if met.has(next) {
+    if met.has(next.0) {
         return Err(DesignFault::Repeats { demand, place });
     }
-    met.add(next);
+    met.add(next.0);
     Ok(next)
 }
 
@@ -65,14 +62,10 @@ fn check_path(
 ) -> Result<(), DesignFault>
     requires lawful { IsInstance inst.now }
     requires source { demand.now.source.0 < inst.now.nodes }
-    requires stamp { met.old.stamp < MAX_DEMANDS }
-    requires low { AreStampsLow met.old }
-    ensures fault { result_err result ≡ path_fault inst.now id demand.now arcs.now }
-    ensures stamp { IfOk result (λ _. met.new.stamp ≡ met.old.stamp + 1) }
-    ensures low { IfOk result (λ _. AreStampsLow met.new) }
+    ensures { result_err result ≡ path_fault inst.now id demand.now arcs.now }
 {
     let mut here = demand.source;
-    met.begin(here);
+    met.begin(here.0);
     for (place, arc) in arcs.iter().enumerate() {
         here = next_node(inst, id, place as u32, here, *arc, met)?;
     }

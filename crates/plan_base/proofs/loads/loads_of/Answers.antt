@@ -7,7 +7,7 @@ use Rattle.plan_base.proofs.LoadLaws.{load_on-le-total}
 use Rattle.plan_base.specs.declared.limits.TheConstants.{MAX_LINKS}
 use Rattle.plan_base.specs.Arcs.{demand_at}
 use Rattle.plan_base.specs.Walks.{HasLinksOnce}
-use Rattle.plan_base.proofs.MetLaws.{zeros}
+use Rattle.base_items.proofs.MetLaws.{zeros}
 use Rattle.plan_base.proofs.AddedLoads.{path-read, HasLinksOnce-path, part-within, load-next}
 use Rattle.plan_base.proofs.loads.loads_of.Goals as goal
 

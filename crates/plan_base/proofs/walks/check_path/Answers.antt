@@ -1,4 +1,4 @@
-use Rattle.std.proofs.Common.{arith, ◌∙◌}
+use Rattle.std.proofs.Common.{arith}
 use Rattle.plan_base.specs.Arcs.{no_arc}
 use Rattle.plan_base.proofs.PathLaws.{walk-short}
 use Rattle.plan_base.proofs.WalkLaws.{walk-goes_on, IsWalk-next}
@@ -16,8 +16,6 @@ overflow_cast-result c =
 pub loop-place-preserved : goal.loop-place-preserved
 loop-place-preserved c =
     record {
-      no_fault = walk-goes_on c.args.inst.now c.args.id c.args.demand.now.source c.args.arcs.now c.loop-place.place c.loop-place.here.0 c.loop-place.met no_arc c.requires.lawful c.loop-place.invariant.walk (omega arith) c.loop-place.invariant.no_fault c.in_ok-here.ensures.fault;
+      no_fault = walk-goes_on c.args.inst.now c.args.id c.args.demand.now.source c.args.arcs.now c.loop-place.place c.loop-place.here.0 c.loop-place.met no_arc c.loop-place.invariant.walk (omega arith) c.loop-place.invariant.no_fault c.in_ok-here.ensures.fault;
       walk = IsWalk-next c.args.inst.now c.args.id c.args.demand.now.source c.args.arcs.now c.loop-place.place c.loop-place.here.0 c.loop-place.met c.next_node.new.met no_arc c.in_ok-here.here c.requires.lawful c.loop-place.invariant.walk (omega arith) c.in_ok-here.ensures.fault c.in_ok-here.ensures.next c.in_ok-here.ensures.met;
-      stamp = c.next_node.ensures.stamp ∙ c.loop-place.invariant.stamp;
-      low = c.next_node.ensures.low;
     }

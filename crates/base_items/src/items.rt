@@ -65,9 +65,11 @@ impl<T> Items<T> {
         self.items.len() == 0
     }
 
-    /// Where the memory of these items comes from.
-    pub(crate) fn allocator(&self) -> Global {
-        *self.items.allocator()
+    /// No items, as a list that will take its memory where these items have theirs. Takes no memory.
+    pub fn empty_vec<U>(&self) -> Vec<U>
+        ensures { result.items ≡ [] }
+    {
+        Vec::new(*self.items.allocator())
     }
 }
 
@@ -79,7 +81,7 @@ impl<T: Copy> Items<T> {
     pub fn copy(&self) -> Result<Items<T>, AllocError>
         ensures { IfOk result (λ items. items ≡ self.now) }
     {
-        let mut items = Vec::new(self.allocator());
+        let mut items = self.empty_vec();
         items.extend_from_slice(self.items.as_slice())?;
         Ok(Items { items })
     }

@@ -9,8 +9,11 @@ zeros zero n = refl
 zeros (suc k) zero = refl
 zeros (suc k) (suc n) = zeros k n
 
--- a new row has no stamp
-pub zeros-low : (k n : ℕ) → slice_index (replicate k 0) n ≤ 0
+-- in a new row no node has the first stamp of a walk
+pub zeros-none : (k n : ℕ) → (slice_index (replicate k 0) n == 1) ≡ false
+zeros-none k n = ne_eqb _ _ (λ same. absurd (omega (arith, zeros k n)))
+
+pub zeros-low : (k n : ℕ) → slice_index (replicate k 0) n ≤ 1
 zeros-low k n = omega (arith, zeros k n)
 
 or-true : (b : Bool) → (b || true) ≡ true
