@@ -18,6 +18,9 @@ const SOLID: u32 = 40;
 /// How many pieces a bent link is drawn in where names are to keep clear of it.
 const PIECES: u32 = 60;
 
+/// The weights of a point's three corners together: the square of the pieces.
+const WEIGHTS: u64 = 3600;
+
 /// A place so far away from this one, within the picture.
 fn moved(spot: Spot, x: i64, y: i64) -> Spot {
     Spot {
@@ -54,7 +57,7 @@ fn coordinate_on(source: u32, bend: u32, target: u32, part: u32) -> u32 {
         .saturating_mul(part)
         .saturating_mul(part);
     let sum = near.saturating_add(middle).saturating_add(far);
-    u32::try_from(sum / 3600).unwrap_or(0)
+    u32::try_from(sum / WEIGHTS).unwrap_or(0)
 }
 
 /// The point of a bent link so many parts of sixty behind its source.

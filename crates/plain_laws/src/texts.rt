@@ -8,6 +8,7 @@ ghost use Rattle.cert_format.specs.declared.limits.TheConstants.{MAX_PLAN_BYTES}
 ghost use Rattle.plan_texts.specs.declared.texts.TheConstants.{MAX_TEXT_BYTES as MOST_TEXT_BYTES};
 ghost use Rattle.plan_report.specs.declared.check_lines.TheConstants.{LOAD_SCALE};
 ghost use Rattle.plan_report.specs.declared.verdict_lines.TheConstants.{COST_SCALE};
+ghost use Rattle.picture_marks.specs.declared.marks.TheConstants.{LOAD_SCALE as PICTURE_SCALE};
 ghost use Rattle.run_progress.specs.declared.line.TheConstants.{COST_SCALE as PROGRESS_SCALE};
 
 /// The most bytes of a number, of a network or model text, of one that is read for a command, of a name in it, and of a
@@ -20,9 +21,11 @@ pub fn lengths_of_texts()
     ensures plan { MAX_PLAN_BYTES ≡ 268435456 }
 {}
 
-/// How many places behind the point a load and a cost have in lines, and a cost in the line that says how far a run is.
+/// How many places behind the point a load and a cost have in lines, a load in a picture, and a cost in the line that says
+/// how far a run is.
 pub fn scales_of_lines()
     ensures load { LOAD_SCALE ≡ 6 }
+    ensures picture { PICTURE_SCALE ≡ 6 }
     ensures cost { COST_SCALE ≡ 12 }
     ensures progress { PROGRESS_SCALE ≡ 12 }
 {}

@@ -96,7 +96,7 @@ fn push_node_at(
 }
 
 /// Writes the marks of the nodes.
-#[tactic(auto, using(crate::proofs::Counted::counted_more))]
+#[tactic(auto, using(plan_report::proofs::Counted::counted_more))]
 fn push_nodes(text: &mut Vec<u8>, net: &NetworkFile, looks: &Looks) -> Result<(), AllocError>
     requires { length looks.now.nodes ≡ length net.now.nodes }
     ensures { OnOk result (text.new.items ≡ text.old.items ++ node_marks net.now looks.now (length net.now.nodes)) }
@@ -135,7 +135,7 @@ fn push_link_at(
 }
 
 /// Writes the marks of the links.
-#[tactic(auto, using(crate::proofs::Counted::counted_more))]
+#[tactic(auto, using(plan_report::proofs::Counted::counted_more))]
 fn push_links(
     text: &mut Vec<u8>,
     net: &NetworkFile,
@@ -176,7 +176,7 @@ fn push_link_label(
 }
 
 /// Writes the names of the links.
-#[tactic(auto, using(crate::proofs::Counted::counted_more))]
+#[tactic(auto, using(plan_report::proofs::Counted::counted_more))]
 fn push_link_labels(text: &mut Vec<u8>, net: &NetworkFile, looks: &Looks) -> Result<(), AllocError>
     requires { length looks.now.links ≡ length net.now.links }
     ensures { OnOk result (text.new.items ≡ text.old.items ++ link_labels net.now looks.now (length net.now.links)) }

@@ -1,3 +1,3 @@
-mod Counted
+pub mod Counted
 mod Lists
 mod Steps
