@@ -1,5 +1,4 @@
 mod FaultSteps
-mod MetLaws
 mod PlaceLaws
 mod WalkLaws
 mod WalkEnds

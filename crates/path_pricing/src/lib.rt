@@ -4,13 +4,12 @@
 //! permitted path, a closed set of nodes that shows that; and a check that refuses whatever does not show
 //! what it says. Begin at `price` and `check_priced`, whose words are in `specs/Priced.antt` and
 //! `specs/Faults.antt`; `SourceTree` finds the paths of all demands of a source at once. Stands on
-//! `plan_base`, `arc_restrict` and the search of `least_path`. Which prices to take is left to the crates
-//! above.
+//! `base_items`, `plan_base`, `arc_restrict` and the search of `least_path`. Which prices to take is left
+//! to the crates above.
 #![tactic(auto)]
 
 mod checking;
 pub mod laws;
-mod met_nodes;
 mod priced;
 mod pricing;
 mod query;

@@ -2,15 +2,16 @@
 
 ghost use Rattle.std.specs.Prelude.{◌≡◌, ◌<◌, ◌||◌, ◌&&◌, ◌==◌, ℕ, IfOk};
 ghost use Rattle.std.specs.Result.{result_err};
+ghost use Rattle.base_items.specs.Met.{is_met};
 ghost use Rattle.plan_base.specs.Facts.{IsInstance};
 ghost use Rattle.plan_base.specs.Arcs.{is_arc, tail_of, head_of};
 ghost use Rattle.arc_restrict.specs.Rows.{forbids};
 ghost use Rattle.path_pricing.specs.Faults.{walk_fault};
-ghost use Rattle.path_pricing.specs.Walks.{is_met, step_fault};
+ghost use Rattle.path_pricing.specs.Walks.{step_fault};
 
-use crate::met_nodes::MetNodes;
 use crate::priced::Unfit;
 use crate::query::Query;
+use base_items::MetNodes;
 use plan_base::{ArcId, Demand, Instance, NodeId};
 
 /// Whether the arc exists and begins at the node.
@@ -40,13 +41,13 @@ impl Query<'_> {
         }
         let next = self.inst.head(arc);
         let _nodes = self.inst.nodes();
-        if met.has(next) {
+        if met.has(next.0) {
             return Err(Unfit::NotPermitted { place });
         }
         if !self.restriction.allows(self.demand, arc) {
             return Err(Unfit::NotPermitted { place });
         }
-        met.add(next);
+        met.add(next.0);
         Ok(next)
     }
 
@@ -59,7 +60,8 @@ impl Query<'_> {
             ≡ walk_fault self.now.inst.now demand.now (forbids self.now.restriction.now self.now.demand.0) arcs.now }
     {
         let mut here = demand.source;
-        let mut met = MetNodes::begin(here);
+        let mut met = MetNodes::new();
+        met.begin(here.0);
         for (place, arc) in arcs.iter().enumerate() {
             here = self.next_node(place as u32, here, *arc, &mut met)?;
         }

@@ -1,8 +1,8 @@
 use Rattle.std.proofs.Common.{◌≡◌, None}
 use Rattle.plan_base.specs.First.{first_fault, fault_at}
+use Rattle.plan_base.specs.Walks.{IsWalk}
 use Rattle.arc_restrict.specs.Rows.{forbids}
 use Rattle.path_pricing.specs.Faults.{place_fault}
-use Rattle.path_pricing.specs.Walks.{IsWalk}
 use Rattle.path_pricing.proofs.query.Query.check_walk.Given as goal
 
 abbrev pub invariant-loop-place : goal.invariant-loop-place
