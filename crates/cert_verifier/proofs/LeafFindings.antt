@@ -16,12 +16,13 @@ use Rattle.proof_tree.specs.Bounds.{IsBound, AreLeastPrices, price_total}
 use Rattle.proof_tree.specs.Evidence.{AreOnlyPaths, holds, ClosedByCrowd}
 use Rattle.proof_tree.specs.Plans.{IsOpenBound}
 use Rattle.proof_tree.proofs.Uniqueness.{bound-unique}
+use Rattle.verifier_paths.specs.OnlyPaths.{HavePaths}
 use Rattle.cert_verifier.specs.declared.rejected.Rejected.{Rejected}
 use Rattle.cert_verifier.specs.declared.rejected.Rejected.TheVariants.{Leaf}
 use Rattle.cert_verifier.specs.Leaving.{IsNoWayOut}
 use Rattle.cert_verifier.specs.Totals.{IsPriceTotal, capacity_price}
 use Rattle.cert_verifier.specs.Routings.{IsCostOfLoads, HasOverfull}
-use Rattle.cert_verifier.specs.LeafRules.{HavePaths, AreFreeOnUseful, Closes, LeafFinds}
+use Rattle.cert_verifier.specs.LeafRules.{AreFreeOnUseful, Closes, LeafFinds}
 use Rattle.cert_verifier.proofs.LeafLaws.{leaf_finds_none}
 use Rattle.cert_verifier.proofs.RoutingLaws.{AreLoadsOf, only_paths, only_carry, only_overfull, routing_closes, routing_cost, overfull_closes, carried_stays}
 

@@ -8,7 +8,8 @@ use Rattle.proof_tree.specs.declared.tree.Evidence.{Evidence}
 use Rattle.proof_tree.specs.declared.tree.Evidence.TheVariants.{Bound, Routed, Overfull, Cut, Crowd, Open}
 use Rattle.proof_tree.specs.Bounds.{AreLeastPrices}
 use Rattle.proof_tree.specs.Evidence.{AreOnlyPaths, HasEvidence}
-use Rattle.cert_verifier.specs.LeafRules.{LeafFinds, HavePaths, CanCarryAll}
+use Rattle.verifier_paths.specs.OnlyPaths.{HavePaths}
+use Rattle.cert_verifier.specs.LeafRules.{LeafFinds, CanCarryAll}
 use Rattle.cert_verifier.specs.Bounds.{IsOpenWithin}
 use Rattle.cert_verifier.proofs.FirstRules.{unless-none}
 use Rattle.cert_verifier.proofs.OnlyLoads.{only_loads}

@@ -1,13 +1,6 @@
 pub mod FirstRules
-pub mod MarkLaws
 pub mod RuleLaws
 pub mod SplitLaws
-pub mod Ways
-pub mod Offers
-pub mod Rounding
-pub mod LeastPrices
-pub mod StepsBack
-pub mod LeftOut
 pub mod Terms
 pub mod PriceTotals
 pub mod ValueTotals

@@ -10,7 +10,8 @@ use Rattle.plan_base.proofs.SumsBelow.{sum_below-same}
 use Rattle.link_steps.specs.Costs.{Carries, CannotCarry, IsLeastModuleCost, IsStepCost}
 use Rattle.arc_restrict.specs.Restrictions.{Forbidden}
 use Rattle.proof_tree.specs.Evidence.{AreOnlyPaths, ClosedByRouting, ClosedByOverfull}
-use Rattle.cert_verifier.specs.LeafRules.{HavePaths, CanCarryAll}
+use Rattle.verifier_paths.specs.OnlyPaths.{HavePaths, HasSecond}
+use Rattle.cert_verifier.specs.LeafRules.{HaveOnlyPaths, CanCarryAll}
 use Rattle.cert_verifier.specs.Routings.{IsCostOfLoads, HasOverfull}
 use Rattle.cert_verifier.proofs.OnlyLoads.{only_loads}
 
@@ -20,6 +21,10 @@ AreLoadsOf p d loads = (e : ℕ) → e < length p.links → slice_index loads e 
 
 pub only_paths : (p : Parts) (r : Forbidden) (d : Design) → AreOnlyPaths p r d → HavePaths p r
 only_paths p r d only k below = (path_at d k, (only k below).permitted)
+
+-- a demand with a second path has no only one
+pub not_only_paths : (p : Parts) (r : Forbidden) → HasSecond p r → HaveOnlyPaths p r → ⊥
+not_only_paths p r more have = more.second (path_at have.0 more.demand) (have.1 more.demand more.within)
 
 pub only_carry : (p : Parts) (r : Forbidden) (d : Design) (loads : List ℕ) (total : ℕ) → AreOnlyPaths p r d → AreLoadsOf p d loads → IsCostOfLoads p loads total → CanCarryAll p r
 only_carry p r d loads total only are_loads is other only_other e below =

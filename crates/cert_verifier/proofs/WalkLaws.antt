@@ -14,11 +14,11 @@ use Rattle.arc_restrict.specs.Restrictions.{Forbidden, with_forbidden}
 use Rattle.proof_tree.specs.declared.tree.TreeNode.{TreeNode}
 use Rattle.proof_tree.specs.declared.tree.TreeNode.TheVariants.{Split, Leaf}
 use Rattle.proof_tree.specs.Splits.{IsSplit, IsSide}
+use Rattle.verifier_paths.specs.Kept.{without_forbidden}
+use Rattle.verifier_paths.proofs.MarkLaws.{undo_forbid}
 use Rattle.cert_verifier.specs.declared.walk.Turn.{Turn}
-use Rattle.cert_verifier.specs.Kept.{without_forbidden}
 use Rattle.cert_verifier.specs.RecordRules.{after_record}
 use Rattle.cert_verifier.specs.Walks.{side_of, left_after, IsPlace, StandsAt, AreLeft}
-use Rattle.cert_verifier.proofs.MarkLaws.{undo_forbid}
 
 -- an arc that exists has a number below twice the count of links
 pub arc_within : (p : Parts) (a : ArcId) → IsTrue (is_arc p a) → a.0 < 2 * length p.links

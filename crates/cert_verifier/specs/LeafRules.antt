@@ -1,24 +1,20 @@
 -- The rules of each kind of leaf, in their order. The last rule of a kind is that the leaf has its evidence.
 use Rattle.std.specs.Prelude.{ℕ, ◌≡◌, ◌<◌, false, List, length, slice_index, IsTrue, Option}
-use Rattle.plan_base.specs.declared.ids.ArcId.{ArcId}
 use Rattle.plan_base.specs.declared.parts.Parts.{Parts}
 use Rattle.plan_base.specs.declared.path.Design.{Design}
 use Rattle.plan_base.specs.Facts.{is_useful}
 use Rattle.plan_base.specs.Arcs.{link_at, demand_at}
 use Rattle.plan_base.specs.Designs.{load_on}
 use Rattle.link_steps.specs.Costs.{CanCarry}
-use Rattle.arc_restrict.specs.Restrictions.{Forbidden, IsPermittedPath}
+use Rattle.arc_restrict.specs.Restrictions.{Forbidden}
 use Rattle.arc_restrict.specs.Prices.{AreWithinLimit}
 use Rattle.proof_tree.specs.declared.tree.Evidence.{Evidence}
 use Rattle.proof_tree.specs.declared.tree.Evidence.TheVariants.{Bound, Routed, Overfull, Cut, Crowd, Open}
 use Rattle.proof_tree.specs.Evidence.{AreOnlyPaths, holds, HasEvidence}
+use Rattle.verifier_paths.specs.OnlyPaths.{HavePaths}
 use Rattle.cert_verifier.specs.declared.rejected.Rejected.{Rejected}
 use Rattle.cert_verifier.specs.declared.rejected.Rejected.TheVariants.{Leaf}
 use Rattle.cert_verifier.specs.Rules.{unless, ◌then_by◌}
-
--- each demand has a permitted path
-abbrev pub HavePaths : Parts → Forbidden → Type 0
-HavePaths p r = (k : ℕ) → k < length p.demands → (arcs : List ArcId) × IsPermittedPath p r k arcs
 
 -- each demand has one permitted path and no second one
 abbrev pub HaveOnlyPaths : Parts → Forbidden → Type 0

@@ -5,9 +5,6 @@ pub mod SplitRules
 pub mod LeafRules
 pub mod RecordRules
 pub mod PlanRules
-pub mod Kept
-pub mod Labels
-pub mod OnlyPaths
 pub mod Totals
 pub mod Leaving
 pub mod Routings

@@ -3,17 +3,16 @@
 ghost use Rattle.std.specs.Prelude.{◌≡◌, ◌≤◌, ◌<◌, ◌*◌, ◌^◌, ◌↔◌, ℤ, pos, ◌≤ℤ◌, ◌+ℤ◌, ◌-ℤ◌, ◌*ℤ◌, length, IsTrue, IfOk, IfSome, IfNone};
 ghost use Rattle.arc_restrict.specs.Prices.{AreWithinLimit};
 ghost use Rattle.proof_tree.specs.Bounds.{IsBound};
-ghost use Rattle.cert_verifier.specs.declared.limits.TheConstants.{MAX_WAY_ARCS};
-ghost use Rattle.cert_verifier.specs.Kept.{forbidden_by};
-ghost use Rattle.cert_verifier.specs.LeafRules.{HavePaths};
+ghost use Rattle.verifier_paths.specs.declared.limits.TheConstants.{MAX_WAY_ARCS};
+ghost use Rattle.verifier_paths.specs.Kept.{forbidden_by};
+ghost use Rattle.verifier_paths.specs.OnlyPaths.{HavePaths};
 ghost use Rattle.cert_verifier.specs.Totals.{IsPriceTotal, IsSumOfValues, capacity_price};
 
-use crate::marks::Forbidden;
-use crate::rounds::{Ways, least_price};
 use link_steps::StepTable;
 use plan_base::limits::{MAX_LINKS, MAX_PRICED_LOAD};
 use plan_base::{DemandId, Instance, LinkId};
 use std::alloc::{AllocError, Global};
+use verifier_paths::{Forbidden, least_price};
 
 /// The sum of loads times least prices over the demands, in thousandths of a cost grain, and none where a demand has no
 /// permitted path.
@@ -32,13 +31,7 @@ pub(crate) fn price_total(
     let mut total = 0;
     for place in 0..inst.demands() {
         let demand = DemandId(place);
-        let ways = Ways {
-            inst,
-            forbidden,
-            demand,
-            left_out: None,
-        };
-        match least_price(alloc, &ways, prices)? {
+        match least_price(alloc, inst, forbidden, demand, prices)? {
             Some(price) => total += inst.demand(demand).load * price,
             None => return Ok(None),
         }

@@ -11,18 +11,16 @@ ghost use Rattle.proof_tree.specs.declared.tree.Evidence.TheVariants as kind;
 ghost use Rattle.proof_tree.specs.Evidence.{holds};
 ghost use Rattle.proof_tree.specs.Plans.{IsOpenBound};
 ghost use Rattle.proof_tree.specs.Spellings.{FitsEvidence};
+ghost use Rattle.verifier_paths.specs.Kept.{forbidden_by};
+ghost use Rattle.verifier_paths.specs.OnlyPaths.{path_in};
 ghost use Rattle.cert_verifier.specs.declared.rejected.Rejected.TheVariants.{Leaf};
-ghost use Rattle.cert_verifier.specs.Kept.{forbidden_by};
 ghost use Rattle.cert_verifier.specs.Told.{Tells};
 ghost use Rattle.cert_verifier.specs.Leaving.{leads_out, IsNoWayOut};
-ghost use Rattle.cert_verifier.specs.OnlyPaths.{path_in};
 ghost use Rattle.cert_verifier.specs.Routings.{design_of, IsCostOfLoads, HasOverfull};
 ghost use Rattle.cert_verifier.specs.Bounds.{IsOpenWithin};
 ghost use Rattle.cert_verifier.specs.LeafRules.{AreFreeOnUseful, LeafFinds};
 
 use crate::bounds::{bound_at, is_crowded, is_enough, price_total};
-use crate::marks::Forbidden;
-use crate::only_paths::{OnlyPaths, only_paths};
 use crate::rejected::Rejected;
 use link_steps::StepTable;
 use link_steps::limits::MAX_STEPS;
@@ -30,6 +28,7 @@ use plan_base::limits::{MAX_LINKS, MAX_ROUTING_COST, MODULE_COST_BOUND};
 use plan_base::{ArcId, DemandId, Design, Instance, Items, LinkId, NodeId, Path, Prices, loads_of};
 use proof_tree::Evidence;
 use std::alloc::{AllocError, Global};
+use verifier_paths::{Forbidden, OnlyPaths, only_paths};
 
 /// Where a leaf stands: the restriction there, and the index of its record.
 #[derive(Clone, Copy)]

@@ -3,13 +3,13 @@
 ghost use Rattle.std.specs.Prelude.{◌≡◌, ◌↔◌, All, IsTrue};
 ghost use Rattle.plan_base.specs.Arcs.{is_arc};
 ghost use Rattle.arc_restrict.specs.Restrictions.{is_among};
-ghost use Rattle.cert_verifier.specs.Kept.{forbidden_by};
+ghost use Rattle.verifier_paths.specs.Kept.{forbidden_by};
 ghost use Rattle.cert_verifier.specs.SplitRules.{Exist, Leave, AreApart, AreFree, SplitFinds};
 ghost use Rattle.std.specs.Result.{result_err};
 
-use crate::marks::Forbidden;
 use crate::rejected::Rejected;
 use plan_base::{ArcId, DemandId, Instance, NodeId};
+use verifier_paths::Forbidden;
 
 /// A split of the record of this index.
 #[derive(Clone, Copy)]

@@ -8,8 +8,8 @@ ghost use Rattle.proof_tree.specs.declared.tree.TreeNode.TheVariants.{Leaf};
 ghost use Rattle.proof_tree.specs.Trees.{LeafAt, leaves_of};
 ghost use Rattle.proof_tree.specs.Plans.{HasSizes};
 ghost use Rattle.proof_tree.specs.Spellings.{FitsRecord, IsSpellable};
+ghost use Rattle.verifier_paths.specs.Kept.{forbidden_by, without_forbidden, HasRows};
 ghost use Rattle.cert_verifier.specs.declared.rejected.Rejected.TheVariants.{OutOfMemory};
-ghost use Rattle.cert_verifier.specs.Kept.{forbidden_by, without_forbidden, HasRows};
 ghost use Rattle.cert_verifier.specs.Told.{Tells};
 ghost use Rattle.cert_verifier.specs.Bounds.{IsLowerOf, IsLeastBoundIn};
 ghost use Rattle.cert_verifier.specs.RecordRules.{RecordFinds, TreeFinds, after_record};
@@ -18,13 +18,13 @@ ghost use Rattle.cert_verifier.specs.Walks.{IsPlace, StandsAt, AreLeft, IsAfter,
 
 use crate::claims::{is_wrong_kind, stated_cost};
 use crate::leaves::{Place, check_leaf, open_bound};
-use crate::marks::Forbidden;
 use crate::rejected::Rejected;
 use crate::splits::{Split, check_split};
 use link_steps::StepTable;
 use plan_base::{ArcId, DemandId, Instance};
 use proof_tree::{Evidence, Plan, TreeNode};
 use std::alloc::{AllocError, Global};
+use verifier_paths::Forbidden;
 
 /// A split above the place, and in which child of it the walk is.
 #[derive(Clone, Copy, Debug)]

@@ -1,4 +1,4 @@
-use Rattle.cert_verifier.specs.Kept.{forbidden_by}
+use Rattle.verifier_paths.specs.Kept.{forbidden_by}
 use Rattle.cert_verifier.proofs.PriceTotals.{ArePriced}
 use Rattle.cert_verifier.proofs.bounds.price_total.Given as goal
 

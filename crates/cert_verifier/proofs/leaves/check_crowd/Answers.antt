@@ -1,5 +1,5 @@
 use Rattle.std.proofs.Common.{inl, inr, refl, ◌≡◌, true, false, rules}
-use Rattle.cert_verifier.specs.Kept.{forbidden_by}
+use Rattle.verifier_paths.specs.Kept.{forbidden_by}
 use Rattle.cert_verifier.specs.LeafRules.{LeafFinds}
 use Rattle.cert_verifier.proofs.LeafFindings.{not_within, not_so, crowd_decided}
 use Rattle.cert_verifier.proofs.leaves.check_crowd.Goals as goal

@@ -1,8 +1,8 @@
 use Rattle.std.proofs.Common.{inl, inr, refl, ◌<◌, length, arith}
-use Rattle.cert_verifier.specs.Kept.{forbidden_by}
+use Rattle.verifier_paths.specs.Kept.{forbidden_by}
 use Rattle.cert_verifier.specs.LeafRules.{LeafFinds}
 use Rattle.cert_verifier.specs.Routings.{design_of}
-use Rattle.cert_verifier.proofs.RoutingLaws.{AreLoadsOf}
+use Rattle.cert_verifier.proofs.RoutingLaws.{AreLoadsOf, not_only_paths}
 use Rattle.cert_verifier.proofs.LeafFindings.{overfull_carried, overfull_found}
 use Rattle.cert_verifier.proofs.leaves.check_overfull.Goals as goal
 
@@ -16,7 +16,7 @@ unfolding LeafFinds
 returns-in-Missing c = λ differs.
     let at = c.args.at.now in
     let within : c.args.link.0 < length at.inst.now.links = omega arith in
-    let without = rw c.in-Missing.is at c.in_ok-only_paths.ensures in
+    let without = rw c.in-Missing.is at c.in_ok-only_paths.ensures.left in
     rw c.broken-in-Missing.ensures (inr (inl (within, refl), inl (refl, inr (without, refl))))
 
 pub returns-in-Second : goal.returns-in-Second
@@ -24,14 +24,14 @@ unfolding LeafFinds
 returns-in-Second c = λ differs.
     let at = c.args.at.now in
     let within : c.args.link.0 < length at.inst.now.links = omega arith in
-    let second = rw c.in-Second.is at c.in_ok-only_paths.ensures in
-    rw c.broken-in-Second.ensures (inr (inl (within, refl), inr (inl (second.0, refl), inl (refl, inr (second.1, refl)))))
+    let second = rw c.in-Second.is at c.in_ok-only_paths.ensures.left in
+    rw c.broken-in-Second.ensures (inr (inl (within, refl), inr (inl (second.0, refl), inl (refl, inr (not_only_paths _ _ second.1, refl)))))
 
 pub returns-in-Some : goal.returns-in-Some
 returns-in-Some c = λ differs.
     let at = c.args.at.now in
     let loads = c.loads_of_paths-loads.result in
-    let only = rw c.in-Only.is at c.in_ok-only_paths.ensures in
+    let only = rw c.in-Only.is at c.in_ok-only_paths.ensures.left in
     let are_loads : AreLoadsOf at.inst.now (design_of c.in-Only.paths) loads = λ e below. c.loads_of_paths-loads.ensures.value e (omega (arith, below, c.links.ensures.lawful.link_count)) in
     let least = rw c.requires.table at c.in-Some.ensures.least in
     rw c.broken-in-Some.ensures (overfull_carried at.inst.now at.cost (forbidden_by at.forbidden.now) at.index c.args.link (design_of c.in-Only.paths) loads c.in-Some.field-0 (omega arith) only.1 are_loads least)
@@ -40,7 +40,7 @@ pub returns-in-None : goal.returns-in-None
 returns-in-None c = λ differs.
     let at = c.args.at.now in
     let loads = c.loads_of_paths-loads.result in
-    let only = rw c.in-Only.is at c.in_ok-only_paths.ensures in
+    let only = rw c.in-Only.is at c.in_ok-only_paths.ensures.left in
     let are_loads : AreLoadsOf at.inst.now (design_of c.in-Only.paths) loads = λ e below. c.loads_of_paths-loads.ensures.value e (omega (arith, below, c.links.ensures.lawful.link_count)) in
     let cannot = rw c.requires.table at c.in-None.ensures.none in
     overfull_found at.inst.now at.cost (forbidden_by at.forbidden.now) at.index c.args.link (design_of c.in-Only.paths) loads (omega arith) only.1 are_loads cannot

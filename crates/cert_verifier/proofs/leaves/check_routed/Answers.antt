@@ -1,28 +1,28 @@
 use Rattle.std.proofs.Common.{inl, inr, refl, arith}
-use Rattle.cert_verifier.specs.Kept.{forbidden_by}
+use Rattle.verifier_paths.specs.Kept.{forbidden_by}
 use Rattle.cert_verifier.specs.LeafRules.{LeafFinds}
 use Rattle.cert_verifier.specs.Routings.{design_of}
-use Rattle.cert_verifier.proofs.RoutingLaws.{AreLoadsOf}
+use Rattle.cert_verifier.proofs.RoutingLaws.{AreLoadsOf, not_only_paths}
 use Rattle.cert_verifier.proofs.LeafFindings.{routed_overfull, routed_decided}
 use Rattle.cert_verifier.proofs.leaves.check_routed.Goals as goal
 
 pub returns-in-Missing : goal.returns-in-Missing
 unfolding LeafFinds
 returns-in-Missing c = λ differs.
-    let without = rw c.in-Missing.is at c.in_ok-only_paths.ensures in
+    let without = rw c.in-Missing.is at c.in_ok-only_paths.ensures.left in
     rw c.broken.ensures (inl (refl, inr (without, refl)))
 
 pub returns-in-Second : goal.returns-in-Second
 unfolding LeafFinds
 returns-in-Second c = λ differs.
-    let second = rw c.in-Second.is at c.in_ok-only_paths.ensures in
-    rw c.broken-in-Second.ensures (inr (inl (second.0, refl), inl (refl, inr (second.1, refl))))
+    let second = rw c.in-Second.is at c.in_ok-only_paths.ensures.left in
+    rw c.broken-in-Second.ensures (inr (inl (second.0, refl), inl (refl, inr (not_only_paths _ _ second.1, refl))))
 
 pub returns-in-Some : goal.returns-in-Some
 returns-in-Some c = λ differs.
     let at = c.args.at.now in
     let loads = c.loads_of_paths-loads.result in
-    let only = rw c.in-Only.is at c.in_ok-only_paths.ensures in
+    let only = rw c.in-Only.is at c.in_ok-only_paths.ensures.left in
     let are_loads : AreLoadsOf at.inst.now (design_of c.in-Only.paths) loads = λ e below. c.loads_of_paths-loads.ensures.value e (omega (arith, below, c.links-links.ensures.lawful.link_count)) in
     routed_decided at.inst.now at.cost (forbidden_by at.forbidden.now) at.index (design_of c.in-Only.paths) loads c.in-Some.total c.costs_enough.result _ only.1 are_loads c.in-Some.ensures.cost c.costs_enough.ensures
     c.holds_or.ensures.ok c.holds_or.ensures.broken
@@ -31,6 +31,6 @@ pub returns-in-None : goal.returns-in-None
 returns-in-None c = λ differs.
     let at = c.args.at.now in
     let loads = c.loads_of_paths-loads.result in
-    let only = rw c.in-Only.is at c.in_ok-only_paths.ensures in
+    let only = rw c.in-Only.is at c.in_ok-only_paths.ensures.left in
     let are_loads : AreLoadsOf at.inst.now (design_of c.in-Only.paths) loads = λ e below. c.loads_of_paths-loads.ensures.value e (omega (arith, below, c.links-links.ensures.lawful.link_count)) in
     rw c.broken-in-None.ensures (routed_overfull at.inst.now at.cost (forbidden_by at.forbidden.now) at.index (design_of c.in-Only.paths) loads only.1 are_loads c.in-None.ensures.none)

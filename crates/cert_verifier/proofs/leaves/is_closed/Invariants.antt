@@ -1,6 +1,6 @@
 use Rattle.std.proofs.Common.{◌≡◌, ◌<◌, false}
 use Rattle.plan_base.specs.declared.ids.ArcId.{ArcId}
-use Rattle.cert_verifier.specs.Kept.{forbidden_by}
+use Rattle.verifier_paths.specs.Kept.{forbidden_by}
 use Rattle.cert_verifier.specs.Leaving.{leads_out}
 use Rattle.cert_verifier.proofs.leaves.is_closed.Given as goal
 

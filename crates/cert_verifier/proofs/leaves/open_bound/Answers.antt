@@ -1,4 +1,4 @@
-use Rattle.cert_verifier.specs.Kept.{forbidden_by}
+use Rattle.verifier_paths.specs.Kept.{forbidden_by}
 use Rattle.cert_verifier.proofs.LeafFindings.{open_unbounded}
 use Rattle.cert_verifier.proofs.leaves.open_bound.Goals as goal
 

@@ -3,7 +3,7 @@ use Rattle.std.specs.Prelude.{IfErr, ℤ}
 use Rattle.cert_verifier.specs.declared.walk.Turn.{Turn}
 use Rattle.cert_verifier.specs.declared.rejected.Rejected.{Rejected}
 use Rattle.cert_verifier.specs.declared.rejected.Rejected.TheVariants.{OutOfMemory}
-use Rattle.cert_verifier.specs.Kept.{forbidden_by}
+use Rattle.verifier_paths.specs.Kept.{forbidden_by}
 use Rattle.cert_verifier.specs.RecordRules.{TreeFinds}
 use Rattle.cert_verifier.proofs.StepLaws.{so_far-start, so_far-stands, so_far-step, so_far-fault, so_far-end, record_at}
 use Rattle.cert_verifier.proofs.walk.walk_tree.Goals as goal

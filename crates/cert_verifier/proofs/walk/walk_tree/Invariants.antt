@@ -1,5 +1,5 @@
 use Rattle.std.proofs.Common.{reverse}
-use Rattle.cert_verifier.specs.Kept.{forbidden_by, HasRows}
+use Rattle.verifier_paths.specs.Kept.{forbidden_by, HasRows}
 use Rattle.cert_verifier.proofs.StepLaws.{IsSoFar}
 use Rattle.cert_verifier.proofs.walk.walk_tree.Given as goal
 

@@ -1,6 +1,6 @@
 use Rattle.std.proofs.Common.{◌≡◌, List, length, reverse}
 use Rattle.arc_restrict.specs.Restrictions.{Forbidden as Restricted}
-use Rattle.cert_verifier.specs.Kept.{forbidden_by, HasRows}
+use Rattle.verifier_paths.specs.Kept.{forbidden_by, HasRows}
 use Rattle.cert_verifier.specs.Walks.{IsPlace, StandsAt}
 use Rattle.cert_verifier.proofs.walk.Walk.go_on.Given as goal
 

@@ -3,7 +3,7 @@ use Rattle.proof_tree.specs.declared.tree.TreeNode.{TreeNode}
 use Rattle.cert_verifier.specs.declared.walk.Turn.{Turn}
 use Rattle.plan_base.specs.declared.ids.ArcId.{ArcId}
 use Rattle.arc_restrict.specs.Restrictions.{with_forbidden}
-use Rattle.cert_verifier.specs.Kept.{forbidden_by, without_forbidden}
+use Rattle.verifier_paths.specs.Kept.{forbidden_by, without_forbidden}
 use Rattle.cert_verifier.specs.Walks.{IsPlace, AreLeft}
 use Rattle.plan_base.proofs.Bools.{not-false}
 use Rattle.cert_verifier.proofs.WalkLaws.{turn-read, turn-split, leave_left, leave_right, reverse_push, not_right}

@@ -3,7 +3,7 @@ use Rattle.plan_base.specs.declared.ids.ArcId.{ArcId}
 use Rattle.arc_restrict.specs.Restrictions.{with_forbidden}
 use Rattle.proof_tree.specs.declared.tree.TreeNode.TheVariants.{Split}
 use Rattle.proof_tree.specs.Trees.{LeafAt}
-use Rattle.cert_verifier.specs.Kept.{forbidden_by}
+use Rattle.verifier_paths.specs.Kept.{forbidden_by}
 use Rattle.cert_verifier.specs.Bounds.{IsLeastBoundIn}
 use Rattle.cert_verifier.specs.SplitRules.{SplitFinds}
 use Rattle.cert_verifier.specs.RecordRules.{RecordFinds}

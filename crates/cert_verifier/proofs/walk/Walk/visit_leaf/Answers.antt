@@ -1,5 +1,5 @@
 use Rattle.std.proofs.Common.{sym, subst, ◌++◌}
-use Rattle.cert_verifier.specs.Kept.{forbidden_by}
+use Rattle.verifier_paths.specs.Kept.{forbidden_by}
 use Rattle.cert_verifier.specs.Bounds.{IsLeastBoundIn}
 use Rattle.cert_verifier.specs.Walks.{leaf_here}
 use Rattle.cert_verifier.proofs.LeafLaws.{leaf_found_none-open}

@@ -1,0 +1,7 @@
+pub mod MarkLaws
+mod Ways
+mod Offers
+mod Rounding
+mod LeastPrices
+mod StepsBack
+mod LeftOut

@@ -1,0 +1,179 @@
+//! Least prices by rounds of relaxing: after each round the prices of the ways of one arc more are counted.
+
+ghost use Rattle.std.specs.Prelude.{◌≡◌, ◌≤◌, ◌<◌, ◌*◌, true, length, IfOk, IfSome, MatchOption, None};
+ghost use Rattle.plan_base.specs.Arcs.{demand_at};
+ghost use Rattle.plan_base.specs.Facts.{IsInstance, total_load};
+ghost use Rattle.plan_base.specs.declared.limits.TheConstants.{MAX_PRICED_LOAD};
+ghost use Rattle.arc_restrict.specs.Restrictions.{HasNoPath};
+ghost use Rattle.arc_restrict.specs.Prices.{price_of, AreWithinLimit, IsLeastPrice};
+ghost use Rattle.verifier_paths.specs.declared.limits.TheConstants.{MAX_WAY_ARCS};
+ghost use Rattle.verifier_paths.specs.Kept.{forbidden_by};
+ghost use Rattle.verifier_paths.specs.Labels.{may_take, AreLeast, AreSmall, IsRelaxed, IsRound, lower_of, first_labels};
+
+use crate::marks::Forbidden;
+use plan_base::{ArcId, DemandId, Instance, NodeId};
+use std::alloc::{AllocError, Global};
+
+/// The arcs that paths of one demand may take.
+#[derive(Clone, Copy)]
+pub(crate) struct Ways<'a> {
+    pub(crate) inst: &'a Instance,
+    pub(crate) forbidden: &'a Forbidden,
+    pub(crate) demand: DemandId,
+    /// An arc that is left out.
+    pub(crate) left_out: Option<ArcId>,
+}
+
+impl Ways<'_> {
+    /// Whether the arc exists and may be taken.
+    pub(crate) fn may_take(&self, arc: ArcId) -> bool
+        ensures { result ≡ may_take self.now.inst.now (forbidden_by self.now.forbidden.now) self.now.demand.0 self.now.left_out arc }
+    {
+        self.inst.is_arc(arc)
+            && !self.forbidden.forbids(self.demand, arc)
+            && self.left_out != Some(arc)
+    }
+}
+
+/// The lower of a known price and an offered one.
+fn lower(known: Option<u128>, offered: u128) -> Option<u128>
+    ensures { result ≡ lower_of known offered }
+{
+    match known {
+        Some(price) if price <= offered => known,
+        _ => Some(offered),
+    }
+}
+
+/// Offers the way along the arc to its head.
+fn relax_arc(
+    ways: &Ways,
+    prices: &[u128],
+    arc: ArcId,
+    old: &[Option<u128>],
+    new: &mut Vec<Option<u128>>,
+)
+    requires count { length prices.now ≡ length ways.now.inst.now.links }
+    requires limit { AreWithinLimit ways.now.inst.now prices.now }
+    requires old { length old.now ≡ ways.now.inst.now.nodes }
+    requires small { AreSmall old.now }
+    requires new { length new.old.items ≡ ways.now.inst.now.nodes }
+    ensures relaxed { IsRelaxed ways.now.inst.now
+        (may_take ways.now.inst.now (forbidden_by ways.now.forbidden.now) ways.now.demand.0 ways.now.left_out)
+        prices.now old.now arc new.old.items new.new.items }
+    ensures count { length new.new.items ≡ length new.old.items }
+{
+    if !ways.may_take(arc) {
+        return;
+    }
+    if let Some(price) = old[ways.inst.tail(arc).0 as usize] {
+        let head = ways.inst.head(arc).0 as usize;
+        new[head] = lower(new[head], price + prices[(arc.0 / 2) as usize]);
+    }
+}
+
+/// One round: each node's price by one arc more, in the new list.
+fn relax_all(ways: &Ways, prices: &[u128], old: &[Option<u128>], new: &mut Vec<Option<u128>>)
+    requires count { length prices.now ≡ length ways.now.inst.now.links }
+    requires limit { AreWithinLimit ways.now.inst.now prices.now }
+    requires old { length old.now ≡ ways.now.inst.now.nodes }
+    requires small { AreSmall old.now }
+    requires same { new.old.items ≡ old.now }
+    ensures round { IsRound ways.now.inst.now
+        (may_take ways.now.inst.now (forbidden_by ways.now.forbidden.now) ways.now.demand.0 ways.now.left_out)
+        (price_of prices.now) old.now new.new.items }
+    ensures count { length new.new.items ≡ length old.now }
+{
+    for arc in 0..2 * ways.inst.links() {
+        relax_arc(ways, prices, ArcId(arc), old, new);
+    }
+}
+
+/// The prices before the first round: the source alone is reached, at no cost.
+fn first_prices(alloc: Global, nodes: u32, source: NodeId) -> Result<Vec<Option<u128>>, AllocError>
+    requires { source.0 < nodes }
+    ensures { IfOk result (λ labels. labels.items ≡ first_labels nodes source.0) }
+{
+    let mut labels = vec![in alloc; None; nodes as usize]?;
+    labels[source.0 as usize] = Some(0);
+    Ok(labels)
+}
+
+/// Whether both are the same prices.
+fn are_same(one: &[Option<u128>], other: &[Option<u128>]) -> bool
+    ensures { result ≡ true → one.now ≡ other.now }
+{
+    one == other
+}
+
+/// Takes other prices in place of these.
+fn replace_prices(prices: &mut Vec<Option<u128>>, others: &[Option<u128>])
+    requires { length prices.old.items ≡ length others.now }
+    ensures { prices.new.items ≡ others.now }
+{
+    prices.as_mut_slice().copy_from_slice(others);
+}
+
+/// For each node the least price of a way to it from the demand's source, and none where no way leads to it.
+///
+/// - Time: nodes times arcs; ends with the first round that changes nothing.
+pub(crate) fn least_prices(
+    alloc: Global,
+    ways: &Ways,
+    prices: &[u128],
+) -> Result<Vec<Option<u128>>, AllocError>
+    requires demand { ways.now.demand.0 < length ways.now.inst.now.demands }
+    requires count { length prices.now ≡ length ways.now.inst.now.links }
+    requires limit { AreWithinLimit ways.now.inst.now prices.now }
+    ensures lawful { IsInstance ways.now.inst.now }
+    ensures least { IfOk result (λ labels. AreLeast ways.now.inst.now
+        (may_take ways.now.inst.now (forbidden_by ways.now.forbidden.now) ways.now.demand.0 ways.now.left_out)
+        (price_of prices.now) (demand_at ways.now.inst.now ways.now.demand.0).source.0 labels.items) }
+{
+    let _links = ways.inst.links();
+    let nodes = ways.inst.nodes();
+    let source = ways.inst.demand(ways.demand).source;
+    let mut old = first_prices(alloc, nodes, source)?;
+    let mut new = Vec::from_slice(alloc, &old)?;
+    for _round in 1..nodes {
+        relax_all(ways, prices, &old, &mut new);
+        if are_same(&old, &new) {
+            return Ok(old);
+        }
+        replace_prices(&mut old, &new);
+    }
+    Ok(old)
+}
+
+/// The least price of a permitted path of the demand, and none where it has none.
+///
+/// - Takes: a demand of the instance, and one price for each link, within the limit, in thousandths of a cost grain per
+///   load grain.
+/// - Gives: a price in the same unit.
+/// - Errors: want of memory.
+/// - Rule: docs/DEFINITIONS.md, "Prices of paths".
+/// - Time: nodes times arcs.
+pub fn least_price(
+    alloc: Global,
+    inst: &Instance,
+    forbidden: &Forbidden,
+    demand: DemandId,
+    prices: &[u128],
+) -> Result<Option<u128>, AllocError>
+    requires demand { demand.0 < length inst.now.demands }
+    requires count { length prices.now ≡ length inst.now.links }
+    requires limit { AreWithinLimit inst.now prices.now }
+    ensures value { IfOk result (λ price. MatchOption price
+        (HasNoPath inst.now (forbidden_by forbidden.now) demand.0)
+        (λ price. IsLeastPrice inst.now (forbidden_by forbidden.now) prices.now demand.0 price)) }
+    ensures within { IfOk result (λ price. IfSome price (λ price. price * total_load inst.now ≤ MAX_WAY_ARCS * MAX_PRICED_LOAD)) }
+{
+    let ways = Ways {
+        inst,
+        forbidden,
+        demand,
+        left_out: None,
+    };
+    let labels = least_prices(alloc, &ways, prices)?;
+    Ok(labels[inst.demand(demand).target.0 as usize])
+}
