@@ -28,7 +28,7 @@ use master_step::Room;
 use plan_base::{BranchId, Instance};
 use pool_machine::{Incumbent, NodeState, Opened, RoundFault};
 use pool_nodes::{Ground, PoolNode, Slot, first_free};
-use pool_reading::{Claims, PoolView};
+use pool_reading::{Claims, OpenLeaves, PoolView};
 use std::alloc::Global;
 use std::marker::Model;
 use std::sync::Arc;
@@ -57,6 +57,8 @@ pub struct Pool {
     accepted: u64,
     /// What each worker was given last; no part of the state.
     claims: Claims,
+    /// Which nodes are open leaves; no part of the state.
+    leaves: OpenLeaves,
     /// What is known above nodes that wait, so that their bounds are found sooner.
     known: KnownAbove,
 }
@@ -117,6 +119,7 @@ impl Pool {
             next_version: self.next_version,
             accepted: self.accepted,
             claims: &self.claims,
+            leaves: &self.leaves,
         }
     }
 

@@ -8,8 +8,10 @@
 #![tactic(auto)]
 
 mod claims;
+mod open_leaves;
 mod view;
 
 pub use claims::Claims;
+pub use open_leaves::OpenLeaves;
 pub use view::PoolView;
 pub use view::publishing::are_crowd_prices;

@@ -19,6 +19,7 @@ mod valuing;
 mod working;
 
 use crate::claims::Claims;
+use crate::open_leaves::OpenLeaves;
 use column_pool::ColumnPool;
 use link_steps::StepTable;
 use plan_base::{BranchId, DemandId, Instance};
@@ -50,6 +51,8 @@ pub struct PoolView<'a> {
     pub accepted: u64,
     /// What each worker was given last; no part of the state.
     pub claims: &'a Claims,
+    /// Which nodes are open leaves; no part of the state.
+    pub leaves: &'a OpenLeaves,
 }
 
 impl<'a> Model for PoolView<'a> {

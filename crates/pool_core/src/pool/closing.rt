@@ -29,6 +29,7 @@ impl Pool {
         give_back(&mut self.places, round);
         let ground = &mut self.grounds[node.0 as usize];
         ground.clear();
+        self.leaves.remove(node);
         self.examined += 1;
     }
 

@@ -30,6 +30,7 @@ impl Pool {
         let count = self.grounds.len();
         let left = division.left_child;
         let right = division.right_child;
+        self.leaves.add(left, right)?;
         self.grounds.append(&mut grounds)?;
         if self.nodes.append(&mut children).is_err() {
             self.grounds.truncate(count);
@@ -40,6 +41,7 @@ impl Pool {
         give_back(&mut self.places, round);
         let ground = &mut self.grounds[node.0 as usize];
         ground.clear();
+        self.leaves.remove(node);
         self.examined += 1;
         Ok(Examined::Divided { left, right })
     }

@@ -15,7 +15,7 @@ use master_step::Room;
 use plan_base::{Instance, Items, Prices};
 use pool_machine::limits::MAX_ROUNDS;
 use pool_nodes::{Ground, PoolNode, PoolRound, Slot};
-use pool_reading::Claims;
+use pool_reading::{Claims, OpenLeaves};
 use std::alloc::{AllocError, Global};
 use std::sync::Arc;
 
@@ -64,6 +64,7 @@ impl Pool {
         let columns = ColumnPool::new(alloc, &*inst)?;
         let room = Room::new(alloc, &*inst)?;
         let claims = Claims::none(alloc)?;
+        let leaves = OpenLeaves::root(alloc)?;
         Ok(Pool {
             alloc,
             problem: inst,
@@ -79,6 +80,7 @@ impl Pool {
             next_version: 1,
             accepted: 0,
             claims,
+            leaves,
             known: KnownAbove::nothing(alloc),
         })
     }

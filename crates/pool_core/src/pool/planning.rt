@@ -41,6 +41,7 @@ impl Pool {
             next_version,
             accepted,
             claims: _claims,
+            leaves: _leaves,
             known,
         } = self;
         let assembly = Assembly {

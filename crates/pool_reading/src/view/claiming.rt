@@ -119,8 +119,8 @@ impl<'a> PoolView<'a> {
     {
         let has_room = self.has_room();
         let mut first = None;
-        for place in 0..self.nodes.len() {
-            first = self.unclaimed_of(worker, BranchId(place as u32), has_room, first);
+        for node in self.leaves.nodes() {
+            first = self.unclaimed_of(worker, *node, has_room, first);
         }
         match first {
             Some((_, task)) => Some(task),

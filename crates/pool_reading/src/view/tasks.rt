@@ -84,18 +84,45 @@ impl<'a> PoolView<'a> {
         first
     }
 
+    /// Of the leaves that are known to be open the one that is next and comes first.
+    fn first_leaf(&self, has_room: bool) -> Option<BranchId>
+        requires { has_room ≡ nat_lt (active_count self.now) MAX_ROUNDS }
+        ensures { IfSome result (λ node. is_next self.now node ≡ true) }
+    {
+        let mut first = None;
+        for node in self.leaves.nodes() {
+            first = self.first_of(*node, has_room, first);
+        }
+        first
+    }
+
+    /// Of all nodes the one that is next and comes first.
+    fn first_node(&self, has_room: bool) -> Option<BranchId>
+        requires room { has_room ≡ nat_lt (active_count self.now) MAX_ROUNDS }
+        requires not_done { is_done self.now ≡ false }
+        ensures some { IfSome result (λ node. is_next self.now node ≡ true) }
+        ensures none { result ≢ None }
+    {
+        let mut first = None;
+        for place in 0..self.nodes.len() {
+            first = self.first_of(BranchId(place as u32), has_room, first);
+        }
+        first
+    }
+
     /// The open leaf that is worked off next: the one with the lowest bound, and of those the deepest one.
+    ///
+    /// That each open leaf is known as one, no contract says: where none is known, all nodes are looked at.
     pub fn next_leaf(&self) -> Option<BranchId>
         requires not_done { is_done self.now ≡ false }
         ensures some { IfSome result (λ node. is_next self.now node ≡ true) }
         ensures none { result ≢ None }
     {
         let has_room = self.has_room();
-        let mut first = None;
-        for place in 0..self.nodes.len() {
-            first = self.first_of(BranchId(place as u32), has_room, first);
+        match self.first_leaf(has_room) {
+            Some(node) => Some(node),
+            None => self.first_node(has_room),
         }
-        first
     }
 
     /// Whether the node is not settled and has room for more complete versions.

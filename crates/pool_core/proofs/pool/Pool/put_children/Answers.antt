@@ -39,16 +39,6 @@ overflow_add-self c =
     let small : c.self.inside.examined < 4096 = examined-small (the_view c.self.inside) _ c.self.inside.grounds.items c.self.inside.places.items c.args.node c.args.division c.self.invariant.kept (subst (λ (s : State). IsDivisionAt s c.args.node c.args.division) (sym c.self.view_is) c.requires.division) in
     search rules
 
--- the grounds could not grow, and nothing has changed
-pub invariant_of-self : goal.invariant_of-self
-invariant_of-self c = record {
-  kept = (
-      let same : c.append.new.self.items ≡ c.self.inside.grounds.items = search rules in
-      subst (λ (xs : List (Option Rows)). IsKeptPool (the_view c.self.inside) (arc_value c.self.inside.table) xs c.self.inside.places.items) (sym same) c.self.invariant.kept
-      );
-  room_is = c.self.invariant.room_is;
-}
-
 pub invariant_of-self-2 : goal.invariant_of-self-2
 invariant_of-self-2 c = record {
   kept = (

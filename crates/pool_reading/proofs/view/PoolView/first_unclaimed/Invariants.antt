@@ -2,5 +2,5 @@ use Rattle.std.proofs.Common.{IfSome}
 use Rattle.pool_machine.specs.Tasks.{IsLawfulTask}
 use Rattle.pool_reading.proofs.view.PoolView.first_unclaimed.Given as goal
 
-abbrev pub invariant-loop-place : goal.invariant-loop-place
-invariant-loop-place l = IfSome l.first (λ held. IsLawfulTask l.self held.1)
+abbrev pub invariant-loop-node : goal.invariant-loop-node
+invariant-loop-node l = IfSome l.first (λ held. IsLawfulTask l.self held.1)

@@ -1,7 +1,7 @@
 use Rattle.std.proofs.Common.{◌≡◌, ◌<◌, ℕ, true, false, None, IfSome}
 use Rattle.pool_reading.specs.Work.{is_next}
 use Rattle.pool_reading.proofs.TaskLaws.{branch_id}
-use Rattle.pool_reading.proofs.view.PoolView.next_leaf.Given as goal
+use Rattle.pool_reading.proofs.view.PoolView.first_node.Given as goal
 
 abbrev pub invariant-loop-place : goal.invariant-loop-place
 invariant-loop-place l = record {

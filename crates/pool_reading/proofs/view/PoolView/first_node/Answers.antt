@@ -4,7 +4,7 @@ use Rattle.pool_machine.specs.State.{State}
 use Rattle.pool_machine.specs.Machine.{IsReachable}
 use Rattle.pool_reading.proofs.Reading.{nodes-few}
 use Rattle.pool_reading.proofs.Leaves.{none-more, never-none}
-use Rattle.pool_reading.proofs.view.PoolView.next_leaf.Goals as goal
+use Rattle.pool_reading.proofs.view.PoolView.first_node.Goals as goal
 
 pub loop-place-init : goal.loop-place-init
 loop-place-init c = record { found = tt; none = λ e n below. absurd (omega arith) }
