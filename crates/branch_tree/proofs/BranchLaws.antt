@@ -1,9 +1,9 @@
 -- A search tree after a change of one node, and after a split.
-use Rattle.std.proofs.Common.{◌≡◌, ℕ, zero, suc, ◌+◌, ◌-◌, ◌*◌, ◌/◌, ◌^◌, ◌<◌, ◌≤◌, ◌⊎◌, inl, inr, true, List, [], ◌∷◌, ◌++◌, length, get_or, set, All, Option, is_some, option_and_then, IsTrue, refl, sym, ap, subst, subst₂, ◌∙◌, arith}
+use Rattle.std.proofs.Common.{◌≡◌, ℕ, zero, suc, ◌+◌, ◌-◌, ◌*◌, ◌/◌, ◌^◌, ◌<◌, ◌≤◌, ◌⊎◌, inl, inr, true, List, [], ◌∷◌, ◌++◌, length, get_or, set, All, IsTrue, refl, sym, ap, subst, subst₂, ◌∙◌, arith}
 use Rattle.std.proofs.lemmas.Bool.{cases_eq, cases_lt, ltb-true, and_parts, false≢true}
 use Rattle.std.proofs.lemmas.List.{get_or_append_left, get_or-append_right, get_or-set_same, get_or-set_other, get_or_default, set-append_left, length-set, length-append}
-use Rattle.std.proofs.lemmas.List.Elements.{All-nil, All-cons, All-push, All-append, All-set, All-weaker}
-use Rattle.std.proofs.lemmas.Option.{slice_get-get_or, slice_get_past}
+use Rattle.std.proofs.lemmas.List.Elements.{All-nil, All-cons, All-append, All-set, All-weaker}
+use Rattle.std.proofs.lemmas.Option.{slice_get_past}
 use Rattle.plan_base.specs.declared.ids.NodeId.{NodeId}
 use Rattle.plan_base.specs.declared.ids.ArcId.{ArcId}
 use Rattle.plan_base.specs.declared.ids.DemandId.{DemandId}
@@ -14,9 +14,9 @@ use Rattle.proof_tree.specs.Splits.{IsSide}
 use Rattle.branch_tree.specs.declared.node.Limit.{Limit}
 use Rattle.branch_tree.specs.declared.node.Division.{Division}
 use Rattle.branch_tree.specs.declared.node.Fate.{Fate}
-use Rattle.branch_tree.specs.declared.node.Fate.TheVariants.{Open, Closed, Split}
+use Rattle.branch_tree.specs.declared.node.Fate.TheVariants.{Undone, ClosedBy, DividedBy}
 use Rattle.branch_tree.specs.declared.node.BranchNode.{BranchNode}
-use Rattle.branch_tree.specs.Branches.{tree_node_at, no_tree_node, limits_at, with_limit, prices_by, is_open_fate, is_open_at, with_fate, child_of, with_division, restriction_at, IsLimitOf, IsFateOf, IsNodeOf, IsTreeOf, IsBranching}
+use Rattle.branch_tree.specs.Branches.{tree_node_at, no_tree_node, limits_at, with_limit, is_open_in, is_open_at, with_fate, with_prices, child_of, with_division, restriction_at, IsLimitOf, IsFateOf, IsNodeOf, IsTreeOf, IsBranching}
 use Rattle.branch_tree.specs.Records.{HasLaterChildren, AreInherited, AreNodes}
 
 -- an arc that exists has a number below twice the count of links
@@ -26,33 +26,18 @@ arc_within p a exists = let below : a.0 / 2 < length p.links = ltb-true _ _ (and
 side-limit : (p : Parts) (r : Forbidden) (id : DemandId) (at : NodeId) (arcs : List ArcId) → id.0 < length p.demands → IsSide p r id at arcs → IsLimitOf p (record { demand = id; arcs = arcs })
 side-limit p r id at arcs demand side = record { demand = demand; arcs = All-weaker (λ a. IsTrue (is_arc p a)) (λ a. a.0 < 2 * length p.links) (arc_within p) arcs side.are_arcs }
 
--- an open node is one of the nodes, and reads as open
-pub record IsOpenNode (nodes : List BranchNode) (n : ℕ) : Type 0 where
-  pub within : n < length nodes
-  pub open_fate : is_open_fate (tree_node_at nodes n).fate ≡ true
-
-pub open-node : (nodes : List BranchNode) (n : ℕ) → is_open_at nodes n ≡ true → IsOpenNode nodes n
-open-node nodes n is_open = elim (cases_lt n (length nodes)) [
-  | inl within ↦ record { within = within; open_fate = sym (ap (λ (read : Option BranchNode). is_some (option_and_then (λ (node : BranchNode). prices_by node.fate) read)) (slice_get-get_or nodes n no_tree_node within)) ∙ is_open }
-  | inr past ↦ absurd (false≢true (sym (ap (λ (read : Option BranchNode). is_some (option_and_then (λ (node : BranchNode). prices_by node.fate) read)) (slice_get_past nodes n past)) ∙ is_open))
+-- an open node is one of the nodes
+pub open-within : (nodes : List BranchNode) (n : ℕ) → is_open_at nodes n ≡ true → n < length nodes
+open-within nodes n is_open = elim (cases_lt n (length nodes)) [
+  | inl within ↦ within
+  | inr past ↦ absurd (false≢true (sym (ap is_open_in (slice_get_past nodes n past)) ∙ is_open))
 ]
 
--- an open node has no split to be one by the divergence rule, and no children
-open-is_fate : (p : Parts) (r : Forbidden) (fate : Fate) → is_open_fate fate ≡ true → IsFateOf p r fate
-open-is_fate p r (Open prices) is_open = tt
-open-is_fate p r (Closed found) is_open = tt
-open-is_fate p r (Split d) is_open = absurd (false≢true is_open)
-
-open-later : (count n : ℕ) (fate : Fate) → is_open_fate fate ≡ true → HasLaterChildren count n fate
-open-later count n (Open prices) is_open = tt
-open-later count n (Closed found) is_open = tt
-open-later count n (Split d) is_open = absurd (false≢true is_open)
-
 -- after a split by the divergence rule the tree is one for the instance
-pub tree_of-with_division : (p : Parts) (old : List BranchNode) (n : ℕ) (d : Division) → IsOpenNode old n → IsTreeOf p old → IsBranching p (restriction_at old n) d.demand d.at d.left d.right → IsTreeOf p (with_division old n d)
-tree_of-with_division p old n d is_open are branching =
-    All-append (IsNodeOf p) (with_fate old n (Split d)) (child d.left ∷ child d.right ∷ [])
-    (All-set (IsNodeOf p) old n (record { limits = parent.limits; fate = Split d }) (record { limits = known; fate = branching }) are)
+pub tree_of-with_division : (p : Parts) (old : List BranchNode) (n : ℕ) (d : Division) → n < length old → IsTreeOf p old → IsBranching p (restriction_at old n) d.demand d.at d.left d.right → IsTreeOf p (with_division old n d)
+tree_of-with_division p old n d within are branching =
+    All-append (IsNodeOf p) (with_fate old n (DividedBy d)) (child d.left ∷ child d.right ∷ [])
+    (All-set (IsNodeOf p) old n (record parent { fate = DividedBy d }) (record { limits = known; fate = branching }) are)
     (All-cons (IsNodeOf p) (child d.left) (child d.right ∷ []) (is_child d.left branching.is_split.left_side) (All-cons (IsNodeOf p) (child d.right) [] (is_child d.right branching.is_split.right_side) (All-nil (IsNodeOf p))))
   where
     parent : BranchNode
@@ -62,80 +47,93 @@ tree_of-with_division p old n d is_open are branching =
     child arcs = child_of parent d.demand arcs
 
     known : All (IsLimitOf p) parent.limits
-    known = (are n no_tree_node is_open.within).limits
+    known = (are n no_tree_node within).limits
 
     is_child : (arcs : List ArcId) → IsSide p (restriction_at old n) d.demand d.at arcs → IsNodeOf p (child arcs)
     is_child arcs side = record {
-      limits = All-push (IsLimitOf p) parent.limits (record { demand = d.demand; arcs = arcs }) known (side-limit p (restriction_at old n) d.demand d.at arcs branching.is_split.demand side);
-      fate = open-is_fate p _ parent.fate is_open.open_fate;
+      limits = All-cons (IsLimitOf p) (record { demand = d.demand; arcs = arcs }) parent.limits (side-limit p (restriction_at old n) d.demand d.at arcs branching.is_split.demand side) known;
+      fate = tt;
     }
 
--- an open node of a tree for the instance may be closed or given other prices
+-- a node of a tree for the instance may have another fate that is as it should be, and other prices
 pub tree_of-with_fate : (p : Parts) (nodes : List BranchNode) (n : ℕ) (fate : Fate) → n < length nodes → IsTreeOf p nodes → IsFateOf p (restriction_at nodes n) fate → IsTreeOf p (with_fate nodes n fate)
-tree_of-with_fate p nodes n fate within are is_fate = All-set (IsNodeOf p) nodes n (record { limits = (tree_node_at nodes n).limits; fate = fate }) (record { limits = (are n no_tree_node within).limits; fate = is_fate }) are
+tree_of-with_fate p nodes n fate within are is_fate = All-set (IsNodeOf p) nodes n (record (tree_node_at nodes n) { fate = fate }) (record { limits = (are n no_tree_node within).limits; fate = is_fate }) are
 
-open-inherited : (limits_of : ℕ → List Limit) (limits : List Limit) (fate : Fate) → is_open_fate fate ≡ true → AreInherited limits_of limits fate
-open-inherited limits_of limits (Open prices) is_open = tt
-open-inherited limits_of limits (Closed found) is_open = tt
-open-inherited limits_of limits (Split d) is_open = absurd (false≢true is_open)
+pub tree_of-with_prices : (p : Parts) (nodes : List BranchNode) (n : ℕ) (prices : List ℕ) → n < length nodes → IsTreeOf p nodes → IsTreeOf p (with_prices nodes n prices)
+tree_of-with_prices p nodes n prices within are = All-set (IsNodeOf p) nodes n (record (tree_node_at nodes n) { prices = prices }) (record { limits = (are n no_tree_node within).limits; fate = (are n no_tree_node within).fate }) are
 
 -- children have the limits of their parent where nothing of theirs changed
 inherited-same : (count n : ℕ) (before after : ℕ → List Limit) (limits : List Limit) (fate : Fate) → ((m : ℕ) → m < count → after m ≡ before m) → HasLaterChildren count n fate → AreInherited before limits fate → AreInherited after limits fate
-inherited-same count n before after limits (Open prices) same later inherited = inherited
-inherited-same count n before after limits (Closed found) same later inherited = inherited
-inherited-same count n before after limits (Split d) same later inherited = (same d.left_child.0 later.1 ∙ inherited.0, same d.right_child.0 later.3 ∙ inherited.1)
+inherited-same count n before after limits Undone same later inherited = inherited
+inherited-same count n before after limits (ClosedBy found) same later inherited = inherited
+inherited-same count n before after limits (DividedBy d) same later inherited = (same d.left_child.0 later.1 ∙ inherited.0, same d.right_child.0 later.3 ∙ inherited.1)
 
--- another fate of one node leaves all limits
-limits-kept : (nodes : List BranchNode) (n m : ℕ) (fate : Fate) → n < length nodes → limits_at (with_fate nodes n fate) m ≡ limits_at nodes m
-limits-kept nodes n m fate within = elim (cases_eq m n) [
-  | inl here ↦ ap (λ (x : BranchNode). x.limits) (ap (tree_node_at (with_fate nodes n fate)) here ∙ get_or-set_same nodes n (record { limits = limits_at nodes n; fate = fate }) no_tree_node within) ∙ ap (limits_at nodes) (sym here)
-  | inr other ↦ ap (λ (x : BranchNode). x.limits) (get_or-set_other nodes n m (record { limits = limits_at nodes n; fate = fate }) no_tree_node other)
+-- another node of the same limits in the place of one leaves all limits
+limits-kept : (nodes : List BranchNode) (n m : ℕ) (node : BranchNode) → n < length nodes → node.limits ≡ limits_at nodes n → limits_at (set nodes n node) m ≡ limits_at nodes m
+limits-kept nodes n m node within same = elim (cases_eq m n) [
+  | inl here ↦ ap (λ (x : BranchNode). x.limits) (ap (tree_node_at (set nodes n node)) here ∙ get_or-set_same nodes n node no_tree_node within) ∙ same ∙ ap (limits_at nodes) (sym here)
+  | inr other ↦ ap (λ (x : BranchNode). x.limits) (get_or-set_other nodes n m node no_tree_node other)
 ]
 
 -- the children may come after a later end too
 later-more : (count more n : ℕ) (fate : Fate) → count ≤ more → HasLaterChildren count n fate → HasLaterChildren more n fate
-later-more count more n (Open prices) le later = later
-later-more count more n (Closed found) le later = later
-later-more count more n (Split d) le later = (later.0, omega (arith, later.1), later.2, omega (arith, later.3))
+later-more count more n Undone le later = later
+later-more count more n (ClosedBy found) le later = later
+later-more count more n (DividedBy d) le later = (later.0, omega (arith, later.1), later.2, omega (arith, later.3))
 
--- another fate of one node, open or closed
-pub AreNodes-with_fate : (nodes : List BranchNode) (n : ℕ) (fate : Fate) → AreNodes nodes → n < length nodes → ((count : ℕ) → HasLaterChildren count n fate) → ((limits_of : ℕ → List Limit) (limits : List Limit) → AreInherited limits_of limits fate) → AreNodes (with_fate nodes n fate)
-AreNodes-with_fate nodes n fate are within later inherited = record {
+-- another node of the same limits in the place of one, with children where they should be
+AreNodes-set : (nodes : List BranchNode) (n : ℕ) (node : BranchNode) → AreNodes nodes → n < length nodes → node.limits ≡ limits_at nodes n → HasLaterChildren (length nodes) n node.fate → AreInherited (limits_at nodes) (limits_at nodes n) node.fate → AreNodes (set nodes n node)
+AreNodes-set nodes n node are within limits later inherited = record {
   some = omega (arith, same);
   few = omega (arith, same, are.few);
-  root = limits-kept nodes n 0 fate within ∙ are.root;
+  root = kept 0 ∙ are.root;
   later = λ m below. later_at m (omega (arith, same)) (cases_eq m n);
   inherited = λ m below. inherited_at m (omega (arith, same)) (cases_eq m n);
 }
   where
-    node : BranchNode
-    node = record { limits = limits_at nodes n; fate = fate }
-
     new : List BranchNode
     new = set nodes n node
 
     same : length new ≡ length nodes
     same = length-set nodes n node
 
-    fate_here : (m : ℕ) → m ≡ n → (tree_node_at new m).fate ≡ fate
+    kept : (m : ℕ) → limits_at new m ≡ limits_at nodes m
+    kept m = limits-kept nodes n m node within limits
+
+    fate_here : (m : ℕ) → m ≡ n → (tree_node_at new m).fate ≡ node.fate
     fate_here m here = ap (λ (x : BranchNode). x.fate) (ap (tree_node_at new) here ∙ get_or-set_same nodes n node no_tree_node within)
 
     fate_other : (m : ℕ) → (m ≡ n → ⊥) → (tree_node_at new m).fate ≡ (tree_node_at nodes m).fate
     fate_other m other = ap (λ (x : BranchNode). x.fate) (get_or-set_other nodes n m node no_tree_node other)
 
     later_at : (m : ℕ) → m < length nodes → (m ≡ n) ⊎ (m ≡ n → ⊥) → HasLaterChildren (length new) m (tree_node_at new m).fate
-    later_at m below (inl here) = subst₂ (λ (j : ℕ) (f : Fate). HasLaterChildren (length new) j f) (sym here) (sym (fate_here m here)) (later (length new))
+    later_at m below (inl here) = subst₂ (λ (j : ℕ) (f : Fate). HasLaterChildren (length new) j f) (sym here) (sym (fate_here m here)) (subst (λ (count : ℕ). HasLaterChildren count n node.fate) (sym same) later)
     later_at m below (inr other) = subst₂ (λ (count : ℕ) (f : Fate). HasLaterChildren count m f) (sym same) (sym (fate_other m other)) (are.later m below)
 
+    inherited_by : (m : ℕ) (fate : Fate) → (tree_node_at new m).fate ≡ fate → HasLaterChildren (length nodes) m fate → AreInherited (limits_at nodes) (limits_at nodes m) fate → AreInherited (limits_at new) (limits_at new m) (tree_node_at new m).fate
+    inherited_by m fate is behind known =
+        subst₂ (λ (ls : List Limit) (f : Fate). AreInherited (limits_at new) ls f) (sym (kept m)) (sym is)
+        (inherited-same (length nodes) m (limits_at nodes) (limits_at new) (limits_at nodes m) fate (λ j inside. kept j) behind known)
+
     inherited_at : (m : ℕ) → m < length nodes → (m ≡ n) ⊎ (m ≡ n → ⊥) → AreInherited (limits_at new) (limits_at new m) (tree_node_at new m).fate
-    inherited_at m below (inl here) = subst (AreInherited (limits_at new) (limits_at new m)) (sym (fate_here m here)) (inherited (limits_at new) (limits_at new m))
-    inherited_at m below (inr other) =
-        subst₂ (λ (limits : List Limit) (f : Fate). AreInherited (limits_at new) limits f) (sym (limits-kept nodes n m fate within)) (sym (fate_other m other))
-        (inherited-same (length nodes) m (limits_at nodes) (limits_at new) (limits_at nodes m) (tree_node_at nodes m).fate (λ j inside. limits-kept nodes n j fate within) (are.later m below) (are.inherited m below))
+    inherited_at m below (inl here) =
+        inherited_by m node.fate (fate_here m here) (subst (λ (j : ℕ). HasLaterChildren (length nodes) j node.fate) (sym here) later)
+        (subst (λ (j : ℕ). AreInherited (limits_at nodes) (limits_at nodes j) node.fate) (sym here) inherited)
+    inherited_at m below (inr other) = inherited_by m (tree_node_at nodes m).fate (fate_other m other) (are.later m below) (are.inherited m below)
+
+-- another fate of one node, open or closed
+pub AreNodes-with_fate : (nodes : List BranchNode) (n : ℕ) (fate : Fate) → AreNodes nodes → n < length nodes → ((count : ℕ) → HasLaterChildren count n fate) → ((limits_of : ℕ → List Limit) (limits : List Limit) → AreInherited limits_of limits fate) → AreNodes (with_fate nodes n fate)
+AreNodes-with_fate nodes n fate are within later inherited =
+    AreNodes-set nodes n (record (tree_node_at nodes n) { fate = fate }) are within refl (later (length nodes)) (inherited (limits_at nodes) (limits_at nodes n))
+
+-- other prices of one node
+pub AreNodes-with_prices : (nodes : List BranchNode) (n : ℕ) (prices : List ℕ) → AreNodes nodes → n < length nodes → AreNodes (with_prices nodes n prices)
+AreNodes-with_prices nodes n prices are within =
+    AreNodes-set nodes n (record (tree_node_at nodes n) { prices = prices }) are within refl (are.later n within) (are.inherited n within)
 
 -- a split of an open node with its children at the end
-pub AreNodes-with_division : (old : List BranchNode) (n : ℕ) (d : Division) → AreNodes old → IsOpenNode old n → suc (suc (length old)) < 2 ^ 32 → d.left_child.0 ≡ length old → d.right_child.0 ≡ suc (length old) → AreNodes (with_division old n d)
-AreNodes-with_division old n d are is_open room left right = record {
+pub AreNodes-with_division : (old : List BranchNode) (n : ℕ) (d : Division) → AreNodes old → n < length old → suc (suc (length old)) < 2 ^ 32 → d.left_child.0 ≡ length old → d.right_child.0 ≡ suc (length old) → AreNodes (with_division old n d)
+AreNodes-with_division old n d are within room left right = record {
   some = omega (arith, long);
   few = omega (arith, long);
   root = limits_before 0 are.some ∙ are.root;
@@ -147,7 +145,7 @@ AreNodes-with_division old n d are is_open room left right = record {
     parent = tree_node_at old n
 
     node : BranchNode
-    node = record { limits = parent.limits; fate = Split d }
+    node = record parent { fate = DividedBy d }
 
     front : List BranchNode
     front = set old n node
@@ -172,24 +170,24 @@ AreNodes-with_division old n d are is_open room left right = record {
     behind m i is = get_or-append_right front last (length old) m no_tree_node same (omega arith) ∙ ap (λ (j : ℕ). get_or last j no_tree_node) (let gap : m - length old ≡ i = omega arith in gap)
 
     here : (m : ℕ) → m < length old → m ≡ n → tree_node_at new m ≡ node
-    here m inside is = before m inside ∙ ap (tree_node_at front) is ∙ get_or-set_same old n node no_tree_node is_open.within
+    here m inside is = before m inside ∙ ap (tree_node_at front) is ∙ get_or-set_same old n node no_tree_node within
 
     other : (m : ℕ) → m < length old → (m ≡ n → ⊥) → tree_node_at new m ≡ tree_node_at old m
     other m inside apart = before m inside ∙ get_or-set_other old n m node no_tree_node apart
 
-    open_child : (i : ℕ) → i < 2 → is_open_fate (get_or last i no_tree_node).fate ≡ true
-    open_child zero below = is_open.open_fate
-    open_child (suc zero) below = is_open.open_fate
+    open_child : (i : ℕ) → i < 2 → (get_or last i no_tree_node).fate ≡ Undone
+    open_child zero below = refl
+    open_child (suc zero) below = refl
     open_child (suc (suc i)) below = absurd (omega arith)
 
-    child_open : (m : ℕ) → m < length new → length old ≤ m → is_open_fate (tree_node_at new m).fate ≡ true
-    child_open m below past = ap (λ (x : BranchNode). is_open_fate x.fate) (behind m (m - length old) (omega arith)) ∙ open_child (m - length old) (omega (arith, long))
+    child_open : (m : ℕ) → m < length new → length old ≤ m → (tree_node_at new m).fate ≡ Undone
+    child_open m below past = ap (λ (x : BranchNode). x.fate) (behind m (m - length old) (omega arith)) ∙ open_child (m - length old) (omega (arith, long))
 
     limits_before : (m : ℕ) → m < length old → limits_at new m ≡ limits_at old m
-    limits_before m inside = ap (λ (x : BranchNode). x.limits) (before m inside) ∙ limits-kept old n m (Split d) is_open.within
+    limits_before m inside = ap (λ (x : BranchNode). x.limits) (before m inside) ∙ limits-kept old n m node within refl
 
     later_at : (m : ℕ) → m < length new → (m < length old) ⊎ (length old ≤ m) → (m ≡ n) ⊎ (m ≡ n → ⊥) → HasLaterChildren (length new) m (tree_node_at new m).fate
-    later_at m below (inr past) which = open-later (length new) m (tree_node_at new m).fate (child_open m below past)
+    later_at m below (inr past) which = subst (HasLaterChildren (length new) m) (sym (child_open m below past)) tt
     later_at m below (inl inside) (inl is) = subst (λ (x : BranchNode). HasLaterChildren (length new) m x.fate) (sym (here m inside is)) (omega (arith, long), omega (arith, long), omega (arith, long), omega (arith, long))
     later_at m below (inl inside) (inr apart) = subst (λ (x : BranchNode). HasLaterChildren (length new) m x.fate) (sym (other m inside apart)) (later-more (length old) (length new) m (tree_node_at old m).fate (omega (arith, long)) (are.later m inside))
 
@@ -197,7 +195,7 @@ AreNodes-with_division old n d are is_open room left right = record {
     child_limits m i arcs at is = ap (λ (x : BranchNode). x.limits) (behind m i at ∙ is)
 
     inherited_at : (m : ℕ) → m < length new → (m < length old) ⊎ (length old ≤ m) → (m ≡ n) ⊎ (m ≡ n → ⊥) → AreInherited (limits_at new) (limits_at new m) (tree_node_at new m).fate
-    inherited_at m below (inr past) which = open-inherited (limits_at new) (limits_at new m) (tree_node_at new m).fate (child_open m below past)
+    inherited_at m below (inr past) which = subst (AreInherited (limits_at new) (limits_at new m)) (sym (child_open m below past)) tt
     inherited_at m below (inl inside) (inl is) =
         subst (λ (x : BranchNode). AreInherited (limits_at new) x.limits x.fate) (sym (here m inside is))
         (child_limits d.left_child.0 0 d.left (omega arith) refl, child_limits d.right_child.0 1 d.right (omega arith) refl)
@@ -205,19 +203,22 @@ AreNodes-with_division old n d are is_open room left right = record {
         subst (λ (x : BranchNode). AreInherited (limits_at new) x.limits x.fate) (sym (other m inside apart))
         (inherited-same (length old) m (limits_at old) (limits_at new) (limits_at old m) (tree_node_at old m).fate limits_before (are.later m inside) (are.inherited m inside))
 
--- a node that was read, written back with another fate, also where nodes follow
-pub set-with_fate : (nodes : List BranchNode) (n : ℕ) (node : BranchNode) (fate : Fate) → n < length nodes → node ≡ get_or nodes n node → set nodes n (record { limits = node.limits; fate = fate }) ≡ with_fate nodes n fate
-set-with_fate nodes n node fate within read = ap (λ (x : BranchNode). set nodes n (record { limits = x.limits; fate = fate })) (read ∙ get_or_default nodes n node no_tree_node within)
+-- a node that was read, written back with another fate or other prices, also where nodes follow
+pub set-with_fate : (nodes : List BranchNode) (n : ℕ) (node : BranchNode) (fate : Fate) → n < length nodes → node ≡ get_or nodes n node → set nodes n (record node { fate = fate }) ≡ with_fate nodes n fate
+set-with_fate nodes n node fate within read = ap (λ (x : BranchNode). set nodes n (record x { fate = fate })) (read ∙ get_or_default nodes n node no_tree_node within)
 
-pub set-with_division : (nodes last : List BranchNode) (n : ℕ) (node : BranchNode) (fate : Fate) → n < length nodes → node ≡ get_or (nodes ++ last) n node → set (nodes ++ last) n (record { limits = node.limits; fate = fate }) ≡ with_fate nodes n fate ++ last
+pub set-with_prices : (nodes : List BranchNode) (n : ℕ) (node : BranchNode) (prices : List ℕ) → n < length nodes → node ≡ get_or nodes n node → set nodes n (record node { prices = prices }) ≡ with_prices nodes n prices
+set-with_prices nodes n node prices within read = ap (λ (x : BranchNode). set nodes n (record x { prices = prices })) (read ∙ get_or_default nodes n node no_tree_node within)
+
+pub set-with_division : (nodes last : List BranchNode) (n : ℕ) (node : BranchNode) (fate : Fate) → n < length nodes → node ≡ get_or (nodes ++ last) n node → set (nodes ++ last) n (record node { fate = fate }) ≡ with_fate nodes n fate ++ last
 set-with_division nodes last n node fate within read =
-    set-append_left nodes last n (record { limits = node.limits; fate = fate }) within
+    set-append_left nodes last n (record node { fate = fate }) within
     ∙ ap (λ (front : List BranchNode). front ++ last) (set-with_fate nodes n node fate within (read ∙ get_or_append_left nodes last node n within))
 
 -- the nodes with both children behind them, where the parent is written back as split
 pub set-is_division : (old nodes : List BranchNode) (n : ℕ) (d : Division) (node : BranchNode) → n < length old → nodes ≡ old ++ (child_of (tree_node_at old n) d.demand d.left ∷ child_of (tree_node_at old n) d.demand d.right ∷ []) → node ≡ get_or nodes n node
-    → set nodes n (record { limits = node.limits; fate = Split d }) ≡ with_division old n d
+    → set nodes n (record node { fate = DividedBy d }) ≡ with_division old n d
 set-is_division old nodes n d node within grown read =
     let last : List BranchNode = child_of (tree_node_at old n) d.demand d.left ∷ child_of (tree_node_at old n) d.demand d.right ∷ [] in
-    ap (λ (xs : List BranchNode). set xs n (record { limits = node.limits; fate = Split d })) grown
-    ∙ set-with_division old last n node (Split d) within (read ∙ ap (λ (xs : List BranchNode). get_or xs n node) grown)
+    ap (λ (xs : List BranchNode). set xs n (record node { fate = DividedBy d })) grown
+    ∙ set-with_division old last n node (DividedBy d) within (read ∙ ap (λ (xs : List BranchNode). get_or xs n node) grown)

@@ -6,7 +6,7 @@ use Rattle.std.proofs.lemmas.Option.{slice_get-get_or}
 use Rattle.plan_base.specs.declared.ids.BranchId.{BranchId}
 use Rattle.proof_tree.specs.declared.tree.TreeNode.{TreeNode}
 use Rattle.branch_tree.specs.declared.node.Fate.{Fate}
-use Rattle.branch_tree.specs.declared.node.Fate.TheVariants.{Open, Closed, Split}
+use Rattle.branch_tree.specs.declared.node.Fate.TheVariants.{Undone, ClosedBy, DividedBy}
 use Rattle.branch_tree.specs.declared.node.BranchNode.{BranchNode}
 use Rattle.branch_tree.specs.Branches.{tree_node_at, no_tree_node}
 use Rattle.branch_tree.specs.Records.{record_by, below_by, records_in, records_at, records_of, HasLaterChildren, AreNodes}
@@ -19,7 +19,7 @@ subtree_at nodes n = records_at (length nodes) nodes n
 node_read : (nodes : List BranchNode) (n : ℕ) → n < length nodes → slice_get nodes n ≡ Some (tree_node_at nodes n)
 node_read nodes n within = slice_get-get_or nodes n no_tree_node within
 
-pub records_at-suc : (nodes : List BranchNode) (depth n : ℕ) → n < length nodes → records_at (suc depth) nodes n ≡ record_by (tree_node_at nodes n).fate ∷ below_by (records_at depth nodes) (tree_node_at nodes n).fate
+pub records_at-suc : (nodes : List BranchNode) (depth n : ℕ) → n < length nodes → records_at (suc depth) nodes n ≡ record_by (tree_node_at nodes n).prices (tree_node_at nodes n).fate ∷ below_by (records_at depth nodes) (tree_node_at nodes n).fate
 records_at-suc nodes depth n within = ap (records_in (records_at depth nodes)) (node_read nodes n within)
 
 -- below a depth that reaches the end of the nodes, one level more changes nothing
@@ -27,16 +27,16 @@ deep_enough : (nodes : List BranchNode) (depth n : ℕ) → AreNodes nodes → n
 deep_enough nodes zero n are within deep = absurd (omega arith)
 deep_enough nodes (suc depth) n are within deep =
     records_at-suc nodes depth n within
-    ∙ ap (λ (rest : List TreeNode). record_by (tree_node_at nodes n).fate ∷ rest) (below (λ m later inside. deep_enough nodes depth m are inside (omega arith)) (tree_node_at nodes n).fate (are.later n within))
+    ∙ ap (λ (rest : List TreeNode). record_by (tree_node_at nodes n).prices (tree_node_at nodes n).fate ∷ rest) (below (λ m later inside. deep_enough nodes depth m are inside (omega arith)) (tree_node_at nodes n).fate (are.later n within))
     ∙ sym (records_at-suc nodes (suc depth) n within)
   where
     below : ((m : ℕ) → n < m → m < length nodes → records_at depth nodes m ≡ records_at (suc depth) nodes m) → (fate : Fate) → HasLaterChildren (length nodes) n fate → below_by (records_at depth nodes) fate ≡ below_by (records_at (suc depth) nodes) fate
-    below deeper (Open prices) later = refl
-    below deeper (Closed found) later = refl
-    below deeper (Split d) later = ap₂ (λ (left right : List TreeNode). left ++ right) (deeper d.left_child.0 later.0 later.1) (deeper d.right_child.0 later.2 later.3)
+    below deeper Undone later = refl
+    below deeper (ClosedBy found) later = refl
+    below deeper (DividedBy d) later = ap₂ (λ (left right : List TreeNode). left ++ right) (deeper d.left_child.0 later.0 later.1) (deeper d.right_child.0 later.2 later.3)
 
 -- a subtree is its node's record and the subtrees of its children
-pub subtree_at-step : (nodes : List BranchNode) (n : ℕ) → AreNodes nodes → n < length nodes → subtree_at nodes n ≡ record_by (tree_node_at nodes n).fate ∷ below_by (subtree_at nodes) (tree_node_at nodes n).fate
+pub subtree_at-step : (nodes : List BranchNode) (n : ℕ) → AreNodes nodes → n < length nodes → subtree_at nodes n ≡ record_by (tree_node_at nodes n).prices (tree_node_at nodes n).fate ∷ below_by (subtree_at nodes) (tree_node_at nodes n).fate
 subtree_at-step nodes n are within = deep_enough nodes (length nodes) n are within (omega arith) ∙ records_at-suc nodes (length nodes) n within
 
 -- the records of the subtrees of the nodes that wait, the last one first
@@ -55,16 +55,16 @@ children_wait nodes ids left right =
 
 -- what is to come where a node's children wait
 waiting_for-with_children : (nodes : List BranchNode) (ids : List BranchId) (fate : Fate) → waiting_for nodes (with_children ids fate) ≡ below_by (subtree_at nodes) fate ++ waiting_for nodes ids
-waiting_for-with_children nodes ids (Open prices) = refl
-waiting_for-with_children nodes ids (Closed found) = refl
-waiting_for-with_children nodes ids (Split d) = children_wait nodes ids d.left_child d.right_child
+waiting_for-with_children nodes ids Undone = refl
+waiting_for-with_children nodes ids (ClosedBy found) = refl
+waiting_for-with_children nodes ids (DividedBy d) = children_wait nodes ids d.left_child d.right_child
 
 -- the last node that waits has its record and its children's subtrees to come first
-pub waiting_for-last : (nodes : List BranchNode) (ids : List BranchId) (id : BranchId) → AreNodes nodes → id.0 < length nodes → waiting_for nodes (ids ++ (id ∷ [])) ≡ record_by (tree_node_at nodes id.0).fate ∷ waiting_for nodes (with_children ids (tree_node_at nodes id.0).fate)
+pub waiting_for-last : (nodes : List BranchNode) (ids : List BranchId) (id : BranchId) → AreNodes nodes → id.0 < length nodes → waiting_for nodes (ids ++ (id ∷ [])) ≡ record_by (tree_node_at nodes id.0).prices (tree_node_at nodes id.0).fate ∷ waiting_for nodes (with_children ids (tree_node_at nodes id.0).fate)
 waiting_for-last nodes ids id are within =
     waiting_for-push nodes ids id
     ∙ ap (λ (records : List TreeNode). records ++ waiting_for nodes ids) (subtree_at-step nodes id.0 are within)
-    ∙ ap (λ (rest : List TreeNode). record_by (tree_node_at nodes id.0).fate ∷ rest) (sym (waiting_for-with_children nodes ids (tree_node_at nodes id.0).fate))
+    ∙ ap (λ (rest : List TreeNode). record_by (tree_node_at nodes id.0).prices (tree_node_at nodes id.0).fate ∷ rest) (sym (waiting_for-with_children nodes ids (tree_node_at nodes id.0).fate))
 
 -- there is a node of this number
 abbrev pub IsNumberOf : List BranchNode → BranchId → Type 0
@@ -80,18 +80,18 @@ pub IsWriting-first : (nodes : List BranchNode) → AreNodes nodes → IsWriting
 IsWriting-first nodes are = record { within = All-cons (IsNumberOf nodes) (record { 0 = 0 }) [] are.some (All-nil (IsNumberOf nodes)); whole = refl }
 
 within-with_children : (nodes : List BranchNode) (ids : List BranchId) (n : ℕ) (fate : Fate) → HasLaterChildren (length nodes) n fate → All (IsNumberOf nodes) ids → All (IsNumberOf nodes) (with_children ids fate)
-within-with_children nodes ids n (Open prices) later within = within
-within-with_children nodes ids n (Closed found) later within = within
-within-with_children nodes ids n (Split d) later within = All-push (IsNumberOf nodes) (ids ++ (d.right_child ∷ [])) d.left_child (All-push (IsNumberOf nodes) ids d.right_child within later.3) later.1
+within-with_children nodes ids n Undone later within = within
+within-with_children nodes ids n (ClosedBy found) later within = within
+within-with_children nodes ids n (DividedBy d) later within = All-push (IsNumberOf nodes) (ids ++ (d.right_child ∷ [])) d.left_child (All-push (IsNumberOf nodes) ids d.right_child within later.3) later.1
 
 -- the last node's record is written, and its children wait
 pub IsWriting-step : (nodes : List BranchNode) (written : List TreeNode) (ids : List BranchId) (id : BranchId) → AreNodes nodes → IsWriting nodes written (ids ++ (id ∷ []))
-    → IsWriting nodes (written ++ (record_by (tree_node_at nodes id.0).fate ∷ [])) (with_children ids (tree_node_at nodes id.0).fate)
+    → IsWriting nodes (written ++ (record_by (tree_node_at nodes id.0).prices (tree_node_at nodes id.0).fate ∷ [])) (with_children ids (tree_node_at nodes id.0).fate)
 IsWriting-step nodes written ids id are writing =
     let both = All-pop (IsNumberOf nodes) (ids ++ (id ∷ [])) ids (Some id) refl writing.within in
     record {
       within = within-with_children nodes ids id.0 (tree_node_at nodes id.0).fate (are.later id.0 both.1) both.0;
-      whole = append_assoc written (record_by (tree_node_at nodes id.0).fate ∷ []) _
+      whole = append_assoc written (record_by (tree_node_at nodes id.0).prices (tree_node_at nodes id.0).fate ∷ []) _
           ∙ ap (λ (rest : List TreeNode). written ++ rest) (sym (waiting_for-last nodes ids id are both.1)) ∙ writing.whole;
     }
 
@@ -107,14 +107,14 @@ module _ (nodes : List BranchNode) (written : List TreeNode) (before ids after :
   within : id.0 < length nodes
   within = (All-pop (IsNumberOf nodes) (ids ++ (id ∷ [])) ids (Some id) refl still.within).1
 
-  same_fate : node.fate ≡ (tree_node_at nodes id.0).fate
-  same_fate = ap (λ (x : BranchNode). x.fate) (read ∙ get_or_default nodes id.0 node no_tree_node within)
+  same_node : node ≡ tree_node_at nodes id.0
+  same_node = read ∙ get_or_default nodes id.0 node no_tree_node within
 
   same_after : with_children ids (tree_node_at nodes id.0).fate ≡ after
-  same_after = ap (with_children ids) (sym same_fate) ∙ sym awaited
+  same_after = ap (λ (x : BranchNode). with_children ids x.fate) (sym same_node) ∙ sym awaited
 
-  pub written-next : IsWriting nodes (written ++ (record_by node.fate ∷ [])) after
-  written-next = subst₂ (λ (fate : Fate) (xs : List BranchId). IsWriting nodes (written ++ (record_by fate ∷ [])) xs) (sym same_fate) same_after (IsWriting-step nodes written ids id are still)
+  pub written-next : IsWriting nodes (written ++ (record_by node.prices node.fate ∷ [])) after
+  written-next = subst₂ (λ (x : BranchNode) (xs : List BranchId). IsWriting nodes (written ++ (record_by x.prices x.fate ∷ [])) xs) (sym same_node) same_after (IsWriting-step nodes written ids id are still)
 
   pub written-falls : length (waiting_for nodes after) < length (waiting_for nodes before)
   written-falls = subst₂ (λ (xs ys : List BranchId). length (waiting_for nodes xs) < length (waiting_for nodes ys)) same_after (sym popped) (waiting_for-falls nodes ids id are within)

@@ -4,7 +4,7 @@ use Rattle.std.proofs.lemmas.List.{append-nil}
 use Rattle.proof_tree.specs.declared.tree.TreeNode.{TreeNode}
 use Rattle.proof_tree.specs.Shapes.{are_trees}
 use Rattle.branch_tree.specs.declared.node.Fate.{Fate}
-use Rattle.branch_tree.specs.declared.node.Fate.TheVariants.{Open, Closed, Split}
+use Rattle.branch_tree.specs.declared.node.Fate.TheVariants.{Undone, ClosedBy, DividedBy}
 use Rattle.branch_tree.specs.declared.node.BranchNode.{BranchNode}
 use Rattle.branch_tree.specs.Branches.{tree_node_at}
 use Rattle.branch_tree.specs.Records.{record_by, below_by, records_at, records_of, HasLaterChildren, AreNodes}
@@ -18,10 +18,10 @@ subtree-is_tree nodes (suc depth) n k others are within deep =
     ∙ by_fate (λ m more rest later inside. subtree-is_tree nodes depth m more rest are inside (omega arith)) (tree_node_at nodes n).fate (are.later n within)
   where
     by_fate : ((m more : ℕ) (rest : List TreeNode) → n < m → m < length nodes → are_trees (suc more) (records_at depth nodes m ++ rest) ≡ are_trees more rest)
-        → (fate : Fate) → HasLaterChildren (length nodes) n fate → are_trees (suc k) ((record_by fate ∷ below_by (records_at depth nodes) fate) ++ others) ≡ are_trees k others
-    by_fate deeper (Open prices) later = refl
-    by_fate deeper (Closed found) later = refl
-    by_fate deeper (Split d) later =
+        → (fate : Fate) → HasLaterChildren (length nodes) n fate → are_trees (suc k) ((record_by (tree_node_at nodes n).prices fate ∷ below_by (records_at depth nodes) fate) ++ others) ≡ are_trees k others
+    by_fate deeper Undone later = refl
+    by_fate deeper (ClosedBy found) later = refl
+    by_fate deeper (DividedBy d) later =
         ap (are_trees (suc (suc k))) (append_assoc (records_at depth nodes d.left_child.0) (records_at depth nodes d.right_child.0) others)
         ∙ deeper d.left_child.0 (suc k) (records_at depth nodes d.right_child.0 ++ others) later.0 later.1
         ∙ deeper d.right_child.0 k others later.2 later.3

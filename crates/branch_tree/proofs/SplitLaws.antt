@@ -11,7 +11,7 @@ use Rattle.branch_tree.specs.declared.node.BranchNode.{BranchNode}
 use Rattle.branch_tree.specs.Dealing.{AreDealt}
 use Rattle.branch_tree.specs.Branches.{restriction_at, IsDivided, PartAtNode, IsSplitAt, IsTreeOf}
 use Rattle.branch_tree.proofs.DealingLaws.{dealt-branching}
-use Rattle.branch_tree.proofs.BranchLaws.{open-node, tree_of-with_division}
+use Rattle.branch_tree.proofs.BranchLaws.{open-within, tree_of-with_division}
 
 module _ (p : Parts) (old : List BranchNode) (node : ℕ) (id : DemandId) (first second : List ArcId) where
   -- two permitted paths part, the arcs there are dealt out, and the node is divided
@@ -30,4 +30,4 @@ module _ (p : Parts) (old : List BranchNode) (node : ℕ) (id : DemandId) (first
 
   -- the tree stays one for the instance
   pub tree_of-split : (ids : BranchId × BranchId) (new : List BranchNode) → IsTreeOf p old → IsSplitAt p old node id first second ids new → IsTreeOf p new
-  tree_of-split ids new are split = subst (IsTreeOf p) (sym split.divided.new_is) (tree_of-with_division p old node _ (open-node old node split.divided.open_before) are split.branching)
+  tree_of-split ids new are split = subst (IsTreeOf p) (sym split.divided.new_is) (tree_of-with_division p old node _ (open-within old node split.divided.open_before) are split.branching)

@@ -1,22 +1,16 @@
 -- The records of a search tree for the instance are a valid tree, where its leaves have their evidence.
-use Rattle.std.proofs.Common.{◌≡◌, ℕ, zero, suc, ◌+◌, ◌<◌, ◌≤◌, List, [], ◌∷◌, ◌++◌, length, Option, sym, ap, subst, subst₂, ◌∙◌, arith, append_assoc}
+use Rattle.std.proofs.Common.{◌≡◌, ℕ, zero, suc, ◌+◌, ◌<◌, ◌≤◌, List, [], ◌∷◌, ◌++◌, length, Option, sym, ap, subst, subst₂, arith, append_assoc}
 use Rattle.std.proofs.lemmas.List.{append-nil}
-use Rattle.std.proofs.lemmas.List.Sums.{fold-append}
 use Rattle.plan_base.specs.declared.parts.Parts.{Parts}
-use Rattle.arc_restrict.specs.Restrictions.{Forbidden, none_forbidden, with_forbidden}
+use Rattle.arc_restrict.specs.Restrictions.{Forbidden, with_forbidden}
 use Rattle.proof_tree.specs.declared.tree.TreeNode.{TreeNode}
 use Rattle.proof_tree.specs.Trees.{AreValidTrees, IsValidTree}
-use Rattle.branch_tree.specs.declared.node.Limit.{Limit}
 use Rattle.branch_tree.specs.declared.node.Fate.{Fate}
-use Rattle.branch_tree.specs.declared.node.Fate.TheVariants.{Open, Closed, Split}
+use Rattle.branch_tree.specs.declared.node.Fate.TheVariants.{Undone, ClosedBy, DividedBy}
 use Rattle.branch_tree.specs.declared.node.BranchNode.{BranchNode}
-use Rattle.branch_tree.specs.Branches.{restricted_by, restriction_by, tree_node_at, no_tree_node, limits_at, restriction_at, IsFateOf, IsTreeOf, HasItsEvidence, HaveTheirEvidence}
+use Rattle.branch_tree.specs.Branches.{restriction_by, tree_node_at, no_tree_node, limits_at, restriction_at, IsFateOf, IsTreeOf, HasItsEvidence, HaveTheirEvidence}
 use Rattle.branch_tree.specs.Records.{record_by, below_by, records_at, records_of, HasLaterChildren, AreInherited, AreNodes}
 use Rattle.branch_tree.proofs.RecordLaws.{records_at-suc}
-
--- one limit more forbids its arcs too
-restriction_by-push : (limits : List Limit) (limit : Limit) → restriction_by (limits ++ (limit ∷ [])) ≡ restricted_by (restriction_by limits) limit
-restriction_by-push limits limit = fold-append restricted_by none_forbidden limits (limit ∷ [])
 
 module _ (p : Parts) (cost : Option ℕ) (nodes : List BranchNode) (are : AreNodes nodes) (of : IsTreeOf p nodes) (shown : HaveTheirEvidence p cost nodes) where
   -- the records of a subtree are a valid tree at its node's restriction, in front of others
@@ -28,13 +22,13 @@ module _ (p : Parts) (cost : Option ℕ) (nodes : List BranchNode) (are : AreNod
       (by_fate (λ m more rest later inside. subtree-valid depth m more rest inside (omega arith)) (tree_node_at nodes n).fate (are.later n within) (are.inherited n within) (of n no_tree_node within).fate (shown n no_tree_node within))
     where
       by_fate : ((m : ℕ) (more : List Forbidden) (rest : List TreeNode) → n < m → m < length nodes → AreValidTrees p cost more rest → AreValidTrees p cost (restriction_at nodes m ∷ more) (records_at depth nodes m ++ rest))
-          → (fate : Fate) → HasLaterChildren (length nodes) n fate → AreInherited (limits_at nodes) (limits_at nodes n) fate → IsFateOf p (restriction_at nodes n) fate → HasItsEvidence p cost (restriction_at nodes n) fate
-          → AreValidTrees p cost (restriction_at nodes n ∷ rs) ((record_by fate ∷ below_by (records_at depth nodes) fate) ++ others)
-      by_fate deeper (Open prices) later inherited is_fate has = (has, valid)
-      by_fate deeper (Closed found) later inherited is_fate has = (has, valid)
-      by_fate deeper (Split d) later inherited is_fate has =
-          let left : restriction_at nodes d.left_child.0 ≡ with_forbidden (restriction_at nodes n) d.demand d.left = ap restriction_by inherited.0 ∙ restriction_by-push (limits_at nodes n) (record { demand = d.demand; arcs = d.left }) in
-          let right : restriction_at nodes d.right_child.0 ≡ with_forbidden (restriction_at nodes n) d.demand d.right = ap restriction_by inherited.1 ∙ restriction_by-push (limits_at nodes n) (record { demand = d.demand; arcs = d.right }) in
+          → (fate : Fate) → HasLaterChildren (length nodes) n fate → AreInherited (limits_at nodes) (limits_at nodes n) fate → IsFateOf p (restriction_at nodes n) fate → HasItsEvidence p cost (restriction_at nodes n) (tree_node_at nodes n).prices fate
+          → AreValidTrees p cost (restriction_at nodes n ∷ rs) ((record_by (tree_node_at nodes n).prices fate ∷ below_by (records_at depth nodes) fate) ++ others)
+      by_fate deeper Undone later inherited is_fate has = (has, valid)
+      by_fate deeper (ClosedBy found) later inherited is_fate has = (has, valid)
+      by_fate deeper (DividedBy d) later inherited is_fate has =
+          let left : restriction_at nodes d.left_child.0 ≡ with_forbidden (restriction_at nodes n) d.demand d.left = ap restriction_by inherited.0 in
+          let right : restriction_at nodes d.right_child.0 ≡ with_forbidden (restriction_at nodes n) d.demand d.right = ap restriction_by inherited.1 in
           let after_left : AreValidTrees p cost (restriction_at nodes d.right_child.0 ∷ rs) (records_at depth nodes d.right_child.0 ++ others) = deeper d.right_child.0 rs others later.2 later.3 valid in
           let both : AreValidTrees p cost (restriction_at nodes d.left_child.0 ∷ restriction_at nodes d.right_child.0 ∷ rs) (records_at depth nodes d.left_child.0 ++ (records_at depth nodes d.right_child.0 ++ others)) = deeper d.left_child.0 (restriction_at nodes d.right_child.0 ∷ rs) (records_at depth nodes d.right_child.0 ++ others) later.0 later.1 after_left in (
             is_fate.is_split,

@@ -1,6 +1,5 @@
 -- The search tree: what its nodes forbid, and how they are split.
-use Rattle.std.specs.Prelude.{ℕ, suc, ◌≡◌, ◌≢◌, ◌<◌, ◌*◌, Bool, true, false, ⊤, ◌⊎◌, List, [], ◌∷◌, ◌++◌, length, All, Option, Some, None, is_some, option_and_then, slice_get, slice_index_or, slice_set, IsTrue}
-use Rattle.std.specs.List.{fold}
+use Rattle.std.specs.Prelude.{ℕ, suc, ◌≡◌, ◌≢◌, ◌<◌, ◌*◌, Bool, true, false, ⊤, ◌⊎◌, List, [], ◌∷◌, ◌++◌, length, All, Option, Some, None, if◌then◌else◌, option_and_then, slice_get, slice_index_or, slice_set, IsTrue}
 use Rattle.plan_base.specs.declared.ids.NodeId.{NodeId}
 use Rattle.plan_base.specs.declared.ids.ArcId.{ArcId}
 use Rattle.plan_base.specs.declared.ids.BranchId.{BranchId}
@@ -18,27 +17,24 @@ use Rattle.proof_tree.specs.Spellings.{IsAscending}
 use Rattle.branch_tree.specs.declared.node.Limit.{Limit}
 use Rattle.branch_tree.specs.declared.node.Division.{Division}
 use Rattle.branch_tree.specs.declared.node.Fate.{Fate}
-use Rattle.branch_tree.specs.declared.node.Fate.TheVariants.{Open, Closed, Split}
+use Rattle.branch_tree.specs.declared.node.Fate.TheVariants.{Undone, ClosedBy, DividedBy}
 use Rattle.branch_tree.specs.declared.node.BranchNode.{BranchNode}
 use Rattle.branch_tree.specs.declared.split_fault.SplitFault.{SplitFault}
 use Rattle.branch_tree.specs.declared.split_fault.SplitFault.TheVariants.{NotOpen, NotPermitted, SamePath, OutOfMemory}
 use Rattle.branch_tree.specs.Dealing.{AreDealt}
 
--- one limit more
-abbrev pub restricted_by : Forbidden → Limit → Forbidden
-restricted_by r limit = with_forbidden r limit.demand limit.arcs
-
--- the same limits, and one more
-abbrev pub with_limit : List Limit → DemandId → List ArcId → List Limit
-with_limit limits id arcs = limits ++ (record { demand = id; arcs = arcs } ∷ [])
-
--- the restriction that these limits make
+-- the restriction that these limits make, the last one first
 abbrev pub restriction_by : List Limit → Forbidden
-restriction_by limits = fold restricted_by none_forbidden limits
+restriction_by [] = none_forbidden
+restriction_by (limit ∷ limits) = with_forbidden (restriction_by limits) limit.demand limit.arcs
+
+-- one more limit, in front of the same limits
+abbrev pub with_limit : List Limit → DemandId → List ArcId → List Limit
+with_limit limits id arcs = record { demand = id; arcs = arcs } ∷ limits
 
 -- the node that is read past the end of the tree
 abbrev pub no_tree_node : BranchNode
-no_tree_node = record { limits = []; fate = Open [] }
+no_tree_node = record { limits = []; prices = []; fate = Undone }
 
 -- the node of this number
 abbrev pub tree_node_at : List BranchNode → ℕ → BranchNode
@@ -52,27 +48,32 @@ limits_at nodes n = (tree_node_at nodes n).limits
 abbrev pub restriction_at : List BranchNode → ℕ → Forbidden
 restriction_at nodes n = restriction_by (limits_at nodes n)
 
--- the prices of an open node
-abbrev pub prices_by : Fate → Option (List ℕ)
-prices_by (Open prices) = Some prices
-prices_by (Closed found) = None
-prices_by (Split division) = None
-
 -- it is open
 abbrev pub is_open_fate : Fate → Bool
-is_open_fate fate = is_some (prices_by fate)
+is_open_fate Undone = true
+is_open_fate (ClosedBy found) = false
+is_open_fate (DividedBy division) = false
 
 -- the node is open
 abbrev pub is_open_node : BranchNode → Bool
 is_open_node node = is_open_fate node.fate
 
+-- the prices of an open node
+abbrev pub open_prices : BranchNode → Option (List ℕ)
+open_prices node = if is_open_node node then Some node.prices else None
+
 -- the prices of the node of this number, where it is open
 abbrev pub prices_at : List BranchNode → ℕ → Option (List ℕ)
-prices_at nodes n = option_and_then (λ node. prices_by node.fate) (slice_get nodes n)
+prices_at nodes n = option_and_then open_prices (slice_get nodes n)
+
+-- there is a node, and it is open
+abbrev pub is_open_in : Option BranchNode → Bool
+is_open_in None = false
+is_open_in (Some node) = is_open_node node
 
 -- there is a node of this number, and it is open
 abbrev pub is_open_at : List BranchNode → ℕ → Bool
-is_open_at nodes n = is_some (prices_at nodes n)
+is_open_at nodes n = is_open_in (slice_get nodes n)
 
 -- evidence that closes nothing
 abbrev pub is_open_evidence : Evidence → Bool
@@ -81,7 +82,11 @@ is_open_evidence _ = false
 
 -- the same tree with another fate of one node
 abbrev pub with_fate : List BranchNode → ℕ → Fate → List BranchNode
-with_fate nodes n fate = slice_set nodes n (record { limits = limits_at nodes n; fate = fate })
+with_fate nodes n fate = slice_set nodes n (record (tree_node_at nodes n) { fate = fate })
+
+-- the same tree with other prices of one node
+abbrev pub with_prices : List BranchNode → ℕ → List ℕ → List BranchNode
+with_prices nodes n prices = slice_set nodes n (record (tree_node_at nodes n) { prices = prices })
 
 -- an arc that leaves the node and is not forbidden is on one of the two sides
 abbrev pub SharesOut : Parts → Forbidden → DemandId → NodeId → List ArcId → List ArcId → Type 0
@@ -96,13 +101,13 @@ pub record IsBranching (p : Parts) (r : Forbidden) (id : DemandId) (at : NodeId)
   pub left_ascends : IsAscending left
   pub right_ascends : IsAscending right
 
--- the child of a node that also forbids these arcs: open with the same prices, where the node is open
+-- the child of a node that also forbids these arcs: open with the same prices
 abbrev pub child_of : BranchNode → DemandId → List ArcId → BranchNode
-child_of parent id arcs = record { limits = with_limit parent.limits id arcs; fate = parent.fate }
+child_of parent id arcs = record { limits = with_limit parent.limits id arcs; prices = parent.prices; fate = Undone }
 
 -- the same tree with this split of one node, and its left and right child behind all nodes
 abbrev pub with_division : List BranchNode → ℕ → Division → List BranchNode
-with_division nodes n d = with_fate nodes n (Split d) ++ (child_of (tree_node_at nodes n) d.demand d.left ∷ child_of (tree_node_at nodes n) d.demand d.right ∷ [])
+with_division nodes n d = with_fate nodes n (DividedBy d) ++ (child_of (tree_node_at nodes n) d.demand d.left ∷ child_of (tree_node_at nodes n) d.demand d.right ∷ [])
 
 -- an open node becomes split, and its two children are the last two nodes
 pub record IsDivided (old : List BranchNode) (node : ℕ) (id : DemandId) (at : NodeId) (left right : List ArcId) (ids : BranchId × BranchId) (new : List BranchNode) : Type 0 where
@@ -148,9 +153,9 @@ pub record IsLimitOf (p : Parts) (limit : Limit) : Type 0 where
 
 -- where the node is split, its split is one of this restriction that parts two paths and shares out all arcs
 abbrev pub IsFateOf : Parts → Forbidden → Fate → Type 0
-IsFateOf p r (Open prices) = ⊤
-IsFateOf p r (Closed found) = ⊤
-IsFateOf p r (Split d) = IsBranching p r d.demand d.at d.left d.right
+IsFateOf p r Undone = ⊤
+IsFateOf p r (ClosedBy found) = ⊤
+IsFateOf p r (DividedBy d) = IsBranching p r d.demand d.at d.left d.right
 
 -- a node of a tree for the instance: its limits name demands and arcs of it, and its split is as it should be
 pub record IsNodeOf (p : Parts) (node : BranchNode) : Type 0 where
@@ -162,11 +167,11 @@ abbrev pub IsTreeOf : Parts → List BranchNode → Type 0
 IsTreeOf p nodes = All (IsNodeOf p) nodes
 
 -- an open leaf's prices are within the limit, and a closed leaf's evidence holds, against a cost or none
-abbrev pub HasItsEvidence : Parts → Option ℕ → Forbidden → Fate → Type 0
-HasItsEvidence p cost r (Open prices) = AreWithinLimit p prices
-HasItsEvidence p cost r (Closed found) = HasEvidence p cost r found
-HasItsEvidence p cost r (Split d) = ⊤
+abbrev pub HasItsEvidence : Parts → Option ℕ → Forbidden → List ℕ → Fate → Type 0
+HasItsEvidence p cost r prices Undone = AreWithinLimit p prices
+HasItsEvidence p cost r prices (ClosedBy found) = HasEvidence p cost r found
+HasItsEvidence p cost r prices (DividedBy d) = ⊤
 
 -- each leaf has its evidence at its own restriction
 abbrev pub HaveTheirEvidence : Parts → Option ℕ → List BranchNode → Type 0
-HaveTheirEvidence p cost nodes = All (λ node. HasItsEvidence p cost (restriction_by node.limits) node.fate) nodes
+HaveTheirEvidence p cost nodes = All (λ node. HasItsEvidence p cost (restriction_by node.limits) node.prices node.fate) nodes

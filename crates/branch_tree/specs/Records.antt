@@ -5,31 +5,43 @@ use Rattle.proof_tree.specs.declared.tree.TreeNode.{TreeNode}
 use Rattle.proof_tree.specs.declared.tree.TreeNode.TheVariants as record_of
 use Rattle.branch_tree.specs.declared.node.Limit.{Limit}
 use Rattle.branch_tree.specs.declared.node.Fate.{Fate}
-use Rattle.branch_tree.specs.declared.node.Fate.TheVariants.{Open, Closed, Split}
+use Rattle.branch_tree.specs.declared.node.Fate.TheVariants.{Undone, ClosedBy, DividedBy}
 use Rattle.branch_tree.specs.declared.node.BranchNode.{BranchNode}
 use Rattle.branch_tree.specs.Branches.{tree_node_at, limits_at, with_limit}
 
--- the record of a node: an open node is an open leaf with its prices
-abbrev pub record_by : Fate → TreeNode
-record_by (Open prices) = record_of.Leaf (evidence.Open prices)
-record_by (Closed found) = record_of.Leaf found
-record_by (Split d) = record_of.Split d.demand d.at d.left d.right
+-- the record of a node with these prices: an open node is an open leaf with them
+abbrev pub record_by : List ℕ → Fate → TreeNode
+record_by prices Undone = record_of.Leaf (evidence.Open prices)
+record_by prices (ClosedBy found) = record_of.Leaf found
+record_by prices (DividedBy d) = record_of.Split d.demand d.at d.left d.right
 
 -- the records of both children, the left one first
 abbrev pub below_by : (ℕ → List TreeNode) → Fate → List TreeNode
-below_by subtree (Open prices) = []
-below_by subtree (Closed found) = []
-below_by subtree (Split d) = subtree d.left_child.0 ++ subtree d.right_child.0
+below_by subtree Undone = []
+below_by subtree (ClosedBy found) = []
+below_by subtree (DividedBy d) = subtree d.left_child.0 ++ subtree d.right_child.0
 
--- the records of the subtree of a node, or none where there is no node
-abbrev pub records_in : (ℕ → List TreeNode) → Option BranchNode → List TreeNode
-records_in subtree None = []
-records_in subtree (Some node) = record_by node.fate ∷ below_by subtree node.fate
+-- the records of a subtree: its node's own, and then those of the children, which a function tells
+abbrev pub preorder_by : (ℕ → List TreeNode) → List ℕ → Fate → List TreeNode
+preorder_by subtree prices fate = record_by prices fate ∷ below_by subtree fate
+
+-- the same of a node of any kind, or no records where there is none; two functions tell its prices and its fate
+abbrev pub preorder_in : {A : Type 0} → (A → List ℕ) → (A → Fate) → (ℕ → List TreeNode) → Option A → List TreeNode
+preorder_in prices_of fate_of subtree None = []
+preorder_in prices_of fate_of subtree (Some node) = preorder_by subtree (prices_of node) (fate_of node)
 
 -- the records of the subtree at a number, down to a depth
+abbrev pub preorder_at : {A : Type 0} → (A → List ℕ) → (A → Fate) → ℕ → List A → ℕ → List TreeNode
+preorder_at prices_of fate_of zero nodes n = []
+preorder_at prices_of fate_of (suc depth) nodes n = preorder_in prices_of fate_of (preorder_at prices_of fate_of depth nodes) (slice_get nodes n)
+
+-- the same of a node of a search tree
+abbrev pub records_in : (ℕ → List TreeNode) → Option BranchNode → List TreeNode
+records_in subtree node = preorder_in (λ x. x.prices) (λ x. x.fate) subtree node
+
+-- the same of a search tree
 abbrev pub records_at : ℕ → List BranchNode → ℕ → List TreeNode
-records_at zero nodes n = []
-records_at (suc depth) nodes n = records_in (records_at depth nodes) (slice_get nodes n)
+records_at depth nodes n = preorder_at (λ x. x.prices) (λ x. x.fate) depth nodes n
 
 -- the records of the tree: no way down it has more nodes than there are
 abbrev pub records_of : List BranchNode → List TreeNode
@@ -37,15 +49,15 @@ records_of nodes = records_at (length nodes) nodes 0
 
 -- a node's children come after it
 abbrev pub HasLaterChildren : ℕ → ℕ → Fate → Type 0
-HasLaterChildren count n (Open prices) = ⊤
-HasLaterChildren count n (Closed found) = ⊤
-HasLaterChildren count n (Split d) = (n < d.left_child.0) × (d.left_child.0 < count) × (n < d.right_child.0) × (d.right_child.0 < count)
+HasLaterChildren count n Undone = ⊤
+HasLaterChildren count n (ClosedBy found) = ⊤
+HasLaterChildren count n (DividedBy d) = (n < d.left_child.0) × (d.left_child.0 < count) × (n < d.right_child.0) × (d.right_child.0 < count)
 
 -- a node's children have its limits and one more: the left child the left side, the right child the right side
 abbrev pub AreInherited : (ℕ → List Limit) → List Limit → Fate → Type 0
-AreInherited limits_of limits (Open prices) = ⊤
-AreInherited limits_of limits (Closed found) = ⊤
-AreInherited limits_of limits (Split d) = (limits_of d.left_child.0 ≡ with_limit limits d.demand d.left) × (limits_of d.right_child.0 ≡ with_limit limits d.demand d.right)
+AreInherited limits_of limits Undone = ⊤
+AreInherited limits_of limits (ClosedBy found) = ⊤
+AreInherited limits_of limits (DividedBy d) = (limits_of d.left_child.0 ≡ with_limit limits d.demand d.left) × (limits_of d.right_child.0 ≡ with_limit limits d.demand d.right)
 
 -- nodes that a search tree may have: the root has no limits, and the children of each split have its limits and their side
 pub record AreNodes (nodes : List BranchNode) : Type 0 where

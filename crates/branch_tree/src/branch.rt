@@ -6,7 +6,7 @@ ghost use Rattle.plan_base.specs.Arcs.{demand_at};
 ghost use Rattle.plan_base.specs.Paths.{IsSimplePath};
 ghost use Rattle.arc_restrict.specs.Rows.{forbids, HasSizeOf};
 ghost use Rattle.proof_tree.specs.Trees.{IsValidTree};
-ghost use Rattle.branch_tree.specs.Branches.{restriction_by, restriction_at, is_open_fate, is_open_node, prices_at, is_open_at, is_open_evidence, with_fate, child_of, IsDivided, IsSplitAt, IsSplitFault, PartAtNode, IsLimitOf, IsTreeOf, tree_node_at, with_limit, HaveTheirEvidence};
+ghost use Rattle.branch_tree.specs.Branches.{restriction_by, restriction_at, is_open_fate, is_open_node, prices_at, is_open_at, is_open_evidence, with_fate, with_prices, child_of, IsDivided, IsSplitAt, IsSplitFault, PartAtNode, IsLimitOf, IsTreeOf, tree_node_at, with_limit, HaveTheirEvidence};
 ghost use Rattle.branch_tree.specs.Records.{records_of};
 
 use crate::dealing::deal;
@@ -24,9 +24,9 @@ fn is_open_fate(fate: &Fate) -> bool
     ensures { result ≡ is_open_fate fate.now }
 {
     match fate {
-        Fate::Open(_) => true,
-        Fate::Closed(_) => false,
-        Fate::Split(_) => false,
+        Fate::Undone => true,
+        Fate::ClosedBy(_) => false,
+        Fate::DividedBy(_) => false,
     }
 }
 
@@ -41,13 +41,16 @@ fn restriction_by(
     ensures size { IfOk result (λ r. HasSizeOf inst.now r) }
 {
     let mut restriction = Restriction::none(alloc, inst)?;
-    for limit in limits {
+    let mut here = limits.len();
+    while here > 0 {
+        here -= 1;
+        let limit = &limits[here];
         restriction.forbid(limit.demand, limit.arcs.as_slice());
     }
     Ok(restriction)
 }
 
-/// The same limits, and one more.
+/// One more limit, in front of the same limits.
 fn limits_with(
     alloc: Global,
     limits: &[Limit],
@@ -57,16 +60,16 @@ fn limits_with(
     ensures { IfOk result (λ more. more ≡ with_limit limits.now demand arcs.now) }
 {
     let mut more = Vec::new(alloc);
+    more.push(Limit {
+        demand,
+        arcs: Items::from_vec(Vec::from_slice(alloc, arcs)?),
+    })?;
     for limit in limits {
         more.push(Limit {
             demand: limit.demand,
             arcs: limit.arcs.copy()?,
         })?;
     }
-    more.push(Limit {
-        demand,
-        arcs: Items::from_vec(Vec::from_slice(alloc, arcs)?),
-    })?;
     Ok(Items::from_vec(more))
 }
 
@@ -95,12 +98,13 @@ impl Branch {
     /// - Errors: want of memory.
     /// - Rule: docs/METHOD.md, "Search trees".
     pub fn new(alloc: Global, root: Prices) -> Result<Branch, AllocError>
-        ensures value { IfOk result (λ nodes. nodes ≡ record { limits = []; fate = Fate.Open root } ∷ []) }
+        ensures value { IfOk result (λ nodes. nodes ≡ record { limits = []; prices = root; fate = Fate.Undone } ∷ []) }
         ensures of { IfOk result (λ nodes. (p : AnyParts) → IsTreeOf p nodes) }
     {
         let root = BranchNode {
             limits: Items::new(alloc),
-            fate: Fate::Open(root),
+            prices: root,
+            fate: Fate::Undone,
         };
         Ok(Branch {
             nodes: vec![in alloc; root]?,
@@ -149,13 +153,11 @@ impl Branch {
     /// - Time: linear in the prices.
     pub fn set_prices(&mut self, node: BranchId, prices: &Prices)
         requires { IsSomeAnd (prices_at self.old node.0) (λ held. length prices.now ≡ length held) }
-        ensures value { self.new ≡ with_fate self.old node.0 (Fate.Open prices.now) }
+        ensures value { self.new ≡ with_prices self.old node.0 prices.now }
         ensures of { (p : AnyParts) → IsTreeOf p self.old → IsTreeOf p self.new }
     {
         let node = &mut self.nodes[node.0 as usize];
-        if let Fate::Open(held) = &mut node.fate {
-            held.set_to(prices);
-        }
+        node.prices.set_to(prices);
     }
 
     /// Closes an open node by evidence. Takes no memory.
@@ -164,11 +166,11 @@ impl Branch {
     pub fn close(&mut self, node: BranchId, evidence: Evidence)
         requires open { is_open_at self.old node.0 ≡ true }
         requires closes { is_open_evidence evidence ≡ false }
-        ensures value { self.new ≡ with_fate self.old node.0 (Fate.Closed evidence) }
+        ensures value { self.new ≡ with_fate self.old node.0 (Fate.ClosedBy evidence) }
         ensures of { (p : AnyParts) → IsTreeOf p self.old → IsTreeOf p self.new }
     {
         let node = &mut self.nodes[node.0 as usize];
-        node.fate = Fate::Closed(evidence);
+        node.fate = Fate::ClosedBy(evidence);
     }
 
     /// Whether there is a node of this number, and it is open.
@@ -269,29 +271,27 @@ impl Branch {
         }
     }
 
-    /// The child of an open node that also forbids these arcs.
+    /// The child of a node that also forbids these arcs.
     fn child(
         &self,
         node: BranchId,
         demand: DemandId,
         arcs: &[ArcId],
     ) -> Result<BranchNode, AllocError>
-        requires { is_open_at self.now node.0 ≡ true }
+        requires { node.0 < length self.now }
         ensures { IfOk result (λ child. child ≡ child_of (tree_node_at self.now node.0) demand arcs.now) }
     {
         let parent = &self.nodes[node.0 as usize];
-        let Fate::Open(prices) = &parent.fate else {
-            unreachable!()
-        };
         let alloc = *self.nodes.allocator();
         let limits = limits_with(alloc, parent.limits.as_slice(), demand, arcs)?;
         Ok(BranchNode {
             limits,
-            fate: Fate::Open(prices.copy()?),
+            prices: parent.prices.copy()?,
+            fate: Fate::Undone,
         })
     }
 
-    /// The two children of an open node.
+    /// The two children of a node.
     fn children(
         &self,
         node: BranchId,
@@ -299,7 +299,7 @@ impl Branch {
         left: &[ArcId],
         right: &[ArcId],
     ) -> Result<Vec<BranchNode>, AllocError>
-        requires { is_open_at self.now node.0 ≡ true }
+        requires { node.0 < length self.now }
         ensures { IfOk result (λ children. children.items
             ≡ child_of (tree_node_at self.now node.0) demand left.now ∷ child_of (tree_node_at self.now node.0) demand right.now ∷ []) }
     {
@@ -331,7 +331,7 @@ impl Branch {
         let mut children = self.children(node, demand, left.as_slice(), right.as_slice())?;
         self.nodes.append(&mut children)?;
         let parent = &mut self.nodes[node.0 as usize];
-        parent.fate = Fate::Split(Division {
+        parent.fate = Fate::DividedBy(Division {
             demand,
             at,
             left,

@@ -32,20 +32,22 @@ pub struct Division {
 /// What became of a node.
 #[derive(Debug, Drop)]
 pub enum Fate {
-    /// It is an open leaf, with these prices: in thousandths of a cost grain per load grain, one for
-    /// each link.
-    Open(Prices),
+    /// It is an open leaf.
+    Undone,
     /// It is a leaf that this evidence closes.
-    Closed(Evidence),
-    /// It is split.
-    Split(Division),
+    ClosedBy(Evidence),
+    /// It has two children.
+    DividedBy(Division),
 }
 
-/// A node: what is forbidden there, and what became of it.
+/// A node: what is forbidden there, its prices, and what became of it.
 #[derive(Debug, Drop)]
 pub struct BranchNode {
-    /// What the splits above it forbid, from the root down.
+    /// What the splits above it forbid, the last one first.
     pub limits: Items<Limit>,
+    /// The prices that it began with or was given last: in thousandths of a cost grain per load
+    /// grain, one for each link.
+    pub prices: Prices,
     /// What became of it.
     pub fate: Fate,
 }

@@ -5,7 +5,7 @@ ghost use Rattle.branch_tree.specs.Records.{record_by, records_of, AreNodes};
 ghost use Rattle.branch_tree.specs.Waiting.{with_children};
 
 use crate::node::{BranchNode, Fate};
-use plan_base::BranchId;
+use plan_base::{BranchId, Prices};
 use proof_tree::{Evidence, TreeNode};
 use std::alloc::{AllocError, Global};
 
@@ -26,14 +26,14 @@ fn copy_evidence(evidence: &Evidence) -> Result<Evidence, AllocError>
     })
 }
 
-/// The record of a node.
-fn record_by(fate: &Fate) -> Result<TreeNode, AllocError>
-    ensures { IfOk result (λ made. made ≡ record_by fate.now) }
+/// The record of a node with these prices.
+fn record_by(prices: &Prices, fate: &Fate) -> Result<TreeNode, AllocError>
+    ensures { IfOk result (λ made. made ≡ record_by prices.now fate.now) }
 {
     Ok(match fate {
-        Fate::Open(prices) => TreeNode::Leaf(Evidence::Open(prices.copy()?)),
-        Fate::Closed(evidence) => TreeNode::Leaf(copy_evidence(evidence)?),
-        Fate::Split(division) => TreeNode::Split {
+        Fate::Undone => TreeNode::Leaf(Evidence::Open(prices.copy()?)),
+        Fate::ClosedBy(evidence) => TreeNode::Leaf(copy_evidence(evidence)?),
+        Fate::DividedBy(division) => TreeNode::Split {
             demand: division.demand,
             node: division.at,
             left: division.left.copy()?,
@@ -47,9 +47,9 @@ fn await_children(waiting: &mut Vec<BranchId>, fate: &Fate) -> Result<(), AllocE
     ensures { IfOk result (λ _. waiting.new.items ≡ with_children waiting.old.items fate.now) }
 {
     match fate {
-        Fate::Open(_) => {}
-        Fate::Closed(_) => {}
-        Fate::Split(division) => {
+        Fate::Undone => {}
+        Fate::ClosedBy(_) => {}
+        Fate::DividedBy(division) => {
             waiting.push(division.right_child)?;
             waiting.push(division.left_child)?;
         }
@@ -66,7 +66,7 @@ pub(crate) fn records_of(alloc: Global, nodes: &[BranchNode]) -> Result<Vec<Tree
     let mut waiting = vec![in alloc; BranchId(0)]?;
     while let Some(id) = waiting.pop() {
         let node = &nodes[id.0 as usize];
-        records.push(record_by(&node.fate)?)?;
+        records.push(record_by(&node.prices, &node.fate)?)?;
         await_children(&mut waiting, &node.fate)?;
     }
     Ok(records)

@@ -15,9 +15,9 @@ use Rattle.proof_tree.specs.declared.plan.PlanStatus.TheVariants.{Undecided}
 use Rattle.proof_tree.specs.Shapes.{are_trees}
 use Rattle.proof_tree.specs.Trees.{AreValidTrees, IsValidTree}
 use Rattle.proof_tree.specs.Plans.{stated_cost, is_open, needs_cost, IsStatedDesign, HasStatus, IsValidPlan}
-use Rattle.pool_machine.specs.declared.tree.Fate.{Fate}
+use Rattle.branch_tree.specs.declared.node.Fate.{Fate}
 use Rattle.pool_machine.specs.declared.tree.Incumbent.{Incumbent}
-use Rattle.pool_machine.specs.declared.tree.Fate.TheVariants.{Undone, ClosedBy, DividedBy}
+use Rattle.branch_tree.specs.declared.node.Fate.TheVariants.{Undone, ClosedBy, DividedBy}
 use Rattle.pool_machine.specs.State.{Node, State, restriction_of, cutoff_of, examined_by, examined_in, kept_prices}
 use Rattle.pool_machine.specs.Machine.{IsReachable}
 use Rattle.pool_machine.specs.Nodes.{HasSoundFate, IsSoundFate}

@@ -28,8 +28,8 @@ use Rattle.bound_assembly.specs.declared.limits.TheConstants.{MAX_PATH_LINKS}
 use Rattle.bound_assembly.proofs.Gaps.{left-none}
 use Rattle.bound_assembly.proofs.LeastLengths.{round_bound-bound}
 use Rattle.pool_machine.specs.declared.tree.Incumbent.{Incumbent}
-use Rattle.pool_machine.specs.declared.tree.Fate.{Fate}
-use Rattle.pool_machine.specs.declared.tree.Fate.TheVariants.{Undone, ClosedBy, DividedBy}
+use Rattle.branch_tree.specs.declared.node.Fate.{Fate}
+use Rattle.branch_tree.specs.declared.node.Fate.TheVariants.{Undone, ClosedBy, DividedBy}
 use Rattle.pool_machine.specs.State.{Best, Node, State, restriction_of, cutoff_of, kept_by, kept_prices}
 use Rattle.pool_machine.specs.Machine.{IsReachable}
 use Rattle.pool_machine.specs.Changes.{bound_in}

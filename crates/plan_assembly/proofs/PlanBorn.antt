@@ -28,8 +28,8 @@ use Rattle.pool_machine.specs.declared.answers.ExamineFault.TheVariants as exami
 use Rattle.pool_machine.specs.declared.answers.Better.{Better}
 use Rattle.pool_machine.specs.declared.answers.Better.TheVariants as better
 use Rattle.branch_tree.specs.declared.node.Division.{Division}
-use Rattle.pool_machine.specs.declared.tree.Fate.{Fate}
-use Rattle.pool_machine.specs.declared.tree.Fate.TheVariants.{Undone, ClosedBy, DividedBy}
+use Rattle.branch_tree.specs.declared.node.Fate.{Fate}
+use Rattle.branch_tree.specs.declared.node.Fate.TheVariants.{Undone, ClosedBy, DividedBy}
 use Rattle.pool_machine.specs.State.{Round, Node, State}
 use Rattle.pool_machine.specs.Changes.{TakesRound}
 use Rattle.pool_machine.specs.Dividing.{child_of, divided_by, Divides}

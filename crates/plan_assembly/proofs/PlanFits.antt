@@ -28,9 +28,9 @@ use Rattle.proof_tree.specs.Splits.{IsSide}
 use Rattle.proof_tree.specs.Trees.{AreValidTrees}
 use Rattle.proof_tree.specs.Plans.{IsStatedDesign}
 use Rattle.proof_tree.specs.Spellings.{IsAscending, IsWrittenSide, FitsRecord, FitsDesign, FitsStatus, IsSpellable}
-use Rattle.pool_machine.specs.declared.tree.Fate.{Fate}
+use Rattle.branch_tree.specs.declared.node.Fate.{Fate}
 use Rattle.pool_machine.specs.declared.tree.Incumbent.{Incumbent}
-use Rattle.pool_machine.specs.declared.tree.Fate.TheVariants.{Undone, ClosedBy, DividedBy}
+use Rattle.branch_tree.specs.declared.node.Fate.TheVariants.{Undone, ClosedBy, DividedBy}
 use Rattle.pool_machine.specs.State.{Node, State, restriction_of, cutoff_of, kept_prices}
 use Rattle.pool_machine.specs.Machine.{IsReachable}
 use Rattle.pool_machine.specs.Nodes.{IsSoundNode, IsSoundFate, HasSoundFate}

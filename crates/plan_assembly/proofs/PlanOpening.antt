@@ -18,8 +18,8 @@ use Rattle.proof_tree.proofs.Uniqueness.{bound-unique}
 use Rattle.proof_tree.proofs.Presence.{bound-not_absent}
 use Rattle.proof_tree.proofs.Duality.{bound-le-cost}
 use Rattle.branch_tree.specs.declared.node.Division.{Division}
-use Rattle.pool_machine.specs.declared.tree.Fate.{Fate}
-use Rattle.pool_machine.specs.declared.tree.Fate.TheVariants.{Undone, ClosedBy, DividedBy}
+use Rattle.branch_tree.specs.declared.node.Fate.{Fate}
+use Rattle.branch_tree.specs.declared.node.Fate.TheVariants.{Undone, ClosedBy, DividedBy}
 use Rattle.pool_machine.specs.State.{Best, Node, State, restriction_by, restriction_of, kept_by, kept_prices}
 use Rattle.pool_machine.specs.Machine.{IsReachable}
 use Rattle.pool_machine.specs.Nodes.{IsSoundBest}

@@ -11,8 +11,8 @@ use Rattle.proof_tree.specs.declared.tree.TreeNode.TheVariants.{Leaf}
 use Rattle.proof_tree.specs.declared.plan.PlanStatus.{PlanStatus}
 use Rattle.proof_tree.specs.declared.plan.PlanStatus.TheVariants.{Optimal, Infeasible, Undecided}
 use Rattle.pool_machine.specs.Family.{HasChildrenBy}
-use Rattle.pool_machine.specs.declared.tree.Fate.{Fate}
-use Rattle.pool_machine.specs.declared.tree.Fate.TheVariants.{Undone, ClosedBy, DividedBy}
+use Rattle.branch_tree.specs.declared.node.Fate.{Fate}
+use Rattle.branch_tree.specs.declared.node.Fate.TheVariants.{Undone, ClosedBy, DividedBy}
 use Rattle.pool_machine.specs.State.{Node, State, restriction_of, cutoff_of, kept_prices}
 use Rattle.pool_machine.specs.declared.limits.TheConstants.{MAX_BUDGET}
 use Rattle.pool_machine.specs.Machine.{IsReachable}

@@ -10,8 +10,8 @@ use Rattle.proof_tree.specs.declared.tree.Evidence.TheVariants as evidence
 use Rattle.pool_machine.specs.declared.answers.NodeState.{NodeState}
 use Rattle.pool_machine.specs.declared.answers.Closing.{Closing}
 use Rattle.pool_machine.specs.declared.answers.Closing.TheVariants as closing
-use Rattle.pool_machine.specs.declared.tree.Fate.{Fate}
-use Rattle.pool_machine.specs.declared.tree.Fate.TheVariants.{Undone, ClosedBy, DividedBy}
+use Rattle.branch_tree.specs.declared.node.Fate.{Fate}
+use Rattle.branch_tree.specs.declared.node.Fate.TheVariants.{Undone, ClosedBy, DividedBy}
 use Rattle.pool_machine.specs.State.{Round, Best, Node, State, cutoff_of, state_by, state_in, state_of, kept_by, kept_prices}
 use Rattle.pool_machine.specs.Changes.{is_spent, is_open_state, bound_in, examined_with}
 use Rattle.pool_machine.specs.Closing.{reaches, is_closable, closable_in, close_fault, closed_by, ClosesBy, by_crowd, by_bound, Closes, CloseStep}

@@ -17,7 +17,7 @@ use Rattle.arc_restrict.specs.Rows.{Rows}
 use Rattle.proof_tree.specs.Splits.{IsSide}
 use Rattle.pool_machine.specs.declared.answers.Examined.TheVariants as examined
 use Rattle.branch_tree.specs.declared.node.Division.{Division}
-use Rattle.pool_machine.specs.declared.tree.Fate.TheVariants.{Undone}
+use Rattle.branch_tree.specs.declared.node.Fate.TheVariants.{Undone}
 use Rattle.pool_machine.specs.State.{Round, Node, State, restriction_of}
 use Rattle.pool_machine.specs.Dividing.{child_of, divided_by, Divides}
 use Rattle.pool_machine.specs.Machine.{Examining, to_examining, IsReachable}

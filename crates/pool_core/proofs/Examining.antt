@@ -14,8 +14,8 @@ use Rattle.pool_machine.specs.declared.answers.ExamineFault.TheVariants as exami
 use Rattle.pool_machine.specs.declared.answers.Examined.TheVariants as examined
 use Rattle.pool_nodes.specs.declared.reason.Reason.TheVariants as reason
 use Rattle.pool_machine.specs.declared.tree.HeldCut.{HeldCut}
-use Rattle.pool_machine.specs.declared.tree.Fate.{Fate}
-use Rattle.pool_machine.specs.declared.tree.Fate.TheVariants.{Undone}
+use Rattle.branch_tree.specs.declared.node.Fate.{Fate}
+use Rattle.branch_tree.specs.declared.node.Fate.TheVariants.{Undone}
 use Rattle.pool_machine.specs.State.{Round, Node, State, cutoff_of, state_by, state_in, state_of}
 use Rattle.pool_machine.specs.Changes.{is_spent, is_open_state, has_cut, bound_in, examined_with}
 use Rattle.pool_machine.specs.Closing.{is_closable, closed_by}

@@ -6,7 +6,7 @@ use Rattle.pool_machine.specs.declared.answers.Opened.{Opened}
 use Rattle.pool_machine.specs.declared.answers.RoundFault.{RoundFault}
 use Rattle.pool_machine.specs.declared.answers.Publish.{Publish}
 use Rattle.pool_machine.specs.declared.answers.Publish.TheVariants as publish
-use Rattle.pool_machine.specs.declared.tree.Fate.{Fate}
+use Rattle.branch_tree.specs.declared.node.Fate.{Fate}
 use Rattle.pool_machine.specs.State.{Round, Node, State, state_by, state_in, state_of}
 use Rattle.pool_machine.specs.Opening.{is_waiting, IsLowestFreeSlot}
 use Rattle.pool_machine.specs.Publishing.{publish_fault, Publishes, PublishStep}

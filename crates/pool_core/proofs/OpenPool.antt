@@ -13,8 +13,8 @@ use Rattle.plan_base.proofs.Bools.{not-false}
 use Rattle.plan_base.proofs.FirstFault.{or_else-none, when-none}
 use Rattle.pool_machine.specs.declared.limits.TheConstants.{MAX_ROUNDS}
 use Rattle.pool_machine.specs.declared.answers.RoundFault.TheVariants as round_fault
-use Rattle.pool_machine.specs.declared.tree.Fate.{Fate}
-use Rattle.pool_machine.specs.declared.tree.Fate.TheVariants.{Undone, ClosedBy, DividedBy}
+use Rattle.branch_tree.specs.declared.node.Fate.{Fate}
+use Rattle.branch_tree.specs.declared.node.Fate.TheVariants.{Undone, ClosedBy, DividedBy}
 use Rattle.pool_machine.specs.State.{Round, Node, State, restriction_of, rounds_by, rounds_in, active_count, state_by, state_in, state_of}
 use Rattle.pool_machine.specs.Changes.{is_spent, TakesRound}
 use Rattle.pool_machine.specs.Opening.{is_waiting, open_fault, HasSlot, IsTaken, IsLowestFreeSlot, empty_round, Opens}

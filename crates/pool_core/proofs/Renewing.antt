@@ -8,7 +8,7 @@ use Rattle.plan_base.specs.declared.parts.Parts.{Parts}
 use Rattle.arc_restrict.specs.Rows.{Rows}
 use Rattle.pool_machine.specs.declared.answers.Publish.TheVariants as publish
 use Rattle.pool_machine.specs.declared.limits.TheConstants.{MAX_ROUNDS}
-use Rattle.pool_machine.specs.declared.tree.Fate.TheVariants.{Undone}
+use Rattle.branch_tree.specs.declared.node.Fate.TheVariants.{Undone}
 use Rattle.pool_machine.specs.State.{Round, Node, State, restriction_of, round_of}
 use Rattle.pool_machine.specs.Changes.{TakesRound}
 use Rattle.pool_machine.specs.Opening.{empty_round}

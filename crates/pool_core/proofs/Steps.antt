@@ -20,8 +20,8 @@ use Rattle.pool_machine.specs.declared.answers.Offered.{Offered}
 use Rattle.pool_machine.specs.declared.answers.Offered.TheVariants as offered
 use Rattle.pool_machine.specs.declared.answers.Better.{Better}
 use Rattle.pool_machine.specs.declared.answers.Better.TheVariants as better
-use Rattle.pool_machine.specs.declared.tree.Fate.{Fate}
-use Rattle.pool_machine.specs.declared.tree.Fate.TheVariants.{Undone}
+use Rattle.branch_tree.specs.declared.node.Fate.{Fate}
+use Rattle.branch_tree.specs.declared.node.Fate.TheVariants.{Undone}
 use Rattle.pool_machine.specs.declared.tree.HeldCut.{HeldCut}
 use Rattle.std.proofs.lemmas.Bool.Decides.{nat_tests}
 use Rattle.plan_base.specs.declared.ids.BranchId.{BranchId}

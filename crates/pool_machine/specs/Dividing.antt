@@ -9,7 +9,7 @@ use Rattle.plan_base.specs.Paths.{arc_at}
 use Rattle.arc_restrict.specs.Restrictions.{Forbidden, is_among, IsPermittedPath}
 use Rattle.proof_tree.specs.Splits.{IsSplit}
 use Rattle.proof_tree.specs.Spellings.{IsAscending}
-use Rattle.pool_machine.specs.State.{Node, State, restriction_of, kept_prices, Division, DividedBy}
+use Rattle.pool_machine.specs.State.{with_limit, Node, State, restriction_of, kept_prices, Division, DividedBy}
 use Rattle.pool_machine.specs.Changes.{waiting_with}
 use Rattle.pool_machine.specs.Readiness.{IsReady}
 
@@ -33,7 +33,7 @@ pub record PartsAt (p : Parts) (r : Forbidden) (division : Division) : Type 0 wh
 
 -- a new node that forbids these arcs too
 abbrev pub child_of : Node → DemandId → List ArcId → Node
-child_of node demand arcs = waiting_with (record { demand = demand; arcs = arcs } ∷ node.limits) (kept_prices node)
+child_of node demand arcs = waiting_with (with_limit node.limits demand arcs) (kept_prices node)
 
 -- the node when it is divided: its round ends
 abbrev pub divided_by : Division → Node → Node

@@ -1,9 +1,9 @@
 -- How the nodes of a state belong together: their rounds are apart, and children follow their parents.
-use Rattle.std.specs.Prelude.{ℕ, ◌≡◌, ◌<◌, ⊤, List, [], ◌∷◌, Option, Some, option_and_then, option_map, slice_get}
+use Rattle.std.specs.Prelude.{ℕ, ◌≡◌, ◌<◌, ⊤, List, [], Option, Some, option_and_then, option_map, slice_get}
 use Rattle.plan_base.specs.declared.ids.ArcId.{ArcId}
 use Rattle.plan_base.specs.declared.parts.Parts.{Parts}
 use Rattle.link_steps.specs.Values.{AreStartPrices}
-use Rattle.pool_machine.specs.State.{Round, Node, kept_prices, Division, Fate, Undone, ClosedBy, DividedBy}
+use Rattle.pool_machine.specs.State.{with_limit, Round, Node, kept_prices, Division, Fate, Undone, ClosedBy, DividedBy}
 
 -- the slot and the version of a node's round
 abbrev pub badge_of : Option Round → Option (ℕ × ℕ)
@@ -21,7 +21,7 @@ pub record AreApart (next : ℕ) (nodes : List Node) : Type 0 where
 
 -- a child forbids the arcs too, and begins with its parent's best prices
 pub record IsChild (parent : Node) (division : Division) (arcs : List ArcId) (child : Node) : Type 0 where
-  pub limits : child.limits ≡ record { demand = division.demand; arcs = arcs } ∷ parent.limits
+  pub limits : child.limits ≡ with_limit parent.limits division.demand arcs
   pub first_prices : child.first_prices ≡ kept_prices parent
 
 -- the node of the number is this child, made later

@@ -1,8 +1,7 @@
 -- The plan of a state: its tree in preorder, with open leaves at their kept prices, its incumbent and its counts.
-use Rattle.std.specs.Prelude.{ℕ, zero, suc, ◌≤ℤ◌, ⊤, ◌≡◌, Bool, true, false, ◌||◌, ◌==◌, List, [], ◌∷◌, ◌++◌, length, Option, Some, None, option_map, slice_get, sum_by, MatchOption, ℤ, nat_lt}
+use Rattle.std.specs.Prelude.{ℕ, ◌≤ℤ◌, ⊤, ◌≡◌, Bool, true, false, ◌||◌, ◌==◌, List, [], ◌∷◌, length, Option, Some, None, option_map, sum_by, MatchOption, ℤ, nat_lt}
 use Rattle.plan_base.specs.declared.parts.Parts.{Parts}
 use Rattle.plan_base.specs.declared.path.Design.{Design}
-use Rattle.proof_tree.specs.declared.tree.Evidence.TheVariants as evidence
 use Rattle.proof_tree.specs.declared.tree.TreeNode.{TreeNode}
 use Rattle.proof_tree.specs.declared.tree.TreeNode.TheVariants.{Split, Leaf}
 use Rattle.proof_tree.specs.declared.plan.Plan.{Plan}
@@ -12,23 +11,20 @@ use Rattle.arc_restrict.specs.Restrictions.{Forbidden, none_forbidden, with_forb
 use Rattle.proof_tree.specs.Bounds.{IsOpeningBound}
 use Rattle.proof_tree.specs.Splits.{PartsTwoPaths}
 use Rattle.proof_tree.specs.Plans.{IsCandidate, IsLeastCandidate}
+use Rattle.branch_tree.specs.Records.{preorder_by, preorder_in, preorder_at}
 use Rattle.pool_machine.specs.State.{Node, State, kept_prices, Fate, Undone, ClosedBy, DividedBy, Incumbent}
 
 -- the records of a subtree whose children's records a function tells
 abbrev pub records_by : (ℕ → List TreeNode) → Node → Fate → List TreeNode
-records_by below node Undone = Leaf (evidence.Open (kept_prices node)) ∷ []
-records_by below node (ClosedBy found) = Leaf found ∷ []
-records_by below node (DividedBy d) = Split d.demand d.at d.left d.right ∷ (below d.left_child.0 ++ below d.right_child.0)
+records_by below node fate = preorder_by below (kept_prices node) fate
 
 -- the same of the node that is there, or no records
 abbrev pub records_in : (ℕ → List TreeNode) → Option Node → List TreeNode
-records_in below None = []
-records_in below (Some node) = records_by below node node.fate
+records_in below node = preorder_in kept_prices (λ x. x.fate) below node
 
 -- the records of the subtree at a number, down to a depth
 abbrev pub records_at : ℕ → List Node → ℕ → List TreeNode
-records_at zero nodes n = []
-records_at (suc depth) nodes n = records_in (records_at depth nodes) (slice_get nodes n)
+records_at depth nodes n = preorder_at kept_prices (λ x. x.fate) depth nodes n
 
 -- no path down the tree has more nodes than there are
 abbrev pub tree_of : State → List TreeNode

@@ -1,8 +1,8 @@
 -- The state of the search: a tree of nodes in the order of their making, the incumbent and the counts.
-use Rattle.std.specs.Prelude.{ℕ, Bool, List, [], ◌∷◌, Option, Some, None, option_map, option_and_then, slice_get, sum_by, ℤ}
+use Rattle.std.specs.Prelude.{ℕ, Bool, List, Option, Some, None, option_map, option_and_then, slice_get, sum_by, ℤ}
 use Rattle.plan_base.specs.declared.ids.BranchId.{BranchId}
 use Rattle.plan_base.specs.declared.parts.Parts.{Parts}
-use Rattle.arc_restrict.specs.Restrictions.{Forbidden, none_forbidden, with_forbidden}
+use Rattle.arc_restrict.specs.Restrictions.{Forbidden}
 use Rattle.column_pool.specs.Columns.{Columns}
 use Rattle.pool_machine.specs.declared.answers.NodeState.{NodeState}
 use Rattle.pool_machine.specs.declared.answers.NodeState.TheVariants as state
@@ -10,14 +10,10 @@ pub use Rattle.branch_tree.specs.declared.node.Limit.{Limit}
 pub use Rattle.pool_machine.specs.declared.tree.Found.{Found}
 pub use Rattle.pool_machine.specs.declared.tree.HeldCut.{HeldCut}
 pub use Rattle.branch_tree.specs.declared.node.Division.{Division}
-pub use Rattle.pool_machine.specs.declared.tree.Fate.{Fate}
-pub use Rattle.pool_machine.specs.declared.tree.Fate.TheVariants.{Undone, ClosedBy, DividedBy}
+pub use Rattle.branch_tree.specs.declared.node.Fate.{Fate}
+pub use Rattle.branch_tree.specs.declared.node.Fate.TheVariants.{Undone, ClosedBy, DividedBy}
+pub use Rattle.branch_tree.specs.Branches.{restriction_by, with_limit}
 pub use Rattle.pool_machine.specs.declared.tree.Incumbent.{Incumbent}
-
--- the restriction that these limits make, the last one first
-abbrev pub restriction_by : List Limit → Forbidden
-restriction_by [] = none_forbidden
-restriction_by (limit ∷ limits) = with_forbidden (restriction_by limits) limit.demand limit.arcs
 
 -- the round of a node: which demands are priced under one version of prices. One entry for each demand
 pub record Round : Type 0 where

@@ -20,5 +20,6 @@ pub use answers::{
     Better, Closing, ExamineFault, Examined, Gather, NodeState, Offer, Offered, Opened, Publish,
     RoundFault, Settle,
 };
+pub use branch_tree::Fate;
 pub use task::Task;
-pub use tree::{Fate, Found, HeldCut, Incumbent};
+pub use tree::{Found, HeldCut, Incumbent};

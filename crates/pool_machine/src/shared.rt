@@ -5,7 +5,8 @@ use crate::answers::{
     RoundFault, Settle,
 };
 use crate::task::Task;
-use crate::tree::{Fate, Found, HeldCut, Incumbent};
+use crate::tree::{Found, HeldCut, Incumbent};
+use branch_tree::Fate;
 
 fn is_shared<T: Send + Sync>(_value: &T) {}
 

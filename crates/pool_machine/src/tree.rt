@@ -1,8 +1,6 @@
 //! The pieces of a state that code and contracts see alike.
 
-use branch_tree::Division;
 use plan_base::{DemandId, Design, Items, Path};
-use proof_tree::Evidence;
 
 /// A demand's path in a round, and its price there, in thousandths of a cost grain per load grain.
 #[derive(Debug, Drop)]
@@ -20,17 +18,6 @@ pub struct HeldCut {
     pub demand: DemandId,
     /// For each node of the network whether it is in the set.
     pub reached: Items<bool>,
-}
-
-/// What became of a node.
-#[derive(Debug, Drop)]
-pub enum Fate {
-    /// It is an open leaf.
-    Undone,
-    /// It is a leaf that this evidence closes.
-    ClosedBy(Evidence),
-    /// It has two children.
-    DividedBy(Division),
 }
 
 /// A design and its cost, in cost grains.

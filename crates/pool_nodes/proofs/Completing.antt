@@ -18,8 +18,8 @@ use Rattle.bound_assembly.specs.Rounds.{RoundState}
 use Rattle.bound_assembly.specs.RoundBounds.{AreShort, AreLeastLengths, IsRoundBound, IsRoundCrowd}
 use Rattle.bound_assembly.proofs.LeastLengths.{round_bound-bound, round_crowd-closed, closed-round_crowd}
 use Rattle.pool_machine.specs.declared.tree.Found.{Found}
-use Rattle.pool_machine.specs.declared.tree.Fate.{Fate}
-use Rattle.pool_machine.specs.declared.tree.Fate.TheVariants.{Undone}
+use Rattle.branch_tree.specs.declared.node.Fate.{Fate}
+use Rattle.branch_tree.specs.declared.node.Fate.TheVariants.{Undone}
 use Rattle.pool_machine.specs.State.{Round, Best, Node, restriction_of, left_of}
 use Rattle.pool_machine.specs.Changes.{better_of, KeepsCrowd, TakesRound}
 use Rattle.pool_machine.specs.Offering.{with_found}

@@ -1,10 +1,10 @@
 -- Paths of a round that are columns, or become columns.
-use Rattle.std.proofs.Common.{◌≡◌, ℕ, zero, suc, ◌+◌, ◌<◌, Bool, true, false, List, length, get_or, Option, Some, None, slice_get, refl, sym, ap, subst, ◌∙◌, add-one, length-set}
+use Rattle.std.proofs.Common.{◌≡◌, ℕ, zero, suc, ◌+◌, ◌<◌, true, false, List, length, get_or, Option, Some, None, refl, sym, ap, ◌∙◌, add-one, length-set}
 use Rattle.std.specs.Prelude.{slice_index_or}
 use Rattle.std.proofs.lemmas.Option.{slice_get-get_or, get_or_from_slice_get}
 use Rattle.plan_base.specs.declared.ids.DemandId.{DemandId}
 use Rattle.plan_base.specs.Faults.{demand_id}
-use Rattle.column_pool.specs.Columns.{Columns, columns_at, column_added, columns_with}
+use Rattle.column_pool.specs.Columns.{Columns, columns_at, column_added}
 use Rattle.pool_machine.specs.declared.tree.Found.{Found}
 use Rattle.pool_machine.specs.Gathering.{with_path_of, gathered, ungathered_at}
 use Rattle.pool_nodes.specs.Rounds.{is_ungathered}

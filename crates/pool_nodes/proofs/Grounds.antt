@@ -4,7 +4,7 @@ use Rattle.std.proofs.lemmas.Option.{slice_get-get_or}
 use Rattle.plan_base.specs.declared.parts.Parts.{Parts}
 use Rattle.arc_restrict.specs.Restrictions.{Forbidden}
 use Rattle.arc_restrict.specs.Rows.{Rows}
-use Rattle.pool_machine.specs.declared.tree.Fate.{Fate}
+use Rattle.branch_tree.specs.declared.node.Fate.{Fate}
 use Rattle.pool_machine.specs.State.{Node, restriction_by, restriction_of}
 use Rattle.pool_nodes.specs.Grounds.{IsGroundOf, HasGrounds}
 use Rattle.pool_machine.proofs.Lists.{slice_get-set_cases}

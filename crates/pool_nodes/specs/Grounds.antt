@@ -3,8 +3,8 @@ use Rattle.std.specs.Prelude.{ℕ, ◌≡◌, List, length, Option, Some, None, 
 use Rattle.plan_base.specs.declared.parts.Parts.{Parts}
 use Rattle.arc_restrict.specs.Restrictions.{Forbidden}
 use Rattle.arc_restrict.specs.Rows.{Rows, forbids, HasSizeOf}
-use Rattle.pool_machine.specs.declared.tree.Fate.{Fate}
-use Rattle.pool_machine.specs.declared.tree.Fate.TheVariants.{Undone, ClosedBy, DividedBy}
+use Rattle.branch_tree.specs.declared.node.Fate.{Fate}
+use Rattle.branch_tree.specs.declared.node.Fate.TheVariants.{Undone, ClosedBy, DividedBy}
 use Rattle.pool_machine.specs.State.{Node, restriction_of}
 
 -- an open leaf keeps its restriction in rows that fit the instance; another node keeps none

@@ -15,8 +15,8 @@ use Rattle.pool_machine.specs.Gathering.{gathered}
 use Rattle.pool_machine.specs.Nodes.{IsSoundRound}
 use Rattle.pool_machine.specs.declared.tree.Found.{Found}
 use Rattle.pool_machine.specs.declared.tree.HeldCut.{HeldCut}
-use Rattle.pool_machine.specs.declared.tree.Fate.{Fate}
-use Rattle.pool_machine.specs.declared.tree.Fate.TheVariants.{Undone}
+use Rattle.branch_tree.specs.declared.node.Fate.{Fate}
+use Rattle.branch_tree.specs.declared.node.Fate.TheVariants.{Undone}
 use Rattle.pool_machine.specs.State.{Round, Best, Node, restriction_of, kept_prices}
 
 -- the prices and version of the round, under this node, where it has the slot; else nothing

@@ -15,8 +15,8 @@ use Rattle.path_pricing.proofs.FaultLaws.{priced_fault-IsShown, IsPriced-priced_
 use Rattle.second_path.specs.Others.{IsCutOff, IsFirstEmpty, IsDetermined}
 use Rattle.second_path.specs.declared.determined.Determined.{Determined}
 use Rattle.second_path.specs.declared.determined.Determined.TheVariants as determined
-use Rattle.pool_machine.specs.declared.tree.Fate.{Fate}
-use Rattle.pool_machine.specs.declared.tree.Fate.TheVariants.{Undone}
+use Rattle.branch_tree.specs.declared.node.Fate.{Fate}
+use Rattle.branch_tree.specs.declared.node.Fate.TheVariants.{Undone}
 use Rattle.pool_machine.specs.State.{Best, Node, State, restriction_of}
 use Rattle.pool_machine.specs.Machine.{IsReachable}
 use Rattle.pool_machine.specs.Nodes.{IsSoundNode, IsSoundBest}

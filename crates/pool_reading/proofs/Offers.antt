@@ -8,8 +8,8 @@ use Rattle.path_pricing.specs.declared.priced.Priced.{Priced}
 use Rattle.path_pricing.specs.Priced.{ArePrices}
 use Rattle.path_pricing.specs.Faults.{priced_fault}
 use Rattle.pool_machine.specs.declared.answers.Offered.TheVariants as offered
-use Rattle.pool_machine.specs.declared.tree.Fate.{Fate}
-use Rattle.pool_machine.specs.declared.tree.Fate.TheVariants.{Undone}
+use Rattle.branch_tree.specs.declared.node.Fate.{Fate}
+use Rattle.branch_tree.specs.declared.node.Fate.TheVariants.{Undone}
 use Rattle.pool_machine.specs.State.{Round, Node, State, restriction_of, state_by, state_in, state_of, round_of}
 use Rattle.pool_machine.specs.Changes.{is_open_state}
 use Rattle.pool_machine.specs.Offering.{unfit_in}

@@ -8,8 +8,8 @@ use Rattle.plan_base.specs.declared.parts.Parts.{Parts}
 use Rattle.arc_restrict.specs.Restrictions.{Forbidden}
 use Rattle.arc_restrict.specs.Rows.{Rows, forbids}
 use Rattle.path_pricing.specs.Priced.{ArePrices}
-use Rattle.pool_machine.specs.declared.tree.Fate.{Fate}
-use Rattle.pool_machine.specs.declared.tree.Fate.TheVariants.{Undone}
+use Rattle.branch_tree.specs.declared.node.Fate.{Fate}
+use Rattle.branch_tree.specs.declared.node.Fate.TheVariants.{Undone}
 use Rattle.pool_machine.specs.State.{Node, State, restriction_of}
 use Rattle.pool_machine.specs.Nodes.{IsSoundRound}
 use Rattle.pool_machine.specs.Soundness.{IsSound}

@@ -20,8 +20,8 @@ use Rattle.pool_machine.specs.declared.answers.ExamineFault.TheVariants as exami
 use Rattle.pool_machine.specs.declared.limits.TheConstants.{MAX_ROUNDS, MAX_VERSIONS}
 use Rattle.pool_machine.specs.declared.tree.Found.{Found}
 use Rattle.pool_machine.specs.declared.tree.HeldCut.{HeldCut}
-use Rattle.pool_machine.specs.declared.tree.Fate.{Fate}
-use Rattle.pool_machine.specs.declared.tree.Fate.TheVariants.{Undone, ClosedBy, DividedBy}
+use Rattle.branch_tree.specs.declared.node.Fate.{Fate}
+use Rattle.branch_tree.specs.declared.node.Fate.TheVariants.{Undone, ClosedBy, DividedBy}
 use Rattle.pool_machine.specs.State.{Round, Node, State, cutoff_of, left_of, rounds_by, rounds_in, active_count, state_by, state_in, state_of, round_of}
 use Rattle.pool_machine.specs.Changes.{is_spent, is_open_state, has_cut, gap_at, bound_in}
 use Rattle.pool_machine.specs.Opening.{is_waiting, open_fault}

@@ -2,7 +2,7 @@
 
 ghost use Rattle.std.specs.Prelude.{◌≡◌, not, pos, int_lt, if◌then◌else◌, length, is_some};
 ghost use Rattle.proof_tree.specs.declared.tree.Evidence.TheVariants as evidence;
-ghost use Rattle.pool_machine.specs.declared.tree.Fate.TheVariants.{Undone};
+ghost use Rattle.branch_tree.specs.declared.node.Fate.TheVariants.{Undone};
 ghost use Rattle.pool_machine.specs.Closing.{reaches, is_closable, closed_by};
 ghost use Rattle.pool_nodes.specs.Rounds.{HasReason, evidence_for, cut_proof};
 

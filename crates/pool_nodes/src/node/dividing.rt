@@ -2,7 +2,7 @@
 
 ghost use Rattle.std.specs.Prelude.{◌≡◌, ◌∷◌, Some, IfOk, map};
 ghost use Rattle.std.specs.Arc.{arc_value};
-ghost use Rattle.pool_machine.specs.declared.tree.Fate.TheVariants.{Undone};
+ghost use Rattle.branch_tree.specs.declared.node.Fate.TheVariants.{Undone};
 ghost use Rattle.pool_machine.specs.State.{kept_prices};
 ghost use Rattle.pool_machine.specs.Readiness.{completed_in, settled_in};
 ghost use Rattle.pool_machine.specs.Dividing.{divided_by, child_of};

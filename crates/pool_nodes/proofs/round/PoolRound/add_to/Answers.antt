@@ -1,4 +1,4 @@
-use Rattle.std.proofs.Common.{◌≡◌, ◌<◌, length, ap, ◌∙◌, arith}
+use Rattle.std.proofs.Common.{◌≡◌, length, ap, ◌∙◌, arith}
 use Rattle.pool_machine.specs.State.{Round}
 use Rattle.pool_nodes.proofs.GatheredPaths.{gathered-length}
 use Rattle.pool_nodes.proofs.round.PoolRound.add_to.Goals as goal
