@@ -1,5 +1,5 @@
 -- What an opening or a publishing would answer is what it answers.
-use Rattle.std.proofs.Common.{◌≡◌, ℕ, suc, ◌<◌, ◌⊎◌, inl, inr, List, Option, Some, None, slice_get, true, sym, ap, ap₂, ◌∙◌, arith}
+use Rattle.std.proofs.Common.{◌≡◌, ℕ, suc, List, Option, Some, None, slice_get, true, sym, ap, ap₂, ◌∙◌, arith}
 use Rattle.std.specs.Prelude.{Ok, Err}
 use Rattle.plan_base.specs.declared.ids.BranchId.{BranchId}
 use Rattle.pool_machine.specs.declared.answers.Opened.{Opened}
@@ -8,10 +8,10 @@ use Rattle.pool_machine.specs.declared.answers.Publish.{Publish}
 use Rattle.pool_machine.specs.declared.answers.Publish.TheVariants as publish
 use Rattle.branch_tree.specs.declared.node.Fate.{Fate}
 use Rattle.pool_machine.specs.State.{Round, Node, State, state_by, state_in, state_of}
-use Rattle.pool_machine.specs.Opening.{is_waiting, IsLowestFreeSlot}
+use Rattle.pool_machine.specs.Opening.{is_waiting}
 use Rattle.pool_machine.specs.Publishing.{publish_fault, Publishes, PublishStep}
 use Rattle.pool_machine.proofs.Frames.{one_at}
-use Rattle.pool_machine.proofs.OneAnswer.{gains-not_no_gain}
+use Rattle.pool_machine.proofs.OneAnswer.{slot-one, gains-not_no_gain}
 use Rattle.pool_core.specs.Valuing.{IsToPublish}
 use Rattle.pool_core.specs.declared.pool.following.Following.{Following}
 use Rattle.pool_core.specs.Foretold.{IsOpenAnswer, IsOnlyOpening, IsFollowing, IsPublishAnswer, IfPublished, IsOnlyPublishing}
@@ -20,18 +20,9 @@ use Rattle.pool_core.proofs.Publishable.{publish_fault-refusal}
 
 -- Openings
 
-one_slot : (s : State) (a b : ℕ) → IsLowestFreeSlot s a → IsLowestFreeSlot s b → a ≡ b
-one_slot s a b one other = elim (order a b) [
-  | inl less ↦ absurd (one.free (other.lowest a less))
-  | inr rest ↦ elim rest [ inl same ↦ same | inr more ↦ absurd (other.free (one.lowest b more)) ]
-]
-  where
-    order : (i j : ℕ) → (i < j) ⊎ ((i ≡ j) ⊎ (j < i))
-    order i j = grind arith
-
 pub only-opening : (s : State) (id : BranchId) (opened : Opened) → IsOpenAnswer s id (Ok opened) → IsOnlyOpening s id opened
 only-opening s id opened is (Ok other) new step =
-    let slot : other.slot ≡ opened.slot = one_slot s other.slot opened.slot step.slot is.1 in
+    let slot : other.slot ≡ opened.slot = slot-one s other.slot opened.slot step.slot is.1 in
     let version : other.version ≡ opened.version = step.version ∙ sym is.2 in
     λ i. Ok (record { slot = slot i; version = version i })
 only-opening s id opened is (Err fault) new step =

@@ -45,7 +45,7 @@ one_by {A} fault Succeeds free one a b x y = elim x [
 either_way : (x y : ℕ) → (x ≤ y) ⊎ (y < x)
 either_way x y = grind arith
 
-slot-one : (s : State) (a b : ℕ) → IsLowestFreeSlot s a → IsLowestFreeSlot s b → a ≡ b
+pub slot-one : (s : State) (a b : ℕ) → IsLowestFreeSlot s a → IsLowestFreeSlot s b → a ≡ b
 slot-one s a b x y = elim (either_way a b) [
   | inr more ↦ absurd (y.free (x.lowest b more))
   | inl most ↦ elim (either_way b a) [
