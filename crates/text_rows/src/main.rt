@@ -1,77 +1,25 @@
-//! Reads network and model texts, tokens and numbers, and writes what is told of each.
+//! Reads texts over shelves that may fail, and writes what is told of each, and the lines of commands.
 //!
-//! The file of rows, whose name is the program's one word, has texts that are read, in every part of their grammar, and
-//! texts with one or more faults each. To add one, write it there in the form that the head of the file explains, and
-//! what is told of it, worked out by hand, at the same place of the file `stdout`. Begin at `write_row`. Stands on
-//! `snd_network`, `snd_model` and what these stand on, and promises nothing of its own.
+//! Three parts one after the other: network and model texts (`reading`), lines and texts of plans (`lines`), shelves, sinks
+//! and terminals (`devices`). The head of each tells how a case is added. The program's words are the files of rows of the
+//! first and the last part. Stands on `snd_network`, `snd_model`, `plan_report`, `cert_format`, `plan_io` and
+//! `run_progress`, and promises nothing of its own.
 #![tactic(auto)]
 
-mod models;
-mod networks;
-mod numbers;
-mod pieces;
-mod texts;
+mod devices;
+mod lines;
+mod reading;
 
-use anyhow::{Context, Result, bail};
-use snd_lexer::Dialect;
-use std::alloc::Global;
-use std::io::Write;
-use std::rt::Files;
-use std::{env, fs, io};
-
-/// The first line of a network text.
-const NETWORK: &str = "?SNDlib native format; type: network; version: 1.0\n";
-
-/// The first line of a model text.
-const MODEL: &str = "?SNDlib native format; type: model; version: 1.0\n";
-
-/// What is told of numbers, tokens and first lines. None where the row has another kind, and where memory is wanting.
-fn answer_of(alloc: Global, kind: &str, part: &str) -> Option<String> {
-    let mut text = String::new(alloc);
-    match kind {
-        "number" => numbers::tell(alloc, part, &mut text)?,
-        "zeros" => numbers::tell_zeros(alloc, part, &mut text)?,
-        "grains" => numbers::tell_grains(alloc, part, &mut text)?,
-        "grain" => numbers::tell_grain(part, &mut text)?,
-        "tokens" => pieces::tell(alloc, part, Dialect::Network, &mut text)?,
-        "model-tokens" => pieces::tell(alloc, part, Dialect::Model, &mut text)?,
-        "bytes" => pieces::tell_numbers(alloc, part, &mut text)?,
-        "header" => pieces::tell_header(alloc, part, &mut text)?,
-        _ => return None,
-    }
-    Some(text)
-}
-
-/// Writes what is told of the text of a row, which stands before the text in the same line.
-fn write_row<W: Write>(alloc: Global, row: &str, out: &mut W) -> Result<()> {
-    let (kind, part) = row.split_once(' ').context("one word")?;
-    match kind {
-        "network" => networks::tell(alloc, NETWORK, part, "\n", out)?,
-        "network-text" => networks::tell(alloc, "", part, "", out)?,
-        "network-again" => networks::write_again(alloc, part, out)?,
-        "model" => models::tell(alloc, MODEL, part, out)?,
-        "model-text" => models::tell(alloc, "", part, out)?,
-        "model-line" => models::tell_line(alloc, MODEL, part, out)?,
-        "model-again" => models::write_again(alloc, part, out)?,
-        _ => {
-            let text = answer_of(alloc, kind, part).context("no kind of row")?;
-            out.write_all(text.as_bytes())?;
-        }
-    }
-    writeln!(out, " | {part}")?;
-    Ok(())
-}
+use anyhow::{Result, bail};
+use std::{env, io};
 
 fn main(rt: HostRuntime) -> Result<()> {
-    let Some(name) = env::args(&rt)?.nth(1) else {
-        bail!("usage: text_rows FILE")
+    let mut names = env::args(&rt)?.skip(1);
+    let (Some(texts), Some(devices)) = (names.next(), names.next()) else {
+        bail!("usage: text_rows TEXTS DEVICES")
     };
-    let rows = fs::read_to_string(&rt, name.as_str())?;
     let mut out = io::writer(&rt);
-    for row in rows.lines() {
-        if !row.is_empty() && !row.starts_with('#') {
-            write_row(rt.alloc(), row, &mut out).context(format_args!("row: {row}"))?;
-        }
-    }
-    Ok(())
+    reading::write_rows(&rt, texts.as_str(), &mut out)?;
+    lines::write_lines(rt.alloc(), &mut out)?;
+    devices::write_rows(&rt, devices.as_str(), &mut out)
 }

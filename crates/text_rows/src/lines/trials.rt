@@ -1,6 +1,6 @@
 //! The line of `check`, and those of trials.
 
-use crate::plans::{instance, plan_of};
+use super::plans::{instance, plan_of};
 use link_steps::StepTable;
 use plan_report::{check_line, trial_line};
 use proof_tree::PlanStatus;

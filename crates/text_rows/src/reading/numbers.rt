@@ -1,6 +1,6 @@
 //! Decimals.
 
-use crate::texts::text_of;
+use super::texts::text_of;
 use scaled_numbers::limits::MAX_TEXT_BYTES;
 use scaled_numbers::{read_decimal, up_to_grain, write_grains};
 use std::alloc::Global;

@@ -1,9 +1,7 @@
-//! Writes the line of each fault, of each verdict and of each kind of trial, and texts of plans again.
+//! The line of each fault, of each verdict and of each kind of trial, and texts of plans that are written again.
 //!
 //! What must be written stands in the file `stdout`, worked out by hand, in the order of the cases here. To add a case,
-//! write it in the table of its module and its line at the same place of `stdout`. Stands on `plan_report` and
-//! `cert_format` and promises nothing of its own.
-#![tactic(auto)]
+//! write it in the table of its module and its line at the same place of `stdout`.
 
 mod faults;
 mod plans;
@@ -13,7 +11,6 @@ mod verdicts;
 
 use anyhow::{Context, Result};
 use std::alloc::Global;
-use std::io;
 use std::io::Write;
 
 /// All lines.
@@ -27,9 +24,9 @@ fn lines(alloc: Global) -> Option<Vec<u8>> {
     Some(text)
 }
 
-fn main(rt: HostRuntime) -> Result<()> {
-    let text = lines(rt.alloc()).context("a case is not as its table says")?;
-    let mut out = io::writer(&rt);
+/// Writes all lines.
+pub(crate) fn write_lines<W: Write>(alloc: Global, out: &mut W) -> Result<()> {
+    let text = lines(alloc).context("a case is not as its table says")?;
     out.write_all(text.as_slice())?;
     Ok(())
 }

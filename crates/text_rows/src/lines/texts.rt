@@ -1,6 +1,6 @@
 //! Texts of plans that are written back, and a plan that has no text.
 
-use crate::plans::plan_with;
+use super::plans::plan_with;
 use cert_format::{read_plan, write_plan};
 use plan_base::{DemandId, Items};
 use proof_tree::{Evidence, Plan, PlanStatus};

@@ -1,6 +1,6 @@
 //! Tokens, and what stands behind a first line.
 
-use crate::texts::text_of;
+use super::texts::text_of;
 use snd_lexer::{Dialect, MAX_TEXT_BYTES, Token, lex};
 use snd_reader::behind_header;
 use std::alloc::Global;

@@ -1,19 +1,16 @@
-//! Reads texts from shelves, writes to sinks that fail and lines to a terminal, and writes what comes of it.
+//! Texts that are read from shelves, sinks that fail, lines at a terminal, and what comes of each.
 //!
-//! The file of rows, whose name is the program's one word, says which calls fail and how much room there is. To add a
-//! row, write it there in the form that the head of the file explains, and what comes of it, worked out by hand, at the
-//! same place of the file `stdout`. Begin at `take_row`. Stands on `plan_io` and
-//! `run_progress`, and promises nothing of its own.
-#![tactic(auto)]
+//! The file of rows says which calls fail and how much room there is. To add a row, write it there in the form that the
+//! head of the file explains, and what comes of it, worked out by hand, at the same place of the file `stdout`. Begin at
+//! `take_row`.
 
 mod reading;
 mod showing;
 mod writing;
 
 use anyhow::{Context, Result, bail};
+use std::fs;
 use std::io::Write;
-use std::rt::Files;
-use std::{env, fs, io};
 
 /// Writes what comes of a row.
 fn take_row<W: Write>(rt: &HostRuntime, row: &str, out: &mut W) -> Result<()> {
@@ -33,16 +30,13 @@ fn take_row<W: Write>(rt: &HostRuntime, row: &str, out: &mut W) -> Result<()> {
     }
 }
 
-fn main(rt: HostRuntime) -> Result<()> {
-    let Some(name) = env::args(&rt)?.nth(1) else {
-        bail!("usage: device_rows FILE")
-    };
-    let rows = fs::read_to_string(&rt, name.as_str())?;
-    let mut out = io::writer(&rt);
+/// Writes each row of the file of this name with what comes of it.
+pub(crate) fn write_rows<W: Write>(rt: &HostRuntime, name: &str, out: &mut W) -> Result<()> {
+    let rows = fs::read_to_string(rt, name)?;
     for row in rows.lines() {
         if !row.is_empty() && !row.starts_with('#') {
             write!(out, "{row}:")?;
-            take_row(&rt, row, &mut out).context(format_args!("row: {row}"))?;
+            take_row(rt, row, out).context(format_args!("row: {row}"))?;
             writeln!(out, "")?;
         }
     }

@@ -1,6 +1,6 @@
 //! Sinks.
 
-use crate::reading::failing;
+use super::reading::failing;
 use anyhow::{Context, Result, bail};
 use plan_io::{MemSink, OutSink, Sink, write_whole};
 use std::alloc::Global;

@@ -1,6 +1,6 @@
 //! Model texts.
 
-use crate::texts::text_of;
+use super::texts::text_of;
 use anyhow::{Context, Result, ensure};
 use snd_lexer::MAX_TEXT_BYTES;
 use snd_model::{Key, ModelFile, read_model, write_model};

@@ -1,6 +1,6 @@
 //! The line of each verdict.
 
-use crate::plans::plan_of;
+use super::plans::plan_of;
 use cert_verifier::Rejected;
 use plan_base::{DemandId, DesignFault, LinkId};
 use plan_report::verdict_line;

@@ -1,6 +1,6 @@
 //! Network texts.
 
-use crate::texts::text_of;
+use super::texts::text_of;
 use anyhow::{Result, ensure};
 use snd_lexer::MAX_TEXT_BYTES;
 use snd_network::{read_network, write_network};
