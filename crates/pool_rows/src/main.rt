@@ -1,103 +1,29 @@
-//! Makes calls of the pool one after the other, and writes what it answers.
+//! Makes calls of the pool, of a hub by several seats, of a board and of decks, and writes what each is answered.
 //!
-//! The file of rows, whose name is the program's one word, has small networks and dialogues: each begins with a pool on a
-//! network and goes on with calls. Each call is made with ample memory, each refusal comes in its order, and small
-//! networks are searched from their first price to the plan. To add a call, write it there in the form that the head of
-//! the file explains, and its answer, worked out by hand, at the same place of the file `stdout`. Begin at `answer_of`.
-//! Stands on `pool_core` and on what makes its arguments; promises nothing of its own.
+//! Three parts one after the other: a pool (`pools`), a hub and a board (`hubs`), decks (`decks`). The head of each tells
+//! how a case is added. The program's words are the files of rows of the first two. What both speak of stands in `calling`.
+//! Stands on `pool_core`, `pool_hub`, `dual_versions`, `block_deques` and on what makes their arguments; promises nothing
+//! of its own.
 #![tactic(auto)]
 
-mod calls;
-mod handing;
-mod planning;
-mod telling;
-mod working;
+mod calling;
+mod decks;
+mod hubs;
+mod pools;
 
-use anyhow::{Result, bail};
-use pool_core::Pool;
-use row_calls::pool_of;
-use row_networks::{Network, network_of};
-use std::alloc::Global;
-use std::io::Write;
-use std::rt::Files;
+use anyhow::{Context, Result};
 use std::{env, fs, io};
 
-/// Makes the call of a row, and adds the answer.
-fn tell(alloc: Global, pool: &mut Pool, kind: &str, rest: &str, text: &mut String) -> Option<()> {
-    match kind {
-        "open" => calls::tell_opened(pool, rest, text),
-        "gather" => calls::tell_taken(pool, rest, text),
-        "settle" => calls::tell_settled(pool, rest, text),
-        "close" => calls::tell_closed(pool, rest, text),
-        "examine" => calls::tell_examined(pool, rest, text),
-        "task" => calls::tell_task(pool, text),
-        "offer" => handing::tell_offered(alloc, pool, rest, text),
-        "better" => handing::tell_better(alloc, pool, rest, text),
-        "publish" => handing::tell_published(alloc, pool, rest, text),
-        "node" => telling::tell_node(pool, rest, text),
-        "slot" => telling::tell_slot(pool, rest, text),
-        "counts" => telling::tell_counts(pool, text),
-        "price" => working::tell_priced(alloc, pool, rest, text),
-        "divide" => working::tell_divided(alloc, pool, rest, text),
-        "work" => working::tell_worked(alloc, pool, rest, text),
-        "finish" => planning::tell_finished(pool, text),
-        _ => None,
-    }
-}
-
-/// The line of a row and its answer, where the row is a pool or a call of one. None where it is not, and where memory is
-/// wanting.
-fn answer_of(
-    alloc: Global,
-    networks: &[Network],
-    pool: &mut Option<Pool>,
-    row: &str,
-) -> Option<String> {
-    let (kind, rest) = row.split_once(' ').unwrap_or((row, ""));
-    let mut text = format!(in alloc; "{row}:").ok()?;
-    match kind {
-        "pool" => *pool = Some(pool_of(alloc, networks, rest)?),
-        "plan" => planning::tell_plan(alloc, pool.take()?, &mut text)?,
-        _ => tell(alloc, pool.as_mut()?, kind, rest, &mut text)?,
-    }
-    text.push_str("\n").ok()?;
-    Some(text)
-}
-
-/// Keeps the network of a row, or writes the row and the answer to its call.
-fn take_row<W: Write>(
-    alloc: Global,
-    networks: &mut Vec<Network>,
-    pool: &mut Option<Pool>,
-    row: &str,
-    out: &mut W,
-) -> Result<()> {
-    if let Some(rest) = row.strip_prefix("network ") {
-        let Some(network) = network_of(alloc, rest) else {
-            bail!("no network: {row}")
-        };
-        networks.push(network)?;
-        return Ok(());
-    }
-    let Some(text) = answer_of(alloc, networks.as_slice(), pool, row) else {
-        bail!("no call: {row}")
-    };
-    out.write_all(text.as_bytes())?;
-    Ok(())
+/// The text of the file that the word of this place names.
+fn file_of(rt: &HostRuntime, place: usize) -> Result<String> {
+    let name = env::args(rt)?.nth(place);
+    let name = name.context("usage: pool_rows POOLS HUBS")?;
+    Ok(fs::read_to_string(rt, name.as_str())?)
 }
 
 fn main(rt: HostRuntime) -> Result<()> {
-    let Some(name) = env::args(&rt)?.nth(1) else {
-        bail!("usage: pool_rows FILE")
-    };
-    let rows = fs::read_to_string(&rt, name.as_str())?;
-    let mut networks = Vec::new(rt.alloc());
-    let mut pool = None;
     let mut out = io::writer(&rt);
-    for row in rows.lines() {
-        if !row.is_empty() && !row.starts_with('#') {
-            take_row(rt.alloc(), &mut networks, &mut pool, row, &mut out)?;
-        }
-    }
-    Ok(())
+    pools::write_rows(rt.alloc(), file_of(&rt, 1)?.as_str(), &mut out)?;
+    hubs::write_rows(&rt, rt.alloc(), file_of(&rt, 2)?.as_str(), &mut out)?;
+    decks::write_all(&rt, rt.alloc(), &mut out)
 }

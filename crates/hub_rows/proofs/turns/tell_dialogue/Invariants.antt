@@ -1,7 +1,0 @@
-use Rattle.hub_rows.proofs.turns.tell_dialogue.Given as goal
-
-abbrev pub ghosts-take_turns-N-Ledger : goal.ghosts-take_turns-N-Ledger
-ghosts-take_turns-N-Ledger g a = record { name = a.blank.name; parts = a.blank.parts }
-
-abbrev pub ghosts-take_turns-N-Naming : goal.ghosts-take_turns-N-Naming
-ghosts-take_turns-N-Naming g a = record { problem = a.pool.problem; budget = a.pool.budget }

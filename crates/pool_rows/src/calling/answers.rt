@@ -1,0 +1,52 @@
+//! Answers that are longer than their names.
+
+use arc_restrict::Restriction;
+use dual_versions::Published;
+use plan_base::{ArcId, DemandId, Instance};
+use pool_core::Gather;
+
+/// Adds the refusal of a gathering, or that a master step would be told of the paths.
+///
+/// - Gives: None where memory is wanting.
+pub(crate) fn tell_gathered(gathered: &Gather, text: &mut String) -> Option<()> {
+    match gathered {
+        Gather::Taken(_brief) => text.push_str(" Taken").ok(),
+        refusal => write!(text, " {refusal:?}").ok(),
+    }
+}
+
+/// Adds the node, the version and the prices of the round in a slot, or that the slot is free.
+///
+/// - Gives: None where memory is wanting.
+pub(crate) fn tell_published(published: Option<&Published>, text: &mut String) -> Option<()> {
+    match published {
+        Some(published) => write!(
+            text,
+            " node {} version {} prices {:?}",
+            published.node.0,
+            published.version,
+            published.prices.as_slice()
+        )
+        .ok(),
+        None => text.push_str(" free").ok(),
+    }
+}
+
+/// Adds which arcs are forbidden, each as its demand and its number.
+///
+/// - Gives: None where memory is wanting.
+pub(crate) fn tell_restriction(
+    inst: &Instance,
+    rows: &Restriction,
+    text: &mut String,
+) -> Option<()> {
+    text.push_str(" forbidden").ok()?;
+    for demand in 0..inst.demands() {
+        for arc in 0..inst.links().saturating_mul(2) {
+            if !rows.allows(DemandId(demand), ArcId(arc)) {
+                write!(text, " {demand}:{arc}").ok()?;
+            }
+        }
+    }
+    Some(())
+}

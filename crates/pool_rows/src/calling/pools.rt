@@ -1,0 +1,28 @@
+//! New pools.
+
+ghost use Rattle.std.specs.Prelude.{◌≡◌, IfSome};
+
+use pool_core::Pool;
+use row_networks::{Network, find, table_of};
+use std::alloc::Global;
+use std::sync::Arc;
+
+/// A pool on the network of a name, with a budget.
+///
+/// - Takes: `NAME BUDGET`.
+/// - Gives: None where there is no network of that name, where the budget is not from 1 to 4,096, where a link takes too
+///   many steps, and where memory is wanting.
+pub(crate) fn pool_of(alloc: Global, networks: &[Network], words: &str) -> Option<Pool>
+    ensures { IfSome result (λ pool. pool.accepted ≡ 0) }
+{
+    let (name, budget) = words.split_once(' ')?;
+    let budget = budget.parse::<u32>().ok()?;
+    if budget == 0 || budget > 4096 {
+        return None;
+    }
+    let inst = find(networks, name)?.copy(alloc).ok()?;
+    let table = table_of(alloc, &inst)?;
+    let inst = Arc::new(alloc, inst).ok()?;
+    let table = Arc::new(alloc, table).ok()?;
+    Pool::new(alloc, inst, table, budget).ok()
+}

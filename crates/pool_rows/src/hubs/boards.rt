@@ -1,0 +1,123 @@
+//! Dialogues of a writer and the readers of a board.
+
+ghost use Rattle.std.specs.Prelude.{◌≡◌};
+
+use crate::calling::{raise_of, tell_published};
+use dual_versions::{BoardReader, BoardWriter, Published, board};
+use std::alloc::Global;
+use std::sync::Wait;
+
+/// The writer of a board, with how many slots the board has and how many prices an entry has.
+#[derive(Drop)]
+struct Writer<R: Wait + Drop> {
+    board: BoardWriter<R>,
+    slots: u32,
+    prices: u32,
+    ghost slots_are: { board.slots ≡ slots },
+    ghost prices_are: { board.prices ≡ prices },
+}
+
+impl<R: Wait + Drop> Writer<R> {
+    /// Puts an entry of a slot.
+    fn tell_put(&mut self, alloc: Global, rest: &str, text: &mut String) -> Option<()> {
+        let (slot, rest) = rest.split_once(' ')?;
+        let slot = slot.parse::<u32>().ok()?;
+        let (node, version, prices) = raise_of(alloc, rest)?;
+        if slot >= self.slots || prices.as_slice().len() != self.prices as usize {
+            return None;
+        }
+        let what = Published {
+            node,
+            version,
+            prices,
+        };
+        self.board.put(slot, what).ok()?;
+        text.push_str(" pending").ok()
+    }
+
+    /// Shows what is pending.
+    fn tell_shown(&mut self, text: &mut String) -> Option<()> {
+        self.board.show();
+        text.push_str(" shown").ok()
+    }
+}
+
+/// Adds what a reader reads of a slot, or the number of the last table that it has seen.
+fn tell_reader(reader: &mut BoardReader, call: &str, text: &mut String) -> Option<()> {
+    match call.strip_prefix("read ") {
+        Some(slot) => {
+            let shown = reader.read(slot.parse::<u32>().ok()?).ok()?;
+            tell_published(shown.as_ref(), text)
+        }
+        None => write!(text, " {}", reader.seen()).ok(),
+    }
+}
+
+/// Makes the call of a row, and adds the row and the answer.
+fn tell_call<R: Wait + Drop>(
+    alloc: Global,
+    writer: &mut Writer<R>,
+    readers: &mut [BoardReader],
+    row: &str,
+    text: &mut String,
+) -> Option<()> {
+    write!(text, "{row}:").ok()?;
+    let (kind, rest) = row.split_once(' ').unwrap_or((row, ""));
+    match kind {
+        "put" => writer.tell_put(alloc, rest, text)?,
+        "show" => writer.tell_shown(text)?,
+        number => {
+            let reader = readers.get_mut(number.parse::<usize>().ok()?)?;
+            tell_reader(reader, rest, text)?;
+        }
+    }
+    text.push_str("\n").ok()
+}
+
+/// The writer and the readers of a new board, of three words: how many slots it has, how many readers, and how many prices
+/// an entry has.
+fn board_of<R: Wait + Drop>(
+    rt: R,
+    alloc: Global,
+    words: &str,
+) -> Option<(Writer<R>, Vec<BoardReader>)> {
+    let (slots, words) = words.split_once(' ')?;
+    let (readers, prices) = words.split_once(' ')?;
+    let slots = slots.parse::<u32>().ok()?;
+    let readers = readers.parse::<u32>().ok()?;
+    let prices = prices.parse::<u32>().ok()?;
+    if slots == 0 || slots > 64 || readers == 0 || readers > 64 {
+        return None;
+    }
+    let (board, readers) = board(rt, alloc, slots, readers, prices).ok()?;
+    let writer = Writer {
+        board,
+        slots,
+        prices,
+    };
+    Some((writer, readers))
+}
+
+/// Holds a dialogue, from the row of its board to the row of its end.
+pub(crate) fn tell_dialogue<R: Wait>(
+    rt: &R,
+    alloc: Global,
+    rows: &[&str],
+    text: &mut String,
+) -> Option<()> {
+    let [first, calls @ .., _end] = rows else {
+        return None;
+    };
+    write!(text, "{first}:\n").ok()?;
+    let (mut writer, mut readers) = board_of(rt, alloc, first.strip_prefix("board ")?)?;
+    for row in calls {
+        tell_call(alloc, &mut writer, readers.as_mut_slice(), row, text)?;
+    }
+    let Writer {
+        board,
+        slots: _slots,
+        prices: _prices,
+    } = writer;
+    board.end();
+    text.push_str("end:\n").ok()
+}

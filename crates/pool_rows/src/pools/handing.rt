@@ -1,0 +1,38 @@
+//! Paths, prices and designs that are handed in.
+
+use crate::calling::{design_of, offer_of, raise_of};
+use pool_core::Pool;
+use std::alloc::Global;
+
+/// Offers what was found.
+pub(crate) fn tell_offered(
+    alloc: Global,
+    pool: &mut Pool,
+    rest: &str,
+    text: &mut String,
+) -> Option<()> {
+    let offer = offer_of(alloc, rest)?;
+    write!(text, " {:?}", pool.offer(offer)).ok()
+}
+
+/// Publishes prices.
+pub(crate) fn tell_published(
+    alloc: Global,
+    pool: &mut Pool,
+    rest: &str,
+    text: &mut String,
+) -> Option<()> {
+    let (node, version, prices) = raise_of(alloc, rest)?;
+    write!(text, " {:?}", pool.publish(node, version, &prices)).ok()
+}
+
+/// Hands in a design.
+pub(crate) fn tell_better(
+    alloc: Global,
+    pool: &mut Pool,
+    rest: &str,
+    text: &mut String,
+) -> Option<()> {
+    let design = design_of(alloc, rest)?;
+    write!(text, " {:?}", pool.better(design)).ok()
+}
