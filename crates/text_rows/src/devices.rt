@@ -9,7 +9,6 @@ mod showing;
 mod writing;
 
 use anyhow::{Context, Result, bail};
-use std::fs;
 use std::io::Write;
 
 /// Writes what comes of a row.
@@ -30,10 +29,9 @@ fn take_row<W: Write>(rt: &HostRuntime, row: &str, out: &mut W) -> Result<()> {
     }
 }
 
-/// Writes each row of the file of this name with what comes of it.
-pub(crate) fn write_rows<W: Write>(rt: &HostRuntime, name: &str, out: &mut W) -> Result<()> {
-    let rows = fs::read_to_string(rt, name)?;
-    for row in rows.lines() {
+/// Writes each row of this file with what comes of it.
+pub(crate) fn write_rows<W: Write>(rt: &HostRuntime, file: &str, out: &mut W) -> Result<()> {
+    for row in file.lines() {
         if !row.is_empty() && !row.starts_with('#') {
             write!(out, "{row}:")?;
             take_row(rt, row, out).context(format_args!("row: {row}"))?;

@@ -10,16 +10,19 @@ mod devices;
 mod lines;
 mod reading;
 
-use anyhow::{Result, bail};
-use std::{env, io};
+use anyhow::{Context, Result};
+use std::{env, fs, io};
+
+/// The text of the file that the word of this place names.
+fn file_of(rt: &HostRuntime, place: usize) -> Result<String> {
+    let name = env::args(rt)?.nth(place);
+    let name = name.context("usage: text_rows TEXTS DEVICES")?;
+    Ok(fs::read_to_string(rt, name.as_str())?)
+}
 
 fn main(rt: HostRuntime) -> Result<()> {
-    let mut names = env::args(&rt)?.skip(1);
-    let (Some(texts), Some(devices)) = (names.next(), names.next()) else {
-        bail!("usage: text_rows TEXTS DEVICES")
-    };
     let mut out = io::writer(&rt);
-    reading::write_rows(&rt, texts.as_str(), &mut out)?;
+    reading::write_rows(rt.alloc(), file_of(&rt, 1)?.as_str(), &mut out)?;
     lines::write_lines(rt.alloc(), &mut out)?;
-    devices::write_rows(&rt, devices.as_str(), &mut out)
+    devices::write_rows(&rt, file_of(&rt, 2)?.as_str(), &mut out)
 }

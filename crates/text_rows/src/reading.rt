@@ -13,7 +13,6 @@ mod texts;
 use anyhow::{Context, Result};
 use snd_lexer::Dialect;
 use std::alloc::Global;
-use std::fs;
 use std::io::Write;
 
 /// The first line of a network text.
@@ -59,12 +58,11 @@ fn write_row<W: Write>(alloc: Global, row: &str, out: &mut W) -> Result<()> {
     Ok(())
 }
 
-/// Writes what is told of each row of the file of this name.
-pub(crate) fn write_rows<W: Write>(rt: &HostRuntime, name: &str, out: &mut W) -> Result<()> {
-    let rows = fs::read_to_string(rt, name)?;
-    for row in rows.lines() {
+/// Writes what is told of each row of this file.
+pub(crate) fn write_rows<W: Write>(alloc: Global, file: &str, out: &mut W) -> Result<()> {
+    for row in file.lines() {
         if !row.is_empty() && !row.starts_with('#') {
-            write_row(rt.alloc(), row, out).context(format_args!("row: {row}"))?;
+            write_row(alloc, row, out).context(format_args!("row: {row}"))?;
         }
     }
     Ok(())
