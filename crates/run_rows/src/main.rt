@@ -1,22 +1,28 @@
-//! Runs the top call over small texts, and writes for each run its name, the status and what was written.
+//! Runs the top call, the verifier alone and the drawing of pictures over small texts, and writes for each run its name,
+//! the status and what was written.
 //!
-//! The file of rows, whose name is the program's one word, has texts by name and runs over them: each key and spelling
-//! of a model, each status, the order in which texts are looked at, shelves and sinks that fail at each call and after
-//! each byte, and command lines. To add one, write it there in the form that the head of the file explains, and what it
-//! writes, worked out by hand, at the same place of the file `stdout`. Begin at `take_block`. Stands on `plan_run` and
-//! promises nothing of its own.
+//! The files of rows, which the program's words name, have texts by name and runs over them, each as its head explains:
+//! - `runs.txt`: each key and spelling of a model, each status, the order in which texts are looked at, shelves and sinks
+//!   that fail at each call and after each byte, and command lines;
+//! - `plans.txt`: a plan of every kind of evidence and of every status; for each rule of each kind of record a plan that
+//!   breaks just this rule; pairs of broken rules in both orders; changes of the triangle's plan; and plan texts that are
+//!   not read. The verifier alone must end as the top call does;
+//! - `pictures.txt`: the marks and names of nodes and links, links by how full they are, names that are escaped.
+//!
+//! To add a row, write it there, and what it writes, worked out by hand, at the same place of the file `stdout`. Begin at
+//! `take_block`. Stands on `plan_run`, `text_runs` and `picture_runs` and promises nothing of its own.
 #![tactic(auto)]
 
-mod meeting;
-mod rows;
+mod blocks;
+mod pictures;
+mod runs;
 mod texts;
+mod verifying;
 
-use anyhow::{Context, Result, bail};
-use meeting::Meeting;
-use plan_io::{FileShelf, Gate, MemShelf, MemSink, NoGate, OutSink, SureShelf};
-use plan_run::{Status, run};
-use rows::{Block, blocks_of};
-use std::alloc::{AllocError, Global};
+use anyhow::{Context, Result};
+use blocks::{Block, blocks_of};
+use plan_io::NoGate;
+use std::alloc::Global;
 use std::io::Write;
 use std::rt::Files;
 use std::sync::Wait;
@@ -24,225 +30,68 @@ use std::thread::Threads;
 use std::{env, fs, io};
 use texts::Texts;
 
-/// How many bytes a text may have.
-const ROOM: usize = 200_000;
-
-/// The words of this line, which single blanks part.
-fn words_of(alloc: Global, line: &str) -> Result<Vec<String>, AllocError> {
-    line.split(' ')
-        .map(|word| String::from_str(alloc, word))
-        .try_collect(alloc)
-}
-
-/// Writes this line where it begins with this word, or the word alone where that ends in `~`.
-fn write_line<W: Write>(first: &str, line: &str, out: &mut W) -> Result<()> {
-    if let Some(front) = first.strip_suffix("~") {
-        if line.starts_with(front) {
-            writeln!(out, "  {first}")?;
-        }
-        return Ok(());
-    }
-    if first == "*" || line.starts_with(first) {
-        writeln!(out, "  {line}")?;
-    }
-    Ok(())
-}
-
-/// Writes the status of a run of this name, and those lines of what it wrote that begin with one of these words.
-fn write_lines<W: Write>(
-    name: &str,
-    firsts: &str,
-    status: Status,
-    text: &str,
-    out: &mut W,
-) -> Result<()> {
-    writeln!(out, "{name} {}", status as u8)?;
-    for line in text.lines() {
-        for first in firsts.split(',') {
-            write_line(first, line, out)?;
-        }
-    }
-    Ok(())
-}
-
-/// Runs these words over the texts. Gives the status and what was written.
-fn ends<R: Threads + Wait + Sync, G: Gate>(
-    rt: &R,
-    alloc: Global,
-    texts: &Texts,
-    line: &str,
-    gate: &G,
-) -> Result<(Status, MemSink), AllocError> {
-    let named = texts.named(alloc)?;
-    let words = words_of(alloc, line)?;
-    let mut shelf = SureShelf::new(alloc, named.as_slice())?;
-    let mut sink = MemSink::new(alloc, ROOM, &[])?;
-    let status = run(rt, alloc, words.as_slice(), &mut shelf, &mut sink, gate);
-    Ok((status, sink))
-}
-
-/// Runs words over the texts, and adds what is written to them.
-fn run_row<R: Threads + Wait + Sync, G: Gate, W: Write>(
-    rt: &R,
-    alloc: Global,
-    texts: &mut Texts,
-    rest: &str,
-    gate: &G,
-    out: &mut W,
-) -> Result<()> {
-    let (name, rest) = rest.split_once(' ').context("no name")?;
-    let (firsts, line) = rest.split_once(" : ").context("no lines")?;
-    let (status, sink) = ends(rt, alloc, texts, line, gate)?;
-    let text = str::from_utf8(sink.bytes())?;
-    write_lines(name, firsts, status, text, out)?;
-    texts.add(alloc, name, text)?;
-    Ok(())
-}
-
-/// The same, where the first two workers wait for each other, and writes whether they met.
-fn meet_row<R: Threads + Wait + Sync, W: Write>(
-    rt: &R,
-    alloc: Global,
-    texts: &mut Texts,
-    rest: &str,
-    out: &mut W,
-) -> Result<()> {
-    let gate = Meeting::new();
-    run_row(rt, alloc, texts, rest, &gate, out)?;
-    writeln!(out, "  {}", if gate.have_met() { "met" } else { "alone" })?;
-    Ok(())
-}
-
-/// The numbers of the calls that fail: none, or this one.
-fn failing(alloc: Global, word: &str) -> Result<Vec<u64>> {
-    let mut calls = Vec::new(alloc);
-    if word != "-" {
-        calls.push(word.parse::<u64>()?)?;
-    }
-    Ok(calls)
-}
-
-/// Runs words where a call of the shelf and one of the sink fail, and the sink has this room.
-fn fails_row<R: Threads + Wait + Sync, W: Write>(
-    rt: &R,
-    alloc: Global,
-    texts: &Texts,
-    rest: &str,
-    out: &mut W,
-) -> Result<()> {
-    let (name, rest) = rest.split_once(' ').context("no name")?;
-    let (shelf_call, rest) = rest.split_once(' ').context("no call of the shelf")?;
-    let (sink_call, rest) = rest.split_once(' ').context("no call of the sink")?;
-    let (room, line) = rest.split_once(' ').context("no room")?;
-    let named = texts.named(alloc)?;
-    let shelf_fails = failing(alloc, shelf_call)?;
-    let sink_fails = failing(alloc, sink_call)?;
-    let mut shelf = MemShelf::new(alloc, named.as_slice(), shelf_fails.as_slice())?;
-    let mut sink = MemSink::new(alloc, room.parse::<usize>()?, sink_fails.as_slice())?;
-    let words = words_of(alloc, line)?;
-    let status = run(rt, alloc, words.as_slice(), &mut shelf, &mut sink, &NoGate);
-    let text = str::from_utf8(sink.bytes())?;
-    write_lines(name, "*", status, text, out)
-}
-
-/// Checks a text cut after each count of bytes, and writes each status with the least of the counts in a row that give it.
-fn cuts_row<R: Threads + Wait + Sync, W: Write>(
-    rt: &R,
-    alloc: Global,
-    texts: &Texts,
-    rest: &str,
-    out: &mut W,
-) -> Result<()> {
-    let (name, rest) = rest.split_once(' ').context("no name")?;
-    let (base, model) = rest.split_once(' ').context("no model")?;
-    let text = texts.find(base)?.as_bytes();
-    let model = texts.find(model)?.as_bytes();
-    let words = words_of(alloc, "check front model")?;
-    writeln!(out, "{name}")?;
-    let mut last = None;
-    for count in 0..=text.len() {
-        let named = [("front", &text[..count]), ("model", model)];
-        let mut shelf = SureShelf::new(alloc, &named)?;
-        let mut sink = MemSink::new(alloc, ROOM, &[])?;
-        let status = run(rt, alloc, words.as_slice(), &mut shelf, &mut sink, &NoGate) as u8;
-        if last != Some(status) {
-            writeln!(out, "  {status} from {count} on")?;
-            last = Some(status);
-        }
-    }
-    Ok(())
-}
-
-/// Runs words over the files of the folder that the program runs in.
-fn files_row<R: Files + Threads + Wait + Sync, W: Write>(
-    rt: &R,
-    alloc: Global,
-    rest: &str,
-    out: &mut W,
-) -> Result<()> {
-    let (name, line) = rest.split_once(' ').context("no name")?;
-    let words = words_of(alloc, line)?;
-    let mut shelf = FileShelf::new(rt);
-    let mut room = [0u8; 64];
-    let mut sink = OutSink::new(&mut room[..]);
-    let status = run(rt, alloc, words.as_slice(), &mut shelf, &mut sink, &NoGate);
-    let text = str::from_utf8(room.as_slice())?;
-    let (text, _) = text.split_once('\0').context("no room is left")?;
-    write_lines(name, "*", status, text, out)
-}
-
 /// Adds the text that a block changes.
-fn change_text(alloc: Global, texts: &mut Texts, rest: &str, lines: &str) -> Result<()> {
-    let (name, base) = rest.split_once(' ').context("no base")?;
-    let (part, other) = lines.split_once('\n').context("no part")?;
-    let (other, _) = other.split_once('\n').context("no other part")?;
+fn change_text(alloc: Global, texts: &mut Texts, rest: &str, lines: &str) -> Option<()> {
+    let (name, base) = rest.split_once(' ')?;
+    let (part, other) = lines.split_once('\n')?;
+    let (other, _) = other.split_once('\n')?;
     texts.change(alloc, name, base, part, other)
 }
 
 /// Adds the text of a block's lines, some of which are repeated.
-fn repeat_text(alloc: Global, texts: &mut Texts, rest: &str, lines: &str) -> Result<()> {
-    let (name, count) = rest.split_once(' ').context("no count")?;
-    texts.repeat(alloc, name, count.parse::<u32>()?, lines)?;
-    Ok(())
+fn repeat_text(alloc: Global, texts: &mut Texts, rest: &str, lines: &str) -> Option<()> {
+    let (name, count) = rest.split_once(' ')?;
+    texts.repeat(alloc, name, count.parse::<u32>().ok()?, lines)
 }
 
-/// Takes a block: adds its text, or does its run.
-fn take_block<R: Files + Threads + Wait + Sync, W: Write>(
+/// Takes a block: adds its text to the texts, or does its run. None where it is no block, and where memory is wanting.
+fn take_block<R: Files + Threads + Wait + Sync>(
     rt: &R,
     alloc: Global,
     texts: &mut Texts,
     block: &Block,
-    out: &mut W,
-) -> Result<()> {
-    let (kind, rest) = block.head.as_str().split_once(' ').context("one word")?;
+    text: &mut String,
+) -> Option<()> {
+    let (kind, rest) = block.head.as_str().split_once(' ')?;
+    let lines = block.text.as_str();
     match kind {
-        "text" => {
-            texts.add(alloc, rest, block.text.as_str())?;
-            Ok(())
-        }
-        "change" => change_text(alloc, texts, rest, block.text.as_str()),
-        "repeat" => repeat_text(alloc, texts, rest, block.text.as_str()),
-        "run" => run_row(rt, alloc, texts, rest, &NoGate, out),
-        "meet" => meet_row(rt, alloc, texts, rest, out),
-        "fails" => fails_row(rt, alloc, texts, rest, out),
-        "cuts" => cuts_row(rt, alloc, texts, rest, out),
-        "files" => files_row(rt, alloc, rest, out),
-        _ => bail!("no kind of row"),
+        "text" => texts.add(alloc, rest, lines),
+        "change" => change_text(alloc, texts, rest, lines),
+        "repeat" => repeat_text(alloc, texts, rest, lines),
+        "run" => runs::run_row(rt, alloc, texts, rest, &NoGate, text),
+        "meet" => runs::meet_row(rt, alloc, texts, rest, text),
+        "fails" => runs::fails_row(rt, alloc, texts, rest, text),
+        "cuts" => runs::cuts_row(rt, alloc, texts, rest, text),
+        "files" => runs::files_row(rt, alloc, rest, text),
+        "plan" => verifying::plan_row(rt, alloc, texts, rest, lines, text),
+        "draw" => pictures::draw_row(alloc, texts, rest, text),
+        _ => None,
     }
 }
 
-fn main(rt: HostRuntime) -> Result<()> {
-    let alloc = rt.alloc();
-    let Some(name) = env::args(&rt)?.nth(1) else {
-        bail!("usage: run_rows FILE")
-    };
-    let text = fs::read_to_string(&rt, name.as_str())?;
-    let blocks = blocks_of(alloc, text.as_str())?;
+/// Writes what the rows of this file write.
+fn write_rows<R: Files + Threads + Wait + Sync, W: Write>(
+    rt: &R,
+    alloc: Global,
+    file: &str,
+    out: &mut W,
+) -> Result<()> {
+    let blocks = blocks_of(alloc, file).context("not in form")?;
     let mut texts = Texts::new(alloc);
-    let mut out = io::writer(&rt);
     for block in blocks.iter() {
-        let head = block.head.as_str();
-        take_block(&rt, alloc, &mut texts, block, &mut out).context(format_args!("row: {head}"))?;
+        let mut text = String::new(alloc);
+        let told = take_block(rt, alloc, &mut texts, block, &mut text);
+        out.write_all(text.as_bytes())?;
+        told.context(format_args!("row: {}", block.head))?;
+    }
+    Ok(())
+}
+
+fn main(rt: HostRuntime) -> Result<()> {
+    let mut out = io::writer(&rt);
+    for name in env::args(&rt)?.skip(1) {
+        let file = fs::read_to_string(&rt, name.as_str())?;
+        write_rows(&rt, rt.alloc(), file.as_str(), &mut out)?;
     }
     Ok(())
 }

@@ -1,7 +1,6 @@
 //! The texts that runs read.
 
-use anyhow::{Context, Result, bail};
-use std::alloc::{AllocError, Global};
+use std::alloc::Global;
 
 /// A text and its name.
 #[derive(Drop)]
@@ -17,14 +16,18 @@ pub(crate) struct Texts {
 }
 
 /// Adds a line so many times, each with its number, from 0 on, in the place of a `#`.
-fn push_copies(text: &mut String, line: &str, count: u32) -> Result<(), AllocError> {
+fn push_copies(text: &mut String, line: &str, count: u32) -> Option<()> {
+    let (front, rest) = line.split_once('#').unwrap_or((line, ""));
+    let has_number = front.len() < line.len();
     for number in 0..count {
-        match line.split_once('#') {
-            Some((front, rest)) => write!(text, "{front}{number}{rest}\n")?,
-            None => write!(text, "{line}\n")?,
+        text.push_str(front).ok()?;
+        if has_number {
+            write!(text, "{number}").ok()?;
         }
+        text.push_str(rest).ok()?;
+        text.push_str("\n").ok()?;
     }
-    Ok(())
+    Some(())
 }
 
 impl Texts {
@@ -35,21 +38,20 @@ impl Texts {
     }
 
     /// Adds a text of this name.
-    pub(crate) fn add(&mut self, alloc: Global, name: &str, bytes: &str) -> Result<(), AllocError> {
-        let name = String::from_str(alloc, name)?;
-        let bytes = String::from_str(alloc, bytes)?;
-        self.texts.push(Text { name, bytes })?;
-        Ok(())
+    pub(crate) fn add(&mut self, alloc: Global, name: &str, bytes: &str) -> Option<()> {
+        let name = String::from_str(alloc, name).ok()?;
+        let bytes = String::from_str(alloc, bytes).ok()?;
+        self.texts.push(Text { name, bytes }).ok()
     }
 
-    /// The text of this name.
-    pub(crate) fn find(&self, name: &str) -> Result<&str> {
+    /// The text of this name: of two, the first. None where there is none.
+    pub(crate) fn find(&self, name: &str) -> Option<&str> {
         for text in self.texts.iter() {
             if text.name.as_str() == name {
-                return Ok(text.bytes.as_str());
+                return Some(text.bytes.as_str());
             }
         }
-        bail!("no text: {name}")
+        None
     }
 
     /// Adds a text like the one of this base, in which a part stands in the place of another.
@@ -60,14 +62,10 @@ impl Texts {
         base: &str,
         part: &str,
         other: &str,
-    ) -> Result<()> {
-        let text = self.find(base)?;
-        let (front, rest) = text
-            .split_once(part)
-            .context(format_args!("no such part: {part}"))?;
-        let bytes = format!(in alloc; "{front}{other}{rest}")?;
-        self.add(alloc, name, bytes.as_str())?;
-        Ok(())
+    ) -> Option<()> {
+        let (front, rest) = self.find(base)?.split_once(part)?;
+        let bytes = format!(in alloc; "{front}{other}{rest}").ok()?;
+        self.add(alloc, name, bytes.as_str())
     }
 
     /// Adds a text of these lines, where one that begins with `*` stands so many times.
@@ -77,7 +75,7 @@ impl Texts {
         name: &str,
         count: u32,
         lines: &str,
-    ) -> Result<(), AllocError> {
+    ) -> Option<()> {
         let mut bytes = String::new(alloc);
         for line in lines.lines() {
             match line.strip_prefix("*") {
@@ -89,11 +87,13 @@ impl Texts {
     }
 
     /// The texts with their names.
-    pub(crate) fn named(&self, alloc: Global) -> Result<Vec<(&str, &[u8])>, AllocError> {
+    pub(crate) fn named(&self, alloc: Global) -> Option<Vec<(&str, &[u8])>> {
         let mut named = Vec::new(alloc);
         for text in self.texts.iter() {
-            named.push((text.name.as_str(), text.bytes.as_str().as_bytes()))?;
+            named
+                .push((text.name.as_str(), text.bytes.as_str().as_bytes()))
+                .ok()?;
         }
-        Ok(named)
+        Some(named)
     }
 }

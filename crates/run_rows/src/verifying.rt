@@ -1,0 +1,52 @@
+//! Plans that are verified.
+
+use crate::runs::{ROOM, status_of, words_of};
+use crate::texts::Texts;
+use plan_io::{MemSink, NoGate, SureShelf};
+use std::alloc::Global;
+use std::sync::Wait;
+use std::thread::Threads;
+use text_runs::verify_run;
+
+/// Whether the verifier alone ends with this status and writes this line of three texts.
+fn ends_so(alloc: Global, texts: &[(&str, &[u8])], status: u8, line: &[u8]) -> Option<bool> {
+    let words = words_of(alloc, "net model plan").ok()?;
+    let mut shelf = SureShelf::new(alloc, texts).ok()?;
+    let mut alone = MemSink::new(alloc, ROOM, &[]).ok()?;
+    let ended = verify_run(alloc, words.as_slice(), &mut shelf, &mut alone, &NoGate);
+    Some(ended as u8 == status && alone.bytes() == line)
+}
+
+/// Verifies a plan of a network and a model through the top call, and adds the name of the row, the status and the line.
+/// None where the verifier alone ends otherwise, or a text is not there.
+pub(crate) fn plan_row<R: Threads + Wait + Sync>(
+    rt: &R,
+    alloc: Global,
+    texts: &Texts,
+    rest: &str,
+    plan: &str,
+    text: &mut String,
+) -> Option<()> {
+    let (name, rest) = rest.split_once(' ')?;
+    let (network, model) = rest.split_once(' ')?;
+    let named = [
+        ("net", texts.find(network)?.as_bytes()),
+        ("model", texts.find(model)?.as_bytes()),
+        ("plan", plan.as_bytes()),
+    ];
+    let mut shelf = SureShelf::new(alloc, &named).ok()?;
+    let mut sink = MemSink::new(alloc, ROOM, &[]).ok()?;
+    let status = status_of(
+        rt,
+        alloc,
+        "verify net model plan",
+        &mut shelf,
+        &mut sink,
+        &NoGate,
+    )?;
+    if !ends_so(alloc, &named, status, sink.bytes())? {
+        return None;
+    }
+    let line = str::from_utf8(sink.bytes()).ok()?;
+    write!(text, "{name} {status} {line}").ok()
+}
