@@ -1,10 +1,9 @@
-//! Compares `choice_steps` and `reach_of` with a plain twin on made links.
+//! `choice_steps` and `reach_of`, compared with a plain twin on made links.
 //!
 //! The links come from a small generator (`made`), the same ones in each run: with none to 32 choices, of which many
 //! cost the same or carry the same, and with tops below and above what they carry. The twin tries each load with no
-//! choice and with every single one (`twin`). The program writes a line for all links, and ends with an error at the
-//! first link where the two differ. Begin at `compare`. Stands on `explicit_steps` and promises nothing of its own.
-#![tactic(auto)]
+//! choice and with every single one (`twin`). Written is a line for all links; an error comes at the first link where the
+//! two differ. Begin at `compare`.
 
 mod made;
 mod twin;
@@ -14,7 +13,6 @@ use explicit_steps::limits::{CAPACITY_BOUND, MAX_CHOICES};
 use explicit_steps::{choice_steps, reach_of};
 use made::made_link;
 use std::alloc::Global;
-use std::io;
 use std::io::Write;
 use twin::{plain_reach, plain_steps};
 
@@ -53,15 +51,15 @@ fn compare(alloc: Global, number: u32, so_far: Compared) -> Result<Compared> {
     })
 }
 
-fn main(rt: HostRuntime) -> Result<()> {
+/// Compares all links.
+pub(crate) fn write_all<W: Write>(alloc: Global, out: &mut W) -> Result<()> {
     let mut compared = Compared {
         steps: 0,
         unreached: 0,
     };
     for number in 0..LINKS {
-        compared = compare(rt.alloc(), number, compared).context(format_args!("link {number}"))?;
+        compared = compare(alloc, number, compared).context(format_args!("link {number}"))?;
     }
-    let mut out = io::writer(&rt);
     writeln!(
         out,
         "links {LINKS}, steps {}, loads out of reach {}",

@@ -1,6 +1,6 @@
 use Rattle.std.proofs.Common.{subst, sym}
 use Rattle.column_pool.specs.Columns.{AreColumns}
-use Rattle.master_rows.proofs.columns.add_simple.Goals as goal
+use Rattle.search_rows.proofs.masters.columns.add_simple.Goals as goal
 
 pub returns-in_ok-add : goal.returns-in_ok-add
 returns-in_ok-add c = subst (AreColumns c.args.inst.now) (sym c.in_ok-add.ensures.added)

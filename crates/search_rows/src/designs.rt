@@ -1,4 +1,4 @@
-//! Searches for designs of made networks with several seeds each, and searches on from what was found.
+//! Designs of made networks, searched for with several seeds each, and searches on from what was found.
 //!
 //! The networks are those of `instance_maker::sample`, the same ones in each run. A design with the least paths at the
 //! start prices is improved with each seed, then the cheapest of what comes out, and then its answer. A line tells of
@@ -6,9 +6,7 @@
 //! where an answer is dearer than what was improved, or the designs cost more in the mean than they may. How cheap a
 //! design is, no clause says: so the lines are what shows that the search is the same. Lines of two small networks, which
 //! can be worked out by hand, show when each seat searches, what is found, and a link that is too small. Begin at
-//! `write_costs`, and at `write_small` of the module `small`. Stands on `incumbent` and `instance_maker`, and promises
-//! nothing of its own.
-#![tactic(auto)]
+//! `write_costs`, and at `write_small` of the module `small`.
 
 mod small;
 mod starts;
@@ -24,7 +22,6 @@ use plan_base::{Design, check_design};
 use small::write_small;
 use starts::start_design;
 use std::alloc::Global;
-use std::io;
 use std::io::Write;
 
 /// The number, the nodes and the demands of each network, with how many seeds its design is improved, and the most that
@@ -140,12 +137,12 @@ fn write_network<W: Write>(
     write_costs(alloc, &problem, seeds, most, out)
 }
 
-fn main(rt: HostRuntime) -> Result<()> {
-    let mut out = io::writer(&rt);
+/// Writes the lines of all networks.
+pub(crate) fn write_all<W: Write>(alloc: Global, out: &mut W) -> Result<()> {
     for (number, nodes, demands, seeds, most) in NETWORKS {
-        write_network(rt.alloc(), number, nodes, demands, seeds, most, &mut out).context(
-            format_args!("sample {number} {nodes} {demands}"),
-        )?;
+        write_network(alloc, number, nodes, demands, seeds, most, out).context(format_args!(
+            "sample {number} {nodes} {demands}"
+        ))?;
     }
-    write_small(rt.alloc(), &mut out)
+    write_small(alloc, out)
 }

@@ -1,12 +1,10 @@
-//! Compares the master step with a plain slow twin on made briefs.
+//! The master step, compared with a plain slow twin on made briefs.
 //!
 //! The instances are small and come from a small generator, the same ones in each run: three nodes with eight links
 //! between them, loads and capacities of a few grains, and up to six columns a demand. The twin tries all loads for each
 //! link's value and works with signed numbers. `advance`, `value` and `gain` must answer what it answers, and `best_step`
-//! must not be worse. The program writes how many briefs were raised and how many stalled, and that the two links of
-//! docs/METHOD.md come out as they are worked out there (`worked`). Begin at `compare`. Stands on `master_step` and
-//! promises nothing of its own.
-#![tactic(auto)]
+//! must not be worse. Written is how many briefs were raised and how many stalled, and that the two links of
+//! docs/METHOD.md come out as they are worked out there (`worked`). Begin at `compare`.
 
 ghost use Rattle.std.specs.Prelude.{◌≡◌};
 
@@ -24,7 +22,6 @@ use master_step::{Step, advance, best_step};
 use plan_base::{Instance, Module, Parts};
 use row_draws::Draws;
 use std::alloc::Global;
-use std::io;
 use std::io::Write;
 use twin::{Found, slow_step};
 use worked::{look_at_crowd, look_at_steps, two_links};
@@ -133,17 +130,17 @@ fn look_at_two_links(alloc: Global) -> Result<()> {
     look_at_crowd(alloc, &inst, &[0, 3_000_000_000])
 }
 
-fn main(rt: HostRuntime) -> Result<()> {
-    let mut out = io::writer(&rt);
+/// Compares all briefs, and looks at the two links.
+pub(crate) fn write_all<W: Write>(alloc: Global, out: &mut W) -> Result<()> {
     let mut raised: u32 = 0;
     for number in 0..BRIEFS {
-        if compare(rt.alloc(), number).context(format_args!("brief {number}"))? {
+        if compare(alloc, number).context(format_args!("brief {number}"))? {
             raised = raised.saturating_add(1);
         }
     }
     let stalled = BRIEFS.saturating_sub(raised);
     writeln!(out, "{BRIEFS} briefs, {raised} raised, {stalled} stalled")?;
-    look_at_two_links(rt.alloc())?;
+    look_at_two_links(alloc)?;
     writeln!(out, "two links as worked out")?;
     Ok(())
 }

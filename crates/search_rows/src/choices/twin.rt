@@ -1,6 +1,6 @@
 //! The steps of a link found load by load, each by trying no choice and every single one.
 
-use crate::made::Made;
+use super::made::Made;
 use explicit_steps::ChoiceStep;
 use std::alloc::{AllocError, Global};
 
