@@ -3,67 +3,60 @@
 //! The links come from a small generator (`made`), the same ones in each run: with none to 32 choices, of which many
 //! cost the same or carry the same, and with tops below and above what they carry. The twin tries each load with no
 //! choice and with every single one (`twin`). Written is a line for all links; an error comes at the first link where the
-//! two differ. Begin at `compare`.
+//! two differ. Begin at `compared`.
 
 mod made;
 mod twin;
 
-use anyhow::{Context, Result, ensure};
 use explicit_steps::limits::{CAPACITY_BOUND, MAX_CHOICES};
-use explicit_steps::{choice_steps, reach_of};
-use made::made_link;
+use explicit_steps::{ChoiceStep, choice_steps, reach_of};
+use made::{Made, made_link};
 use std::alloc::Global;
-use std::io::Write;
 use twin::{plain_reach, plain_steps};
 
 /// How many links are made.
 const LINKS: u32 = 300;
 
-/// How much was compared.
-#[derive(Clone, Copy)]
-struct Compared {
-    steps: usize,
-    unreached: u64,
-}
-
-/// Compares the steps and the reach of the link of this number.
-fn compare(alloc: Global, number: u32, so_far: Compared) -> Result<Compared> {
-    let made = made_link(alloc, number)?;
+/// The steps of a link that reaches so far. None where it is past a limit or reaches another load.
+fn steps_of(alloc: Global, made: &Made, reach: u64) -> Option<Vec<ChoiceStep>> {
     let choices = made.choices.as_slice();
-    ensure!(made.pre < CAPACITY_BOUND, "too much capacity");
-    ensure!(choices.len() <= MAX_CHOICES, "too many choices");
-    ensure!(
-        choices
-            .iter()
-            .all(|choice| choice.capacity < CAPACITY_BOUND),
-        "too much capacity"
-    );
-    let (wanted, unreached) = plain_steps(alloc, &made)?;
-    let steps = choice_steps(alloc, made.pre, choices, made.top)?;
-    ensure!(steps.as_slice() == wanted.as_slice(), "other steps");
-    ensure!(
-        reach_of(made.pre, choices) == plain_reach(&made),
-        "another reach"
-    );
-    Ok(Compared {
-        steps: so_far.steps.saturating_add(steps.len()),
-        unreached: so_far.unreached.saturating_add(unreached),
-    })
+    if made.pre >= CAPACITY_BOUND || choices.len() > MAX_CHOICES {
+        return None;
+    }
+    let are_small = choices
+        .iter()
+        .all(|choice| choice.capacity < CAPACITY_BOUND);
+    if !are_small || reach_of(made.pre, choices) != reach {
+        return None;
+    }
+    choice_steps(alloc, made.pre, choices, made.top).ok()
 }
 
-/// Compares all links.
-pub(crate) fn write_all<W: Write>(alloc: Global, out: &mut W) -> Result<()> {
-    let mut compared = Compared {
-        steps: 0,
-        unreached: 0,
-    };
-    for number in 0..LINKS {
-        compared = compare(alloc, number, compared).context(format_args!("link {number}"))?;
+/// How many steps the link of this number has, and how many loads are out of its reach. None where the twin tells otherwise.
+fn compared(alloc: Global, number: u32) -> Option<(usize, u64)> {
+    let made = made_link(alloc, number).ok()?;
+    let (wanted, unreached) = plain_steps(alloc, &made).ok()?;
+    let steps = steps_of(alloc, &made, plain_reach(&made))?;
+    if steps.as_slice() != wanted.as_slice() {
+        return None;
     }
-    writeln!(
-        out,
-        "links {LINKS}, steps {}, loads out of reach {}",
-        compared.steps, compared.unreached
-    )?;
-    Ok(())
+    Some((steps.len(), unreached))
+}
+
+/// Adds a line for all links, or the first of which the twin tells otherwise.
+pub(crate) fn tell_choices(alloc: Global, text: &mut String) -> Option<()> {
+    let mut steps: usize = 0;
+    let mut out_of_reach: u64 = 0;
+    for number in 0..LINKS {
+        let Some((more, unreached)) = compared(alloc, number) else {
+            return write!(text, "link {number} differs\n").ok();
+        };
+        steps = steps.saturating_add(more);
+        out_of_reach = out_of_reach.saturating_add(unreached);
+    }
+    write!(
+        text,
+        "links {LINKS}, steps {steps}, loads out of reach {out_of_reach}\n"
+    )
+    .ok()
 }

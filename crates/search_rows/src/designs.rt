@@ -6,7 +6,7 @@
 //! where an answer is dearer than what was improved, or the designs cost more in the mean than they may. How cheap a
 //! design is, no clause says: so the lines are what shows that the search is the same. Lines of two small networks, which
 //! can be worked out by hand, show when each seat searches, what is found, and a link that is too small. Begin at
-//! `write_costs`, and at `write_small` of the module `small`.
+//! `tell_costs`, and at `tell_small` of the module `small`.
 
 mod small;
 mod starts;
@@ -14,15 +14,13 @@ mod starts;
 ghost use Rattle.std.specs.Prelude.{◌≡◌};
 ghost use Rattle.plan_base.specs.Designs.{IsGoodDesign};
 
-use anyhow::{Context, Result, bail, ensure};
 use incumbent::{improve, improve_seeded};
 use instance_maker::limits::{MAX_DEMANDS, MAX_NODES, MIN_NODES};
 use instance_maker::{Problem, sample_problem};
 use plan_base::{Design, check_design};
-use small::write_small;
+use small::tell_small;
 use starts::start_design;
 use std::alloc::Global;
-use std::io::Write;
 
 /// The number, the nodes and the demands of each network, with how many seeds its design is improved, and the most that
 /// comes out may cost in the mean, in units.
@@ -56,7 +54,7 @@ struct Found {
 }
 
 /// What searches from a design find with so many seeds.
-fn find_all(alloc: Global, problem: &Problem, start: &Design, seeds: u32) -> Result<Found>
+fn find_all(alloc: Global, problem: &Problem, start: &Design, seeds: u32) -> Option<Found>
     requires table { problem.now.table ≡ problem.now.inst }
     requires start { IsGoodDesign problem.now.inst start.now }
 {
@@ -67,8 +65,8 @@ fn find_all(alloc: Global, problem: &Problem, start: &Design, seeds: u32) -> Res
         best: None,
     };
     for seed in 0..seeds {
-        let copy = start.copy()?;
-        let (cost, design) = improve_seeded(alloc, &problem.inst, &problem.table, copy, seed)?;
+        let copy = start.copy().ok()?;
+        let (cost, design) = improve_seeded(alloc, &problem.inst, &problem.table, copy, seed).ok()?;
         found.total = found.total.saturating_add(cost);
         found.greatest = found.greatest.max(cost);
         if cost < found.least {
@@ -76,73 +74,86 @@ fn find_all(alloc: Global, problem: &Problem, start: &Design, seeds: u32) -> Res
             found.best = Some(design);
         }
     }
-    Ok(found)
+    Some(found)
 }
 
-/// What `improve` gives for a design, and what that costs, in cost grains.
-fn improved(alloc: Global, problem: &Problem, design: Design) -> Result<(u128, Design)>
+/// What `improve` gives for a design, and what that costs, in cost grains. None where that is dearer.
+fn improved(alloc: Global, problem: &Problem, design: Design) -> Option<(u128, Design)>
     requires { problem.now.table ≡ problem.now.inst }
 {
-    let Ok(cost) = check_design(&problem.inst, &design) else {
-        bail!("no good design");
-    };
-    let (better, design) = improve(alloc, &problem.inst, &problem.table, design)?;
-    ensure!(better <= cost, "a dearer design");
-    Ok((better, design))
+    let cost = check_design(&problem.inst, &design).ok()?;
+    let (better, design) = improve(alloc, &problem.inst, &problem.table, design).ok()?;
+    if better > cost {
+        return None;
+    }
+    Some((better, design))
 }
 
-/// Searches for designs, and writes what they cost, in units.
-fn write_costs<W: Write>(
+/// What searches from the start design find with so many seeds.
+fn found_from_start(alloc: Global, problem: &Problem, seeds: u32) -> Option<Found>
+    requires { problem.now.table ≡ problem.now.inst }
+{
+    let start = start_design(alloc, &problem.inst, &problem.table)?;
+    find_all(alloc, problem, &start, seeds)
+}
+
+/// Adds the costs of what is found from a design, and from that again, in units.
+fn tell_again(alloc: Global, problem: &Problem, design: Design, text: &mut String) -> Option<()>
+    requires { problem.now.table ≡ problem.now.inst }
+{
+    let (again, design) = improved(alloc, problem, design)?;
+    let (once_more, _design) = improved(alloc, problem, design)?;
+    let (again, once_more) = (again / TENTH / 10, once_more / TENTH / 10);
+    write!(text, ", then {again} {once_more}\n").ok()
+}
+
+/// Searches for designs, and adds what they cost, in units. None where they cost too much in the mean.
+fn tell_costs(
     alloc: Global,
     problem: &Problem,
     seeds: u32,
     most: u128,
-    out: &mut W,
-) -> Result<()>
+    text: &mut String,
+) -> Option<()>
     requires { problem.now.table ≡ problem.now.inst }
 {
-    let start = start_design(alloc, &problem.inst, &problem.table)?;
-    let found = find_all(alloc, problem, &start, seeds)?;
-    let mean = found.total / u128::from(seeds.max(1)) / TENTH;
-    ensure!(mean <= most.saturating_mul(10), "too dear");
-    let (again, design) = improved(alloc, problem, found.best.context("no best design")?)?;
-    let (once_more, _design) = improved(alloc, problem, design)?;
-    writeln!(
-        out,
-        " {} {}.{} {}, then {} {}",
-        found.least / TENTH / 10,
-        mean / 10,
-        mean % 10,
-        found.greatest / TENTH / 10,
-        again / TENTH / 10,
-        once_more / TENTH / 10
-    )?;
-    Ok(())
+    let Found {
+        least,
+        greatest,
+        total,
+        best,
+    } = found_from_start(alloc, problem, seeds)?;
+    let mean = total / u128::from(seeds.max(1)) / TENTH;
+    if mean > most.saturating_mul(10) {
+        return None;
+    }
+    let (least, greatest) = (least / TENTH / 10, greatest / TENTH / 10);
+    write!(text, " {least} {}.{} {greatest}", mean / 10, mean % 10).ok()?;
+    tell_again(alloc, problem, best?, text)
 }
 
-/// Writes the line of a network.
-fn write_network<W: Write>(
+/// Adds the line of a network.
+fn tell_network(
     alloc: Global,
     number: u32,
     nodes: u32,
     demands: u32,
     seeds: u32,
     most: u128,
-    out: &mut W,
-) -> Result<()> {
-    ensure!(MIN_NODES <= nodes && nodes <= MAX_NODES, "nodes");
-    ensure!(demands <= MAX_DEMANDS, "demands");
-    let problem = sample_problem(alloc, number, nodes, demands)?;
-    write!(out, "sample {number} {nodes} {demands}:")?;
-    write_costs(alloc, &problem, seeds, most, out)
+    text: &mut String,
+) -> Option<()> {
+    if nodes < MIN_NODES || nodes > MAX_NODES || demands > MAX_DEMANDS {
+        return None;
+    }
+    write!(text, "sample {number} {nodes} {demands}:").ok()?;
+    let problem = sample_problem(alloc, number, nodes, demands).ok()?;
+    tell_costs(alloc, &problem, seeds, most, text)
 }
 
-/// Writes the lines of all networks.
-pub(crate) fn write_all<W: Write>(alloc: Global, out: &mut W) -> Result<()> {
+/// Adds the lines of all networks.
+pub(crate) fn tell_designs(alloc: Global, text: &mut String) -> Option<()> {
     for (number, nodes, demands, seeds, most) in NETWORKS {
-        write_network(alloc, number, nodes, demands, seeds, most, out).context(format_args!(
-            "sample {number} {nodes} {demands}"
-        ))?;
+        tell_network(alloc, number, nodes, demands, seeds, most, text)?;
     }
-    write_small(alloc, out)
+    tell_small(alloc, text)
 }

@@ -10,12 +10,21 @@ mod choices;
 mod designs;
 mod masters;
 
-use anyhow::Result;
+use anyhow::{Context, Result};
+use std::alloc::Global;
 use std::io;
+use std::io::Write;
+
+/// Adds all lines. At None the last one that is begun cannot be ended, or something is not as it has to be behind it.
+fn tell_all(alloc: Global, text: &mut String) -> Option<()> {
+    designs::tell_designs(alloc, text)?;
+    masters::tell_masters(alloc, text)?;
+    choices::tell_choices(alloc, text)
+}
 
 fn main(rt: HostRuntime) -> Result<()> {
-    let mut out = io::writer(&rt);
-    designs::write_all(rt.alloc(), &mut out)?;
-    masters::write_all(rt.alloc(), &mut out)?;
-    choices::write_all(rt.alloc(), &mut out)
+    let mut text = String::new(rt.alloc());
+    let told = tell_all(rt.alloc(), &mut text);
+    io::writer(&rt).write_all(text.as_bytes())?;
+    told.context("what is found behind the last line is not as it has to be")
 }

@@ -4,7 +4,7 @@
 //! between them, loads and capacities of a few grains, and up to six columns a demand. The twin tries all loads for each
 //! link's value and works with signed numbers. `advance`, `value` and `gain` must answer what it answers, and `best_step`
 //! must not be worse. Written is how many briefs were raised and how many stalled, and that the two links of
-//! docs/METHOD.md come out as they are worked out there (`worked`). Begin at `compare`.
+//! docs/METHOD.md come out as they are worked out there (`worked`). Begin at `raises`.
 
 ghost use Rattle.std.specs.Prelude.{◌≡◌};
 
@@ -13,134 +13,141 @@ mod made;
 mod twin;
 mod worked;
 
-use anyhow::{Context, Result, bail, ensure};
 use column_pool::Brief;
-use columns::{gain_of, value_of};
+use columns::are_values;
 use link_steps::StepTable;
 use made::{made_brief, made_parts};
 use master_step::{Step, advance, best_step};
 use plan_base::{Instance, Module, Parts};
 use row_draws::Draws;
+use row_networks::table_of;
 use std::alloc::Global;
-use std::io::Write;
 use twin::{Found, slow_step};
-use worked::{look_at_crowd, look_at_steps, two_links};
+use worked::{has_crowd, has_steps, two_links};
 
 /// How many briefs are compared.
 const BRIEFS: u32 = 400;
 
-/// Looks whether a step is what the twin found.
-fn compare_step(step: &Step, found: &Found) -> Result<()> {
+/// Whether a step is what the twin found.
+fn is_step(step: &Step, found: &Found) -> bool {
     match step {
         Step::Raised { prices, old, new } => {
-            ensure!(found.new == Some(*new), "another value is raised to");
-            ensure!(found.old == *old, "the prices have another value");
-            ensure!(
-                prices.as_slice() == found.prices.as_slice(),
-                "other prices are answered"
-            );
+            found.new == Some(*new)
+                && found.old == *old
+                && prices.as_slice() == found.prices.as_slice()
         }
-        Step::Same { value } => {
-            ensure!(found.new.is_none(), "the step gains nothing");
-            ensure!(found.old == *value, "the prices have another value");
-        }
-        Step::Bare { .. } => bail!("a demand has no column"),
+        Step::Same { value } => found.new.is_none() && found.old == *value,
+        Step::Bare { .. } => false,
     }
-    Ok(())
 }
 
-/// Looks whether the better of step and ascent is no worse than what the twin found.
-fn compare_best(step: &Step, found: &Found) -> Result<()> {
+/// Whether the better of step and ascent is no worse than what the twin found.
+fn is_no_worse(step: &Step, found: &Found) -> bool {
     match step {
         Step::Raised { old, new, .. } => {
-            ensure!(found.old == *old, "the prices have another value");
-            ensure!(
-                found.new.unwrap_or(found.old) <= *new,
-                "the best step is worse"
-            );
+            found.old == *old && found.new.unwrap_or(found.old) <= *new
         }
-        Step::Same { .. } => ensure!(found.new.is_none(), "the best step gains nothing"),
-        Step::Bare { .. } => bail!("a demand has no column"),
+        Step::Same { .. } => found.new.is_none(),
+        Step::Bare { .. } => false,
     }
-    Ok(())
 }
 
 /// The instance of these parts.
-fn instance_of(alloc: Global, parts: Parts) -> Result<Instance> {
-    Instance::build(alloc, parts).ok().context("an instance")
+fn instance_of(alloc: Global, parts: Parts) -> Option<Instance> {
+    Instance::build(alloc, parts).ok()
 }
 
-/// Compares both steps of a brief with what the twin found.
-fn compare_steps(
+/// Whether both steps of a brief are as the twin found.
+fn steps_agree(
     alloc: Global,
     inst: &Instance,
     table: &StepTable,
     brief: &Brief,
     found: &Found,
-) -> Result<()>
+) -> bool
     requires { table.now ≡ inst.now }
 {
-    ensure!(brief.fits(inst), "the brief does not fit");
-    let step = advance(alloc, inst, table, brief)?;
-    compare_step(&step, found)?;
-    let best = best_step(alloc, inst, table, brief)?;
-    compare_best(&best, found)
+    if !brief.fits(inst) {
+        return false;
+    }
+    let Ok(step) = advance(alloc, inst, table, brief) else {
+        return false;
+    };
+    let Ok(best) = best_step(alloc, inst, table, brief) else {
+        return false;
+    };
+    is_step(&step, found) && is_no_worse(&best, found)
 }
 
-/// Compares the value and the gain of a brief with what the twin found.
-fn compare_values(
-    alloc: Global,
-    inst: &Instance,
-    table: &StepTable,
-    brief: &Brief,
-    found: &Found,
-) -> Result<()>
-    requires { table.now ≡ inst.now }
-{
-    let value = value_of(alloc, inst, table, brief)?;
-    ensure!(value == Some(found.old), "value answers another number");
-    let gain = gain_of(alloc, inst, table, brief)?;
-    ensure!(gain == Some(found.new), "gain answers another number");
-    Ok(())
+/// Whether the prices of a brief are raised. None where an answer is not what the twin found.
+fn brief_raises(alloc: Global, inst: &Instance, brief: &Brief) -> Option<bool> {
+    let found = slow_step(alloc, inst, brief).ok()?;
+    let table = table_of(alloc, inst)?;
+    if steps_agree(alloc, inst, &table, brief, &found)
+        && are_values(alloc, inst, &table, brief, &found)?
+    {
+        return Some(found.new.is_some());
+    }
+    None
 }
 
-/// Compares what is answered to one brief. Gives whether its prices were raised.
-fn compare(alloc: Global, number: u32) -> Result<bool> {
+/// Whether the prices of the brief of this number are raised. None where an answer is not what the twin found.
+fn raises(alloc: Global, number: u32) -> Option<bool> {
     let mut draws = Draws::begin(number);
-    let inst = instance_of(alloc, made_parts(alloc, &mut draws)?)?;
-    let table = StepTable::make(alloc, &inst).ok().context("a table")?;
-    let brief = made_brief(alloc, &inst, &mut draws)?;
-    let found = slow_step(alloc, &inst, &brief)?;
-    compare_steps(alloc, &inst, &table, &brief, &found)?;
-    compare_values(alloc, &inst, &table, &brief, &found)?;
-    Ok(found.new.is_some())
+    let inst = instance_of(alloc, made_parts(alloc, &mut draws).ok()?)?;
+    let brief = made_brief(alloc, &inst, &mut draws).ok()?;
+    brief_raises(alloc, &inst, &brief)
 }
 
-/// Compares what is answered to the two links with what is worked out for them, with no module and with one on the first.
-fn look_at_two_links(alloc: Global) -> Result<()> {
-    let inst = instance_of(alloc, two_links(alloc, &[])?)?;
-    let table = StepTable::make(alloc, &inst).ok().context("a table")?;
-    look_at_steps(alloc, &inst, &table)?;
-    look_at_crowd(alloc, &inst, &[1_000_000_000, 3_000_000_000])?;
+/// Adds how many briefs are raised, or the first one of which an answer is not what the twin found.
+fn tell_briefs(alloc: Global, text: &mut String) -> Option<()> {
+    let mut raised: u32 = 0;
+    for number in 0..BRIEFS {
+        match raises(alloc, number) {
+            Some(true) => raised = raised.saturating_add(1),
+            Some(false) => {}
+            None => return write!(text, "brief {number} differs\n").ok(),
+        }
+    }
+    let stalled = BRIEFS.saturating_sub(raised);
+    write!(
+        text,
+        "{BRIEFS} briefs, {raised} raised, {stalled} stalled\n"
+    )
+    .ok()
+}
+
+/// Whether two links with these modules on the first have these crowd prices.
+fn crowd_is(alloc: Global, modules: &[Module], wanted: &[u128]) -> Option<bool> {
+    let inst = instance_of(alloc, two_links(alloc, modules).ok()?)?;
+    has_crowd(alloc, &inst, wanted)
+}
+
+/// Whether the two links have the steps that are worked out for them.
+fn steps_are(alloc: Global) -> Option<bool> {
+    let inst = instance_of(alloc, two_links(alloc, &[]).ok()?)?;
+    let table = table_of(alloc, &inst)?;
+    has_steps(alloc, &inst, &table)
+}
+
+/// Adds a line where the two links come out as worked out, with no module and with one on the first. None where they do
+/// not.
+fn tell_two_links(alloc: Global, text: &mut String) -> Option<()> {
     let module = Module {
         capacity: 1,
         cost: 1,
     };
-    let inst = instance_of(alloc, two_links(alloc, &[module])?)?;
-    look_at_crowd(alloc, &inst, &[0, 3_000_000_000])
+    if steps_are(alloc)?
+        && crowd_is(alloc, &[], &[1_000_000_000, 3_000_000_000])?
+        && crowd_is(alloc, &[module], &[0, 3_000_000_000])?
+    {
+        return text.push_str("two links as worked out\n").ok();
+    }
+    None
 }
 
-/// Compares all briefs, and looks at the two links.
-pub(crate) fn write_all<W: Write>(alloc: Global, out: &mut W) -> Result<()> {
-    let mut raised: u32 = 0;
-    for number in 0..BRIEFS {
-        if compare(alloc, number).context(format_args!("brief {number}"))? {
-            raised = raised.saturating_add(1);
-        }
-    }
-    let stalled = BRIEFS.saturating_sub(raised);
-    writeln!(out, "{BRIEFS} briefs, {raised} raised, {stalled} stalled")?;
-    look_at_two_links(alloc)?;
-    writeln!(out, "two links as worked out")?;
-    Ok(())
+/// Adds what becomes of all briefs, and of the two links.
+pub(crate) fn tell_masters(alloc: Global, text: &mut String) -> Option<()> {
+    tell_briefs(alloc, text)?;
+    tell_two_links(alloc, text)
 }

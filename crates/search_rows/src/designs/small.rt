@@ -1,15 +1,14 @@
 //! What is found for two small networks, where it can be worked out by hand.
 
-ghost use Rattle.std.specs.Prelude.{◌≡◌, IfOk, IsTrue};
+ghost use Rattle.std.specs.Prelude.{◌≡◌, ◌<◌, IfSome, IsTrue};
+ghost use Rattle.plan_base.specs.Designs.{IsGoodDesign};
 ghost use Rattle.completions.specs.Completions.{ArePaths};
 
-use anyhow::{Context, Result, ensure};
 use incumbent::{DesignSearch, complete, improve, overfull_link};
 use link_steps::StepTable;
 use plan_base::{DemandId, Design, Instance, Items, Path, check_design, is_simple_path};
 use row_networks::{find, network_of, path_of, table_of};
 use std::alloc::Global;
-use std::io::Write;
 
 /// Links ab and bc with modules of 10 for 5, and ac with modules of 10 for 12; demands of 6 from a to c, of 5 to b.
 const TRIANGLE: &str =
@@ -51,107 +50,129 @@ fn are_paths(inst: &Instance, paths: &Items<Path>) -> bool
 }
 
 /// The paths of these words, one for each demand, in order.
-fn paths_of(alloc: Global, inst: &Instance, words: &[&str]) -> Result<Items<Path>>
-    ensures { IfOk result (ArePaths inst.now) }
+fn paths_of(alloc: Global, inst: &Instance, words: &[&str]) -> Option<Items<Path>>
+    ensures { IfSome result (ArePaths inst.now) }
 {
     let mut paths = Vec::new(alloc);
     for word in words {
-        paths.push(path_of(alloc, word).context("no path")?)?;
+        paths.push(path_of(alloc, word)?).ok()?;
     }
     let paths = Items::from_vec(paths);
-    ensure!(are_paths(inst, &paths), "no simple paths");
-    Ok(paths)
+    if !are_paths(inst, &paths) {
+        return None;
+    }
+    Some(paths)
 }
 
-/// Writes what the cheapest design with the paths costs, what one that is found from it costs, and what the cheapest one
-/// with the paths of that costs, in units; or which link cannot carry the paths.
-fn write_completed<W: Write>(
+/// Adds what a design costs, what one that is found from it costs, and what the cheapest one with the paths of that costs,
+/// in units.
+fn tell_better(
+    alloc: Global,
+    inst: &Instance,
+    table: &StepTable,
+    cost: u128,
+    design: Design,
+    text: &mut String,
+) -> Option<()>
+    requires table { table.now ≡ inst.now }
+    requires design { IsGoodDesign inst.now design }
+{
+    let (better, design) = improve(alloc, inst, table, design).ok()?;
+    let (again, _design) = complete(alloc, inst, table, design.paths).ok()??;
+    let (cost, better, again) = (cost / UNIT, better / UNIT, again / UNIT);
+    write!(text, " {cost}, improved {better}, completed {again}\n").ok()
+}
+
+/// Adds what the cheapest design with the paths costs and what is found from it, or which link cannot carry the paths.
+fn tell_completed(
     alloc: Global,
     inst: &Instance,
     table: &StepTable,
     paths: Items<Path>,
-    out: &mut W,
-) -> Result<()>
+    text: &mut String,
+) -> Option<()>
     requires table { table.now ≡ inst.now }
     requires paths { ArePaths inst.now paths }
 {
     let counts = Items::new(alloc);
     let design = Design { paths, counts };
     let overfull = overfull_link(inst, table, &design);
-    let Some((cost, design)) = complete(alloc, inst, table, design.paths)? else {
-        let link = overfull.context("no link is overfull")?;
-        writeln!(out, " link {} is overfull", link.0)?;
-        return Ok(());
-    };
-    ensure!(overfull.is_none(), "a link is overfull");
-    let (better, design) = improve(alloc, inst, table, design)?;
-    let completed = complete(alloc, inst, table, design.paths)?;
-    let (again, _design) = completed.context("no design")?;
-    writeln!(
-        out,
-        " {}, improved {}, completed {}",
-        cost / UNIT,
-        better / UNIT,
-        again / UNIT
-    )?;
-    Ok(())
+    match (complete(alloc, inst, table, design.paths).ok()?, overfull) {
+        (Some((cost, design)), None) => tell_better(alloc, inst, table, cost, design, text),
+        (None, Some(link)) => write!(text, " link {} is overfull\n", link.0).ok(),
+        _ => None,
+    }
 }
 
-/// Writes what each design costs that a seat finds, in units, and how many nodes are examined then.
-fn write_searches<W: Write>(
+/// Adds what each design costs that a seat finds, in units, and how many nodes are examined then.
+fn tell_searches(
     alloc: Global,
     inst: &Instance,
     table: &StepTable,
     paths: &Items<Path>,
     seat: u32,
     seats: u32,
-    out: &mut W,
-) -> Result<()>
+    text: &mut String,
+) -> Option<()>
+    requires table { table.now ≡ inst.now }
+    requires paths { ArePaths inst.now paths.now }
+    requires seat { seat < seats }
+{
+    let mut designs = DesignSearch::new(seat, seats);
+    for examined in ASKINGS {
+        let found = designs.next_design(alloc, inst, table, paths, examined);
+        if let Some(design) = found.ok()? {
+            let cost = check_design(inst, &design).ok()? / UNIT;
+            write!(text, ", {cost} at {examined}").ok()?;
+        }
+    }
+    text.push_str("\n").ok()
+}
+
+/// Adds the line of each seat.
+fn tell_seats(
+    alloc: Global,
+    inst: &Instance,
+    table: &StepTable,
+    paths: &Items<Path>,
+    text: &mut String,
+) -> Option<()>
     requires table { table.now ≡ inst.now }
     requires paths { ArePaths inst.now paths.now }
 {
-    ensure!(seat < seats, "no such seat");
-    let mut designs = DesignSearch::new(seat, seats);
-    write!(out, "triangle, seat {seat} of {seats}")?;
-    for examined in ASKINGS {
-        if let Some(design) = designs.next_design(alloc, inst, table, paths, examined)? {
-            let cost = check_design(inst, &design).ok().context("no good design")?;
-            write!(out, ", {} at {examined}", cost / UNIT)?;
-        }
-    }
-    writeln!(out)?;
-    Ok(())
-}
-
-/// Writes what is found for the triangle.
-fn write_triangle<W: Write>(alloc: Global, inst: &Instance, out: &mut W) -> Result<()> {
-    let table = table_of(alloc, inst).context("no table")?;
-    let paths = paths_of(alloc, inst, &DIRECT)?;
     for (seat, seats) in SEATS {
-        write_searches(alloc, inst, &table, &paths, seat, seats, out)?;
+        if seat >= seats {
+            return None;
+        }
+        write!(text, "triangle, seat {seat} of {seats}").ok()?;
+        tell_searches(alloc, inst, table, paths, seat, seats, text)?;
     }
-    write!(out, "triangle:")?;
-    write_completed(alloc, inst, &table, paths, out)
+    Some(())
 }
 
-/// Writes what is found for the pair.
-fn write_pair<W: Write>(alloc: Global, inst: &Instance, out: &mut W) -> Result<()> {
-    let table = table_of(alloc, inst).context("no table")?;
+/// Adds what is found for the triangle.
+fn tell_triangle(alloc: Global, inst: &Instance, text: &mut String) -> Option<()> {
+    let table = table_of(alloc, inst)?;
+    let paths = paths_of(alloc, inst, &DIRECT)?;
+    tell_seats(alloc, inst, &table, &paths, text)?;
+    text.push_str("triangle:").ok()?;
+    tell_completed(alloc, inst, &table, paths, text)
+}
+
+/// Adds what is found for the pair.
+fn tell_pair(alloc: Global, inst: &Instance, text: &mut String) -> Option<()> {
+    let table = table_of(alloc, inst)?;
     let paths = paths_of(alloc, inst, &FIRST_LINK)?;
-    write!(out, "pair:")?;
-    write_completed(alloc, inst, &table, paths, out)
+    text.push_str("pair:").ok()?;
+    tell_completed(alloc, inst, &table, paths, text)
 }
 
-/// Writes the lines of both networks.
-pub(crate) fn write_small<W: Write>(alloc: Global, out: &mut W) -> Result<()> {
+/// Adds the lines of both networks.
+pub(crate) fn tell_small(alloc: Global, text: &mut String) -> Option<()> {
     let mut networks = Vec::new(alloc);
     for row in [TRIANGLE, PAIR] {
-        networks.push(network_of(alloc, row).context("no network")?)?;
+        networks.push(network_of(alloc, row)?).ok()?;
     }
-    write_triangle(
-        alloc,
-        find(&networks, "triangle").context("no triangle")?,
-        out,
-    )?;
-    write_pair(alloc, find(&networks, "pair").context("no pair")?, out)
+    tell_triangle(alloc, find(&networks, "triangle")?, text)?;
+    tell_pair(alloc, find(&networks, "pair")?, text)
 }

@@ -1,66 +1,64 @@
 //! The designs that searches begin with.
 
-ghost use Rattle.std.specs.Prelude.{◌≡◌, IfOk};
+ghost use Rattle.std.specs.Prelude.{◌≡◌, IfSome};
 ghost use Rattle.plan_base.specs.Designs.{IsGoodDesign};
 
-use anyhow::{Context, Result, bail};
 use least_path::{Room, are_weights};
 use link_steps::StepTable;
 use plan_base::{DemandId, Design, Instance, Items, LinkId, Path, check_design};
-use std::alloc::{AllocError, Global};
+use std::alloc::Global;
 
 /// The start price of its link for each arc.
-fn start_weights(alloc: Global, table: &StepTable) -> Result<Vec<Option<u128>>, AllocError> {
-    let prices = table.start_prices(alloc)?;
+fn start_weights(alloc: Global, table: &StepTable) -> Option<Vec<Option<u128>>> {
+    let prices = table.start_prices(alloc).ok()?;
     let mut weights = Vec::new(alloc);
     for price in prices.as_slice() {
-        weights.push(Some(*price))?;
-        weights.push(Some(*price))?;
+        weights.push(Some(*price)).ok()?;
+        weights.push(Some(*price)).ok()?;
     }
-    Ok(weights)
+    Some(weights)
 }
 
-/// A path of least start price for each demand, in order.
-fn start_paths(alloc: Global, inst: &Instance, table: &StepTable) -> Result<Items<Path>> {
-    let weights = start_weights(alloc, table)?;
-    if !are_weights(inst, &weights) {
-        bail!("no weights");
+/// A path of least weight for each demand, in order.
+fn least_paths(alloc: Global, inst: &Instance, weights: &[Option<u128>]) -> Option<Items<Path>> {
+    if !are_weights(inst, weights) {
+        return None;
     }
-    let mut room = Room::new(alloc, inst)?;
+    let mut room = Room::new(alloc, inst).ok()?;
     let mut paths = Vec::new(alloc);
     for place in 0..inst.demands() {
         let demand = inst.demand(DemandId(place));
-        let _weight = room
-            .search(inst, &weights, demand.source, demand.target)?
-            .context("no path")?;
-        paths.push(room.path().copy()?)?;
+        let found = room.search(inst, weights, demand.source, demand.target);
+        let _weight = found.ok()??;
+        paths.push(room.path().copy().ok()?).ok()?;
     }
-    Ok(Items::from_vec(paths))
+    Some(Items::from_vec(paths))
 }
 
 /// Counts with which each link carries all loads together.
-fn full_counts(alloc: Global, inst: &Instance, table: &StepTable) -> Result<Items<Items<u64>>>
+fn full_counts(alloc: Global, inst: &Instance, table: &StepTable) -> Option<Items<Items<u64>>>
     requires { table.now ≡ inst.now }
 {
     let mut counts = Vec::new(alloc);
     for place in 0..inst.links() {
-        let of_link = table.counts(alloc, LinkId(place), inst.total_load())?;
-        counts.push(of_link.context("no counts")?)?;
+        let of_link = table.counts(alloc, LinkId(place), inst.total_load()).ok()?;
+        counts.push(of_link?).ok()?;
     }
-    Ok(Items::from_vec(counts))
+    Some(Items::from_vec(counts))
 }
 
 /// A dear design with the least paths at the start prices.
-pub(crate) fn start_design(alloc: Global, inst: &Instance, table: &StepTable) -> Result<Design>
+pub(crate) fn start_design(alloc: Global, inst: &Instance, table: &StepTable) -> Option<Design>
     requires { table.now ≡ inst.now }
-    ensures { IfOk result (IsGoodDesign inst.now) }
+    ensures { IfSome result (IsGoodDesign inst.now) }
 {
+    let weights = start_weights(alloc, table)?;
     let design = Design {
-        paths: start_paths(alloc, inst, table)?,
+        paths: least_paths(alloc, inst, &weights)?,
         counts: full_counts(alloc, inst, table)?,
     };
     if check_design(inst, &design).is_err() {
-        bail!("no good design");
+        return None;
     }
-    Ok(design)
+    Some(design)
 }

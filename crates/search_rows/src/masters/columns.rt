@@ -4,10 +4,11 @@ ghost use Rattle.std.specs.Prelude.{◌≡◌, ◌<◌, length, IfOk, IsTrue};
 ghost use Rattle.plan_base.specs.Arcs.{demand_at};
 ghost use Rattle.plan_base.specs.Paths.{IsSimplePath};
 ghost use Rattle.arc_restrict.specs.Rows.{forbids};
+ghost use Rattle.column_pool.specs.Briefs.{IsBriefFor};
 ghost use Rattle.column_pool.specs.Columns.{permitted_at, AreColumns};
 ghost use Rattle.master_step.specs.Columns.{HasColumns};
 
-use anyhow::Result;
+use super::twin::Found;
 use arc_restrict::Restriction;
 use column_pool::laws::columns_stay;
 use column_pool::{Brief, ColumnPool};
@@ -89,43 +90,42 @@ fn have_columns(
     Ok(true)
 }
 
-/// The value of the brief's prices; None where the brief does not fit.
-pub(crate) fn value_of(
+/// Whether the value and the gain of prices over the columns are what the twin found.
+fn both_agree(
     alloc: Global,
     inst: &Instance,
     table: &StepTable,
     brief: &Brief,
-) -> Result<Option<i128>>
-    requires { table.now ≡ inst.now }
+    pool: &ColumnPool,
+    found: &Found,
+) -> Option<bool>
+    requires table { table.now ≡ inst.now }
+    requires brief { IsBriefFor inst.now brief.now.prices brief.now.columns }
+    requires columns { AreColumns inst.now pool.now }
 {
-    if !brief.fits(inst) {
-        return Ok(None);
+    let restriction = Restriction::none(alloc, inst).ok()?;
+    if !have_columns(alloc, inst, pool, &restriction).ok()? {
+        return None;
     }
-    let pool = pool_of(alloc, inst, brief.columns.as_slice())?;
-    let restriction = Restriction::none(alloc, inst)?;
-    if !have_columns(alloc, inst, &pool, &restriction)? {
-        return Ok(None);
-    }
-    Ok(Some(value(inst, table, &brief.prices, &pool, &restriction)))
+    let mut room = Room::new(alloc, inst).ok()?;
+    let value = value(inst, table, &brief.prices, pool, &restriction);
+    let gain = gain(inst, table, &brief.prices, pool, &restriction, &mut room);
+    Some(value == found.old && gain == found.new)
 }
 
-/// The gain of the brief's prices; None where the brief does not fit.
-pub(crate) fn gain_of(
+/// Whether the value and the gain of the brief's prices are what the twin found. None where the brief does not fit.
+pub(crate) fn are_values(
     alloc: Global,
     inst: &Instance,
     table: &StepTable,
     brief: &Brief,
-) -> Result<Option<Option<i128>>>
+    found: &Found,
+) -> Option<bool>
     requires { table.now ≡ inst.now }
 {
     if !brief.fits(inst) {
-        return Ok(None);
+        return None;
     }
-    let pool = pool_of(alloc, inst, brief.columns.as_slice())?;
-    let restriction = Restriction::none(alloc, inst)?;
-    if !have_columns(alloc, inst, &pool, &restriction)? {
-        return Ok(None);
-    }
-    let mut room = Room::new(alloc, inst)?;
-    Ok(Some(gain(inst, table, &brief.prices, &pool, &restriction, &mut room)))
+    let pool = pool_of(alloc, inst, brief.columns.as_slice()).ok()?;
+    both_agree(alloc, inst, table, brief, &pool, found)
 }

@@ -2,7 +2,6 @@
 
 ghost use Rattle.std.specs.Prelude.{◌≡◌};
 
-use anyhow::{Result, ensure};
 use column_pool::Brief;
 use link_steps::StepTable;
 use master_step::{Step, advance, best_step, crowd_prices};
@@ -75,34 +74,35 @@ fn raises(step: &Step, wanted: &[u128], value: i128) -> bool {
     }
 }
 
-/// Looks at the step and at the better of it and an ascent.
-pub(crate) fn look_at_steps(alloc: Global, inst: &Instance, table: &StepTable) -> Result<()>
+/// Whether the step, and the better of it and an ascent, are as worked out. None where memory is wanting.
+pub(crate) fn has_steps(alloc: Global, inst: &Instance, table: &StepTable) -> Option<bool>
     requires { table.now ≡ inst.now }
 {
-    let brief = brief_of(alloc)?;
-    ensure!(brief.fits(inst), "the brief of two links does not fit");
-    let step = advance(alloc, inst, table, &brief)?;
-    let raised = raises(
-        &step,
-        &[4_000_000_000, 3_000_000_000],
-        50_000_000_000_000_000,
-    );
-    ensure!(raised, "another step of two links");
-    let best = best_step(alloc, inst, table, &brief)?;
-    let raised = raises(
-        &best,
-        &[12_288_000_000_000, 3_000_000_000],
-        122_890_000_000_000_000_000,
-    );
-    ensure!(raised, "another best step of two links");
-    Ok(())
+    let brief = brief_of(alloc).ok()?;
+    if !brief.fits(inst) {
+        return None;
+    }
+    let step = advance(alloc, inst, table, &brief).ok()?;
+    let best = best_step(alloc, inst, table, &brief).ok()?;
+    Some(
+        raises(
+            &step,
+            &[4_000_000_000, 3_000_000_000],
+            50_000_000_000_000_000,
+        ) && raises(
+            &best,
+            &[12_288_000_000_000, 3_000_000_000],
+            122_890_000_000_000_000_000,
+        ),
+    )
 }
 
-/// Looks at the crowd prices of the start prices.
-pub(crate) fn look_at_crowd(alloc: Global, inst: &Instance, wanted: &[u128]) -> Result<()> {
-    let prices = start_prices(alloc)?;
-    ensure!(prices.fits(inst), "the prices of two links do not fit");
-    let crowd = crowd_prices(alloc, inst, &prices)?;
-    ensure!(crowd.as_slice() == wanted, "other crowd prices");
-    Ok(())
+/// Whether these are the crowd prices of the start prices. None where memory is wanting.
+pub(crate) fn has_crowd(alloc: Global, inst: &Instance, wanted: &[u128]) -> Option<bool> {
+    let prices = start_prices(alloc).ok()?;
+    if !prices.fits(inst) {
+        return None;
+    }
+    let crowd = crowd_prices(alloc, inst, &prices).ok()?;
+    Some(crowd.as_slice() == wanted)
 }
