@@ -4,6 +4,7 @@ pub mod Skips
 pub mod SkipLoop
 pub mod Whole
 pub mod Finding
+pub mod FoundFile
 pub mod Once
 pub mod Top
 pub mod Turns

@@ -74,7 +74,6 @@ fn modules(cursor: &mut Cursor<'_>, alloc: Global) -> Result<Items<(u64, u64)>, 
 }
 
 /// A link behind its name.
-#[tactic(auto, using(crate::proofs::Through::through), unfolding(crate::specs::Reading::link))]
 pub(crate) fn link(cursor: &mut Cursor<'_>, alloc: Global) -> Result<LinkDraft, TextFault>
     ensures gives { Gives (λ x. (x, cursor.new)) result (link cursor.old) }
 {
@@ -100,7 +99,6 @@ pub(crate) fn link(cursor: &mut Cursor<'_>, alloc: Global) -> Result<LinkDraft, 
 }
 
 /// A demand behind its name.
-#[tactic(auto, using(crate::proofs::Through::through), unfolding(crate::specs::Reading::demand))]
 pub(crate) fn demand(cursor: &mut Cursor<'_>, alloc: Global) -> Result<DemandDraft, TextFault>
     ensures gives { Gives (λ x. (x, cursor.new)) result (demand cursor.old) }
 {

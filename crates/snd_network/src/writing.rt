@@ -139,7 +139,6 @@ fn push_node(text: &mut Vec<u8>, node: &NodeRecord) -> Result<(), AllocError>
 }
 
 /// Writes the lines of the nodes.
-#[tactic(auto, using(crate::proofs::WrittenLists::lines_more))]
 fn push_node_lines(text: &mut Vec<u8>, nodes: &[NodeRecord]) -> Result<(), AllocError>
     ensures { OnOk result (text.new.items ≡ text.old.items ++ node_lines nodes.now) }
 {
@@ -229,7 +228,6 @@ fn push_link(text: &mut Vec<u8>, nodes: &[NodeRecord], link: &LinkRecord) -> Res
 }
 
 /// Writes the lines of the links.
-#[tactic(auto, using(crate::proofs::WrittenLists::lines_more))]
 fn push_link_lines(
     text: &mut Vec<u8>,
     nodes: &[NodeRecord],
@@ -302,7 +300,6 @@ fn push_demand(
 }
 
 /// Writes the lines of the demands.
-#[tactic(auto, using(crate::proofs::WrittenLists::lines_more))]
 fn push_demand_lines(
     text: &mut Vec<u8>,
     nodes: &[NodeRecord],
