@@ -9,6 +9,7 @@ pub mod Once
 pub mod Top
 pub mod Turns
 pub mod Through
+pub mod InOrder
 pub mod Counts
 pub mod Fresh
 pub mod Formed

@@ -120,6 +120,21 @@ fn next_name(
     cursor.judge(verdict)
 }
 
+/// An item more, with its name.
+fn push_named<T: Drop>(
+    table: &mut Table<Named<T>>,
+    alloc: Global,
+    name: Name,
+    part: T,
+) -> Result<(), TextFault>
+    requires { is_among table.old.names name ≡ false }
+    ensures gives { Makes table.new result (and_row table.old name part) }
+{
+    table.names.push(alloc, name.as_slice())?;
+    table.rows.push(Named { name, part })?;
+    Ok(())
+}
+
 /// A link more.
 #[tactic(auto, using(crate::proofs::Through::through), unfolding(crate::specs::Reading::list_item))]
 fn link_item(
@@ -132,9 +147,7 @@ fn link_item(
     ensures gives { Gives (λ _. (table.new, cursor.new)) result (list_item link table.old name cursor.old) }
 {
     let part = link(cursor, alloc)?;
-    table.names.push(alloc, name.as_slice())?;
-    table.rows.push(Named { name, part })?;
-    Ok(())
+    push_named(table, alloc, name, part)
 }
 
 /// Links with different names, up to the bracket that closes them.
@@ -168,9 +181,7 @@ fn demand_item(
     ensures gives { Gives (λ _. (table.new, cursor.new)) result (list_item demand table.old name cursor.old) }
 {
     let part = demand(cursor, alloc)?;
-    table.names.push(alloc, name.as_slice())?;
-    table.rows.push(Named { name, part })?;
-    Ok(())
+    push_named(table, alloc, name, part)
 }
 
 /// Demands with different names, up to the bracket that closes them.

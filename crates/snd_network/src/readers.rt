@@ -6,6 +6,7 @@ ghost use Rattle.snd_reader.specs.Faults.{Gives};
 ghost use Rattle.snd_reader.specs.Seen.{seen};
 ghost use Rattle.snd_network.specs.Tests.{module_head};
 ghost use Rattle.snd_network.specs.Reading.{end_name, coordinate, hop_limit, module_item, modules, link, demand, depth_at, skip};
+ghost use Rattle.snd_network.specs.InParts.{ends, link_numbers, demand_numbers};
 
 use crate::draft::{DemandDraft, Depth, End, LinkDraft};
 use crate::name::Name;
@@ -73,19 +74,36 @@ fn modules(cursor: &mut Cursor<'_>, alloc: Global) -> Result<Items<(u64, u64)>, 
     }
 }
 
-/// A link behind its name.
-pub(crate) fn link(cursor: &mut Cursor<'_>, alloc: Global) -> Result<LinkDraft, TextFault>
-    ensures gives { Gives (λ x. (x, cursor.new)) result (link cursor.old) }
+/// The two ends of a link or demand, in brackets.
+fn ends(cursor: &mut Cursor<'_>, alloc: Global) -> Result<(End, End), TextFault>
+    ensures gives { Gives (λ x. (x, cursor.new)) result (ends cursor.old) }
 {
     cursor.open()?;
     let source = end_name(cursor, alloc)?;
     let target = end_name(cursor, alloc)?;
     cursor.close()?;
+    Ok((source, target))
+}
+
+/// The pre-installed capacity of a link with its cost, what routing and setting up cost, and the bracket
+/// before the modules.
+fn link_numbers(cursor: &mut Cursor<'_>) -> Result<(u64, u64, u64, u64), TextFault>
+    ensures gives { Gives (λ x. (x, cursor.new)) result (link_numbers cursor.old) }
+{
     let pre = cursor.number(6)?;
     let pre_cost = cursor.number(6)?;
     let routing = cursor.number(6)?;
     let setup = cursor.number(6)?;
     cursor.open()?;
+    Ok((pre, pre_cost, routing, setup))
+}
+
+/// A link behind its name.
+pub(crate) fn link(cursor: &mut Cursor<'_>, alloc: Global) -> Result<LinkDraft, TextFault>
+    ensures gives { Gives (λ x. (x, cursor.new)) result (link cursor.old) }
+{
+    let (source, target) = ends(cursor, alloc)?;
+    let (pre, pre_cost, routing, setup) = link_numbers(cursor)?;
     let modules = modules(cursor, alloc)?;
     Ok(LinkDraft {
         source,
@@ -98,17 +116,22 @@ pub(crate) fn link(cursor: &mut Cursor<'_>, alloc: Global) -> Result<LinkDraft, 
     })
 }
 
+/// The routing unit, the value and the hop limit of a demand.
+fn demand_numbers(cursor: &mut Cursor<'_>) -> Result<(u64, u64, Option<u64>), TextFault>
+    ensures gives { Gives (λ x. (x, cursor.new)) result (demand_numbers cursor.old) }
+{
+    let unit = cursor.number(0)?;
+    let value = cursor.number(6)?;
+    let hops = hop_limit(cursor)?;
+    Ok((unit, value, hops))
+}
+
 /// A demand behind its name.
 pub(crate) fn demand(cursor: &mut Cursor<'_>, alloc: Global) -> Result<DemandDraft, TextFault>
     ensures gives { Gives (λ x. (x, cursor.new)) result (demand cursor.old) }
 {
-    cursor.open()?;
-    let source = end_name(cursor, alloc)?;
-    let target = end_name(cursor, alloc)?;
-    cursor.close()?;
-    let unit = cursor.number(0)?;
-    let value = cursor.number(6)?;
-    let hops = hop_limit(cursor)?;
+    let (source, target) = ends(cursor, alloc)?;
+    let (unit, value, hops) = demand_numbers(cursor)?;
     Ok(DemandDraft {
         source,
         target,

@@ -1,50 +1,18 @@
 use Rattle.std.proofs.lemmas.Result.{err_from_is_err_and}
-use Rattle.snd_network.specs.Reading.{opening, closing, number, end_name, hop_limit, demand}
+use Rattle.snd_network.specs.InParts.{ends, demand_numbers}
 use Rattle.snd_network.proofs.Through.{through}
+use Rattle.snd_network.proofs.InOrder.{demand_in_parts}
 use Rattle.snd_network.proofs.readers.demand.Goals as goal
 
-pub returns-in_err-open : goal.returns-in_err-open
-unfolding demand
-returns-in_err-open c =
-    let p = err_from_is_err_and c.from_residual.result c.from_residual.ensures.1 in
-    record { gives = rw (p.1, p.2) (through _ (opening c.args.cursor.now) _ c.in_err-open.ensures.gives) }
-
 pub returns-in_err-source : goal.returns-in_err-source
-unfolding demand
 returns-in_err-source c =
-    let p = err_from_is_err_and c.from_residual-in_err-source.result c.from_residual-in_err-source.ensures.1 in
-    record { gives = rw (p.1, p.2) (rw c.in_ok-open.ensures.gives (through _ (end_name c.open.new.self) _ c.in_err-source.ensures.gives)) }
-
-pub returns-in_err-target : goal.returns-in_err-target
-unfolding demand
-returns-in_err-target c =
-    let p = err_from_is_err_and c.from_residual-in_err-target.result c.from_residual-in_err-target.ensures.1 in
-    record { gives = rw (p.1, p.2) (rw (c.in_ok-open.ensures.gives, c.in_ok-source.ensures.gives) (through _ (end_name c.end_name.new.cursor) _ c.in_err-target.ensures.gives)) }
-
-pub returns-in_err-close : goal.returns-in_err-close
-unfolding demand
-returns-in_err-close c =
-    let p = err_from_is_err_and c.from_residual-in_err-close.result c.from_residual-in_err-close.ensures.1 in
-    record { gives = rw (p.1, p.2) (rw (c.in_ok-open.ensures.gives, c.in_ok-source.ensures.gives, c.in_ok-target.ensures.gives) (through _ (closing c.end_name-2.new.cursor) _ c.in_err-close.ensures.gives)) }
+    let p = err_from_is_err_and c.from_residual.result c.from_residual.ensures.1 in
+    record { gives = rw (p.1, p.2, ← demand_in_parts c.args.cursor.now) (through _ (ends c.args.cursor.now) _ c.in_err-source.ensures.gives) }
 
 pub returns-in_err-unit : goal.returns-in_err-unit
-unfolding demand
 returns-in_err-unit c =
     let p = err_from_is_err_and c.from_residual-in_err-unit.result c.from_residual-in_err-unit.ensures.1 in
-    record { gives = rw (p.1, p.2) (rw (c.in_ok-open.ensures.gives, c.in_ok-source.ensures.gives, c.in_ok-target.ensures.gives, c.in_ok-close.ensures.gives) (through _ (number 0 c.close.new.self) _ c.in_err-unit.ensures.gives)) }
-
-pub returns-in_err-value : goal.returns-in_err-value
-unfolding demand
-returns-in_err-value c =
-    let p = err_from_is_err_and c.from_residual-in_err-value.result c.from_residual-in_err-value.ensures.1 in
-    record { gives = rw (p.1, p.2) (rw (c.in_ok-open.ensures.gives, c.in_ok-source.ensures.gives, c.in_ok-target.ensures.gives, c.in_ok-close.ensures.gives, c.in_ok-unit.ensures.gives) (through _ (number 6 c.number.new.self) _ c.in_err-value.ensures.gives)) }
-
-pub returns-in_err-hops : goal.returns-in_err-hops
-unfolding demand
-returns-in_err-hops c =
-    let p = err_from_is_err_and c.from_residual-in_err-hops.result c.from_residual-in_err-hops.ensures.1 in
-    record { gives = rw (p.1, p.2) (rw (c.in_ok-open.ensures.gives, c.in_ok-source.ensures.gives, c.in_ok-target.ensures.gives, c.in_ok-close.ensures.gives, c.in_ok-unit.ensures.gives, c.in_ok-value.ensures.gives) (through _ (hop_limit c.number-2.new.self) _ c.in_err-hops.ensures.gives)) }
+    record { gives = rw (p.1, p.2, ← demand_in_parts c.args.cursor.now, c.in_ok-source.ensures.gives) (through _ (demand_numbers c.ends.new.cursor) _ c.in_err-unit.ensures.gives) }
 
 pub returns : goal.returns
-unfolding demand
-returns c = record { gives = rw (c.in_ok-open.ensures.gives, c.in_ok-source.ensures.gives, c.in_ok-target.ensures.gives, c.in_ok-close.ensures.gives, c.in_ok-unit.ensures.gives, c.in_ok-value.ensures.gives, c.in_ok-hops.ensures.gives) }
+returns c = record { gives = rw (← demand_in_parts c.args.cursor.now, c.in_ok-source.ensures.gives, c.in_ok-unit.ensures.gives) }
