@@ -5,4 +5,6 @@ pub mod Complaints
 pub mod Once
 pub mod Top
 pub mod Written
+pub mod WrittenLines
+pub mod FirstFound
 pub mod Turns

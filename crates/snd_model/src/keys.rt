@@ -1,5 +1,10 @@
 //! The keys of a model text.
 
+ghost use Rattle.std.specs.Prelude.{◌≡◌, nat_eq};
+ghost use Rattle.std.specs.List.{find};
+ghost use Rattle.std.specs.Cmp.Lexicographic.{pointwise};
+ghost use Rattle.snd_model.specs.Table.{key_word};
+
 /// What a setting of a model text is about, in the order of the model table.
 #[derive(Clone, Copy, Debug, PartialEq, Eq)]
 pub enum Key {
@@ -20,6 +25,18 @@ pub enum Key {
     /// `SURVIVABILITY_MODEL`
     Survivability,
 }
+
+/// The keys, in the order of the model table.
+pub(crate) const KEYS: [Key; 8] = [
+    Key::Demand,
+    Key::Link,
+    Key::Capacity,
+    Key::FixedCharge,
+    Key::Routing,
+    Key::Path,
+    Key::Hop,
+    Key::Survivability,
+];
 
 impl Key {
     ghost use Rattle.std.specs.Prelude.{◌≡◌};
@@ -51,24 +68,19 @@ impl Key {
     pub fn named(word: &[u8]) -> Option<Key>
         ensures { result ≡ key_named word.now }
     {
-        if word == b"DEMAND_MODEL".as_slice() {
-            Some(Key::Demand)
-        } else if word == b"LINK_MODEL".as_slice() {
-            Some(Key::Link)
-        } else if word == b"LINK_CAPACITY_MODEL".as_slice() {
-            Some(Key::Capacity)
-        } else if word == b"FIXED_CHARGE_MODEL".as_slice() {
-            Some(Key::FixedCharge)
-        } else if word == b"ROUTING_MODEL".as_slice() {
-            Some(Key::Routing)
-        } else if word == b"ADMISSIBLE_PATH_MODEL".as_slice() {
-            Some(Key::Path)
-        } else if word == b"HOP_LIMIT_MODEL".as_slice() {
-            Some(Key::Hop)
-        } else if word == b"SURVIVABILITY_MODEL".as_slice() {
-            Some(Key::Survivability)
-        } else {
-            None
+        first_named(&KEYS, word)
+    }
+}
+
+/// The first of these keys that has this word.
+#[tactic(auto, using(crate::proofs::FirstFound::found_here, crate::proofs::FirstFound::found_later))]
+fn first_named(keys: &[Key], word: &[u8]) -> Option<Key>
+    ensures { result ≡ find (λ key. pointwise nat_eq word.now (key_word key)) keys.now }
+{
+    for key in keys {
+        if word == key.word() {
+            return Some(*key);
         }
     }
+    None
 }

@@ -1,5 +1,10 @@
 //! A setting of a model text: a key with one of the values of its row.
 
+ghost use Rattle.std.specs.Prelude.{◌≡◌, nat_eq};
+ghost use Rattle.std.specs.List.{find, list_any};
+ghost use Rattle.std.specs.Cmp.Lexicographic.{pointwise};
+ghost use Rattle.snd_model.specs.Table.{is_spelling, row};
+
 use crate::keys::Key;
 use crate::values::{
     CapacityModel, DemandModel, FixedChargeModel, HopModel, LinkModel, PathModel, RoutingModel,
@@ -20,8 +25,8 @@ pub enum Setting {
 }
 
 impl Setting {
-    ghost use Rattle.std.specs.Prelude.{◌≡◌, slice_get};
-    ghost use Rattle.snd_model.specs.Table.{key_of, spelling, row, number_of, setting_named};
+    ghost use Rattle.std.specs.Prelude.{◌≡◌, map, slice_get};
+    ghost use Rattle.snd_model.specs.Table.{key_of, spelling, other_spellings, is_spelling, row, number_of, setting_named};
 
     /// The setting of this key and this spelling.
     ///
@@ -31,16 +36,7 @@ impl Setting {
     pub fn named(key: Key, word: &[u8]) -> Option<Setting>
         ensures { result ≡ setting_named key word.now }
     {
-        match key {
-            Key::Demand => Some(Setting::Demand(DemandModel::named(word)?)),
-            Key::Link => Some(Setting::Link(LinkModel::named(word)?)),
-            Key::Capacity => Some(Setting::Capacity(CapacityModel::named(word)?)),
-            Key::FixedCharge => Some(Setting::FixedCharge(FixedChargeModel::named(word)?)),
-            Key::Routing => Some(Setting::Routing(RoutingModel::named(word)?)),
-            Key::Path => Some(Setting::Path(PathModel::named(word)?)),
-            Key::Hop => Some(Setting::Hop(HopModel::named(word)?)),
-            Key::Survivability => Some(Setting::Survivability(SurvivabilityModel::named(word)?)),
-        }
+        first_spelt(row(key), word)
     }
 
     /// The setting of this key whose value has this number in the key's row, from 0 on.
@@ -50,18 +46,7 @@ impl Setting {
     pub fn numbered(key: Key, number: u8) -> Option<Setting>
         ensures { result ≡ slice_get (row key) number }
     {
-        match key {
-            Key::Demand => Some(Setting::Demand(DemandModel::numbered(number)?)),
-            Key::Link => Some(Setting::Link(LinkModel::numbered(number)?)),
-            Key::Capacity => Some(Setting::Capacity(CapacityModel::numbered(number)?)),
-            Key::FixedCharge => Some(Setting::FixedCharge(FixedChargeModel::numbered(number)?)),
-            Key::Routing => Some(Setting::Routing(RoutingModel::numbered(number)?)),
-            Key::Path => Some(Setting::Path(PathModel::numbered(number)?)),
-            Key::Hop => Some(Setting::Hop(HopModel::numbered(number)?)),
-            Key::Survivability => Some(Setting::Survivability(SurvivabilityModel::numbered(
-                number,
-            )?)),
-        }
+        row(key).get(usize::from(number)).copied()
     }
 
     /// The key.
@@ -89,16 +74,7 @@ impl Setting {
     pub fn word(self) -> &'static [u8]
         ensures { result.now ≡ spelling self }
     {
-        match self {
-            Setting::Demand(value) => value.word(),
-            Setting::Link(value) => value.word(),
-            Setting::Capacity(value) => value.word(),
-            Setting::FixedCharge(value) => value.word(),
-            Setting::Routing(value) => value.word(),
-            Setting::Path(value) => value.word(),
-            Setting::Hop(value) => value.word(),
-            Setting::Survivability(value) => value.word(),
-        }
+        self.words().0
     }
 
     /// The number of the value in the key's row, from 0 on.
@@ -118,5 +94,99 @@ impl Setting {
             Setting::Hop(value) => value.number(),
             Setting::Survivability(value) => value.number(),
         }
+    }
+
+    /// The first spelling of the value, and the others, which mean the same.
+    fn words(self) -> (&'static [u8], &'static [&'static [u8]])
+        ensures first { result.0.now ≡ spelling self }
+        ensures others { map (λ word. word.now) result.1.now ≡ other_spellings self }
+    {
+        match self {
+            Setting::Demand(value) => value.words(),
+            Setting::Link(value) => value.words(),
+            Setting::Capacity(value) => value.words(),
+            Setting::FixedCharge(value) => value.words(),
+            Setting::Routing(value) => value.words(),
+            Setting::Path(value) => value.words(),
+            Setting::Hop(value) => value.words(),
+            Setting::Survivability(value) => value.words(),
+        }
+    }
+
+    /// Whether the word is a spelling of the value.
+    fn is_spelt(self, word: &[u8]) -> bool
+        ensures { result ≡ is_spelling self word.now }
+    {
+        let (first, others) = self.words();
+        word == first || is_among(word, others)
+    }
+}
+
+/// Whether the word is one of these.
+fn is_among(word: &[u8], words: &[&[u8]]) -> bool
+    ensures { result ≡ list_any (λ known. pointwise nat_eq word.now known.now) words.now }
+{
+    for known in words {
+        if word == *known {
+            return true;
+        }
+    }
+    false
+}
+
+/// The first of these settings of which the word is a spelling.
+#[tactic(auto, using(crate::proofs::FirstFound::found_here, crate::proofs::FirstFound::found_later))]
+fn first_spelt(settings: &[Setting], word: &[u8]) -> Option<Setting>
+    ensures { result ≡ find (λ setting. is_spelling setting word.now) settings.now }
+{
+    for setting in settings {
+        if setting.is_spelt(word) {
+            return Some(*setting);
+        }
+    }
+    None
+}
+
+/// The values of a key, in the order of its row.
+fn row(key: Key) -> &'static [Setting]
+    ensures { result.now ≡ row key }
+{
+    match key {
+        Key::Demand => &[
+            Setting::Demand(DemandModel::Undirected),
+            Setting::Demand(DemandModel::Directed),
+        ],
+        Key::Link => &[
+            Setting::Link(LinkModel::Undirected),
+            Setting::Link(LinkModel::Directed),
+            Setting::Link(LinkModel::Bidirected),
+        ],
+        Key::Capacity => &[
+            Setting::Capacity(CapacityModel::Modular),
+            Setting::Capacity(CapacityModel::Linear),
+            Setting::Capacity(CapacityModel::SingleModular),
+            Setting::Capacity(CapacityModel::Explicit),
+        ],
+        Key::FixedCharge => &[
+            Setting::FixedCharge(FixedChargeModel::No),
+            Setting::FixedCharge(FixedChargeModel::Yes),
+        ],
+        Key::Routing => &[
+            Setting::Routing(RoutingModel::SinglePath),
+            Setting::Routing(RoutingModel::Continuous),
+            Setting::Routing(RoutingModel::Integer),
+        ],
+        Key::Path => &[
+            Setting::Path(PathModel::All),
+            Setting::Path(PathModel::Explicit),
+        ],
+        Key::Hop => &[Setting::Hop(HopModel::No), Setting::Hop(HopModel::Yes)],
+        Key::Survivability => &[
+            Setting::Survivability(SurvivabilityModel::No),
+            Setting::Survivability(SurvivabilityModel::Yes),
+            Setting::Survivability(SurvivabilityModel::OnePlusOne),
+            Setting::Survivability(SurvivabilityModel::SharedPath),
+            Setting::Survivability(SurvivabilityModel::Unrestricted),
+        ],
     }
 }

@@ -1,10 +1,8 @@
 //! The values of a model text: one type for each key, one variant for each group of spellings that mean the same.
 
-ghost use Rattle.std.specs.Prelude.{◌≡◌, slice_get};
-ghost use Rattle.std.specs.Option.{option_map};
-ghost use Rattle.snd_model.specs.declared.keys.Key.TheVariants as keys;
+ghost use Rattle.std.specs.Prelude.{◌≡◌, map};
 ghost use Rattle.snd_model.specs.declared.setting.Setting.TheVariants.{Demand, Link, Capacity, FixedCharge, Routing, Path, Hop, Survivability};
-ghost use Rattle.snd_model.specs.Table.{spelling, row, number_of, setting_named};
+ghost use Rattle.snd_model.specs.Table.{spelling, other_spellings, number_of};
 
 /// Whether a demand has a direction.
 #[derive(Clone, Copy, Debug, PartialEq, Eq)]
@@ -16,37 +14,14 @@ pub enum DemandModel {
 }
 
 impl DemandModel {
-    /// The value of this spelling.
-    pub(crate) fn named(word: &[u8]) -> Option<DemandModel>
-        ensures { option_map Demand result ≡ setting_named keys.Demand word.now }
-    {
-        if word == b"UNDIRECTED".as_slice() || word == b"UNDIRECTED_DEMANDS".as_slice() {
-            Some(DemandModel::Undirected)
-        } else if word == b"DIRECTED".as_slice() || word == b"DIRECTED_DEMANDS".as_slice() {
-            Some(DemandModel::Directed)
-        } else {
-            None
-        }
-    }
-
-    /// The value of this number in its row, from 0 on.
-    pub(crate) fn numbered(number: u8) -> Option<DemandModel>
-        ensures { option_map Demand result ≡ slice_get (row keys.Demand) number }
-    {
-        match number {
-            0 => Some(DemandModel::Undirected),
-            1 => Some(DemandModel::Directed),
-            _ => None,
-        }
-    }
-
-    /// Its first spelling.
-    pub(crate) fn word(self) -> &'static [u8]
-        ensures { result.now ≡ spelling (Demand self) }
+    /// Its first spelling, and the others.
+    pub(crate) fn words(self) -> (&'static [u8], &'static [&'static [u8]])
+        ensures first { result.0.now ≡ spelling (Demand self) }
+        ensures others { map (λ word. word.now) result.1.now ≡ other_spellings (Demand self) }
     {
         match self {
-            DemandModel::Undirected => b"UNDIRECTED".as_slice(),
-            DemandModel::Directed => b"DIRECTED".as_slice(),
+            DemandModel::Undirected => (b"UNDIRECTED", &[b"UNDIRECTED_DEMANDS"]),
+            DemandModel::Directed => (b"DIRECTED", &[b"DIRECTED_DEMANDS"]),
         }
     }
 
@@ -73,41 +48,15 @@ pub enum LinkModel {
 }
 
 impl LinkModel {
-    /// The value of this spelling.
-    pub(crate) fn named(word: &[u8]) -> Option<LinkModel>
-        ensures { option_map Link result ≡ setting_named keys.Link word.now }
-    {
-        if word == b"UNDIRECTED".as_slice() || word == b"UNDIRECTED_LINKS".as_slice() {
-            Some(LinkModel::Undirected)
-        } else if word == b"DIRECTED".as_slice() || word == b"DIRECTED_LINKS".as_slice() {
-            Some(LinkModel::Directed)
-        } else if word == b"BIDIRECTED".as_slice() || word == b"BIDIRECTED_LINKS".as_slice() {
-            Some(LinkModel::Bidirected)
-        } else {
-            None
-        }
-    }
-
-    /// The value of this number in its row, from 0 on.
-    pub(crate) fn numbered(number: u8) -> Option<LinkModel>
-        ensures { option_map Link result ≡ slice_get (row keys.Link) number }
-    {
-        match number {
-            0 => Some(LinkModel::Undirected),
-            1 => Some(LinkModel::Directed),
-            2 => Some(LinkModel::Bidirected),
-            _ => None,
-        }
-    }
-
-    /// Its first spelling.
-    pub(crate) fn word(self) -> &'static [u8]
-        ensures { result.now ≡ spelling (Link self) }
+    /// Its first spelling, and the others.
+    pub(crate) fn words(self) -> (&'static [u8], &'static [&'static [u8]])
+        ensures first { result.0.now ≡ spelling (Link self) }
+        ensures others { map (λ word. word.now) result.1.now ≡ other_spellings (Link self) }
     {
         match self {
-            LinkModel::Undirected => b"UNDIRECTED".as_slice(),
-            LinkModel::Directed => b"DIRECTED".as_slice(),
-            LinkModel::Bidirected => b"BIDIRECTED".as_slice(),
+            LinkModel::Undirected => (b"UNDIRECTED", &[b"UNDIRECTED_LINKS"]),
+            LinkModel::Directed => (b"DIRECTED", &[b"DIRECTED_LINKS"]),
+            LinkModel::Bidirected => (b"BIDIRECTED", &[b"BIDIRECTED_LINKS"]),
         }
     }
 
@@ -137,56 +86,25 @@ pub enum CapacityModel {
 }
 
 impl CapacityModel {
-    /// The value of this spelling.
-    pub(crate) fn named(word: &[u8]) -> Option<CapacityModel>
-        ensures { option_map Capacity result ≡ setting_named keys.Capacity word.now }
-    {
-        if word == b"MODULAR".as_slice()
-            || word == b"MODULAR_CAPACITIES".as_slice()
-            || word == b"MODULAR_LINK_CAPACITIES".as_slice()
-        {
-            Some(CapacityModel::Modular)
-        } else if word == b"LINEAR".as_slice()
-            || word == b"LINEAR_CAPACITIES".as_slice()
-            || word == b"LINEAR_LINK_CAPACITIES".as_slice()
-        {
-            Some(CapacityModel::Linear)
-        } else if word == b"SINGLE_MODULAR".as_slice()
-            || word == b"SINGLE_MODULAR_CAPACITIES".as_slice()
-        {
-            Some(CapacityModel::SingleModular)
-        } else if word == b"EXPLICIT".as_slice()
-            || word == b"EXPLICIT_CAPACITIES".as_slice()
-            || word == b"EXPLICIT_LINK_CAPACITIES".as_slice()
-        {
-            Some(CapacityModel::Explicit)
-        } else {
-            None
-        }
-    }
-
-    /// The value of this number in its row, from 0 on.
-    pub(crate) fn numbered(number: u8) -> Option<CapacityModel>
-        ensures { option_map Capacity result ≡ slice_get (row keys.Capacity) number }
-    {
-        match number {
-            0 => Some(CapacityModel::Modular),
-            1 => Some(CapacityModel::Linear),
-            2 => Some(CapacityModel::SingleModular),
-            3 => Some(CapacityModel::Explicit),
-            _ => None,
-        }
-    }
-
-    /// Its first spelling.
-    pub(crate) fn word(self) -> &'static [u8]
-        ensures { result.now ≡ spelling (Capacity self) }
+    /// Its first spelling, and the others.
+    pub(crate) fn words(self) -> (&'static [u8], &'static [&'static [u8]])
+        ensures first { result.0.now ≡ spelling (Capacity self) }
+        ensures others { map (λ word. word.now) result.1.now ≡ other_spellings (Capacity self) }
     {
         match self {
-            CapacityModel::Modular => b"MODULAR".as_slice(),
-            CapacityModel::Linear => b"LINEAR".as_slice(),
-            CapacityModel::SingleModular => b"SINGLE_MODULAR".as_slice(),
-            CapacityModel::Explicit => b"EXPLICIT".as_slice(),
+            CapacityModel::Modular => (
+                b"MODULAR",
+                &[b"MODULAR_CAPACITIES", b"MODULAR_LINK_CAPACITIES"],
+            ),
+            CapacityModel::Linear => (
+                b"LINEAR",
+                &[b"LINEAR_CAPACITIES", b"LINEAR_LINK_CAPACITIES"],
+            ),
+            CapacityModel::SingleModular => (b"SINGLE_MODULAR", &[b"SINGLE_MODULAR_CAPACITIES"]),
+            CapacityModel::Explicit => (
+                b"EXPLICIT",
+                &[b"EXPLICIT_CAPACITIES", b"EXPLICIT_LINK_CAPACITIES"],
+            ),
         }
     }
 
@@ -213,40 +131,14 @@ pub enum FixedChargeModel {
 }
 
 impl FixedChargeModel {
-    /// The value of this spelling.
-    pub(crate) fn named(word: &[u8]) -> Option<FixedChargeModel>
-        ensures { option_map FixedCharge result ≡ setting_named keys.FixedCharge word.now }
-    {
-        if word == b"NO".as_slice()
-            || word == b"NONE".as_slice()
-            || word == b"NO_FIXED_CHARGE".as_slice()
-        {
-            Some(FixedChargeModel::No)
-        } else if word == b"YES".as_slice() || word == b"FIXED_CHARGE".as_slice() {
-            Some(FixedChargeModel::Yes)
-        } else {
-            None
-        }
-    }
-
-    /// The value of this number in its row, from 0 on.
-    pub(crate) fn numbered(number: u8) -> Option<FixedChargeModel>
-        ensures { option_map FixedCharge result ≡ slice_get (row keys.FixedCharge) number }
-    {
-        match number {
-            0 => Some(FixedChargeModel::No),
-            1 => Some(FixedChargeModel::Yes),
-            _ => None,
-        }
-    }
-
-    /// Its first spelling.
-    pub(crate) fn word(self) -> &'static [u8]
-        ensures { result.now ≡ spelling (FixedCharge self) }
+    /// Its first spelling, and the others.
+    pub(crate) fn words(self) -> (&'static [u8], &'static [&'static [u8]])
+        ensures first { result.0.now ≡ spelling (FixedCharge self) }
+        ensures others { map (λ word. word.now) result.1.now ≡ other_spellings (FixedCharge self) }
     {
         match self {
-            FixedChargeModel::No => b"NO".as_slice(),
-            FixedChargeModel::Yes => b"YES".as_slice(),
+            FixedChargeModel::No => (b"NO", &[b"NONE", b"NO_FIXED_CHARGE"]),
+            FixedChargeModel::Yes => (b"YES", &[b"FIXED_CHARGE"]),
         }
     }
 
@@ -273,44 +165,18 @@ pub enum RoutingModel {
 }
 
 impl RoutingModel {
-    /// The value of this spelling.
-    pub(crate) fn named(word: &[u8]) -> Option<RoutingModel>
-        ensures { option_map Routing result ≡ setting_named keys.Routing word.now }
-    {
-        if word == b"SINGLE_PATH".as_slice()
-            || word == b"SINGLE_PATHS".as_slice()
-            || word == b"SINGLE_PATH_ROUTING".as_slice()
-        {
-            Some(RoutingModel::SinglePath)
-        } else if word == b"CONTINUOUS".as_slice() || word == b"CONTINUOUS_ROUTING".as_slice() {
-            Some(RoutingModel::Continuous)
-        } else if word == b"INTEGER".as_slice() || word == b"INTEGER_ROUTING".as_slice() {
-            Some(RoutingModel::Integer)
-        } else {
-            None
-        }
-    }
-
-    /// The value of this number in its row, from 0 on.
-    pub(crate) fn numbered(number: u8) -> Option<RoutingModel>
-        ensures { option_map Routing result ≡ slice_get (row keys.Routing) number }
-    {
-        match number {
-            0 => Some(RoutingModel::SinglePath),
-            1 => Some(RoutingModel::Continuous),
-            2 => Some(RoutingModel::Integer),
-            _ => None,
-        }
-    }
-
-    /// Its first spelling.
-    pub(crate) fn word(self) -> &'static [u8]
-        ensures { result.now ≡ spelling (Routing self) }
+    /// Its first spelling, and the others.
+    pub(crate) fn words(self) -> (&'static [u8], &'static [&'static [u8]])
+        ensures first { result.0.now ≡ spelling (Routing self) }
+        ensures others { map (λ word. word.now) result.1.now ≡ other_spellings (Routing self) }
     {
         match self {
-            RoutingModel::SinglePath => b"SINGLE_PATH".as_slice(),
-            RoutingModel::Continuous => b"CONTINUOUS".as_slice(),
-            RoutingModel::Integer => b"INTEGER".as_slice(),
+            RoutingModel::SinglePath => (
+                b"SINGLE_PATH",
+                &[b"SINGLE_PATHS", b"SINGLE_PATH_ROUTING"],
+            ),
+            RoutingModel::Continuous => (b"CONTINUOUS", &[b"CONTINUOUS_ROUTING"]),
+            RoutingModel::Integer => (b"INTEGER", &[b"INTEGER_ROUTING"]),
         }
     }
 
@@ -336,37 +202,14 @@ pub enum PathModel {
 }
 
 impl PathModel {
-    /// The value of this spelling.
-    pub(crate) fn named(word: &[u8]) -> Option<PathModel>
-        ensures { option_map Path result ≡ setting_named keys.Path word.now }
-    {
-        if word == b"ALL".as_slice() || word == b"ALL_PATHS".as_slice() {
-            Some(PathModel::All)
-        } else if word == b"EXPLICIT".as_slice() || word == b"EXPLICIT_LIST".as_slice() {
-            Some(PathModel::Explicit)
-        } else {
-            None
-        }
-    }
-
-    /// The value of this number in its row, from 0 on.
-    pub(crate) fn numbered(number: u8) -> Option<PathModel>
-        ensures { option_map Path result ≡ slice_get (row keys.Path) number }
-    {
-        match number {
-            0 => Some(PathModel::All),
-            1 => Some(PathModel::Explicit),
-            _ => None,
-        }
-    }
-
-    /// Its first spelling.
-    pub(crate) fn word(self) -> &'static [u8]
-        ensures { result.now ≡ spelling (Path self) }
+    /// Its first spelling, and the others.
+    pub(crate) fn words(self) -> (&'static [u8], &'static [&'static [u8]])
+        ensures first { result.0.now ≡ spelling (Path self) }
+        ensures others { map (λ word. word.now) result.1.now ≡ other_spellings (Path self) }
     {
         match self {
-            PathModel::All => b"ALL".as_slice(),
-            PathModel::Explicit => b"EXPLICIT".as_slice(),
+            PathModel::All => (b"ALL", &[b"ALL_PATHS"]),
+            PathModel::Explicit => (b"EXPLICIT", &[b"EXPLICIT_LIST"]),
         }
     }
 
@@ -391,44 +234,14 @@ pub enum HopModel {
 }
 
 impl HopModel {
-    /// The value of this spelling.
-    pub(crate) fn named(word: &[u8]) -> Option<HopModel>
-        ensures { option_map Hop result ≡ setting_named keys.Hop word.now }
-    {
-        if word == b"NO".as_slice()
-            || word == b"NONE".as_slice()
-            || word == b"NO_HOP_LIMITS".as_slice()
-            || word == b"IGNORE".as_slice()
-        {
-            Some(HopModel::No)
-        } else if word == b"YES".as_slice()
-            || word == b"INDIVIDUAL".as_slice()
-            || word == b"INDIVIDUAL_HOP_LIMITS".as_slice()
-        {
-            Some(HopModel::Yes)
-        } else {
-            None
-        }
-    }
-
-    /// The value of this number in its row, from 0 on.
-    pub(crate) fn numbered(number: u8) -> Option<HopModel>
-        ensures { option_map Hop result ≡ slice_get (row keys.Hop) number }
-    {
-        match number {
-            0 => Some(HopModel::No),
-            1 => Some(HopModel::Yes),
-            _ => None,
-        }
-    }
-
-    /// Its first spelling.
-    pub(crate) fn word(self) -> &'static [u8]
-        ensures { result.now ≡ spelling (Hop self) }
+    /// Its first spelling, and the others.
+    pub(crate) fn words(self) -> (&'static [u8], &'static [&'static [u8]])
+        ensures first { result.0.now ≡ spelling (Hop self) }
+        ensures others { map (λ word. word.now) result.1.now ≡ other_spellings (Hop self) }
     {
         match self {
-            HopModel::No => b"NO".as_slice(),
-            HopModel::Yes => b"YES".as_slice(),
+            HopModel::No => (b"NO", &[b"NONE", b"NO_HOP_LIMITS", b"IGNORE"]),
+            HopModel::Yes => (b"YES", &[b"INDIVIDUAL", b"INDIVIDUAL_HOP_LIMITS"]),
         }
     }
 
@@ -459,52 +272,17 @@ pub enum SurvivabilityModel {
 }
 
 impl SurvivabilityModel {
-    /// The value of this spelling.
-    pub(crate) fn named(word: &[u8]) -> Option<SurvivabilityModel>
-        ensures { option_map Survivability result ≡ setting_named keys.Survivability word.now }
-    {
-        if word == b"NO".as_slice()
-            || word == b"NONE".as_slice()
-            || word == b"NO_SURVIVABILITY".as_slice()
-        {
-            Some(SurvivabilityModel::No)
-        } else if word == b"YES".as_slice() {
-            Some(SurvivabilityModel::Yes)
-        } else if word == b"ONE_PLUS_ONE_PROTECTION".as_slice() {
-            Some(SurvivabilityModel::OnePlusOne)
-        } else if word == b"SHARED_PATH_PROTECTION".as_slice() {
-            Some(SurvivabilityModel::SharedPath)
-        } else if word == b"UNRESTRICTED_FLOW_RECONFIGURATION".as_slice() {
-            Some(SurvivabilityModel::Unrestricted)
-        } else {
-            None
-        }
-    }
-
-    /// The value of this number in its row, from 0 on.
-    pub(crate) fn numbered(number: u8) -> Option<SurvivabilityModel>
-        ensures { option_map Survivability result ≡ slice_get (row keys.Survivability) number }
-    {
-        match number {
-            0 => Some(SurvivabilityModel::No),
-            1 => Some(SurvivabilityModel::Yes),
-            2 => Some(SurvivabilityModel::OnePlusOne),
-            3 => Some(SurvivabilityModel::SharedPath),
-            4 => Some(SurvivabilityModel::Unrestricted),
-            _ => None,
-        }
-    }
-
-    /// Its first spelling.
-    pub(crate) fn word(self) -> &'static [u8]
-        ensures { result.now ≡ spelling (Survivability self) }
+    /// Its first spelling, and the others.
+    pub(crate) fn words(self) -> (&'static [u8], &'static [&'static [u8]])
+        ensures first { result.0.now ≡ spelling (Survivability self) }
+        ensures others { map (λ word. word.now) result.1.now ≡ other_spellings (Survivability self) }
     {
         match self {
-            SurvivabilityModel::No => b"NO".as_slice(),
-            SurvivabilityModel::Yes => b"YES".as_slice(),
-            SurvivabilityModel::OnePlusOne => b"ONE_PLUS_ONE_PROTECTION".as_slice(),
-            SurvivabilityModel::SharedPath => b"SHARED_PATH_PROTECTION".as_slice(),
-            SurvivabilityModel::Unrestricted => b"UNRESTRICTED_FLOW_RECONFIGURATION".as_slice(),
+            SurvivabilityModel::No => (b"NO", &[b"NONE", b"NO_SURVIVABILITY"]),
+            SurvivabilityModel::Yes => (b"YES", &[]),
+            SurvivabilityModel::OnePlusOne => (b"ONE_PLUS_ONE_PROTECTION", &[]),
+            SurvivabilityModel::SharedPath => (b"SHARED_PATH_PROTECTION", &[]),
+            SurvivabilityModel::Unrestricted => (b"UNRESTRICTED_FLOW_RECONFIGURATION", &[]),
         }
     }
 

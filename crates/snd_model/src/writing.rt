@@ -1,9 +1,11 @@
 //! Writing a model as its canonical text.
 
-ghost use Rattle.std.specs.Prelude.{◌≡◌, ◌++◌, OnOk, IfOk};
+ghost use Rattle.std.specs.Prelude.{◌≡◌, ◌++◌, flat_map, OnOk, IfOk};
+ghost use Rattle.snd_model.specs.Grammar.{setting_of};
 ghost use Rattle.snd_model.specs.Writing.{line, model_text};
 
 use crate::file::ModelFile;
+use crate::keys::{KEYS, Key};
 use crate::setting::Setting;
 use std::alloc::{AllocError, Global};
 
@@ -19,15 +21,18 @@ pub fn write_model(alloc: Global, file: &ModelFile) -> Result<Vec<u8>, AllocErro
 {
     let mut text = Vec::new(alloc);
     text.extend_from_slice(b"?SNDlib native format; type: model; version: 1.0\n")?;
-    push_line(&mut text, Setting::Demand(file.demand))?;
-    push_line(&mut text, Setting::Link(file.link))?;
-    push_line(&mut text, Setting::Capacity(file.capacity))?;
-    push_line(&mut text, Setting::FixedCharge(file.fixed_charge))?;
-    push_line(&mut text, Setting::Routing(file.routing))?;
-    push_line(&mut text, Setting::Path(file.path))?;
-    push_line(&mut text, Setting::Hop(file.hop))?;
-    push_line(&mut text, Setting::Survivability(file.survivability))?;
+    push_lines(&mut text, file, &KEYS)?;
     Ok(text)
+}
+
+/// Writes the lines of these keys.
+fn push_lines(text: &mut Vec<u8>, file: &ModelFile, keys: &[Key]) -> Result<(), AllocError>
+    ensures { OnOk result (text.new.items ≡ text.old.items ++ flat_map (λ key. line (setting_of file.now key)) keys.now) }
+{
+    for key in keys {
+        push_line(text, file.setting(*key))?;
+    }
+    Ok(())
 }
 
 /// Writes the line of a setting.
