@@ -4,6 +4,7 @@ use Rattle.std.proofs.Math.Seq.{get_or-append_seam}
 use Rattle.std.proofs.Math.Nat.{mul-le-mul_left}
 use Rattle.std.proofs.lemmas.List.{length-append, get_or_append_left}
 use Rattle.plan_base.specs.declared.ids.ArcId.{ArcId}
+use Rattle.plan_base.specs.declared.parts.Link.{Link}
 use Rattle.plan_base.specs.declared.parts.Parts.{Parts}
 use Rattle.plan_base.specs.declared.path.Design.{Design}
 use Rattle.plan_base.specs.declared.limits.TheConstants.{MAX_ROUTING_COST}
@@ -11,12 +12,12 @@ use Rattle.plan_base.specs.Sums.{sum_below}
 use Rattle.plan_base.specs.Facts.{total_load, IsInstance}
 use Rattle.plan_base.specs.Arcs.{link_at, demand_at, no_link}
 use Rattle.plan_base.specs.Paths.{uses}
-use Rattle.plan_base.specs.Designs.{load_from, load_on, counts_at, module_cost_with, link_cost, cost_of, IsDesign, IsFeasible}
+use Rattle.plan_base.specs.Designs.{load_from, load_on, counts_at, module_cost_with, link_cost, cost_of, AreCountsInShape, IsDesign, IsFeasible}
 use Rattle.plan_base.proofs.SumLaws.{sum_below-next}
 use Rattle.plan_base.proofs.SumsBelow.{sum_below-same, sum_below-le}
-use Rattle.link_steps.specs.Costs.{Carries, CanCarry, CannotCarry, AreLeastCounts}
+use Rattle.link_steps.specs.Costs.{Carries, CanCarry, CannotCarry, IsLeastModuleCost, AreLeastCounts}
 use Rattle.link_steps.proofs.Order.{before_or_last}
-use Rattle.completions.specs.Completions.{with_paths, ArePaths, IsCompletion, CarryLoads, IsFirstOverfull}
+use Rattle.completions.specs.Completions.{with_paths, ArePaths, IsCompletion, CarryLoads, HasOverfull, IsFirstOverfull}
 use Rattle.completions.specs.Links.{IsLinkCompletion, counts_in, cost_with, AreCompletedTo}
 
 -- the routing cost of a load up to the total load is small
@@ -40,6 +41,11 @@ pub overfull-here : (p : Parts) (d : Design) (e load : ℕ) → e < length p.lin
 overfull-here p d e load within is cannot before =
     record { within = within; overfull = subst (CannotCarry (link_at p e)) (is ∙ load_on-paths p d (with_paths d.paths) e refl) cannot; before = before }
 
+-- some link cannot carry its load
+pub overfull-found : (p : Parts) (d : Design) (e load : ℕ) → e < length p.links → load ≡ load_on p d e → CannotCarry (link_at p e) load → HasOverfull p d.paths
+overfull-found p d e load within is cannot =
+    record { link = e; within = within; overfull = subst (CannotCarry (link_at p e)) (is ∙ load_on-paths p d (with_paths d.paths) e refl) cannot }
+
 -- the link here can carry its load too
 pub carry-next : (p : Parts) (d : Design) (e load : ℕ) → load ≡ load_on p d e → CanCarry (link_at p e) load → CarryLoads p d.paths e → CarryLoads p d.paths (e + 1)
 carry-next p d e load is can before = λ other below.
@@ -53,7 +59,7 @@ AreCompletedTo-none p paths =
     record { list_count = refl; least = λ e within. absurd (omega arith); in_shape = λ e within. absurd (omega arith); is_cost = refl }
 
 -- one link more
-pub AreCompletedTo-push : (p : Parts) (paths : List (List ArcId)) (n cost more : ℕ) (all : List (List ℕ)) (counts : List ℕ) → AreCompletedTo p paths n cost all
+AreCompletedTo-push : (p : Parts) (paths : List (List ArcId)) (n cost more : ℕ) (all : List (List ℕ)) (counts : List ℕ) → AreCompletedTo p paths n cost all
     → IsLinkCompletion (link_at p n) (load_on p (with_paths paths) n) more counts → AreCompletedTo p paths (n + 1) (cost + more) (all ++ counts ∷ [])
 AreCompletedTo-push p paths n cost more all counts before here =
     let long = before.list_count in
@@ -76,6 +82,21 @@ AreCompletedTo-push p paths n cost more all counts before here =
           ];
       is_cost = omega (arith, sum_below-next (cost_with p paths (all ++ counts ∷ [])) n, rest, last, before.is_cost);
     }
+
+-- one link more, completed for its load in a design
+pub completed-more : (p : Parts) (d : Design) (n cost load more : ℕ) (all : List (List ℕ)) (counts : List ℕ) → load ≡ load_on p d n → AreCompletedTo p d.paths n cost all
+    → IsLinkCompletion (link_at p n) load more counts → AreCompletedTo p d.paths (n + 1) (cost + more) (all ++ counts ∷ [])
+completed-more p d n cost load more all counts is before here =
+    AreCompletedTo-push p d.paths n cost more all counts before
+    (subst (λ (x : ℕ). IsLinkCompletion (link_at p n) x more counts) (is ∙ load_on-paths p d (with_paths d.paths) n refl) here)
+
+-- the least module cost is what least counts cost
+pub link-completed : (l : Link) (load routing modules : ℕ) (counts : List ℕ) → routing ≡ l.routing * load → IsLeastModuleCost l load modules → AreLeastCounts l load counts → AreCountsInShape l counts → IsLinkCompletion l load (routing + modules) counts
+link-completed l load routing modules counts is least counted in_shape = record {
+  least = counted;
+  in_shape = in_shape;
+  is_cost = omega (arith, is, least.attained, counted.least least.counts least.carries, least.least counts counted.carries);
+}
 
 -- the design of the paths and of counts for all links
 abbrev pub completed : List (List ArcId) → List (List ℕ) → Design

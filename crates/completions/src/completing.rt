@@ -6,7 +6,7 @@ ghost use Rattle.plan_base.specs.Arcs.{link_at};
 ghost use Rattle.plan_base.specs.Designs.{load_on, counts_at};
 ghost use Rattle.link_steps.specs.Costs.{CanCarry, CannotCarry, AreLeastCounts};
 ghost use Rattle.completions.specs.Completions.{ArePaths, IsCompletion, HasOverfull, CarryLoads, IsFirstOverfull};
-ghost use Rattle.completions.specs.Links.{IsLinkCompletion};
+ghost use Rattle.completions.specs.Links.{IsLinkCompletion, AreCompletedTo};
 
 use link_steps::StepTable;
 use plan_base::limits::MAX_ROUTING_COST;
@@ -52,6 +52,33 @@ fn complete_link(
     Ok(Some((routing_cost(inst, link, load) + modules, counts)))
 }
 
+/// What all links cost with the paths of a design and least counts, in cost grains, and these counts; None where no
+/// counts of some link carry its load.
+fn complete_links(
+    alloc: Global,
+    inst: &Instance,
+    table: &StepTable,
+    design: &Design,
+) -> Result<Option<(u128, Items<Items<u64>>)>, AllocError>
+    requires table { table.now ≡ inst.now }
+    requires paths { ArePaths inst.now design.now.paths }
+    ensures some { IfOk result (λ found. IfSome found (λ done. AreCompletedTo inst.now design.now.paths (length inst.now.links) done.0 done.1)) }
+    ensures none { IfOk result (λ found. IfNone found (HasOverfull inst.now design.now.paths)) }
+{
+    let loads = loads_of(inst, design);
+    let mut all = Vec::new(alloc);
+    let mut cost = 0;
+    for place in 0..inst.links() {
+        let load = loads[place as usize] as u64;
+        let Some((least, counts)) = complete_link(alloc, inst, table, LinkId(place), load)? else {
+            return Ok(None);
+        };
+        cost += least;
+        all.push(counts)?;
+    }
+    Ok(Some((cost, Items::from_vec(all))))
+}
+
 /// The least cost of a design with these paths, and a design that has it.
 ///
 /// - Takes: an instance and its step table; one simple path for each demand, in order.
@@ -77,18 +104,10 @@ pub fn complete(
         paths,
         counts: Items::new(alloc),
     };
-    let loads = loads_of(inst, &design);
-    let mut counts = Vec::new(alloc);
-    let mut cost = 0;
-    for place in 0..inst.links() {
-        let load = loads[place as usize] as u64;
-        let Some(done) = complete_link(alloc, inst, table, LinkId(place), load)? else {
-            return Ok(None);
-        };
-        cost += done.0;
-        counts.push(done.1)?;
-    }
-    design.counts = Items::from_vec(counts);
+    let Some((cost, counts)) = complete_links(alloc, inst, table, &design)? else {
+        return Ok(None);
+    };
+    design.counts = counts;
     Ok(Some((cost, design)))
 }
 

@@ -1,0 +1,27 @@
+use Rattle.std.proofs.Common.{ℕ, Option, List, IfSome, subst, arith}
+use Rattle.plan_base.specs.declared.parts.Parts.{Parts}
+use Rattle.plan_base.specs.Arcs.{link_at}
+use Rattle.plan_base.specs.Designs.{AreCountsInShape}
+use Rattle.link_steps.specs.Costs.{CannotCarry, IsLeastModuleCost, AreLeastCounts}
+use Rattle.completions.proofs.CompletionLaws.{link-completed}
+use Rattle.completions.proofs.completing.complete_link.Goals as goal
+
+pub returns-in_default-clause-none : goal.returns-in_default-clause-none
+returns-in_default-clause-none c = subst (λ (p : Parts). CannotCarry (link_at p c.args.link.0) c.args.load) c.requires.table c.in_default.ensures.none
+
+pub returns-clause-some : goal.returns-clause-some
+returns-clause-some c =
+    let e = c.args.link.0 in
+    let load = c.args.load in
+    let modules = c.in-Some.modules in
+    let counts = c.in-Some-2.counts in
+    let table = c.args.table.now in
+    let counted = subst (λ (found : Option (List ℕ)). IfSome found (AreLeastCounts (link_at table e) load)) c.in-Some-2.is c.in_ok-counts.ensures.least in
+    let in_shape = subst (λ (found : Option (List ℕ)). IfSome found (AreCountsInShape (link_at table e))) c.in-Some-2.is c.in_ok-counts.ensures.in_shape in
+    link-completed (link_at c.args.inst.now e) load c.routing_cost.result modules counts c.routing_cost.ensures.value
+    (subst (λ (p : Parts). IsLeastModuleCost (link_at p e) load modules) c.requires.table c.in-Some.ensures.least)
+    (subst (λ (p : Parts). AreLeastCounts (link_at p e) load counts) c.requires.table counted)
+    (subst (λ (p : Parts). AreCountsInShape (link_at p e) counts) c.requires.table in_shape)
+
+pub returns-clause-within : goal.returns-clause-within
+returns-clause-within c = omega (arith, c.routing_cost.ensures.within, c.in-Some.ensures.within)
