@@ -264,14 +264,6 @@ start-within p l steps (Some unit) are cheap h =
     let product : (1000 * l.routing + unit) * total_load p ≤ MAX_PRICED_LOAD = omega (arith, small, cheap) in
     le-div (1000 * l.routing + unit) (MAX_PRICED_LOAD) (max (total_load p) 1) (omega arith) (rw whole product)
 
--- one more number within a bound
-pub All-below-push : (xs : List ℕ) (x n bound : ℕ) → length xs ≡ n → ((e : ℕ) → e < n → slice_index xs e ≤ bound) → x ≤ bound → (e : ℕ) → e < n + 1 → slice_index (xs ++ x ∷ []) e ≤ bound
-All-below-push xs x n bound long before here e below =
-    elim (before_or_last e n below) [
-      | inl old ↦ rw (get_or_append_left {A = ℕ} xs (x ∷ []) 0 e (omega arith)) (before e old)
-      | inr new ↦ rw (new, ← long, get_or-append_seam {A = ℕ} xs x [] 0) here
-    ]
-
 -- carrying nothing costs nothing, whatever the steps
 no_load-cost : (l : Link) → IsStepCost l 0 0
 no_load-cost l =
