@@ -71,14 +71,19 @@ node_mark net looks n = node_text (node_name net n) (node_look looks n)
 abbrev pub node_marks : NetworkFile → Looks → ℕ → List ℕ
 node_marks net looks count = flat_map (node_mark net looks) (range_with_len 0 count)
 
--- what is told of the demand of this name, whose path is lit
-unfoldable pub path_text : List ℕ → List ℕ
-path_text name = codes "<text class='legend' x='60' y='820'>the path of " ++ escaped name ++ codes "</text>\n"
+-- what stands before the name of the demand that is to be lit: whether the plan has a path of it
+abbrev pub path_words : Option (ℕ × Design) → List ℕ
+path_words None = codes "no path of "
+path_words (Some design) = codes "the path of "
 
--- what is told of the demand that is lit
-abbrev pub lit_text : NetworkFile → Option ℕ → List ℕ
-lit_text net None = []
-lit_text net (Some k) = path_text (demand_name net k)
+-- what is told of the demand of this name
+unfoldable pub path_text : Option (ℕ × Design) → List ℕ → List ℕ
+path_text design name = codes "<text class='legend' x='60' y='820'>" ++ path_words design ++ escaped name ++ codes "</text>\n"
+
+-- what is told of the demand that is to be lit
+abbrev pub lit_text : NetworkFile → Option (ℕ × Design) → Option ℕ → List ℕ
+lit_text net design None = []
+lit_text net design (Some k) = path_text design (demand_name net k)
 
 -- the sizes of the instance and what the plan claims: the line of a trial without its first word
 unfoldable pub claim_text : Parts → Plan → List ℕ
@@ -95,7 +100,7 @@ body_text net p plan lit looks =
     ++ link_marks net p plan.design lit looks (length p.links)
     ++ link_labels net looks (length p.links)
     ++ node_marks net looks p.nodes
-    ++ lit_text net lit ++ claim_text p plan ++ keys
+    ++ lit_text net plan.design lit ++ claim_text p plan ++ keys
 
 -- a picture of the plan: each node and each link has its mark and its name, wherever they stand and however wide they are
 pub record IsPicture (net : NetworkFile) (p : Parts) (plan : Plan) (lit : Option ℕ) (bytes : List ℕ) : Type 0 where

@@ -4,7 +4,7 @@ ghost use Rattle.std.specs.Prelude.{◌≡◌, ◌<◌, ◌++◌, length, option
 ghost use Rattle.proof_tree.specs.Plans.{IsValidPlan};
 ghost use Rattle.plan_report.specs.Reports.{IsReadFrom, HasNames};
 ghost use Rattle.mark_places.specs.Places.{HasLooks};
-ghost use Rattle.plan_picture.specs.Pictures.{HasLoads, node_mark, node_marks, link_mark, link_marks, link_label, link_labels, encoding, head, group, path_text, lit_text, claim_text, body_text, IsPicture};
+ghost use Rattle.plan_picture.specs.Pictures.{HasLoads, node_mark, node_marks, link_mark, link_marks, link_label, link_labels, encoding, head, group, path_words, path_text, lit_text, claim_text, body_text, IsPicture};
 
 use crate::names::are_utf8;
 use crate::sites::looks_of_plan;
@@ -187,26 +187,42 @@ fn push_link_labels(text: &mut Vec<u8>, net: &NetworkFile, looks: &Looks) -> Res
     Ok(())
 }
 
-/// Writes which demand's path is lit.
-fn push_path_name(text: &mut Vec<u8>, name: &[u8]) -> Result<(), AllocError>
-    ensures { OnOk result (text.new.items ≡ text.old.items ++ path_text name.now) }
+/// What stands before the name of the demand that is to be lit: whether the plan has a path of it.
+fn path_words(plan: &Plan) -> &'static [u8]
+    ensures { result.now ≡ path_words plan.now.design }
 {
-    text.extend_from_slice(b"<text class='legend' x='60' y='820'>the path of ")?;
+    match plan.design {
+        None => b"no path of ",
+        Some(_) => b"the path of ",
+    }
+}
+
+/// Writes whose path is lit, or that the plan has none.
+fn push_path_name(text: &mut Vec<u8>, plan: &Plan, name: &[u8]) -> Result<(), AllocError>
+    ensures { OnOk result (text.new.items ≡ text.old.items ++ path_text plan.now.design name.now) }
+{
+    text.extend_from_slice(b"<text class='legend' x='60' y='820'>")?;
+    text.extend_from_slice(path_words(plan))?;
     push_escaped(text, name)?;
     text.extend_from_slice(b"</text>\n")?;
     Ok(())
 }
 
-/// Writes what is told of the demand that is lit.
-fn push_lit(text: &mut Vec<u8>, net: &NetworkFile, lit: Option<DemandId>) -> Result<(), AllocError>
+/// Writes what is told of the demand that is to be lit.
+fn push_lit(
+    text: &mut Vec<u8>,
+    net: &NetworkFile,
+    plan: &Plan,
+    lit: Option<DemandId>,
+) -> Result<(), AllocError>
     requires { IfSome lit (λ k. k.0 < length net.now.demands) }
-    ensures { OnOk result (text.new.items ≡ text.old.items ++ lit_text net.now (option_map (λ k. k.0) lit)) }
+    ensures { OnOk result (text.new.items ≡ text.old.items ++ lit_text net.now plan.now.design (option_map (λ k. k.0) lit)) }
 {
     match lit {
         None => Ok(()),
         Some(demand) => {
             let record = &net.demands.as_slice()[demand.0 as usize];
-            push_path_name(text, record.name.as_slice())
+            push_path_name(text, plan, record.name.as_slice())
         }
     }
 }
@@ -251,7 +267,7 @@ fn push_body(
     push_links(text, net, inst, plan, lit, looks, &loads)?;
     push_link_labels(text, net, looks)?;
     push_nodes(text, net, looks)?;
-    push_lit(text, net, lit)?;
+    push_lit(text, net, plan, lit)?;
     push_claim(alloc, text, inst, plan)?;
     text.extend_from_slice(KEYS)?;
     Ok(())
