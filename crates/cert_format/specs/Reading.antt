@@ -19,8 +19,9 @@ use Rattle.cert_format.specs.Bodies.{fixed_of, number_row, size_row, status_of, 
 abbrev pub Reader : Type 0 → Type 0
 Reader A = List Line → Result (A × List Line) (List Line)
 
--- goes on where nothing is wrong yet
 infixl 10 ◌>>=◌
+
+-- goes on where nothing is wrong yet
 abbrev pub ◌>>=◌ : {A B : Type 0} → Result A (List Line) → (A → Result B (List Line)) → Result B (List Line)
 (Ok x) >>= f = f x
 (Err e) >>= f = Err e

@@ -24,8 +24,9 @@ Stopped = Complaint × List Placed
 abbrev pub Reader : Type 0 → Type 0
 Reader A = List Placed → Result (A × List Placed) Stopped
 
--- goes on where nothing is wrong yet
 infixl 10 ◌>>=◌
+
+-- goes on where nothing is wrong yet
 abbrev pub ◌>>=◌ : {A B : Type 0} → Result A Stopped → (A → Result B Stopped) → Result B Stopped
 (Ok x) >>= f = f x
 (Err e) >>= f = Err e
