@@ -3,7 +3,7 @@
 ghost use Rattle.std.specs.Prelude.{◌≡◌, ◌<◌, length};
 
 use crate::asking::Question;
-use crate::paths::tell_path;
+use crate::telling::tell_path;
 use column_pool::{Added, ColumnPool};
 use plan_base::DemandId;
 use row_networks::path_of;
@@ -37,17 +37,29 @@ fn tell_all(pool: &ColumnPool, demand: DemandId, text: &mut String) -> Option<()
     Some(())
 }
 
+/// Adds for each path from the third word on whether it becomes a column or is one.
+fn tell_each(
+    question: Question<'_>,
+    pool: &mut ColumnPool,
+    demand: DemandId,
+    text: &mut String,
+) -> Option<()>
+    requires { demand.0 < length pool.old }
+    ensures { length pool.new ≡ length pool.old }
+{
+    for word in question.row.split(' ').skip(3) {
+        tell_added(question.alloc, pool, demand, word, text)?;
+    }
+    Some(())
+}
+
 /// Adds for each path whether it becomes a column or is one, and then the columns.
-pub(crate) fn tell_columns(alloc: Global, question: Question<'_>, text: &mut String) -> Option<()> {
-    let Question { inst, words } = question;
-    let (demand, paths) = words.split_once(' ')?;
-    let demand = DemandId(demand.parse::<u32>().ok()?);
-    if demand.0 >= inst.demands() {
+pub(crate) fn tell_columns(question: Question<'_>, text: &mut String) -> Option<()> {
+    let demand = DemandId(question.number(2));
+    if demand.0 >= question.inst.demands() {
         return None;
     }
-    let mut pool = ColumnPool::new(alloc, inst).ok()?;
-    for word in paths.split(' ') {
-        tell_added(alloc, &mut pool, demand, word, text)?;
-    }
+    let mut pool = ColumnPool::new(question.alloc, question.inst).ok()?;
+    tell_each(question, &mut pool, demand, text)?;
     tell_all(&pool, demand, text)
 }

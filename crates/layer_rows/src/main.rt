@@ -4,111 +4,85 @@
 //! link, what prices are worth, ways of least weight, least paths, columns, what a restriction allows and leaves, and
 //! splits of a tree. To add one, write it there in the form that the head of the file explains, and the answer, worked
 //! out by hand, at the same place of the file `stdout`. Three rows compare the answers for made links, networks and
-//! columns with plain twins: `trying`, `listing` and lists of numbers. Begin at `answer_of`. Stands on `link_steps`,
-//! `least_path`, `arc_restrict`, `path_pricing`, `second_path`, `column_pool` and `branch_tree`, and promises nothing of
-//! its own.
+//! columns with plain twins (`made`). Begin at `tell_about`. Stands on `link_steps`, `least_path`, `arc_restrict`,
+//! `path_pricing`, `second_path`, `column_pool` and `branch_tree`, and promises nothing of its own.
 #![tactic(auto)]
 
 mod asking;
 mod columns;
-mod comparing;
-mod listing;
-mod made_columns;
-mod made_links;
-mod made_networks;
+mod made;
 mod paths;
 mod restricting;
+mod searching;
 mod splits;
 mod steps;
-mod trying;
+mod telling;
 mod ways;
 
-use anyhow::{Result, bail};
-use asking::Question;
-use paths::Body;
+use anyhow::{Context, Result};
+use asking::{Question, word_at};
 use row_networks::{Network, find, network_of};
+use searching::Body;
 use std::alloc::Global;
 use std::io::Write;
-use std::rt::Files;
 use std::{env, fs, io};
-use steps::Wanted;
 
-/// Adds the answer to a question of this kind about the network of a name.
-fn tell(
-    alloc: Global,
-    networks: &[Network],
-    kind: &str,
-    rest: &str,
-    text: &mut String,
-) -> Option<()> {
-    let (name, words) = rest.split_once(' ').unwrap_or((rest, ""));
-    let inst = find(networks, name)?;
-    let question = Question { inst, words };
-    match kind {
-        "steps" => steps::tell_steps(alloc, inst, text),
-        "start" => steps::tell_start(alloc, inst, text),
-        "cost" => steps::tell_load(alloc, question, Wanted::Cost, text),
-        "counts" => steps::tell_load(alloc, question, Wanted::Counts, text),
-        "value" => steps::tell_value(alloc, question, text),
-        "way" => ways::tell_way(alloc, question, text),
-        "tree" => ways::tell_tree(alloc, question, text),
-        "price" => paths::tell_price(alloc, question, Body::Heap, text),
-        "slow" => paths::tell_price(alloc, question, Body::Walk, text),
-        "least" => paths::tell_least(alloc, inst, text),
-        "columns" => columns::tell_columns(alloc, question, text),
-        "allowed" => paths::tell_allowed(alloc, question, text),
-        "left" => paths::tell_left(alloc, question, text),
-        "split" => splits::tell_split(alloc, question, text),
+/// Adds the answer to a question about a network.
+fn tell_about(question: Question<'_>, text: &mut String) -> Option<()> {
+    match word_at(question.row, 0) {
+        "steps" => steps::tell_steps(question, text),
+        "start" => steps::tell_start(question, text),
+        "cost" | "counts" | "value" => steps::tell_link(question, text),
+        "way" | "tree" => ways::tell_nodes(question, text),
+        "price" => paths::tell_price(question, Body::Heap, text),
+        "slow" => paths::tell_price(question, Body::Walk, text),
+        "least" => paths::tell_least(question, text),
+        "columns" => columns::tell_columns(question, text),
+        "allowed" => paths::tell_allowed(question, text),
+        "left" => paths::tell_left(question, text),
+        "split" => splits::tell_split(question, text),
         _ => None,
     }
 }
 
-/// The line of a question and its answer. None where the row is no question, and where memory is wanting.
-fn answer_of(alloc: Global, networks: &[Network], row: &str) -> Option<String> {
-    let (kind, rest) = row.split_once(' ')?;
-    let mut text = format!(in alloc; "{row}:").ok()?;
+/// Adds the answer to the question of a row. None where it is none, and where memory is wanting.
+fn tell(alloc: Global, networks: &[Network], row: &str, text: &mut String) -> Option<()> {
     match row {
-        "made columns" => made_columns::tell_compared(alloc, &mut text)?,
-        "made links" => made_links::tell_compared(alloc, &mut text)?,
-        "made networks" => made_networks::tell_compared(alloc, &mut text)?,
-        _ => tell(alloc, networks, kind, rest, &mut text)?,
+        "made columns" => return made::tell_columns(alloc, text),
+        "made links" => return made::tell_links(alloc, text),
+        "made networks" => return made::tell_networks(alloc, text),
+        _ => {}
     }
-    text.push_str("\n").ok()?;
-    Some(text)
+    let inst = find(networks, word_at(row, 1))?;
+    tell_about(Question { alloc, inst, row }, text)
 }
 
-/// Keeps the network of a row, or writes the row and the answer to its question.
-fn take_row<W: Write>(
-    alloc: Global,
-    networks: &mut Vec<Network>,
-    row: &str,
-    out: &mut W,
-) -> Result<()> {
+/// Keeps the network of a row, or adds the row and the answer to its question.
+fn take_row(alloc: Global, known: &mut Vec<Network>, row: &str, text: &mut String) -> Option<()> {
     if let Some(rest) = row.strip_prefix("network ") {
-        let Some(network) = network_of(alloc, rest) else {
-            bail!("no network: {row}")
-        };
-        networks.push(network)?;
-        return Ok(());
+        return known.push(network_of(alloc, rest)?).ok();
     }
-    let Some(text) = answer_of(alloc, networks.as_slice(), row) else {
-        bail!("no question: {row}")
-    };
-    out.write_all(text.as_bytes())?;
-    Ok(())
+    write!(text, "{row}:").ok()?;
+    tell(alloc, known.as_slice(), row, text)?;
+    text.push_str("\n").ok()
+}
+
+/// Adds all questions of the file with their answers. At None the row behind the last whole line is none, or has no answer.
+fn tell_rows(alloc: Global, file: &str, text: &mut String) -> Option<()> {
+    let mut networks = Vec::new(alloc);
+    for row in file.lines() {
+        if !row.is_empty() && !row.starts_with('#') {
+            take_row(alloc, &mut networks, row, text)?;
+        }
+    }
+    Some(())
 }
 
 fn main(rt: HostRuntime) -> Result<()> {
-    let Some(name) = env::args(&rt)?.nth(1) else {
-        bail!("usage: layer_rows FILE")
-    };
-    let rows = fs::read_to_string(&rt, name.as_str())?;
-    let mut networks = Vec::new(rt.alloc());
-    let mut out = io::writer(&rt);
-    for row in rows.lines() {
-        if !row.is_empty() && !row.starts_with('#') {
-            take_row(rt.alloc(), &mut networks, row, &mut out)?;
-        }
-    }
-    Ok(())
+    let name = env::args(&rt)?.nth(1).context("usage: layer_rows FILE")?;
+    let file = fs::read_to_string(&rt, name.as_str())?;
+    let mut text = String::new(rt.alloc());
+    let told = tell_rows(rt.alloc(), file.as_str(), &mut text);
+    io::writer(&rt).write_all(text.as_bytes())?;
+    told.context("what stands behind the last answer is no network and no question")
 }

@@ -2,28 +2,21 @@
 
 ghost use Rattle.std.specs.Prelude.{◌<◌, length, IfSome};
 ghost use Rattle.plan_base.specs.Arcs.{demand_at};
+ghost use Rattle.plan_base.specs.declared.parts.Parts.{Parts as AnyParts};
 ghost use Rattle.plan_base.specs.Paths.{IsSimplePath};
 ghost use Rattle.branch_tree.specs.Branches.{IsTreeOf};
 
 use crate::asking::Question;
+use crate::telling::tell_number;
 use arc_restrict::Restriction;
 use branch_tree::Branch;
 use plan_base::{ArcId, BranchId, DemandId, Instance, Path, Prices, is_simple_path};
 use proof_tree::Evidence;
-use row_networks::path_of;
 use std::alloc::Global;
 
-/// The demand of a question, and the two paths that it names.
-fn asked_of(alloc: Global, words: &str) -> Option<(DemandId, Path, Path)> {
-    let (demand, words) = words.split_once(' ')?;
-    let (first, second) = words.split_once(' ')?;
-    let demand = DemandId(demand.parse::<u32>().ok()?);
-    Some((demand, path_of(alloc, first)?, path_of(alloc, second)?))
-}
-
 /// The tree of a root whose prices were raised to 4, 5 and 6.
-fn root_of(alloc: Global, inst: &Instance) -> Option<Branch>
-    ensures { IfSome result (IsTreeOf inst.now) }
+fn root_of(alloc: Global) -> Option<Branch>
+    ensures { (p : AnyParts) → IfSome result (IsTreeOf p) }
 {
     let first = Prices::from_vec(vec![in alloc; 1, 2, 3].ok()?);
     let raised = Prices::from_vec(vec![in alloc; 4, 5, 6].ok()?);
@@ -32,11 +25,10 @@ fn root_of(alloc: Global, inst: &Instance) -> Option<Branch>
     Some(branch)
 }
 
-/// Splits a node where two paths of the demand part, and adds what is answered.
-fn tell_node(
+/// Splits the root where two paths of the demand part, once more, and then its left child, and adds what is answered.
+fn tell_answers(
     inst: &Instance,
     branch: &mut Branch,
-    node: BranchId,
     demand: DemandId,
     first: &Path,
     second: &Path,
@@ -48,8 +40,11 @@ fn tell_node(
     requires of { IsTreeOf inst.now branch.old }
     ensures { IsTreeOf inst.now branch.new }
 {
-    let answer = branch.split(inst, node, demand, first, second);
-    write!(text, " {answer:?}").ok()
+    for node in [0, 0, 1] {
+        let answer = branch.split(inst, BranchId(node), demand, first, second);
+        write!(text, " {answer:?}").ok()?;
+    }
+    Some(())
 }
 
 /// Adds each demand with an arc that is forbidden to it.
@@ -64,22 +59,40 @@ fn tell_forbidden(inst: &Instance, restriction: &Restriction, text: &mut String)
     Some(())
 }
 
+/// Adds what a node of the tree forbids.
+fn tell_limits(inst: &Instance, branch: &Branch, node: BranchId, text: &mut String) -> Option<()>
+    requires node { node.0 < length branch.now }
+    requires of { IsTreeOf inst.now branch.now }
+{
+    tell_number(",", u128::from(node.0), text)?;
+    text.push_str(" forbids").ok()?;
+    let restriction = branch.restriction(inst, node).ok()?;
+    tell_forbidden(inst, &restriction, text)
+}
+
 /// Adds what each node of the tree forbids, and how many are open.
 fn tell_nodes(inst: &Instance, branch: &Branch, text: &mut String) -> Option<()>
     requires { IsTreeOf inst.now branch.now }
 {
     for node in 0..branch.node_count() {
-        write!(text, ", {node} forbids").ok()?;
-        let restriction = branch.restriction(inst, BranchId(node)).ok()?;
-        tell_forbidden(inst, &restriction, text)?;
+        tell_limits(inst, branch, BranchId(node), text)?;
     }
     write!(text, ", {} open", branch.open_count()).ok()
 }
 
-/// Splits the root where two paths of the demand part, once more, and then its left child, and adds what is answered.
-fn tell_all(
+/// Adds the records of a tree, where the right child of its root is closed.
+fn tell_records(branch: Branch, text: &mut String) -> Option<()> {
+    let mut branch = branch;
+    if branch.is_open(BranchId(2)) {
+        branch.close(BranchId(2), Evidence::Routed);
+    }
+    write!(text, ": {:?}", branch.into_tree().ok()?.nodes()).ok()
+}
+
+/// Adds what three splits at two paths of the demand are answered, the nodes, and the records of the tree.
+fn tell_tree(
+    alloc: Global,
     inst: &Instance,
-    branch: &mut Branch,
     demand: DemandId,
     first: &Path,
     second: &Path,
@@ -88,30 +101,24 @@ fn tell_all(
     requires demand { demand.0 < length inst.now.demands }
     requires first { IsSimplePath inst.now (demand_at inst.now demand.0) first.now }
     requires second { IsSimplePath inst.now (demand_at inst.now demand.0) second.now }
-    requires of { IsTreeOf inst.now branch.old }
-    ensures { IsTreeOf inst.now branch.new }
 {
-    tell_node(inst, branch, BranchId(0), demand, first, second, text)?;
-    tell_node(inst, branch, BranchId(0), demand, first, second, text)?;
-    tell_node(inst, branch, BranchId(1), demand, first, second, text)
+    let mut branch = root_of(alloc)?;
+    tell_answers(inst, &mut branch, demand, first, second, text)?;
+    tell_nodes(inst, &branch, text)?;
+    tell_records(branch, text)
 }
 
-/// Adds what three splits at two paths of the demand are answered, the nodes, and the records of the tree, where the
-/// right child is closed.
-pub(crate) fn tell_split(alloc: Global, question: Question<'_>, text: &mut String) -> Option<()> {
-    let Question { inst, words } = question;
-    let (demand, first, second) = asked_of(alloc, words)?;
-    if demand.0 >= inst.demands()
-        || !is_simple_path(inst, demand, &first)
-        || !is_simple_path(inst, demand, &second)
+/// Adds what becomes of a tree whose root is split at two paths of a demand.
+pub(crate) fn tell_split(question: Question<'_>, text: &mut String) -> Option<()> {
+    let Question { alloc, inst, .. } = question;
+    let first = question.path(3)?;
+    let second = question.path(4)?;
+    let demand = DemandId(question.number(2));
+    if demand.0 < inst.demands()
+        && is_simple_path(inst, demand, &first)
+        && is_simple_path(inst, demand, &second)
     {
-        return None;
+        return tell_tree(alloc, inst, demand, &first, &second, text);
     }
-    let mut branch = root_of(alloc, inst)?;
-    tell_all(inst, &mut branch, demand, &first, &second, text)?;
-    tell_nodes(inst, &branch, text)?;
-    if branch.is_open(BranchId(2)) {
-        branch.close(BranchId(2), Evidence::Routed);
-    }
-    write!(text, ": {:?}", branch.into_tree().ok()?.nodes()).ok()
+    None
 }

@@ -1,80 +1,92 @@
 //! What loads cost on links, and what prices give to links.
 
-use crate::asking::Question;
+ghost use Rattle.std.specs.Prelude.{◌≡◌, ◌<◌, ◌≤◌, length};
+ghost use Rattle.plan_base.specs.Facts.{price_limit, total_load};
+
+use crate::asking::{Question, word_at};
+use crate::telling::{tell_list, tell_number};
 use link_steps::StepTable;
-use plan_base::{Instance, LinkId};
-use row_networks::{numbers_of, table_of};
+use plan_base::{Instance, LinkId, Prices};
+use row_networks::table_of;
 use std::alloc::Global;
 
-/// What is asked of a load on a link.
-#[derive(Clone, Copy)]
-pub(crate) enum Wanted {
-    Cost,
-    Counts,
+/// Adds how many steps each link takes.
+fn tell_each(inst: &Instance, table: &StepTable, text: &mut String) -> Option<()>
+    requires { table.now ≡ inst.now }
+{
+    for place in 0..inst.links() {
+        tell_number("", u128::from(table.steps(LinkId(place))), text)?;
+    }
+    Some(())
 }
 
 /// Adds how many steps each link takes, or why there are too many.
-pub(crate) fn tell_steps(alloc: Global, inst: &Instance, text: &mut String) -> Option<()> {
-    match StepTable::make(alloc, inst) {
-        Ok(table) => {
-            for place in 0..inst.links() {
-                let steps = table.steps(LinkId(place));
-                write!(text, " {steps}").ok()?;
-            }
-            Some(())
-        }
+pub(crate) fn tell_steps(question: Question<'_>, text: &mut String) -> Option<()> {
+    match StepTable::make(question.alloc, question.inst) {
+        Ok(table) => tell_each(question.inst, &table, text),
         Err(fault) => write!(text, " {fault:?}").ok(),
     }
 }
 
+/// The start prices.
+pub(crate) fn start_of(alloc: Global, inst: &Instance) -> Option<Prices> {
+    table_of(alloc, inst)?.start_prices(alloc).ok()
+}
+
 /// Adds the start prices.
-pub(crate) fn tell_start(alloc: Global, inst: &Instance, text: &mut String) -> Option<()> {
-    let table = table_of(alloc, inst)?;
-    let prices = table.start_prices(alloc).ok()?;
-    write!(text, " {:?}", prices.as_slice()).ok()
+pub(crate) fn tell_start(question: Question<'_>, text: &mut String) -> Option<()> {
+    let prices = start_of(question.alloc, question.inst)?;
+    tell_list("", prices.as_slice(), text)
 }
 
-/// The link and the amount of a question.
-fn link_and_amount(alloc: Global, words: &str) -> Option<(LinkId, u64)> {
-    let numbers = numbers_of(alloc, words, ' ')?;
-    let [link, amount] = numbers.as_slice() else {
-        return None;
-    };
-    let link = u32::try_from(*link).ok()?;
-    Some((LinkId(link), *amount))
-}
-
-/// Adds the least module cost of a load on a link, or counts of modules that carry the load at that cost.
-pub(crate) fn tell_load(
-    alloc: Global,
+/// Adds the least module cost of a load on a link, or counts of modules that carry it at that cost.
+fn tell_load(
+    table: &StepTable,
+    link: LinkId,
+    load: u64,
     question: Question<'_>,
-    wanted: Wanted,
     text: &mut String,
-) -> Option<()> {
-    let Question { inst, words } = question;
-    let (link, load) = link_and_amount(alloc, words)?;
-    let table = table_of(alloc, inst)?;
-    if link.0 >= inst.links() || load > inst.total_load() {
-        return None;
+) -> Option<()>
+    requires link { link.0 < length table.now.links }
+    requires load { load ≤ total_load table.now }
+{
+    if word_at(question.row, 0) == "cost" {
+        return write!(text, " {:?}", table.at(link, load)).ok();
     }
-    match wanted {
-        Wanted::Cost => write!(text, " {:?}", table.at(link, load)).ok(),
-        Wanted::Counts => {
-            let counts = table.counts(alloc, link, load).ok()??;
-            write!(text, " {:?}", counts.as_slice()).ok()
-        }
-    }
+    let counts = table.counts(question.alloc, link, load).ok()??;
+    write!(text, " {:?}", counts.as_slice()).ok()
 }
 
 /// Adds the link value of a price, and the first load that has it.
-pub(crate) fn tell_value(alloc: Global, question: Question<'_>, text: &mut String) -> Option<()> {
-    let Question { inst, words } = question;
-    let (link, price) = link_and_amount(alloc, words)?;
-    let price = u128::from(price);
-    let table = table_of(alloc, inst)?;
-    if link.0 >= inst.links() || price > inst.price_limit() {
-        return None;
-    }
+fn tell_value(table: &StepTable, link: LinkId, price: u128, text: &mut String) -> Option<()>
+    requires link { link.0 < length table.now.links }
+    requires price { price ≤ price_limit table.now }
+{
     let found = table.link_value(link, price);
     write!(text, " {} at {}", found.value, found.load).ok()
+}
+
+/// Adds the answer to a question about a load or a price on a link.
+fn tell_amount(table: &StepTable, question: Question<'_>, text: &mut String) -> Option<()>
+    requires { table.now ≡ question.inst.now }
+{
+    let link = LinkId(question.number(2));
+    let amount = question.amount(3);
+    let price = u128::from(amount);
+    if link.0 >= question.inst.links() {
+        return None;
+    }
+    if word_at(question.row, 0) != "value" && amount <= question.inst.total_load() {
+        return tell_load(table, link, amount, question, text);
+    }
+    if word_at(question.row, 0) == "value" && price <= question.inst.price_limit() {
+        return tell_value(table, link, price, text);
+    }
+    None
+}
+
+/// Adds the answer to a question about a link.
+pub(crate) fn tell_link(question: Question<'_>, text: &mut String) -> Option<()> {
+    let table = table_of(question.alloc, question.inst)?;
+    tell_amount(&table, question, text)
 }

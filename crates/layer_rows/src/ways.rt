@@ -1,35 +1,18 @@
 //! Ways of least weight, by themselves and as trees.
 
-use crate::asking::Question;
-use crate::paths::tell_path;
+use crate::asking::{Question, word_at};
+use crate::telling::{tell_list, tell_number, tell_path, tell_reached};
 use least_path::{Search, Tree, are_weights, search};
 use plan_base::NodeId;
 use std::alloc::Global;
 
-/// The weight of an arc: a number, or `-` where the arc may not be used.
-fn weight_of(word: &str) -> Option<Option<u128>> {
-    if word == "-" {
-        return Some(None);
-    }
-    Some(Some(word.parse::<u128>().ok()?))
-}
-
-/// The weights of a word, one for each arc.
+/// The weights of a word, one for each arc: numbers, or `-` where the arc may not be used.
 fn weights_of(alloc: Global, word: &str) -> Option<Vec<Option<u128>>> {
     let mut weights = Vec::new(alloc);
     for part in word.split(',') {
-        weights.push(weight_of(part)?).ok()?;
+        weights.push(part.parse::<u128>().ok()).ok()?;
     }
     Some(weights)
-}
-
-/// The two nodes and the weights of a question.
-fn asked_of(alloc: Global, words: &str) -> Option<(NodeId, NodeId, Vec<Option<u128>>)> {
-    let (source, words) = words.split_once(' ')?;
-    let (target, weights) = words.split_once(' ')?;
-    let source = source.parse::<u32>().ok()?;
-    let target = target.parse::<u32>().ok()?;
-    Some((NodeId(source), NodeId(target), weights_of(alloc, weights)?))
 }
 
 /// Adds the arcs of a way, its length and the potentials, or which nodes are reached.
@@ -41,48 +24,36 @@ fn tell_search(found: &Search, text: &mut String) -> Option<()> {
             potentials,
         } => {
             tell_path(path, text)?;
-            write!(
-                text,
-                " length {length} potentials {:?}",
-                potentials.as_slice()
-            )
-            .ok()
+            tell_number(" length", *length, text)?;
+            tell_list(" potentials", potentials.as_slice(), text)
         }
-        Search::NoPath { reached } => {
-            write!(text, " no way, reached {:?}", reached.as_slice()).ok()
-        }
+        Search::NoPath { reached } => tell_reached(" no way", reached.as_slice(), text),
     }
 }
 
-/// Adds a way of least weight from one node to another.
-pub(crate) fn tell_way(alloc: Global, question: Question<'_>, text: &mut String) -> Option<()> {
-    let Question { inst, words } = question;
-    let (source, target, weights) = asked_of(alloc, words)?;
-    if !are_weights(inst, &weights) || source.0 >= inst.nodes() || target.0 >= inst.nodes() {
-        return None;
-    }
-    let found = search(alloc, inst, &weights, source, target).ok()?;
-    tell_search(&found, text)
-}
-
-/// Adds the lengths of the ways of one node's tree, and the way to another one.
-pub(crate) fn tell_tree(alloc: Global, question: Question<'_>, text: &mut String) -> Option<()> {
-    let Question { inst, words } = question;
-    let (source, target, weights) = asked_of(alloc, words)?;
-    if !are_weights(inst, &weights) || source.0 >= inst.nodes() {
-        return None;
-    }
-    let tree = Tree::grow(alloc, inst, &weights, source).ok()?;
-    let lengths = tree.lengths(alloc).ok()?;
-    write!(
-        text,
-        " lengths {:?} way of {:?}",
-        lengths.as_slice(),
-        tree.length(target)
-    )
-    .ok()?;
-    match tree.way(alloc, inst, target).ok()? {
+/// Adds the lengths of the ways of a tree, and the way to a node.
+fn tell_tree(question: Question<'_>, tree: &Tree, node: NodeId, text: &mut String) -> Option<()> {
+    let lengths = tree.lengths(question.alloc).ok()?;
+    tell_list(" lengths", lengths.as_slice(), text)?;
+    write!(text, " way of {:?}", tree.length(node)).ok()?;
+    match tree.way(question.alloc, question.inst, node).ok()? {
         Some(way) => tell_path(&way, text),
         None => Some(()),
     }
+}
+
+/// Adds a way of least weight from one node to another, or the lengths of the tree of the one and its way to the other.
+pub(crate) fn tell_nodes(question: Question<'_>, text: &mut String) -> Option<()> {
+    let Question { alloc, inst, row } = question;
+    let source = NodeId(question.number(2));
+    let target = NodeId(question.number(3));
+    let weights = weights_of(alloc, word_at(row, 4))?;
+    if !are_weights(inst, &weights) || source.0 >= inst.nodes() || target.0 >= inst.nodes() {
+        return None;
+    }
+    if word_at(row, 0) == "way" {
+        return tell_search(&search(alloc, inst, &weights, source, target).ok()?, text);
+    }
+    let tree = Tree::grow(alloc, inst, &weights, source).ok()?;
+    tell_tree(question, &tree, target, text)
 }

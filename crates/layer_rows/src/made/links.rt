@@ -3,7 +3,8 @@
 ghost use Rattle.std.specs.Prelude.{◌<◌, ◌≡◌, ◌≤◌, length, IfSome};
 ghost use Rattle.plan_base.specs.Facts.{price_limit, total_load};
 
-use crate::trying::{Costs, SmallLink, tried_costs, tried_gain, tried_start};
+use super::trying::{Costs, SmallLink, tried_costs, tried_gain, tried_start};
+use crate::telling::tell_differing;
 use link_steps::StepTable;
 use plan_base::{Demand, Instance, Items, Link, LinkId, Module, NodeId, Orient, Parts, Prices};
 use row_draws::Draws;
@@ -30,49 +31,44 @@ fn made_link(draws: &mut Draws) -> SmallLink {
     }
 }
 
-/// All made links, between two nodes.
-fn made_list(alloc: Global) -> Result<Items<Link>, AllocError> {
+/// The parts of all made links, between two nodes, and a demand of 8 grains.
+fn made_parts(alloc: Global) -> Result<Parts, AllocError> {
+    let (source, target) = (NodeId(0), NodeId(1));
     let mut draws = Draws::begin(1);
     let mut links = Vec::new(alloc);
     for _ in 0..LINKS {
         let small = made_link(&mut draws);
         links.push(Link {
-            source: NodeId(0),
-            target: NodeId(1),
+            source,
+            target,
             pre: small.pre,
             routing: small.routing,
             modules: Items::from_vec(Vec::from_slice(alloc, &small.modules)?),
         })?;
     }
-    Ok(Items::from_vec(links))
-}
-
-/// The parts of all made links and a demand of 8 grains.
-fn made_parts(alloc: Global) -> Result<Parts, AllocError> {
     let demand = Demand {
-        source: NodeId(0),
-        target: NodeId(1),
+        source,
+        target,
         load: 8,
     };
     Ok(Parts {
         orient: Orient::Undirected,
         nodes: 2,
-        links: made_list(alloc)?,
+        links: Items::from_vec(links),
         demands: Items::from_vec(vec![in alloc; demand]?),
     })
 }
 
-/// The instance of these parts.
-fn made_instance(alloc: Global) -> Option<Instance>
-    ensures { IfSome result (λ inst. (length inst.links ≡ 240) × (total_load inst ≡ 8)
-        × (1_000_000_000 ≤ price_limit inst)) }
+/// The table of all made links.
+fn made_table(alloc: Global) -> Option<StepTable>
+    ensures { IfSome result (λ table. (length table.links ≡ 240) × (total_load table ≡ 8)
+        × (1_000_000_000 ≤ price_limit table)) }
 {
-    let parts = made_parts(alloc).ok()?;
-    let inst = Instance::build(alloc, parts).ok()?;
+    let inst = Instance::build(alloc, made_parts(alloc).ok()?).ok()?;
     if inst.links() != LINKS || inst.total_load() != 8 || inst.price_limit() < 1_000_000_000 {
         return None;
     }
-    Some(inst)
+    table_of(alloc, &inst)
 }
 
 /// Whether the table tells of a load what trying tells, from wherever its step is looked for.
@@ -130,17 +126,25 @@ fn all_agree(table: &StepTable, prices: &Prices, link: LinkId, small: &SmallLink
         && (start.is_none() || found == start)
 }
 
-/// Adds the first made link of which the tables do not tell what trying tells.
-pub(crate) fn tell_compared(alloc: Global, text: &mut String) -> Option<()> {
-    let inst = made_instance(alloc)?;
-    let table = table_of(alloc, &inst)?;
-    let prices = table.start_prices(alloc).ok()?;
+/// The first made link of which the table and the start prices do not tell what trying tells.
+fn first_differing(table: &StepTable, prices: &Prices) -> Option<u32>
+    requires links { length table.now.links ≡ 240 }
+    requires total { total_load table.now ≡ 8 }
+    requires limit { 1_000_000_000 ≤ price_limit table.now }
+{
     let mut draws = Draws::begin(1);
     for place in 0..LINKS {
         let small = made_link(&mut draws);
-        if !all_agree(&table, &prices, LinkId(place), &small) {
-            return write!(text, " link {place} differs").ok();
+        if !all_agree(table, prices, LinkId(place), &small) {
+            return Some(place);
         }
     }
-    text.push_str(" none differs").ok()
+    None
+}
+
+/// Adds the first made link of which the tables do not tell what trying tells.
+pub(crate) fn tell_links(alloc: Global, text: &mut String) -> Option<()> {
+    let table = made_table(alloc)?;
+    let prices = table.start_prices(alloc).ok()?;
+    tell_differing("link", first_differing(&table, &prices), text)
 }

@@ -2,17 +2,9 @@
 
 ghost use Rattle.std.specs.Prelude.{◌<◌, length};
 
-use arc_restrict::Restriction;
-use plan_base::{ArcId, DemandId, Instance, NodeId, Path, Prices};
-use std::alloc::{AllocError, Global};
-
-/// What the paths are asked of.
-#[derive(Clone, Copy)]
-pub(crate) struct Asked<'a> {
-    pub(crate) inst: &'a Instance,
-    pub(crate) prices: &'a Prices,
-    pub(crate) restriction: &'a Restriction,
-}
+use crate::searching::Asked;
+use plan_base::{ArcId, DemandId, NodeId, Path};
+use std::alloc::AllocError;
 
 /// A walk without a node twice.
 #[derive(Clone, Copy)]
@@ -64,13 +56,8 @@ fn longer(asked: Asked<'_>, demand: DemandId, walk: Walk, arc: ArcId) -> Option<
 }
 
 /// Each of the walks with each arc that leads on.
-fn all_longer(
-    alloc: Global,
-    asked: Asked<'_>,
-    demand: DemandId,
-    walks: &[Walk],
-) -> Result<Vec<Walk>, AllocError> {
-    let mut all = Vec::new(alloc);
+fn all_longer(asked: Asked<'_>, demand: DemandId, walks: &[Walk]) -> Result<Vec<Walk>, AllocError> {
+    let mut all = Vec::new(asked.alloc);
     for walk in walks {
         for number in 0..asked.inst.links().saturating_mul(2) {
             if let Some(more) = longer(asked, demand, *walk, ArcId(number)) {
@@ -92,11 +79,7 @@ fn add_standing(walks: &[Walk], node: NodeId, found: &mut Vec<Walk>) -> Result<(
 }
 
 /// All permitted simple paths of the demand.
-pub(crate) fn listed(
-    alloc: Global,
-    asked: Asked<'_>,
-    demand: DemandId,
-) -> Result<Vec<Walk>, AllocError>
+pub(crate) fn listed(asked: Asked<'_>, demand: DemandId) -> Result<Vec<Walk>, AllocError>
     requires { demand.0 < length asked.inst.now.demands }
 {
     let source = asked.inst.demand(demand).source;
@@ -107,11 +90,11 @@ pub(crate) fn listed(
         arcs: 0,
         price: 0,
     };
-    let mut walks = vec![in alloc; begin]?;
-    let mut found = Vec::new(alloc);
+    let mut walks = vec![in asked.alloc; begin]?;
+    let mut found = Vec::new(asked.alloc);
     for _ in 0..asked.inst.nodes() {
         add_standing(&walks, target, &mut found)?;
-        walks = all_longer(alloc, asked, demand, &walks)?;
+        walks = all_longer(asked, demand, &walks)?;
     }
     Ok(found)
 }

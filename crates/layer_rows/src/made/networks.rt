@@ -2,9 +2,10 @@
 
 ghost use Rattle.std.specs.Prelude.{◌<◌};
 
-use crate::comparing::all_agree;
-use crate::listing::Asked;
+use super::comparing::all_agree;
 use crate::restricting::forbid;
+use crate::searching::Asked;
+use crate::telling::tell_differing;
 use arc_restrict::Restriction;
 use plan_base::{Demand, Instance, Items, Link, NodeId, Orient, Parts, Prices};
 use row_draws::Draws;
@@ -101,28 +102,34 @@ fn made_restriction(
     Ok(restriction)
 }
 
+/// Whether the answers for the network are as the lists of all paths tell.
+fn agrees(alloc: Global, draws: &mut Draws, inst: &Instance) -> Option<bool> {
+    let prices = made_prices(alloc, draws, inst).ok()?;
+    let restriction = made_restriction(alloc, draws, inst).ok()?;
+    let free = Restriction::none(alloc, inst).ok()?;
+    let asked = Asked {
+        alloc,
+        inst,
+        prices: &prices,
+        restriction: &restriction,
+    };
+    Some(all_agree(asked, &free))
+}
+
 /// Whether the answers for the next network are as the lists of all paths tell.
 fn next_agrees(alloc: Global, draws: &mut Draws) -> Option<bool> {
     let parts = made_network(alloc, draws).ok()?;
     let inst = Instance::build(alloc, parts).ok()?;
-    let prices = made_prices(alloc, draws, &inst).ok()?;
-    let restriction = made_restriction(alloc, draws, &inst).ok()?;
-    let free = Restriction::none(alloc, &inst).ok()?;
-    let asked = Asked {
-        inst: &inst,
-        prices: &prices,
-        restriction: &restriction,
-    };
-    all_agree(alloc, asked, &free).ok()
+    agrees(alloc, draws, &inst)
 }
 
-/// Adds the first made network for which an answer is not as the lists of all paths tell.
-pub(crate) fn tell_compared(alloc: Global, text: &mut String) -> Option<()> {
+/// Adds the first made network for which an answer is not as the lists of all paths tell, or memory is wanting.
+pub(crate) fn tell_networks(alloc: Global, text: &mut String) -> Option<()> {
     let mut draws = Draws::begin(1);
     for number in 0..NETWORKS {
-        if !next_agrees(alloc, &mut draws)? {
-            return write!(text, " network {number} differs").ok();
+        if next_agrees(alloc, &mut draws) != Some(true) {
+            return tell_differing("network", Some(number), text);
         }
     }
-    text.push_str(" none differs").ok()
+    tell_differing("network", None, text)
 }
