@@ -24,7 +24,8 @@ use Rattle.pool_machine.specs.Machine.{Examining, to_examining, IsReachable}
 use Rattle.pool_nodes.specs.Slots.{given_back}
 use Rattle.pool_reading.specs.Views.{HasPlaces, IsKeptPool}
 use Rattle.pool_nodes.specs.Grounds.{IsGroundOf, HasGrounds}
-use Rattle.pool_reading.specs.Examining.{IsChildAt, IsDivisionAt, AreChildrenAt}
+use Rattle.pool_reading.specs.Examining.{IsReadyAt, IsChildAt, IsDivisionAt, AreChildrenAt}
+use Rattle.pool_core.specs.Children.{HasChildBehind}
 use Rattle.pool_machine.proofs.Lists.{slice_get-append_left, slice_get-append_right, slice_get-append_cases}
 use Rattle.pool_machine.proofs.Frames.{one_at}
 use Rattle.pool_machine.proofs.Runs.{IsReachable-step, IsReachable-sound}
@@ -177,5 +178,28 @@ arc-within p a h = let link = ltb-true _ _ (and-first _ _ h) in below a.0 (lengt
     below n m h = grind arith
 
 -- the arcs of a side exist
-pub side-within : (p : Parts) (r : Forbidden) (id : DemandId) (node : NodeId) (arcs : List ArcId) → IsSide p r id node arcs → All (λ a. a.0 < 2 * length p.links) arcs
+side-within : (p : Parts) (r : Forbidden) (id : DemandId) (node : NodeId) (arcs : List ArcId) → IsSide p r id node arcs → All (λ a. a.0 < 2 * length p.links) arcs
 side-within p r id node arcs side = λ i d within. arc-within p (get_or arcs i d) (side.are_arcs i d within)
+
+pub division-ready : (s : State) (id : BranchId) (d : Division) → IsDivisionAt s id d → IsReadyAt s id
+division-ready s id d h = record { node = h.node; ready = h.ready }
+
+pub left-within : (s : State) (id : BranchId) (d : Division) → IsDivisionAt s id d → All (λ a. a.0 < 2 * length s.problem.links) d.left
+left-within s id d h = side-within s.problem (restriction_of h.node) d.demand d.at d.left h.parts.is_split.left_side
+
+pub right-within : (s : State) (id : BranchId) (d : Division) → IsDivisionAt s id d → All (λ a. a.0 < 2 * length s.problem.links) d.right
+right-within s id d h = side-within s.problem (restriction_of h.node) d.demand d.at d.right h.parts.is_split.right_side
+
+-- one child came first, and the other one behind it
+pub both-made : (s : State) (id : BranchId) (d : Division) (none one both : List Node) (no_ground one_ground both_grounds : List (Option Rows)) → none ≡ [] → no_ground ≡ []
+    → HasChildBehind s id d.demand d.left none no_ground one one_ground → HasChildBehind s id d.demand d.right one one_ground both both_grounds → AreChildrenAt s id d both both_grounds
+both-made s id d none one both no_ground one_ground both_grounds is_none is_no_ground left right = record {
+  left = left.child;
+  right = right.child;
+  left_ground = left.ground;
+  right_ground = right.ground;
+  is_left = left.is_child;
+  is_right = right.is_child;
+  children_are = right.nodes_are ∙ ap (λ (xs : List Node). xs ++ right.child ∷ []) (left.nodes_are ∙ ap (λ (xs : List Node). xs ++ left.child ∷ []) is_none);
+  grounds_are = right.grounds_are ∙ ap (λ (xs : List (Option Rows)). xs ++ right.ground ∷ []) (left.grounds_are ∙ ap (λ (xs : List (Option Rows)). xs ++ left.ground ∷ []) is_no_ground);
+}

@@ -19,6 +19,7 @@ use Rattle.pool_machine.specs.Opening.{IsTaken}
 use Rattle.pool_nodes.specs.Slots.{is_free}
 use Rattle.pool_reading.specs.Views.{AreFreePlaces, HasPlaces, IsKeptPool}
 use Rattle.pool_nodes.specs.Grounds.{IsGroundOf, HasGrounds}
+use Rattle.pool_core.specs.Roots.{HasFreeRoot}
 use Rattle.pool_machine.proofs.Lists.{slice_get-append_left, slice_get-append_right}
 use Rattle.pool_machine.proofs.Frames.{one_at}
 
@@ -132,16 +133,14 @@ module _ (p : Parts) (budget : ℕ) (prices : List ℕ) (lawful : IsInstance p) 
   }
 
   -- the same on the pool's own fields
-  pub opening-kept-at : (table : Parts) (none rows : Rows) (nodes : List Node) (columns : Columns) (grounds : List (Option Rows)) (places : List Slot) → 0 < budget → budget ≤ MAX_BUDGET → table ≡ p
-      → AreFreePlaces MAX_ROUNDS (length p.demands) (length p.links) places → forbids none ≡ none_forbidden → HasSizeOf p none → rows ≡ none
-      → nodes ≡ root_with prices ∷ [] → columns ≡ no_columns p → grounds ≡ Some rows ∷ []
+  pub opening-kept-at : (table : Parts) (nodes : List Node) (columns : Columns) (grounds : List (Option Rows)) (places : List Slot) → 0 < budget → budget ≤ MAX_BUDGET → table ≡ p
+      → AreFreePlaces MAX_ROUNDS (length p.demands) (length p.links) places → HasFreeRoot p grounds → nodes ≡ root_with prices ∷ [] → columns ≡ no_columns p
       → IsKeptPool (record (opening_with p budget prices) { nodes = nodes; columns = columns }) table grounds places
-  opening-kept-at table none rows nodes columns grounds places some most same free empty size is_none is_nodes is_columns is_grounds =
-      let kept = opening-kept table none places some most same free empty size in
-      let ground : grounds ≡ Some none ∷ [] = is_grounds ∙ ap (λ (r : Rows). Some r ∷ []) is_none in
+  opening-kept-at table nodes columns grounds places some most same free root is_nodes is_columns =
+      let kept = opening-kept table root.rows places some most same free root.empty root.size in
       subst (λ (cs : Columns). IsKeptPool (record (opening_with p budget prices) { nodes = nodes; columns = cs }) table grounds places) (sym is_columns)
       (subst (λ (xs : List Node). IsKeptPool (record (opening_with p budget prices) { nodes = xs }) table grounds places) (sym is_nodes)
-      (subst (λ (xs : List (Option Rows)). IsKeptPool (opening_with p budget prices) table xs places) (sym ground) kept))
+      (subst (λ (xs : List (Option Rows)). IsKeptPool (opening_with p budget prices) table xs places) (sym root.is_ground) kept))
 
   pub opening-state-at : (nodes : List Node) (columns : Columns) → nodes ≡ root_with prices ∷ [] → columns ≡ no_columns p → IsOpeningState p budget (record (opening_with p budget prices) { nodes = nodes; columns = columns })
   opening-state-at nodes columns is is_columns =

@@ -1,6 +1,8 @@
 pub mod Work
 pub mod Valuing
 pub mod Foretold
+pub mod Children
+pub mod Roots
 pub use Rattle.pool_reading.specs.Views
 pub use Rattle.pool_machine.specs.State
 pub use Rattle.pool_machine.specs.Opening

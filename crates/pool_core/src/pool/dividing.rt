@@ -1,41 +1,104 @@
 //! Open leaves that are divided where two paths of a demand part.
 
-ghost use Rattle.std.specs.Prelude.{◌≡◌, Ok, IfOk, OnErr};
+ghost use Rattle.std.specs.Prelude.{◌≡◌, ◌<◌, ◌*◌, ◌++◌, Ok, IfOk, OnOk, OnErr, All, length};
 ghost use Rattle.pool_machine.specs.Examining.{ExamineStep};
-ghost use Rattle.pool_reading.specs.Examining.{HasTwoPaths, IsDivisionAt, AreChildrenAt};
+ghost use Rattle.pool_reading.specs.Examining.{IsReadyAt, HasTwoPaths, IsDivisionAt, AreChildrenAt};
+ghost use Rattle.pool_core.specs.Children.{HasChildBehind};
 
 use super::Pool;
 use branch_tree::Division;
-use plan_base::{BranchId, DemandId, Path};
+use plan_base::{ArcId, BranchId, DemandId, Items, Path};
 use pool_machine::Examined;
 use pool_nodes::{Ground, PoolNode, give_back};
 use std::alloc::AllocError;
 
+/// Puts nodes behind others, and what is forbidden there behind theirs. On want of memory neither changes.
+fn append_both(
+    nodes: &mut Vec<PoolNode>,
+    grounds: &mut Vec<Ground>,
+    children: &mut Vec<PoolNode>,
+    below: &mut Vec<Ground>,
+) -> Result<(), AllocError>
+    ensures nodes { OnOk result (nodes.new.items ≡ nodes.old.items ++ children.old.items) }
+    ensures grounds { OnOk result (grounds.new.items ≡ grounds.old.items ++ below.old.items) }
+    ensures nodes_kept { OnErr result (nodes.new.items ≡ nodes.old.items) }
+    ensures grounds_kept { OnErr result (grounds.new.items ≡ grounds.old.items) }
+{
+    let count = grounds.len();
+    grounds.append(below)?;
+    if nodes.append(children).is_err() {
+        grounds.truncate(count);
+        return Err(AllocError);
+    }
+    Ok(())
+}
+
 impl Pool {
+    /// Makes a child of an open leaf that forbids these arcs too, and puts it and what is forbidden there behind others.
+    fn add_child(
+        &self,
+        node: BranchId,
+        demand: DemandId,
+        arcs: &Items<ArcId>,
+        children: &mut Vec<PoolNode>,
+        grounds: &mut Vec<Ground>,
+    ) -> Result<(), AllocError>
+        requires leaf { IsReadyAt self.now node }
+        requires demand { demand.0 < length self.now.problem.demands }
+        requires arcs { All (λ a. a.0 < 2 * length self.now.problem.links) arcs.now }
+        ensures { OnOk result (HasChildBehind self.now node demand arcs.now children.old.items grounds.old.items children.new.items grounds.new.items) }
+    {
+        let (child, ground) = self.view().child_at(node, demand, arcs)?;
+        children.push(child)?;
+        grounds.push(ground)?;
+        Ok(())
+    }
+
+    /// The children of a division of the node, and what is forbidden there.
+    fn children_of(
+        &self,
+        node: BranchId,
+        division: &Division,
+    ) -> Result<(Vec<PoolNode>, Vec<Ground>), AllocError>
+        requires { IsDivisionAt self.now node division.now }
+        ensures { IfOk result (λ made. AreChildrenAt self.now node division.now made.0.items made.1.items) }
+    {
+        let mut children = Vec::new(self.alloc);
+        let mut grounds = Vec::new(self.alloc);
+        self.add_child(
+            node,
+            division.demand,
+            &division.left,
+            &mut children,
+            &mut grounds,
+        )?;
+        self.add_child(
+            node,
+            division.demand,
+            &division.right,
+            &mut children,
+            &mut grounds,
+        )?;
+        Ok((children, grounds))
+    }
+
     /// Divides a node, and puts its children behind the others. On want of memory nothing changes.
     fn put_children(
         &mut self,
         node: BranchId,
         division: Division,
-        children: Vec<PoolNode>,
-        grounds: Vec<Ground>,
+        children: &mut Vec<PoolNode>,
+        grounds: &mut Vec<Ground>,
     ) -> Result<Examined, AllocError>
         requires division { IsDivisionAt self.old node division }
-        requires children { AreChildrenAt self.old node division children.items grounds.items }
+        requires children { AreChildrenAt self.old node division children.old.items grounds.old.items }
         ensures event { IfOk result (λ answer. ExamineStep self.old node (Ok answer) self.new) }
         ensures kept { OnErr result (self.new ≡ self.old) }
     {
-        let mut children = children;
-        let mut grounds = grounds;
-        let count = self.grounds.len();
         let left = division.left_child;
         let right = division.right_child;
         self.leaves.add(left, right)?;
-        self.grounds.append(&mut grounds)?;
-        if self.nodes.append(&mut children).is_err() {
-            self.grounds.truncate(count);
-            return Err(AllocError);
-        }
+        append_both(&mut self.nodes, &mut self.grounds, children, grounds)?;
         let divided = &mut self.nodes[node.0 as usize];
         let round = divided.divide(division);
         give_back(&mut self.places, round);
@@ -59,11 +122,7 @@ impl Pool {
         ensures kept { OnErr result (self.new ≡ self.old) }
     {
         let division = self.view().division_at(node, demand, first, second)?;
-        let view = self.view();
-        let (left, left_ground) = view.child_at(node, demand, &division.left)?;
-        let (right, right_ground) = view.child_at(node, demand, &division.right)?;
-        let children = vec![in self.alloc; left, right]?;
-        let grounds = vec![in self.alloc; left_ground, right_ground]?;
-        self.put_children(node, division, children, grounds)
+        let (mut children, mut grounds) = self.children_of(node, &division)?;
+        self.put_children(node, division, &mut children, &mut grounds)
     }
 }

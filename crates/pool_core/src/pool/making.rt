@@ -1,10 +1,11 @@
 //! The pool before its first event.
 
-ghost use Rattle.std.specs.Prelude.{◌≡◌, ◌<◌, ◌≤◌, length, IfOk};
+ghost use Rattle.std.specs.Prelude.{◌≡◌, ◌<◌, ◌≤◌, ◌∷◌, [], length, IfOk};
 ghost use Rattle.std.specs.Arc.{arc_value};
 ghost use Rattle.pool_machine.specs.declared.limits.TheConstants.{MAX_BUDGET, MAX_ROUNDS};
-ghost use Rattle.pool_machine.specs.Machine.{IsOpeningState};
+ghost use Rattle.pool_machine.specs.Machine.{IsOpeningState, root_with};
 ghost use Rattle.pool_reading.specs.Views.{AreFreePlaces};
+ghost use Rattle.pool_core.specs.Roots.{HasFreeRoot};
 
 use super::Pool;
 use arc_restrict::Restriction;
@@ -34,6 +35,25 @@ fn free_places(alloc: Global, inst: &Instance, prices: &Prices) -> Result<Vec<Sl
     Ok(places)
 }
 
+/// The root alone, which waits with these prices.
+fn root_alone(alloc: Global, prices: Prices) -> Result<Vec<PoolNode>, AllocError>
+    ensures { IfOk result (λ nodes. nodes.items ≡ root_with prices ∷ []) }
+{
+    let root = PoolNode::new(Items::new(alloc), prices, None)?;
+    let nodes = vec![in alloc; root]?;
+    Ok(nodes)
+}
+
+/// What is forbidden at the root alone, which is nothing.
+fn root_grounds(alloc: Global, inst: &Instance) -> Result<Vec<Ground>, AllocError>
+    ensures { IfOk result (λ grounds. HasFreeRoot inst.now grounds.items) }
+{
+    let none = Restriction::none(alloc, inst)?;
+    let rows = Arc::new(alloc, none)?;
+    let grounds = vec![in alloc; Ground::of(rows)]?;
+    Ok(grounds)
+}
+
 impl Pool {
     /// A pool whose root waits with the start prices. All places of rounds are taken here, and the room
     /// in which steps are tried.
@@ -56,11 +76,8 @@ impl Pool {
         let _links = inst.links();
         let prices = table.start_prices(alloc)?;
         let places = free_places(alloc, &*inst, &prices)?;
-        let none = Restriction::none(alloc, &*inst)?;
-        let rows = Arc::new(alloc, none)?;
-        let root = PoolNode::new(Items::new(alloc), prices, None)?;
-        let nodes = vec![in alloc; root]?;
-        let grounds = vec![in alloc; Ground::of(rows)]?;
+        let nodes = root_alone(alloc, prices)?;
+        let grounds = root_grounds(alloc, &*inst)?;
         let columns = ColumnPool::new(alloc, &*inst)?;
         let room = Room::new(alloc, &*inst)?;
         let claims = Claims::none(alloc)?;

@@ -1,14 +1,12 @@
-use Rattle.std.proofs.Common.{◌≡◌, ◌∷◌, [], length, Option, rules, ap, subst, ◌∙◌}
+use Rattle.std.proofs.Common.{◌≡◌, length, subst, ◌∙◌}
 use Rattle.std.specs.Arc.{arc_value}
 use Rattle.plan_base.specs.declared.parts.Parts.{Parts}
 use Rattle.plan_base.specs.Facts.{IsInstance}
 use Rattle.link_steps.specs.Values.{AreStartPrices}
 use Rattle.arc_restrict.specs.Prices.{AreWithinLimit}
-use Rattle.arc_restrict.specs.Rows.{Rows, HasSizeOf}
 use Rattle.column_pool.specs.Columns.{no_columns}
-use Rattle.pool_machine.specs.State.{Node}
-use Rattle.pool_machine.specs.Machine.{root_with}
 use Rattle.pool_reading.specs.Views.{AreFreePlaces}
+use Rattle.pool_core.specs.Roots.{HasFreeRoot}
 use Rattle.pool_core.proofs.Making.{opening-kept-at, opening-state-at}
 use Rattle.pool_core.proofs.pool.Pool.new.Goals as goal
 
@@ -19,19 +17,15 @@ invariant_of-result c =
     let lawful : IsInstance p = subst IsInstance c.deref.ensures c.links-links.ensures.lawful in
     let start : AreStartPrices p prices = subst (λ (q : Parts). AreStartPrices q prices) (c.deref-2.ensures ∙ c.requires.table) c.in_ok-prices.ensures.value in
     let within : AreWithinLimit p prices = subst (λ (q : Parts). AreWithinLimit q prices) (c.deref-2.ensures ∙ c.requires.table) c.in_ok-prices.ensures.within in
-    let root : c.in_ok-root.root ≡ root_with prices = search rules in
     let columns : c.in_ok-columns.columns ≡ no_columns p = subst (λ (q : Parts). c.in_ok-columns.columns ≡ no_columns q) c.deref-5.ensures c.in_ok-columns.ensures in
     record {
       kept =
-          opening-kept-at p c.args.budget prices lawful start within (arc_value c.args.table) c.in_ok-none.none (arc_value c.in_ok-rows.rows) c.in_ok-nodes.nodes.items c.in_ok-columns.columns c.in_ok-grounds.grounds.items c.in_ok-places.places.items
+          opening-kept-at p c.args.budget prices lawful start within (arc_value c.args.table) c.in_ok-nodes.nodes.items c.in_ok-columns.columns c.in_ok-grounds.grounds.items c.in_ok-places.places.items
           c.requires.some_budget c.requires.budget c.requires.table
           (subst (λ (q : Parts). AreFreePlaces 64 (length q.demands) (length q.links) c.in_ok-places.places.items) c.deref-3.ensures c.in_ok-places.ensures)
-          c.in_ok-none.ensures.empty
-          (subst (λ (q : Parts). HasSizeOf q c.in_ok-none.none) c.deref-4.ensures c.in_ok-none.ensures.size)
-          c.in_ok-rows.ensures.ok
-          (c.in_ok-nodes.ensures.items ∙ ap (λ (x : Node). x ∷ []) root)
-          columns
-          (c.in_ok-grounds.ensures.items ∙ ap (λ (o : Option Rows). o ∷ []) c.of.ensures);
+          (subst (λ (q : Parts). HasFreeRoot q c.in_ok-grounds.grounds.items) c.deref-4.ensures c.in_ok-grounds.ensures)
+          c.in_ok-nodes.ensures
+          columns;
       room_is = subst (λ (q : Parts). c.in_ok-room.room ≡ length q.links) c.deref-6.ensures c.in_ok-room.ensures;
     }
 
@@ -42,6 +36,5 @@ returns c =
     let lawful : IsInstance p = subst IsInstance c.deref.ensures c.links-links.ensures.lawful in
     let start : AreStartPrices p prices = subst (λ (q : Parts). AreStartPrices q prices) (c.deref-2.ensures ∙ c.requires.table) c.in_ok-prices.ensures.value in
     let within : AreWithinLimit p prices = subst (λ (q : Parts). AreWithinLimit q prices) (c.deref-2.ensures ∙ c.requires.table) c.in_ok-prices.ensures.within in
-    let root : c.in_ok-root.root ≡ root_with prices = search rules in
     let columns : c.in_ok-columns.columns ≡ no_columns p = subst (λ (q : Parts). c.in_ok-columns.columns ≡ no_columns q) c.deref-5.ensures c.in_ok-columns.ensures in
-    record { opening = opening-state-at p c.args.budget prices lawful start within c.in_ok-nodes.nodes.items c.in_ok-columns.columns (c.in_ok-nodes.ensures.items ∙ ap (λ (x : Node). x ∷ []) root) columns }
+    record { opening = opening-state-at p c.args.budget prices lawful start within c.in_ok-nodes.nodes.items c.in_ok-columns.columns c.in_ok-nodes.ensures columns }
