@@ -15,7 +15,8 @@ use Rattle.branch_tree.specs.declared.node.Division.{Division}
 use Rattle.pool_machine.specs.State.{Node, State, restriction_of}
 use Rattle.pool_machine.specs.Dividing.{PartsAt, child_of}
 use Rattle.pool_machine.specs.Machine.{IsReachable}
-use Rattle.pool_reading.specs.Examining.{IsReadyAt, HasTwoPaths, IsChildAt}
+use Rattle.pool_reading.specs.Examining.{IsReadyAt, HasTwoPaths, HasGroundBelow, IsNodeBelow, IsChildAt}
+use Rattle.pool_machine.proofs.Frames.{one_at}
 use Rattle.pool_machine.proofs.Runs.{IsReachable-sound}
 use Rattle.pool_machine.proofs.Small.{IsSound-nodes}
 
@@ -57,13 +58,12 @@ module _ (s : State) (id : BranchId) (at : IsReadyAt s id) (demand : DemandId) (
   pub forbid-arcs : All (λ a. a.0 < 2 * length s.problem.links) arcs → All (λ a. a.0 < before.arcs) arcs
   forbid-arcs within = subst (λ (n : ℕ). All (λ (a : ArcId). a.0 < n) arcs) (sym size.arcs) within
 
-  -- what is made is a child of the node
-  pub child-made : (item child : Node) (ground : Option Rows) (after : Rows) (copied : List ArcId) → item ≡ at.node → child ≡ child_of item demand copied → copied ≡ arcs
-      → forbids after ≡ with_forbidden (forbids before) demand arcs → after.demands ≡ before.demands → after.arcs ≡ before.arcs → ground ≡ Some after → IsChildAt s id demand arcs child ground
-  child-made item child ground after copied is_item made is_copy forbids_more demands_same arcs_same is_ground = record {
+  -- the rows that are made are what is forbidden at the child
+  pub ground-made : (ground : Option Rows) (after : Rows) → forbids after ≡ with_forbidden (forbids before) demand arcs → after.demands ≡ before.demands → after.arcs ≡ before.arcs → ground ≡ Some after
+      → HasGroundBelow s id demand arcs ground
+  ground-made ground after forbids_more demands_same arcs_same is_ground = record {
     node = at.node;
     is_node = at.ready.open_node.is_node;
-    is_child = made ∙ ap₂ (λ (x : Node) (xs : List ArcId). child_of x demand xs) is_item is_copy;
     rows = after;
     is_ground = is_ground;
     below = record {
@@ -71,6 +71,26 @@ module _ (s : State) (id : BranchId) (at : IsReadyAt s id) (demand : DemandId) (
       size = record { demands = demands_same ∙ size.demands; arcs = arcs_same ∙ size.arcs };
     };
   }
+
+-- what is made is a child of the node
+pub node-made : (s : State) (id : BranchId) (at : IsReadyAt s id) (demand : DemandId) (arcs copied : List ArcId) (item child : Node) → item ≡ at.node → child ≡ child_of item demand copied → copied ≡ arcs
+    → IsNodeBelow s id demand arcs child
+node-made s id at demand arcs copied item child is_item made is_copy = record {
+  node = at.node;
+  is_node = at.ready.open_node.is_node;
+  is_child = made ∙ ap₂ (λ (x : Node) (xs : List ArcId). child_of x demand xs) is_item is_copy;
+}
+
+pub child-made : (s : State) (id : BranchId) (demand : DemandId) (arcs : List ArcId) (child : Node) (ground : Option Rows) → HasGroundBelow s id demand arcs ground → IsNodeBelow s id demand arcs child
+    → IsChildAt s id demand arcs child ground
+child-made s id demand arcs child ground g n = record {
+  node = g.node;
+  is_node = g.is_node;
+  is_child = n.is_child ∙ ap (λ (x : Node). child_of x demand arcs) (one_at s.nodes id.0 n.node g.node n.is_node g.is_node);
+  rows = g.rows;
+  is_ground = g.is_ground;
+  below = g.below;
+}
 
 pub two-ready : (s : State) (id : BranchId) (demand : DemandId) (first second : List ArcId) → HasTwoPaths s id demand first second → IsReadyAt s id
 two-ready s id demand first second h = record { node = h.node; ready = h.ready }

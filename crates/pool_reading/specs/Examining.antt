@@ -41,6 +41,20 @@ pub record IsGroundBelow (s : State) (node : Node) (demand : DemandId) (arcs : L
   pub forbids_more : forbids rows ≡ with_forbidden (restriction_of node) demand arcs
   pub size : HasSizeOf s.problem rows
 
+-- what is forbidden at a child of the node of the number, which forbids these arcs too
+pub record HasGroundBelow (s : State) (id : BranchId) (demand : DemandId) (arcs : List ArcId) (ground : Option Rows) : Type 0 where
+  pub node : Node
+  pub is_node : slice_get s.nodes id.0 ≡ Some node
+  pub rows : Rows
+  pub is_ground : ground ≡ Some rows
+  pub below : IsGroundBelow s node demand arcs rows
+
+-- a child of the node of the number, which forbids these arcs too
+pub record IsNodeBelow (s : State) (id : BranchId) (demand : DemandId) (arcs : List ArcId) (child : Node) : Type 0 where
+  pub node : Node
+  pub is_node : slice_get s.nodes id.0 ≡ Some node
+  pub is_child : child ≡ child_of node demand arcs
+
 -- a child of the node of the number, which forbids these arcs too, and what is forbidden there
 pub record IsChildAt (s : State) (id : BranchId) (demand : DemandId) (arcs : List ArcId) (child : Node) (ground : Option Rows) : Type 0 where
   pub node : Node

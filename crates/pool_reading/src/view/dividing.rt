@@ -1,7 +1,7 @@
 //! What a split makes of an open leaf: the division, and the children.
 
 ghost use Rattle.std.specs.Prelude.{◌≡◌, ◌<◌, ◌*◌, IfOk, length, All};
-ghost use Rattle.pool_reading.specs.Examining.{IsReadyAt, HasTwoPaths, IsChildAt, IsDivisionAt};
+ghost use Rattle.pool_reading.specs.Examining.{IsReadyAt, HasTwoPaths, HasGroundBelow, IsNodeBelow, IsChildAt, IsDivisionAt};
 
 use super::PoolView;
 use arc_restrict::divergence;
@@ -52,6 +52,45 @@ impl<'a> PoolView<'a> {
         })
     }
 
+    /// What is forbidden at a child of an open leaf that forbids these arcs too.
+    fn ground_below(
+        &self,
+        node: BranchId,
+        demand: DemandId,
+        arcs: &Items<ArcId>,
+    ) -> Result<Ground, AllocError>
+        requires leaf { IsReadyAt self.now node }
+        requires demand { demand.0 < length self.now.problem.demands }
+        requires arcs { All (λ a. a.0 < 2 * length self.now.problem.links) arcs.now }
+        ensures { IfOk result (HasGroundBelow self.now node demand arcs.now) }
+    {
+        let ground = &self.grounds[node.0 as usize];
+        let Some(above) = ground.rows() else {
+            unreachable!();
+        };
+        let mut rows = above.copy()?;
+        rows.forbid(demand, arcs.as_slice());
+        Ok(Ground::of(Arc::new(self.alloc, rows)?))
+    }
+
+    /// A child of an open leaf that forbids these arcs too.
+    fn node_below(
+        &self,
+        node: BranchId,
+        demand: DemandId,
+        arcs: &Items<ArcId>,
+    ) -> Result<PoolNode, AllocError>
+        requires { IsReadyAt self.now node }
+        ensures { IfOk result (IsNodeBelow self.now node demand arcs.now) }
+    {
+        let limit = Limit {
+            demand,
+            arcs: arcs.copy()?,
+        };
+        let parent = &self.nodes[node.0 as usize];
+        parent.child(self.alloc, Arc::new(self.alloc, limit)?)
+    }
+
     /// A child of an open leaf that forbids these arcs too, and what is forbidden there.
     pub fn child_at(
         &self,
@@ -64,18 +103,8 @@ impl<'a> PoolView<'a> {
         requires arcs { All (λ a. a.0 < 2 * length self.now.problem.links) arcs.now }
         ensures { IfOk result (λ made. IsChildAt self.now node demand arcs.now made.0 made.1) }
     {
-        let ground = &self.grounds[node.0 as usize];
-        let Some(above) = ground.rows() else {
-            unreachable!();
-        };
-        let mut rows = above.copy()?;
-        rows.forbid(demand, arcs.as_slice());
-        let limit = Limit {
-            demand,
-            arcs: arcs.copy()?,
-        };
-        let parent = &self.nodes[node.0 as usize];
-        let child = parent.child(self.alloc, Arc::new(self.alloc, limit)?)?;
-        Ok((child, Ground::of(Arc::new(self.alloc, rows)?)))
+        let ground = self.ground_below(node, demand, arcs)?;
+        let child = self.node_below(node, demand, arcs)?;
+        Ok((child, ground))
     }
 }
