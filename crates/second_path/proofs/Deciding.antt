@@ -1,5 +1,6 @@
 -- What is held after each demand.
-use Rattle.std.proofs.Common.{ℕ, ◌<◌, ◌+◌, inl, inr, List, [], length, Option, Some, None, slice_index_or, sym, subst, arith}
+use Rattle.std.proofs.Common.{◌≡◌, ℕ, ◌<◌, ◌+◌, inl, inr, List, [], ◌∷◌, ◌++◌, length, Option, Some, None, slice_index_or, sym, ap, subst, arith}
+use Rattle.std.proofs.lemmas.List.{get_or_append_left, get_or_push, length_push}
 use Rattle.plan_base.specs.declared.ids.ArcId.{ArcId}
 use Rattle.plan_base.specs.declared.parts.Parts.{Parts}
 use Rattle.arc_restrict.specs.Restrictions.{Forbidden, IsPermittedPath, IsOnlyPath}
@@ -35,4 +36,18 @@ is_two p r paths held first second h is_held permitted other = record {
   other = other;
   all = has_paths p r (length p.demands) paths h;
   others = λ m below before. (slice_index_or paths m [], is_held.before m below before);
+}
+
+-- no demand needs no path
+pub no_paths : (p : Parts) (r : Forbidden) (paths : List (List ArcId)) → paths ≡ [] → ArePaths p r 0 paths
+no_paths p r paths none = record { count = ap length none; permitted = λ k below. absurd (omega (arith, below)) }
+
+-- a path of one demand more
+pub paths_more : (p : Parts) (r : Forbidden) (n : ℕ) (paths : List (List ArcId)) (path : List ArcId) → ArePaths p r n paths → IsPermittedPath p r n path → ArePaths p r (n + 1) (paths ++ path ∷ [])
+paths_more p r n paths path are permitted = record {
+  count = omega (arith, are.count, length_push paths path);
+  permitted = λ k below. elim (last_or_before n k below) [
+    | inl before ↦ subst (IsPermittedPath p r k) (sym (get_or_append_left paths (path ∷ []) [] k (omega (arith, before, are.count)))) (are.permitted k before)
+    | inr here ↦ rw here (subst (IsPermittedPath p r n) (sym (get_or_push paths path [] n are.count)) permitted)
+  ];
 }

@@ -4,7 +4,7 @@ ghost use Rattle.std.specs.Prelude.{◌≡◌, ◌<◌, ◌+◌, List, [], lengt
 ghost use Rattle.plan_base.specs.declared.ids.ArcId.{ArcId as AnyArc};
 ghost use Rattle.arc_restrict.specs.Rows.{forbids};
 ghost use Rattle.arc_restrict.specs.Restrictions.{IsPermittedPath};
-ghost use Rattle.second_path.specs.Others.{IsOtherPath, IsDetermined, IsFirstEmpty};
+ghost use Rattle.second_path.specs.Others.{IsOtherPath, IsDetermined, IsFirstEmpty, IsFirstTwo, AreOnlyPaths};
 ghost use Rattle.second_path.specs.Searching.{HasRoom, ArePaths, IsHeldTo};
 
 use crate::determined::Determined;
@@ -122,6 +122,27 @@ fn pair_of(
     Ok((path.copy()?, other))
 }
 
+/// The first demand with two paths, by larger load and then by lower number, and two paths of it; None where no demand
+/// has two.
+fn two_among(
+    alloc: Global,
+    inst: &Instance,
+    r: &Restriction,
+    paths: &[Path],
+) -> Result<Option<(DemandId, Path, Path)>, AllocError>
+    requires { ArePaths inst.now (forbids r.now) (length inst.now.demands) paths.now }
+    ensures two { IfOk result (λ found. IfSome found (λ two. IsFirstTwo inst.now (forbids r.now) two.0.0 two.1 two.2)) }
+    ensures one { IfOk result (λ found. IfNone found (AreOnlyPaths inst.now (forbids r.now) paths.now)) }
+{
+    let mut search = Search::new(alloc, inst)?;
+    let Some(Held { demand, other }) = first_two(alloc, inst, r, paths, &mut search)? else {
+        return Ok(None);
+    };
+    let path = &paths[demand.0 as usize];
+    let (first, second) = pair_of(alloc, inst, demand, r, path, other, &mut search)?;
+    Ok(Some((demand, first, second)))
+}
+
 /// Which demands have no permitted path, one or more.
 ///
 /// - Gives: `Empty` for the lowest-numbered demand without a permitted path, with the nodes that
@@ -158,17 +179,12 @@ pub fn determine_among(
     requires { ArePaths inst.now (forbids r.now) (length inst.now.demands) paths }
     ensures { IfOk result (IsDetermined inst.now (forbids r.now)) }
 {
-    let mut search = Search::new(alloc, inst)?;
-    match first_two(alloc, inst, r, paths.as_slice(), &mut search)? {
-        Some(Held { demand, other }) => {
-            let path = &paths.as_slice()[demand.0 as usize];
-            let (first, second) = pair_of(alloc, inst, demand, r, path, other, &mut search)?;
-            Ok(Determined::Two {
-                demand,
-                first,
-                second,
-            })
-        }
+    match two_among(alloc, inst, r, paths.as_slice())? {
+        Some((demand, first, second)) => Ok(Determined::Two {
+            demand,
+            first,
+            second,
+        }),
         None => Ok(Determined::One(paths)),
     }
 }
