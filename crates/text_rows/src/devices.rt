@@ -2,41 +2,43 @@
 //!
 //! The file of rows says which calls fail and how much room there is. To add a row, write it there in the form that the
 //! head of the file explains, and what comes of it, worked out by hand, at the same place of the file `stdout`. Begin at
-//! `take_row`.
+//! `tell_row`.
 
 mod reading;
 mod showing;
 mod writing;
 
-use anyhow::{Context, Result, bail};
-use std::io::Write;
+/// Adds these bytes as a quoted text.
+fn tell_quoted(bytes: &[u8], text: &mut String) -> Option<()> {
+    write!(text, " {:?}", str::from_utf8(bytes).ok()?).ok()
+}
 
-/// Writes what comes of a row.
-fn take_row<W: Write>(rt: &HostRuntime, row: &str, out: &mut W) -> Result<()> {
-    let (kind, rest) = row.split_once(' ').context("one word")?;
+/// Adds what comes of a row. None where it is none, and where memory is wanting.
+fn tell_row(rt: &HostRuntime, row: &str, text: &mut String) -> Option<()> {
+    let (kind, rest) = row.split_once(' ')?;
     match kind {
-        "surely" => reading::read_surely(rt.alloc(), rest, out),
-        "memory" => reading::read_memory(rt.alloc(), rest, out),
-        "files" => reading::read_files(rt, rest, out),
-        "sink" => writing::write_memory(rt.alloc(), rest, out),
-        "stream" => writing::write_stream(rest, out),
-        "changing" => reading::read_changing(rt, rest, out),
-        "drip" => writing::write_drip(rest, out),
-        "read-only" => writing::write_read_only(rt, rest, out),
-        "line" => showing::write_line(rt.alloc(), rest, out),
-        "shown" => showing::show_line(rt.alloc(), rest, out),
-        _ => bail!("no kind of row"),
+        "surely" => reading::read_surely(rt.alloc(), rest, text),
+        "memory" => reading::read_memory(rt.alloc(), rest, text),
+        "files" => reading::read_files(rt, rest, text),
+        "sink" => writing::write_memory(rt.alloc(), rest, text),
+        "stream" => writing::write_stream(rest, text),
+        "changing" => reading::read_changing(rt, rest, text),
+        "drip" => writing::write_drip(rest, text),
+        "read-only" => writing::write_read_only(rt, rest, text),
+        "line" => showing::tell_line(rt.alloc(), rest, text),
+        "shown" => showing::show_line(rt.alloc(), rest, text),
+        _ => None,
     }
 }
 
-/// Writes each row of this file with what comes of it.
-pub(crate) fn write_rows<W: Write>(rt: &HostRuntime, file: &str, out: &mut W) -> Result<()> {
+/// Adds each row of this file with what comes of it.
+pub(crate) fn tell_rows(rt: &HostRuntime, file: &str, text: &mut String) -> Option<()> {
     for row in file.lines() {
         if !row.is_empty() && !row.starts_with('#') {
-            write!(out, "{row}:")?;
-            take_row(rt, row, out).context(format_args!("row: {row}"))?;
-            writeln!(out, "")?;
+            write!(text, "{row}:").ok()?;
+            tell_row(rt, row, text)?;
+            text.push_str("\n").ok()?;
         }
     }
-    Ok(())
+    Some(())
 }

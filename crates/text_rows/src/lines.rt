@@ -9,24 +9,26 @@ mod texts;
 mod trials;
 mod verdicts;
 
-use anyhow::{Context, Result};
-use std::alloc::Global;
-use std::io::Write;
+use std::alloc::{AllocError, Global};
+
+/// Adds a line. None where memory was wanting for it, or is.
+fn push_line(line: Result<Vec<u8>, AllocError>, text: &mut Vec<u8>) -> Option<()> {
+    text.extend_from_slice(line.ok()?.as_slice()).ok()
+}
 
 /// All lines.
 fn lines(alloc: Global) -> Option<Vec<u8>> {
     let mut text = Vec::new(alloc);
     trials::tell_check(alloc, &mut text)?;
-    faults::tell_faults(alloc, &mut text).ok()?;
+    faults::tell_faults(alloc, &mut text)?;
     verdicts::tell_verdicts(alloc, &mut text)?;
     trials::tell_trials(alloc, &mut text)?;
     texts::tell_texts(alloc, &mut text)?;
     Some(text)
 }
 
-/// Writes all lines.
-pub(crate) fn write_lines<W: Write>(alloc: Global, out: &mut W) -> Result<()> {
-    let text = lines(alloc).context("a case is not as its table says")?;
-    out.write_all(text.as_slice())?;
-    Ok(())
+/// Adds all lines. None where a case is not as its table says, and where memory is wanting.
+pub(crate) fn tell_lines(alloc: Global, text: &mut String) -> Option<()> {
+    let lines = lines(alloc)?;
+    text.push_str(str::from_utf8(lines.as_slice()).ok()?).ok()
 }

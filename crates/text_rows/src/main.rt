@@ -9,8 +9,10 @@
 mod devices;
 mod lines;
 mod reading;
+mod words;
 
 use anyhow::{Context, Result};
+use std::io::Write;
 use std::{env, fs, io};
 
 /// The text of the file that the word of this place names.
@@ -20,9 +22,18 @@ fn file_of(rt: &HostRuntime, place: usize) -> Result<String> {
     Ok(fs::read_to_string(rt, name.as_str())?)
 }
 
+/// Adds what comes of all cases. None where one is not as its part says; the last line is then of the one before, or begun.
+fn tell_all(rt: &HostRuntime, texts: &str, devices: &str, text: &mut String) -> Option<()> {
+    reading::tell_rows(rt.alloc(), texts, text)?;
+    lines::tell_lines(rt.alloc(), text)?;
+    devices::tell_rows(rt, devices, text)
+}
+
 fn main(rt: HostRuntime) -> Result<()> {
-    let mut out = io::writer(&rt);
-    reading::write_rows(rt.alloc(), file_of(&rt, 1)?.as_str(), &mut out)?;
-    lines::write_lines(rt.alloc(), &mut out)?;
-    devices::write_rows(&rt, file_of(&rt, 2)?.as_str(), &mut out)
+    let texts = file_of(&rt, 1)?;
+    let devices = file_of(&rt, 2)?;
+    let mut text = String::new(rt.alloc());
+    let told = tell_all(&rt, texts.as_str(), devices.as_str(), &mut text);
+    io::writer(&rt).write_all(text.as_bytes())?;
+    told.context("what comes behind the last line is no case")
 }

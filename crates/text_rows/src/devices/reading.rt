@@ -1,100 +1,99 @@
 //! Shelves.
 
-use anyhow::{Context, Result, bail};
+use super::tell_quoted;
+use crate::words::first_number;
 use plan_io::{FileShelf, MemShelf, Shelf, SureShelf, read_whole};
 use std::alloc::Global;
 use std::fs;
-use std::io::Write;
 
 /// The texts of the shelves in memory.
 const TEXTS: [(&str, &[u8]); 2] = [("net", b"abc"), ("model", b"de")];
 
 /// The number of the call that fails, where one does.
-pub(crate) fn failing(alloc: Global, word: &str) -> Result<Vec<u64>> {
-    let mut calls = Vec::new(alloc);
-    if word != "-" {
-        calls.push(word.parse::<u64>()?)?;
+pub(crate) fn failing(alloc: Global, word: &str) -> Option<Vec<u64>> {
+    if word == "-" {
+        return Some(Vec::new(alloc));
     }
-    Ok(calls)
+    let call = word.parse::<u64>().ok()?;
+    vec![in alloc; call].ok()
 }
 
-/// Reads the texts of these names, and writes each, or why it is not read.
-fn read_all<S: Shelf, W: Write>(
+/// Reads the texts of these names, and adds each, or why it is not read.
+fn read_all<S: Shelf>(
     alloc: Global,
     shelf: &mut S,
     limit: u32,
     names: &str,
-    out: &mut W,
-) -> Result<()> {
+    text: &mut String,
+) -> Option<()> {
     for name in names.split(' ') {
         match read_whole(alloc, shelf, name, u64::from(limit)) {
-            Ok(text) => {
-                let text = str::from_utf8(text.as_slice())?;
-                write!(out, " {text:?}")?;
-            }
-            Err(fault) => write!(out, " {fault:?}")?,
+            Ok(bytes) => tell_quoted(bytes.as_slice(), text)?,
+            Err(fault) => write!(text, " {fault:?}").ok()?,
         }
     }
-    Ok(())
+    Some(())
 }
 
 /// Reads over a shelf that never fails.
-pub(crate) fn read_surely<W: Write>(alloc: Global, rest: &str, out: &mut W) -> Result<()> {
-    let (limit, names) = rest.split_once(' ').context("no limit")?;
-    let mut shelf = SureShelf::new(alloc, &TEXTS)?;
-    read_all(alloc, &mut shelf, limit.parse::<u32>()?, names, out)
+pub(crate) fn read_surely(alloc: Global, rest: &str, text: &mut String) -> Option<()> {
+    let (limit, names) = first_number(rest)?;
+    let mut shelf = SureShelf::new(alloc, &TEXTS).ok()?;
+    read_all(alloc, &mut shelf, limit, names, text)
 }
 
-/// Reads over a shelf in memory of which a call fails, and writes how often it failed.
-pub(crate) fn read_memory<W: Write>(alloc: Global, rest: &str, out: &mut W) -> Result<()> {
-    let (limit, rest) = rest.split_once(' ').context("no limit")?;
-    let (call, names) = rest.split_once(' ').context("no call")?;
+/// Reads over a shelf in memory of which a call fails, and adds how often it failed.
+pub(crate) fn read_memory(alloc: Global, rest: &str, text: &mut String) -> Option<()> {
+    let (limit, rest) = first_number(rest)?;
+    let (call, names) = rest.split_once(' ')?;
     let calls = failing(alloc, call)?;
-    let mut shelf = MemShelf::new(alloc, &TEXTS, calls.as_slice())?;
-    read_all(alloc, &mut shelf, limit.parse::<u32>()?, names, out)?;
-    write!(out, ", faults {}", shelf.faults())?;
-    Ok(())
+    let mut shelf = MemShelf::new(alloc, &TEXTS, calls.as_slice()).ok()?;
+    read_all(alloc, &mut shelf, limit, names, text)?;
+    write!(text, ", faults {}", shelf.faults()).ok()
 }
 
-/// Reads files of the folder that the program runs in, and writes how often that failed.
-pub(crate) fn read_files<W: Write>(rt: &HostRuntime, rest: &str, out: &mut W) -> Result<()> {
-    let (limit, names) = rest.split_once(' ').context("no limit")?;
+/// Reads files of the folder that the program runs in, and adds how often that failed.
+pub(crate) fn read_files(rt: &HostRuntime, rest: &str, text: &mut String) -> Option<()> {
+    let (limit, names) = first_number(rest)?;
     let mut shelf = FileShelf::new(rt);
-    read_all(rt.alloc(), &mut shelf, limit.parse::<u32>()?, names, out)?;
-    write!(out, ", faults {}", shelf.faults())?;
-    Ok(())
+    read_all(rt.alloc(), &mut shelf, limit, names, text)?;
+    write!(text, ", faults {}", shelf.faults()).ok()
 }
 
 /// The file that is written anew while it is read.
 const CHANGING: &str = "changing.txt";
 
-/// Reads at most four bytes, and writes them.
-fn read_piece<S: Shelf, W: Write>(shelf: &mut S, out: &mut W) -> Result<()> {
+/// Reads at most four bytes, and adds them.
+fn read_piece<S: Shelf>(shelf: &mut S, text: &mut String) -> Option<()> {
     let mut piece = [0u8; 4];
     match shelf.read(&mut piece) {
-        Ok(count) => {
-            let text = str::from_utf8(&piece[..count])?;
-            write!(out, " {text:?}")?;
-        }
-        Err(fault) => write!(out, " {fault:?}")?,
+        Ok(count) => tell_quoted(&piece[..count], text),
+        Err(fault) => write!(text, " {fault:?}").ok(),
     }
-    Ok(())
 }
 
-/// Reads a file of the first text, which has the second one from the second read on, and writes each piece, and how often
-/// that failed.
-pub(crate) fn read_changing<W: Write>(rt: &HostRuntime, rest: &str, out: &mut W) -> Result<()> {
-    let (first, second) = rest.split_once(' ').context("no second text")?;
-    fs::write(rt, CHANGING, first)?;
-    let mut shelf = FileShelf::new(rt);
-    if shelf.begin(CHANGING).is_err() {
-        bail!("the file is not there")
-    }
-    read_piece(&mut shelf, out)?;
-    fs::write(rt, CHANGING, second)?;
+/// Begins the file that has the first text, and adds a piece of it, and three more ones once it has the second text.
+fn read_pieces<S: Shelf>(
+    rt: &HostRuntime,
+    shelf: &mut S,
+    second: &str,
+    text: &mut String,
+) -> Option<()> {
+    shelf.begin(CHANGING).ok()?;
+    read_piece(shelf, text)?;
+    fs::write(rt, CHANGING, second).ok()?;
     for _ in 0..3 {
-        read_piece(&mut shelf, out)?;
+        read_piece(shelf, text)?;
     }
-    write!(out, ", faults {}", shelf.faults())?;
-    Ok(())
+    Some(())
+}
+
+/// Reads a file of the first text, which has the second one from the second read on, and adds each piece, and how often
+/// that failed.
+pub(crate) fn read_changing(rt: &HostRuntime, rest: &str, text: &mut String) -> Option<()> {
+    let (first, second) = rest.split_once(' ')?;
+    fs::write(rt, CHANGING, first).ok()?;
+    let mut shelf = FileShelf::new(rt);
+    read_pieces(rt, &mut shelf, second, text)?;
+    write!(text, ", faults {}", shelf.faults()).ok()
 }

@@ -1,12 +1,13 @@
 //! A line at a terminal: its words, and when it is shown.
 
-use anyhow::{Context, Result, bail};
+use super::tell_quoted;
+use crate::words::first_number;
 use plan_io::{Gate, Standing};
 use run_progress::{Progress, line_of};
 use std::alloc::Global;
 use std::fmt::Display;
 use std::io;
-use std::io::{Print, Write};
+use std::io::Print;
 use std::sync::atomic::{AtomicU64, Ordering};
 use std::time::{Clock, Duration};
 
@@ -77,51 +78,63 @@ const HALF: Standing = Standing {
     cost: None,
 };
 
-/// Writes the line of a run.
-pub(crate) fn write_line<W: Write>(alloc: Global, rest: &str, out: &mut W) -> Result<()> {
-    let (examined, rest) = rest.split_once(' ').context("no count of nodes")?;
-    let (budget, rest) = rest.split_once(' ').context("no budget")?;
-    let (cost, rest) = rest.split_once(' ').context("no cost")?;
-    let (workers, seconds) = rest.split_once(' ').context("no workers")?;
+/// How far a run is, in the first three of these words: how many nodes it has examined, its budget and the cost of its
+/// design; and the words behind them.
+fn standing_of(words: &str) -> Option<(Standing, &str)> {
+    let (examined, words) = first_number(words)?;
+    let (budget, words) = first_number(words)?;
+    let (cost, words) = words.split_once(' ')?;
     let cost = match cost {
         "-" => None,
-        _ => Some(u128::from(cost.parse::<u64>()?)),
+        _ => Some(u128::from(cost.parse::<u64>().ok()?)),
     };
     let standing = Standing {
-        examined: examined.parse::<u32>()?,
-        budget: budget.parse::<u32>()?,
+        examined,
+        budget,
         cost,
     };
-    let line = line_of(
-        alloc,
-        standing,
-        workers.parse::<u32>()?,
-        seconds.parse::<u64>()?,
-    )?;
-    let text = str::from_utf8(line.as_slice())?;
-    write!(out, " {text:?}")?;
-    Ok(())
+    Some((standing, words))
 }
 
-/// Tells a gate how far a run is at each of these milliseconds and wipes its line twice, and tells how often it wrote.
-pub(crate) fn show_line<W: Write>(alloc: Global, rest: &str, out: &mut W) -> Result<()> {
-    let (place, times) = rest.split_once(' ').context("no times")?;
+/// Adds the line of a run.
+pub(crate) fn tell_line(alloc: Global, rest: &str, text: &mut String) -> Option<()> {
+    let (standing, rest) = standing_of(rest)?;
+    let (workers, seconds) = first_number(rest)?;
+    let seconds = seconds.parse::<u64>().ok()?;
+    let line = line_of(alloc, standing, workers, seconds).ok()?;
+    tell_quoted(line.as_slice(), text)
+}
+
+/// Tells a gate how far a run is at each of these milliseconds, and adds how often it has written then.
+fn tell_times<G: Gate>(
+    gate: &G,
+    clock: &Stopped,
+    screen: &Counted,
+    times: &str,
+    text: &mut String,
+) -> Option<()> {
+    for millis in times.split(' ') {
+        clock.set(millis.parse::<u64>().ok()?);
+        gate.pass(0, 0);
+        gate.stand(HALF);
+        write!(text, " {}", screen.writes()).ok()?;
+    }
+    Some(())
+}
+
+/// Tells a gate how far a run is at each of these milliseconds and wipes its line twice, and adds how often it wrote.
+pub(crate) fn show_line(alloc: Global, rest: &str, text: &mut String) -> Option<()> {
+    let (place, times) = rest.split_once(' ')?;
     let is_terminal = match place {
         "terminal" => true,
         "pipe" => false,
-        _ => bail!("no place"),
+        _ => return None,
     };
     let clock = Stopped::new();
     let screen = Counted::new();
     let progress = Progress::new(alloc, &clock, &screen, is_terminal);
-    for millis in times.split(' ') {
-        clock.set(millis.parse::<u64>()?);
-        progress.pass(0, 0);
-        progress.stand(HALF);
-        write!(out, " {}", screen.writes())?;
-    }
+    tell_times(&progress, &clock, &screen, times, text)?;
     progress.wipe();
     progress.wipe();
-    write!(out, ", wiped {}", screen.writes())?;
-    Ok(())
+    write!(text, ", wiped {}", screen.writes()).ok()
 }

@@ -1,50 +1,53 @@
 //! Sinks.
 
 use super::reading::failing;
-use anyhow::{Context, Result, bail};
+use super::tell_quoted;
+use crate::words::first_number;
 use plan_io::{MemSink, OutSink, Sink, write_whole};
 use std::alloc::Global;
 use std::io::Write;
 use std::{fs, io};
 
-/// Writes this text to the sink, and tells whether it was taken.
-fn write_part<S: Sink, W: Write>(sink: &mut S, part: &str, out: &mut W) -> Result<()> {
+/// Writes this part to the sink, and adds whether it was taken.
+fn write_part<S: Sink>(sink: &mut S, part: &str, text: &mut String) -> Option<()> {
     match write_whole(sink, part.as_bytes()) {
-        Ok(()) => write!(out, " taken")?,
-        Err(fault) => write!(out, " {fault:?}")?,
+        Ok(()) => text.push_str(" taken").ok(),
+        Err(fault) => write!(text, " {fault:?}").ok(),
     }
-    Ok(())
 }
 
-/// Writes to a sink in memory that has so much room and of which a call fails, and tells what it has.
-pub(crate) fn write_memory<W: Write>(alloc: Global, rest: &str, out: &mut W) -> Result<()> {
-    let (room, rest) = rest.split_once(' ').context("no room")?;
-    let (call, parts) = rest.split_once(' ').context("no call")?;
+/// Adds what a device has, and how often it failed.
+fn tell_taken(bytes: &[u8], faults: u64, text: &mut String) -> Option<()> {
+    text.push_str(",").ok()?;
+    tell_quoted(bytes, text)?;
+    write!(text, ", faults {faults}").ok()
+}
+
+/// Writes to a sink in memory that has so much room and of which a call fails, and adds what it has.
+pub(crate) fn write_memory(alloc: Global, rest: &str, text: &mut String) -> Option<()> {
+    let (room, rest) = first_number(rest)?;
+    let (call, parts) = rest.split_once(' ')?;
     let calls = failing(alloc, call)?;
-    let mut sink = MemSink::new(alloc, room.parse::<usize>()?, calls.as_slice())?;
+    let mut sink = MemSink::new(alloc, room as usize, calls.as_slice()).ok()?;
     for part in parts.split(' ') {
-        write_part(&mut sink, part, out)?;
+        write_part(&mut sink, part, text)?;
     }
-    let text = str::from_utf8(sink.bytes())?;
-    write!(out, ", {text:?}, faults {}", sink.faults())?;
-    Ok(())
+    tell_taken(sink.bytes(), sink.faults(), text)
 }
 
 /// Writes to a stream that has room for two bytes.
-pub(crate) fn write_stream<W: Write>(part: &str, out: &mut W) -> Result<()> {
+pub(crate) fn write_stream(part: &str, text: &mut String) -> Option<()> {
     let mut room = [0u8; 2];
     let mut sink = OutSink::new(&mut room[..]);
-    write_part(&mut sink, part, out)?;
-    write!(out, ", faults {}", sink.faults())?;
-    Ok(())
+    write_part(&mut sink, part, text)?;
+    write!(text, ", faults {}", sink.faults()).ok()
 }
 
 /// Writes to a file that is open for reading alone.
-pub(crate) fn write_read_only<W: Write>(rt: &HostRuntime, part: &str, out: &mut W) -> Result<()> {
-    let mut sink = OutSink::new(fs::open(rt, "line.txt")?);
-    write_part(&mut sink, part, out)?;
-    write!(out, ", faults {}", sink.faults())?;
-    Ok(())
+pub(crate) fn write_read_only(rt: &HostRuntime, part: &str, text: &mut String) -> Option<()> {
+    let mut sink = OutSink::new(fs::open(rt, "line.txt").ok()?);
+    write_part(&mut sink, part, text)?;
+    write!(text, ", faults {}", sink.faults()).ok()
 }
 
 /// A stream that takes so many bytes at a time, while it has room.
@@ -65,22 +68,17 @@ impl<'a> Write for Drip<'a> {
     }
 }
 
-/// Writes to a stream that takes few bytes at a time and has so much room, and tells what it has.
-pub(crate) fn write_drip<W: Write>(rest: &str, out: &mut W) -> Result<()> {
-    let (most, rest) = rest.split_once(' ').context("no count of bytes")?;
-    let (size, part) = rest.split_once(' ').context("no room")?;
+/// Writes to a stream that takes few bytes at a time and has so much room, and adds what it has.
+pub(crate) fn write_drip(rest: &str, text: &mut String) -> Option<()> {
+    let (most, rest) = first_number(rest)?;
+    let (size, part) = first_number(rest)?;
     let mut room = [0u8; 64];
-    let Some(rest) = room.get_mut(..size.parse::<usize>()?) else {
-        bail!("too much room")
-    };
     let mut sink = OutSink::new(Drip {
-        rest,
-        most: most.parse::<usize>()?,
+        rest: room.get_mut(..size as usize)?,
+        most: most as usize,
     });
-    write_part(&mut sink, part, out)?;
+    write_part(&mut sink, part, text)?;
     let faults = sink.faults();
-    let text = str::from_utf8(room.as_slice())?;
-    let (text, _) = text.split_once('\0').context("no room is left")?;
-    write!(out, ", {text:?}, faults {faults}")?;
-    Ok(())
+    let (taken, _) = str::from_utf8(room.as_slice()).ok()?.split_once('\0')?;
+    tell_taken(taken.as_bytes(), faults, text)
 }

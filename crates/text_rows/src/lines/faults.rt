@@ -1,11 +1,12 @@
 //! The line of each fault.
 
+use super::push_line;
 use plan_base::{DemandId, LinkId};
 use plan_report::{FileKind, RunFault, fault_line};
 use scaled_numbers::NumberFault;
 use snd_model::Key;
 use snd_reader::{TextFault, Wanted};
-use std::alloc::{AllocError, Global};
+use std::alloc::Global;
 
 /// Faults of each kind.
 const FAULTS: [RunFault; 18] = [
@@ -86,10 +87,9 @@ const FAULTS: [RunFault; 18] = [
 ];
 
 /// Adds the line of each fault.
-pub(crate) fn tell_faults(alloc: Global, text: &mut Vec<u8>) -> Result<(), AllocError> {
+pub(crate) fn tell_faults(alloc: Global, text: &mut Vec<u8>) -> Option<()> {
     for fault in FAULTS {
-        let line = fault_line(alloc, fault)?;
-        text.extend_from_slice(line.as_slice())?;
+        push_line(fault_line(alloc, fault), text)?;
     }
-    Ok(())
+    Some(())
 }

@@ -1,17 +1,36 @@
 //! The line of `check`, and those of trials.
 
 use super::plans::{instance, plan_of};
+use super::push_line;
 use link_steps::StepTable;
+use plan_base::Instance;
 use plan_report::{check_line, trial_line};
 use proof_tree::PlanStatus;
 use std::alloc::Global;
 
+/// Adds the line of `check` for an instance.
+fn tell_instance(alloc: Global, inst: &Instance, text: &mut Vec<u8>) -> Option<()> {
+    let table = StepTable::make(alloc, inst).ok()?;
+    push_line(check_line(alloc, inst, &table), text)
+}
+
 /// Adds the line of `check`.
 pub(crate) fn tell_check(alloc: Global, text: &mut Vec<u8>) -> Option<()> {
     let inst = instance(alloc)?;
-    let table = StepTable::make(alloc, &inst).ok()?;
-    let line = check_line(alloc, &inst, &table).ok()?;
-    text.extend_from_slice(line.as_slice()).ok()
+    tell_instance(alloc, &inst, text)
+}
+
+/// Adds the line of a trial whose plan has this status, this cost and this bound in cost grains.
+fn tell_trial(
+    alloc: Global,
+    inst: &Instance,
+    status: PlanStatus,
+    cost: Option<u128>,
+    bound: Option<i128>,
+    text: &mut Vec<u8>,
+) -> Option<()> {
+    let plan = plan_of(alloc, status, cost, bound)?;
+    push_line(trial_line(alloc, inst, &plan), text)
 }
 
 /// Adds the lines of trials: of each status, and with and without a cost and a bound.
@@ -24,9 +43,7 @@ pub(crate) fn tell_trials(alloc: Global, text: &mut Vec<u8>) -> Option<()> {
         (PlanStatus::Undecided, ten, Some(8_500_000_000_000)),
         (PlanStatus::Undecided, None, None),
     ] {
-        let plan = plan_of(alloc, status, cost, bound)?;
-        let line = trial_line(alloc, &inst, &plan).ok()?;
-        text.extend_from_slice(line.as_slice()).ok()?;
+        tell_trial(alloc, &inst, status, cost, bound, text)?;
     }
     Some(())
 }

@@ -1,6 +1,7 @@
 //! The line of each verdict.
 
 use super::plans::plan_of;
+use super::push_line;
 use cert_verifier::Rejected;
 use plan_base::{DemandId, DesignFault, LinkId};
 use plan_report::verdict_line;
@@ -59,8 +60,7 @@ fn tell_accepted(alloc: Global, text: &mut Vec<u8>) -> Option<()> {
         (PlanStatus::Undecided, Some(8_500_000_000_000)),
     ] {
         let plan = plan_of(alloc, status, cost, None)?;
-        let line = verdict_line(alloc, &plan, &Ok(())).ok()?;
-        text.extend_from_slice(line.as_slice()).ok()?;
+        push_line(verdict_line(alloc, &plan, &Ok(())), text)?;
     }
     Some(())
 }
@@ -70,8 +70,7 @@ pub(crate) fn tell_verdicts(alloc: Global, text: &mut Vec<u8>) -> Option<()> {
     tell_accepted(alloc, text)?;
     let plan = plan_of(alloc, PlanStatus::Optimal, Some(10_000_000_000_000), None)?;
     for rejected in REJECTED {
-        let line = verdict_line(alloc, &plan, &Err(rejected)).ok()?;
-        text.extend_from_slice(line.as_slice()).ok()?;
+        push_line(verdict_line(alloc, &plan, &Err(rejected)), text)?;
     }
     Some(())
 }

@@ -1,11 +1,11 @@
 //! Model texts.
 
-use super::texts::text_of;
-use anyhow::{Context, Result, ensure};
 use snd_lexer::MAX_TEXT_BYTES;
 use snd_model::{Key, ModelFile, read_model, write_model};
-use std::alloc::{AllocError, Global};
-use std::io::Write;
+use std::alloc::Global;
+
+/// The first line of a model text.
+const FIRST_LINE: &str = "?SNDlib native format; type: model; version: 1.0\n";
 
 /// The keys, in the order in which a canonical text has them.
 const KEYS: [Key; 8] = [
@@ -31,64 +31,57 @@ const LINES: [&str; 8] = [
     "SURVIVABILITY_MODEL=NO",
 ];
 
-/// Writes the numbers of the values of all keys.
-fn write_numbers<W: Write>(file: &ModelFile, out: &mut W) -> Result<()> {
-    write!(out, "read")?;
+/// Adds the numbers of the values of all keys.
+fn tell_numbers(file: &ModelFile, text: &mut String) -> Option<()> {
+    text.push_str("read").ok()?;
     for key in KEYS {
-        let number = file.setting(key).number();
-        write!(out, " {number}")?;
+        write!(text, " {}", file.setting(key).number()).ok()?;
     }
-    Ok(())
+    Some(())
 }
 
-/// Writes what is told of a text: the values that are read, or its fault.
-fn tell_text<W: Write>(alloc: Global, text: &str, out: &mut W) -> Result<()> {
-    ensure!(text.len() <= MAX_TEXT_BYTES, "too long");
-    match read_model(alloc, text.as_bytes()) {
-        Ok(file) => write_numbers(&file, out),
-        Err(fault) => {
-            write!(out, "{fault:?}")?;
-            Ok(())
+/// Adds what is told of a model text: the values that are read, or its fault.
+pub(crate) fn tell(alloc: Global, model: &str, text: &mut String) -> Option<()> {
+    if model.len() > MAX_TEXT_BYTES {
+        return None;
+    }
+    match read_model(alloc, model.as_bytes()) {
+        Ok(file) => tell_numbers(&file, text),
+        Err(fault) => write!(text, "{fault:?}").ok(),
+    }
+}
+
+/// The same of the text of a first line and this part.
+pub(crate) fn tell_begun(alloc: Global, part: &str, text: &mut String) -> Option<()> {
+    let model = format!(in alloc; "{FIRST_LINE}{part}").ok()?;
+    tell(alloc, model.as_str(), text)
+}
+
+/// This line and, behind it, those of all keys but its own.
+fn with_others(alloc: Global, line: &str) -> Option<String> {
+    let (key, _) = line.split_once('=')?;
+    let mut lines = String::from_str(alloc, line).ok()?;
+    for other in LINES {
+        if other.split_once('=').is_none_or(|(named, _)| named != key) {
+            write!(lines, " {other}").ok()?;
         }
     }
+    Some(lines)
 }
 
-/// Writes what is told of the text of this row.
-pub(crate) fn tell<W: Write>(alloc: Global, begin: &str, row: &str, out: &mut W) -> Result<()> {
-    let text = text_of(alloc, begin, row, "")?;
-    tell_text(alloc, text.as_str(), out)
+/// Adds what is told of the text of a first line, this line, and those of all other keys.
+pub(crate) fn tell_line(alloc: Global, line: &str, text: &mut String) -> Option<()> {
+    let lines = with_others(alloc, line)?;
+    tell_begun(alloc, lines.as_str(), text)
 }
 
-/// Adds the lines of all keys but this one.
-fn push_others(text: &mut String, key: &str) -> Result<(), AllocError> {
-    for line in LINES {
-        if line.split_once('=').is_none_or(|(other, _)| other != key) {
-            text.push_str(" ")?;
-            text.push_str(line)?;
-        }
+/// Adds the canonical text of the model that this text spells.
+pub(crate) fn tell_again(alloc: Global, model: &str, text: &mut String) -> Option<()> {
+    if model.len() > MAX_TEXT_BYTES {
+        return None;
     }
-    Ok(())
-}
-
-/// Writes what is told of the text with this line and, behind it, those of all other keys.
-pub(crate) fn tell_line<W: Write>(
-    alloc: Global,
-    begin: &str,
-    row: &str,
-    out: &mut W,
-) -> Result<()> {
-    let (key, _) = row.split_once('=').context("no key")?;
-    let mut text = text_of(alloc, begin, row, "")?;
-    push_others(&mut text, key)?;
-    tell_text(alloc, text.as_str(), out)
-}
-
-/// Writes the canonical text of the model that the text of this row spells.
-pub(crate) fn write_again<W: Write>(alloc: Global, row: &str, out: &mut W) -> Result<()> {
-    let text = text_of(alloc, "", row, "")?;
-    ensure!(text.len() <= MAX_TEXT_BYTES, "too long");
-    let file = read_model(alloc, text.as_bytes())?;
-    let canonical = write_model(alloc, &file)?;
-    out.write_all(canonical.as_slice())?;
-    Ok(())
+    let file = read_model(alloc, model.as_bytes()).ok()?;
+    let canonical = write_model(alloc, &file).ok()?;
+    text.push_str(str::from_utf8(canonical.as_slice()).ok()?)
+        .ok()
 }

@@ -1,35 +1,36 @@
 //! Network texts.
 
-use super::texts::text_of;
-use anyhow::{Result, ensure};
 use snd_lexer::MAX_TEXT_BYTES;
 use snd_network::{read_network, write_network};
 use std::alloc::Global;
-use std::io::Write;
 
-/// Writes what is told of the text of this row: that it is read, or its fault.
-pub(crate) fn tell<W: Write>(
-    alloc: Global,
-    begin: &str,
-    row: &str,
-    end: &str,
-    out: &mut W,
-) -> Result<()> {
-    let text = text_of(alloc, begin, row, end)?;
-    ensure!(text.len() <= MAX_TEXT_BYTES, "too long");
-    match read_network(alloc, text.as_bytes()) {
-        Ok(_) => write!(out, "read")?,
-        Err(fault) => write!(out, "{fault:?}")?,
+/// The first line of a network text.
+const FIRST_LINE: &str = "?SNDlib native format; type: network; version: 1.0\n";
+
+/// Adds what is told of a network text: that it is read, or its fault.
+pub(crate) fn tell(alloc: Global, network: &str, text: &mut String) -> Option<()> {
+    if network.len() > MAX_TEXT_BYTES {
+        return None;
     }
-    Ok(())
+    match read_network(alloc, network.as_bytes()) {
+        Ok(_) => text.push_str("read").ok(),
+        Err(fault) => write!(text, "{fault:?}").ok(),
+    }
 }
 
-/// Writes the canonical text of the network that the text of this row spells.
-pub(crate) fn write_again<W: Write>(alloc: Global, row: &str, out: &mut W) -> Result<()> {
-    let text = text_of(alloc, "", row, "")?;
-    ensure!(text.len() <= MAX_TEXT_BYTES, "too long");
-    let file = read_network(alloc, text.as_bytes())?;
-    let canonical = write_network(alloc, &file)?;
-    out.write_all(canonical.as_slice())?;
-    Ok(())
+/// The same of the text of a first line, this part and a line's end.
+pub(crate) fn tell_begun(alloc: Global, part: &str, text: &mut String) -> Option<()> {
+    let network = format!(in alloc; "{FIRST_LINE}{part}\n").ok()?;
+    tell(alloc, network.as_str(), text)
+}
+
+/// Adds the canonical text of the network that this text spells.
+pub(crate) fn tell_again(alloc: Global, network: &str, text: &mut String) -> Option<()> {
+    if network.len() > MAX_TEXT_BYTES {
+        return None;
+    }
+    let file = read_network(alloc, network.as_bytes()).ok()?;
+    let canonical = write_network(alloc, &file).ok()?;
+    text.push_str(str::from_utf8(canonical.as_slice()).ok()?)
+        .ok()
 }

@@ -1,6 +1,6 @@
 //! Decimals.
 
-use super::texts::text_of;
+use crate::words::first_number;
 use scaled_numbers::limits::MAX_TEXT_BYTES;
 use scaled_numbers::{read_decimal, up_to_grain, write_grains};
 use std::alloc::Global;
@@ -14,29 +14,26 @@ fn tell_bytes(bytes: &[u8], scale: u32, text: &mut String) -> Option<()> {
 }
 
 /// Adds what the text behind the scale of this row spells.
-pub(crate) fn tell(alloc: Global, row: &str, text: &mut String) -> Option<()> {
-    let (scale, part) = row.split_once(' ')?;
-    let scale = scale.parse::<u32>().ok()?;
-    let part = text_of(alloc, "", part, "").ok()?;
+pub(crate) fn tell(row: &str, text: &mut String) -> Option<()> {
+    let (scale, part) = first_number(row)?;
     tell_bytes(part.as_bytes(), scale, text)
 }
 
 /// Adds what the text of so many zeros between two others spells at scale 0.
 pub(crate) fn tell_zeros(alloc: Global, row: &str, text: &mut String) -> Option<()> {
-    let (count, parts) = row.split_once(' ')?;
+    let (count, parts) = first_number(row)?;
     let (begin, end) = parts.split_once(' ')?;
-    let mut bytes = Vec::from_slice(alloc, begin.as_bytes()).ok()?;
-    for _ in 0..count.parse::<u32>().ok()? {
-        bytes.push(b'0').ok()?;
+    let mut part = String::from_str(alloc, begin).ok()?;
+    for _ in 0..count {
+        part.push_str("0").ok()?;
     }
-    bytes.extend_from_slice(end.as_bytes()).ok()?;
-    tell_bytes(bytes.as_slice(), 0, text)
+    part.push_str(end).ok()?;
+    tell_bytes(part.as_bytes(), 0, text)
 }
 
 /// Adds the decimal of a number of grains at a scale.
 pub(crate) fn tell_grains(alloc: Global, row: &str, text: &mut String) -> Option<()> {
-    let (scale, value) = row.split_once(' ')?;
-    let scale = scale.parse::<u32>().ok()?;
+    let (scale, value) = first_number(row)?;
     let value = value.parse::<u128>().ok()?;
     if scale > 12 {
         return None;

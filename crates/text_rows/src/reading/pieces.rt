@@ -1,6 +1,5 @@
 //! Tokens, and what stands behind a first line.
 
-use super::texts::text_of;
 use snd_lexer::{Dialect, MAX_TEXT_BYTES, Token, lex};
 use snd_reader::behind_header;
 use std::alloc::Global;
@@ -21,7 +20,7 @@ fn tell_token(token: Token, bytes: &[u8], text: &mut String) -> Option<()> {
 }
 
 /// Adds all tokens of these bytes, or where they are refused.
-fn tell_bytes(alloc: Global, bytes: &[u8], dialect: Dialect, text: &mut String) -> Option<()> {
+pub(crate) fn tell(alloc: Global, bytes: &[u8], dialect: Dialect, text: &mut String) -> Option<()> {
     if bytes.len() > MAX_TEXT_BYTES {
         return None;
     }
@@ -37,12 +36,6 @@ fn tell_bytes(alloc: Global, bytes: &[u8], dialect: Dialect, text: &mut String) 
     }
 }
 
-/// Adds what the lexer tells of the text of this row.
-pub(crate) fn tell(alloc: Global, row: &str, dialect: Dialect, text: &mut String) -> Option<()> {
-    let part = text_of(alloc, "", row, "").ok()?;
-    tell_bytes(alloc, part.as_bytes(), dialect, text)
-}
-
 /// Adds what the lexer tells of the bytes of this row as a network.
 pub(crate) fn tell_numbers(alloc: Global, row: &str, text: &mut String) -> Option<()> {
     let mut bytes = Vec::new(alloc);
@@ -50,13 +43,12 @@ pub(crate) fn tell_numbers(alloc: Global, row: &str, text: &mut String) -> Optio
         let byte = word.parse::<u8>().ok()?;
         bytes.push(byte).ok()?;
     }
-    tell_bytes(alloc, bytes.as_slice(), Dialect::Network, text)
+    tell(alloc, bytes.as_slice(), Dialect::Network, text)
 }
 
-/// Adds how many bytes of the text of this row stand behind its first line, where that is `h`.
-pub(crate) fn tell_header(alloc: Global, row: &str, text: &mut String) -> Option<()> {
-    let part = text_of(alloc, "", row, "").ok()?;
-    match behind_header(b"h", part.as_bytes()) {
+/// Adds how many of these bytes stand behind their first line, where that is `h`.
+pub(crate) fn tell_header(bytes: &[u8], text: &mut String) -> Option<()> {
+    match behind_header(b"h", bytes) {
         Some(rest) => write!(text, "behind it {}", rest.len()).ok(),
         None => text.push_str("no header").ok(),
     }

@@ -1,6 +1,5 @@
 //! The texts of rows.
 
-use anyhow::{Result, bail};
 use std::alloc::Global;
 
 /// What stands behind a `\` in a row for a character or for nothing, and that character.
@@ -20,29 +19,22 @@ const SIGNS: [(&str, &str); 12] = [
 ];
 
 /// Adds what stands behind a `\` of a row.
-fn push_sign(text: &mut String, part: &str) -> Result<()> {
+fn push_sign(text: &mut String, part: &str) -> Option<()> {
     for (sign, character) in SIGNS {
         if let Some(rest) = part.strip_prefix(sign) {
-            text.push_str(character)?;
-            text.push_str(rest)?;
-            return Ok(());
+            text.push_str(character).ok()?;
+            return text.push_str(rest).ok();
         }
     }
-    bail!("no sign: {part}")
+    None
 }
 
-/// The text that begins with this, goes on as the row says, and ends with that.
-pub(crate) fn text_of(alloc: Global, begin: &str, row: &str, end: &str) -> Result<String> {
-    let mut text = String::from_str(alloc, begin)?;
-    let mut is_first = true;
-    for part in row.split('\\') {
-        if is_first {
-            text.push_str(part)?;
-            is_first = false;
-        } else {
-            push_sign(&mut text, part)?;
-        }
+/// The text that a row spells. None where it has a sign that is none, and where memory is wanting.
+pub(crate) fn text_of(alloc: Global, row: &str) -> Option<String> {
+    let mut parts = row.split('\\');
+    let mut text = String::from_str(alloc, parts.next()?).ok()?;
+    for part in parts {
+        push_sign(&mut text, part)?;
     }
-    text.push_str(end)?;
-    Ok(text)
+    Some(text)
 }
