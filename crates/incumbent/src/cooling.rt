@@ -21,7 +21,7 @@ const WORK: u32 = 500_000_000;
 const COOL: u32 = 6;
 
 /// How many searches there are, and what each takes from the slack.
-#[derive(Clone, Copy, Debug)]
+#[derive(Clone, Copy)]
 pub struct Cooling {
     limit: u32,
     /// In cost grains.

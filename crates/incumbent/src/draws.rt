@@ -14,7 +14,7 @@ const FACTOR: u64 = 48_271;
 const MOST_ONES: u32 = 32;
 
 /// A Lehmer generator.
-#[derive(Clone, Copy, Debug)]
+#[derive(Clone, Copy)]
 pub struct Draws {
     state: u64,
     ghost within: { state < 2147483647 },

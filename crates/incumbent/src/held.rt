@@ -8,7 +8,7 @@ use plan_base::{DemandId, Instance, Path};
 use std::alloc::{AllocError, Global};
 
 /// Paths of all demands, and what the cheapest design with them costs, in cost grains.
-#[derive(Debug, Drop)]
+#[derive(Drop)]
 pub struct Held {
     pub paths: Vec<Path>,
     pub cost: u128,

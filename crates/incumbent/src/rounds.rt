@@ -23,7 +23,7 @@ const MAX_TURNS: u32 = 32;
 const GROUP_TURNS: u32 = 4;
 
 /// What a search works on.
-#[derive(Debug, Drop)]
+#[derive(Drop)]
 pub struct Rounds {
     /// The design that is changed.
     now: Routing,
@@ -193,6 +193,40 @@ fn set_group_back(
     Ok(())
 }
 
+/// These paths, laid and rerouted until no single reroute helps; none of its searches counts.
+fn first_routing(
+    alloc: Global,
+    inst: &Instance,
+    table: &StepTable,
+    paths: Vec<Path>,
+) -> Result<Routing, AllocError>
+    requires table { table.now ≡ inst.now }
+    requires paths { ArePaths inst.now paths.items }
+    ensures routing { IfOk result (IsRouting inst.now) }
+{
+    let mut routing = Routing::new(alloc, inst, paths)?;
+    put_all_on(inst, table, &mut routing);
+    reroute_all(inst, table, &mut routing)?;
+    routing.searches = 0;
+    Ok(routing)
+}
+
+/// What a search holds beside its routing at its start: the paths that it accepted, the best ones, and room for a group.
+fn room_beside(
+    alloc: Global,
+    inst: &Instance,
+    now: &Routing,
+) -> Result<(Held, Held, Vec<DemandId>), AllocError>
+    ensures accepted { IfOk result (λ room. room.0.paths.items ≡ now.now.paths.items) }
+    ensures best { IfOk result (λ room. room.1.paths.items ≡ now.now.paths.items) }
+    ensures group { IfOk result (λ room. AreDemands inst.now room.2.items) }
+{
+    let accepted = Held::new(alloc, inst, &now.paths, now.cost)?;
+    let best = Held::new(alloc, inst, &now.paths, now.cost)?;
+    let group = Vec::with_capacity(alloc, inst.demands() as usize)?;
+    Ok((accepted, best, group))
+}
+
 impl Rounds {
     /// The search that begins with these paths once no single reroute helps.
     pub(crate) fn new(
@@ -207,14 +241,12 @@ impl Rounds {
         ensures search { IfOk result (IsSearch inst.now) }
     {
         let draws = Draws::new(&paths, seed);
-        let mut now = Routing::new(alloc, inst, paths)?;
-        put_all_on(inst, table, &mut now);
-        reroute_all(inst, table, &mut now)?;
-        now.searches = 0;
+        let now = first_routing(alloc, inst, table, paths)?;
+        let (accepted, best, group) = room_beside(alloc, inst, &now)?;
         Ok(Rounds {
-            accepted: Held::new(alloc, inst, &now.paths, now.cost)?,
-            best: Held::new(alloc, inst, &now.paths, now.cost)?,
-            group: Vec::with_capacity(alloc, inst.demands() as usize)?,
+            accepted,
+            best,
+            group,
             now,
             draws,
         })
