@@ -10,6 +10,7 @@ pub mod Top
 pub mod Turns
 pub mod Through
 pub mod InOrder
+pub mod Opened
 pub mod Counts
 pub mod Fresh
 pub mod Formed

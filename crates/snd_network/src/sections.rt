@@ -14,7 +14,6 @@ use snd_reader::{Cursor, TextFault};
 use std::alloc::Global;
 
 /// A section behind its name.
-#[tactic(auto, using(crate::proofs::Through::through), unfolding(crate::specs::Reading::section))]
 fn section(
     cursor: &mut Cursor<'_>,
     alloc: Global,
