@@ -39,7 +39,7 @@ fn node_name(list: &mut NodeList, alloc: Global, name: Name) -> Result<(), TextF
 }
 
 /// The place of the last name.
-#[tactic(auto, using(crate::proofs::Through::through), unfolding(crate::specs::Reading::node_place))]
+#[tactic(auto, unfolding(crate::specs::Reading::node_place))]
 fn node_place(cursor: &mut Cursor<'_>, alloc: Global, list: &mut NodeList) -> Result<(), TextFault>
     ensures gives { Gives (λ _. (list.new, cursor.new)) result (node_place list.old cursor.old) }
 {
@@ -96,7 +96,6 @@ fn node_list(cursor: &mut Cursor<'_>, alloc: Global) -> Result<NodeList, TextFau
 }
 
 /// Nodes with different names, up to the bracket that closes them.
-#[tactic(auto, using(crate::proofs::Through::through))]
 pub(crate) fn nodes(cursor: &mut Cursor<'_>, alloc: Global) -> Result<Table<NodeRecord>, TextFault>
     ensures gives { Gives (λ x. (x, cursor.new)) result (nodes cursor.old) }
 {
@@ -136,7 +135,7 @@ fn push_named<T: Drop>(
 }
 
 /// A link more.
-#[tactic(auto, using(crate::proofs::Through::through), unfolding(crate::specs::Reading::list_item))]
+#[tactic(auto, unfolding(crate::specs::Reading::list_item))]
 fn link_item(
     cursor: &mut Cursor<'_>,
     alloc: Global,
@@ -170,7 +169,7 @@ pub(crate) fn links(
 }
 
 /// A demand more.
-#[tactic(auto, using(crate::proofs::Through::through), unfolding(crate::specs::Reading::list_item))]
+#[tactic(auto, unfolding(crate::specs::Reading::list_item))]
 fn demand_item(
     cursor: &mut Cursor<'_>,
     alloc: Global,

@@ -1,0 +1,10 @@
+use Rattle.std.proofs.lemmas.Result.{err_from_is_err_and}
+use Rattle.snd_network.specs.Reading.{demand, list_item}
+use Rattle.snd_network.proofs.Through.{through}
+use Rattle.snd_network.proofs.lists.demand_item.Goals as goal
+
+pub returns-in_err-part : goal.returns-in_err-part
+unfolding list_item
+returns-in_err-part c =
+    let p = err_from_is_err_and c.from_residual.result c.from_residual.ensures.1 in
+    record { gives = rw (p.1, p.2) (through _ (demand c.args.cursor.now) _ c.in_err-part.ensures.gives) }
