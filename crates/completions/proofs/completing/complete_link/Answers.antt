@@ -1,4 +1,4 @@
-use Rattle.std.proofs.Common.{ℕ, Option, List, IfSome, subst, arith}
+use Rattle.std.proofs.Common.{ℕ, Option, List, IfSome, IfNone, subst, arith}
 use Rattle.plan_base.specs.declared.parts.Parts.{Parts}
 use Rattle.plan_base.specs.Arcs.{link_at}
 use Rattle.plan_base.specs.Designs.{AreCountsInShape}
@@ -25,3 +25,22 @@ returns-clause-some c =
 
 pub returns-clause-within : goal.returns-clause-within
 returns-clause-within c = omega (arith, c.routing_cost.ensures.within, c.in-Some.ensures.within)
+
+pub at-requires-clause-link : goal.at-requires-clause-link
+at-requires-clause-link c = rw c.requires.table c.requires.link
+
+pub at-requires-clause-load : goal.at-requires-clause-load
+at-requires-clause-load c = rw c.requires.table c.requires.load
+
+pub counts-requires-clause-link : goal.counts-requires-clause-link
+counts-requires-clause-link c = rw c.requires.table c.requires.link
+
+pub counts-requires-clause-load : goal.counts-requires-clause-load
+counts-requires-clause-load c = rw c.requires.table c.requires.load
+
+pub returns-in_default-2-clause-none : goal.returns-in_default-2-clause-none
+returns-in_default-2-clause-none c =
+    let e = c.args.link.0 in
+    let load = c.args.load in
+    let none = subst (λ (found : Option (List ℕ)). IfNone found (CannotCarry (link_at c.args.table.now e) load)) c.in_default-2.is c.in_ok-counts.ensures.none in
+    subst (λ (p : Parts). CannotCarry (link_at p e) load) c.requires.table none
