@@ -1,5 +1,5 @@
 -- What a tree's labels say: a way of least weight to each node that is reached, and none to the others.
-use Rattle.std.proofs.Common.{◌≡◌, ℕ, suc, ◌+◌, ◌<◌, ◌≤◌, inl, inr, false, Bool, List, [], ◌∷◌, ◌++◌, length, get_or, map, reverse, Option, Some, None, arith, refl, sym, ◌∙◌, ap, subst, if◌then◌else◌}
+use Rattle.std.proofs.Common.{◌≡◌, ℕ, suc, ◌+◌, ◌<◌, ◌≤◌, inl, inr, false, Bool, List, [], ◌∷◌, ◌++◌, length, get_or, map, reverse, Option, Some, None, IfSome, IfNone, arith, refl, sym, ◌∙◌, ap, subst, if◌then◌else◌}
 use Rattle.std.specs.Option.{unwrap_or}
 use Rattle.std.proofs.lemmas.List.{append-nil, get_or-map, length-map, get_or_past}
 use Rattle.plan_base.specs.declared.ids.NodeId.{NodeId}
@@ -17,13 +17,13 @@ use Rattle.least_path.proofs.FoundLaws.{least, head-within, tail-within, potenti
 use Rattle.least_path.proofs.WayLaws.{IsReadBack, way-path, back-more, back-end, back-reached}
 
 -- a search that met no open node has a tree
-pub all-settled : (p : Parts) (ws : Weights) (s outside : NodeId) (ls : Labels) (found : Option Stop) → outside.0 ≡ p.nodes → IsSearch p ws s outside ls → ((stop : Stop) → found ≡ Some stop → IsNearest ls stop) → ((stop : Stop) → found ≡ Some stop → stop.node.0 ≡ outside.0) → (found ≡ None → HasNoOpen ls) → IsTree p ws s ls
+pub all-settled : (p : Parts) (ws : Weights) (s outside : NodeId) (ls : Labels) (found : Option Stop) → outside.0 ≡ p.nodes → IsSearch p ws s outside ls → IfSome found (IsNearest ls) → IfSome found (λ last. last.node.0 ≡ outside.0) → IfNone found (HasNoOpen ls) → IsTree p ws s ls
 all-settled p ws s outside ls None out h near at none = record {
   search = subst (λ (n : ℕ). IsSearch p ws s (record { 0 = n }) ls) out h;
-  done = none refl;
+  done = none;
 }
 all-settled p ws s outside ls (Some stop) out h near at none =
-    absurd (omega (arith, out, at stop refl, h.labels.count, label_within ls stop.node.0 stop.label (near stop refl).is))
+    absurd (omega (arith, out, at, h.labels.count, label_within ls stop.node.0 stop.label near.is))
 
 -- along an arc whose tail has this label
 along-arc : (p : Parts) (ws : Weights) (s : NodeId) (ls : Labels) (weight : ℕ) (a : ArcId) (known : Option Label) → IsTree p ws s ls → IsUsable p ws a → label_at ls (tail_of p a).0 ≡ known → (head_of p a).0 < length ls → (tail_of p a).0 < length ls → get_or (map (potential_of weight) ls) (head_of p a).0 0 ≤ get_or (map (potential_of weight) ls) (tail_of p a).0 0 + weight_at ws a

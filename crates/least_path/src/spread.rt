@@ -106,6 +106,24 @@ impl Query<'_> {
         Ok(None)
     }
 
+    /// The labels of a search that went on until the target was the nearest node, and that node; or until no node was
+    /// left, and None.
+    pub fn reach(&self, alloc: Global) -> Result<(Vec<Option<Label>>, Option<Stop>), AllocError>
+        requires weights { AreWeights self.now.inst.now self.now.weights.now }
+        requires lawful { IsInstance self.now.inst.now }
+        requires source { self.now.source.0 < self.now.inst.now.nodes }
+        ensures search { IfOk result (λ out. IsSearch self.now.inst.now self.now.weights.now self.now.source self.now.target out.0.items) }
+        ensures nearest { IfOk result (λ out. IfSome out.1 (IsNearest out.0.items)) }
+        ensures at_target { IfOk result (λ out. IfSome out.1 (λ last. last.node.0 ≡ self.now.target.0)) }
+        ensures none { IfOk result (λ out. IfNone out.1 (HasNoOpen out.0.items)) }
+    {
+        let mut labels = Vec::new(alloc);
+        let mut queue = Queue::with_room(alloc, most_waits(self.inst))?;
+        begin(&mut labels, &mut queue, self.inst.nodes(), self.source)?;
+        let found = self.go_out(&mut labels, &mut queue)?;
+        Ok((labels, found))
+    }
+
     /// The answer, where the target is the nearest node, or no node is left.
     pub fn told(
         &self,
@@ -137,10 +155,7 @@ impl Query<'_> {
         requires target { self.now.target.0 < self.now.inst.now.nodes }
         ensures { IfOk result (IsFound self.now.inst.now self.now.weights.now self.now.source self.now.target) }
     {
-        let mut labels = Vec::new(alloc);
-        let mut queue = Queue::with_room(alloc, most_waits(self.inst))?;
-        begin(&mut labels, &mut queue, self.inst.nodes(), self.source)?;
-        let found = self.go_out(&mut labels, &mut queue)?;
+        let (labels, found) = self.reach(alloc)?;
         self.told(alloc, &labels, found)
     }
 }

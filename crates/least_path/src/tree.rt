@@ -10,8 +10,7 @@ ghost use Rattle.least_path.specs.Labels.{label_at};
 ghost use Rattle.least_path.specs.Trees.{IsTree, length_of_label, length_at, label_before, AreLengths, RiseAlong};
 
 use crate::label::Label;
-use crate::queue::Queue;
-use crate::spread::{Query, begin, most_waits};
+use crate::spread::Query;
 use crate::way::potentials;
 use plan_base::{Instance, Items, NodeId, Path};
 use std::alloc::{AllocError, Global};
@@ -82,10 +81,7 @@ impl Tree {
             source,
             target: outside,
         };
-        let mut labels = Vec::new(alloc);
-        let mut queue = Queue::with_room(alloc, most_waits(inst))?;
-        begin(&mut labels, &mut queue, outside.0, source)?;
-        let _last = query.go_out(&mut labels, &mut queue)?;
+        let (labels, _last) = query.reach(alloc)?;
         Ok(Tree { labels })
     }
 
@@ -123,7 +119,6 @@ impl Tree {
     /// that is not reached has the length of the longest way.
     ///
     /// - Errors: want of memory alone.
-    #[tactic(auto, using(crate::proofs::TreeLaws::tree_lengths))]
     pub fn lengths(&self, alloc: Global) -> Result<Items<u128>, AllocError>
         ensures count { IfOk result (λ lengths. length lengths ≡ length self.now) }
         ensures reached { IfOk result (AreLengths self.now) }

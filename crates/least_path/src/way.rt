@@ -55,10 +55,10 @@ fn is_reached(known: Option<Label>) -> bool
 pub fn reached_nodes(alloc: Global, labels: &[Option<Label>]) -> Result<Items<bool>, AllocError>
     ensures { IfOk result (λ reached. reached ≡ map is_labelled labels.now) }
 {
-    let mut reached = Vec::with_capacity(alloc, labels.len())?;
-    for known in labels {
-        reached.push(is_reached(*known))?;
-    }
+    let reached = labels
+        .iter()
+        .map(|known| is_reached(*known))
+        .collect(alloc)?;
     Ok(Items::from_vec(reached))
 }
 

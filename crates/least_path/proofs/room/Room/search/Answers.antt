@@ -14,6 +14,20 @@ go_out-requires-clause-search c =
     (sym (c.in_ok-begin.ensures.labels ∙ ap (λ (n : ℕ). first_labels_of n c.args.source.0) c.nodes.ensures.value))
     (first-search p c.args.weights.now c.args.source c.args.target c.requires.source)
 
+pub begin-requires : goal.begin-requires
+begin-requires c = rw c.nodes.ensures.value c.requires.source
+
+pub go_out-requires-clause-waits : goal.go_out-requires-clause-waits
+go_out-requires-clause-waits c = c.in_ok-begin.ensures.waits
+
+pub way_to-requires-clause-search : goal.way_to-requires-clause-search
+way_to-requires-clause-search c = rw c.deref.ensures.value c.in_ok-found.ensures.search
+
+pub way_to-requires-clause-last : goal.way_to-requires-clause-last
+way_to-requires-clause-last c =
+    let near = subst (λ (found : Option Stop). IfSome found (IsNearest c.go_out.new.labels.items)) c.in-Some.is c.in_ok-found.ensures.nearest in
+    rw c.deref.ensures.value near.is
+
 pub returns-in_default-clause-none : goal.returns-in_default-clause-none
 returns-in_default-clause-none c =
     let p = c.args.inst.now in

@@ -1,11 +1,13 @@
-use Rattle.std.proofs.Common.{subst, sym, ap, ◌∙◌, ℕ}
-use Rattle.least_path.specs.Labels.{Labels, IsSearch, first_labels_of}
-use Rattle.least_path.proofs.SettleLaws.{first-search}
 use Rattle.least_path.proofs.spread.Query.answer.Goals as goal
 
-pub go_out-requires-clause-search : goal.go_out-requires-clause-search
-go_out-requires-clause-search c =
-    let p = c.args.self.now.inst.now in
-    subst (λ (x : Labels). IsSearch p c.args.self.now.weights.now c.args.self.now.source c.args.self.now.target x)
-    (sym (c.in_ok-begin.ensures.labels ∙ ap (λ (n : ℕ). first_labels_of n c.args.self.now.source.0) c.nodes.ensures.value))
-    (first-search p c.args.self.now.weights.now c.args.self.now.source c.args.self.now.target c.requires.source)
+pub told-requires-clause-search : goal.told-requires-clause-search
+told-requires-clause-search c = rw c.deref.ensures.value c.in_ok-labels.ensures.search
+
+pub told-requires-clause-nearest : goal.told-requires-clause-nearest
+told-requires-clause-nearest c = rw c.deref.ensures.value c.in_ok-labels.ensures.nearest
+
+pub told-requires-clause-at_target : goal.told-requires-clause-at_target
+told-requires-clause-at_target c = c.in_ok-labels.ensures.at_target
+
+pub told-requires-clause-none : goal.told-requires-clause-none
+told-requires-clause-none c = rw c.deref.ensures.value c.in_ok-labels.ensures.none
