@@ -2,7 +2,7 @@
 use Rattle.std.proofs.Common.{◌≡◌, ℕ, ◌<◌, ◌*◌, Bool, List, length, Some, None}
 use Rattle.plan_base.specs.declared.parts.Parts.{Parts}
 use Rattle.plan_base.specs.First.{first_fault}
-use Rattle.plan_base.proofs.FirstFault.{first_fault-next, first_fault-here}
+use Rattle.plan_base.proofs.FirstFault.{first_fault-here}
 use Rattle.arc_restrict.specs.Restrictions.{Forbidden}
 use Rattle.path_pricing.specs.declared.priced.Unfit.{Unfit}
 use Rattle.path_pricing.specs.Faults.{arc_id, dearer_fault, first_dearer, leaving_fault, first_leaving}
@@ -14,5 +14,3 @@ dearer-here p prices k r potentials n e before here within = first_fault-here (�
 -- the first arc that leaves the set
 pub leaving-here : (p : Parts) (k : ℕ) (r : Forbidden) (reached : List Bool) (n : ℕ) (e : Unfit) → first_fault (λ i. leaving_fault p k r reached (arc_id i)) n ≡ None → leaving_fault p k r reached (arc_id n) ≡ Some e → n < 2 * length p.links → first_leaving p k r reached ≡ Some e
 leaving-here p k r reached n e before here within = first_fault-here (λ i. leaving_fault p k r reached (arc_id i)) e n (2 * length p.links) before here within
-
-pub ruleset first_faults = (first_fault-next, dearer-here, leaving-here)

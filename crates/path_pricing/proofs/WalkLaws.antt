@@ -10,7 +10,6 @@ use Rattle.plan_base.specs.Arcs.{is_arc, tail_of, head_of}
 use Rattle.plan_base.specs.DesignFaults.{has_met}
 use Rattle.plan_base.specs.Walks.{walk_fault, IsWalk}
 use Rattle.plan_base.proofs.FirstFault.{or_else-none, when-none, first_fault-next, first_fault-here, fault_at-get_or}
-use Rattle.plan_base.proofs.WalkLaws.{IsWalk-begin}
 use Rattle.path_pricing.specs.declared.priced.Unfit.{Unfit}
 use Rattle.path_pricing.specs.declared.priced.Unfit.TheVariants.{NotPermitted}
 use Rattle.path_pricing.specs.Faults.{place_fault}
@@ -47,5 +46,3 @@ walk_fault-none p id f met here i a none =
     let both = or_else-none (when (not (is_arc p a && ((tail_of p a).0 == here))) (NotPermitted i)) rest (sym none) in
     let new = or_else-none (when (is_met met (head_of p a).0) (NotPermitted i)) (when (f a) (NotPermitted i)) both.1 in
     rw (when-none _ _ both.0, when-none _ _ new.0) refl
-
-pub ruleset walk_laws = (walk-stops, walk-goes_on, IsWalk-begin)

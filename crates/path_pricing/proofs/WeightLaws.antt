@@ -1,5 +1,5 @@
 -- The weights that a search is told: the price of each permitted arc, none for another.
-use Rattle.std.proofs.Common.{◌≡◌, ℕ, zero, suc, ◌*◌, ◌<◌, ◌≤◌, ◌⊎◌, inl, inr, Bool, true, false, List, [], ◌∷◌, ◌++◌, length, get_or, Option, Some, None, IsSome, refl, subst, ◌∙◌, arith, sum_by}
+use Rattle.std.proofs.Common.{◌≡◌, ℕ, zero, suc, ◌+◌, ◌*◌, ◌<◌, ◌≤◌, ◌⊎◌, inl, inr, Bool, true, false, List, [], ◌∷◌, ◌++◌, length, get_or, Option, Some, None, IsSome, refl, subst, ap, ◌∙◌, arith, add-one, sum_by}
 use Rattle.std.specs.Option.{unwrap_or}
 use Rattle.std.proofs.lemmas.Bool.{ltb-true}
 use Rattle.std.proofs.lemmas.List.{get_or_append_left, get_or_push, length_push}
@@ -26,6 +26,12 @@ length-weights_below p prices k r (suc n) =
     let shorter = length-weights_below p prices k r n in
     let longer = length_push (weights_below p prices k r n) (open_price p prices k r (arc_id n)) in
     omega (arith, shorter, longer)
+
+-- one arc more
+pub weights_below-next : (p : Parts) (prices : List ℕ) (k : ℕ) (r : Forbidden) (n : ℕ) (before after : List (Option ℕ)) (w : Option ℕ) → before ≡ weights_below p prices k r n
+    → w ≡ open_price p prices k r (arc_id n) → after ≡ before ++ w ∷ [] → after ≡ weights_below p prices k r (n + 1)
+weights_below-next p prices k r n before after w before_is w_is after_is =
+    rw add-one (after_is ∙ ap (λ (ws : List (Option ℕ)). ws ++ w ∷ []) before_is ∙ ap (λ (x : Option ℕ). weights_below p prices k r n ++ x ∷ []) w_is)
 
 last_or_before : (i n : ℕ) → i < suc n → (i ≡ n) ⊎ (i < n)
 last_or_before i n h = grind arith

@@ -46,7 +46,6 @@ impl Query<'_> {
     }
 
     /// Whether each permitted arc rises by at most its price.
-    #[tactic(auto, using(crate::proofs::FaultSteps::first_faults))]
     fn check_rises(&self, potentials: &[u128]) -> Result<(), Unfit>
         requires prices { length self.now.prices.now ≡ length self.now.inst.now.links }
         requires potentials { length potentials.now ≡ self.now.inst.now.nodes }
@@ -103,7 +102,7 @@ impl Query<'_> {
     }
 
     /// Whether the path is a permitted path of the demand, and the potentials show that no other has a lower price.
-    #[tactic(auto, using(crate::proofs::WalkEnds::walk_ends), unfolding(crate::specs::Faults::path_fault))]
+    #[tactic(auto, unfolding(crate::specs::Faults::path_fault))]
     fn check_path(&self, arcs: &[ArcId], price: u128, potentials: &[u128]) -> Result<(), Unfit>
         requires lawful { IsInstance self.now.inst.now }
         requires prices { ArePrices self.now.inst.now self.now.prices.now }
@@ -159,7 +158,6 @@ impl Query<'_> {
     }
 
     /// Whether no permitted arc leaves the set.
-    #[tactic(auto, using(crate::proofs::FaultSteps::first_faults))]
     fn check_closed(&self, reached: &[bool]) -> Result<(), Unfit>
         requires { length reached.now ≡ self.now.inst.now.nodes }
         ensures { result_err result

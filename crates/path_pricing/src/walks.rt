@@ -52,7 +52,6 @@ impl Query<'_> {
     }
 
     /// Whether the arcs are a permitted simple path of the demand.
-    #[tactic(auto, using(crate::proofs::WalkLaws::walk_laws), unfolding(crate::specs::Faults::walk_fault))]
     pub fn check_walk(&self, demand: &Demand, arcs: &[ArcId]) -> Result<(), Unfit>
         requires lawful { IsInstance self.now.inst.now }
         requires source { demand.now.source.0 < self.now.inst.now.nodes }
