@@ -1,17 +1,17 @@
 -- Blocked nodes, and what a search over the others finds.
 use Rattle.std.proofs.Common.{◌≡◌, ℕ, ◌<◌, ◌+◌, inl, inr, Bool, true, false, List, ◌++◌, length, take, set, All, Some, None, sym, ap, subst, ◌∙◌, arith, IsTrue}
-use Rattle.std.proofs.lemmas.List.{get_or_default}
+use Rattle.std.proofs.lemmas.List.{get_or_default, get_or-set_same}
 use Rattle.plan_base.specs.declared.ids.NodeId.{NodeId}
 use Rattle.plan_base.specs.declared.ids.ArcId.{ArcId}
 use Rattle.plan_base.specs.declared.parts.Demand.{Demand}
 use Rattle.plan_base.specs.declared.parts.Parts.{Parts}
 use Rattle.plan_base.specs.Arcs.{is_arc, tail_of, demand_at, no_arc}
-use Rattle.plan_base.specs.Paths.{arc_at}
+use Rattle.plan_base.specs.Paths.{arc_at, node_at}
 use Rattle.arc_restrict.specs.Restrictions.{Forbidden, IsPermittedPath}
 use Rattle.second_path.specs.Ways.{may_take}
 use Rattle.second_path.specs.Others.{holds, IsOtherPath}
 use Rattle.second_path.specs.Searching.{IsBefore, IsTree, IsSearch, IsFreeRoute, IsBlockedTo}
-use Rattle.second_path.proofs.Trees.{holds-set_only, false_true}
+use Rattle.second_path.proofs.Trees.{holds-set_keeps, holds-set_only, last_or_before, false_true}
 use Rattle.second_path.proofs.Joins.{permitted_of_route, other_of_route}
 
 pub arrivals_are_arcs : (p : Parts) (takes : ArcId → Bool) (first : List Bool) (start : NodeId) (xs : List ArcId) → ((a : ArcId) → takes a ≡ true → IsTrue (is_arc p a)) → IsTree p takes first start xs → All (λ a. IsTrue (is_arc p a)) xs
@@ -23,6 +23,26 @@ arrivals_are_arcs p takes first start xs are_arcs tree = λ i d within.
 -- of the blocked nodes, where the source alone is one
 pub only_source : (blocked : List Bool) (s v : ℕ) → ((u : ℕ) → holds blocked u ≡ false) → holds (set blocked s true) v ≡ true → v ≡ s
 only_source blocked s v free is = elim (holds-set_only blocked s v is) [ inl was ↦ absurd (false_true _ (free v) was) | inr same ↦ sym same ]
+
+-- no node of a walk is blocked
+pub blocked_none : (p : Parts) (source : NodeId) (path : List ArcId) (blocked : List Bool) → ((u : ℕ) → holds blocked u ≡ false) → IsBlockedTo p source path 0 blocked
+blocked_none p source path blocked free = record {
+  marked = λ j below. absurd (omega (arith, below));
+  only = λ v is. absurd (false_true _ (free v) is);
+}
+
+-- one node of a walk more is blocked
+pub blocked_more : (p : Parts) (source : NodeId) (path : List ArcId) (n v : ℕ) (blocked more : List Bool) → IsBlockedTo p source path n blocked → node_at p source path n ≡ v → v < length blocked → more ≡ set blocked v true → IsBlockedTo p source path (n + 1) more
+blocked_more p source path n v blocked more before here within set_is = record {
+  marked = λ j below. rw set_is (elim (last_or_before n j below) [
+    | inl earlier ↦ holds-set_keeps blocked v _ within (before.marked j earlier)
+    | inr last ↦ rw (last, here) (get_or-set_same blocked v true false within)
+  ]);
+  only = λ u is. elim (holds-set_only blocked v u (rw set_is at is)) [
+    | inl was ↦ (let old = before.only u was in record { place = old.place; within = omega (arith, old.within); is = old.is })
+    | inr same ↦ record { place = n; within = omega arith; is = here ∙ same }
+  ];
+}
 
 -- a met node that is not blocked, but for the start, comes before the end of the search
 pub met_before : (p : Parts) (takes : ArcId → Bool) (first met : List Bool) (start : NodeId) (xs : List ArcId) (v : ℕ) → IsSearch p takes first start met xs → (holds first v ≡ true → v ≡ start.0) → holds met v ≡ true → IsBefore p start xs (length xs) v
