@@ -20,7 +20,6 @@ abbrev pub Reader : Type 0 → Type 0
 Reader A = List Line → Result (A × List Line) (List Line)
 
 infixl 10 ◌>>=◌
-
 -- goes on where nothing is wrong yet
 abbrev pub ◌>>=◌ : {A B : Type 0} → Result A (List Line) → (A → Result B (List Line)) → Result B (List Line)
 (Ok x) >>= f = f x

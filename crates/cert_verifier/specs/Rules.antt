@@ -6,7 +6,6 @@ abbrev pub unless : {F : Type 0} → Type 0 → F → Option F → Type 0
 unless holds fault found = (holds × (found ≡ None)) ⊎ ((holds → ⊥) × (found ≡ Some fault))
 
 infixr 3 ◌then_by◌
-
 -- what the first rules find, or else what the further rules find
 abbrev pub ◌then_by◌ : {F : Type 0} → (Option F → Type 0) → (Option F → Type 0) → Option F → Type 0
 (first then_by further) found = (IsSome found × first found) ⊎ (first None × further found)

@@ -25,7 +25,6 @@ abbrev pub Reader : Type 0 → Type 0
 Reader A = List Placed → Result (A × List Placed) Stopped
 
 infixl 10 ◌>>=◌
-
 -- goes on where nothing is wrong yet
 abbrev pub ◌>>=◌ : {A B : Type 0} → Result A Stopped → (A → Result B Stopped) → Result B Stopped
 (Ok x) >>= f = f x
