@@ -53,6 +53,28 @@ struct Found {
     best: Option<Design>,
 }
 
+impl Found {
+    /// Takes what one more search found.
+    fn take(&mut self, cost: u128, design: Design) {
+        self.total = self.total.saturating_add(cost);
+        self.greatest = self.greatest.max(cost);
+        if cost < self.least {
+            self.least = cost;
+            self.best = Some(design);
+        }
+    }
+
+    /// Adds the least, the mean and the greatest cost of so many searches, in units. None where the mean is too great.
+    fn tell(&self, seeds: u32, most: u128, text: &mut String) -> Option<()> {
+        let mean = self.total / u128::from(seeds.max(1)) / TENTH;
+        if mean > most.saturating_mul(10) {
+            return None;
+        }
+        let (least, greatest) = (self.least / TENTH / 10, self.greatest / TENTH / 10);
+        write!(text, " {least} {}.{} {greatest}", mean / 10, mean % 10).ok()
+    }
+}
+
 /// What searches from a design find with so many seeds.
 fn find_all(alloc: Global, problem: &Problem, start: &Design, seeds: u32) -> Option<Found>
     requires table { problem.now.table ≡ problem.now.inst }
@@ -67,12 +89,7 @@ fn find_all(alloc: Global, problem: &Problem, start: &Design, seeds: u32) -> Opt
     for seed in 0..seeds {
         let copy = start.copy().ok()?;
         let (cost, design) = improve_seeded(alloc, &problem.inst, &problem.table, copy, seed).ok()?;
-        found.total = found.total.saturating_add(cost);
-        found.greatest = found.greatest.max(cost);
-        if cost < found.least {
-            found.least = cost;
-            found.best = Some(design);
-        }
+        found.take(cost, design);
     }
     Some(found)
 }
@@ -117,19 +134,9 @@ fn tell_costs(
 ) -> Option<()>
     requires { problem.now.table ≡ problem.now.inst }
 {
-    let Found {
-        least,
-        greatest,
-        total,
-        best,
-    } = found_from_start(alloc, problem, seeds)?;
-    let mean = total / u128::from(seeds.max(1)) / TENTH;
-    if mean > most.saturating_mul(10) {
-        return None;
-    }
-    let (least, greatest) = (least / TENTH / 10, greatest / TENTH / 10);
-    write!(text, " {least} {}.{} {greatest}", mean / 10, mean % 10).ok()?;
-    tell_again(alloc, problem, best?, text)
+    let found = found_from_start(alloc, problem, seeds)?;
+    found.tell(seeds, most, text)?;
+    tell_again(alloc, problem, found.best?, text)
 }
 
 /// Adds the line of a network.

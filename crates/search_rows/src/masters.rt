@@ -16,14 +16,14 @@ mod worked;
 use column_pool::Brief;
 use columns::are_values;
 use link_steps::StepTable;
-use made::{made_brief, made_parts};
+use made::{made_brief, made_instance};
 use master_step::{Step, advance, best_step};
-use plan_base::{Instance, Module, Parts};
+use plan_base::Instance;
 use row_draws::Draws;
 use row_networks::table_of;
 use std::alloc::Global;
 use twin::{Found, slow_step};
-use worked::{has_crowd, has_steps, two_links};
+use worked::are_as_worked_out;
 
 /// How many briefs are compared.
 const BRIEFS: u32 = 400;
@@ -32,9 +32,7 @@ const BRIEFS: u32 = 400;
 fn is_step(step: &Step, found: &Found) -> bool {
     match step {
         Step::Raised { prices, old, new } => {
-            found.new == Some(*new)
-                && found.old == *old
-                && prices.as_slice() == found.prices.as_slice()
+            found.new == Some(*new) && found.old == *old && found.has_prices(prices.as_slice())
         }
         Step::Same { value } => found.new.is_none() && found.old == *value,
         Step::Bare { .. } => false,
@@ -52,13 +50,8 @@ fn is_no_worse(step: &Step, found: &Found) -> bool {
     }
 }
 
-/// The instance of these parts.
-fn instance_of(alloc: Global, parts: Parts) -> Option<Instance> {
-    Instance::build(alloc, parts).ok()
-}
-
-/// Whether both steps of a brief are as the twin found.
-fn steps_agree(
+/// Whether the step of a brief is what the twin found.
+fn step_agrees(
     alloc: Global,
     inst: &Instance,
     table: &StepTable,
@@ -70,33 +63,57 @@ fn steps_agree(
     if !brief.fits(inst) {
         return false;
     }
-    let Ok(step) = advance(alloc, inst, table, brief) else {
+    match advance(alloc, inst, table, brief) {
+        Ok(step) => is_step(&step, found),
+        Err(_) => false,
+    }
+}
+
+/// Whether the better of the step of a brief and an ascent is no worse than what the twin found.
+fn best_agrees(
+    alloc: Global,
+    inst: &Instance,
+    table: &StepTable,
+    brief: &Brief,
+    found: &Found,
+) -> bool
+    requires { table.now ≡ inst.now }
+{
+    if !brief.fits(inst) {
         return false;
-    };
-    let Ok(best) = best_step(alloc, inst, table, brief) else {
-        return false;
-    };
-    is_step(&step, found) && is_no_worse(&best, found)
+    }
+    match best_step(alloc, inst, table, brief) {
+        Ok(best) => is_no_worse(&best, found),
+        Err(_) => false,
+    }
+}
+
+/// Whether all answers for a brief are as the twin found.
+fn all_agree(alloc: Global, inst: &Instance, brief: &Brief, found: &Found) -> bool {
+    match table_of(alloc, inst) {
+        Some(table) => {
+            step_agrees(alloc, inst, &table, brief, found)
+                && best_agrees(alloc, inst, &table, brief, found)
+                && are_values(alloc, inst, &table, brief, found)
+        }
+        None => false,
+    }
 }
 
 /// Whether the prices of a brief are raised. None where an answer is not what the twin found.
 fn brief_raises(alloc: Global, inst: &Instance, brief: &Brief) -> Option<bool> {
-    let found = slow_step(alloc, inst, brief).ok()?;
-    let table = table_of(alloc, inst)?;
-    if steps_agree(alloc, inst, &table, brief, &found)
-        && are_values(alloc, inst, &table, brief, &found)?
-    {
-        return Some(found.new.is_some());
+    let found = slow_step(alloc, inst, brief)?;
+    if !all_agree(alloc, inst, brief, &found) {
+        return None;
     }
-    None
+    Some(found.new.is_some())
 }
 
 /// Whether the prices of the brief of this number are raised. None where an answer is not what the twin found.
 fn raises(alloc: Global, number: u32) -> Option<bool> {
     let mut draws = Draws::begin(number);
-    let inst = instance_of(alloc, made_parts(alloc, &mut draws).ok()?)?;
-    let brief = made_brief(alloc, &inst, &mut draws).ok()?;
-    brief_raises(alloc, &inst, &brief)
+    let inst = made_instance(alloc, &mut draws)?;
+    brief_raises(alloc, &inst, &made_brief(alloc, &inst, &mut draws)?)
 }
 
 /// Adds how many briefs are raised, or the first one of which an answer is not what the twin found.
@@ -117,30 +134,9 @@ fn tell_briefs(alloc: Global, text: &mut String) -> Option<()> {
     .ok()
 }
 
-/// Whether two links with these modules on the first have these crowd prices.
-fn crowd_is(alloc: Global, modules: &[Module], wanted: &[u128]) -> Option<bool> {
-    let inst = instance_of(alloc, two_links(alloc, modules).ok()?)?;
-    has_crowd(alloc, &inst, wanted)
-}
-
-/// Whether the two links have the steps that are worked out for them.
-fn steps_are(alloc: Global) -> Option<bool> {
-    let inst = instance_of(alloc, two_links(alloc, &[]).ok()?)?;
-    let table = table_of(alloc, &inst)?;
-    has_steps(alloc, &inst, &table)
-}
-
-/// Adds a line where the two links come out as worked out, with no module and with one on the first. None where they do
-/// not.
+/// Adds a line where the two links come out as worked out. None where they do not.
 fn tell_two_links(alloc: Global, text: &mut String) -> Option<()> {
-    let module = Module {
-        capacity: 1,
-        cost: 1,
-    };
-    if steps_are(alloc)?
-        && crowd_is(alloc, &[], &[1_000_000_000, 3_000_000_000])?
-        && crowd_is(alloc, &[module], &[0, 3_000_000_000])?
-    {
+    if are_as_worked_out(alloc)? {
         return text.push_str("two links as worked out\n").ok();
     }
     None

@@ -1,45 +1,41 @@
 //! The steps of a link found load by load, each by trying no choice and every single one.
 
 use super::made::Made;
-use explicit_steps::ChoiceStep;
+use explicit_steps::{Choice, ChoiceStep};
 use std::alloc::{AllocError, Global};
 
-/// No choice, or the one of this number.
-fn single(made: &Made, number: Option<usize>) -> Option<ChoiceStep> {
-    let Some(number) = number else {
-        return Some(ChoiceStep {
-            reach: made.pre,
-            cost: 0,
-            choice: None,
-        });
-    };
-    let choice = made.choices.get(number)?;
-    Some(ChoiceStep {
+/// The choice of this number alone.
+fn single(made: &Made, number: usize, choice: &Choice) -> ChoiceStep {
+    ChoiceStep {
         reach: made.pre.saturating_add(choice.capacity),
         cost: choice.cost,
         choice: u32::try_from(number).ok(),
-    })
+    }
 }
 
-/// Whether the other is better: it costs less, or the same and reaches farther.
-fn is_better(other: ChoiceStep, best: Option<ChoiceStep>) -> bool {
-    best.is_none_or(|best| {
-        other.cost < best.cost || (other.cost == best.cost && other.reach > best.reach)
-    })
+/// Whether the other carries the load and is better: it costs less, or the same and reaches farther.
+fn is_better(other: ChoiceStep, load: u64, best: ChoiceStep) -> bool {
+    let is_less = other.cost < best.cost || (other.cost == best.cost && other.reach > best.reach);
+    other.reach >= load && (is_less || best.reach < load)
 }
 
 /// The best that carries the load.
 fn best_of(made: &Made, load: u64) -> Option<ChoiceStep> {
-    let mut best = single(made, None).filter(|none| none.reach >= load);
-    for number in 0..made.choices.len() {
-        if let Some(other) = single(made, Some(number))
-            && other.reach >= load
-            && is_better(other, best)
-        {
-            best = Some(other);
+    let mut best = ChoiceStep {
+        reach: made.pre,
+        cost: 0,
+        choice: None,
+    };
+    for (number, choice) in made.choices.iter().enumerate() {
+        let other = single(made, number, choice);
+        if is_better(other, load, best) {
+            best = other;
         }
     }
-    best
+    if best.reach < load {
+        return None;
+    }
+    Some(best)
 }
 
 /// The steps, and how many loads up to the top nothing carries.

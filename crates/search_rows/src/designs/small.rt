@@ -10,21 +10,32 @@ use plan_base::{DemandId, Design, Instance, Items, Path, check_design, is_simple
 use row_networks::{find, network_of, path_of, table_of};
 use std::alloc::Global;
 
-/// Links ab and bc with modules of 10 for 5, and ac with modules of 10 for 12; demands of 6 from a to c, of 5 to b.
-const TRIANGLE: &str =
-    "triangle undirected 3 : 0 1 0 0 / 10000000 5000000000000, 1 2 0 0 / 10000000 5000000000000, 0 2 0 0 / 10000000 12000000000000 : 0 2 6000000, 0 1 5000000";
+/// A small network, with the path of each demand.
+#[derive(Clone, Copy)]
+struct Small {
+    name: &'static str,
+    row: &'static str,
+    paths: &'static [&'static str],
+    /// The seats that search, with how many there are each time.
+    seats: &'static [(u32, u32)],
+}
 
-/// Two links of 5 from a to b, without modules, and a demand of 6.
-const PAIR: &str = "pair undirected 2 : 0 1 5000000 0, 0 1 5000000 0 : 0 1 6000000";
+/// Links ab and bc with modules of 10 for 5, and ac with modules of 10 for 12; demands of 6 from a to c, of 5 to b. The
+/// first one goes along ac, the second one along ab.
+const TRIANGLE: Small = Small {
+    name: "triangle",
+    row: "triangle undirected 3 : 0 1 0 0 / 10000000 5000000000000, 1 2 0 0 / 10000000 5000000000000, 0 2 0 0 / 10000000 12000000000000 : 0 2 6000000, 0 1 5000000",
+    paths: &["4", "0"],
+    seats: &[(0, 1), (0, 4), (1, 4), (2, 4), (3, 4)],
+};
 
-/// The path ac of the triangle's first demand and ab of its second one.
-const DIRECT: [&str; 2] = ["4", "0"];
-
-/// The path along the first link of the pair.
-const FIRST_LINK: [&str; 1] = ["0"];
-
-/// Seats, with how many there are each time.
-const SEATS: [(u32, u32); 5] = [(0, 1), (0, 4), (1, 4), (2, 4), (3, 4)];
+/// Two links of 5 from a to b, without modules, and a demand of 6, which goes along the first one.
+const PAIR: Small = Small {
+    name: "pair",
+    row: "pair undirected 2 : 0 1 5000000 0, 0 1 5000000 0 : 0 1 6000000",
+    paths: &["0"],
+    seats: &[],
+};
 
 /// How many nodes are examined whenever a seat is asked for a design: each search comes due at one of these askings, and
 /// none at those that stand just before them.
@@ -64,13 +75,25 @@ fn paths_of(alloc: Global, inst: &Instance, words: &[&str]) -> Option<Items<Path
     Some(paths)
 }
 
-/// Adds what a design costs, what one that is found from it costs, and what the cheapest one with the paths of that costs,
-/// in units.
+/// What the cheapest design with these paths costs.
+fn completed_cost(
+    alloc: Global,
+    inst: &Instance,
+    table: &StepTable,
+    paths: Items<Path>,
+) -> Option<u128>
+    requires table { table.now ≡ inst.now }
+    requires paths { ArePaths inst.now paths }
+{
+    let (cost, _design) = complete(alloc, inst, table, paths).ok()??;
+    Some(cost)
+}
+
+/// Adds what one costs that is found from a design, and what the cheapest one with the paths of that costs, in units.
 fn tell_better(
     alloc: Global,
     inst: &Instance,
     table: &StepTable,
-    cost: u128,
     design: Design,
     text: &mut String,
 ) -> Option<()>
@@ -78,12 +101,13 @@ fn tell_better(
     requires design { IsGoodDesign inst.now design }
 {
     let (better, design) = improve(alloc, inst, table, design).ok()?;
-    let (again, _design) = complete(alloc, inst, table, design.paths).ok()??;
-    let (cost, better, again) = (cost / UNIT, better / UNIT, again / UNIT);
-    write!(text, " {cost}, improved {better}, completed {again}\n").ok()
+    let again = completed_cost(alloc, inst, table, design.paths)?;
+    let (better, again) = (better / UNIT, again / UNIT);
+    write!(text, ", improved {better}, completed {again}\n").ok()
 }
 
-/// Adds what the cheapest design with the paths costs and what is found from it, or which link cannot carry the paths.
+/// Adds what the cheapest design with the paths costs, in units, and what is found from it, or which link cannot carry the
+/// paths.
 fn tell_completed(
     alloc: Global,
     inst: &Instance,
@@ -98,10 +122,34 @@ fn tell_completed(
     let design = Design { paths, counts };
     let overfull = overfull_link(inst, table, &design);
     match (complete(alloc, inst, table, design.paths).ok()?, overfull) {
-        (Some((cost, design)), None) => tell_better(alloc, inst, table, cost, design, text),
+        (Some((cost, design)), None) => {
+            write!(text, " {}", cost / UNIT).ok()?;
+            tell_better(alloc, inst, table, design, text)
+        }
         (None, Some(link)) => write!(text, " link {} is overfull\n", link.0).ok(),
         _ => None,
     }
+}
+
+/// Adds what the design costs, in units, that a seat finds when so many nodes are examined, if it finds one.
+fn tell_next(
+    alloc: Global,
+    inst: &Instance,
+    table: &StepTable,
+    paths: &Items<Path>,
+    designs: &mut DesignSearch,
+    examined: u32,
+    text: &mut String,
+) -> Option<()>
+    requires table { table.now ≡ inst.now }
+    requires paths { ArePaths inst.now paths.now }
+{
+    let found = designs.next_design(alloc, inst, table, paths, examined);
+    let Some(design) = found.ok()? else {
+        return Some(());
+    };
+    let cost = check_design(inst, &design).ok()? / UNIT;
+    write!(text, ", {cost} at {examined}").ok()
 }
 
 /// Adds what each design costs that a seat finds, in units, and how many nodes are examined then.
@@ -110,21 +158,14 @@ fn tell_searches(
     inst: &Instance,
     table: &StepTable,
     paths: &Items<Path>,
-    seat: u32,
-    seats: u32,
+    designs: &mut DesignSearch,
     text: &mut String,
 ) -> Option<()>
     requires table { table.now ≡ inst.now }
     requires paths { ArePaths inst.now paths.now }
-    requires seat { seat < seats }
 {
-    let mut designs = DesignSearch::new(seat, seats);
     for examined in ASKINGS {
-        let found = designs.next_design(alloc, inst, table, paths, examined);
-        if let Some(design) = found.ok()? {
-            let cost = check_design(inst, &design).ok()? / UNIT;
-            write!(text, ", {cost} at {examined}").ok()?;
-        }
+        tell_next(alloc, inst, table, paths, designs, examined, text)?;
     }
     text.push_str("\n").ok()
 }
@@ -135,44 +176,49 @@ fn tell_seats(
     inst: &Instance,
     table: &StepTable,
     paths: &Items<Path>,
+    small: Small,
     text: &mut String,
 ) -> Option<()>
     requires table { table.now ≡ inst.now }
     requires paths { ArePaths inst.now paths.now }
 {
-    for (seat, seats) in SEATS {
-        if seat >= seats {
+    for (seat, seats) in small.seats {
+        if *seat >= *seats {
             return None;
         }
-        write!(text, "triangle, seat {seat} of {seats}").ok()?;
-        tell_searches(alloc, inst, table, paths, seat, seats, text)?;
+        let mut designs = DesignSearch::new(*seat, *seats);
+        write!(text, "{}, seat {seat} of {seats}", small.name).ok()?;
+        tell_searches(alloc, inst, table, paths, &mut designs, text)?;
     }
     Some(())
 }
 
-/// Adds what is found for the triangle.
-fn tell_triangle(alloc: Global, inst: &Instance, text: &mut String) -> Option<()> {
-    let table = table_of(alloc, inst)?;
-    let paths = paths_of(alloc, inst, &DIRECT)?;
-    tell_seats(alloc, inst, &table, &paths, text)?;
-    text.push_str("triangle:").ok()?;
-    tell_completed(alloc, inst, &table, paths, text)
+/// Adds what these seats find for a network, and what is found from the cheapest design with its paths.
+fn tell_network(
+    alloc: Global,
+    inst: &Instance,
+    small: Small,
+    table: &StepTable,
+    text: &mut String,
+) -> Option<()>
+    requires { table.now ≡ inst.now }
+{
+    let paths = paths_of(alloc, inst, small.paths)?;
+    tell_seats(alloc, inst, table, &paths, small, text)?;
+    write!(text, "{}:", small.name).ok()?;
+    tell_completed(alloc, inst, table, paths, text)
 }
 
-/// Adds what is found for the pair.
-fn tell_pair(alloc: Global, inst: &Instance, text: &mut String) -> Option<()> {
-    let table = table_of(alloc, inst)?;
-    let paths = paths_of(alloc, inst, &FIRST_LINK)?;
-    text.push_str("pair:").ok()?;
-    tell_completed(alloc, inst, &table, paths, text)
+/// Adds the lines of a network.
+fn tell_lines(alloc: Global, inst: &Instance, small: Small, text: &mut String) -> Option<()> {
+    tell_network(alloc, inst, small, &table_of(alloc, inst)?, text)
 }
 
 /// Adds the lines of both networks.
 pub(crate) fn tell_small(alloc: Global, text: &mut String) -> Option<()> {
-    let mut networks = Vec::new(alloc);
-    for row in [TRIANGLE, PAIR] {
-        networks.push(network_of(alloc, row)?).ok()?;
+    for small in [TRIANGLE, PAIR] {
+        let networks = vec![in alloc; network_of(alloc, small.row)?].ok()?;
+        tell_lines(alloc, find(&networks, small.name)?, small, text)?;
     }
-    tell_triangle(alloc, find(&networks, "triangle")?, text)?;
-    tell_pair(alloc, find(&networks, "pair")?, text)
+    Some(())
 }

@@ -1,11 +1,12 @@
 //! The designs that searches begin with.
 
-ghost use Rattle.std.specs.Prelude.{◌≡◌, IfSome};
+ghost use Rattle.std.specs.Prelude.{◌≡◌, ◌<◌, length, IfSome};
+ghost use Rattle.least_path.specs.Paths.{AreWeights};
 ghost use Rattle.plan_base.specs.Designs.{IsGoodDesign};
 
 use least_path::{Room, are_weights};
 use link_steps::StepTable;
-use plan_base::{DemandId, Design, Instance, Items, LinkId, Path, check_design};
+use plan_base::{Demand, DemandId, Design, Instance, Items, LinkId, Path, check_design};
 use std::alloc::Global;
 
 /// The start price of its link for each arc.
@@ -13,10 +14,43 @@ fn start_weights(alloc: Global, table: &StepTable) -> Option<Vec<Option<u128>>> 
     let prices = table.start_prices(alloc).ok()?;
     let mut weights = Vec::new(alloc);
     for price in prices.as_slice() {
-        weights.push(Some(*price)).ok()?;
-        weights.push(Some(*price)).ok()?;
+        weights
+            .extend_from_slice(&[Some(*price), Some(*price)])
+            .ok()?;
     }
     Some(weights)
+}
+
+/// Adds a path of least weight for a demand.
+fn add_path(
+    room: &mut Room,
+    inst: &Instance,
+    weights: &[Option<u128>],
+    demand: DemandId,
+    paths: &mut Vec<Path>,
+) -> Option<()>
+    requires weights { AreWeights inst.now weights.now }
+    requires demand { demand.0 < length inst.now.demands }
+{
+    let Demand { source, target, .. } = *inst.demand(demand);
+    let _weight = room.search(inst, weights, source, target).ok()??;
+    let path = room.path().copy().ok()?;
+    paths.push(path).ok()
+}
+
+/// Adds a path of least weight for each demand, in order.
+fn add_paths(
+    room: &mut Room,
+    inst: &Instance,
+    weights: &[Option<u128>],
+    paths: &mut Vec<Path>,
+) -> Option<()>
+    requires { AreWeights inst.now weights.now }
+{
+    for place in 0..inst.demands() {
+        add_path(room, inst, weights, DemandId(place), paths)?;
+    }
+    Some(())
 }
 
 /// A path of least weight for each demand, in order.
@@ -26,12 +60,7 @@ fn least_paths(alloc: Global, inst: &Instance, weights: &[Option<u128>]) -> Opti
     }
     let mut room = Room::new(alloc, inst).ok()?;
     let mut paths = Vec::new(alloc);
-    for place in 0..inst.demands() {
-        let demand = inst.demand(DemandId(place));
-        let found = room.search(inst, weights, demand.source, demand.target);
-        let _weight = found.ok()??;
-        paths.push(room.path().copy().ok()?).ok()?;
-    }
+    add_paths(&mut room, inst, weights, &mut paths)?;
     Some(Items::from_vec(paths))
 }
 
@@ -47,14 +76,18 @@ fn full_counts(alloc: Global, inst: &Instance, table: &StepTable) -> Option<Item
     Some(Items::from_vec(counts))
 }
 
+/// A path of least weight for each demand at the start prices.
+fn start_paths(alloc: Global, inst: &Instance, table: &StepTable) -> Option<Items<Path>> {
+    least_paths(alloc, inst, &start_weights(alloc, table)?)
+}
+
 /// A dear design with the least paths at the start prices.
 pub(crate) fn start_design(alloc: Global, inst: &Instance, table: &StepTable) -> Option<Design>
     requires { table.now ≡ inst.now }
     ensures { IfSome result (IsGoodDesign inst.now) }
 {
-    let weights = start_weights(alloc, table)?;
     let design = Design {
-        paths: least_paths(alloc, inst, &weights)?,
+        paths: start_paths(alloc, inst, table)?,
         counts: full_counts(alloc, inst, table)?,
     };
     if check_design(inst, &design).is_err() {

@@ -113,19 +113,21 @@ fn both_agree(
     Some(value == found.old && gain == found.new)
 }
 
-/// Whether the value and the gain of the brief's prices are what the twin found. None where the brief does not fit.
+/// Whether the value and the gain of the brief's prices are what the twin found.
 pub(crate) fn are_values(
     alloc: Global,
     inst: &Instance,
     table: &StepTable,
     brief: &Brief,
     found: &Found,
-) -> Option<bool>
+) -> bool
     requires { table.now ≡ inst.now }
 {
     if !brief.fits(inst) {
-        return None;
+        return false;
     }
-    let pool = pool_of(alloc, inst, brief.columns.as_slice()).ok()?;
-    both_agree(alloc, inst, table, brief, &pool, found)
+    match pool_of(alloc, inst, brief.columns.as_slice()) {
+        Ok(pool) => both_agree(alloc, inst, table, brief, &pool, found) == Some(true),
+        Err(_) => false,
+    }
 }

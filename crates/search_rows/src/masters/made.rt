@@ -1,4 +1,4 @@
-//! Instances and briefs that are made from a number.
+//! Instances and briefs that are made from a number. None stands where memory is wanting.
 
 use column_pool::Brief;
 use plan_base::{
@@ -6,7 +6,7 @@ use plan_base::{
     Prices,
 };
 use row_draws::Draws;
-use std::alloc::{AllocError, Global};
+use std::alloc::Global;
 
 /// The ends of the links: three from a to b, three from b to c, two from a to c.
 const ENDS: [(u32, u32); 8] = [
@@ -20,16 +20,43 @@ const ENDS: [(u32, u32); 8] = [
     (0, 2),
 ];
 
-/// Up to two modules.
-fn made_modules(alloc: Global, draws: &mut Draws) -> Result<Items<Module>, AllocError> {
-    let mut modules = Vec::new(alloc);
-    for _module in 0..draws.below(3) {
-        modules.push(Module {
-            capacity: u64::from(draws.below(12)),
-            cost: u128::from(draws.below(40)),
-        })?;
+/// A module.
+fn made_module(draws: &mut Draws) -> Module {
+    Module {
+        capacity: u64::from(draws.below(12)),
+        cost: u128::from(draws.below(40)),
     }
-    Ok(Items::from_vec(modules))
+}
+
+/// Up to two modules.
+fn made_modules(alloc: Global, draws: &mut Draws) -> Option<Items<Module>> {
+    let mut modules = Vec::new(alloc);
+    for _ in 0..draws.below(3) {
+        modules.push(made_module(draws)).ok()?;
+    }
+    Some(Items::from_vec(modules))
+}
+
+/// A link between these nodes.
+fn made_link(alloc: Global, draws: &mut Draws, source: u32, target: u32) -> Option<Link> {
+    let pre = if draws.one_of(2) { draws.below(15) } else { 0 };
+    let routing = u64::from(draws.below(4));
+    Some(Link {
+        source: NodeId(source),
+        target: NodeId(target),
+        pre: u64::from(pre),
+        routing,
+        modules: made_modules(alloc, draws)?,
+    })
+}
+
+/// The links.
+fn made_links(alloc: Global, draws: &mut Draws) -> Option<Items<Link>> {
+    let mut links = Vec::new(alloc);
+    for (source, target) in ENDS {
+        links.push(made_link(alloc, draws, source, target)?).ok()?;
+    }
+    Some(Items::from_vec(links))
 }
 
 /// A demand from a to b or to c.
@@ -41,89 +68,82 @@ fn made_demand(draws: &mut Draws) -> Demand {
     }
 }
 
-/// The parts of an instance.
-pub(crate) fn made_parts(alloc: Global, draws: &mut Draws) -> Result<Parts, AllocError> {
-    let mut links = Vec::new(alloc);
-    for (source, target) in ENDS {
-        let pre = if draws.one_of(2) { draws.below(15) } else { 0 };
-        links.push(Link {
-            source: NodeId(source),
-            target: NodeId(target),
-            pre: u64::from(pre),
-            routing: u64::from(draws.below(4)),
-            modules: made_modules(alloc, draws)?,
-        })?;
-    }
+/// Up to five demands.
+fn made_demands(alloc: Global, draws: &mut Draws) -> Option<Items<Demand>> {
     let mut demands = Vec::new(alloc);
-    for _demand in 0..1 + draws.below(5) {
-        demands.push(made_demand(draws))?;
+    for _ in 0..1 + draws.below(5) {
+        demands.push(made_demand(draws)).ok()?;
     }
-    Ok(Parts {
+    Some(Items::from_vec(demands))
+}
+
+/// An instance.
+pub(crate) fn made_instance(alloc: Global, draws: &mut Draws) -> Option<Instance> {
+    let parts = Parts {
         orient: Orient::Undirected,
         nodes: 3,
-        links: Items::from_vec(links),
-        demands: Items::from_vec(demands),
-    })
+        links: made_links(alloc, draws)?,
+        demands: made_demands(alloc, draws)?,
+    };
+    Instance::build(alloc, parts).ok()
 }
 
 /// A simple path to b or to c: straight, or over the third node.
-fn made_path(alloc: Global, draws: &mut Draws, target: NodeId) -> Result<Path, AllocError> {
-    let first = 2 * draws.below(3);
+fn made_path(alloc: Global, draws: &mut Draws, target: NodeId) -> Option<Path> {
+    let first = ArcId(2 * draws.below(3));
     let middle = 6 + 2 * draws.below(3);
-    let long = 12 + 2 * draws.below(2);
-    let mut arcs = Vec::new(alloc);
-    if target == NodeId(1) {
-        if draws.one_of(2) {
-            arcs.push(ArcId(first))?;
-        } else {
-            arcs.push(ArcId(long))?;
-            arcs.push(ArcId(middle + 1))?;
-        }
-    } else if draws.one_of(2) {
-        arcs.push(ArcId(long))?;
+    let long = ArcId(12 + 2 * draws.below(2));
+    let (straight, over_third) = if target == NodeId(1) {
+        (first, [long, ArcId(middle + 1)])
     } else {
-        arcs.push(ArcId(first))?;
-        arcs.push(ArcId(middle))?;
-    }
-    Ok(Path::from_vec(arcs))
+        (long, [first, ArcId(middle)])
+    };
+    let arcs = if draws.one_of(2) {
+        Vec::from_slice(alloc, &[straight])
+    } else {
+        Vec::from_slice(alloc, &over_third)
+    };
+    Some(Path::from_vec(arcs.ok()?))
 }
 
 /// Up to six columns of a demand, each once.
-fn made_columns(
-    alloc: Global,
-    draws: &mut Draws,
-    target: NodeId,
-) -> Result<Items<Path>, AllocError> {
+fn made_columns(alloc: Global, draws: &mut Draws, target: NodeId) -> Option<Items<Path>> {
     let mut paths: Vec<Path> = Vec::new(alloc);
-    for _path in 0..1 + draws.below(6) {
+    for _ in 0..1 + draws.below(6) {
         let path = made_path(alloc, draws, target)?;
         if !paths.as_slice().contains(&path) {
-            paths.push(path)?;
+            paths.push(path).ok()?;
         }
     }
-    Ok(Items::from_vec(paths))
+    Some(Items::from_vec(paths))
 }
 
-/// A brief of the instance.
-pub(crate) fn made_brief(
-    alloc: Global,
-    inst: &Instance,
-    draws: &mut Draws,
-) -> Result<Brief, AllocError> {
+/// Prices below 9,000.
+fn made_prices(alloc: Global, draws: &mut Draws, links: u32) -> Option<Prices> {
     let mut prices = Vec::new(alloc);
-    for _link in 0..inst.links() {
-        prices.push(u128::from(draws.below(9_000)))?;
+    for _ in 0..links {
+        prices.push(u128::from(draws.below(9_000))).ok()?;
     }
+    Some(Prices::from_vec(prices))
+}
+
+/// Columns of each demand.
+fn all_columns(alloc: Global, draws: &mut Draws, inst: &Instance) -> Option<Items<Items<Path>>> {
     let mut columns = Vec::new(alloc);
     for place in 0..inst.demands() {
         let target = inst.demand(DemandId(place)).target;
-        columns.push(made_columns(alloc, draws, target)?)?;
+        columns.push(made_columns(alloc, draws, target)?).ok()?;
     }
-    Ok(Brief {
+    Some(Items::from_vec(columns))
+}
+
+/// A brief of the instance.
+pub(crate) fn made_brief(alloc: Global, inst: &Instance, draws: &mut Draws) -> Option<Brief> {
+    Some(Brief {
         node: BranchId(0),
         version: 1,
-        prices: Prices::from_vec(prices),
-        columns: Items::from_vec(columns),
+        prices: made_prices(alloc, draws, inst.links())?,
+        columns: all_columns(alloc, draws, inst)?,
         crowd_tried: false,
         incumbent: None,
     })

@@ -1,64 +1,69 @@
 //! The two links between a and b of docs/METHOD.md, "Master step", which that section works out by hand.
 
-ghost use Rattle.std.specs.Prelude.{◌≡◌};
-
 use column_pool::Brief;
-use link_steps::StepTable;
 use master_step::{Step, advance, best_step, crowd_prices};
 use plan_base::{
     ArcId, BranchId, Demand, Instance, Items, Link, Module, NodeId, Orient, Parts, Path, Prices,
 };
-use std::alloc::{AllocError, Global};
+use row_networks::table_of;
+use std::alloc::Global;
 
 /// A link from a to b.
-fn link_of(alloc: Global, pre: u64, routing: u64, modules: &[Module]) -> Result<Link, AllocError> {
-    Ok(Link {
+fn link_of(alloc: Global, pre: u64, routing: u64, modules: &[Module]) -> Option<Link> {
+    Some(Link {
         source: NodeId(0),
         target: NodeId(1),
         pre,
         routing,
-        modules: Items::from_vec(Vec::from_slice(alloc, modules)?),
+        modules: Items::from_vec(Vec::from_slice(alloc, modules).ok()?),
     })
 }
 
-/// A link of capacity 10 at a routing cost of 1, with these modules, and one of 100 at 3; two demands of 10.
-pub(crate) fn two_links(alloc: Global, modules: &[Module]) -> Result<Parts, AllocError> {
+/// A link of capacity 10 at a routing cost of 1, with these modules, and one of 100 at 3.
+fn links_of(alloc: Global, modules: &[Module]) -> Option<Items<Link>> {
+    let links = vec![in alloc;
+        link_of(alloc, 10_000_000, 1_000_000, modules)?,
+        link_of(alloc, 100_000_000, 3_000_000, &[])?,
+    ];
+    Some(Items::from_vec(links.ok()?))
+}
+
+/// The two links, with these modules on the first, and two demands of 10.
+fn two_links(alloc: Global, modules: &[Module]) -> Option<Instance> {
     let demand = Demand {
         source: NodeId(0),
         target: NodeId(1),
         load: 10_000_000,
     };
-    let links = vec![in alloc;
-        link_of(alloc, 10_000_000, 1_000_000, modules)?,
-        link_of(alloc, 100_000_000, 3_000_000, &[])?,
-    ]?;
-    Ok(Parts {
+    let parts = Parts {
         orient: Orient::Undirected,
         nodes: 2,
-        links: Items::from_vec(links),
-        demands: Items::from_vec(vec![in alloc; demand, demand]?),
-    })
+        links: links_of(alloc, modules)?,
+        demands: Items::from_vec(vec![in alloc; demand, demand].ok()?),
+    };
+    Instance::build(alloc, parts).ok()
 }
 
 /// The start prices.
-fn start_prices(alloc: Global) -> Result<Prices, AllocError> {
-    Ok(Prices::from_vec(vec![in alloc; 1_000_000_000, 3_000_000_000]?))
+fn start_prices(alloc: Global) -> Option<Prices> {
+    let prices = vec![in alloc; 1_000_000_000, 3_000_000_000];
+    Some(Prices::from_vec(prices.ok()?))
 }
 
 /// The path along the first link, as the only column of a demand.
-fn first_link(alloc: Global) -> Result<Items<Path>, AllocError> {
-    let path = Path::from_vec(vec![in alloc; ArcId(0)]?);
-    Ok(Items::from_vec(vec![in alloc; path]?))
+fn first_link(alloc: Global) -> Option<Items<Path>> {
+    let path = Path::from_vec(vec![in alloc; ArcId(0)].ok()?);
+    Some(Items::from_vec(vec![in alloc; path].ok()?))
 }
 
 /// Start prices, and the first link as the only column of each demand.
-fn brief_of(alloc: Global) -> Result<Brief, AllocError> {
-    let columns = vec![in alloc; first_link(alloc)?, first_link(alloc)?]?;
-    Ok(Brief {
+fn brief_of(alloc: Global) -> Option<Brief> {
+    let columns = vec![in alloc; first_link(alloc)?, first_link(alloc)?];
+    Some(Brief {
         node: BranchId(0),
         version: 1,
         prices: start_prices(alloc)?,
-        columns: Items::from_vec(columns),
+        columns: Items::from_vec(columns.ok()?),
         crowd_tried: false,
         incumbent: None,
     })
@@ -74,35 +79,57 @@ fn raises(step: &Step, wanted: &[u128], value: i128) -> bool {
     }
 }
 
-/// Whether the step, and the better of it and an ascent, are as worked out. None where memory is wanting.
-pub(crate) fn has_steps(alloc: Global, inst: &Instance, table: &StepTable) -> Option<bool>
-    requires { table.now ≡ inst.now }
-{
-    let brief = brief_of(alloc).ok()?;
+/// The step of a brief, or the better of it and an ascent. None where the brief does not fit, and where memory is wanting.
+fn step_of(alloc: Global, inst: &Instance, brief: &Brief, is_best: bool) -> Option<Step> {
+    let table = table_of(alloc, inst)?;
     if !brief.fits(inst) {
         return None;
     }
-    let step = advance(alloc, inst, table, &brief).ok()?;
-    let best = best_step(alloc, inst, table, &brief).ok()?;
+    if is_best {
+        return best_step(alloc, inst, &table, brief).ok();
+    }
+    advance(alloc, inst, &table, brief).ok()
+}
+
+/// Whether the step, and the better of it and an ascent, are as worked out.
+fn has_steps(alloc: Global, inst: &Instance) -> Option<bool> {
+    let brief = brief_of(alloc)?;
+    let step = step_of(alloc, inst, &brief, false)?;
+    let best = step_of(alloc, inst, &brief, true)?;
+    let prices = [4_000_000_000, 3_000_000_000];
+    let best_prices = [12_288_000_000_000, 3_000_000_000];
     Some(
-        raises(
-            &step,
-            &[4_000_000_000, 3_000_000_000],
-            50_000_000_000_000_000,
-        ) && raises(
-            &best,
-            &[12_288_000_000_000, 3_000_000_000],
-            122_890_000_000_000_000_000,
-        ),
+        raises(&step, &prices, 50_000_000_000_000_000)
+            && raises(&best, &best_prices, 122_890_000_000_000_000_000),
     )
 }
 
-/// Whether these are the crowd prices of the start prices. None where memory is wanting.
-pub(crate) fn has_crowd(alloc: Global, inst: &Instance, wanted: &[u128]) -> Option<bool> {
-    let prices = start_prices(alloc).ok()?;
+/// The crowd prices of the start prices.
+fn crowd_of(alloc: Global, inst: &Instance) -> Option<Prices> {
+    let prices = start_prices(alloc)?;
     if !prices.fits(inst) {
         return None;
     }
-    let crowd = crowd_prices(alloc, inst, &prices).ok()?;
+    crowd_prices(alloc, inst, &prices).ok()
+}
+
+/// Whether two links with these modules on the first have these crowd prices.
+fn has_crowd(alloc: Global, modules: &[Module], wanted: &[u128]) -> Option<bool> {
+    let inst = two_links(alloc, modules)?;
+    let crowd = crowd_of(alloc, &inst)?;
     Some(crowd.as_slice() == wanted)
+}
+
+/// Whether the two links come out as worked out, with no module and with one on the first. None where memory is wanting.
+pub(crate) fn are_as_worked_out(alloc: Global) -> Option<bool> {
+    let module = Module {
+        capacity: 1,
+        cost: 1,
+    };
+    let inst = two_links(alloc, &[])?;
+    Some(
+        has_steps(alloc, &inst)?
+            && has_crowd(alloc, &[], &[1_000_000_000, 3_000_000_000])?
+            && has_crowd(alloc, &[module], &[0, 3_000_000_000])?,
+    )
 }
