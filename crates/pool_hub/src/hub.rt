@@ -109,6 +109,28 @@ fn merged<N: Naming>(mut seats: Vec<Seat<N>>) -> Share<N>
     all
 }
 
+/// A seat for each worker, and the instance and the step table of the pool, shared.
+fn seats_beside<N: Naming>(
+    alloc: Global,
+    pool: &Pool,
+    all: Share<N>,
+    workers: u32,
+    readers: Vec<BoardReader>,
+) -> Result<(Vec<Seat<N>>, Arc<Instance>, Arc<StepTable>), AllocError>
+    requires few { workers ≤ MAX_WORKERS }
+    requires readers { length readers.items ≡ workers }
+    requires all { (all.parts ≡ workers) × (all.amount ≡ 0) }
+    ensures count { IfOk result (λ made. length made.0.items ≡ workers) }
+    ensures booked { IfOk result (λ made. sum_by (λ s. s.share.amount) made.0.items ≡ 0) }
+    ensures problem { IfOk result (λ made. arc_value made.1 ≡ pool.now.problem) }
+    ensures table { IfOk result (λ made. arc_value made.2 ≡ pool.now.problem) }
+{
+    let problem = pool.instance().clone()?;
+    let table = pool.table().clone()?;
+    let seats = seats_of(alloc, all, workers, readers)?;
+    Ok((seats, problem, table))
+}
+
 impl<N: Naming, R: Wait + Drop> Hub<N, R> {
     /// A hub for a pool, and a seat for each worker.
     ///
@@ -137,20 +159,25 @@ impl<N: Naming, R: Wait + Drop> Hub<N, R> {
         ensures booked { IfOk result (λ made. sum_by (λ s. s.share.amount) made.1.items ≡ 0) }
     {
         let (offers, all) = blank.open::<N>();
-        let seats = seats_of(alloc, all, workers, readers)?;
-        let problem = pool.instance().clone()?;
-        let table = pool.table().clone()?;
-        let kept = Mutex::new(Kept {
+        let (seats, problem, table) = seats_beside(alloc, &pool, all, workers, readers)?;
+        let kept = Kept {
             pool,
             board: writer,
             offers,
-        });
-        let hub = Hub {
-            kept,
+        };
+        Ok((Hub::of(kept, problem, table), seats))
+    }
+
+    /// What is kept, behind a lock, and what is shared beside it.
+    fn of(kept: Kept<N, R>, problem: Arc<Instance>, table: Arc<StepTable>) -> Hub<N, R>
+        requires problem { arc_value problem ≡ N.problem }
+        requires table { arc_value table ≡ N.problem }
+    {
+        Hub {
+            kept: Mutex::new(kept),
             problem,
             table,
-        };
-        Ok((hub, seats))
+        }
     }
 
     /// What may be done next.

@@ -1,6 +1,6 @@
 //! What lies under the lock.
 
-ghost use Rattle.std.specs.Prelude.{◌≡◌, ◌+◌, ◌<◌, ◌↔◌, true, [], length, IfOk, OnErr, IfSome, IsSome, slice_get};
+ghost use Rattle.std.specs.Prelude.{◌≡◌, ◌+◌, ◌<◌, ◌↔◌, ◌∷◌, true, [], length, IfOk, OnOk, OnErr, IfSome, IsSome, slice_get};
 ghost use Rattle.std.specs.Arc.{arc_value};
 ghost use Rattle.arc_restrict.specs.Rows.{forbids};
 ghost use Rattle.dual_versions.specs.Boards.{Begins};
@@ -50,6 +50,30 @@ pub struct Kept<N: Naming, R: Wait + Drop> {
     ghost slots: { board.slots ≡ MAX_ROUNDS },
     ghost prices: { board.prices ≡ length N.problem.links },
     ghost none_pending: { board.pending ≡ [] },
+}
+
+/// Makes the entry of a version of a node pending on a board on which nothing else is, and gives a copy of it.
+fn put_entry<R: Wait + Drop>(
+    board: &mut BoardWriter<R>,
+    slot: u32,
+    node: BranchId,
+    version: u64,
+    prices: &Prices,
+) -> Result<Published, AllocError>
+    requires slot { slot < board.old.slots }
+    requires prices { length prices.now ≡ board.old.prices }
+    requires none_pending { board.old.pending ≡ [] }
+    ensures entry { IfOk result (λ shown. shown ≡ entry_for node version prices.now) }
+    ensures pending { OnOk result (board.new ≡ record board.old { pending = (slot, entry_for node version prices.now) ∷ [] }) }
+    ensures kept { OnErr result (board.new ≡ board.old) }
+{
+    let shown = Published {
+        node,
+        version,
+        prices: prices.copy()?,
+    };
+    board.put(slot, shown.copy()?)?;
+    Ok(shown)
 }
 
 impl<N: Naming, R: Wait + Drop> Kept<N, R> {
@@ -128,12 +152,7 @@ impl<N: Naming, R: Wait + Drop> Kept<N, R> {
         let Some(prices) = self.pool.first_prices(node) else {
             unreachable!()
         };
-        let shown = Published {
-            node,
-            version: opened.version,
-            prices: prices.copy()?,
-        };
-        self.board.put(opened.slot, shown.copy()?)?;
+        let shown = put_entry(&mut self.board, opened.slot, node, opened.version, prices)?;
         let answer = self.pool.open_round(node);
         self.board.show();
         reader.reach(rt, opened.slot, &shown);
@@ -191,12 +210,7 @@ impl<N: Naming, R: Wait + Drop> Kept<N, R> {
             Ok(next) => next,
             Err(refusal) => return Ok(refusal),
         };
-        let shown = Published {
-            node,
-            version: next.version,
-            prices: prices.copy()?,
-        };
-        self.board.put(next.slot, shown.copy()?)?;
+        let shown = put_entry(&mut self.board, next.slot, node, next.version, prices)?;
         self.pool.publish_following(node, seen, prices, next);
         self.board.show();
         reader.reach(rt, next.slot, &shown);

@@ -121,6 +121,21 @@ fn go_on<N: Naming, R: Wait + Drop, W: Wait>(
     }
 }
 
+/// Tells the bench of the cheapest design of all workers.
+fn learn_best<N: Naming, R: Wait + Drop, W: Wait>(
+    rt: &W,
+    hub: &Hub<N, R>,
+    seat: &mut Seat<N>,
+    bench: &mut Bench<N>,
+) -> Result<(), AllocError>
+    ensures { seat.new ≡ seat.old }
+{
+    match hub.best_design(rt, seat)? {
+        Some(best) => bench.learn(&*hub.problem, &best),
+        None => Ok(()),
+    }
+}
+
 /// Searches for a design, where one is due, and hands it in. A search that begins with a design begins with the cheapest
 /// one of all workers.
 fn seek_design<N: Naming, R: Wait + Drop, W: Wait>(
@@ -135,9 +150,7 @@ fn seek_design<N: Naming, R: Wait + Drop, W: Wait>(
     if !bench.is_design_due(told) {
         return Ok(());
     }
-    if let Some(best) = hub.best_design(rt, seat)? {
-        bench.learn(&*hub.problem, &best)?;
-    }
+    learn_best(rt, hub, seat, bench)?;
     if let Some(design) = bench.design(&*hub.problem, &*hub.table, told)? {
         let _answer = hub.better(rt, seat, design);
     }
@@ -201,6 +214,32 @@ fn do_task<N: Naming, R: Wait + Drop, W: Wait>(
     }
 }
 
+/// Does tasks on a bench until none is left.
+fn do_tasks<N: Naming, R: Wait + Drop, W: Wait, G: Gate>(
+    rt: &W,
+    alloc: Global,
+    hub: &Hub<N, R>,
+    seat: &mut Seat<N>,
+    bench: &mut Bench<N>,
+    gate: &G,
+) -> Result<(), AllocError>
+    ensures done { OnOk result (HasState N.problem N.budget (λ s. is_done s ≡ true)) }
+    ensures number { seat.new.number ≡ seat.old.number }
+{
+    let mut turn: u64 = 0;
+    for _ in rt.forever() {
+        let (task, standing) = hub.standing_task(rt, seat);
+        if let Task::Done = task {
+            return Ok(());
+        }
+        gate.pass(seat.number(), turn);
+        gate.stand(standing);
+        turn = turn.saturating_add(1);
+        do_task(rt, alloc, hub, seat, bench, task)?;
+    }
+    unreachable!()
+}
+
 /// Does tasks until none is left: until the budget of the search is spent or no leaf is open.
 ///
 /// - Takes: a hub, a seat of it, and a gate, which is passed between the taking of a task and its work.
@@ -216,16 +255,5 @@ pub fn work<N: Naming, R: Wait + Drop, W: Wait, G: Gate>(
     ensures number { seat.new.number ≡ seat.old.number }
 {
     let mut bench = Bench::new(alloc, seat.number(), seat.workers());
-    let mut turn: u64 = 0;
-    for _ in rt.forever() {
-        let (task, standing) = hub.standing_task(rt, seat);
-        if let Task::Done = task {
-            return Ok(());
-        }
-        gate.pass(seat.number(), turn);
-        gate.stand(standing);
-        turn = turn.saturating_add(1);
-        do_task(rt, alloc, hub, seat, &mut bench, task)?;
-    }
-    unreachable!()
+    do_tasks(rt, alloc, hub, seat, &mut bench, gate)
 }
