@@ -40,3 +40,7 @@ begins_refl a = ([], sym (append-nil a))
 pub later_begins : (a b c : List Entries) → Begins a b → (c ≡ b) ⊎ Sees b c → Begins a c
 later_begins a b c p (inl same) = subst (Begins a) (sym same) p
 later_begins a b c p (inr seen) = begins_trans a b c p seen.1
+
+-- what was seen later is seen from the beginning
+pub sees_later : (a b c : List Entries) → Begins a b → Sees b c → Sees a c
+sees_later a b c p seen = (seen.0, begins_trans a b c p seen.1)
