@@ -5,14 +5,12 @@
 
 mod answers;
 mod designs;
-mod networks;
 mod offers;
 mod pools;
 mod words;
 
-pub(crate) use answers::{tell_gathered, tell_published, tell_restriction};
+pub(crate) use answers::{tell_answer, tell_gathered, tell_published, tell_restriction};
 pub(crate) use designs::design_of;
-pub(crate) use networks::keep_network;
 pub(crate) use offers::offer_of;
 pub(crate) use pools::pool_of;
-pub(crate) use words::{node_of, raise_of, round_of};
+pub(crate) use words::{first_number, node_of, raise_of, round_of};

@@ -4,75 +4,70 @@
 //! calls, each by one seat, and ends with the plan of the pool that the ended hub gives; or it begins with a board and its
 //! readers. What the pool alone answers to a call stands in `pools`, and that workers run at once in `run_rows`. To add a
 //! call, write it there in the form that the head of the file explains, and its answer, worked out by hand, at the same
-//! place of the file `stdout`. Begin at `tell_rows`.
+//! place of the file `stdout`. Begin at `tell_dialogue`.
 
 mod boards;
 mod calls;
 mod turns;
 
-use crate::calling::keep_network;
-use anyhow::{Result, bail};
-use row_networks::Network;
+use row_networks::{Network, network_of};
 use std::alloc::Global;
-use std::io::Write;
 use std::sync::Wait;
 
 /// Holds the dialogue of these rows, and adds them and their answers. None where a row is none, and where memory is wanting;
 /// the last row that was added is then the one without an answer.
-fn tell_rows<R: Wait>(
+fn tell_dialogue<R: Wait>(
     rt: &R,
     alloc: Global,
     networks: &[Network],
     rows: &[&str],
     text: &mut String,
 ) -> Option<()> {
-    let first = rows.first()?;
-    if first.starts_with("board ") {
-        boards::tell_dialogue(rt, alloc, rows, text)
-    } else {
-        turns::tell_dialogue(rt, alloc, networks, rows, text)
+    let [first, calls @ .., _end] = rows else {
+        return None;
+    };
+    write!(text, "{first}:\n").ok()?;
+    let (kind, words) = first.split_once(' ')?;
+    match kind {
+        "hub" => turns::tell_dialogue(rt, alloc, networks, words, calls, text),
+        "board" => boards::tell_dialogue(rt, alloc, words, calls, text),
+        _ => None,
     }
 }
 
-/// Keeps the network of a row, or a row of a dialogue. With the last row of it the dialogue is held, and its rows and
-/// their answers are written.
-fn take_row<'a, R: Wait, W: Write>(
+/// Keeps the network of a row, or a row of a dialogue. With the last row of it the dialogue is held.
+fn take_row<'a, R: Wait>(
     rt: &R,
     alloc: Global,
     networks: &mut Vec<Network>,
     rows: &mut Vec<&'a str>,
     row: &'a str,
-    out: &mut W,
-) -> Result<()> {
-    if keep_network(alloc, networks, row)? {
-        return Ok(());
+    text: &mut String,
+) -> Option<()> {
+    if let Some(rest) = row.strip_prefix("network ") {
+        return networks.push(network_of(alloc, rest)?).ok();
     }
-    rows.push(row)?;
+    rows.push(row).ok()?;
     if row == "end" {
-        let mut text = String::new(alloc);
-        let told = tell_rows(rt, alloc, networks.as_slice(), rows.as_slice(), &mut text);
-        out.write_all(text.as_bytes())?;
-        if told.is_none() {
-            bail!("no answer")
-        }
+        tell_dialogue(rt, alloc, networks.as_slice(), rows.as_slice(), text)?;
         rows.clear();
     }
-    Ok(())
+    Some(())
 }
 
 /// Holds the dialogues of this file.
-pub(crate) fn write_rows<R: Wait, W: Write>(
+pub(crate) fn tell_rows<R: Wait>(
     rt: &R,
     alloc: Global,
     file: &str,
-    out: &mut W,
-) -> Result<()> {
+    text: &mut String,
+) -> Option<()> {
     let mut networks = Vec::new(alloc);
     let mut rows = Vec::new(alloc);
     for row in file.lines() {
         if !row.is_empty() && !row.starts_with('#') {
-            take_row(rt, alloc, &mut networks, &mut rows, row, out)?;
+            take_row(rt, alloc, &mut networks, &mut rows, row, text)?;
         }
     }
-    Ok(())
+    Some(())
 }

@@ -12,6 +12,10 @@ mod hubs;
 mod pools;
 
 use anyhow::{Context, Result};
+use std::alloc::Global;
+use std::io::Write;
+use std::sync::Wait;
+use std::thread::Threads;
 use std::{env, fs, io};
 
 /// The text of the file that the word of this place names.
@@ -21,9 +25,25 @@ fn file_of(rt: &HostRuntime, place: usize) -> Result<String> {
     Ok(fs::read_to_string(rt, name.as_str())?)
 }
 
+/// Adds the rows of both files and their answers, and what is told of decks. None where a row is none, and where memory is
+/// wanting; the last row that was added is then the one without an answer.
+fn tell_all<R: Threads + Wait + Sync>(
+    rt: &R,
+    alloc: Global,
+    pools: &str,
+    hubs: &str,
+    text: &mut String,
+) -> Option<()> {
+    pools::tell_rows(alloc, pools, text)?;
+    hubs::tell_rows(rt, alloc, hubs, text)?;
+    decks::tell_all(rt, alloc, text)
+}
+
 fn main(rt: HostRuntime) -> Result<()> {
-    let mut out = io::writer(&rt);
-    pools::write_rows(rt.alloc(), file_of(&rt, 1)?.as_str(), &mut out)?;
-    hubs::write_rows(&rt, rt.alloc(), file_of(&rt, 2)?.as_str(), &mut out)?;
-    decks::write_all(&rt, rt.alloc(), &mut out)
+    let pools = file_of(&rt, 1)?;
+    let hubs = file_of(&rt, 2)?;
+    let mut text = String::new(rt.alloc());
+    let told = tell_all(&rt, rt.alloc(), pools.as_str(), hubs.as_str(), &mut text);
+    io::writer(&rt).write_all(text.as_bytes())?;
+    told.context("no answer behind the last row")
 }

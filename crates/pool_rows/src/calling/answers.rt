@@ -1,24 +1,32 @@
-//! Answers that are longer than their names.
+//! Answers, each behind a blank.
 
 use arc_restrict::Restriction;
 use dual_versions::Published;
-use plan_base::{ArcId, DemandId, Instance};
+use plan_base::{ArcId, DemandId};
 use pool_core::Gather;
+use std::fmt::Debug;
+
+/// Adds an answer by its name.
+///
+/// - Gives: None where memory is wanting.
+pub(crate) fn tell_answer<A: Debug + Drop>(answer: A, text: &mut String) -> Option<()> {
+    write!(text, " {answer:?}").ok()
+}
 
 /// Adds the refusal of a gathering, or that a master step would be told of the paths.
 ///
 /// - Gives: None where memory is wanting.
-pub(crate) fn tell_gathered(gathered: &Gather, text: &mut String) -> Option<()> {
+pub(crate) fn tell_gathered(gathered: Gather, text: &mut String) -> Option<()> {
     match gathered {
         Gather::Taken(_brief) => text.push_str(" Taken").ok(),
-        refusal => write!(text, " {refusal:?}").ok(),
+        refusal => tell_answer(refusal, text),
     }
 }
 
 /// Adds the node, the version and the prices of the round in a slot, or that the slot is free.
 ///
 /// - Gives: None where memory is wanting.
-pub(crate) fn tell_published(published: Option<&Published>, text: &mut String) -> Option<()> {
+pub(crate) fn tell_published(published: Option<Published>, text: &mut String) -> Option<()> {
     match published {
         Some(published) => write!(
             text,
@@ -32,17 +40,18 @@ pub(crate) fn tell_published(published: Option<&Published>, text: &mut String) -
     }
 }
 
-/// Adds which arcs are forbidden, each as its demand and its number.
+/// Adds which arcs of so many demands and links are forbidden, each as its demand and its number.
 ///
 /// - Gives: None where memory is wanting.
 pub(crate) fn tell_restriction(
-    inst: &Instance,
+    demands: u32,
+    links: u32,
     rows: &Restriction,
     text: &mut String,
 ) -> Option<()> {
     text.push_str(" forbidden").ok()?;
-    for demand in 0..inst.demands() {
-        for arc in 0..inst.links().saturating_mul(2) {
+    for demand in 0..demands {
+        for arc in 0..links.saturating_mul(2) {
             if !rows.allows(DemandId(demand), ArcId(arc)) {
                 write!(text, " {demand}:{arc}").ok()?;
             }

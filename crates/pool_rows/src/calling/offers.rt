@@ -1,8 +1,8 @@
 //! What was found for a demand.
 
-use super::words::node_of;
+use super::words::first_number;
 use path_pricing::Priced;
-use plan_base::{DemandId, Items};
+use plan_base::{BranchId, DemandId, Items};
 use pool_core::Offer;
 use row_networks::{list_of, path_of, prices_of};
 use std::alloc::Global;
@@ -45,13 +45,12 @@ fn found_of(alloc: Global, words: &str) -> Option<Priced> {
 ///   thousandths of a cost grain per load grain.
 /// - Gives: None where the words have neither form, and where memory is wanting.
 pub(crate) fn offer_of(alloc: Global, words: &str) -> Option<Offer> {
-    let (node, words) = words.split_once(' ')?;
-    let (version, words) = words.split_once(' ')?;
-    let (demand, words) = words.split_once(' ')?;
-    let demand = demand.parse::<u32>().ok()?;
+    let (node, words) = first_number(words)?;
+    let (version, words) = first_number(words)?;
+    let (demand, words) = first_number(words)?;
     Some(Offer {
-        node: node_of(node)?,
-        version: version.parse::<u64>().ok()?,
+        node: BranchId(node),
+        version: u64::from(version),
         demand: DemandId(demand),
         found: found_of(alloc, words)?,
     })

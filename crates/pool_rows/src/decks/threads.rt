@@ -7,10 +7,8 @@ ghost use Rattle.block_deques.specs.declared.block.Block.{Block as AnyBlock};
 ghost use Rattle.block_deques.specs.declared.deck.Deck.{Deck as AnyDeck};
 
 use super::calls::{put_demands, steal_from};
-use anyhow::{Result, ensure};
 use block_deques::{Block, Deck, decks, gather_decks};
 use std::alloc::{AllocError, Global};
-use std::io::Write;
 use std::sync::Wait;
 use std::thread;
 use std::thread::Threads;
@@ -128,22 +126,28 @@ fn take_back(
     Ok(all)
 }
 
-/// Lets the threads work, and writes how many blocks they put, where each is found once.
-pub(crate) fn write_threads<R: Threads + Wait + Sync, W: Write>(
-    rt: &R,
-    alloc: Global,
-    out: &mut W,
-) -> Result<()> {
+/// The blocks that the threads put, each at its deck and index: how often it is found.
+fn found_blocks<R: Threads + Wait + Sync>(rt: &R, alloc: Global) -> Result<Vec<u8>, AllocError> {
     let all = decks(alloc, DECKS)?;
     let worked = work_all(rt, alloc, all)?;
     let mut found = vec![in alloc; 0u8; BLOCKS as usize]?;
     let all = take_back(alloc, worked, &mut found)?;
     let left = gather_decks(alloc, all)?;
     count_blocks(&mut found, &left);
-    ensure!(
-        found.iter().all(|times| *times == 1),
-        "a block is lost, or found twice"
-    );
-    writeln!(out, "{BLOCKS} blocks of {DECKS} threads, each found once")?;
-    Ok(())
+    Ok(found)
+}
+
+/// Lets the threads work, and adds how many blocks they put, and whether each is found once.
+pub(crate) fn tell_threads<R: Threads + Wait + Sync>(
+    rt: &R,
+    alloc: Global,
+    text: &mut String,
+) -> Option<()> {
+    let found = found_blocks(rt, alloc).ok()?;
+    let how_often = if found.iter().all(|times| *times == 1) {
+        "each found once"
+    } else {
+        "some lost, or found twice"
+    };
+    write!(text, "{BLOCKS} blocks of {DECKS} threads, {how_often}\n").ok()
 }

@@ -5,10 +5,8 @@ ghost use Rattle.block_deques.specs.Decks.{IsSameDeck};
 ghost use Rattle.block_deques.specs.Wholes.{AreOneMaking};
 
 use super::calls::{put_demands, steal_from};
-use anyhow::{Result, bail};
 use block_deques::{Block, Deck, decks, gather_decks};
 use std::alloc::{AllocError, Global};
-use std::io::Write;
 use std::sync::Wait;
 
 /// The two decks of one making.
@@ -33,76 +31,68 @@ fn gather_two(alloc: Global, zero: Deck, one: Deck) -> Result<Vec<Block>, AllocE
     gather_decks(alloc, all)
 }
 
-/// Puts a block, and writes its index.
-fn write_put<W: Write>(deck: &mut Deck, first: u32, count: u32, out: &mut W) -> Result<()>
+/// Puts a block, and adds its index.
+fn tell_put(deck: &mut Deck, first: u32, count: u32, text: &mut String) -> Option<()>
     ensures { IsSameDeck deck.old deck.new }
 {
-    let index = put_demands(deck, first, count)?;
-    writeln!(out, "put {first} {count}: {index}")?;
-    Ok(())
+    let index = put_demands(deck, first, count).ok()?;
+    write!(text, "put {first} {count}: {index}\n").ok()
 }
 
-/// Pops a block, and writes it.
-fn write_pop<W: Write>(deck: &mut Deck, out: &mut W) -> Result<()>
+/// Pops a block, and adds it.
+fn tell_pop(deck: &mut Deck, text: &mut String) -> Option<()>
     ensures { IsSameDeck deck.old deck.new }
 {
     let block = deck.pop();
-    writeln!(out, "pop: {block:?}")?;
-    Ok(())
+    write!(text, "pop: {block:?}\n").ok()
 }
 
-/// Steals a block from deck 0, and writes it.
-fn write_steal<R: Wait, W: Write>(rt: &R, deck: &mut Deck, out: &mut W) -> Result<()>
+/// Steals a block from deck 0, and adds it.
+fn tell_steal<R: Wait>(rt: &R, deck: &mut Deck, text: &mut String) -> Option<()>
     ensures { IsSameDeck deck.old deck.new }
 {
     let block = steal_from(rt, deck, 0);
-    writeln!(out, "steal: {block:?}")?;
-    Ok(())
+    write!(text, "steal: {block:?}\n").ok()
 }
 
-/// Writes what calls of two decks answer: one puts and pops, the other steals from it.
-fn write_calls<R: Wait, W: Write>(
-    rt: &R,
-    zero: &mut Deck,
-    one: &mut Deck,
-    out: &mut W,
-) -> Result<()>
+/// Adds what calls of two decks answer: one puts and pops, the other steals from it.
+fn tell_calls<R: Wait>(rt: &R, zero: &mut Deck, one: &mut Deck, text: &mut String) -> Option<()>
     ensures zero { IsSameDeck zero.old zero.new }
     ensures one { IsSameDeck one.old one.new }
 {
-    write_put(zero, 0, 32, out)?;
-    write_put(zero, 32, 32, out)?;
-    write_put(zero, 64, 6, out)?;
-    write_steal(rt, one, out)?;
-    write_pop(zero, out)?;
-    write_steal(rt, one, out)?;
-    write_pop(zero, out)?;
-    write_steal(rt, one, out)?;
-    write_put(zero, 70, 2, out)
+    tell_put(zero, 0, 32, text)?;
+    tell_put(zero, 32, 32, text)?;
+    tell_put(zero, 64, 6, text)?;
+    tell_steal(rt, one, text)?;
+    tell_pop(zero, text)?;
+    tell_steal(rt, one, text)?;
+    tell_pop(zero, text)?;
+    tell_steal(rt, one, text)?;
+    tell_put(zero, 70, 2, text)
 }
 
-/// Writes which deck it is, and how many blocks it has put.
-fn write_deck<W: Write>(deck: &Deck, out: &mut W) -> Result<()> {
-    let puts = deck.puts();
-    writeln!(
-        out,
-        "deck {} of {}: {puts} put",
-        deck.number(),
-        deck.count()
-    )?;
-    Ok(())
+/// Adds which deck it is, and how many blocks it has put.
+fn tell_deck(deck: &Deck, text: &mut String) -> Option<()> {
+    let (number, count, puts) = (deck.number(), deck.count(), deck.puts());
+    write!(text, "deck {number} of {count}: {puts} put\n").ok()
 }
 
-/// Writes what the calls of two decks answer, and what is left on them.
-pub(crate) fn write_turns<R: Wait, W: Write>(rt: &R, alloc: Global, out: &mut W) -> Result<()> {
-    let Some((mut zero, mut one)) = two_decks(alloc)? else {
-        bail!("no two decks")
-    };
-    write_calls(rt, &mut zero, &mut one, out)?;
-    write_deck(&zero, out)?;
-    write_deck(&one, out)?;
-    for block in gather_two(alloc, zero, one)? {
-        writeln!(out, "left: {block:?}")?;
+/// Adds the blocks that are left.
+fn tell_left(left: &[Block], text: &mut String) -> Option<()> {
+    for block in left {
+        write!(text, "left: {block:?}\n").ok()?;
     }
-    Ok(())
+    Some(())
+}
+
+/// Adds what the calls of two decks answer, and what is left on them.
+pub(crate) fn tell_turns<R: Wait>(rt: &R, alloc: Global, text: &mut String) -> Option<()> {
+    let Ok(Some((mut zero, mut one))) = two_decks(alloc) else {
+        return None;
+    };
+    tell_calls(rt, &mut zero, &mut one, text)?;
+    tell_deck(&zero, text)?;
+    tell_deck(&one, text)?;
+    let left = gather_two(alloc, zero, one).ok()?;
+    tell_left(left.as_slice(), text)
 }

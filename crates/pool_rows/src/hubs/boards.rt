@@ -2,7 +2,7 @@
 
 ghost use Rattle.std.specs.Prelude.{◌≡◌};
 
-use crate::calling::{raise_of, tell_published};
+use crate::calling::{first_number, raise_of, tell_published};
 use dual_versions::{BoardReader, BoardWriter, Published, board};
 use std::alloc::Global;
 use std::sync::Wait;
@@ -20,8 +20,7 @@ struct Writer<R: Wait + Drop> {
 impl<R: Wait + Drop> Writer<R> {
     /// Puts an entry of a slot.
     fn tell_put(&mut self, alloc: Global, rest: &str, text: &mut String) -> Option<()> {
-        let (slot, rest) = rest.split_once(' ')?;
-        let slot = slot.parse::<u32>().ok()?;
+        let (slot, rest) = first_number(rest)?;
         let (node, version, prices) = raise_of(alloc, rest)?;
         if slot >= self.slots || prices.as_slice().len() != self.prices as usize {
             return None;
@@ -46,8 +45,8 @@ impl<R: Wait + Drop> Writer<R> {
 fn tell_reader(reader: &mut BoardReader, call: &str, text: &mut String) -> Option<()> {
     match call.strip_prefix("read ") {
         Some(slot) => {
-            let shown = reader.read(slot.parse::<u32>().ok()?).ok()?;
-            tell_published(shown.as_ref(), text)
+            let slot = slot.parse::<u32>().ok()?;
+            tell_published(reader.read(slot).ok()?, text)
         }
         None => write!(text, " {}", reader.seen()).ok(),
     }
@@ -81,10 +80,8 @@ fn board_of<R: Wait + Drop>(
     alloc: Global,
     words: &str,
 ) -> Option<(Writer<R>, Vec<BoardReader>)> {
-    let (slots, words) = words.split_once(' ')?;
-    let (readers, prices) = words.split_once(' ')?;
-    let slots = slots.parse::<u32>().ok()?;
-    let readers = readers.parse::<u32>().ok()?;
+    let (slots, words) = first_number(words)?;
+    let (readers, prices) = first_number(words)?;
     let prices = prices.parse::<u32>().ok()?;
     if slots == 0 || slots > 64 || readers == 0 || readers > 64 {
         return None;
@@ -98,18 +95,15 @@ fn board_of<R: Wait + Drop>(
     Some((writer, readers))
 }
 
-/// Holds a dialogue, from the row of its board to the row of its end.
+/// Holds a dialogue on the board of these words, of these calls.
 pub(crate) fn tell_dialogue<R: Wait>(
     rt: &R,
     alloc: Global,
-    rows: &[&str],
+    words: &str,
+    calls: &[&str],
     text: &mut String,
 ) -> Option<()> {
-    let [first, calls @ .., _end] = rows else {
-        return None;
-    };
-    write!(text, "{first}:\n").ok()?;
-    let (mut writer, mut readers) = board_of(rt, alloc, first.strip_prefix("board ")?)?;
+    let (mut writer, mut readers) = board_of(rt, alloc, words)?;
     for row in calls {
         tell_call(alloc, &mut writer, readers.as_mut_slice(), row, text)?;
     }

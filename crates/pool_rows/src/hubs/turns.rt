@@ -4,7 +4,7 @@ ghost use Rattle.std.specs.Prelude.{◌≡◌, ◌≤◌};
 ghost use Rattle.plan_io.specs.declared.gate.TheConstants.{MAX_WORKERS};
 
 use super::calls::Common;
-use crate::calling::pool_of;
+use crate::calling::{first_number, pool_of};
 use dual_versions::board;
 use plan_io::MAX_WORKERS;
 use pool_core::Pool;
@@ -23,8 +23,8 @@ fn tell_call<N: Naming, R: Wait>(
     row: &str,
     text: &mut String,
 ) -> Option<()> {
-    let (number, call) = row.split_once(' ')?;
-    let seat = seats.get_mut(number.parse::<usize>().ok()?)?;
+    let (number, call) = first_number(row)?;
+    let seat = seats.get_mut(number as usize)?;
     write!(text, "{row}:").ok()?;
     common.tell(seat, call, text)?;
     text.push_str("\n").ok()
@@ -69,13 +69,15 @@ fn take_turns<N: Naming, R: Wait>(
     requires search { (pool.problem ≡ N.problem) × (pool.budget ≡ N.budget) }
     requires fresh { pool.accepted ≡ 0 }
 {
-    let inst = pool.instance().clone().ok()?;
-    let (writer, readers) = board(rt, alloc, MAX_ROUNDS, workers, inst.links()).ok()?;
+    let demands = pool.instance().demands();
+    let links = pool.instance().links();
+    let (writer, readers) = board(rt, alloc, MAX_ROUNDS, workers, links).ok()?;
     let (hub, mut seats) = Hub::<N, &R>::new(alloc, blank, pool, workers, writer, readers).ok()?;
     let common = Common {
         rt,
         alloc,
-        inst: &*inst,
+        demands,
+        links,
         hub: &hub,
     };
     tell_calls(&common, seats.as_mut_slice(), rows, text)?;
@@ -86,19 +88,16 @@ fn take_turns<N: Naming, R: Wait>(
     tell_plan(hub.end(seats), text)
 }
 
-/// Holds a dialogue, from the row of its hub to the row of its end.
+/// Holds a dialogue with the hub of these words, of these calls.
 pub(crate) fn tell_dialogue<R: Wait>(
     rt: &R,
     alloc: Global,
     networks: &[Network],
-    rows: &[&str],
+    words: &str,
+    calls: &[&str],
     text: &mut String,
 ) -> Option<()> {
-    let [first, calls @ .., _end] = rows else {
-        return None;
-    };
-    write!(text, "{first}:\n").ok()?;
-    let (search, workers) = first.strip_prefix("hub ")?.rsplit_once(' ')?;
+    let (search, workers) = words.rsplit_once(' ')?;
     let workers = workers.parse::<u32>().ok()?;
     if workers == 0 || workers > MAX_WORKERS {
         return None;

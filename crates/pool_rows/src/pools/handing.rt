@@ -1,6 +1,6 @@
 //! Paths, prices and designs that are handed in.
 
-use crate::calling::{design_of, offer_of, raise_of};
+use crate::calling::{design_of, offer_of, raise_of, tell_answer};
 use pool_core::Pool;
 use std::alloc::Global;
 
@@ -12,18 +12,18 @@ pub(crate) fn tell_offered(
     text: &mut String,
 ) -> Option<()> {
     let offer = offer_of(alloc, rest)?;
-    write!(text, " {:?}", pool.offer(offer)).ok()
+    tell_answer(pool.offer(offer), text)
 }
 
 /// Publishes prices.
-pub(crate) fn tell_published(
+pub(crate) fn tell_raised(
     alloc: Global,
     pool: &mut Pool,
     rest: &str,
     text: &mut String,
 ) -> Option<()> {
     let (node, version, prices) = raise_of(alloc, rest)?;
-    write!(text, " {:?}", pool.publish(node, version, &prices)).ok()
+    tell_answer(pool.publish(node, version, &prices), text)
 }
 
 /// Hands in a design.
@@ -34,5 +34,5 @@ pub(crate) fn tell_better(
     text: &mut String,
 ) -> Option<()> {
     let design = design_of(alloc, rest)?;
-    write!(text, " {:?}", pool.better(design)).ok()
+    tell_answer(pool.better(design), text)
 }

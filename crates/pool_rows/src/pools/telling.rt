@@ -12,7 +12,10 @@ pub(crate) fn tell_node(pool: &Pool, rest: &str, text: &mut String) -> Option<()
         write!(text, " first {:?}", prices.as_slice()).ok()?;
     }
     match pool.restriction(node) {
-        Some(rows) => tell_restriction(&**pool.instance(), &**rows, text),
+        Some(rows) => {
+            let inst = pool.instance();
+            tell_restriction(inst.demands(), inst.links(), &**rows, text)
+        }
         None => Some(()),
     }
 }
@@ -20,8 +23,7 @@ pub(crate) fn tell_node(pool: &Pool, rest: &str, text: &mut String) -> Option<()
 /// Adds the node, the version and the prices of the round in a slot.
 pub(crate) fn tell_slot(pool: &Pool, rest: &str, text: &mut String) -> Option<()> {
     let slot = rest.parse::<u32>().ok()?;
-    let published = pool.prices(slot).ok()?;
-    tell_published(published.as_ref(), text)
+    tell_published(pool.prices(slot).ok()?, text)
 }
 
 /// Adds how many nodes were examined, the cost of the best design, and whether the search is done.

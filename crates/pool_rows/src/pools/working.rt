@@ -1,29 +1,34 @@
 //! Tasks that are done one after the other.
 
 use super::telling::tell_progress;
-use crate::calling::node_of;
+use crate::calling::{first_number, tell_answer};
 use column_pool::Brief;
 use dual_versions::Published;
 use master_step::{Step, advance};
-use path_pricing::price;
+use path_pricing::{Priced, price};
 use plan_base::{BranchId, DemandId, Prices};
 use pool_core::{Closing, Examined, Gather, Offer, Offered, Pool, Publish, Settle, Task};
 use std::alloc::Global;
 
-/// Prices a demand at these prices under its node's restriction, and offers what is found.
+/// What is found for a demand at these prices under its node's restriction.
+fn found_at(alloc: Global, pool: &Pool, published: &Published, demand: DemandId) -> Option<Priced> {
+    let inst = pool.instance();
+    let rows = pool.restriction(published.node)?;
+    let prices = &published.prices;
+    if demand.0 >= inst.demands() || !prices.fits(&**inst) {
+        return None;
+    }
+    price(alloc, &**inst, prices, demand, &**rows).ok()
+}
+
+/// Prices a demand at these prices, and offers what is found.
 fn price_demand(
     alloc: Global,
     pool: &mut Pool,
     published: &Published,
     demand: DemandId,
 ) -> Option<Offered> {
-    let inst = pool.instance().clone().ok()?;
-    let rows = pool.restriction(published.node)?;
-    let prices = &published.prices;
-    if demand.0 >= inst.demands() || !prices.fits(&*inst) {
-        return None;
-    }
-    let found = price(alloc, &*inst, prices, demand, &**rows).ok()?;
+    let found = found_at(alloc, pool, published, demand)?;
     Some(pool.offer(Offer {
         node: published.node,
         version: published.version,
@@ -51,8 +56,7 @@ pub(crate) fn tell_priced(
     text: &mut String,
 ) -> Option<()> {
     let slot = rest.parse::<u32>().ok()?;
-    let answer = price_all(alloc, pool, slot)?;
-    write!(text, " {answer:?}").ok()
+    tell_answer(price_all(alloc, pool, slot)?, text)
 }
 
 /// Opens a node's round, prices all demands, settles the node and examines it.
@@ -73,16 +77,16 @@ pub(crate) fn tell_divided(
     rest: &str,
     text: &mut String,
 ) -> Option<()> {
-    let (first, last) = rest.split_once(' ')?;
-    let (first, last) = (node_of(first)?, node_of(last)?);
+    let (first, last) = first_number(rest)?;
+    let last = last.parse::<u32>().ok()?;
     let mut answer = Examined::Cut;
-    for node in first.0..=last.0 {
+    for node in first..=last {
         answer = divide(alloc, pool, BranchId(node))?;
         if !matches!(answer, Examined::Divided { .. }) {
             return None;
         }
     }
-    write!(text, " {answer:?}").ok()
+    tell_answer(answer, text)
 }
 
 /// The prices that a master step raises those of a complete version to.
