@@ -8,21 +8,9 @@ ghost use Rattle.model_check.specs.Telling.{outside_fault, value_fault, IsModelF
 
 use crate::fault::CheckFault;
 use snd_model::{
-    CapacityModel, DemandModel, FixedChargeModel, HopModel, Key, LinkModel, ModelFile, PathModel,
-    RoutingModel, Setting, SurvivabilityModel,
+    CapacityModel, DemandModel, FixedChargeModel, HopModel, KEYS, Key, LinkModel, ModelFile,
+    PathModel, RoutingModel, Setting, SurvivabilityModel,
 };
-
-/// The keys, in the order in which their values are tested.
-const KEYS: [Key; 8] = [
-    Key::Demand,
-    Key::Link,
-    Key::Capacity,
-    Key::FixedCharge,
-    Key::Routing,
-    Key::Path,
-    Key::Hop,
-    Key::Survivability,
-];
 
 /// Whether the value is in the profile.
 fn is_planned(setting: Setting) -> bool

@@ -26,8 +26,8 @@ pub enum Key {
     Survivability,
 }
 
-/// The keys, in the order of the model table.
-pub(crate) const KEYS: [Key; 8] = [
+/// The keys, in the order of the model table, which is that of a canonical text.
+pub const KEYS: [Key; 8] = [
     Key::Demand,
     Key::Link,
     Key::Capacity,

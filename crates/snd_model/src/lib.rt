@@ -19,7 +19,7 @@ mod verdicts;
 mod writing;
 
 pub use file::ModelFile;
-pub use keys::Key;
+pub use keys::{KEYS, Key};
 pub use reading::read_model;
 pub use setting::Setting;
 pub use snd_reader::{TextFault, Wanted};

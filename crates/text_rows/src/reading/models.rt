@@ -1,23 +1,11 @@
 //! Model texts.
 
 use snd_lexer::MAX_TEXT_BYTES;
-use snd_model::{Key, ModelFile, read_model, write_model};
+use snd_model::{KEYS, ModelFile, read_model, write_model};
 use std::alloc::Global;
 
 /// The first line of a model text.
 const FIRST_LINE: &str = "?SNDlib native format; type: model; version: 1.0\n";
-
-/// The keys, in the order in which a canonical text has them.
-const KEYS: [Key; 8] = [
-    Key::Demand,
-    Key::Link,
-    Key::Capacity,
-    Key::FixedCharge,
-    Key::Routing,
-    Key::Path,
-    Key::Hop,
-    Key::Survivability,
-];
 
 /// A line for each key.
 const LINES: [&str; 8] = [
