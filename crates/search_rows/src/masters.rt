@@ -50,8 +50,8 @@ fn is_no_worse(step: &Step, found: &Found) -> bool {
     }
 }
 
-/// Whether the step of a brief is what the twin found.
-fn step_agrees(
+/// Whether the step of a brief is what the twin found, and the better of it and an ascent no worse.
+fn steps_agree(
     alloc: Global,
     inst: &Instance,
     table: &StepTable,
@@ -63,37 +63,22 @@ fn step_agrees(
     if !brief.fits(inst) {
         return false;
     }
-    match advance(alloc, inst, table, brief) {
+    let step_agrees = match advance(alloc, inst, table, brief) {
         Ok(step) => is_step(&step, found),
         Err(_) => false,
-    }
-}
-
-/// Whether the better of the step of a brief and an ascent is no worse than what the twin found.
-fn best_agrees(
-    alloc: Global,
-    inst: &Instance,
-    table: &StepTable,
-    brief: &Brief,
-    found: &Found,
-) -> bool
-    requires { table.now ≡ inst.now }
-{
-    if !brief.fits(inst) {
-        return false;
-    }
-    match best_step(alloc, inst, table, brief) {
-        Ok(best) => is_no_worse(&best, found),
-        Err(_) => false,
-    }
+    };
+    step_agrees
+        && match best_step(alloc, inst, table, brief) {
+            Ok(best) => is_no_worse(&best, found),
+            Err(_) => false,
+        }
 }
 
 /// Whether all answers for a brief are as the twin found.
 fn all_agree(alloc: Global, inst: &Instance, brief: &Brief, found: &Found) -> bool {
     match table_of(alloc, inst) {
         Some(table) => {
-            step_agrees(alloc, inst, &table, brief, found)
-                && best_agrees(alloc, inst, &table, brief, found)
+            steps_agree(alloc, inst, &table, brief, found)
                 && are_values(alloc, inst, &table, brief, found)
         }
         None => false,
