@@ -1,8 +1,8 @@
 //! A restriction: a row of bits, one for each arc, of each demand to which arcs are forbidden.
 
-ghost use Rattle.std.specs.Prelude.{◌≡◌, ◌≤◌, ◌<◌, ◌+◌, ◌-◌, ◌*◌, ◌/◌, ◌%◌, ◌==◌, ◌∷◌, ◌↔◌, [], Bool, length, not, slice_index, slice_set, IfOk, IsTrue, All, vec_len, vec_capacity};
+ghost use Rattle.std.specs.Prelude.{◌≡◌, ◌≤◌, ◌<◌, ◌+◌, ◌-◌, ◌*◌, ◌/◌, ◌%◌, ◌==◌, ◌∷◌, ◌↔◌, [], not, slice_index, IfOk, IsTrue, All, vec_len, vec_capacity};
 ghost use Rattle.std.specs.Int.{bit_at};
-ghost use Rattle.plan_base.specs.declared.limits.TheConstants.{MAX_DEMANDS, MAX_LINKS};
+ghost use Rattle.plan_base.specs.declared.limits.TheConstants.{MAX_DEMANDS};
 ghost use Rattle.arc_restrict.specs.Rows.{row_len, place_of, forbids, HasSizeOf, IsKept};
 ghost use Rattle.arc_restrict.specs.Restrictions.{none_forbidden, with_forbidden, IsPermitted};
 

@@ -1,6 +1,6 @@
 //! How decks are made.
 
-ghost use Rattle.std.specs.Prelude.{◌≡◌, ◌≤◌, ◌<◌, ◌+◌, ◌-◌, length, IfOk};
+ghost use Rattle.std.specs.Prelude.{◌≡◌, ◌≤◌, ◌<◌, ◌-◌, length, IfOk};
 ghost use Rattle.crossbeam_deque.specs.Handles.{view, worker_deque, stealer_deque};
 ghost use Rattle.block_deques.specs.Hands.{thief, all_parts};
 ghost use Rattle.block_deques.specs.Making.{AreFresh, IsRich, AreRich, HasGiven, HaveGiven, IsRow, AreRows, AreDecksOf};

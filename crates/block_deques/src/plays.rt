@@ -1,7 +1,7 @@
 //! The rule of a deck's deque, and what each call tells a pass.
 
 use crate::block::{Block, Hand};
-use crossbeam_deque::protocol::{Join, Lesson, Outcome, Protocol, Split};
+use crossbeam_deque::protocol::{Join, Outcome, Protocol, Split};
 
 /// The rule of one deque.
 pub(crate) struct Law;

@@ -1,6 +1,6 @@
 //! What a line is read as, without its line end.
 
-ghost use Rattle.std.specs.Prelude.{◌≡◌, ◌<◌, ◌≤◌, ◌^◌, length, Some, None, IfOk, codes};
+ghost use Rattle.std.specs.Prelude.{◌≡◌, ◌<◌, Some, None, IfOk};
 ghost use Rattle.cert_format.specs.Words.{each, grains_of};
 ghost use Rattle.cert_format.specs.Bodies.{fixed_of, one_in, number_row, sizes_in, size_row, status_of, none_or, cost_allowed, cost_of, positive, negative, signed_of, bound_of, arc_of, count_of, uncounted, path_of, modules_of};
 ghost use Rattle.cert_format.specs.Answers.{found_now, items_of};

@@ -1,6 +1,6 @@
 //! What the line of a leaf is read as, without its line end.
 
-ghost use Rattle.std.specs.Prelude.{◌≡◌, ◌≤◌, ◌+◌, ◌^◌, length, Some, None, IfOk, option_and_then};
+ghost use Rattle.std.specs.Prelude.{◌≡◌, Some, None, IfOk, option_and_then};
 ghost use Rattle.cert_format.specs.Words.{numbers_of};
 ghost use Rattle.cert_format.specs.Bodies.{behind_number, flags_of, cut_in, prices_of, priced_of, overfull_in, leaf_of};
 ghost use Rattle.cert_format.specs.Answers.{found_now, items_of};

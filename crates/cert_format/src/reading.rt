@@ -1,9 +1,9 @@
 //! Reading a plan text line by line.
 
-ghost use Rattle.std.specs.Prelude.{◌≡◌, ◌≤◌, ◌<◌, ◌+◌, ◌^◌, ℕ, List, length, codes, IfOk, IfErr};
+ghost use Rattle.std.specs.Prelude.{◌≡◌, ◌≤◌, ◌<◌, ◌+◌, ◌^◌, ℕ, List, length, IfOk, IfErr};
 ghost use Rattle.proof_tree.specs.declared.plan.Plan.{Plan as AnyPlan};
 ghost use Rattle.cert_format.specs.Lines.{lines_of};
-ghost use Rattle.cert_format.specs.Grammar.{header_line, end_line, SpellsPlan};
+ghost use Rattle.cert_format.specs.Grammar.{SpellsPlan};
 ghost use Rattle.cert_format.specs.Faults.{IsFault, OnlyPlan, OnlyFault};
 ghost use Rattle.cert_format.specs.Bodies.{fixed_of, number_row, size_row, status_of, cost_of, bound_of, path_of, modules_of, record_of};
 ghost use Rattle.cert_format.specs.Reading.{one, many, head, design_of, design, bound, records, tree, before_end, ending, whole_plan, place_of, plan_of};

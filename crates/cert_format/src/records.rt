@@ -1,6 +1,6 @@
 //! What the line of a record is read as, without its line end.
 
-ghost use Rattle.std.specs.Prelude.{◌≡◌, ◌^◌, length, Some, None, IfOk, option_and_then};
+ghost use Rattle.std.specs.Prelude.{◌≡◌, Some, None, IfOk, option_and_then};
 ghost use Rattle.cert_format.specs.Words.{numbers_of};
 ghost use Rattle.cert_format.specs.Bodies.{ascends, side_of, sides_of, split_in, record_of};
 ghost use Rattle.cert_format.specs.Answers.{side_view, sides_view};

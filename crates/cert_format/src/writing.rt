@@ -1,12 +1,11 @@
 //! Writing the text of a plan.
 
-ghost use Rattle.std.specs.Prelude.{◌≡◌, ◌<◌, ◌^◌, ◌++◌, ◌∷◌, [], length, map, decimal, codes, IfOk, OnOk, IfSome, Some};
+ghost use Rattle.std.specs.Prelude.{◌≡◌, ◌<◌, ◌^◌, ◌++◌, ◌∷◌, [], map, decimal, codes, IfOk, OnOk, IfSome, Some};
 ghost use Rattle.std.specs.List.{AllByRecursion};
 ghost use Rattle.proof_tree.specs.Spellings.{IsSpellable, FitsStatus};
 ghost use Rattle.cert_format.specs.Lines.{whole, line_text};
 ghost use Rattle.cert_format.specs.Words.{numerals, row};
 ghost use Rattle.cert_format.specs.Grammar.{arc_numbers, counted, status_line, cost_line, signed_text, bound_line, path_line, modules_line, members, leaf_line, record_line, design_lines, bound_lines, head_lines, AreWithin, AreArcs, HasLeafFields, HasRecordFields, HasDesignFields, IsBoundField, HasFields, SpellsPlan, plan_text};
-ghost use Rattle.scaled_numbers.specs.Canonical.{grains_text};
 ghost use Rattle.cert_format.specs.Written.{lines_text, Appends};
 
 use itoa::Buffer;

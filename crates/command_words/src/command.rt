@@ -1,6 +1,6 @@
 //! What the words of a command line ask for.
 
-ghost use Rattle.std.specs.Prelude.{◌≡◌, ◌≤◌, ◌<◌, ◌^◌, map, string_bytes, option_map, IfOk, IfSome};
+ghost use Rattle.std.specs.Prelude.{◌≡◌, ◌≤◌, ◌<◌, map, string_bytes, option_map, IfOk, IfSome};
 ghost use Rattle.command_words.specs.Words.{number_within, budget_of, workers_of, plan_of, on_network, sample_key, on_sample, on_three, with_names, command_of, command_now, heard_now, command_in, IsBudget, AreWorkers, IsSampleKey, IsInRange};
 
 use crate::heard::{Heard, heard_in};

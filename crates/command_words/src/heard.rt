@@ -1,6 +1,6 @@
 //! What the words behind a command say.
 
-ghost use Rattle.std.specs.Prelude.{◌≡◌, ◌==◌, Some, map, string_bytes, option_map, slice_index, IfOk};
+ghost use Rattle.std.specs.Prelude.{◌≡◌, ◌==◌, Some, map, string_bytes, option_map, IfOk};
 ghost use Rattle.command_words.specs.Words.{begins_with_dash, is_option, with_name, with_value, with_own_value, with_option, with_inside_value, with_word, heard_in, heard_now};
 
 use std::alloc::{AllocError, Global};

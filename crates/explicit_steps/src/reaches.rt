@@ -1,6 +1,6 @@
 //! How far no choice or a single one reaches.
 
-ghost use Rattle.std.specs.Prelude.{ℕ, ◌<◌, ◌≤◌, length, All};
+ghost use Rattle.std.specs.Prelude.{◌<◌, ◌≤◌, length, All};
 ghost use Rattle.explicit_steps.specs.Choices.{IsGreatestReach};
 
 use crate::choices::Choice;

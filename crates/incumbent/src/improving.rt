@@ -1,7 +1,6 @@
 //! A cheaper design by single reroutes.
 
-ghost use Rattle.std.specs.Prelude.{◌≡◌, ◌<◌, ◌≤◌, length, IfOk, IfSome};
-ghost use Rattle.plan_base.specs.Paths.{IsSimplePath};
+ghost use Rattle.std.specs.Prelude.{◌≡◌, ◌<◌, ◌≤◌, IfOk, IfSome};
 ghost use Rattle.plan_base.specs.Designs.{cost_of, IsDesign, IsGoodDesign};
 ghost use Rattle.completions.specs.Completions.{ArePaths};
 ghost use Rattle.completions.specs.Links.{IsPriced};

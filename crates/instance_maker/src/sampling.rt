@@ -1,9 +1,9 @@
 //! The network of a number.
 
-ghost use Rattle.std.specs.Prelude.{◌≡◌, ◌<◌, ◌≤◌, ◌+◌, ◌*◌, ◌/◌, ◌++◌, ◌∷◌, [], map, decimal, IfOk, OnOk};
+ghost use Rattle.std.specs.Prelude.{◌≡◌, ◌<◌, ◌≤◌, ◌+◌, ◌*◌, ◌/◌, ◌++◌, ◌∷◌, map, decimal, IfOk, OnOk};
 ghost use Rattle.std.specs.List.{range_with_len};
 ghost use Rattle.snd_network.specs.WellFormed.{IsWellFormed};
-ghost use Rattle.instance_maker.specs.Draws.{next_state, state_after, draw};
+ghost use Rattle.instance_maker.specs.Draws.{next_state, draw};
 ghost use Rattle.instance_maker.specs.Samples.{sample_node, sample_modules, sample_link, ring_link, chord, ring, chords, sample_demand, sample_demands, after_ring, after_chords, sample_links, sample_network};
 
 use crate::draws::Draws;

@@ -1,5 +1,5 @@
 -- What waits stays in the queue until its node is settled.
-use Rattle.std.proofs.Common.{◌≡◌, ℕ, zero, suc, ◌+◌, ◌<◌, ◌≤◌, ◌⊎◌, inl, inr, true, false, Bool, List, [], ◌∷◌, length, Option, Some, arith, refl, sym, ap, subst, nat_lt, slice_index_or, All, IsPermutation, nat_cmp, ◌==◌}
+use Rattle.std.proofs.Common.{◌≡◌, ℕ, zero, suc, ◌<◌, ◌≤◌, ◌⊎◌, inl, inr, true, false, Bool, List, [], ◌∷◌, length, Some, arith, refl, sym, ap, subst, nat_lt, slice_index_or, All, IsPermutation, nat_cmp, ◌==◌}
 use Rattle.std.specs.Prelude.{cond}
 use Rattle.std.specs.declared.cmp.Ordering.{Ordering}
 use Rattle.std.specs.declared.cmp.Ordering.TheVariants.{Less, Equal, Greater}

@@ -1,6 +1,6 @@
 //! The nodes that wait to be settled, the nearest first.
 
-ghost use Rattle.std.specs.Prelude.{◌≡◌, ◌≢◌, ◌<◌, ◌≤◌, ◌∷◌, [], length, All, IfOk, OnOk, IfSome, IfNone, OnSome, MatchOption, IsPermutation};
+ghost use Rattle.std.specs.Prelude.{◌≡◌, ◌<◌, ◌≤◌, ◌∷◌, [], length, All, IfOk, OnOk, IfSome, IfNone, OnSome, MatchOption, IsPermutation};
 ghost use Rattle.least_path.specs.Labels.{HasNoOpen, IsNearest, offered};
 ghost use Rattle.least_path.specs.Waits.{waits, AllWait, OthersWait, IsFresh, IsStale};
 

@@ -1,6 +1,6 @@
 //! The search: nodes are settled in the order of their lengths, which a heap of those that wait tells.
 
-ghost use Rattle.std.specs.Prelude.{◌≡◌, ◌≢◌, ◌<◌, ◌≤◌, [], length, IfOk, OnOk, IfNone, IfSome, OnSome, Option};
+ghost use Rattle.std.specs.Prelude.{◌≡◌, ◌≢◌, ◌<◌, [], length, IfOk, OnOk, IfNone, IfSome, Option};
 ghost use Rattle.plan_base.specs.Facts.{IsInstance};
 ghost use Rattle.least_path.specs.Paths.{AreWeights, IsFound};
 ghost use Rattle.least_path.specs.Labels.{IsSearch, IsNearest, IsSpread, HasNoOpen, open_count, first_label_of, first_labels_of};

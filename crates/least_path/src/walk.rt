@@ -1,6 +1,6 @@
 //! The search by a walk over all nodes for the nearest one: plain, and slower on large networks.
 
-ghost use Rattle.std.specs.Prelude.{◌≡◌, ◌≢◌, ◌<◌, ◌≤◌, [], length, IfOk, IfNone, IfSome};
+ghost use Rattle.std.specs.Prelude.{◌≡◌, ◌≢◌, ◌<◌, [], length, IfOk, IfNone, IfSome};
 ghost use Rattle.plan_base.specs.Facts.{IsInstance};
 ghost use Rattle.least_path.specs.Paths.{AreWeights, IsFound};
 ghost use Rattle.least_path.specs.Labels.{IsSearch, IsNearest, IsSpread, HasNoOpen, open_count};

@@ -1,6 +1,6 @@
 //! The ends of steps: what is best at a price lies at one of them.
 
-ghost use Rattle.std.specs.Prelude.{ℕ, ◌≡◌, ◌<◌, ◌≤◌, ◌+◌, ◌-◌, ◌*◌, ◌^◌, ◌⊎◌, ◌-ℤ◌, pos, length, Some, IfOk, IfSome, IsTrue};
+ghost use Rattle.std.specs.Prelude.{ℕ, ◌≡◌, ◌<◌, ◌≤◌, ◌+◌, ◌-◌, ◌*◌, ◌⊎◌, ◌-ℤ◌, pos, length, Some, IfOk, IfSome, IsTrue};
 ghost use Rattle.link_steps.specs.Steps.{step_at, AreInOrder, end_at, end_in, AreRisingEnds, IsBestSoFar, AreBestEnds, IsNotBelow, IsRestOf, IsLeastUnit};
 
 use crate::limits::MAX_STEPS;

@@ -1,6 +1,6 @@
 //! The steps of a link, made one by one in rising cost.
 
-ghost use Rattle.std.specs.Prelude.{ℕ, ◌≡◌, ◌<◌, ◌≤◌, ◌+◌, ◌^◌, ◌⊎◌, length, slice_index, All, Some, IfOk, IfErr, IfSome, IfNone};
+ghost use Rattle.std.specs.Prelude.{ℕ, ◌≡◌, ◌<◌, ◌≤◌, ◌+◌, ◌⊎◌, length, All, Some, IfOk, IfErr, IfSome, IfNone};
 ghost use Rattle.plan_base.specs.Facts.{IsModule};
 ghost use Rattle.plan_base.specs.Designs.{module_at};
 ghost use Rattle.link_steps.specs.Steps.{step_at, last_of, IsFree, HasNoFree, IsFirstStep, AreInOrder, AreAllSteps, IsPassedBy, AreStarts, IsNotWorse, IsNextStep, Beats, IsFaultOfLink};

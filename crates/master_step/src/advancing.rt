@@ -1,6 +1,6 @@
 //! The step, and what it gains.
 
-ghost use Rattle.std.specs.Prelude.{ℕ, ◌≡◌, ◌<◌, ◌≤◌, length, Option, Some, None, IfOk, IfSome, IfNone, ℤ};
+ghost use Rattle.std.specs.Prelude.{◌≡◌, ◌<◌, length, Option, Some, None, IfOk, IfSome, IfNone};
 ghost use Rattle.arc_restrict.specs.Rows.{forbids};
 ghost use Rattle.arc_restrict.specs.Prices.{AreWithinLimit};
 ghost use Rattle.column_pool.specs.Columns.{columns_at, permitted_at, AreColumns};

@@ -1,8 +1,7 @@
 //! The ascent: each link's own price in turn, to the best that it can be.
 
-ghost use Rattle.std.specs.Prelude.{◌≡◌, ◌<◌, ◌≤◌, length, slice_index, IfOk, All};
+ghost use Rattle.std.specs.Prelude.{◌≡◌, ◌<◌, ◌≤◌, length, IfOk};
 ghost use Rattle.plan_base.specs.Facts.{price_limit};
-ghost use Rattle.arc_restrict.specs.Prices.{AreWithinLimit};
 ghost use Rattle.column_pool.specs.Columns.{columns_at};
 ghost use Rattle.column_pool.specs.Briefs.{IsBriefFor};
 ghost use Rattle.master_step.specs.Columns.{HasColumns};

@@ -1,10 +1,10 @@
 //! The search among the trials.
 
-ghost use Rattle.std.specs.Prelude.{ℕ, ◌≡◌, ◌<◌, ◌≤◌, ◌*◌, ◌^◌, length, slice_index, Option, Some, None, IfSome, IfNone, ◌≤ℤ◌, ◌<ℤ◌};
+ghost use Rattle.std.specs.Prelude.{◌≡◌, ◌<◌, ◌≤◌, ◌*◌, length, slice_index, Option, Some, None, IfSome, IfNone};
 ghost use Rattle.plan_base.specs.declared.limits.TheConstants.{MAX_TOTAL_LOAD};
 ghost use Rattle.plan_base.specs.Facts.{price_limit};
 ghost use Rattle.master_step.specs.Restricted.{IsRestrictedValue};
-ghost use Rattle.master_step.specs.Trials.{column_load, widest_gap as widest_of, greatest_price as greatest_of};
+ghost use Rattle.master_step.specs.Trials.{widest_gap as widest_of, greatest_price as greatest_of};
 ghost use Rattle.master_step.specs.Outcomes.{IsRaise, IsStalled};
 ghost use Rattle.master_step.specs.Choosing.{allowed_of};
 ghost use Rattle.master_step.specs.Climbing.{HasRoom, AreLow, HasLoads, AreMoved, IsMaster, better_of, AreTried};

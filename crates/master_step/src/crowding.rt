@@ -1,6 +1,6 @@
 //! The prices at which useful links are free.
 
-ghost use Rattle.std.specs.Prelude.{ℕ, ◌≡◌, ◌<◌, length, IfOk, slice_index};
+ghost use Rattle.std.specs.Prelude.{◌≡◌, ◌<◌, length, IfOk};
 ghost use Rattle.master_step.specs.Outcomes.{crowd_price as price_when_crowded, AreCrowdPrices};
 
 use plan_base::{Instance, LinkId, Prices};

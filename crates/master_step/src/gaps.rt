@@ -1,8 +1,8 @@
 //! How far the prices of a trial move.
 
-ghost use Rattle.std.specs.Prelude.{ℕ, ◌≡◌, ◌<◌, ◌≤◌, ◌*◌, max, length, slice_index, if◌then◌else◌, ◌==◌};
+ghost use Rattle.std.specs.Prelude.{◌≡◌, ◌<◌, ◌≤◌, ◌*◌, max, length, slice_index, if◌then◌else◌, ◌==◌};
 ghost use Rattle.plan_base.specs.declared.limits.TheConstants.{MAX_PRICED_LOAD};
-ghost use Rattle.plan_base.specs.Facts.{total_load, top_load, price_limit, IsInstance};
+ghost use Rattle.plan_base.specs.Facts.{total_load, top_load, price_limit};
 ghost use Rattle.plan_base.specs.Arcs.{link_at};
 ghost use Rattle.arc_restrict.specs.Prices.{AreWithinLimit};
 ghost use Rattle.master_step.specs.Trials.{apart as apart_of, moved as moved_price, widest_gap as widest_of, greatest_price as greatest_of};

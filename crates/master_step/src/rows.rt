@@ -1,6 +1,6 @@
 //! The room that a step works in.
 
-ghost use Rattle.std.specs.Prelude.{◌≡◌, ◌≤◌, length, IfOk};
+ghost use Rattle.std.specs.Prelude.{◌≡◌, length, IfOk};
 ghost use Rattle.master_step.specs.Climbing.{HasRoom};
 
 use plan_base::limits::MAX_LINKS;

@@ -1,6 +1,6 @@
 //! The columns that a step chooses among.
 
-ghost use Rattle.std.specs.Prelude.{ℕ, ◌≡◌, ◌<◌, ◌≤◌, ◌*◌, ◌+◌, List, [], length, slice_index_or, Option, Some, IfSome, All, take};
+ghost use Rattle.std.specs.Prelude.{ℕ, ◌≡◌, ◌<◌, ◌≤◌, ◌*◌, ◌+◌, [], length, slice_index_or, Option, Some, All};
 ghost use Rattle.plan_base.specs.Facts.{price_limit};
 ghost use Rattle.plan_base.specs.Arcs.{link_of, demand_at};
 ghost use Rattle.plan_base.specs.Paths.{arc_at, IsSimplePath};

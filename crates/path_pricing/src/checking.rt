@@ -3,17 +3,17 @@
 ghost use Rattle.std.specs.Prelude.{◌≡◌, ◌↔◌, ◌<◌, ◌≤◌, ◌+◌, IsOk, IfOk, All, None, length, nat_lt};
 ghost use Rattle.std.specs.Result.{result_err};
 ghost use Rattle.plan_base.specs.Facts.{IsInstance};
-ghost use Rattle.plan_base.specs.Arcs.{link_of, demand_at};
+ghost use Rattle.plan_base.specs.Arcs.{link_of};
 ghost use Rattle.plan_base.specs.declared.limits.TheConstants.{MAX_NODES, MAX_PRICED_LOAD};
 ghost use Rattle.arc_restrict.specs.Rows.{forbids};
 ghost use Rattle.arc_restrict.specs.Prices.{price_of};
 ghost use Rattle.path_pricing.specs.Priced.{ArePrices, IsShown, IsPriced};
-ghost use Rattle.path_pricing.specs.Faults.{walk_fault, dearer_fault, first_dearer, length_fault, path_fault, shape_fault, leaving_fault, first_leaving, set_fault, priced_fault};
+ghost use Rattle.path_pricing.specs.Faults.{dearer_fault, first_dearer, length_fault, path_fault, shape_fault, leaving_fault, first_leaving, set_fault, priced_fault};
 
 use crate::priced::{Priced, Unfit};
 use crate::query::Query;
 use arc_restrict::Restriction;
-use plan_base::{ArcId, Demand, DemandId, Instance, Items, Prices};
+use plan_base::{ArcId, Demand, DemandId, Instance, Prices};
 
 /// Whether the head's potential is above the tail's plus the price, also where that sum is past 128 bits.
 fn is_above(head: u128, tail: u128, price: u128) -> bool

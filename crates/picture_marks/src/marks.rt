@@ -1,6 +1,6 @@
 //! The marks of nodes and links.
 
-ghost use Rattle.std.specs.Prelude.{◌≡◌, ◌<◌, ◌++◌, length, decimal, codes, option_map, OnOk, IfSome};
+ghost use Rattle.std.specs.Prelude.{◌≡◌, ◌<◌, ◌++◌, length, decimal, option_map, OnOk, IfSome};
 ghost use Rattle.plan_base.specs.Facts.{IsInstance};
 ghost use Rattle.plan_base.specs.Designs.{load_on, IsGoodDesign};
 ghost use Rattle.mark_places.specs.Places.{HasLooks};

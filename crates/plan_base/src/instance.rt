@@ -1,6 +1,6 @@
 //! An instance: parts that are within all limits.
 
-ghost use Rattle.std.specs.Prelude.{◌≡◌, ◌↔◌, ◌<◌, ◌≤◌, length, IfOk, IfErr, IsTrue, All};
+ghost use Rattle.std.specs.Prelude.{◌≡◌, ◌<◌, ◌≤◌, length, IfOk, IfErr, IsTrue, All};
 ghost use Rattle.std.specs.Result.{result_err};
 ghost use Rattle.std.specs.List.{list_any};
 ghost use Rattle.plan_base.specs.First.{first_in};
@@ -17,7 +17,6 @@ use crate::limits::{
     MAX_ROUTING_COST, MAX_TOTAL_LOAD, MODULE_COST_BOUND,
 };
 use crate::parts::{Demand, Link, Module, Orient, Parts};
-use base_items::Items;
 use std::alloc::{AllocError, Global};
 use std::marker::Model;
 

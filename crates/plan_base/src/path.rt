@@ -1,6 +1,6 @@
 //! Paths and designs.
 
-ghost use Rattle.std.specs.Prelude.{◌≡◌, IfOk, ◌<◌, ◌↔◌, length, List, ℕ};
+ghost use Rattle.std.specs.Prelude.{◌≡◌, IfOk, ◌<◌, length, List};
 ghost use Rattle.plan_base.specs.Paths.{uses};
 
 use crate::ids::{ArcId, LinkId};

@@ -1,6 +1,6 @@
 //! Texts in memory that are read one at a time.
 
-ghost use Rattle.std.specs.Prelude.{◌≡◌, ◌+◌, ◌-◌, ◌^◌, ◌<◌, [], min, map, length, take, drop, is_some, unwrap_or, Some, IfOk};
+ghost use Rattle.std.specs.Prelude.{◌≡◌, ◌+◌, ◌-◌, ◌^◌, ◌<◌, [], min, map, length, take, is_some, unwrap_or, Some, IfOk};
 ghost use Rattle.std.specs.Io.KnownBytes.{Consumes};
 ghost use Rattle.plan_io.specs.Causes.{CountsUp};
 ghost use Rattle.plan_io.specs.Texts.{find_text};

@@ -15,7 +15,7 @@ use Rattle.proof_tree.specs.declared.plan.PlanStatus.{PlanStatus}
 use Rattle.proof_tree.specs.declared.plan.PlanStatus.TheVariants.{Optimal, Infeasible, Undecided}
 use Rattle.proof_tree.specs.declared.plan.Plan.{Plan}
 use Rattle.plan_report.specs.Lines.{numbers, sizes_text}
-use Rattle.plan_report.specs.Verdicts.{cost_text, bound_text, status_word, cost_part}
+use Rattle.plan_report.specs.Verdicts.{cost_text, bound_text, status_word}
 use Rattle.plan_report.specs.declared.check_lines.TheConstants.{LOAD_SCALE}
 
 -- the instance is what the network stands for, with some model

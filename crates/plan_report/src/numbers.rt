@@ -1,6 +1,6 @@
 //! Numbers behind blanks.
 
-ghost use Rattle.std.specs.Prelude.{◌≡◌, ◌++◌, ◌∷◌, [], codes, OnOk, IfOk};
+ghost use Rattle.std.specs.Prelude.{◌≡◌, ◌++◌, ◌∷◌, [], OnOk, IfOk};
 ghost use Rattle.plan_report.specs.Lines.{numbers, line};
 
 use itoa::Buffer;

@@ -1,6 +1,6 @@
 //! The line of a verdict on a plan.
 
-ghost use Rattle.std.specs.Prelude.{◌≡◌, ◌++◌, ◌∷◌, [], codes, OnOk, IfOk};
+ghost use Rattle.std.specs.Prelude.{◌≡◌, ◌++◌, ◌∷◌, OnOk, IfOk};
 ghost use Rattle.plan_report.specs.Verdicts.{cost_text, signed_text, bound_text, status_word, cost_part, accepted_line, design_fault_number, costs_line, bounds_line, rejected_line, verdict_line};
 
 use crate::numbers::line;

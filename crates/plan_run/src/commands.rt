@@ -1,6 +1,6 @@
 //! The commands, each a call of its own.
 
-ghost use Rattle.std.specs.Prelude.{◌≡◌, ◌≤◌, map, string_bytes, IfOk, IfErr};
+ghost use Rattle.std.specs.Prelude.{◌≤◌, map, string_bytes, IfErr};
 ghost use Rattle.plan_io.specs.Causes.{Rose};
 ghost use Rattle.command_words.specs.Words.{command_now, IsInRange};
 ghost use Rattle.plan_texts.specs.Stops.{IsReadStop, TookMore};

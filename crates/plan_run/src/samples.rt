@@ -1,6 +1,6 @@
 //! The commands about samples, which read no text.
 
-ghost use Rattle.std.specs.Prelude.{◌≡◌, IfOk};
+ghost use Rattle.std.specs.Prelude.{IfOk};
 ghost use Rattle.command_words.specs.Words.{IsSampleKey};
 ghost use Rattle.plan_run.specs.Samples.{IsSampled, IsTried};
 

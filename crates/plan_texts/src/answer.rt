@@ -1,6 +1,6 @@
 //! What a run has to say, and how it is written.
 
-ghost use Rattle.std.specs.Prelude.{◌≡◌, ◌≤◌, IfOk, IfErr};
+ghost use Rattle.std.specs.Prelude.{◌≡◌, ◌≤◌, IfOk};
 ghost use Rattle.plan_io.specs.Causes.{Rose};
 ghost use Rattle.plan_texts.specs.Answers.{IsWhole, IsWritten};
 

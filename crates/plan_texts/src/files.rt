@@ -1,11 +1,10 @@
 //! What texts spell.
 
-ghost use Rattle.std.specs.Prelude.{◌≡◌, ◌≤◌, length, IfOk, IfErr};
+ghost use Rattle.std.specs.Prelude.{◌≤◌, length, IfOk, IfErr};
 ghost use Rattle.snd_network.specs.Spelling.{SpellsNetwork};
 ghost use Rattle.snd_network.specs.WellFormed.{IsWellFormed};
 ghost use Rattle.snd_model.specs.Spelling.{SpellsModel};
 ghost use Rattle.cert_format.specs.Grammar.{SpellsPlan};
-ghost use Rattle.proof_tree.specs.Spellings.{IsSpellable};
 ghost use Rattle.plan_texts.specs.Stops.{IsNetworkStop, IsModelStop, IsPlanTextStop};
 
 use crate::stop::{Stop, stop_of_plan, stop_of_text};

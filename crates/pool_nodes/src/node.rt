@@ -1,7 +1,7 @@
 //! A node of the pool's tree.
 
 ghost use Rattle.std.specs.Prelude.{◌≡◌, ◌<◌, ◌^◌, true, None, Some, length, replicate, option_map, IfOk, IfSome};
-ghost use Rattle.pool_machine.specs.State.{Node, Round, state_by};
+ghost use Rattle.pool_machine.specs.State.{Node, state_by};
 ghost use Rattle.pool_machine.specs.Changes.{version_in, first_gap, bound_in, has_cut};
 ghost use Rattle.pool_machine.specs.Offering.{is_priced};
 ghost use Rattle.pool_nodes.specs.Rounds.{IsPublishedBy};

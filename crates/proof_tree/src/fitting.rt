@@ -1,6 +1,6 @@
 //! Whether a plan's parts are of the sizes that a plan text can hold.
 
-ghost use Rattle.std.specs.Prelude.{◌≡◌, ◌≤◌, ◌↔◌, length, IsTrue, IfSome, All};
+ghost use Rattle.std.specs.Prelude.{◌≤◌, ◌↔◌, length, IsTrue, IfSome, All};
 ghost use Rattle.plan_base.specs.declared.limits.TheConstants.{MAX_MODULES};
 ghost use Rattle.proof_tree.specs.Spellings.{IsAscending, IsWrittenSide, FitsEvidence, FitsRecord, FitsStatus, FitsSizes, FitsDesign, FitsTree};
 

@@ -8,7 +8,7 @@ use Rattle.snd_lexer.specs.declared.token.Token.{Token}
 use Rattle.snd_lexer.specs.declared.token.TokenKind.{TokenKind}
 use Rattle.snd_lexer.specs.declared.token.TokenKind.TheVariants as kinds
 use Rattle.snd_lexer.specs.Cutting as cutting
-use Rattle.snd_lexer.specs.Cutting.{Piece, text_of, AreCut, Lexes, is_word, with_bytes, shown}
+use Rattle.snd_lexer.specs.Cutting.{Piece, text_of, AreCut, is_word, with_bytes, shown}
 use Rattle.snd_lexer.proofs.Shown.{shown_is_cut}
 use Rattle.snd_reader.specs.Readers.{the_end, Placed}
 use Rattle.snd_reader.specs.Forms.{Items}

@@ -1,6 +1,6 @@
 //! Networks as they are read, before the ends of links and demands are looked up.
 
-ghost use Rattle.std.specs.Prelude.{◌≡◌, ◌++◌, ◌∷◌, [], length, IfOk, OnErr};
+ghost use Rattle.std.specs.Prelude.{◌≡◌, ◌++◌, ◌∷◌, [], IfOk};
 
 use crate::file::NodeRecord;
 use crate::name::{Name, Names};

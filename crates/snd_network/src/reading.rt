@@ -1,15 +1,14 @@
 //! Reading a network text.
 
-ghost use Rattle.std.specs.Prelude.{◌≡◌, ◌≤◌, ◌<◌, ◌+◌, ◌-◌, ◌^◌, ℕ, List, length, true, codes, IfOk, IfErr, OnErr};
+ghost use Rattle.std.specs.Prelude.{◌≡◌, ◌≤◌, ◌<◌, ◌+◌, ◌-◌, ◌^◌, length, true, IfOk, IfErr};
 ghost use Rattle.snd_lexer.specs.declared.limits.TheConstants.{MAX_TEXT_BYTES};
 ghost use Rattle.snd_lexer.specs.declared.token.Dialect.TheVariants.{Network};
-ghost use Rattle.snd_lexer.specs.Cutting.{Lexes, StopsAt, IsWithin};
+ghost use Rattle.snd_lexer.specs.Cutting.{Lexes, IsWithin};
 ghost use Rattle.std.specs.List.{All};
 ghost use Rattle.snd_reader.specs.declared.fault.TextFault.{TextFault};
-ghost use Rattle.snd_reader.specs.Header.{HasHeader};
 ghost use Rattle.snd_network.specs.declared.file.NetworkFile.{NetworkFile};
 ghost use Rattle.snd_network.specs.Tests.{is_complete};
-ghost use Rattle.snd_network.specs.Spelling.{network_header, SpellsDraft, SpellsNetwork, IsFault, OnlyFile, OnlyFault};
+ghost use Rattle.snd_network.specs.Spelling.{SpellsDraft, SpellsNetwork, IsFault, OnlyFile, OnlyFault};
 ghost use Rattle.snd_network.specs.WellFormed.{IsWellFormed};
 ghost use Rattle.snd_network.specs.Ends.{names_of};
 ghost use Rattle.snd_network.specs.Steps.{IsCutFault};

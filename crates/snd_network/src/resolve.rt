@@ -1,11 +1,10 @@
 //! Looking up the ends of links and demands among the nodes.
 
-ghost use Rattle.std.specs.Prelude.{◌≡◌, ◌∷◌, [], ◌≤◌, ◌<◌, ◌^◌, length, map, true, Some, None, IfOk, IfErr};
-ghost use Rattle.std.specs.Result.{result_err};
-ghost use Rattle.snd_reader.specs.declared.fault.TextFault.TheVariants.{Unknown, OutOfMemory};
+ghost use Rattle.std.specs.Prelude.{◌≡◌, ◌∷◌, [], ◌<◌, ◌^◌, length, true, Some, None, IfOk, IfErr};
+ghost use Rattle.snd_reader.specs.declared.fault.TextFault.TheVariants.{Unknown};
 ghost use Rattle.snd_network.specs.Names.{number_of};
 ghost use Rattle.snd_network.specs.Tests.{is_complete};
-ghost use Rattle.snd_network.specs.Ends.{IsNode, IsLinkOf, IsDemandOf, AreAllOf, IsFileOf, names_of, link_ends, demand_ends, all_ends, first_unknown};
+ghost use Rattle.snd_network.specs.Ends.{IsNode, IsLinkOf, IsDemandOf, AreAllOf, IsFileOf, names_of, link_ends, demand_ends, all_ends};
 ghost use Rattle.snd_network.specs.Steps.{IsUnknown};
 
 use crate::draft::{DemandDraft, Draft, End, LinkDraft, Named};

@@ -1,6 +1,6 @@
 //! What single tokens stand for, or what is wrong with them.
 
-ghost use Rattle.std.specs.Prelude.{◌≡◌, ◌≤◌, length, IfOk, codes};
+ghost use Rattle.std.specs.Prelude.{◌≡◌, ◌≤◌, length, IfOk};
 ghost use Rattle.snd_lexer.specs.declared.limits.TheConstants.{MAX_TEXT_BYTES};
 ghost use Rattle.scaled_numbers.specs.Scanning.{decimal_of};
 ghost use Rattle.snd_reader.specs.Seen.{seen, IsShort};

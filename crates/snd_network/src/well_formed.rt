@@ -1,6 +1,6 @@
 //! Whether a text can hold a network.
 
-ghost use Rattle.std.specs.Prelude.{◌≡◌, ◌↔◌, ◌<◌, ◌≤◌, length, IsTrue, All};
+ghost use Rattle.std.specs.Prelude.{◌≡◌, ◌↔◌, ◌<◌, length, IsTrue, All};
 ghost use Rattle.snd_lexer.specs.declared.token.Dialect.TheVariants as dialects;
 ghost use Rattle.snd_lexer.specs.Cutting.{is_word};
 ghost use Rattle.snd_network.specs.Names.{is_among};

@@ -1,6 +1,6 @@
 //! Writing a network as its canonical text.
 
-ghost use Rattle.std.specs.Prelude.{◌≡◌, ◌<◌, ◌++◌, ◌∷◌, [], length, map, codes, OnOk, IfOk, All, flat_map};
+ghost use Rattle.std.specs.Prelude.{◌≡◌, ◌<◌, ◌++◌, ◌∷◌, [], length, codes, OnOk, IfOk, All};
 ghost use Rattle.snd_reader.specs.Readers.{word, open_bracket, close_bracket};
 ghost use Rattle.snd_network.specs.Spelling.{SpellsNetwork};
 ghost use Rattle.snd_network.specs.WellFormed.{IsWellFormed, IsGoodLink, IsGoodDemand};

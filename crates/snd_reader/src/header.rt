@@ -1,6 +1,6 @@
 //! The first line of a text.
 
-ghost use Rattle.std.specs.Prelude.{◌≡◌, ◌≢◌, ◌↔◌, ◌≤◌, ◌++◌, ℕ, List, length, drop, IsTrue, IfSome, true};
+ghost use Rattle.std.specs.Prelude.{◌≡◌, ◌≢◌, ◌≤◌, ◌++◌, ℕ, List, length, IfSome};
 ghost use Rattle.std.specs.Option.{MatchOption};
 ghost use Rattle.snd_lexer.specs.Pieces.{front};
 ghost use Rattle.snd_reader.specs.Header.{is_line_blank, ends_line, HasHeader};

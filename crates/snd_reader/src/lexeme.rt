@@ -1,6 +1,6 @@
 //! One token as the readers see it.
 
-ghost use Rattle.std.specs.Prelude.{◌≡◌, ◌≤◌, length};
+ghost use Rattle.std.specs.Prelude.{◌≡◌, ◌≤◌};
 
 use crate::fault::{Complaint, Wanted};
 use scaled_numbers::read_decimal;

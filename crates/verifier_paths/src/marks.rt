@@ -1,7 +1,6 @@
 //! The restriction of a place in a tree, in marks that can be taken back.
 
-ghost use Rattle.std.specs.Prelude.{◌≡◌, ◌<◌, ◌+◌, ◌*◌, ◌∷◌, [], true, false, Bool, not, length, IfOk, All, slice_set, if◌then◌else◌};
-ghost use Rattle.plan_base.specs.declared.limits.TheConstants.{MAX_DEMANDS, MAX_LINKS};
+ghost use Rattle.std.specs.Prelude.{◌≡◌, ◌<◌, ◌+◌, ◌*◌, ◌∷◌, [], true, false, length, IfOk, All, if◌then◌else◌};
 ghost use Rattle.arc_restrict.specs.Restrictions.{none_forbidden, with_forbidden};
 ghost use Rattle.verifier_paths.specs.Kept.{forbidden_by, HasRows, without_forbidden};
 

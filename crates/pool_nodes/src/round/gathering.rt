@@ -1,6 +1,6 @@
 //! Paths of a round that become columns.
 
-ghost use Rattle.std.specs.Prelude.{◌≡◌, ◌<◌, ◌≤◌, true, length, IfOk, IfErr, IsErr};
+ghost use Rattle.std.specs.Prelude.{◌≡◌, ◌<◌, ◌≤◌, length, IfOk, IsErr};
 ghost use Rattle.plan_base.specs.declared.limits.TheConstants.{MAX_DEMANDS};
 ghost use Rattle.plan_base.specs.First.{first_in};
 ghost use Rattle.pool_machine.specs.Gathering.{with_path_of, gathered, ungathered_at};

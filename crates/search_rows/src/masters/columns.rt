@@ -1,8 +1,6 @@
 //! What `value` and `gain` answer to the columns of a brief, put into a pool.
 
 ghost use Rattle.std.specs.Prelude.{◌≡◌, ◌<◌, length, IfOk, IsTrue};
-ghost use Rattle.plan_base.specs.Arcs.{demand_at};
-ghost use Rattle.plan_base.specs.Paths.{IsSimplePath};
 ghost use Rattle.arc_restrict.specs.Rows.{forbids};
 ghost use Rattle.column_pool.specs.Briefs.{IsBriefFor};
 ghost use Rattle.column_pool.specs.Columns.{permitted_at, AreColumns};

@@ -1,4 +1,4 @@
-use Rattle.std.proofs.Common.{ℕ, ◌<◌, length}
+use Rattle.std.proofs.Common.{ℕ, ◌<◌}
 use Rattle.link_steps.specs.Steps.{step_at}
 use Rattle.link_steps.proofs.reading.first_reaching_near.Given as goal
 
