@@ -1,0 +1,4 @@
+pub mod Counts
+mod Levels
+mod Tables
+mod Walks
