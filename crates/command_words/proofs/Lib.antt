@@ -1,3 +1,2 @@
 pub mod Counts
 mod Numbers
-mod Folds

@@ -1,9 +1,10 @@
 //! What the words of a command line ask for.
 
-ghost use Rattle.std.specs.Prelude.{◌≡◌, ◌≤◌, ◌<◌, map, string_bytes, option_map, IfOk, IfSome};
-ghost use Rattle.command_words.specs.Words.{number_within, budget_of, workers_of, plan_of, on_network, sample_key, on_sample, on_three, with_names, command_of, command_now, heard_now, command_in, IsBudget, AreWorkers, IsSampleKey, IsInRange};
+ghost use Rattle.std.specs.Prelude.{◌≡◌, ◌≤◌, ◌<◌, map, string_bytes, option_map, option_and_then, IfOk, IfSome};
+ghost use Rattle.given_words.specs.Given.{given_now};
+ghost use Rattle.command_words.specs.Words.{number_within, budget_of, workers_of, plan_of, sample_key, plan_said, check_said, verify_said, report_said, key_said, sample_said, trial_said, command_by, command_now, command_in, IsBudget, AreWorkers, IsSampleKey, IsInRange};
 
-use crate::heard::{Heard, heard_in};
+use given_words::given_in;
 use instance_maker::limits::{MAX_DEMANDS, MAX_NODES, MAX_NUMBER, MIN_NODES};
 use plan_io::MAX_WORKERS;
 use proof_tree::limits::MAX_BUDGET;
@@ -122,30 +123,6 @@ fn plan_of<'a>(
     })
 }
 
-/// The command of a word about two texts.
-fn on_network<'a>(
-    word: &str,
-    network: &'a str,
-    model: &'a str,
-    workers: Option<&str>,
-    budget: Option<&str>,
-) -> Option<Command<&'a str>>
-    ensures value { option_map command_now result
-        ≡ on_network word.now network.now model.now (option_map (λ w. w.now) workers.entry) (option_map (λ w. w.now) budget.entry) }
-    ensures range { IfSome result (λ command. IsInRange (command_now command)) }
-{
-    if word == "plan" {
-        return plan_of(network, model, workers, budget);
-    }
-    if workers.is_some() || budget.is_some() {
-        return None;
-    }
-    match word {
-        "check" => Some(Command::Check { network, model }),
-        _ => None,
-    }
-}
-
 /// The sample that three words name.
 fn sample_key(number: &str, nodes: &str, demands: &str) -> Option<SampleKey>
     ensures value { result ≡ sample_key number.now nodes.now demands.now }
@@ -161,76 +138,120 @@ fn sample_key(number: &str, nodes: &str, demands: &str) -> Option<SampleKey>
     })
 }
 
-/// The command of a word about a sample.
-fn on_sample<'a>(word: &str, number: &str, nodes: &str, demands: &str) -> Option<Command<&'a str>>
-    ensures value { option_map command_now result ≡ on_sample word.now number.now nodes.now demands.now }
+/// The command `plan` of what its words give.
+#[tactic(auto, unfolding(crate::specs::Words::plan_said))]
+fn plan_said(given: Option<Vec<Option<&str>>>) -> Option<Command<&str>>
+    ensures value { option_map command_now result ≡ option_and_then plan_said (given_now given.entry) }
     ensures range { IfSome result (λ command. IsInRange (command_now command)) }
 {
-    match word {
-        "sample" => Some(Command::Sample(sample_key(number, nodes, demands)?)),
-        "trial" => Some(Command::Trial(sample_key(number, nodes, demands)?)),
+    let given = given?;
+    match *given.as_slice() {
+        [Some(network), Some(model), workers, nodes] => plan_of(network, model, workers, nodes),
         _ => None,
     }
 }
 
-/// The command of a word about three texts, or about a sample.
-fn on_three<'a>(
-    word: &str,
-    first: &'a str,
-    second: &'a str,
-    third: &'a str,
-    workers: Option<&str>,
-    budget: Option<&str>,
-) -> Option<Command<&'a str>>
-    ensures value { option_map command_now result
-        ≡ on_three word.now first.now second.now third.now (option_map (λ w. w.now) workers.entry) (option_map (λ w. w.now) budget.entry) }
+/// The command `check` of what its words give.
+#[tactic(auto, unfolding(crate::specs::Words::check_said))]
+fn check_said(given: Option<Vec<Option<&str>>>) -> Option<Command<&str>>
+    ensures value { option_map command_now result ≡ option_and_then check_said (given_now given.entry) }
     ensures range { IfSome result (λ command. IsInRange (command_now command)) }
 {
-    if workers.is_some() || budget.is_some() {
-        return None;
-    }
-    match word {
-        "verify" => Some(Command::Verify {
-            network: first,
-            model: second,
-            plan: third,
-        }),
-        "report" => Some(Command::Report {
-            network: first,
-            model: second,
-            plan: third,
-        }),
-        _ => on_sample(word, first, second, third),
-    }
-}
-
-/// The command of a word with these names.
-fn with_names<'a>(
-    word: &str,
-    names: &[&'a str],
-    workers: Option<&str>,
-    budget: Option<&str>,
-) -> Option<Command<&'a str>>
-    ensures value { option_map command_now result
-        ≡ with_names word.now (map (λ name. name.now) names.now) (option_map (λ w. w.now) workers.entry) (option_map (λ w. w.now) budget.entry) }
-    ensures range { IfSome result (λ command. IsInRange (command_now command)) }
-{
-    match names {
-        [network, model] => on_network(word, network, model, workers, budget),
-        [first, second, third] => on_three(word, first, second, third, workers, budget),
+    let given = given?;
+    match *given.as_slice() {
+        [Some(network), Some(model)] => Some(Command::Check { network, model }),
         _ => None,
     }
 }
 
-/// The command of a word and what the words behind it say.
-fn command_of<'a>(word: &str, heard: &Heard<'a>) -> Option<Command<&'a str>>
-    ensures value { option_map command_now result ≡ command_of word.now (heard_now heard.now) }
+/// The command `verify` of what its words give.
+#[tactic(auto, unfolding(crate::specs::Words::verify_said))]
+fn verify_said(given: Option<Vec<Option<&str>>>) -> Option<Command<&str>>
+    ensures value { option_map command_now result ≡ option_and_then verify_said (given_now given.entry) }
     ensures range { IfSome result (λ command. IsInRange (command_now command)) }
 {
-    if heard.awaits.is_some() {
-        return None;
+    let given = given?;
+    match *given.as_slice() {
+        [Some(network), Some(model), Some(plan)] => Some(Command::Verify {
+            network,
+            model,
+            plan,
+        }),
+        _ => None,
     }
-    with_names(word, heard.names.as_slice(), heard.workers, heard.budget)
+}
+
+/// The command `report` of what its words give.
+#[tactic(auto, unfolding(crate::specs::Words::report_said))]
+fn report_said(given: Option<Vec<Option<&str>>>) -> Option<Command<&str>>
+    ensures value { option_map command_now result ≡ option_and_then report_said (given_now given.entry) }
+    ensures range { IfSome result (λ command. IsInRange (command_now command)) }
+{
+    let given = given?;
+    match *given.as_slice() {
+        [Some(network), Some(model), Some(plan)] => Some(Command::Report {
+            network,
+            model,
+            plan,
+        }),
+        _ => None,
+    }
+}
+
+/// The sample that the words of a command about a sample give.
+#[tactic(auto, unfolding(crate::specs::Words::key_said))]
+fn key_said(given: Option<Vec<Option<&str>>>) -> Option<SampleKey>
+    ensures value { result ≡ option_and_then key_said (given_now given.entry) }
+    ensures range { IfSome result IsSampleKey }
+{
+    let given = given?;
+    match *given.as_slice() {
+        [Some(number), Some(nodes), Some(demands)] => sample_key(number, nodes, demands),
+        _ => None,
+    }
+}
+
+/// The command `sample` of what its words give.
+#[tactic(auto, unfolding(crate::specs::Words::sample_said))]
+fn sample_said<'a>(given: Option<Vec<Option<&'a str>>>) -> Option<Command<&'a str>>
+    ensures value { option_map command_now result ≡ option_and_then sample_said (given_now given.entry) }
+    ensures range { IfSome result (λ command. IsInRange (command_now command)) }
+{
+    Some(Command::Sample(key_said(given)?))
+}
+
+/// The command `trial` of what its words give.
+#[tactic(auto, unfolding(crate::specs::Words::trial_said))]
+fn trial_said<'a>(given: Option<Vec<Option<&'a str>>>) -> Option<Command<&'a str>>
+    ensures value { option_map command_now result ≡ option_and_then trial_said (given_now given.entry) }
+    ensures range { IfSome result (λ command. IsInRange (command_now command)) }
+{
+    Some(Command::Trial(key_said(given)?))
+}
+
+/// The command of a word and those behind it: for each command word its names, its options, and what they mean.
+fn command_by<'a>(
+    alloc: Global,
+    word: &str,
+    rest: &'a [String],
+) -> Result<Option<Command<&'a str>>, AllocError>
+    ensures value { IfOk result (λ asked. option_map command_now asked ≡ command_by word.now (map string_bytes rest.entry.now)) }
+    ensures range { IfOk result (λ asked. IfSome asked (λ command. IsInRange (command_now command))) }
+{
+    match word {
+        "plan" => Ok(plan_said(given_in(
+            alloc,
+            &["network", "model"],
+            &["workers", "nodes"],
+            rest,
+        )?)),
+        "check" => Ok(check_said(given_in(alloc, &["network", "model"], &[], rest)?)),
+        "verify" => Ok(verify_said(given_in(alloc, &["network", "model", "plan"], &[], rest)?)),
+        "report" => Ok(report_said(given_in(alloc, &["network", "model", "plan"], &[], rest)?)),
+        "sample" => Ok(sample_said(given_in(alloc, &["number", "nodes", "demands"], &[], rest)?)),
+        "trial" => Ok(trial_said(given_in(alloc, &["number", "nodes", "demands"], &[], rest)?)),
+        _ => Ok(None),
+    }
 }
 
 /// The command that the words ask for, where they are read.
@@ -243,11 +264,8 @@ pub fn command_in(alloc: Global, words: &[String]) -> Result<Option<Command<&str
     ensures value { IfOk result (λ asked. option_map command_now asked ≡ command_in (map string_bytes words.now)) }
     ensures range { IfOk result (λ asked. IfSome asked (λ command. IsInRange (command_now command))) }
 {
-    let [word, rest @ ..] = words else {
-        return Ok(None);
-    };
-    match heard_in(alloc, rest)? {
-        Some(heard) => Ok(command_of(word.as_str(), &heard)),
-        None => Ok(None),
+    match words {
+        [word, rest @ ..] => command_by(alloc, word.as_str(), rest),
+        [] => Ok(None),
     }
 }
