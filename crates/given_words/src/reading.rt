@@ -1,6 +1,6 @@
 //! What clap finds in the words.
 
-ghost use Rattle.std.specs.Prelude.{◌≡◌, ◌++◌, ◌<◌, ◌^◌, IfOk, map, length, string_bytes, option_map, true};
+ghost use Rattle.std.specs.Prelude.{◌≡◌, ◌++◌, IfOk, map, string_bytes, option_map, true};
 ghost use Rattle.clap.specs.Words.{app_of, found_of, rows_of, first_value, is_simple_and_free};
 ghost use Rattle.given_words.specs.Given.{are_different, told, word_now, given_now};
 ghost use Rattle.given_words.specs.Line.{rows_read};
