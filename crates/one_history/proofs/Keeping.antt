@@ -1,0 +1,146 @@
+use Rattle.std.proofs.Common.{◌≡◌, ◌≢◌, ℕ, List, [], ◌∷◌, ◌++◌, get_or, set, ◌⊎◌, inl, inr, ⊎_elim, ap, sym, refl, subst, ◌∙◌, Option, Some, None}
+use mathlib.Core.Logic.{dite}
+use mathlib.Core.Option.{none, some, some-injective}
+use native.Mathlib.Decide.{ℕ_discrete}
+use lib.ListN.{get_elem?}
+use Rattle.atomic_table.specs.Table.{Step, step, Act, Valid, homes_after, carried_after}
+use Rattle.atomic_table.proofs.Lists.{at_set, set_else, at_longer}
+use Rattle.one_history.specs.declared.view.Entry.{Entry}
+use Rattle.one_history.specs.declared.view.Role.{Role}
+use Rattle.one_history.specs.declared.view.Role.TheVariants.{Maker, Caller, Guest}
+use Rattle.one_history.specs.declared.view.Stage.{Stage}
+use Rattle.one_history.specs.declared.view.Stage.TheVariants.{Idle}
+use Rattle.one_history.specs.declared.view.View.{View}
+use Rattle.one_history.specs.Histories.{Leading}
+use Rattle.one_history.specs.Rules.{TableState, RolesApart, ticket_of, TicketsApart, Apart, HoldsSlot, IsHome, IsOut, Kept}
+use Rattle.one_history.specs.Steps.{Knowing, Learns}
+use Rattle.one_history.proofs.ViewLists.{at_end, each_set, each_snoc}
+
+-- What all steps share: the views stay apart, and the value stays where it is.
+
+-- the steps here tell the same whatever their operands are
+abbrev pub any_step : {D : Type 0} → Step (Option D)
+any_step {D} = step 0 0 0 0 none
+
+-- what a step owes at these words
+abbrev pub GoesAt : {D C : Type 0} → Leading D C → ℕ → TableState D C → List ℕ → ℕ → Knowing D C → ℕ → (ℕ → ℕ) → (ℕ → Knowing D C → Type 0) → Type 0
+GoesAt {D} {C} leads callers s words id me i f tells = (w : View C) × (a : Act (Option D)) × Valid s.homes me.1 a
+    × Kept leads callers record { words = set words i (f (get_or words i 0)); homes = homes_after s.homes me.1 a; views = set s.views id w }
+    × tells (get_or words i 0) (w, carried_after me.1 a)
+
+pub idle_holds_none : (stage : Stage) → stage ≡ Idle → HoldsSlot stage → ⊥
+idle_holds_none stage is = subst (λ z. HoldsSlot z → ⊥) (sym is) (λ b. b)
+
+pub no_ticket : (ticket : Option ℕ) → TicketsApart ticket None
+no_ticket None = tt
+no_ticket (Some t) = tt
+
+-- whoever has no ticket keeps any that it has
+pub idle_keeps : {B : Type 0} (stage : Stage) (t : ℕ) → stage ≡ Idle → ticket_of stage ≡ Some t → B
+idle_keeps stage t is has = let bad : None ≡ Some t = ap ticket_of (sym is) ∙ has in absurd (cc bad)
+
+guest_apart : (r : Role) → RolesApart r Guest
+guest_apart (Maker m) = tt
+guest_apart (Caller n) = tt
+guest_apart Guest = tt
+
+module _ {C : Type 0} where
+  -- a guest without a ticket is apart from all
+  pub stranger_apart : (w : View C) → w.role ≡ Guest → w.stage ≡ Idle → (u : View C) → Apart w u × Apart u w
+  stranger_apart w role idle u = (
+    (subst (λ r. RolesApart r u.role) (sym role) tt, subst (λ st. TicketsApart (ticket_of st) (ticket_of u.stage)) (sym idle) tt),
+    (subst (λ r. RolesApart u.role r) (sym role) (guest_apart u.role), subst (λ st. TicketsApart (ticket_of u.stage) (ticket_of st)) (sym idle) (no_ticket (ticket_of u.stage))),
+  )
+
+  -- all views are apart after one has changed, where the new one is apart from the others
+  pub apart_set : (vs : List (View C)) (id : ℕ) (w : View C) → ((i j : ℕ) (v u : View C) → i ≢ j → get_elem? vs i ≡ some v → get_elem? vs j ≡ some u → Apart v u)
+      → ((j : ℕ) (u : View C) → j ≢ id → get_elem? vs j ≡ some u → Apart w u × Apart u w)
+      → (i j : ℕ) (v u : View C) → i ≢ j → get_elem? (set vs id w) i ≡ some v → get_elem? (set vs id w) j ≡ some u → Apart v u
+  apart_set vs id w all new i j v u ne ati atj =
+      ⊎_elim
+      (λ (t : (i ≡ id) × (w ≡ v)). ⊎_elim
+      (λ (r : (j ≡ id) × (w ≡ u)). absurd (ne (t.0 ∙ sym r.0)))
+      (λ (r : (j ≢ id) × (get_elem? vs j ≡ some u)). subst (λ (z : View C). Apart z u) t.1 (new j u r.0 r.1).0)
+      (at_set vs id j w u atj))
+      (λ (t : (i ≢ id) × (get_elem? vs i ≡ some v)). ⊎_elim
+      (λ (r : (j ≡ id) × (w ≡ u)). subst (λ (z : View C). Apart v z) r.1 (new i v t.0 t.1).1)
+      (λ (r : (j ≢ id) × (get_elem? vs j ≡ some u)). all i j v u ne t.1 r.1)
+      (at_set vs id j w u atj))
+      (at_set vs id i w v ati)
+
+  -- the same after one has come last
+  pub apart_snoc : (vs : List (View C)) (w : View C) → ((i j : ℕ) (v u : View C) → i ≢ j → get_elem? vs i ≡ some v → get_elem? vs j ≡ some u → Apart v u)
+      → ((j : ℕ) (u : View C) → get_elem? vs j ≡ some u → Apart w u × Apart u w)
+      → (i j : ℕ) (v u : View C) → i ≢ j → get_elem? (vs ++ w ∷ []) i ≡ some v → get_elem? (vs ++ w ∷ []) j ≡ some u → Apart v u
+  apart_snoc vs w all new i j v u ne ati atj =
+      ⊎_elim
+      (λ (t : get_elem? vs i ≡ some v). ⊎_elim
+      (λ (r : get_elem? vs j ≡ some u). all i j v u ne t r)
+      (λ r. subst (λ (z : View C). Apart v z) r.1 (new i v t).1)
+      (at_end vs w u j atj))
+      (λ t. ⊎_elim
+      (λ (r : get_elem? vs j ≡ some u). subst (λ (z : View C). Apart z u) t.1 (new j u r).0)
+      (λ r. absurd (ne (t.0 ∙ sym r.0)))
+      (at_end vs w u j atj))
+      (at_end vs w v i ati)
+
+module _ {D C : Type 0} (leads : Leading D C) (serving : ℕ) (history : List (Entry C)) (s : TableState D C) where
+  -- a pass without the slot changes its view: the value stays where it is
+  pub place_set : (words : List ℕ) (id : ℕ) (v w : View C) → get_elem? s.views id ≡ some v → (HoldsSlot v.stage → ⊥) → (HoldsSlot w.stage → ⊥)
+      → IsHome leads serving history s ⊎ IsOut serving history s
+      → IsHome leads serving history record { words = words; homes = s.homes; views = set s.views id w } ⊎ IsOut serving history record { words = words; homes = s.homes; views = set s.views id w }
+  place_set words id v w at none_before none_after (inl h) = inl record {
+    value = h.value;
+    homes = h.homes;
+    can = h.can;
+    long = h.long;
+    nobody = each_set (λ j u. HoldsSlot u.stage → ⊥) s.views id w none_after (λ j u _ there. h.nobody j u there);
+  }
+  place_set words id v w at none_before none_after (inr a) = inr record {
+    homes = a.homes;
+    holder = a.holder;
+    view = a.view;
+    raised = a.raised;
+    here = set_else s.views id a.holder w (λ same. none_before (subst (λ (u : View C). HoldsSlot u.stage) (some-injective _ _ (sym a.here ∙ (ap (get_elem? s.views) same ∙ at))) (subst HoldsSlot (sym a.stage) tt))) ∙ a.here;
+    stage = a.stage;
+    long = a.long;
+  }
+
+  -- the same where a view without the slot comes last
+  pub place_snoc : (w : View C) → (HoldsSlot w.stage → ⊥) → IsHome leads serving history s ⊎ IsOut serving history s
+      → IsHome leads serving history record { words = s.words; homes = s.homes; views = s.views ++ w ∷ [] } ⊎ IsOut serving history record { words = s.words; homes = s.homes; views = s.views ++ w ∷ [] }
+  place_snoc w none_there (inl h) = inl record {
+    value = h.value;
+    homes = h.homes;
+    can = h.can;
+    long = h.long;
+    nobody = each_snoc (λ u. HoldsSlot u.stage → ⊥) s.views w h.nobody none_there;
+  }
+  place_snoc w none_there (inr a) = inr record {
+    homes = a.homes;
+    holder = a.holder;
+    view = a.view;
+    raised = a.raised;
+    here = at_longer s.views (w ∷ []) a.holder a.view a.here;
+    stage = a.stage;
+    long = a.long;
+  }
+
+module _ {D C : Type 0} (leads : Leading D C) (callers : ℕ) (s : TableState D C) (k : Kept leads callers s) (id : ℕ) (v : View C) where
+  pub learned : get_elem? s.views id ≡ some v → Learns leads v k.history
+  learned at = let f = k.each id v at in record { legal = k.legal; seen = f.seen; heard = f.heard; own = f.own }
+
+  -- the pass with the ticket that is served is the one that holds the slot
+  holder_is : (a : IsOut k.serving k.history s) → get_elem? s.views id ≡ some v → ticket_of v.stage ≡ Some k.serving → a.holder ≡ id
+  holder_is a at is = dite (ℕ_discrete a.holder id) (λ e. e) (λ ne.
+      let x = (k.apart a.holder id a.view v ne a.here at).1 in
+      let y : TicketsApart (Some k.serving) (Some k.serving) = subst (λ (z : Option ℕ × Option ℕ). TicketsApart z.0 z.1) (λ i. (ap ticket_of a.stage i, is i)) x in
+      absurd (y refl))
+
+  pub holder_view : (a : IsOut k.serving k.history s) → get_elem? s.views id ≡ some v → ticket_of v.stage ≡ Some k.serving → a.view ≡ v
+  holder_view a at is = some-injective _ _ (sym a.here ∙ (ap (get_elem? s.views) (holder_is a at is) ∙ at))
+
+  -- whoever holds the slot has it out
+  pub is_out : HoldsSlot v.stage → get_elem? s.views id ≡ some v → IsHome leads k.serving k.history s ⊎ IsOut k.serving k.history s → IsOut k.serving k.history s
+  is_out holds at (inl h) = absurd (h.nobody id v at holds)
+  is_out holds at (inr a) = a

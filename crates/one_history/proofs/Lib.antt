@@ -1,0 +1,12 @@
+mod ViewLists
+mod Growing
+mod Keeping
+mod Drawing
+mod Looking
+mod Raising
+mod Serving
+mod Splitting
+mod Making
+mod Joining
+mod Ending
+pub mod Calling

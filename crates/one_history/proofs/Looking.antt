@@ -1,0 +1,145 @@
+use Rattle.std.proofs.Common.{◌≡◌, ◌≢◌, ℕ, false, [], ◌∷◌, length, set, ◌⊎◌, inl, inr, refl, ap, sym, subst, ◌∙◌, arith, Some}
+use mathlib.Core.Logic.{dite}
+use mathlib.Core.Option.{some, none}
+use native.Mathlib.Decide.{ℕ_discrete}
+use lib.ListN.{get_elem?}
+use Rattle.atomic_table.specs.Table.{keeps, takes, Allows, rest}
+use Rattle.atomic_table.proofs.Lists.{set_again, set_here}
+use Rattle.one_history.specs.declared.view.Stage.TheVariants.{Idle, Waiting, Holding}
+use Rattle.one_history.specs.declared.view.View.{View}
+use Rattle.one_history.specs.Histories.{Leading}
+use Rattle.one_history.specs.Rules.{TableState, ticket_of, TicketsApart, StageFits, Fits, IsHome, IsOut, Kept}
+use Rattle.one_history.specs.Steps.{Knowing, with_seen, IsServed, LooksAt, Looks, Hears}
+use Rattle.one_history.proofs.ViewLists.{prefix_self, total_set, each_set, at_inside, held_set}
+use Rattle.one_history.proofs.Keeping.{any_step, GoesAt, idle_holds_none, apart_set, place_set, learned, holder_view}
+
+-- Looking which ticket is served keeps the rule.
+
+module _ {D C : Type 0} (leads : Leading D C) (callers id : ℕ) (m : Knowing D C) (s : TableState D C) (k : Kept leads callers s) where
+  -- the ticket is served: the pass takes the slot
+  served : get_elem? s.views id ≡ some m.0 → m.0.stage ≡ Waiting k.serving → IsHome leads k.serving k.history s
+      → GoesAt leads callers s (k.tickets ∷ k.serving ∷ length k.history ∷ []) id m 1 (λ n. n) (λ n new. LooksAt leads (Waiting k.serving) m n new)
+  served at is home =
+      let v = m.0 in
+      let w = with_seen v (Holding k.serving false) k.history in
+      let draws = total_set (λ u. u.draws) s.views id v w at in
+      let all = k.draws in
+      let parts = total_set (λ u. u.parts) s.views id v w at in
+      let all_parts = k.parts in
+      let f = k.each id v at in
+      let waits = subst (StageFits k.tickets k.serving k.history v) is f.stage in
+      let long = home.long in (
+        w,
+        takes 0 (Some home.value),
+        ap (λ hs. get_elem? hs 0) home.homes,
+        record {
+          tickets = k.tickets;
+          serving = k.serving;
+          history = k.history;
+          order = k.order;
+          words = refl;
+          draws = omega arith;
+          parts = omega arith;
+          legal = k.legal;
+          each = each_set (λ _ u. Fits k.tickets k.serving k.history u) s.views id w
+              (record { seen = prefix_self k.history; heard = f.heard; own = f.own; stage = (refl, waits.1, waits.2, waits.3, refl) })
+              (λ j u _ there. k.each j u there);
+          apart = apart_set s.views id w k.apart (λ j u ne there.
+              let l = k.apart id j v u (λ e. ne (sym e)) at there in
+              let r = k.apart j id u v ne there at in
+              ((l.0, subst (λ z. TicketsApart (ticket_of z) (ticket_of u.stage)) is l.1), (r.0, subst (λ z. TicketsApart (ticket_of u.stage) (ticket_of z)) is r.1)));
+          held = λ t from below. held_set s.views id v w t at (λ has. ap ticket_of (sym is) ∙ has) (k.held t from below);
+          place = inr record {
+            homes = ap (λ hs. set hs 0 none) home.homes;
+            holder = id;
+            view = w;
+            raised = false;
+            here = set_here s.views id w (at_inside s.views id v at);
+            stage = refl;
+            long = omega arith;
+          };
+        },
+        ((λ _. record { history = k.history; value = home.value; after = refl; can = home.can; learns = learned leads callers s k id v at }), (λ ne. absurd (ne refl))),
+      )
+
+  -- another ticket is served: nothing changes
+  unserved : (t : ℕ) → get_elem? s.views id ≡ some m.0 → k.serving ≢ t
+      → GoesAt leads callers s (k.tickets ∷ k.serving ∷ length k.history ∷ []) id m 1 (λ n. n) (λ n new. LooksAt leads (Waiting t) m n new)
+  unserved t at ne = (
+    m.0,
+    keeps,
+    tt,
+    subst (λ vs. Kept leads callers record { words = k.tickets ∷ k.serving ∷ length k.history ∷ []; homes = s.homes; views = vs }) (sym (set_again s.views id m.0 at))
+        (subst (λ words. Kept leads callers record { words = words; homes = s.homes; views = s.views }) k.words k),
+    ((λ e. absurd (ne e)), (λ _. refl)),
+  )
+
+  -- while a waiting pass has the ticket that is served, the value is in the slot
+  at_home : get_elem? s.views id ≡ some m.0 → m.0.stage ≡ Waiting k.serving → IsHome leads k.serving k.history s ⊎ IsOut k.serving k.history s → IsHome leads k.serving k.history s
+  at_home at is (inl h) = h
+  at_home at is (inr a) =
+      let same = holder_view leads callers s k id m.0 a at (ap ticket_of is) in
+      let bad : Waiting k.serving ≡ Holding k.serving a.raised = sym is ∙ (ap (λ (u : View C). u.stage) (sym same) ∙ a.stage) in
+      absurd (cc bad)
+
+  looks_at : (t : ℕ) → get_elem? s.views id ≡ some m.0 → m.0.stage ≡ Waiting t
+      → GoesAt leads callers s (k.tickets ∷ k.serving ∷ length k.history ∷ []) id m 1 (λ n. n) (λ n new. LooksAt leads (Waiting t) m n new)
+  looks_at t at is = dite (ℕ_discrete k.serving t)
+      (λ e. subst (λ u. GoesAt leads callers s (k.tickets ∷ k.serving ∷ length k.history ∷ []) id m 1 (λ n. n) (λ n new. LooksAt leads (Waiting u) m n new)) e
+      (let is' : m.0.stage ≡ Waiting k.serving = is ∙ ap (λ (x : ℕ). Waiting x) (sym e) in served at is' (at_home at is' k.place)))
+      (λ ne. unserved t at ne)
+
+  -- a pass without a ticket sees the whole history
+  hears_at : get_elem? s.views id ≡ some m.0 → m.0.stage ≡ Idle
+      → GoesAt leads callers s (k.tickets ∷ k.serving ∷ length k.history ∷ []) id m 1 (λ n. n) (Hears leads any_step m)
+  hears_at at is =
+      let v = m.0 in
+      let w = with_seen v v.stage k.history in
+      let draws = total_set (λ u. u.draws) s.views id v w at in
+      let all = k.draws in
+      let parts = total_set (λ u. u.parts) s.views id v w at in
+      let all_parts = k.parts in
+      let f = k.each id v at in (
+        w,
+        keeps,
+        tt,
+        record {
+          tickets = k.tickets;
+          serving = k.serving;
+          history = k.history;
+          order = k.order;
+          words = refl;
+          draws = omega arith;
+          parts = omega arith;
+          legal = k.legal;
+          each = each_set (λ _ u. Fits k.tickets k.serving k.history u) s.views id w
+              (record { seen = prefix_self k.history; heard = f.heard; own = f.own; stage = subst (StageFits k.tickets k.serving k.history w) (sym is) tt })
+              (λ j u _ there. k.each j u there);
+          apart = apart_set s.views id w k.apart (λ j u ne there. (k.apart id j v u (λ e. ne (sym e)) at there, k.apart j id u v ne there at));
+          held = λ t from below. held_set s.views id v w t at (λ has. has) (k.held t from below);
+          place = place_set leads k.serving k.history s _ id v w at (idle_holds_none v.stage is) (idle_holds_none v.stage is) k.place;
+        },
+        record { history = k.history; after = refl; learns = learned leads callers s k id v at },
+      )
+
+module _ {D C : Type 0} (leads : Leading D C) where
+  -- a look with a ticket
+  pub looks : (callers slots id : ℕ) (m : Knowing D C) (t : ℕ) → m.0.stage ≡ Waiting t → Allows (Kept leads callers) slots id m 1 (λ n. n) (Looks leads any_step m)
+  looks callers slots id m t is s k _ at _ =
+      subst (λ words. GoesAt leads callers s words id m 1 (λ n. n) (Looks leads any_step m)) (sym k.words)
+      (subst (λ stage. GoesAt leads callers s (k.tickets ∷ k.serving ∷ length k.history ∷ []) id m 1 (λ n. n) (λ n new. LooksAt leads stage m n new)) (sym is)
+      (looks_at leads callers id m s k t at is))
+
+  -- a look without one
+  pub hears : (callers slots id : ℕ) (m : Knowing D C) → m.0.stage ≡ Idle → Allows (Kept leads callers) slots id m 1 (λ n. n) (Hears leads any_step m)
+  hears callers slots id m is s k _ at _ = subst (λ words. GoesAt leads callers s words id m 1 (λ n. n) (Hears leads any_step m)) (sym k.words) (hears_at leads callers id m s k at is)
+
+  pub served_after : (m new : Knowing D C) (t n : ℕ) → LooksAt leads m.0.stage m n new → m.0.stage ≡ Waiting t → n ≡ t → IsServed leads t m new
+  served_after m new t n l is e = (subst (λ stage. LooksAt leads stage m n new) is l).0 e
+
+  pub unserved_after : (m new : Knowing D C) (t n : ℕ) → LooksAt leads m.0.stage m n new → m.0.stage ≡ Waiting t → n ≢ t → new ≡ m
+  unserved_after m new t n l is ne = (subst (λ stage. LooksAt leads stage m n new) is l).1 ne
+
+  -- a pass whose ticket is served has the slot, in front of what it had
+  pub has_slot : (m new : Knowing D C) (t : ℕ) → IsServed leads t m new → (value : D) × (new.1 ≡ (0, Some value) ∷ rest new.1)
+  has_slot m new t h = (h.value, ap (λ x. x.1) h.after ∙ ap (λ xs. (0, Some h.value) ∷ xs) (sym (ap (λ (x : Knowing D C). rest x.1) h.after)))

@@ -1,0 +1,4 @@
+pub mod Histories
+pub mod Rules
+pub mod Steps
+pub mod Passes

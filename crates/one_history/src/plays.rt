@@ -1,0 +1,104 @@
+//! The rule of the table, and what each step tells of it.
+
+use crate::meaning::{Meaning, Said};
+use crate::view::View;
+use atomic_table::{Join, Play, Split, TableRule};
+use std::marker::PhantomData;
+
+/// The rule, for values to which histories lead as M says.
+pub struct Law<M> {
+    of: PhantomData<M>,
+}
+
+impl<D, C, M: Meaning<D, C>> TableRule<Option<D>, View<C>, u64> for Law<M> {
+    ghost use Rattle.one_history.specs.Rules.{Kept};
+    ghost use Rattle.one_history.specs.Steps.{maker};
+
+    ghost holds = { λ callers. Kept M.leads callers };
+
+    ghost first = { λ callers. maker callers };
+}
+
+/// A ticket is drawn.
+pub(crate) struct Draw;
+
+impl<D, C> Play<Option<D>, View<C>> for Draw {
+    ghost use Rattle.one_history.specs.Steps.{Draws};
+
+    ghost then = { Draws };
+}
+
+/// A pass with a ticket looks which one is served, and takes the slot where it is its own.
+pub(crate) struct Look<M> {
+    of: PhantomData<M>,
+}
+
+impl<D, C, M: Meaning<D, C>> Play<Option<D>, View<C>> for Look<M> {
+    ghost use Rattle.one_history.specs.Steps.{Looks};
+
+    ghost then = { Looks M.leads };
+}
+
+/// A pass without a ticket looks, and sees the whole history.
+pub(crate) struct Hear<M> {
+    of: PhantomData<M>,
+}
+
+impl<D, C, M: Meaning<D, C>> Play<Option<D>, View<C>> for Hear<M> {
+    ghost use Rattle.one_history.specs.Steps.{Hears};
+
+    ghost then = { Hears M.leads };
+}
+
+/// The call that W names is added to the history.
+pub(crate) struct Raise<W> {
+    of: PhantomData<W>,
+}
+
+impl<D, C, W: Said<C>> Play<Option<D>, View<C>> for Raise<W> {
+    ghost use Rattle.one_history.specs.Steps.{Raises};
+
+    ghost then = { Raises W.call };
+}
+
+/// The slot goes back, and the next ticket is served.
+pub(crate) struct Serve;
+
+impl<D, C> Play<Option<D>, View<C>> for Serve {
+    ghost use Rattle.one_history.specs.Steps.{Serves};
+
+    ghost then = { Serves };
+}
+
+/// The maker makes a caller.
+pub(crate) struct NewCaller;
+
+impl<C> Split<View<C>> for NewCaller {
+    ghost use Rattle.one_history.specs.Steps.{maker_after, new_caller};
+
+    ghost left = { maker_after };
+
+    ghost right = { new_caller };
+}
+
+/// What a pass has seen is copied for a guest.
+pub(crate) struct Copied;
+
+impl<C> Split<View<C>> for Copied {
+    ghost use Rattle.one_history.specs.Steps.{guest_of};
+
+    ghost left = { λ v. v };
+
+    ghost right = { guest_of };
+}
+
+/// A pass takes another one in.
+pub(crate) struct Together;
+
+impl<C> Join<View<C>> for Together {
+    ghost use Rattle.one_history.specs.Steps.{joined, spent};
+
+    ghost both = { joined };
+
+    ghost spent = { spent };
+}
