@@ -11,14 +11,19 @@ use Rattle.one_history.specs.Steps.{Knowing, with_seen, drawing, adding, Learns,
 use Rattle.one_history.specs.Passes.{Pass, IsReady, IsAtRest, HasEntered, HasAdded, IsAdding}
 use Rattle.one_history.proofs.Growing.{own_more}
 
+-- whoever is at rest is a caller
+pub is_caller : {D C : Type 0} (number calls : ℕ) (pass : Pass D C) → IsAtRest number calls pass → IsCaller pass.me.0.role
+is_caller number calls pass resting = subst IsCaller (sym resting.1) tt
+
 -- a caller at rest with calls left is ready
 pub ready : {D C : Type 0} (number calls : ℕ) (pass : Pass D C) → IsAtRest number calls pass → calls < MAX_CALLS → IsReady pass
 ready number calls pass resting below =
     let few = resting.3 in
     let one = resting.4 in
-    (resting.0, subst IsCaller (sym resting.1) tt, omega arith, omega arith)
+    (resting.0, is_caller number calls pass resting, omega arith, omega arith)
 
-own_calls : {C : Type 0} (history : List (Entry C)) (role : Role) (mine : List (Entry C)) → IsCaller role → OwnCalls history role mine → calls_by (number_of role) history ≡ mine
+-- what is said of each role, of a caller
+pub own_calls : {C : Type 0} (history : List (Entry C)) (role : Role) (mine : List (Entry C)) → IsCaller role → OwnCalls history role mine → calls_by (number_of role) history ≡ mine
 own_calls history (Maker m) mine is own = absurd is
 own_calls history (Caller n) mine is own = own
 own_calls history Guest mine is own = absurd is
