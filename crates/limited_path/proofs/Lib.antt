@@ -1,0 +1,5 @@
+pub mod WrittenLaws
+pub mod OfferLaws
+pub mod RoundLaws
+pub mod WayLaws
+pub mod FoundLaws

@@ -1,0 +1,5 @@
+use Rattle.limited_path.specs.Labels.{AreRounds}
+use Rattle.limited_path.proofs.rounds.Query.rounds.Given as goal
+
+abbrev pub invariant-loop-done : goal.invariant-loop-done
+invariant-loop-done l = AreRounds l.self.inst.now l.self.weights.now l.self.source l.ways.labels.items l.ways.latest.items l.from l.done
