@@ -1,13 +1,16 @@
 -- What changes where a label is offered.
-use Rattle.std.proofs.Common.{◌≡◌, ◌≢◌, ℕ, suc, ◌+◌, ◌*◌, ◌<◌, ◌≤◌, inl, inr, nat_lt, List, length, Option, Some, None, IfSome, refl, sym, ◌∙◌, ap, subst, arith}
+use Rattle.std.proofs.Common.{◌≡◌, ◌≢◌, ℕ, suc, ◌+◌, ◌-◌, ◌*◌, ◌<◌, ◌≤◌, inl, inr, nat_lt, List, length, Option, Some, None, IfSome, IsSome, slice_index_or, refl, sym, ◌∙◌, ap, subst, arith}
 use Rattle.std.proofs.Math.ListN.{set, length-set}
 use Rattle.std.proofs.lemmas.Bool.{ltb-true, ltb-false}
 use Rattle.std.proofs.lemmas.List.{get_or-set_same, get_or-set_other, get_or_past}
+use Rattle.std.proofs.Math.Nat.{suc-mul, mul-le-mul_right}
+use Rattle.std_collections.proofs.IndexTableLemmas.Probe.{pigeonhole}
 use Rattle.std.specs.Option.{unwrap_or}
 use Rattle.plan_base.specs.declared.ids.NodeId.{NodeId}
 use Rattle.plan_base.specs.declared.ids.ArcId.{ArcId}
 use Rattle.plan_base.specs.declared.parts.Parts.{Parts}
 use Rattle.plan_base.specs.Arcs.{tail_of, head_of}
+use Rattle.plan_base.specs.Leaving.{AreLeaving}
 use Rattle.plan_base.specs.Paths.{arc_at}
 use Rattle.least_path.specs.declared.limits.TheConstants.{MAX_WEIGHT}
 use Rattle.least_path.specs.Paths.{Weights, weight_at, AreWeights, IsUsable}
@@ -28,6 +31,7 @@ record Goes (ls : Labels) (la : Latest) (start : ℕ) (l : Label) (i : ℕ) : Ty
   after : start ≤ i
   shorter : (b : ℕ) → latest_at la l.node.0 ≡ Some b → l.length < (label_at ls b).length
   replaced : i < length ls → latest_at la l.node.0 ≡ Some i
+  fresh : (b : ℕ) → latest_at la l.node.0 ≡ Some b → start ≤ b → b ≡ i
 
 -- what is known of the node is no longer than the label
 record IsNoShorter (ls : Labels) (la : Latest) (l : Label) : Type 0 where
@@ -41,6 +45,7 @@ goes-new ls la start l i fits none is = record {
   after = omega (arith, is, fits);
   shorter = λ b some. absurd (let bad : None ≡ Some b = sym none ∙ some in cc);
   replaced = λ below. absurd (omega (arith, below, is));
+  fresh = λ b some new. absurd (let bad : None ≡ Some b = sym none ∙ some in cc);
 }
 
 goes-shorter : (ls : Labels) (la : Latest) (start : ℕ) (l : Label) (b i : ℕ) → start ≤ length ls → b < length ls → latest_at la l.node.0 ≡ Some b → l.length < (label_at ls b).length → free_place ls start b ≡ i → Goes ls la start l i
@@ -49,7 +54,13 @@ goes-shorter ls la start l b i fits within known shorter is =
     elim (decide (nat_lt b start)) [
       | inl before ↦
           let last : length ls ≡ i = rw before at is in
-          record { within = omega (arith, last); after = omega (arith, last, fits); shorter = all; replaced = λ below. absurd (omega (arith, below, last)) }
+          record {
+            within = omega (arith, last);
+            after = omega (arith, last, fits);
+            shorter = all;
+            replaced = λ below. absurd (omega (arith, below, last));
+            fresh = λ c at new. absurd (omega (arith, some_same (latest_at la l.node.0) b c known at, new, ltb-true b start before));
+          }
       | inr after ↦
           let here : b ≡ i = rw after at is in
           record {
@@ -57,6 +68,7 @@ goes-shorter ls la start l b i fits within known shorter is =
             after = omega (arith, here, ltb-false b start after);
             shorter = all;
             replaced = λ below. known ∙ ap (λ (x : ℕ). Some x) here;
+            fresh = λ c at new. sym (some_same (latest_at la l.node.0) b c known at) ∙ here;
           }
     ]
 
@@ -95,6 +107,21 @@ pub record GoesOn (p : Parts) (ws : Weights) (ls : Labels) (start n k : ℕ) (l 
   pub tail : (tail_of p l.via).0 ≡ (label_at ls k).node.0
   pub steps : l.steps ≡ n
   pub length_is : l.length ≡ (label_at ls k).length + weight_at ws l.via
+
+-- the label that goes on along the arc at place i of those that leave the node
+pub goes-on : (p : Parts) (ws : Weights) (ls : Labels) (start n k : ℕ) (from : Label) (arcs : List ArcId) (i weight : ℕ) (head : NodeId) → k < start → label_at ls k ≡ from → AreLeaving p from.node.0 arcs → i < length arcs → slice_index_or ws (arc_at arcs i).0 None ≡ Some weight → head ≡ head_of p (arc_at arcs i) → head.0 < p.nodes → GoesOn p ws ls start n k (record { node = head; length = from.length + weight; steps = n; via = arc_at arcs i; parent = k })
+goes-on p ws ls start n k from arcs i weight head before is leaving within weighted head_is inside =
+    let weight_is : weight_at ws (arc_at arcs i) ≡ weight = ap (λ (x : Option ℕ). unwrap_or x 0) weighted in
+    record {
+      usable = record { is_an_arc = leaving.are_arcs i within; weighted = subst (λ (x : Option ℕ). IsSome x) (sym weighted) refl };
+      head = sym (ap (λ (v : NodeId). v.0) head_is);
+      node_within = inside;
+      parent = refl;
+      parent_before = before;
+      tail = leaving.leave i within ∙ sym (ap (λ (x : Label). x.node.0) is);
+      steps = refl;
+      length_is = omega (arith, ap (λ (x : Label). x.length) is, weight_is);
+    }
 
 -- a label of the round before is not written anew
 before-kept : (ls : Labels) (la : Latest) (start : ℕ) (l : Label) (i j : ℕ) → start ≤ length ls → Goes ls la start l i → j < start → label_at (written ls i l) j ≡ label_at ls j
@@ -303,14 +330,30 @@ module _ (p : Parts) (ws : Weights) (s : NodeId) (ls : Labels) (la : Latest) (st
         }
   ]
 
-  new-after : (j : ℕ) → start ≤ j → j < length after → IsNew after start n j
+  latest-new : (j : ℕ) → start ≤ j → j ≢ i → j < length ls → latest_at latest_after (label_at ls j).node.0 ≡ Some j
+  latest-new j from other below =
+      let is = (h.new j from below).latest in
+      elim (same_or_not (label_at ls j).node.0 l.node.0) [
+        | inl node ↦ absurd (other (g.fresh j (subst (λ (v : ℕ). latest_at la v ≡ Some j) node is) from))
+        | inr apart ↦ latest-other (label_at ls j).node.0 apart ∙ is
+      ]
+
+  new-after : (j : ℕ) → start ≤ j → j < length after → IsNew after latest_after start n j
   new-after j from below = elim (new_or_old ls i l j g.within below) [
     | inl is ↦
         let at : label_at after j ≡ l = ap (label_at after) is ∙ here in
-        record { steps = ap (λ (x : Label). x.steps) at ∙ on.steps; earlier = omega (arith, ap (λ (x : Label). x.parent) at, on.parent, on.parent_before) }
+        record {
+          steps = ap (λ (x : Label). x.steps) at ∙ on.steps;
+          earlier = omega (arith, ap (λ (x : Label). x.parent) at, on.parent, on.parent_before);
+          latest = ap (λ (x : Label). latest_at latest_after x.node.0) at ∙ latest-here ∙ ap (λ (x : ℕ). Some x) (sym is);
+        }
     | inr was ↦
         let new = h.new j from was.within in
-        record { steps = ap (λ (x : Label). x.steps) was.same ∙ new.steps; earlier = omega (arith, ap (λ (x : Label). x.parent) was.same, new.earlier) }
+        record {
+          steps = ap (λ (x : Label). x.steps) was.same ∙ new.steps;
+          earlier = omega (arith, ap (λ (x : Label). x.parent) was.same, new.earlier);
+          latest = ap (λ (x : Label). latest_at latest_after x.node.0) was.same ∙ latest-new j from was.other was.within;
+        }
   ]
 
   round-after : k ≤ start → IsRound p ws s after latest_after start n k
@@ -318,6 +361,7 @@ module _ (p : Parts) (ws : Weights) (s : NodeId) (ls : Labels) (la : Latest) (st
     ways = ways-after;
     some_before = h.some_before;
     start_within = omega (arith, h.start_within, longer.kept);
+    few = h.few;
     before = λ j below. omega (arith, ap (λ (x : Label). x.steps) (kept j below), h.before j below);
     front = λ j from below. omega (arith, ap (λ (x : Label). x.steps) (kept j below), h.front j from below);
     done = λ j below. subst (λ (x : Label). IsDone p ws after x) (sym (kept j (omega (arith, below, upto)))) (λ a usable tail. at_most-kept _ _ _ (h.done j below a usable tail));
@@ -397,3 +441,31 @@ kept-with ls la start l j (Some i) fits inside before is = before-kept ls la sta
 
 pub kept-offered : (p : Parts) (ws : Weights) (s : NodeId) (ls : Labels) (la : Latest) (start n k : ℕ) (l : Label) → IsRound p ws s ls la start n k → k < start → label_at (labels_with ls l (place_of ls la start l)) k ≡ label_at ls k
 kept-offered p ws s ls la start n k l h before = kept-with ls la start l k (place_of ls la start l) h.start_within (λ b known. (h.ways.latest l.node.0 b known).within) before refl
+
+-- a round finds at most one label for each node
+pub few-labels : (p : Parts) (ws : Weights) (s : NodeId) (ls : Labels) (la : Latest) (start n k : ℕ) → IsRound p ws s ls la start n k → length ls ≤ start + p.nodes
+few-labels p ws s ls la start n k h =
+    let found : ℕ = length ls - start in
+    let few : found ≤ p.nodes = pigeonhole found p.nodes (λ j. (label_at ls (start + j)).node.0)
+    (λ j below. (h.ways.each (start + j) (omega (arith, below, h.start_within))).node_within)
+    (λ i j below_i below_j same.
+    let at_i = (h.new (start + i) (omega arith) (omega (arith, below_i, h.start_within))).latest in
+    let at_j = (h.new (start + j) (omega arith) (omega (arith, below_j, h.start_within))).latest in
+    let one = some_same (latest_at la (label_at ls (start + j)).node.0) (start + i) (start + j) (subst (λ (v : ℕ). latest_at la v ≡ Some (start + i)) same at_i) at_j in
+    omega (arith, one)) in
+    omega (arith, few)
+
+more-times : (n m : ℕ) → n < m → n * m + m ≤ m * m
+more-times n m below =
+    let one : suc n * m ≡ n * m + m = suc-mul n m in
+    let all : suc n * m ≤ m * m = mul-le-mul_right m (let e : suc n ≤ m = omega (arith, below) in e) in
+    omega (arith, one, all)
+
+-- there is memory for one label more
+pub memory-offered : (p : Parts) (ws : Weights) (s : NodeId) (ls : Labels) (la : Latest) (start n k : ℕ) (l : Label) → AreWeights p ws → n < p.nodes → IsRound p ws s ls la start n k → GoesOn p ws ls start n k l → place_of ls la start l ≡ Some (length ls) → length ls < p.nodes * p.nodes
+memory-offered p ws s ls la start n k l weights small h on is =
+    let i = length ls in
+    let g = goes ls la start l i h.start_within (λ b known. (h.ways.latest l.node.0 b known).within) is in
+    let after = round-after p ws s ls la start n k l i weights h on g (omega (arith, on.parent_before)) in
+    let few = few-labels p ws s (written ls i l) (set la l.node.0 (Some i)) start n k after in
+    omega (arith, few, (written-longer ls i l g.within).here, h.few, more-times n p.nodes small, on.node_within)

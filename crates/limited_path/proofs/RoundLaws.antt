@@ -1,7 +1,8 @@
 -- Where the search, a round and the way through a node's arcs begin and end.
-use Rattle.std.proofs.Common.{◌≡◌, ℕ, ◌+◌, ◌-◌, ◌<◌, ◌≤◌, inl, inr, List, length, Option, Some, None, replicate, refl, sym, ◌∙◌, ap, subst, arith}
+use Rattle.std.proofs.Common.{◌≡◌, ℕ, zero, suc, ◌+◌, ◌-◌, ◌*◌, ◌<◌, ◌≤◌, inl, inr, List, length, Option, Some, None, replicate, refl, sym, ◌∙◌, ap, subst, arith}
 use Rattle.std.proofs.Math.ListN.{length-set}
 use Rattle.std.proofs.lemmas.List.{get_or-set_same, get_or-set_other, get_or-replicate, get_or_past, length-replicate}
+use Rattle.std.proofs.Math.Nat.{suc-mul}
 use Rattle.plan_base.specs.declared.ids.NodeId.{NodeId}
 use Rattle.plan_base.specs.declared.ids.ArcId.{ArcId}
 use Rattle.plan_base.specs.declared.parts.Parts.{Parts}
@@ -9,6 +10,7 @@ use Rattle.plan_base.specs.Leaving.{AreLeaving}
 use Rattle.least_path.specs.Paths.{Weights, IsUsable}
 use Rattle.limited_path.specs.Labels.{Labels, Latest, label_at, latest_at, IsLabel, IsKnown, IsOf, AreWays, IsRelaxed, IsDone, IsRound, AreRounds, IsSpread, IsSearch, first_label_of, first_labels_of, first_latest_of}
 use Rattle.limited_path.proofs.WrittenLaws.{same_or_not, lt_or_le, below_cases, some_same}
+use Rattle.limited_path.proofs.OfferLaws.{few-labels}
 
 pub spread-start : (p : Parts) (ws : Weights) (s : NodeId) (ls : Labels) (la : Latest) (start n k : ℕ) (arcs : List ArcId) → IsRound p ws s ls la start n k → IsSpread p ws s ls la start n k arcs 0
 spread-start p ws s ls la start n k arcs h = record { round = h; relaxed = λ j below usable. absurd (omega (arith, below)) }
@@ -24,6 +26,7 @@ spread-end p ws s ls la start n k arcs leaving h = record {
   ways = h.round.ways;
   some_before = h.round.some_before;
   start_within = h.round.start_within;
+  few = h.round.few;
   before = h.round.before;
   front = λ i from below. h.round.front i (omega (arith, from)) below;
   done = λ i below. elim (below_cases i k (omega (arith, below))) [
@@ -33,11 +36,19 @@ spread-end p ws s ls la start n k arcs leaving h = record {
   new = h.round.new;
 }
 
+-- one round more
+round-times : (n m : ℕ) → 0 < n → (n - 1) * m + m ≡ n * m
+round-times zero m some = absurd (omega (arith, some))
+round-times (suc n) m some =
+    let less : suc n - 1 ≡ n = omega arith in
+    rw less (sym (suc-mul n m))
+
 pub round-start : (p : Parts) (ws : Weights) (s : NodeId) (ls : Labels) (la : Latest) (from n : ℕ) → 0 < n → AreRounds p ws s ls la from (n - 1) → IsRound p ws s ls la (length ls) n from
 round-start p ws s ls la from n some h = record {
   ways = h.ways;
   some_before = h.ways.source_within;
   start_within = omega arith;
+  few = omega (arith, h.few, round-times n p.nodes some);
   before = λ i below. omega (arith, some, h.most i below);
   front = λ i after below. omega (arith, some, h.last i after below);
   done = h.done;
@@ -48,6 +59,7 @@ pub round-end : (p : Parts) (ws : Weights) (s : NodeId) (ls : Labels) (la : Late
 round-end p ws s ls la start n h = record {
   ways = h.ways;
   from_within = h.start_within;
+  few = omega (arith, few-labels p ws s ls la start n start h, h.few);
   done = h.done;
   most = λ i below. elim (lt_or_le i start) [
     | inl before ↦ omega (arith, h.before i before)
@@ -122,6 +134,7 @@ pub first-rounds : (p : Parts) (ws : Weights) (s : NodeId) → s.0 < p.nodes →
 first-rounds p ws s within = record {
   ways = first-ways p ws s within;
   from_within = omega arith;
+  few = omega arith;
   done = λ i below. absurd (omega (arith, below));
   most = λ i below. subst (λ (x : ℕ). (label_at (first_labels_of s) x).steps ≤ 0) (sym (first-is s i below)) (omega arith);
   last = λ i after below. ap (λ (x : ℕ). (label_at (first_labels_of s) x).steps) (first-is s i below);

@@ -140,6 +140,7 @@ pub record IsReadBack (ls : Labels) (last here : Label) (arcs : List ArcId) : Ty
   pub place : ℕ
   pub within : place < length ls
   pub is : here ≡ label_at ls place
+  pub count : length arcs + here.steps ≡ last.steps
   pub way_is : way ls last.steps last ≡ way ls here.steps here ++ reverse arcs
 
 -- the label that is read goes on from an earlier one
@@ -155,6 +156,9 @@ back-more p ws s ls la last here arcs h some b =
       place = here.parent;
       within = omega (arith, r.earlier, b.within);
       is = refl;
+      count =
+          let longer : length (arcs ++ here.via ∷ []) ≡ suc (length arcs) = simp length-append (omega arith) in
+          omega (arith, longer, b.count, r.steps);
       way_is =
           b.way_is ∙
           ap (λ (k : ℕ). way ls k here ++ reverse arcs) r.steps ∙

@@ -115,24 +115,27 @@ IsDone p ws ls l = (a : ArcId) → IsUsable p ws a → (tail_of p a).0 ≡ l.nod
 pub record AreRounds (p : Parts) (ws : Weights) (s : NodeId) (ls : Labels) (la : Latest) (from n : ℕ) : Type 0 where
   pub ways : AreWays p ws s ls la
   pub from_within : from ≤ length ls
+  pub few : length ls ≤ 1 + n * p.nodes
   pub done : (i : ℕ) → i < from → IsDone p ws ls (label_at ls i)
   pub most : (i : ℕ) → i < length ls → (label_at ls i).steps ≤ n
   pub last : (i : ℕ) → from ≤ i → i < length ls → (label_at ls i).steps ≡ n
 
--- the label is found in a round: it goes on from one that was there before
-pub record IsNew (ls : Labels) (start n i : ℕ) : Type 0 where
+-- the label is found in a round: it goes on from one that was there before, and is the latest of its node
+pub record IsNew (ls : Labels) (la : Latest) (start n i : ℕ) : Type 0 where
   pub steps : (label_at ls i).steps ≡ n
   pub earlier : (label_at ls i).parent < start
+  pub latest : latest_at la (label_at ls i).node.0 ≡ Some i
 
 -- in round n, whose labels begin at this place, the search has gone on from each label before place k
 pub record IsRound (p : Parts) (ws : Weights) (s : NodeId) (ls : Labels) (la : Latest) (start n k : ℕ) : Type 0 where
   pub ways : AreWays p ws s ls la
   pub some_before : 0 < start
   pub start_within : start ≤ length ls
+  pub few : start + p.nodes ≤ 1 + n * p.nodes
   pub before : (i : ℕ) → i < start → (label_at ls i).steps < n
   pub front : (i : ℕ) → k ≤ i → i < start → suc (label_at ls i).steps ≡ n
   pub done : (i : ℕ) → i < k → IsDone p ws ls (label_at ls i)
-  pub new : (i : ℕ) → start ≤ i → i < length ls → IsNew ls start n i
+  pub new : (i : ℕ) → start ≤ i → i < length ls → IsNew ls la start n i
 
 -- the same, and it has gone on from the label at place k along the first m of these arcs
 pub record IsSpread (p : Parts) (ws : Weights) (s : NodeId) (ls : Labels) (la : Latest) (start n k : ℕ) (arcs : List ArcId) (m : ℕ) : Type 0 where

@@ -13,8 +13,8 @@ rounds-requires-clause-start c =
     let p = c.args.inst.now in
     let ws = c.args.weights.now in
     let s = c.args.source in
-    let latest = c.in_ok-begin.ensures.latest ∙ ap (λ (n : ℕ). first_latest_of n s) c.nodes-nodes.ensures.value in
-    subst (λ (x : Labels). AreRounds p ws s x c.begin.new.self.latest.items 0 0) (sym c.in_ok-begin.ensures.labels)
+    let latest = c.begin.ensures.latest ∙ ap (λ (n : ℕ). first_latest_of n s) c.nodes-nodes.ensures.value in
+    subst (λ (x : Labels). AreRounds p ws s x c.begin.new.self.latest.items 0 0) (sym c.begin.ensures.labels)
     (subst (λ (x : Latest). AreRounds p ws s (first_labels_of s) x 0 0) (sym latest) (first-rounds p ws s c.requires.source))
 
 pub returns-in_default-clause-none : goal.returns-in_default-clause-none
@@ -25,17 +25,16 @@ returns-in_default-clause-none c =
     let ls = c.rounds.new.ways.labels.items in
     let la = c.rounds.new.ways.latest.items in
     let limit : c.enough_rounds.result ≡ min c.args.hops (p.nodes - 1) = c.enough_rounds.ensures ∙ ap (λ (n : ℕ). min c.args.hops (n - 1)) c.nodes-nodes.ensures.value in
-    let h = subst (IsSearch p ws s ls la) limit c.in_ok-rounds.ensures in
+    let h = subst (IsSearch p ws s ls la) limit c.rounds.ensures.search in
     let none : latest_at la c.args.target.0 ≡ None = sym (get_or_read la c.args.target.0 c.index.result.now (omega (arith, h.ways.count, c.requires.target)) c.index.ensures None) ∙ c.in_default.is in
     none-found p ws s c.args.target ls la c.args.hops c.links-links.ensures.lawful c.requires.source h none
 
-pub index-requires-2 : goal.index-requires-2
-index-requires-2 c =
+pub read_way-requires-clause-place : goal.read_way-requires-clause-place
+read_way-requires-clause-place c =
     let la = c.rounds.new.ways.latest.items in
-    let h = c.in_ok-rounds.ensures in
+    let h = c.rounds.ensures.search in
     let some : latest_at la c.args.target.0 ≡ Some c.in-Some.place = sym (get_or_read la c.args.target.0 c.index.result.now (omega (arith, h.ways.count, c.requires.target)) c.index.ensures None) ∙ c.in-Some.is in
-    let of = h.ways.latest c.args.target.0 c.in-Some.place some in
-    omega (arith, of.within, c.rounds.new.ways.labels.ok.0)
+    (h.ways.latest c.args.target.0 c.in-Some.place some).within
 
 pub returns-clause-path : goal.returns-clause-path
 returns-clause-path c =
@@ -48,10 +47,9 @@ returns-clause-path c =
     let ls = c.rounds.new.ways.labels.items in
     let la = c.rounds.new.ways.latest.items in
     let limit : c.enough_rounds.result ≡ min hops (p.nodes - 1) = c.enough_rounds.ensures ∙ ap (λ (n : ℕ). min hops (n - 1)) c.nodes-nodes.ensures.value in
-    let h = subst (IsSearch p ws s ls la) limit c.in_ok-rounds.ensures in
+    let h = subst (IsSearch p ws s ls la) limit c.rounds.ensures.search in
     let some : latest_at la t.0 ≡ Some b = sym (get_or_read la t.0 c.index.result.now (omega (arith, h.ways.count, c.requires.target)) c.index.ensures None) ∙ c.in-Some.is in
     let label : c.index-2.result.now ≡ label_at ls b = get_or_read ls b c.index-2.result.now (h.ways.latest t.0 b some).within c.index-2.ensures no_label in
-    let path : c.in_ok-self-inside.field-0 ≡ way ls (label_at ls b).steps (label_at ls b) = c.in_ok-self-inside.ensures in
-    subst (λ (arcs : List ArcId). IsLeastWithin p ws s t hops arcs c.index-2.result.now.length) (sym path)
+    subst (λ (arcs : List ArcId). IsLeastWithin p ws s t hops arcs c.index-2.result.now.length) (sym c.read_way.ensures.arcs)
     (subst (λ (l : Label). IsLeastWithin p ws s t hops (way ls (label_at ls b).steps (label_at ls b)) l.length) (sym label)
     (found p ws s t ls la hops b c.links-links.ensures.lawful c.requires.source h some))

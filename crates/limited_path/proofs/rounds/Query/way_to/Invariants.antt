@@ -1,9 +1,0 @@
-use Rattle.limited_path.specs.Labels.{label_at}
-use Rattle.limited_path.proofs.WayLaws.{IsReadBack}
-use Rattle.limited_path.proofs.rounds.Query.way_to.Given as goal
-
-abbrev pub invariant-loop-here : goal.invariant-loop-here
-invariant-loop-here l = IsReadBack l.ways.labels.items (label_at l.ways.labels.items l.place) l.here l.arcs.items
-
-abbrev pub decreases-loop-here : goal.decreases-loop-here
-decreases-loop-here l = l.here.steps
