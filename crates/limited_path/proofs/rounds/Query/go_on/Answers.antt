@@ -1,4 +1,4 @@
-use Rattle.std.proofs.Common.{◌≡◌, ◌+◌, ◌∙◌, ◌<◌, ℕ, List, Option, IsSome, false, true, get_or, length, refl, sym, ap, subst, arith}
+use Rattle.std.proofs.Common.{◌≡◌, ◌+◌, ◌∙◌, ◌<◌, ℕ, Option, IsSome, false, true, get_or, length, refl, sym, ap, subst, arith}
 use Rattle.plan_base.specs.Arcs.{no_arc}
 use Rattle.plan_base.specs.Leaving.{AreLeaving}
 use Rattle.limited_path.specs.declared.label.Label.{Label}
