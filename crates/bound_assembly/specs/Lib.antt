@@ -1,4 +1,3 @@
 pub mod Rounds
 pub mod RoundBounds
 pub mod Places
-pub mod Values

@@ -2,12 +2,14 @@
 use Rattle.std.specs.Prelude.{ℕ, ◌≡◌, ◌≤◌, ◌<◌, ◌*◌, List, length, slice_index, Option, Some, All, IfSome, IsTrue, ℤ, pos, ◌+ℤ◌}
 use Rattle.std.specs.Option.{unwrap_or}
 use Rattle.plan_base.specs.declared.parts.Parts.{Parts}
-use Rattle.plan_base.specs.Sums.{sum_below}
+use Rattle.plan_base.specs.Sums.{sum_below, int_sum_below}
 use Rattle.plan_base.specs.Facts.{is_useful, price_limit}
+use Rattle.plan_base.specs.Places.{places, link_of_place}
 use Rattle.plan_base.specs.Arcs.{link_at}
 use Rattle.arc_restrict.specs.Restrictions.{Forbidden}
 use Rattle.arc_restrict.specs.Prices.{IsLeastPrice}
-use Rattle.proof_tree.specs.Bounds.{int_sum_below, IsThousandthUp, price_total, AreLinkValues}
+use Rattle.link_steps.specs.Values.{AreLinkValues}
+use Rattle.proof_tree.specs.Bounds.{IsThousandthUp, price_total}
 use Rattle.bound_assembly.specs.declared.limits.TheConstants.{MAX_PATH_LINKS}
 use Rattle.bound_assembly.specs.Rounds.{length_at, HasLength}
 
@@ -15,7 +17,7 @@ use Rattle.bound_assembly.specs.Rounds.{length_at, HasLength}
 abbrev pub length_of : List (Option ℕ) → ℕ → ℕ
 length_of lengths k = unwrap_or (length_at lengths k) 0
 
--- no length is more than a simple path costs with the price limit on each link
+-- no length is more than a simple path costs with the price limit on each place
 abbrev pub AreShort : Parts → List (Option ℕ) → Type 0
 AreShort p lengths = All (λ found. IfSome found (λ price. price ≤ MAX_PATH_LINKS * price_limit p)) lengths
 
@@ -27,20 +29,20 @@ pub record IsRoundBound (p : Parts) (prices : List ℕ) (lengths : List (Option 
   pub are_values : AreLinkValues p prices values
   pub rounded : IsThousandthUp (pos (price_total p (length_of lengths)) +ℤ int_sum_below values (length p.links)) bound
 
--- the price of each useful link before a count is 0
+-- the price of each place of a useful link before a count is 0
 abbrev pub AreFree : Parts → List ℕ → ℕ → Type 0
-AreFree p prices count = (e : ℕ) → e < count → IsTrue (is_useful (link_at p e)) → slice_index prices e ≡ 0
+AreFree p prices count = (q : ℕ) → q < count → IsTrue (is_useful (link_at p (link_of_place p q))) → slice_index prices q ≡ 0
 
--- the sum of prices times pre-installed capacities over the links before a count
+-- the sum of prices times their links' pre-installed capacities over the places before a count
 abbrev pub priced_capacity : Parts → List ℕ → ℕ → ℕ
-priced_capacity p prices count = sum_below (λ e. slice_index prices e * (link_at p e).pre) count
+priced_capacity p prices count = sum_below (λ q. slice_index prices q * (link_at p (link_of_place p q)).pre) count
 
--- each demand has a length; useful links are free, and loads times lengths exceed the pre-installed capacities times
+-- each demand has a length; the places of useful links are free, and loads times lengths exceed the pre-installed capacities times
 -- their links' prices
 pub record IsRoundCrowd (p : Parts) (prices : List ℕ) (lengths : List (Option ℕ)) : Type 0 where
   pub complete : (k : ℕ) → k < length p.demands → HasLength lengths k
-  pub free : AreFree p prices (length p.links)
-  pub crowded : priced_capacity p prices (length p.links) < price_total p (length_of lengths)
+  pub free : AreFree p prices (places p)
+  pub crowded : priced_capacity p prices (places p) < price_total p (length_of lengths)
 
 -- each length that was put is the least price of its demand
 abbrev pub AreLeastLengths : Parts → Forbidden → List ℕ → List (Option ℕ) → Type 0

@@ -16,4 +16,3 @@ mod totals;
 
 pub use crowds::is_crowded;
 pub use round::Round;
-pub use totals::link_total;

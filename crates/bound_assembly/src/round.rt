@@ -1,5 +1,6 @@
 //! A round: the lengths of the demands under one version of prices, as they come in.
 
+ghost use Rattle.plan_base.specs.Places.{places};
 ghost use Rattle.std.specs.Prelude.{◌≡◌, ◌<◌, ◌↔◌, ◌^◌, length, replicate, false, None, IfOk, IfSome, IsTrue, IsFalse};
 ghost use Rattle.arc_restrict.specs.Prices.{AreWithinLimit};
 ghost use Rattle.bound_assembly.specs.Rounds.{HasLength, left_in, IsFirstLeft, restarted, with_length};
@@ -179,7 +180,7 @@ impl Round {
     pub fn bound(&self, inst: &Instance, table: &StepTable) -> Option<i128>
         requires begun { IsTrue self.now.begun }
         requires table { table.now ≡ inst.now }
-        requires price_count { length self.now.prices ≡ length inst.now.links }
+        requires price_count { length self.now.prices ≡ places inst.now }
         requires price_limit { AreWithinLimit inst.now self.now.prices }
         requires length_count { length self.now.lengths ≡ length inst.now.demands }
         requires short { AreShort inst.now self.now.lengths }
@@ -202,7 +203,7 @@ impl Round {
     #[tactic(auto, using(crate::proofs::LeastLengths::crowd_full))]
     pub fn is_crowded(&self, inst: &Instance) -> bool
         requires begun { IsTrue self.now.begun }
-        requires price_count { length self.now.prices ≡ length inst.now.links }
+        requires price_count { length self.now.prices ≡ places inst.now }
         requires length_count { length self.now.lengths ≡ length inst.now.demands }
         requires short { AreShort inst.now self.now.lengths }
         ensures { IsTrue result ↔ IsRoundCrowd inst.now self.now.prices self.now.lengths }

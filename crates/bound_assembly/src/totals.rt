@@ -1,16 +1,16 @@
 //! The two sums that a bound is made of, and the bound.
 
 ghost use Rattle.std.specs.Prelude.{◌≡◌, ◌≤◌, ◌*◌, length, pos, ◌+ℤ◌, ◌-ℤ◌, ◌≤ℤ◌};
+ghost use Rattle.plan_base.specs.Places.{places};
 ghost use Rattle.arc_restrict.specs.Prices.{AreWithinLimit};
 ghost use Rattle.proof_tree.specs.Bounds.{price_total as total_of_prices};
 ghost use Rattle.bound_assembly.specs.Rounds.{left_in};
 ghost use Rattle.bound_assembly.specs.RoundBounds.{length_of, AreShort, IsRoundBound};
-ghost use Rattle.bound_assembly.specs.Values.{IsValueTotal};
 
 use crate::limits::MAX_PATH_LINKS;
 use link_steps::StepTable;
 use plan_base::limits::{MAX_LINKS, MAX_PRICED_LOAD};
-use plan_base::{DemandId, Instance, LinkId, Prices};
+use plan_base::{DemandId, Instance, Prices};
 use scaled_numbers::up_to_grain;
 
 /// The sum of loads times lengths over the demands, in thousandths of a cost grain.
@@ -20,30 +20,10 @@ pub fn price_total(inst: &Instance, lengths: &[Option<u128>]) -> u128
     ensures value { result ≡ total_of_prices inst.now (length_of lengths.now) }
     ensures within { result ≤ MAX_PATH_LINKS * MAX_PRICED_LOAD }
 {
-    let _demands = inst.demands();
+    inst.lawful();
     let mut total = 0;
     for (place, found) in lengths.iter().enumerate() {
         total += inst.demand(DemandId(place as u32)).load * found.unwrap_or(0);
-    }
-    total
-}
-
-/// The sum of the values of the links at these prices. Takes no memory.
-///
-/// - Takes: the instance and its table; one price for each link, of at most the price limit.
-/// - Gives: thousandths of a cost grain; never more than 0.
-/// - Rule: docs/DEFINITIONS.md, "Link value".
-/// - Time: one link value for each link.
-pub fn link_total(inst: &Instance, table: &StepTable, prices: &Prices) -> i128
-    requires table { table.now ≡ inst.now }
-    requires count { length prices.now ≡ length inst.now.links }
-    requires limit { AreWithinLimit inst.now prices.now }
-    ensures { IsValueTotal inst.now prices.now (length inst.now.links) result }
-{
-    let _links = inst.links();
-    let mut total = 0;
-    for (place, price) in prices.as_slice().iter().enumerate() {
-        total += table.link_value(LinkId(place as u32), *price).value;
     }
     total
 }
@@ -52,7 +32,7 @@ pub fn link_total(inst: &Instance, table: &StepTable, prices: &Prices) -> i128
 fn total_of(priced: u128, values: i128) -> i128
     requires priced { priced ≤ MAX_PATH_LINKS * MAX_PRICED_LOAD }
     requires not_positive { values ≤ℤ pos 0 }
-    requires bounded { (pos 0 -ℤ pos (MAX_LINKS * MAX_PRICED_LOAD)) ≤ℤ values }
+    requires bounded { (pos 0 -ℤ pos (MAX_LINKS * (2 * MAX_PRICED_LOAD))) ≤ℤ values }
     ensures { result ≡ (pos priced +ℤ values) }
 {
     priced as i128 + values
@@ -66,16 +46,16 @@ pub fn bound_of(
     lengths: &[Option<u128>],
 ) -> i128
     requires table { table.now ≡ inst.now }
-    requires price_count { length prices.now ≡ length inst.now.links }
+    requires price_count { length prices.now ≡ places inst.now }
     requires price_limit { AreWithinLimit inst.now prices.now }
     requires length_count { length lengths.now ≡ length inst.now.demands }
     requires short { AreShort inst.now lengths.now }
     requires full { left_in lengths.now ≡ 0 }
     ensures { IsRoundBound inst.now prices.now lengths.now result }
 {
-    let _links = inst.links();
+    inst.lawful();
     let priced = price_total(inst, lengths);
-    let values = link_total(inst, table, prices);
+    let values = table.value_total(prices);
     let total = total_of(priced, values);
     up_to_grain(total)
 }

@@ -226,7 +226,7 @@ pub draft_from : (h : Head) (d : Option (ℕ × Design)) (b : Option ℤ) (count
 draft_from h d b count nodes g =
     let f = firsts h.nodes h.links nodes g.tree_is.each in
     record {
-      sizes = record { nodes = g.head_is.sizes.nodes; links = g.head_is.sizes.links; demands = g.head_is.sizes.demands; some_budget = g.head_is.some_budget; budget = g.head_is.budget };
+      sizes = record { nodes = g.head_is.sizes.nodes; links = g.head_is.sizes.links; demands = g.head_is.sizes.demands; some_budget = g.head_is.some_budget; budget = g.head_is.budget; one_way = refl };
       status = status-fits h.status d b g.design_is.cost.allowed g.bound_is;
       design = design-fits h.demands h.links d g.design_is.design_in;
       fields = record {
@@ -281,8 +281,10 @@ draft_takes ls x rest e =
 
 pub draft_again : (count : ℕ) (plan : Plan) (rest : List Line) → IsDraft count plan → before_end (map whole (lines_before_end count plan) ++ rest) ≡ Ok ((count, plan), rest)
 draft_again count plan rest g =
-    ap (λ bs. before_end (map whole bs ++ rest)) (sym (same-lines (head_of plan) plan.design plan.bound count plan.tree))
-    ∙ parts_again (head_of plan) plan.design plan.bound count plan.tree rest (parts_from count plan g)
+    let same : plan_with (head_of plan) plan.design plan.bound plan.tree ≡ plan = ap (λ (both : Bool). record plan { both = both }) (sym g.sizes.one_way) in
+    subst (λ (q : Plan). before_end (map whole (lines_before_end count q) ++ rest) ≡ Ok ((count, q), rest)) same
+    (ap (λ bs. before_end (map whole bs ++ rest)) (sym (same-lines (head_of plan) plan.design plan.bound count plan.tree))
+    ∙ parts_again (head_of plan) plan.design plan.bound count plan.tree rest (parts_from count plan g))
 
 -- ---- a whole plan
 

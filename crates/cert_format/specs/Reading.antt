@@ -1,5 +1,5 @@
 -- Reading a plan line by line: the first line that cannot stand where it stands stops it. No public clause cites this module.
-use Rattle.std.specs.Prelude.{ℕ, zero, suc, ◌-◌, ◌^◌, if◌then◌else◌, List, [], ◌∷◌, length, codes, Option, Some, None, Result, Ok, Err, ℤ}
+use Rattle.std.specs.Prelude.{ℕ, zero, suc, ◌-◌, ◌^◌, false, if◌then◌else◌, List, [], ◌∷◌, length, codes, Option, Some, None, Result, Ok, Err, ℤ}
 use Rattle.plan_base.specs.declared.path.Design.{Design}
 use Rattle.plan_base.specs.declared.ids.ArcId.{ArcId}
 use Rattle.proof_tree.specs.declared.limits.TheConstants.{MAX_BUDGET, MAX_RECORDS}
@@ -101,12 +101,13 @@ tree nodes links = bind (one (number_row (codes "TREE") 1 MAX_RECORDS)) λ count
     bind (records nodes links count 1) λ nodes.
     done (tree_with count nodes)
 
--- the plan of these parts
+-- the plan of these parts, for an instance whose links have one place each
 abbrev pub plan_with : Head → Option (ℕ × Design) → Option ℤ → List TreeNode → Plan
 plan_with h d b nodes = record {
   nodes = h.nodes;
   links = h.links;
   demands = h.demands;
+  both = false;
   status = h.status;
   budget = h.budget;
   examined = h.examined;

@@ -322,7 +322,7 @@ impl Draft {
     ghost use Rattle.cert_format.specs.Drafts.{is_complete};
     ghost use Rattle.cert_format.specs.Answers.{drafted};
 
-    /// The plan, where the tree is whole and has as many records as stated.
+    /// The plan, of links with one place each, where the tree is whole and has as many records as stated.
     fn into_plan(self) -> Option<Plan>
         requires { length self.records.items ≤ 8193 }
         ensures { result ≡ only_if (is_complete (drafted self).0 (drafted self).1) (drafted self).1 }
@@ -335,6 +335,7 @@ impl Draft {
                 nodes: self.head.nodes,
                 links: self.head.links,
                 demands: self.head.demands,
+                both: false,
                 status: self.head.status,
                 budget: self.head.budget,
                 examined: self.head.examined,

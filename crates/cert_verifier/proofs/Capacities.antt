@@ -1,8 +1,9 @@
--- Prices times pre-installed capacities, link by link.
-use Rattle.std.proofs.Common.{◌≡◌, ℕ, zero, suc, ◌+◌, ◌*◌, ◌≤◌, ◌<◌, ◌⊎◌, inl, inr, List, length, slice_index, arith}
+-- Prices times pre-installed capacities, place by place.
+use Rattle.std.proofs.Common.{◌≡◌, ℕ, zero, suc, ◌+◌, ◌*◌, ◌≤◌, ◌<◌, ◌⊎◌, inl, inr, List, slice_index, arith}
 use Rattle.plan_base.specs.declared.parts.Parts.{Parts}
 use Rattle.plan_base.specs.Sums.{sum_below}
 use Rattle.plan_base.specs.Arcs.{link_at}
+use Rattle.plan_base.specs.Places.{places, link_of_place}
 use Rattle.cert_verifier.specs.Totals.{capacity_price}
 
 either_way : (m n : ℕ) → m ≤ suc n → (m ≤ n) ⊎ (suc n ≤ m)
@@ -17,9 +18,9 @@ sum_below-rises f m (suc n) h = elim (either_way m n h) [
   | inr whole ↦ (let is : m ≡ suc n = omega arith in rw is (omega arith))
 ]
 
--- what the first links come to
+-- what the first places come to
 abbrev pub capacity_price_to : Parts → List ℕ → ℕ → ℕ
-capacity_price_to p prices n = sum_below (λ e. slice_index prices e * (link_at p e).pre) n
+capacity_price_to p prices n = sum_below (λ q. slice_index prices q * (link_at p (link_of_place p q)).pre) n
 
-pub first-le-capacity_price : (p : Parts) (prices : List ℕ) (n : ℕ) → n < length p.links → capacity_price_to p prices n + slice_index prices n * (link_at p n).pre ≤ capacity_price p prices
-first-le-capacity_price p prices n within = sum_below-rises (λ e. slice_index prices e * (link_at p e).pre) (suc n) (length p.links) within
+pub first-le-capacity_price : (p : Parts) (prices : List ℕ) (n : ℕ) → n < places p → capacity_price_to p prices n + slice_index prices n * (link_at p (link_of_place p n)).pre ≤ capacity_price p prices
+first-le-capacity_price p prices n within = sum_below-rises (λ q. slice_index prices q * (link_at p (link_of_place p q)).pre) (suc n) (places p) within

@@ -1,12 +1,12 @@
 -- What each kind of leaf finds, rule by rule.
-use Rattle.std.proofs.Common.{◌≡◌, ℕ, ◌<◌, ◌≤◌, ◌*◌, ◌&&◌, inl, inr, Bool, true, false, not, List, length, slice_index, Option, Some, None, Result, Ok, Err, refl, sym, ap, subst, ◌∙◌, arith}
+use Rattle.std.proofs.Common.{◌≡◌, ℕ, ◌<◌, ◌≤◌, ◌*◌, ◌&&◌, inl, inr, Bool, true, false, not, List, length, Option, Some, None, Result, Ok, Err, refl, sym, ap, subst, ◌∙◌, arith}
 use Rattle.std.specs.Prelude.{◌↔◌, IfOk, IfNone, IsSomeAnd, IsTrue, IsFalse, ℤ, pos, ◌≤ℤ◌}
 use Rattle.std.proofs.lemmas.Bool.{true≢false}
 use Rattle.plan_base.specs.declared.ids.LinkId.{LinkId}
 use Rattle.plan_base.specs.declared.ids.DemandId.{DemandId}
 use Rattle.plan_base.specs.declared.parts.Parts.{Parts}
 use Rattle.plan_base.specs.declared.path.Design.{Design}
-use Rattle.plan_base.specs.Arcs.{is_arc, tail_of, head_of, link_at, demand_at}
+use Rattle.plan_base.specs.Arcs.{is_arc, tail_of, head_of, demand_at}
 use Rattle.plan_base.proofs.SumsBelow.{sum_below-same}
 use Rattle.link_steps.specs.Costs.{CannotCarry, IsLeastModuleCost}
 use Rattle.arc_restrict.specs.Restrictions.{Forbidden}
@@ -21,7 +21,7 @@ use Rattle.cert_verifier.specs.declared.rejected.Rejected.{Rejected}
 use Rattle.cert_verifier.specs.declared.rejected.Rejected.TheVariants.{Leaf}
 use Rattle.cert_verifier.specs.Leaving.{IsNoWayOut}
 use Rattle.cert_verifier.specs.Totals.{IsPriceTotal, capacity_price}
-use Rattle.cert_verifier.specs.Routings.{IsCostOfLoads, HasOverfull}
+use Rattle.cert_verifier.specs.Routings.{needed, IsCostOfLoads, HasOverfull}
 use Rattle.cert_verifier.specs.LeafRules.{AreFreeOnUseful, Closes, LeafFinds}
 use Rattle.cert_verifier.proofs.LeafLaws.{leaf_finds_none}
 use Rattle.cert_verifier.proofs.RoutingLaws.{AreLoadsOf, only_paths, only_carry, only_overfull, routing_closes, routing_cost, overfull_closes, carried_stays}
@@ -87,13 +87,13 @@ routed_decided p cost r index d loads total false found only are_loads is costs 
 
 -- the link carries its load
 pub overfull_carried : (p : Parts) (cost : Option ℕ) (r : Forbidden) (index : ℕ) (link : LinkId) (d : Design) (loads : List ℕ) (least : ℕ) → link.0 < length p.links → AreOnlyPaths p r d → AreLoadsOf p d loads
-    → IsLeastModuleCost (link_at p link.0) (slice_index loads link.0) least → LeafFinds p cost r index (Overfull link) (Some (Leaf index 4))
+    → IsLeastModuleCost p link.0 (needed p loads link.0) least → LeafFinds p cost r index (Overfull link) (Some (Leaf index 4))
 unfolding LeafFinds
 overfull_carried p cost r index link d loads least within only are_loads is =
     inr (inl (within, refl), inr (inl (only_paths p r d only, refl), inr (inl ((d, only), refl), inr ((carried_stays p r d loads link least only are_loads is), refl))))
 
 pub overfull_found : (p : Parts) (cost : Option ℕ) (r : Forbidden) (index : ℕ) (link : LinkId) (d : Design) (loads : List ℕ) → link.0 < length p.links → AreOnlyPaths p r d → AreLoadsOf p d loads
-    → CannotCarry (link_at p link.0) (slice_index loads link.0) → LeafFinds p cost r index (Overfull link) None
+    → CannotCarry p link.0 (needed p loads link.0) → LeafFinds p cost r index (Overfull link) None
 overfull_found p cost r index link d loads within only are_loads cannot = leaf_finds_none p cost r index (Overfull link) (overfull_closes p r d loads link only are_loads within cannot)
 
 -- of a leaf that is closed by a cut: there is no such demand

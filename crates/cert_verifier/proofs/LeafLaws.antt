@@ -1,8 +1,9 @@
 -- A leaf breaks no rule exactly where it has its evidence.
-use Rattle.std.proofs.Common.{None, Some, inl, inr, refl}
+use Rattle.std.proofs.Common.{None, Some, inl, inr, refl, subst}
 use Rattle.std.specs.Prelude.{ℕ, List, Option}
 use Rattle.plan_base.specs.declared.parts.Parts.{Parts}
 use Rattle.plan_base.specs.declared.path.Design.{Design}
+use Rattle.link_steps.specs.Costs.{Carries}
 use Rattle.arc_restrict.specs.Restrictions.{Forbidden}
 use Rattle.proof_tree.specs.declared.tree.Evidence.{Evidence}
 use Rattle.proof_tree.specs.declared.tree.Evidence.TheVariants.{Bound, Routed, Overfull, Cut, Crowd, Open}
@@ -12,7 +13,7 @@ use Rattle.verifier_paths.specs.OnlyPaths.{HavePaths}
 use Rattle.cert_verifier.specs.LeafRules.{LeafFinds, CanCarryAll}
 use Rattle.cert_verifier.specs.Bounds.{IsOpenWithin}
 use Rattle.cert_verifier.proofs.FirstRules.{unless-none}
-use Rattle.cert_verifier.proofs.OnlyLoads.{only_loads}
+use Rattle.cert_verifier.proofs.OnlyLoads.{only_need}
 use Rattle.cert_verifier.proofs.RuleLaws.{then_by-none, FindsOne, unless-one, then_by-one}
 
 -- where no rule is broken the leaf has its evidence
@@ -52,7 +53,7 @@ routed_rules : (p : Parts) (cost : Option ℕ) (r : Forbidden) (index : ℕ) →
 unfolding LeafFinds
 routed_rules p None r index h = absurd h
 routed_rules p (Some c) r index h =
-    let carries : CanCarryAll p r = λ d only e within. ((h.are_costs e within).is_least.counts, rw (only_loads p r d h.routing e only h.only) (h.are_costs e within).is_least.carries) in
+    let carries : CanCarryAll p r = λ d only e within. ((h.are_costs e within).is_least.counts, subst (λ (load : ℕ). Carries p e load (h.are_costs e within).is_least.counts) (only_need p r h.routing d e within h.only only) (h.are_costs e within).is_least.carries) in
     inr (inl (only-paths p r h.routing h.only, refl), inr (inl ((h.routing, h.only), refl), inr (inl (carries, refl), inl (h, refl))))
 
 pub leaf_finds_none : (p : Parts) (cost : Option ℕ) (r : Forbidden) (index : ℕ) (evidence : Evidence) → HasEvidence p cost r evidence → LeafFinds p cost r index evidence None

@@ -3,7 +3,7 @@ pub mod RuleLaws
 pub mod SplitLaws
 pub mod Terms
 pub mod PriceTotals
-pub mod ValueTotals
+pub mod BoundOfTotals
 pub mod Capacities
 pub mod CostTotals
 pub mod OnlyLoads

@@ -1,23 +1,35 @@
 -- Only paths, what they load, and what that costs.
-use Rattle.std.proofs.Common.{◌≡◌, ℕ, ◌<◌, ◌≤◌, List, length, slice_index, sym, subst, ◌∙◌, arith}
+use Rattle.std.proofs.Common.{◌≡◌, ℕ, ◌<◌, ◌≤◌, max, List, length, slice_index, sym, ap, subst, ◌∙◌, arith}
 use Rattle.plan_base.specs.declared.ids.LinkId.{LinkId}
-use Rattle.plan_base.specs.declared.parts.Link.{Link}
 use Rattle.plan_base.specs.declared.parts.Parts.{Parts}
 use Rattle.plan_base.specs.declared.path.Design.{Design}
-use Rattle.plan_base.specs.Arcs.{link_at}
-use Rattle.plan_base.specs.Designs.{path_at, load_on}
+use Rattle.plan_base.specs.Places.{places, there_of, back_of}
+use Rattle.plan_base.specs.Designs.{path_at, load_at, need}
 use Rattle.plan_base.proofs.SumsBelow.{sum_below-same}
+use Rattle.plan_base.proofs.PlaceSums.{there-same, back-same}
 use Rattle.link_steps.specs.Costs.{Carries, CannotCarry, IsLeastModuleCost, IsStepCost}
 use Rattle.arc_restrict.specs.Restrictions.{Forbidden}
 use Rattle.proof_tree.specs.Evidence.{AreOnlyPaths, ClosedByRouting, ClosedByOverfull}
 use Rattle.verifier_paths.specs.OnlyPaths.{HavePaths, HasSecond}
 use Rattle.cert_verifier.specs.LeafRules.{HaveOnlyPaths, CanCarryAll}
-use Rattle.cert_verifier.specs.Routings.{IsCostOfLoads, HasOverfull}
-use Rattle.cert_verifier.proofs.OnlyLoads.{only_loads}
+use Rattle.cert_verifier.specs.Routings.{needed, IsCostOfLoads, HasOverfull}
+use Rattle.cert_verifier.proofs.OnlyLoads.{only_there, only_back, only_need}
 
 -- these loads are those of the design
 abbrev pub AreLoadsOf : Parts → Design → List ℕ → Type 0
-AreLoadsOf p d loads = (e : ℕ) → e < length p.links → slice_index loads e ≡ load_on p d e
+AreLoadsOf p d loads = (q : ℕ) → q < places p → slice_index loads q ≡ load_at p d q
+
+there_is : (p : Parts) (d : Design) (loads : List ℕ) (e : ℕ) → e < length p.links → AreLoadsOf p d loads → there_of p (slice_index loads) e ≡ there_of p (load_at p d) e
+there_is p d loads e within are_loads = there-same p (slice_index loads) (load_at p d) e within are_loads
+
+back_is : (p : Parts) (d : Design) (loads : List ℕ) (e : ℕ) → e < length p.links → AreLoadsOf p d loads → back_of p (slice_index loads) e ≡ back_of p (load_at p d) e
+back_is p d loads e within are_loads = back-same p (slice_index loads) (load_at p d) e within are_loads
+
+-- the larger load of a link's places is what it needs
+need_is : (p : Parts) (d : Design) (loads : List ℕ) (e : ℕ) → e < length p.links → AreLoadsOf p d loads → needed p loads e ≡ need p d e
+need_is p d loads e within are_loads =
+    ap (λ (x : ℕ). max x (back_of p (slice_index loads) e)) (there_is p d loads e within are_loads)
+    ∙ ap (λ (y : ℕ). max (there_of p (load_at p d) e) y) (back_is p d loads e within are_loads)
 
 pub only_paths : (p : Parts) (r : Forbidden) (d : Design) → AreOnlyPaths p r d → HavePaths p r
 only_paths p r d only k below = (path_at d k, (only k below).permitted)
@@ -29,21 +41,25 @@ not_only_paths p r more have = more.second (path_at have.0 more.demand) (have.1 
 pub only_carry : (p : Parts) (r : Forbidden) (d : Design) (loads : List ℕ) (total : ℕ) → AreOnlyPaths p r d → AreLoadsOf p d loads → IsCostOfLoads p loads total → CanCarryAll p r
 only_carry p r d loads total only are_loads is other only_other e below =
     let cost = is.are_costs e below in
-    (cost.is_least.counts, subst (λ (load : ℕ). Carries (link_at p e) load cost.is_least.counts) (are_loads e below ∙ only_loads p r d other e only only_other) cost.is_least.carries)
+    (cost.is_least.counts, subst (λ (load : ℕ). Carries p e load cost.is_least.counts) (need_is p d loads e below are_loads ∙ only_need p r d other e below only only_other) cost.is_least.carries)
 
 pub only_overfull : (p : Parts) (r : Forbidden) (d : Design) (loads : List ℕ) → AreOnlyPaths p r d → AreLoadsOf p d loads → HasOverfull p loads → CanCarryAll p r → ⊥
 only_overfull p r d loads only are_loads over all =
     let can = all d only over.link over.within in
-    over.overfull can.0 (subst (λ (load : ℕ). Carries (link_at p over.link) load can.0) (sym (are_loads over.link over.within)) can.1)
+    over.overfull can.0 (subst (λ (load : ℕ). Carries p over.link load can.0) (sym (need_is p d loads over.link over.within are_loads)) can.1)
 
-least_cost-unique : (l : Link) (load a b : ℕ) → IsLeastModuleCost l load a → IsLeastModuleCost l load b → a ≡ b
-least_cost-unique l load a b ha hb =
+least_cost-unique : (p : Parts) (e load a b : ℕ) → IsLeastModuleCost p e load a → IsLeastModuleCost p e load b → a ≡ b
+least_cost-unique p e load a b ha hb =
     let to_b = ha.least hb.counts hb.carries in
     let to_a = hb.least ha.counts ha.carries in
     omega (arith, ha.attained, hb.attained)
 
-step_cost-unique : (l : Link) (load a b : ℕ) → IsStepCost l load a → IsStepCost l load b → a ≡ b
-step_cost-unique l load a b ha hb = omega (arith, ha.is_sum, hb.is_sum, least_cost-unique l load ha.module_cost hb.module_cost ha.is_least hb.is_least)
+step_cost-unique : (p : Parts) (e load back a b : ℕ) → IsStepCost p e load back a → IsStepCost p e load back b → a ≡ b
+step_cost-unique p e load back a b ha hb = omega (arith, ha.is_sum, hb.is_sum, least_cost-unique p e (max load back) ha.module_cost hb.module_cost ha.is_least hb.is_least)
+
+-- equal loads cost the same
+step_cost-moves : (p : Parts) (e load back other other_back cost : ℕ) → load ≡ other → back ≡ other_back → IsStepCost p e load back cost → IsStepCost p e other other_back cost
+step_cost-moves p e load back other other_back cost there here is = subst (λ (x : ℕ). IsStepCost p e x other_back cost) there (subst (λ (y : ℕ). IsStepCost p e load y cost) here is)
 
 pub routing_closes : (p : Parts) (r : Forbidden) (d : Design) (loads : List ℕ) (total cost : ℕ) → AreOnlyPaths p r d → AreLoadsOf p d loads → IsCostOfLoads p loads total → cost ≤ total → ClosedByRouting p r cost
 routing_closes p r d loads total cost only are_loads is enough =
@@ -51,27 +67,30 @@ routing_closes p r d loads total cost only are_loads is enough =
       routing = d;
       only = only;
       step_costs = is.step_costs;
-      are_costs = λ e below. subst (λ (load : ℕ). IsStepCost (link_at p e) load (is.step_costs e)) (are_loads e below) (is.are_costs e below);
+      are_costs = λ e below. step_cost-moves p e _ _ _ _ (is.step_costs e) (there_is p d loads e below are_loads) (back_is p d loads e below are_loads) (is.are_costs e below);
       enough = omega (arith, enough, is.is_sum);
     }
 
 pub routing_cost : (p : Parts) (r : Forbidden) (d : Design) (loads : List ℕ) (total cost : ℕ) → AreOnlyPaths p r d → AreLoadsOf p d loads → IsCostOfLoads p loads total → ClosedByRouting p r cost → cost ≤ total
 routing_cost p r d loads total cost only are_loads is closed =
     let same = sum_below-same closed.step_costs is.step_costs (length p.links) (λ e below.
-    step_cost-unique (link_at p e) (slice_index loads e) (closed.step_costs e) (is.step_costs e)
-    (subst (λ (load : ℕ). IsStepCost (link_at p e) load (closed.step_costs e)) (only_loads p r closed.routing d e closed.only only ∙ sym (are_loads e below)) (closed.are_costs e below))
+    step_cost-unique p e (there_of p (slice_index loads) e) (back_of p (slice_index loads) e) (closed.step_costs e) (is.step_costs e)
+    (step_cost-moves p e _ _ _ _ (closed.step_costs e)
+    (only_there p r closed.routing d e below closed.only only ∙ sym (there_is p d loads e below are_loads))
+    (only_back p r closed.routing d e below closed.only only ∙ sym (back_is p d loads e below are_loads))
+    (closed.are_costs e below))
     (is.are_costs e below)) in
     omega (arith, same, closed.enough, is.is_sum)
 
-pub overfull_closes : (p : Parts) (r : Forbidden) (d : Design) (loads : List ℕ) (link : LinkId) → AreOnlyPaths p r d → AreLoadsOf p d loads → link.0 < length p.links → CannotCarry (link_at p link.0) (slice_index loads link.0) → ClosedByOverfull p r link
+pub overfull_closes : (p : Parts) (r : Forbidden) (d : Design) (loads : List ℕ) (link : LinkId) → AreOnlyPaths p r d → AreLoadsOf p d loads → link.0 < length p.links → CannotCarry p link.0 (needed p loads link.0) → ClosedByOverfull p r link
 overfull_closes p r d loads link only are_loads within cannot =
     record {
       routing = d;
       only = only;
       is_link = within;
-      overfull = subst (λ (load : ℕ). CannotCarry (link_at p link.0) load) (are_loads link.0 within) cannot;
+      overfull = subst (λ (load : ℕ). CannotCarry p link.0 load) (need_is p d loads link.0 within are_loads) cannot;
     }
 
-pub carried_stays : (p : Parts) (r : Forbidden) (d : Design) (loads : List ℕ) (link : LinkId) (cost : ℕ) → AreOnlyPaths p r d → AreLoadsOf p d loads → IsLeastModuleCost (link_at p link.0) (slice_index loads link.0) cost → ClosedByOverfull p r link → ⊥
+pub carried_stays : (p : Parts) (r : Forbidden) (d : Design) (loads : List ℕ) (link : LinkId) (cost : ℕ) → AreOnlyPaths p r d → AreLoadsOf p d loads → IsLeastModuleCost p link.0 (needed p loads link.0) cost → ClosedByOverfull p r link → ⊥
 carried_stays p r d loads link cost only are_loads least closed =
-    closed.overfull least.counts (subst (λ (load : ℕ). Carries (link_at p link.0) load least.counts) (are_loads link.0 closed.is_link ∙ only_loads p r d closed.routing link.0 only closed.only) least.carries)
+    closed.overfull least.counts (subst (λ (load : ℕ). Carries p link.0 load least.counts) (need_is p d loads link.0 closed.is_link are_loads ∙ only_need p r d closed.routing link.0 closed.is_link only closed.only) least.carries)

@@ -4,7 +4,8 @@ use Rattle.plan_base.specs.declared.parts.Parts.{Parts}
 use Rattle.plan_base.specs.declared.path.Design.{Design}
 use Rattle.plan_base.specs.Facts.{is_useful}
 use Rattle.plan_base.specs.Arcs.{link_at, demand_at}
-use Rattle.plan_base.specs.Designs.{load_on}
+use Rattle.plan_base.specs.Places.{places, link_of_place}
+use Rattle.plan_base.specs.Designs.{need}
 use Rattle.link_steps.specs.Costs.{CanCarry}
 use Rattle.arc_restrict.specs.Restrictions.{Forbidden}
 use Rattle.arc_restrict.specs.Prices.{AreWithinLimit}
@@ -20,13 +21,13 @@ use Rattle.cert_verifier.specs.Rules.{unless, ◌then_by◌}
 abbrev pub HaveOnlyPaths : Parts → Forbidden → Type 0
 HaveOnlyPaths p r = (d : Design) × AreOnlyPaths p r d
 
--- each link can carry its load of the only paths
+-- each link can carry what it needs for the only paths
 abbrev pub CanCarryAll : Parts → Forbidden → Type 0
-CanCarryAll p r = (d : Design) → AreOnlyPaths p r d → (e : ℕ) → e < length p.links → CanCarry (link_at p e) (load_on p d e)
+CanCarryAll p r = (d : Design) → AreOnlyPaths p r d → (e : ℕ) → e < length p.links → CanCarry p e (need p d e)
 
--- the prices of useful links are 0
+-- the prices of the places of useful links are 0
 abbrev pub AreFreeOnUseful : Parts → List ℕ → Type 0
-AreFreeOnUseful p prices = (e : ℕ) → e < length p.links → IsTrue (is_useful (link_at p e)) → slice_index prices e ≡ 0
+AreFreeOnUseful p prices = (q : ℕ) → q < places p → IsTrue (is_useful (link_at p (link_of_place p q))) → slice_index prices q ≡ 0
 
 -- the leaf has its evidence
 abbrev pub Closes : Parts → Option ℕ → Forbidden → Evidence → Type 0
@@ -37,7 +38,7 @@ Closes p cost r evidence = HasEvidence p cost r evidence
 -- Routed: 1 paths, 2 no second ones, 3 links carry them, 4 they cost at least the cost.
 -- Overfull: 1 the link exists, 2 paths, 3 no second ones, 4 the link cannot carry them.
 -- Cut: 1 the demand exists, 2 its source is in the set, 3 its target is not, 4 no permitted arc leaves the set.
--- Crowd: 1 prices within the limit, 2 free useful links, 3 paths, 4 the demands ask for more than there is.
+-- Crowd: 1 prices within the limit, 2 free places of useful links, 3 paths, 4 the demands ask for more than there is.
 -- Open: 1 prices within the limit.
 unfoldable pub LeafFinds : Parts → Option ℕ → Forbidden → ℕ → Evidence → Option Rejected → Type 0
 LeafFinds p cost r index (Bound prices) =

@@ -1,16 +1,17 @@
 //! What prices prove of a restriction: its bound, and that the demands ask for more than there is.
 
 ghost use Rattle.std.specs.Prelude.{◌≡◌, ◌≤◌, ◌<◌, ◌*◌, ◌^◌, ◌↔◌, ℤ, pos, ◌≤ℤ◌, ◌+ℤ◌, ◌-ℤ◌, ◌*ℤ◌, length, IsTrue, IfOk, IfSome, IfNone};
+ghost use Rattle.plan_base.specs.Places.{places};
 ghost use Rattle.arc_restrict.specs.Prices.{AreWithinLimit};
 ghost use Rattle.proof_tree.specs.Bounds.{IsBound};
 ghost use Rattle.verifier_paths.specs.declared.limits.TheConstants.{MAX_WAY_ARCS};
 ghost use Rattle.verifier_paths.specs.Kept.{forbidden_by};
 ghost use Rattle.verifier_paths.specs.OnlyPaths.{HavePaths};
-ghost use Rattle.cert_verifier.specs.Totals.{IsPriceTotal, IsSumOfValues, capacity_price};
+ghost use Rattle.cert_verifier.specs.Totals.{IsPriceTotal, capacity_price};
 
 use link_steps::StepTable;
 use plan_base::limits::{MAX_LINKS, MAX_PRICED_LOAD};
-use plan_base::{DemandId, Instance, LinkId};
+use plan_base::{DemandId, Instance, Prices};
 use std::alloc::{AllocError, Global};
 use verifier_paths::{Forbidden, least_price};
 
@@ -22,7 +23,7 @@ pub(crate) fn price_total(
     forbidden: &Forbidden,
     prices: &[u128],
 ) -> Result<Option<u128>, AllocError>
-    requires count { length prices.now ≡ length inst.now.links }
+    requires count { length prices.now ≡ places inst.now }
     requires limit { AreWithinLimit inst.now prices.now }
     ensures total { IfOk result (λ total. IfSome total (IsPriceTotal inst.now (forbidden_by forbidden.now) prices.now)) }
     ensures none { IfOk result (λ total. IfNone total (HavePaths inst.now (forbidden_by forbidden.now) → ⊥)) }
@@ -39,26 +40,11 @@ pub(crate) fn price_total(
     Ok(Some(total))
 }
 
-/// The sum of the values of all links, in thousandths of a cost grain.
-fn value_total(inst: &Instance, table: &StepTable, prices: &[u128]) -> i128
-    requires table { table.now ≡ inst.now }
-    requires count { length prices.now ≡ length inst.now.links }
-    requires limit { AreWithinLimit inst.now prices.now }
-    ensures { IsSumOfValues inst.now prices.now (length inst.now.links) result }
-{
-    let _links = inst.links();
-    let mut total = 0;
-    for (place, price) in prices.iter().enumerate() {
-        total += table.link_value(LinkId(place as u32), *price).value;
-    }
-    total
-}
-
 /// The two sums together, in thousandths of a cost grain.
 fn total_of(priced: u128, values: i128) -> i128
     requires priced { priced ≤ MAX_WAY_ARCS * MAX_PRICED_LOAD }
     requires not_positive { values ≤ℤ pos 0 }
-    requires bounded { (pos 0 -ℤ pos (MAX_LINKS * MAX_PRICED_LOAD)) ≤ℤ values }
+    requires bounded { (pos 0 -ℤ pos (MAX_LINKS * (2 * MAX_PRICED_LOAD))) ≤ℤ values }
     ensures { result ≡ (pos priced +ℤ values) }
 {
     priced as i128 + values
@@ -79,18 +65,18 @@ pub(crate) fn bound_at(
     inst: &Instance,
     table: &StepTable,
     forbidden: &Forbidden,
-    prices: &[u128],
+    prices: &Prices,
 ) -> Result<Option<i128>, AllocError>
     requires table { table.now ≡ inst.now }
-    requires count { length prices.now ≡ length inst.now.links }
+    requires count { length prices.now ≡ places inst.now }
     requires limit { AreWithinLimit inst.now prices.now }
     ensures bound { IfOk result (λ bound. IfSome bound (IsBound inst.now (forbidden_by forbidden.now) prices.now)) }
     ensures none { IfOk result (λ bound. IfNone bound (HavePaths inst.now (forbidden_by forbidden.now) → ⊥)) }
 {
-    let _links = inst.links();
-    match price_total(alloc, inst, forbidden, prices)? {
+    inst.lawful();
+    match price_total(alloc, inst, forbidden, prices.as_slice())? {
         Some(total) => {
-            let values = value_total(inst, table, prices);
+            let values = table.value_total(prices);
             Ok(Some(thousandth_up(total_of(total, values))))
         }
         None => Ok(None),
@@ -104,15 +90,16 @@ pub(crate) fn is_enough(bound: i128, cost: u128) -> bool
     bound >= 0 && cost <= bound as u128
 }
 
-/// The sum of prices times pre-installed capacities, in thousandths of a cost grain, and none where it is `2^128` or more.
+/// The sum over places of the price times the pre-installed capacity of its link, in thousandths of a cost grain, and
+/// none where it is `2^128` or more.
 fn capacity_price(inst: &Instance, prices: &[u128]) -> Option<u128>
-    requires count { length prices.now ≡ length inst.now.links }
+    requires count { length prices.now ≡ places inst.now }
     ensures value { IfSome result (λ total. total ≡ capacity_price inst.now prices.now) }
     ensures large { IfNone result (2 ^ 128 ≤ capacity_price inst.now prices.now) }
 {
     let mut total: u128 = 0;
-    for place in 0..inst.links() {
-        let pre = u128::from(inst.link(LinkId(place)).pre);
+    for place in 0..inst.places() {
+        let pre = u128::from(inst.link(inst.link_of_place(place)).pre);
         total = total.checked_add(prices[place as usize].checked_mul(pre)?)?;
     }
     Some(total)
@@ -120,7 +107,7 @@ fn capacity_price(inst: &Instance, prices: &[u128]) -> Option<u128>
 
 /// Whether the demands' total is above what the pre-installed capacities come to at these prices.
 pub(crate) fn is_crowded(inst: &Instance, prices: &[u128], total: u128) -> bool
-    requires count { length prices.now ≡ length inst.now.links }
+    requires count { length prices.now ≡ places inst.now }
     ensures { IsTrue result ↔ (capacity_price inst.now prices.now < total) }
 {
     match capacity_price(inst, prices) {

@@ -67,13 +67,16 @@ pub(crate) fn stated_cost(plan: &Plan) -> Option<u128>
     }
 }
 
-/// Whether the plan states the sizes of the instance.
+/// Whether the plan states the sizes of the instance, and whether each of its links has two places.
 pub(crate) fn has_sizes(inst: &Instance, plan: &Plan) -> bool
     ensures tells { IsTrue result ↔ HasSizes inst.now plan.now }
     ensures lawful { IsInstance inst.now }
 {
     let links = inst.links();
-    plan.nodes == inst.nodes() && plan.links == links && plan.demands == inst.demands()
+    plan.nodes == inst.nodes()
+        && plan.links == links
+        && plan.demands == inst.demands()
+        && plan.both == inst.orient().is_two_way()
 }
 
 /// What is wrong with a design, or with its cost in cost grains.

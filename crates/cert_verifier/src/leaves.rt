@@ -1,12 +1,13 @@
 //! The rules of each kind of leaf.
 
-ghost use Rattle.std.specs.Prelude.{◌≡◌, ◌<◌, ◌≤◌, ◌+◌, ◌-◌, ◌*◌, ◌↔◌, ℕ, Some, None, IsTrue, IsFalse, ℤ, pos, ◌≤ℤ◌, length, slice_index, IfOk, IfSome, IfNone, IsSomeAnd};
+ghost use Rattle.std.specs.Prelude.{◌≡◌, ◌<◌, ◌≤◌, ◌+◌, ◌-◌, ◌*◌, ◌↔◌, ℕ, max, Some, None, IsTrue, IsFalse, ℤ, pos, ◌≤ℤ◌, length, slice_index, IfOk, IfSome, IfNone, IsSomeAnd};
 ghost use Rattle.std.specs.Result.{result_err};
 ghost use Rattle.link_steps.specs.Costs.{CannotCarry, IsStepCost};
 ghost use Rattle.plan_base.specs.Facts.{total_load};
-ghost use Rattle.plan_base.specs.Arcs.{link_at, demand_at};
+ghost use Rattle.plan_base.specs.Arcs.{demand_at};
+ghost use Rattle.plan_base.specs.Places.{places};
 ghost use Rattle.plan_base.specs.Paths.{IsSimplePath};
-ghost use Rattle.plan_base.specs.Designs.{load_on};
+ghost use Rattle.plan_base.specs.Designs.{load_at};
 ghost use Rattle.proof_tree.specs.declared.tree.Evidence.TheVariants as kind;
 ghost use Rattle.proof_tree.specs.Evidence.{holds};
 ghost use Rattle.proof_tree.specs.Plans.{IsOpenBound};
@@ -24,8 +25,10 @@ use crate::bounds::{bound_at, is_crowded, is_enough, price_total};
 use crate::rejected::Rejected;
 use link_steps::StepTable;
 use link_steps::limits::MAX_STEPS;
-use plan_base::limits::{MAX_LINKS, MAX_ROUTING_COST, MODULE_COST_BOUND};
-use plan_base::{ArcId, DemandId, Design, Instance, Items, LinkId, NodeId, Path, Prices, loads_of};
+use plan_base::limits::{MAX_PLACES, MAX_ROUTING_COST, MODULE_COST_BOUND};
+use plan_base::{
+    ArcId, DemandId, Design, Instance, Items, LinkId, LinkLoads, NodeId, Path, Prices, loads_of,
+};
 use proof_tree::Evidence;
 use std::alloc::{AllocError, Global};
 use verifier_paths::{Forbidden, OnlyPaths, only_paths};
@@ -69,45 +72,47 @@ fn is_above(bound: i128, cost: Option<u128>) -> bool
 /// The rules of a leaf that is closed by its bound.
 fn check_bound(alloc: Global, at: &Place, prices: &Prices) -> Result<(), Rejected>
     requires table { at.now.table.now ≡ at.now.inst.now }
-    requires count { length prices.now ≡ length at.now.inst.now.links }
+    requires count { length prices.now ≡ places at.now.inst.now }
     ensures { Tells (LeafFinds at.now.inst.now at.now.cost (forbidden_by at.now.forbidden.now) at.now.index (kind.Bound prices.now)) (result_err result) }
 {
     if !prices.fits(at.inst) {
         return broken(at.index, 1);
     }
-    match bound_at(alloc, at.inst, at.table, at.forbidden, prices.as_slice())? {
+    match bound_at(alloc, at.inst, at.table, at.forbidden, prices)? {
         Some(bound) => holds_or(is_above(bound, at.cost), at.index, 3),
         None => broken(at.index, 2),
     }
 }
 
-/// What the link costs at this load, in cost grains, and none where it cannot carry it.
-fn cost_of_link(inst: &Instance, table: &StepTable, link: LinkId, load: u64) -> Option<u128>
+/// What the link costs at these loads of its places, in cost grains, and none where it cannot carry the larger one.
+fn cost_of_link(inst: &Instance, table: &StepTable, link: LinkId, loads: LinkLoads) -> Option<u128>
     requires table { table.now ≡ inst.now }
     requires link { link.0 < length inst.now.links }
-    requires load { load ≤ total_load inst.now }
-    ensures cost { IfSome result (IsStepCost (link_at inst.now link.0) load) }
-    ensures none { IfNone result (CannotCarry (link_at inst.now link.0) load) }
-    ensures within { IfSome result (λ cost. cost ≤ MAX_ROUTING_COST + (MAX_STEPS - 1) * MODULE_COST_BOUND) }
+    requires there { loads.there ≤ total_load inst.now }
+    requires back { loads.back ≤ total_load inst.now }
+    ensures cost { IfSome result (IsStepCost inst.now link.0 loads.there loads.back) }
+    ensures none { IfNone result (CannotCarry inst.now link.0 (max loads.there loads.back)) }
+    ensures within { IfSome result (λ cost. cost ≤ 2 * MAX_ROUTING_COST + (MAX_STEPS - 1) * MODULE_COST_BOUND) }
 {
-    let _links = inst.links();
-    match table.at(link, load) {
-        Some(modules) => { Some(u128::from(inst.link(link).routing) * u128::from(load) + modules) }
+    inst.lawful();
+    let routing = u128::from(inst.link(link).routing);
+    match table.at(link, loads.need() as u64) {
+        Some(modules) => Some(routing * (loads.there + loads.back) + modules),
         None => None,
     }
 }
 
-/// What the only paths cost, in cost grains, and none where a link cannot carry its load.
-fn cost_of_paths(inst: &Instance, table: &StepTable, loads: &[u128; MAX_LINKS]) -> Option<u128>
+/// What the only paths cost, in cost grains, and none where a link cannot carry the larger load of its places.
+fn cost_of_paths(inst: &Instance, table: &StepTable, loads: &[u128; MAX_PLACES]) -> Option<u128>
     requires table { table.now ≡ inst.now }
-    requires loads { (e : ℕ) → e < length inst.now.links → slice_index loads.now e ≤ total_load inst.now }
+    requires loads { (q : ℕ) → q < MAX_PLACES → slice_index loads.now q ≤ total_load inst.now }
     ensures cost { IfSome result (IsCostOfLoads inst.now loads.now) }
     ensures none { IfNone result (HasOverfull inst.now loads.now) }
 {
     let mut total = 0;
     for place in 0..inst.links() {
-        let load = loads[place as usize] as u64;
-        match cost_of_link(inst, table, LinkId(place), load) {
+        let link = LinkId(place);
+        match cost_of_link(inst, table, link, LinkLoads::of_link(inst, loads, link)) {
             Some(cost) => total += cost,
             None => return None,
         }
@@ -115,12 +120,12 @@ fn cost_of_paths(inst: &Instance, table: &StepTable, loads: &[u128; MAX_LINKS]) 
     Some(total)
 }
 
-/// The loads of the only paths, in load grains.
-fn loads_of_paths(alloc: Global, inst: &Instance, paths: Items<Path>) -> [u128; MAX_LINKS]
+/// The loads that the only paths put on places, in load grains.
+fn loads_of_paths(alloc: Global, inst: &Instance, paths: Items<Path>) -> [u128; MAX_PLACES]
     requires count { length paths ≡ length inst.now.demands }
     requires simple { (k : ℕ) → k < length inst.now.demands → IsSimplePath inst.now (demand_at inst.now k) (path_in paths k) }
-    ensures value { (e : ℕ) → e < MAX_LINKS → slice_index result e ≡ load_on inst.now (design_of paths) e }
-    ensures within { (e : ℕ) → e < MAX_LINKS → slice_index result e ≤ total_load inst.now }
+    ensures value { (q : ℕ) → q < MAX_PLACES → slice_index result q ≡ load_at inst.now (design_of paths) q }
+    ensures within { (q : ℕ) → q < MAX_PLACES → slice_index result q ≤ total_load inst.now }
 {
     let design = Design {
         paths,
@@ -144,7 +149,7 @@ fn check_routed(alloc: Global, at: &Place) -> Result<(), Rejected>
     requires table { at.now.table.now ≡ at.now.inst.now }
     ensures { Tells (LeafFinds at.now.inst.now at.now.cost (forbidden_by at.now.forbidden.now) at.now.index kind.Routed) (result_err result) }
 {
-    let _links = at.inst.links();
+    at.inst.lawful();
     match only_paths(alloc, at.inst, at.forbidden)? {
         OnlyPaths::Missing => broken(at.index, 1),
         OnlyPaths::Second => broken(at.index, 2),
@@ -158,7 +163,7 @@ fn check_routed(alloc: Global, at: &Place) -> Result<(), Rejected>
     }
 }
 
-/// The rules of a leaf that is closed by a link that cannot carry its load.
+/// The rules of a leaf that is closed by a link that cannot carry what it needs.
 fn check_overfull(alloc: Global, at: &Place, link: LinkId) -> Result<(), Rejected>
     requires table { at.now.table.now ≡ at.now.inst.now }
     ensures { Tells (LeafFinds at.now.inst.now at.now.cost (forbidden_by at.now.forbidden.now) at.now.index (kind.Overfull link)) (result_err result) }
@@ -171,7 +176,8 @@ fn check_overfull(alloc: Global, at: &Place, link: LinkId) -> Result<(), Rejecte
         OnlyPaths::Second => broken(at.index, 3),
         OnlyPaths::Only(paths) => {
             let loads = loads_of_paths(alloc, at.inst, paths);
-            match at.table.at(link, loads[link.0 as usize] as u64) {
+            let needed = LinkLoads::of_link(at.inst, &loads, link);
+            match cost_of_link(at.inst, at.table, link, needed) {
                 Some(_) => broken(at.index, 4),
                 None => Ok(()),
             }
@@ -200,7 +206,7 @@ fn leads_out(at: &Place, demand: DemandId, reached: &[bool], arc: ArcId) -> bool
 fn is_closed(at: &Place, demand: DemandId, reached: &[bool]) -> bool
     ensures { IsTrue result ↔ IsNoWayOut at.now.inst.now (forbidden_by at.now.forbidden.now) demand reached.now }
 {
-    for arc in 0..2 * at.inst.links() {
+    for arc in 0..at.inst.arcs() {
         if leads_out(at, demand, reached, ArcId(arc)) {
             return false;
         }
@@ -228,13 +234,13 @@ fn check_cut(at: &Place, demand: DemandId, reached: &[bool]) -> Result<(), Rejec
     Ok(())
 }
 
-/// Whether the prices of useful links are 0.
+/// Whether the prices of the places of useful links are 0.
 fn are_free_on_useful(inst: &Instance, prices: &[u128]) -> bool
-    requires count { length prices.now ≡ length inst.now.links }
+    requires count { length prices.now ≡ places inst.now }
     ensures { IsTrue result ↔ AreFreeOnUseful inst.now prices.now }
 {
-    for place in 0..inst.links() {
-        if inst.useful(LinkId(place)) && prices[place as usize] > 0 {
+    for place in 0..inst.places() {
+        if inst.useful(inst.link_of_place(place)) && prices[place as usize] > 0 {
             return false;
         }
     }
@@ -243,7 +249,7 @@ fn are_free_on_useful(inst: &Instance, prices: &[u128]) -> bool
 
 /// The rules of a leaf that is closed by a crowd.
 fn check_crowd(alloc: Global, at: &Place, prices: &Prices) -> Result<(), Rejected>
-    requires count { length prices.now ≡ length at.now.inst.now.links }
+    requires count { length prices.now ≡ places at.now.inst.now }
     ensures { Tells (LeafFinds at.now.inst.now at.now.cost (forbidden_by at.now.forbidden.now) at.now.index (kind.Crowd prices.now)) (result_err result) }
 {
     if !prices.fits(at.inst) {
@@ -262,7 +268,7 @@ fn check_crowd(alloc: Global, at: &Place, prices: &Prices) -> Result<(), Rejecte
 /// The rule of a leaf that is left open.
 #[tactic(auto, using(crate::proofs::LeafFindings::open_findings))]
 fn check_open(at: &Place, prices: &Prices) -> Result<(), Rejected>
-    requires count { length prices.now ≡ length at.now.inst.now.links }
+    requires count { length prices.now ≡ places at.now.inst.now }
     ensures { LeafFinds at.now.inst.now at.now.cost (forbidden_by at.now.forbidden.now) at.now.index (kind.Open prices.now) (result_err result) }
 {
     if !prices.fits(at.inst) {
@@ -274,7 +280,7 @@ fn check_open(at: &Place, prices: &Prices) -> Result<(), Rejected>
 /// The first rule that the leaf breaks.
 pub(crate) fn check_leaf(alloc: Global, at: &Place, evidence: &Evidence) -> Result<(), Rejected>
     requires table { at.now.table.now ≡ at.now.inst.now }
-    requires fits { FitsEvidence at.now.inst.now.nodes (length at.now.inst.now.links) evidence.now }
+    requires fits { FitsEvidence at.now.inst.now.nodes (places at.now.inst.now) evidence.now }
     ensures { Tells (LeafFinds at.now.inst.now at.now.cost (forbidden_by at.now.forbidden.now) at.now.index evidence.now) (result_err result) }
 {
     match evidence {
@@ -294,15 +300,13 @@ pub(crate) fn open_bound(
     evidence: &Evidence,
 ) -> Result<Option<i128>, AllocError>
     requires table { at.now.table.now ≡ at.now.inst.now }
-    requires fits { FitsEvidence at.now.inst.now.nodes (length at.now.inst.now.links) evidence.now }
+    requires fits { FitsEvidence at.now.inst.now.nodes (places at.now.inst.now) evidence.now }
     requires limit { IsOpenWithin at.now.inst.now evidence.now }
     ensures bound { IfOk result (λ bound. IfSome bound (IsOpenBound at.now.inst.now (forbidden_by at.now.forbidden.now) evidence.now)) }
     ensures none { IfOk result (λ bound. IfNone bound ((bound : ℤ) → IsOpenBound at.now.inst.now (forbidden_by at.now.forbidden.now) evidence.now bound → ⊥)) }
 {
     match evidence {
-        Evidence::Open(prices) => {
-            bound_at(alloc, at.inst, at.table, at.forbidden, prices.as_slice())
-        }
+        Evidence::Open(prices) => bound_at(alloc, at.inst, at.table, at.forbidden, prices),
         _ => Ok(None),
     }
 }

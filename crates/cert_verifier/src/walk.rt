@@ -2,6 +2,7 @@
 
 ghost use Rattle.std.specs.Prelude.{◌≡◌, ◌≢◌, ◌<◌, ◌++◌, ◌∷◌, [], false, None, Some, List, All, length, reverse, slice_get, IfOk, IfErr, OnOk};
 ghost use Rattle.std.specs.Result.{result_err};
+ghost use Rattle.plan_base.specs.Places.{places};
 ghost use Rattle.arc_restrict.specs.Restrictions.{Forbidden as Restricted, none_forbidden, with_forbidden};
 ghost use Rattle.proof_tree.specs.declared.tree.TreeNode.{TreeNode as AnyRecord};
 ghost use Rattle.proof_tree.specs.declared.tree.TreeNode.TheVariants.{Leaf};
@@ -174,7 +175,7 @@ impl Walk {
     ) -> Result<(), Rejected>
         requires table { against.now.table.now ≡ against.now.inst.now }
         requires node { node.now ≡ Leaf evidence.now }
-        requires fits { FitsRecord against.now.inst.now.nodes (length against.now.inst.now.links) node.now }
+        requires fits { FitsRecord against.now.inst.now.nodes (places against.now.inst.now) node.now }
         ensures found { Tells (RecordFinds against.now.inst.now against.now.plan.now (forbidden_by self.old.forbidden) index node.now) (result_err result) }
         ensures forbidden { self.new.forbidden ≡ self.old.forbidden }
         ensures turns { self.new.turns ≡ self.old.turns }
@@ -215,7 +216,7 @@ impl Walk {
     fn visit(&mut self, alloc: Global, against: &Against, index: u32) -> Result<(), Rejected>
         requires table { against.now.table.now ≡ against.now.inst.now }
         requires index { index < length against.now.plan.now.tree }
-        requires fits { All (FitsRecord against.now.inst.now.nodes (length against.now.inst.now.links)) against.now.plan.now.tree }
+        requires fits { All (FitsRecord against.now.inst.now.nodes (places against.now.inst.now)) against.now.plan.now.tree }
         requires rows { HasRows against.now.inst.now self.old.forbidden }
         requires stands { StandsAt against.now.inst.now against.now.plan.now.tree (reverse self.old.turns.items) (forbidden_by self.old.forbidden) }
         ensures found { (node : AnyRecord) → slice_get against.now.plan.now.tree index ≡ Some node

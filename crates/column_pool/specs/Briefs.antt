@@ -3,6 +3,7 @@ use Rattle.std.specs.Prelude.{ℕ, ◌≡◌, ◌<◌, List, length, All}
 use Rattle.plan_base.specs.declared.ids.ArcId.{ArcId}
 use Rattle.plan_base.specs.declared.parts.Parts.{Parts}
 use Rattle.plan_base.specs.Arcs.{demand_at}
+use Rattle.plan_base.specs.Places.{places}
 use Rattle.plan_base.specs.Paths.{IsSimplePath}
 use Rattle.arc_restrict.specs.Prices.{AreWithinLimit}
 use Rattle.column_pool.specs.Columns.{Columns, columns_at}
@@ -15,9 +16,9 @@ ArePathsOf p k paths = All (λ path. IsSimplePath p (demand_at p k) path) paths
 abbrev pub AreAllPaths : Parts → Columns → ℕ → Type 0
 AreAllPaths p columns count = (k : ℕ) → k < count → ArePathsOf p k (columns_at columns k)
 
--- one price for each link, none above the price limit, and for each demand a list of simple paths of it
+-- one price for each place, none above the price limit, and for each demand a list of simple paths of it
 pub record IsBriefFor (p : Parts) (prices : List ℕ) (columns : Columns) : Type 0 where
-  pub price_count : length prices ≡ length p.links
+  pub price_count : length prices ≡ places p
   pub price_limit : AreWithinLimit p prices
   pub list_count : length columns ≡ length p.demands
   pub paths : AreAllPaths p columns (length p.demands)

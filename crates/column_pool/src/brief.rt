@@ -38,7 +38,7 @@ pub struct Brief {
     pub node: BranchId,
     /// The version of its prices.
     pub version: u64,
-    /// One price for each link, in thousandths of a cost grain per load grain.
+    /// One price for each place, in thousandths of a cost grain per load grain.
     pub prices: Prices,
     /// For each demand the columns that the node permits, in order.
     pub columns: Items<Items<Path>>,
@@ -53,7 +53,7 @@ impl Brief {
     /// simple paths of that demand. Takes no memory.
     ///
     /// - Rule: docs/METHOD.md, "Columns".
-    /// - Time: linear in the links and in the arcs of all columns.
+    /// - Time: linear in the places and in the arcs of all columns.
     pub fn fits(&self, inst: &Instance) -> bool
         ensures { IsTrue result ↔ IsBriefFor inst.now self.now.prices self.now.columns }
     {

@@ -1,24 +1,29 @@
 -- Links completed one by one make the cheapest design.
-use Rattle.std.proofs.Common.{◌≡◌, ℕ, ◌+◌, ◌*◌, ◌<◌, ◌≤◌, inl, inr, List, [], ◌∷◌, ◌++◌, length, slice_index_or, if◌then◌else◌, refl, sym, ap, subst, ◌∙◌, arith}
+use Rattle.std.proofs.Common.{◌≡◌, ℕ, ◌+◌, ◌*◌, ◌<◌, ◌≤◌, max, slice_index, inl, inr, List, [], ◌∷◌, ◌++◌, length, slice_index_or, if◌then◌else◌, refl, sym, ap, subst, ◌∙◌, arith}
 use Rattle.std.proofs.Math.Seq.{get_or-append_seam}
 use Rattle.std.proofs.Math.Nat.{mul-le-mul_left}
 use Rattle.std.proofs.lemmas.List.{length-append, get_or_append_left}
 use Rattle.plan_base.specs.declared.ids.ArcId.{ArcId}
-use Rattle.plan_base.specs.declared.parts.Link.{Link}
 use Rattle.plan_base.specs.declared.parts.Parts.{Parts}
 use Rattle.plan_base.specs.declared.path.Design.{Design}
-use Rattle.plan_base.specs.declared.limits.TheConstants.{MAX_ROUTING_COST}
+use Rattle.plan_base.specs.declared.limits.TheConstants.{MAX_ROUTING_COST, MAX_PLACES}
 use Rattle.plan_base.specs.Sums.{sum_below}
 use Rattle.plan_base.specs.Facts.{total_load, IsInstance}
 use Rattle.plan_base.specs.Arcs.{link_at, demand_at, no_link}
-use Rattle.plan_base.specs.Paths.{uses}
-use Rattle.plan_base.specs.Designs.{load_from, load_on, counts_at, module_cost_with, link_cost, cost_of, AreCountsInShape, IsDesign, IsFeasible}
+use Rattle.plan_base.specs.Places.{places, there_of, back_of}
+use Rattle.plan_base.specs.Paths.{uses_place}
+use Rattle.plan_base.specs.Designs.{load_from, load_at, need, carried, counts_at, module_cost_with, link_cost, cost_of, AreCountsInShape, IsDesign, CarriesLoads, IsCarriedDesign, IsGoodDesign}
 use Rattle.plan_base.proofs.SumLaws.{sum_below-next}
 use Rattle.plan_base.proofs.SumsBelow.{sum_below-same, sum_below-le}
+use Rattle.plan_base.proofs.PlaceSums.{there-same, back-same, places-few}
 use Rattle.link_steps.specs.Costs.{Carries, CanCarry, CannotCarry, IsLeastModuleCost, AreLeastCounts}
 use Rattle.link_steps.proofs.Order.{before_or_last}
 use Rattle.completions.specs.Completions.{with_paths, ArePaths, IsCompletion, CarryLoads, HasOverfull, IsFirstOverfull}
 use Rattle.completions.specs.Links.{IsLinkCompletion, counts_in, cost_with, AreCompletedTo}
+
+-- a design in shape whose links carry its loads is good
+pub good-carried : (p : Parts) (d : Design) → IsCarriedDesign p d → IsGoodDesign p d
+good-carried p d is = record { design = is.design; feasible = record { carried = is.carried }; in_shape = is.in_shape }
 
 -- the routing cost of a load up to the total load is small
 pub routing-within : (p : Parts) (e load : ℕ) → IsInstance p → e < length p.links → load ≤ total_load p → (link_at p e).routing * load ≤ MAX_ROUTING_COST
@@ -26,33 +31,73 @@ routing-within p e load lawful within low =
     let product : (link_at p e).routing * load ≤ (link_at p e).routing * total_load p = mul-le-mul_left (link_at p e).routing low in
     omega (arith, product, lawful.routing e no_link within)
 
-load_from-paths : (p : Parts) (d other : Design) (e k : ℕ) → d.paths ≡ other.paths → load_from p d e k ≡ load_from p other e k
+-- that of two such loads is at most twice as much
+pub both-within : (p : Parts) (e there back : ℕ) → IsInstance p → e < length p.links → max there back ≤ total_load p → (link_at p e).routing * (there + back) ≤ 2 * MAX_ROUTING_COST
+both-within p e there back lawful within low =
+    let one = routing-within p e there lawful within (omega arith) in
+    let two = routing-within p e back lawful within (omega arith) in
+    omega arith
+
+load_from-paths : (p : Parts) (d other : Design) (q k : ℕ) → d.paths ≡ other.paths → load_from p d q k ≡ load_from p other q k
 unfolding load_from
-load_from-paths p d other e k same =
-    ap (λ (paths : List (List ArcId)). if uses e (slice_index_or paths k []) then (demand_at p k).load else 0) same
+load_from-paths p d other q k same =
+    ap (λ (paths : List (List ArcId)). if uses_place p q (slice_index_or paths k []) then (demand_at p k).load else 0) same
 
 -- designs with the same paths have the same loads
-pub load_on-paths : (p : Parts) (d other : Design) (e : ℕ) → d.paths ≡ other.paths → load_on p d e ≡ load_on p other e
-load_on-paths p d other e same =
-    sum_below-same (load_from p d e) (load_from p other e) (length p.demands) (λ k within. load_from-paths p d other e k same)
+pub load_at-paths : (p : Parts) (d other : Design) (q : ℕ) → d.paths ≡ other.paths → load_at p d q ≡ load_at p other q
+load_at-paths p d other q same =
+    sum_below-same (load_from p d q) (load_from p other q) (length p.demands) (λ k within. load_from-paths p d other q k same)
 
--- the link here is the first one that cannot carry its load
-pub overfull-here : (p : Parts) (d : Design) (e load : ℕ) → e < length p.links → load ≡ load_on p d e → CannotCarry (link_at p e) load → CarryLoads p d.paths e → IsFirstOverfull p d.paths e
-overfull-here p d e load within is cannot before =
-    record { within = within; overfull = subst (CannotCarry (link_at p e)) (is ∙ load_on-paths p d (with_paths d.paths) e refl) cannot; before = before }
+module _ (p : Parts) (d other : Design) (e : ℕ) (within : e < length p.links) (same : d.paths ≡ other.paths) where
+  same_there : there_of p (load_at p d) e ≡ there_of p (load_at p other) e
+  same_there = there-same p (load_at p d) (load_at p other) e within (λ q below. load_at-paths p d other q same)
 
--- some link cannot carry its load
-pub overfull-found : (p : Parts) (d : Design) (e load : ℕ) → e < length p.links → load ≡ load_on p d e → CannotCarry (link_at p e) load → HasOverfull p d.paths
-overfull-found p d e load within is cannot =
-    record { link = e; within = within; overfull = subst (CannotCarry (link_at p e)) (is ∙ load_on-paths p d (with_paths d.paths) e refl) cannot }
+  same_back : back_of p (load_at p d) e ≡ back_of p (load_at p other) e
+  same_back = back-same p (load_at p d) (load_at p other) e within (λ q below. load_at-paths p d other q same)
 
--- the link here can carry its load too
-pub carry-next : (p : Parts) (d : Design) (e load : ℕ) → load ≡ load_on p d e → CanCarry (link_at p e) load → CarryLoads p d.paths e → CarryLoads p d.paths (e + 1)
-carry-next p d e load is can before = λ other below.
-    elim (before_or_last other e below) [
-      | inl earlier ↦ before other earlier
-      | inr here ↦ rw here (subst (CanCarry (link_at p e)) (is ∙ load_on-paths p d (with_paths d.paths) e refl) can)
-    ]
+  -- and their links need the same capacity and carry as much
+  pub need-paths : need p d e ≡ need p other e
+  need-paths = rw (same_there, same_back) refl
+
+  pub carried-paths : carried p d e ≡ carried p other e
+  carried-paths = rw (same_there, same_back) refl
+
+-- the loads of a link's places are those that a design's paths put on them
+pub record HasLoads (p : Parts) (d : Design) (e there back : ℕ) : Type 0 where
+  pub there_is : there ≡ there_of p (load_at p d) e
+  pub back_is : back ≡ back_of p (load_at p d) e
+
+-- they are read from a list
+pub loads-read : (p : Parts) (d : Design) (e there back : ℕ) (loads : List ℕ) → IsInstance p → e < length p.links → ((q : ℕ) → q < MAX_PLACES → slice_index loads q ≡ load_at p d q)
+    → there ≡ there_of p (slice_index loads) e → back ≡ back_of p (slice_index loads) e → HasLoads p d e there back
+loads-read p d e there back loads lawful within are there_is back_is =
+    let same : (q : ℕ) → q < places p → slice_index loads q ≡ load_at p d q = λ q below. are q (omega (arith, below, places-few p lawful)) in
+    record {
+      there_is = there_is ∙ there-same p (slice_index loads) (load_at p d) e within same;
+      back_is = back_is ∙ back-same p (slice_index loads) (load_at p d) e within same;
+    }
+
+module _ (p : Parts) (d : Design) (e there back : ℕ) (within : e < length p.links) (held : HasLoads p d e there back) where
+  needed : max there back ≡ need p (with_paths d.paths) e
+  needed =
+      let read : max there back ≡ need p d e = rw (held.there_is, held.back_is) refl in
+      read ∙ need-paths p d (with_paths d.paths) e within refl
+
+  -- the link here is the first one that cannot carry what it needs
+  pub overfull-here : CannotCarry p e (max there back) → CarryLoads p d.paths e → IsFirstOverfull p d.paths e
+  overfull-here cannot before = record { within = within; overfull = subst (CannotCarry p e) needed cannot; before = before }
+
+  -- some link cannot carry what it needs
+  pub overfull-found : CannotCarry p e (max there back) → HasOverfull p d.paths
+  overfull-found cannot = record { link = e; within = within; overfull = subst (CannotCarry p e) needed cannot }
+
+  -- the link here can carry what it needs too
+  pub carry-next : CanCarry p e (max there back) → CarryLoads p d.paths e → CarryLoads p d.paths (e + 1)
+  carry-next can before = λ other below.
+      elim (before_or_last other e below) [
+        | inl earlier ↦ before other earlier
+        | inr here ↦ rw here (subst (CanCarry p e) needed can)
+      ]
 
 pub AreCompletedTo-none : (p : Parts) (paths : List (List ArcId)) → AreCompletedTo p paths 0 0 []
 AreCompletedTo-none p paths =
@@ -60,7 +105,7 @@ AreCompletedTo-none p paths =
 
 -- one link more
 AreCompletedTo-push : (p : Parts) (paths : List (List ArcId)) (n cost more : ℕ) (all : List (List ℕ)) (counts : List ℕ) → AreCompletedTo p paths n cost all
-    → IsLinkCompletion (link_at p n) (load_on p (with_paths paths) n) more counts → AreCompletedTo p paths (n + 1) (cost + more) (all ++ counts ∷ [])
+    → IsLinkCompletion p n (there_of p (load_at p (with_paths paths)) n) (back_of p (load_at p (with_paths paths)) n) more counts → AreCompletedTo p paths (n + 1) (cost + more) (all ++ counts ∷ [])
 AreCompletedTo-push p paths n cost more all counts before here =
     let long = before.list_count in
     let old : (e : ℕ) → e < n → counts_in (all ++ counts ∷ []) e ≡ counts_in all e = λ e below. get_or_append_left all (counts ∷ []) [] e (omega arith) in
@@ -83,16 +128,18 @@ AreCompletedTo-push p paths n cost more all counts before here =
       is_cost = omega (arith, sum_below-next (cost_with p paths (all ++ counts ∷ [])) n, rest, last, before.is_cost);
     }
 
--- one link more, completed for its load in a design
-pub completed-more : (p : Parts) (d : Design) (n cost load more : ℕ) (all : List (List ℕ)) (counts : List ℕ) → load ≡ load_on p d n → AreCompletedTo p d.paths n cost all
-    → IsLinkCompletion (link_at p n) load more counts → AreCompletedTo p d.paths (n + 1) (cost + more) (all ++ counts ∷ [])
-completed-more p d n cost load more all counts is before here =
-    AreCompletedTo-push p d.paths n cost more all counts before
-    (subst (λ (x : ℕ). IsLinkCompletion (link_at p n) x more counts) (is ∙ load_on-paths p d (with_paths d.paths) n refl) here)
+-- one link more, completed for its loads in a design
+pub completed-more : (p : Parts) (d : Design) (n cost there back more : ℕ) (all : List (List ℕ)) (counts : List ℕ) → n < length p.links → HasLoads p d n there back → AreCompletedTo p d.paths n cost all
+    → IsLinkCompletion p n there back more counts → AreCompletedTo p d.paths (n + 1) (cost + more) (all ++ counts ∷ [])
+completed-more p d n cost there back more all counts within held before here =
+    let there_is = held.there_is ∙ same_there p d (with_paths d.paths) n within refl in
+    let back_is = held.back_is ∙ same_back p d (with_paths d.paths) n within refl in
+    AreCompletedTo-push p d.paths n cost more all counts before (rw (there_is, back_is) at here)
 
 -- the least module cost is what least counts cost
-pub link-completed : (l : Link) (load routing modules : ℕ) (counts : List ℕ) → routing ≡ l.routing * load → IsLeastModuleCost l load modules → AreLeastCounts l load counts → AreCountsInShape l counts → IsLinkCompletion l load (routing + modules) counts
-link-completed l load routing modules counts is least counted in_shape = record {
+pub link-completed : (p : Parts) (e there back routing modules : ℕ) (counts : List ℕ) → routing ≡ (link_at p e).routing * (there + back) → IsLeastModuleCost p e (max there back) modules
+    → AreLeastCounts p e (max there back) counts → AreCountsInShape (link_at p e) counts → IsLinkCompletion p e there back (routing + modules) counts
+link-completed p e there back routing modules counts is least counted in_shape = record {
   least = counted;
   in_shape = in_shape;
   is_cost = omega (arith, is, least.attained, counted.least least.counts least.carries, least.least counts counted.carries);
@@ -104,37 +151,35 @@ completed paths all = record { paths = paths; counts = all }
 
 module _ (p : Parts) (paths : List (List ArcId)) (cost : ℕ) (all : List (List ℕ))
     (are_paths : ArePaths p paths) (done : AreCompletedTo p paths (length p.links) cost all) where
-  same_load : (e : ℕ) → load_on p (completed paths all) e ≡ load_on p (with_paths paths) e
-  same_load e = load_on-paths p (completed paths all) (with_paths paths) e refl
-
-  pub least-completed : (e : ℕ) → e < length p.links → AreLeastCounts (link_at p e) (load_on p (completed paths all) e) (counts_at (completed paths all) e)
-  least-completed e within = rw (same_load e) (done.least e within)
+  pub least-completed : (e : ℕ) → e < length p.links → AreLeastCounts p e (need p (completed paths all) e) (counts_at (completed paths all) e)
+  least-completed e within = subst (λ (load : ℕ). AreLeastCounts p e load (counts_in all e)) (sym (need-paths p (completed paths all) (with_paths paths) e within refl)) (done.least e within)
 
   cost-completed : cost ≡ cost_of p (completed paths all)
   cost-completed =
       done.is_cost ∙ sum_below-same (cost_with p paths all) (link_cost p (completed paths all)) (length p.links)
-      (λ e within. ap (λ (load : ℕ). (link_at p e).routing * load + module_cost_with (link_at p e) (counts_in all e)) (sym (same_load e)))
+      (λ e within. ap (λ (load : ℕ). (link_at p e).routing * load + module_cost_with (link_at p e) (counts_in all e)) (sym (carried-paths p (completed paths all) (with_paths paths) e within refl)))
 
-  no-cheaper : (other : Design) → other.paths ≡ paths → IsDesign p other → IsFeasible p other → cost ≤ cost_of p other
-  no-cheaper other same design feasible =
+  no-cheaper : (other : Design) → other.paths ≡ paths → IsDesign p other → CarriesLoads p other → cost ≤ cost_of p other
+  no-cheaper other same design carries =
       let each : (e : ℕ) → e < length p.links → cost_with p paths all e ≤ link_cost p other e = λ e within.
-      (let load = load_on-paths p other (with_paths paths) e same in
-      let carries : Carries (link_at p e) (load_on p (with_paths paths) e) (counts_at other e) = record { count = design.counts e within; enough = rw (← load) (feasible e within) } in
-      let less = (done.least e within).least (counts_at other e) carries in
-      rw load (omega (arith, less))) in
+      (let needs : need p other e ≡ need p (with_paths paths) e = need-paths p other (with_paths paths) e within same in
+      let enough : Carries p e (need p (with_paths paths) e) (counts_at other e) = record { count = design.counts e within; enough = omega (arith, needs, carries e within) } in
+      let less = (done.least e within).least (counts_at other e) enough in
+      let routing : (link_at p e).routing * carried p other e ≡ (link_at p e).routing * carried p (with_paths paths) e = ap (λ (load : ℕ). (link_at p e).routing * load) (carried-paths p other (with_paths paths) e within same) in
+      omega (arith, less, routing)) in
       omega (arith, done.is_cost, sum_below-le (cost_with p paths all) (link_cost p other) (length p.links) each)
 
   pub IsCompletion-completed : IsCompletion p paths cost (completed paths all)
   IsCompletion-completed = record {
     same_paths = refl;
-    good = record {
+    carried = record {
       design = record {
         path_count = are_paths.count;
         list_count = done.list_count;
         paths = are_paths.simple;
         counts = λ e within. (done.least e within).carries.count;
       };
-      feasible = λ e within. (least-completed e within).carries.enough;
+      carried = λ e within. (least-completed e within).carries.enough;
       in_shape = done.in_shape;
     };
     is_cost = cost-completed;

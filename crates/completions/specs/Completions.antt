@@ -3,9 +3,9 @@ use Rattle.std.specs.Prelude.{ℕ, ◌≡◌, ◌<◌, ◌≤◌, List, [], leng
 use Rattle.plan_base.specs.declared.ids.ArcId.{ArcId}
 use Rattle.plan_base.specs.declared.parts.Parts.{Parts}
 use Rattle.plan_base.specs.declared.path.Design.{Design}
-use Rattle.plan_base.specs.Arcs.{link_at, demand_at}
+use Rattle.plan_base.specs.Arcs.{demand_at}
 use Rattle.plan_base.specs.Paths.{IsSimplePath}
-use Rattle.plan_base.specs.Designs.{path_at, load_on, cost_of, IsDesign, IsFeasible, IsGoodDesign}
+use Rattle.plan_base.specs.Designs.{path_at, need, cost_of, IsDesign, CarriesLoads, IsCarriedDesign}
 use Rattle.link_steps.specs.Costs.{CanCarry, CannotCarry}
 
 -- a design with these paths; its counts do not matter
@@ -17,28 +17,28 @@ pub record ArePaths (p : Parts) (paths : List (List ArcId)) : Type 0 where
   pub count : length paths ≡ length p.demands
   pub simple : (k : ℕ) → k < length p.demands → IsSimplePath p (demand_at p k) (path_at (with_paths paths) k)
 
--- a feasible design in shape with these paths, its cost in cost grains, and no feasible design with them costs less
+-- a design in shape with these paths whose links carry them, its cost in cost grains, and no design with them whose links carry them costs less
 pub record IsCompletion (p : Parts) (paths : List (List ArcId)) (cost : ℕ) (d : Design) : Type 0 where
   pub same_paths : d.paths ≡ paths
-  pub good : IsGoodDesign p d
+  pub carried : IsCarriedDesign p d
   pub is_cost : cost ≡ cost_of p d
-  pub least : (other : Design) → other.paths ≡ paths → IsDesign p other → IsFeasible p other → cost ≤ cost_of p other
+  pub least : (other : Design) → other.paths ≡ paths → IsDesign p other → CarriesLoads p other → cost ≤ cost_of p other
 
--- the link of this number cannot carry, by any counts, the load that these paths put on it
+-- the link of this number cannot carry, by any counts, what it needs for these paths
 abbrev pub IsOverfull : Parts → List (List ArcId) → ℕ → Type 0
-IsOverfull p paths e = CannotCarry (link_at p e) (load_on p (with_paths paths) e)
+IsOverfull p paths e = CannotCarry p e (need p (with_paths paths) e)
 
--- each link before this number can carry, by some counts, the load that these paths put on it
+-- each link before this number can carry, by some counts, what it needs for these paths
 abbrev pub CarryLoads : Parts → List (List ArcId) → ℕ → Type 0
-CarryLoads p paths link = (e : ℕ) → e < link → CanCarry (link_at p e) (load_on p (with_paths paths) e)
+CarryLoads p paths link = (e : ℕ) → e < link → CanCarry p e (need p (with_paths paths) e)
 
--- some link cannot carry, by any counts, the load that these paths put on it
+-- some link cannot carry, by any counts, what it needs for these paths
 pub record HasOverfull (p : Parts) (paths : List (List ArcId)) : Type 0 where
   pub link : ℕ
   pub within : link < length p.links
   pub overfull : IsOverfull p paths link
 
--- the first link that cannot carry, by any counts, the load that these paths put on it
+-- the first link that cannot carry, by any counts, what it needs for these paths
 pub record IsFirstOverfull (p : Parts) (paths : List (List ArcId)) (link : ℕ) : Type 0 where
   pub within : link < length p.links
   pub overfull : IsOverfull p paths link

@@ -1,59 +1,62 @@
 //! The cheapest design for given paths.
 
-ghost use Rattle.std.specs.Prelude.{ℕ, ◌≡◌, ◌<◌, ◌≤◌, ◌*◌, length, IfOk, IfSome, IfNone, IsTrue, IsFalse};
+ghost use Rattle.std.specs.Prelude.{ℕ, ◌≡◌, ◌<◌, ◌≤◌, ◌+◌, ◌*◌, max, length, IfOk, IfSome, IfNone, IsTrue, IsFalse};
 ghost use Rattle.plan_base.specs.Facts.{IsInstance, total_load};
 ghost use Rattle.plan_base.specs.Arcs.{link_at};
-ghost use Rattle.plan_base.specs.Designs.{load_on, counts_at};
+ghost use Rattle.plan_base.specs.Designs.{need, counts_at};
 ghost use Rattle.link_steps.specs.Costs.{CanCarry, CannotCarry, AreLeastCounts};
 ghost use Rattle.completions.specs.Completions.{ArePaths, IsCompletion, HasOverfull, CarryLoads, IsFirstOverfull};
 ghost use Rattle.completions.specs.Links.{IsLinkCompletion, AreCompletedTo};
 
 use link_steps::StepTable;
 use plan_base::limits::MAX_ROUTING_COST;
-use plan_base::{Design, Instance, Items, LinkId, Path, loads_of};
+use plan_base::{Design, Instance, Items, LinkId, LinkLoads, Path, loads_of};
 use std::alloc::{AllocError, Global};
 
-/// The most that one link costs where it carries at most the total load at its least cost, in cost grains.
-pub const LINK_COST_BOUND: u128 = 2_000_000_000_000_000_000_000_000_000_000;
+/// The most that one link costs where each of its places carries at most the total load at the link's least cost, in cost
+/// grains.
+pub const LINK_COST_BOUND: u128 = 3_000_000_000_000_000_000_000_000_000_000;
 
-/// The routing cost of a load on a link, in cost grains.
-pub fn routing_cost(inst: &Instance, link: LinkId, load: u64) -> u128
+/// The routing cost of the loads of a link's places, in cost grains.
+pub fn routing_cost(inst: &Instance, link: LinkId, loads: LinkLoads) -> u128
     requires lawful { IsInstance inst.now }
     requires link { link.0 < length inst.now.links }
-    requires load { load ≤ total_load inst.now }
-    ensures value { result ≡ (link_at inst.now link.0).routing * load }
-    ensures within { result ≤ MAX_ROUTING_COST }
+    requires need { max loads.there loads.back ≤ total_load inst.now }
+    ensures value { result ≡ (link_at inst.now link.0).routing * (loads.there + loads.back) }
+    ensures within { result ≤ 2 * MAX_ROUTING_COST }
 {
-    u128::from(inst.link(link).routing) * u128::from(load)
+    u128::from(inst.link(link).routing) * (loads.there + loads.back)
 }
 
-/// The step cost of a load on a link, in cost grains, and counts that attain it; None where no counts carry the load.
+/// The step cost of the loads of a link's places, in cost grains, and counts that attain it; None where no counts carry
+/// what the link needs.
 fn complete_link(
     alloc: Global,
     inst: &Instance,
     table: &StepTable,
     link: LinkId,
-    load: u64,
+    loads: LinkLoads,
 ) -> Result<Option<(u128, Items<u64>)>, AllocError>
     requires lawful { IsInstance inst.now }
     requires table { table.now ≡ inst.now }
     requires link { link.0 < length inst.now.links }
-    requires load { load ≤ total_load inst.now }
-    ensures some { IfOk result (λ found. IfSome found (λ done. IsLinkCompletion (link_at inst.now link.0) load done.0 done.1)) }
+    requires need { max loads.there loads.back ≤ total_load inst.now }
+    ensures some { IfOk result (λ found. IfSome found (λ done. IsLinkCompletion inst.now link.0 loads.there loads.back done.0 done.1)) }
     ensures within { IfOk result (λ found. IfSome found (λ done. done.0 ≤ LINK_COST_BOUND)) }
-    ensures none { IfOk result (λ found. IfNone found (CannotCarry (link_at inst.now link.0) load)) }
+    ensures none { IfOk result (λ found. IfNone found (CannotCarry inst.now link.0 (max loads.there loads.back))) }
 {
-    let Some(modules) = table.at(link, load) else {
+    let need = loads.need() as u64;
+    let Some(modules) = table.at(link, need) else {
         return Ok(None);
     };
-    let Some(counts) = table.counts(alloc, link, load)? else {
+    let Some(counts) = table.counts(alloc, link, need)? else {
         return Ok(None);
     };
-    Ok(Some((routing_cost(inst, link, load) + modules, counts)))
+    Ok(Some((routing_cost(inst, link, loads) + modules, counts)))
 }
 
 /// What all links cost with the paths of a design and least counts, in cost grains, and these counts; None where no
-/// counts of some link carry its load.
+/// counts of some link carry what it needs.
 fn complete_links(
     alloc: Global,
     inst: &Instance,
@@ -69,8 +72,9 @@ fn complete_links(
     let mut all = Vec::new(alloc);
     let mut cost = 0;
     for place in 0..inst.links() {
-        let load = loads[place as usize] as u64;
-        let Some((least, counts)) = complete_link(alloc, inst, table, LinkId(place), load)? else {
+        let link = LinkId(place);
+        let held = LinkLoads::of_link(inst, &loads, link);
+        let Some((least, counts)) = complete_link(alloc, inst, table, link, held)? else {
             return Ok(None);
         };
         cost += least;
@@ -82,8 +86,8 @@ fn complete_links(
 /// The least cost of a design with these paths, and a design that has it.
 ///
 /// - Takes: an instance and its step table; one simple path for each demand, in order.
-/// - Gives: the cost in cost grains and a feasible design in shape with just these paths; None exactly where some link
-///   cannot carry its load by any counts.
+/// - Gives: the cost in cost grains and a design in shape with just these paths, whose links carry its loads; None exactly
+///   where some link cannot carry by any counts what it needs.
 /// - Errors: want of memory alone. The paths are spent.
 /// - Rule: docs/METHOD.md, "Completions".
 /// - Time: linear in the arcs of all paths and in the counts of all links.
@@ -97,7 +101,7 @@ pub fn complete(
     requires paths { ArePaths inst.now paths }
     ensures some { IfOk result (λ found. IfSome found (λ done. IsCompletion inst.now paths done.0 done.1)) }
     ensures counts { IfOk result (λ found. IfSome found (λ done. (e : ℕ) → e < length inst.now.links
-        → AreLeastCounts (link_at inst.now e) (load_on inst.now done.1 e) (counts_at done.1 e))) }
+        → AreLeastCounts inst.now e (need inst.now done.1 e) (counts_at done.1 e))) }
     ensures none { IfOk result (λ found. IfNone found (HasOverfull inst.now paths)) }
 {
     let mut design = Design {
@@ -111,19 +115,20 @@ pub fn complete(
     Ok(Some((cost, design)))
 }
 
-/// Whether some counts carry a load on a link.
-fn can_carry(inst: &Instance, table: &StepTable, link: LinkId, load: u64) -> bool
+/// Whether some counts of a link carry what the loads of its places need.
+fn can_carry(inst: &Instance, table: &StepTable, link: LinkId, loads: LinkLoads) -> bool
+    requires lawful { IsInstance inst.now }
     requires table { table.now ≡ inst.now }
     requires link { link.0 < length inst.now.links }
-    requires load { load ≤ total_load inst.now }
-    ensures yes { IsTrue result → CanCarry (link_at inst.now link.0) load }
-    ensures no { IsFalse result → CannotCarry (link_at inst.now link.0) load }
+    requires need { max loads.there loads.back ≤ total_load inst.now }
+    ensures yes { IsTrue result → CanCarry inst.now link.0 (max loads.there loads.back) }
+    ensures no { IsFalse result → CannotCarry inst.now link.0 (max loads.there loads.back) }
 {
-    table.at(link, load).is_some()
+    table.at(link, loads.need() as u64).is_some()
 }
 
-/// The first link that cannot carry, by any counts, the load that the paths of a design put on it. `complete` gives None
-/// for these paths exactly where there is one. Takes no memory.
+/// The first link that cannot carry, by any counts, what it needs for the paths of a design. `complete` gives None for
+/// these paths exactly where there is one. Takes no memory.
 ///
 /// - Takes: an instance and its step table; a design with one simple path for each demand, in order. Its counts are not
 ///   read.
@@ -138,7 +143,8 @@ pub fn overfull_link(inst: &Instance, table: &StepTable, design: &Design) -> Opt
     let loads = loads_of(inst, design);
     for place in 0..inst.links() {
         let link = LinkId(place);
-        if !can_carry(inst, table, link, loads[place as usize] as u64) {
+        let held = LinkLoads::of_link(inst, &loads, link);
+        if !can_carry(inst, table, link, held) {
             return Some(link);
         }
     }

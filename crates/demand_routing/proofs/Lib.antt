@@ -1,3 +1,4 @@
+pub mod Rises
 pub mod ReroutingLaws
 pub mod TrafficLaws
 pub mod RoutingLaws

@@ -4,14 +4,15 @@ use Rattle.std.proofs.lemmas.List.{get_or-take, get_or_append_left, get_or_push,
 use Rattle.std.proofs.lemmas.List.Sums.{sum_by_more, sum_by_push}
 use Rattle.plan_base.specs.declared.ids.ArcId.{ArcId}
 use Rattle.plan_base.specs.declared.parts.Parts.{Parts}
-use Rattle.plan_base.specs.Arcs.{link_of, no_arc}
+use Rattle.plan_base.specs.Arcs.{no_arc}
+use Rattle.plan_base.specs.Places.{place_of}
 use Rattle.plan_base.specs.Paths.{arc_at}
 use Rattle.link_steps.proofs.Order.{before_or_last}
 use Rattle.demand_routing.specs.Traffic.{arcs_along, IsRise, AreRises}
 
--- how many arcs go along a link, with one arc more
-along-next : (e : ℕ) (arcs : List ArcId) (i : ℕ) (d : ArcId) → i < length arcs → arcs_along e (take (i + 1) arcs) ≡ arcs_along e (take i arcs) + cond (link_of (get_or arcs i d) == e) 1 0
-along-next e arcs i d within = sum_by_more (λ (a : ArcId). cond (link_of a == e) 1 0) arcs i d within
+-- how many arcs are of a place, with one arc more
+along-next : (p : Parts) (q : ℕ) (arcs : List ArcId) (i : ℕ) (d : ArcId) → i < length arcs → arcs_along p q (take (i + 1) arcs) ≡ arcs_along p q (take i arcs) + cond (place_of p (get_or arcs i d) == q) 1 0
+along-next p q arcs i d within = sum_by_more (λ (a : ArcId). cond (place_of p a == q) 1 0) arcs i d within
 
 added : (here : Bool) (old now before load most n : ℕ) → before ≡ min (old + n * load) most → now ≡ (if here then min (before + load) most else before) → now ≡ min (old + (n + cond here 1 0) * load) most
 added true old now before load most n is step = grind arith
@@ -21,21 +22,21 @@ removed : (here : Bool) (old now before load n : ℕ) → before ≡ old - n * l
 removed true old now before load n is step = grind arith
 removed false old now before load n is step = grind arith
 
--- what a link carries where the load of one arc more is added
-pub added-next : (e old now before load most : ℕ) (arcs : List ArcId) (i : ℕ) (d : ArcId) → i < length arcs → before ≡ min (old + arcs_along e (take i arcs) * load) most
-    → now ≡ (if link_of (get_or arcs i d) == e then min (before + load) most else before) → now ≡ min (old + arcs_along e (take (i + 1) arcs) * load) most
-added-next e old now before load most arcs i d within is step =
-    rw (along-next e arcs i d within) (added (link_of (get_or arcs i d) == e) old now before load most (arcs_along e (take i arcs)) is step)
+-- what a place carries where the load of one arc more is added
+pub added-next : (p : Parts) (q old now before load most : ℕ) (arcs : List ArcId) (i : ℕ) (d : ArcId) → i < length arcs → before ≡ min (old + arcs_along p q (take i arcs) * load) most
+    → now ≡ (if place_of p (get_or arcs i d) == q then min (before + load) most else before) → now ≡ min (old + arcs_along p q (take (i + 1) arcs) * load) most
+added-next p q old now before load most arcs i d within is step =
+    rw (along-next p q arcs i d within) (added (place_of p (get_or arcs i d) == q) old now before load most (arcs_along p q (take i arcs)) is step)
 
--- what a link carries where the load of one arc more is taken away
-pub removed-next : (e old now before load : ℕ) (arcs : List ArcId) (i : ℕ) (d : ArcId) → i < length arcs → before ≡ old - arcs_along e (take i arcs) * load
-    → now ≡ (if link_of (get_or arcs i d) == e then before - load else before) → now ≡ old - arcs_along e (take (i + 1) arcs) * load
-removed-next e old now before load arcs i d within is step =
-    rw (along-next e arcs i d within) (removed (link_of (get_or arcs i d) == e) old now before load (arcs_along e (take i arcs)) is step)
+-- what a place carries where the load of one arc more is taken away
+pub removed-next : (p : Parts) (q old now before load : ℕ) (arcs : List ArcId) (i : ℕ) (d : ArcId) → i < length arcs → before ≡ old - arcs_along p q (take i arcs) * load
+    → now ≡ (if place_of p (get_or arcs i d) == q then before - load else before) → now ≡ old - arcs_along p q (take (i + 1) arcs) * load
+removed-next p q old now before load arcs i d within is step =
+    rw (along-next p q arcs i d within) (removed (place_of p (get_or arcs i d) == q) old now before load (arcs_along p q (take i arcs)) is step)
 
 -- the rises along a path with one arc more
 pub rises-next : (p : Parts) (loads : List ℕ) (load most sum more now i : ℕ) (arcs : List ArcId) (a : ArcId) → i < length arcs → a ≡ arc_at arcs i → AreRises p loads load (take i arcs) most sum
-    → IsRise p (link_of a) (slice_index loads (link_of a)) load more → now ≡ min (sum + more) most → AreRises p loads load (take (i + 1) arcs) most now
+    → IsRise p (slice_index loads) (place_of p a) load more → now ≡ min (sum + more) most → AreRises p loads load (take (i + 1) arcs) most now
 rises-next p loads load most sum more now i arcs a within is before rise step =
     let long : length (take i arcs) ≡ i = length-take-le i arcs (omega arith) in
     let longer : length (take (i + 1) arcs) ≡ i + 1 = length-take-le (i + 1) arcs (omega arith) in

@@ -1,10 +1,11 @@
--- Paths of all demands, what the links carry with them, and the ways that a demand may be laid on.
+-- Paths of all demands, what the places carry with them, and the ways that a demand may be laid on.
 use Rattle.std.specs.Prelude.{ℕ, ◌≡◌, ◌<◌, Bool, false, List, length, Option, IfSome, slice_index, slice_index_or, if◌then◌else◌}
 use Rattle.plan_base.specs.declared.ids.ArcId.{ArcId}
 use Rattle.plan_base.specs.declared.parts.Demand.{Demand}
 use Rattle.plan_base.specs.declared.parts.Parts.{Parts}
-use Rattle.plan_base.specs.declared.limits.TheConstants.{MAX_LINKS}
+use Rattle.plan_base.specs.declared.limits.TheConstants.{MAX_PLACES}
 use Rattle.plan_base.specs.Arcs.{demand_at}
+use Rattle.plan_base.specs.Places.{places}
 use Rattle.plan_base.specs.Sums.{sum_below}
 use Rattle.plan_base.specs.Designs.{load_from}
 use Rattle.least_path.specs.Paths.{Weights, AreWeights, IsLeastPath, HasNoUsablePath}
@@ -16,13 +17,13 @@ use Rattle.demand_routing.specs.Traffic.{AreAddedCosts, AreFarCosts}
 abbrev pub is_marked : List Bool → ℕ → Bool
 is_marked marks k = slice_index_or marks k false
 
--- what a demand puts on a link: its load where it is laid and its path uses the link, in load grains
+-- what a demand puts on a place: its load where it is laid and its path uses an arc of the place, in load grains
 abbrev pub laid_on : Parts → List (List ArcId) → List Bool → ℕ → ℕ → ℕ
-laid_on p paths laid e k = if is_marked laid k then load_from p (with_paths paths) e k else 0
+laid_on p paths laid q k = if is_marked laid k then load_from p (with_paths paths) q k else 0
 
--- each link carries the loads of the demands that are laid and whose paths use it
+-- each place carries the loads of the demands that are laid and whose paths use it
 abbrev pub AreLoads : Parts → List (List ArcId) → List Bool → List ℕ → Type 0
-AreLoads p paths laid loads = (e : ℕ) → e < MAX_LINKS → slice_index loads e ≡ sum_below (laid_on p paths laid e) (length p.demands)
+AreLoads p paths laid loads = (q : ℕ) → q < MAX_PLACES → slice_index loads q ≡ sum_below (laid_on p paths laid q) (length p.demands)
 
 -- a simple path and a mark for each demand, the loads of those that are marked as laid, and room for weights
 pub record IsRouting (p : Parts) (r : Routing) : Type 0 where
@@ -37,10 +38,10 @@ pub record HasSameRoutes (r s : Routing) : Type 0 where
   pub laid : r.laid ≡ s.laid
   pub loads : r.loads.value ≡ s.loads.value
 
--- a path of the demand that raises the step costs by so much where its load comes to what the links carry, and none raises them by less
+-- a path of the demand that raises the step costs by so much where its load comes to what the places carry, and none raises them by less
 pub record IsCheapestWay (p : Parts) (loads : List ℕ) (k : Demand) (arcs : List ArcId) (rise : ℕ) : Type 0 where
   pub weights : Weights
-  pub added : AreAddedCosts p loads k.load (length p.links) weights
+  pub added : AreAddedCosts p loads k.load (places p) weights
   pub least : IsLeastPath p weights k.source k.target arcs rise
 
 -- the cheapest way of a demand, which raises the step costs by less than this
@@ -52,19 +53,19 @@ pub record IsCheaperWay (p : Parts) (loads : List ℕ) (k : Demand) (own : Optio
 -- a path of the demand of this weight where far more load is looked at too, and none weighs less
 pub record IsLeastWay (p : Parts) (loads : List ℕ) (k : Demand) (far : ℕ) (arcs : List ArcId) (weight : ℕ) : Type 0 where
   pub weights : Weights
-  pub far_costs : AreFarCosts p loads k.load far (length p.links) weights
+  pub far_costs : AreFarCosts p loads k.load far (places p) weights
   pub least : IsLeastPath p weights k.source k.target arcs weight
 
 -- there is no path of the demand where far more load is looked at too
 pub record HasNoFarWay (p : Parts) (loads : List ℕ) (k : Demand) (far : ℕ) : Type 0 where
   pub weights : Weights
-  pub far_costs : AreFarCosts p loads k.load far (length p.links) weights
+  pub far_costs : AreFarCosts p loads k.load far (places p) weights
   pub none : HasNoUsablePath p weights k.source k.target
 
 -- no path of the demand has links that can all carry its load beside what they carry
 pub record HasNoWay (p : Parts) (loads : List ℕ) (k : Demand) : Type 0 where
   pub weights : Weights
-  pub added : AreAddedCosts p loads k.load (length p.links) weights
+  pub added : AreAddedCosts p loads k.load (places p) weights
   pub none : HasNoUsablePath p weights k.source k.target
 
 -- some demands are laid, and one that is not has no path whose links can carry it

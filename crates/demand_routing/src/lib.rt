@@ -1,4 +1,4 @@
-//! Paths of all demands, what the links carry and cost with them, and one demand that is laid, taken off or moved.
+//! Paths of all demands, what places carry and links cost with them, and one demand that is laid, taken off or moved.
 //!
 //! Promises that the loads are those of the demands that are laid, and that a demand is moved to a path that raises the
 //! step costs least. Begin at `Routing`. Stands on `plan_base`, `link_steps`, `least_path` and `completions`. Which

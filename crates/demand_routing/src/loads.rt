@@ -1,47 +1,47 @@
-//! What links carry while demands are taken off them and laid on them.
+//! What places carry while demands are taken off them and laid on them.
 
 ghost use Rattle.std.specs.Prelude.{ℕ, ◌≡◌, ◌<◌, ◌+◌, ◌*◌, ◌-◌, min, slice_index, ◌==◌, if◌then◌else◌};
 ghost use Rattle.demand_routing.specs.Traffic.{arcs_along};
 
-use plan_base::ArcId;
-use plan_base::limits::MAX_LINKS;
+use plan_base::limits::MAX_PLACES;
+use plan_base::{ArcId, Instance};
 
-/// Adds a load to what one link carries, up to the greatest number.
-fn add_at(loads: &mut [u128; MAX_LINKS], place: usize, load: u128)
-    ensures { (e : ℕ) → e < MAX_LINKS → slice_index loads.new e
-        ≡ (if place == e then min (slice_index loads.old e + load) u128.MAX else slice_index loads.old e) }
+/// Adds a load to what one place carries, up to the greatest number.
+fn add_at(loads: &mut [u128; MAX_PLACES], place: usize, load: u128)
+    ensures { (q : ℕ) → q < MAX_PLACES → slice_index loads.new q
+        ≡ (if place == q then min (slice_index loads.old q + load) u128.MAX else slice_index loads.old q) }
 {
-    if place < MAX_LINKS {
+    if place < MAX_PLACES {
         loads[place] = loads[place].saturating_add(load);
     }
 }
 
-/// Takes a load from what one link carries, down to 0.
-fn remove_at(loads: &mut [u128; MAX_LINKS], place: usize, load: u128)
-    ensures { (e : ℕ) → e < MAX_LINKS → slice_index loads.new e
-        ≡ (if place == e then slice_index loads.old e - load else slice_index loads.old e) }
+/// Takes a load from what one place carries, down to 0.
+fn remove_at(loads: &mut [u128; MAX_PLACES], place: usize, load: u128)
+    ensures { (q : ℕ) → q < MAX_PLACES → slice_index loads.new q
+        ≡ (if place == q then slice_index loads.old q - load else slice_index loads.old q) }
 {
-    if place < MAX_LINKS {
+    if place < MAX_PLACES {
         loads[place] = loads[place].saturating_sub(load);
     }
 }
 
-/// Adds a load to the links of a path, once for each arc.
-pub fn add_load(loads: &mut [u128; MAX_LINKS], arcs: &[ArcId], load: u128)
-    ensures { (e : ℕ) → e < MAX_LINKS → slice_index loads.new e
-        ≡ min (slice_index loads.old e + arcs_along e arcs.now * load) u128.MAX }
+/// Adds a load to the places of a path, once for each arc.
+pub fn add_load(inst: &Instance, loads: &mut [u128; MAX_PLACES], arcs: &[ArcId], load: u128)
+    ensures { (q : ℕ) → q < MAX_PLACES → slice_index loads.new q
+        ≡ min (slice_index loads.old q + arcs_along inst.now q arcs.now * load) u128.MAX }
 {
     for arc in arcs {
-        add_at(loads, (arc.0 / 2) as usize, load);
+        add_at(loads, inst.place(*arc) as usize, load);
     }
 }
 
-/// Takes a load from the links of a path, once for each arc.
-pub fn remove_load(loads: &mut [u128; MAX_LINKS], arcs: &[ArcId], load: u128)
-    ensures { (e : ℕ) → e < MAX_LINKS → slice_index loads.new e
-        ≡ slice_index loads.old e - arcs_along e arcs.now * load }
+/// Takes a load from the places of a path, once for each arc.
+pub fn remove_load(inst: &Instance, loads: &mut [u128; MAX_PLACES], arcs: &[ArcId], load: u128)
+    ensures { (q : ℕ) → q < MAX_PLACES → slice_index loads.new q
+        ≡ slice_index loads.old q - arcs_along inst.now q arcs.now * load }
 {
     for arc in arcs {
-        remove_at(loads, (arc.0 / 2) as usize, load);
+        remove_at(loads, inst.place(*arc) as usize, load);
     }
 }

@@ -1,4 +1,4 @@
-//! Paths of all demands, and what the links carry and cost with them.
+//! Paths of all demands, what the places carry and what the links cost with them.
 
 ghost use Rattle.std.specs.Prelude.{◌≡◌, ◌<◌, ◌≤◌, ◌+◌, ◌-◌, ◌^◌, min, true, false, length, IfOk, OnOk, IfSome, IfNone, IsTrue, IsFalse};
 ghost use Rattle.std.specs.Option.{unwrap_or};
@@ -14,24 +14,24 @@ use crate::loads::{add_load, remove_load};
 use crate::weights::{no_weights, rise_along, weigh, weigh_far};
 use least_path::Room;
 use link_steps::StepTable;
-use plan_base::limits::MAX_LINKS;
+use plan_base::limits::MAX_PLACES;
 use plan_base::{DemandId, Instance, Path};
 use std::alloc::{AllocError, Global};
 
-/// A path for each demand, and what the links carry and cost with those that are laid.
+/// A path for each demand, what the places carry and what the links cost with those that are laid.
 #[derive(Debug, Drop)]
 pub struct Routing {
     pub paths: Vec<Path>,
-    /// For each demand whether its load is on the links of its path.
+    /// For each demand whether its load is on the places of its path.
     pub laid: Vec<bool>,
-    /// For each link, in load grains. They lie apart from the rest, so that a search takes little of the stack.
-    pub loads: Box<[u128; MAX_LINKS]>,
+    /// For each place, in load grains. They lie apart from the rest, so that a search takes little of the stack.
+    pub loads: Box<[u128; MAX_PLACES]>,
     /// The sum of the step costs, in cost grains.
     pub cost: u128,
     /// How many least paths were searched for.
     pub searches: u32,
-    /// For each link a place near which the step of its load stands, wherever that is.
-    nears: Box<[u32; MAX_LINKS]>,
+    /// For each place where among its link's steps that of its link's need is looked for first.
+    nears: Box<[u32; MAX_PLACES]>,
     weights: Vec<Option<u128>>,
     room: Room,
 }
@@ -46,16 +46,16 @@ impl Routing {
         Ok(Routing {
             paths,
             laid: vec![in alloc; false; inst.demands() as usize]?,
-            loads: Box::new(alloc, [0; MAX_LINKS])?,
+            loads: Box::new(alloc, [0; MAX_PLACES])?,
             cost: 0,
             searches: 0,
-            nears: Box::new(alloc, [0; MAX_LINKS])?,
+            nears: Box::new(alloc, [0; MAX_PLACES])?,
             weights: no_weights(alloc, inst)?,
             room: Room::new(alloc, inst)?,
         })
     }
 
-    /// Lays a demand on the links of its path. One that is laid stays so.
+    /// Lays a demand on the places of its path. One that is laid stays so.
     pub fn put_on(&mut self, inst: &Instance, table: &StepTable, demand: DemandId)
         requires table { table.now ≡ inst.now }
         requires demand { demand.0 < length inst.now.demands }
@@ -67,7 +67,7 @@ impl Routing {
         ensures cost { self.old.cost ≤ self.new.cost }
         ensures laid { is_marked self.old.laid.items demand.0 ≡ true → self.new.cost ≡ self.old.cost }
     {
-        let _demands = inst.demands();
+        inst.lawful();
         let place = demand.0 as usize;
         if self.laid[place] {
             return;
@@ -75,12 +75,12 @@ impl Routing {
         let load = inst.demand(demand).load;
         let arcs = self.paths[place].as_slice();
         let rise = rise_along(inst, table, &self.loads, arcs, load);
-        add_load(&mut self.loads, arcs, load);
+        add_load(inst, &mut self.loads, arcs, load);
         self.cost = self.cost.saturating_add(rise.unwrap_or(u128::MAX));
         self.laid[place] = true;
     }
 
-    /// Takes a demand off the links of its path, and tells what their step costs fall by, in cost grains. One that is off
+    /// Takes a demand off the places of its path, and tells what their step costs fall by, in cost grains. One that is off
     /// stays so.
     pub fn take_off(&mut self, inst: &Instance, table: &StepTable, demand: DemandId) -> Option<u128>
         requires table { table.now ≡ inst.now }
@@ -94,14 +94,14 @@ impl Routing {
         ensures fall { IfSome result (λ fall. AreRises inst.now self.new.loads.value (demand_at inst.now demand.0).load (path_at (with_paths self.old.paths.items) demand.0) u128.MAX fall) }
         ensures none { is_marked self.old.laid.items demand.0 ≡ true → IfNone result (HasTooMuch inst.now self.new.loads.value (demand_at inst.now demand.0).load (path_at (with_paths self.old.paths.items) demand.0)) }
     {
-        let _demands = inst.demands();
+        inst.lawful();
         let place = demand.0 as usize;
         if !self.laid[place] {
             return None;
         }
         let load = inst.demand(demand).load;
         let arcs = self.paths[place].as_slice();
-        remove_load(&mut self.loads, arcs, load);
+        remove_load(inst, &mut self.loads, arcs, load);
         let fall = rise_along(inst, table, &self.loads, arcs, load);
         self.cost = self.cost.saturating_sub(fall.unwrap_or(0));
         self.laid[place] = false;
@@ -186,7 +186,7 @@ impl Routing {
         ensures cost { self.new.cost ≡ self.old.cost }
         ensures path { path_at (with_paths self.new.paths.items) demand.0 ≡ self.old.room }
     {
-        let _demands = inst.demands();
+        inst.lawful();
         self.room.swap(&mut self.paths[demand.0 as usize]);
     }
 

@@ -12,7 +12,7 @@ pub struct Published {
     pub node: BranchId,
     /// The version.
     pub version: u64,
-    /// One price for each link, in thousandths of a cost grain per load grain.
+    /// One price for each place, in thousandths of a cost grain per load grain.
     pub prices: Prices,
 }
 

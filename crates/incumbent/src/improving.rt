@@ -70,6 +70,7 @@ pub fn improve(
 }
 
 /// As `improve`, with draws that begin with this seed.
+#[tactic(auto, using(crate::proofs::DesignLaws::priced_completion))]
 pub fn improve_seeded(
     alloc: Global,
     inst: &Instance,

@@ -294,7 +294,7 @@ impl Rounds {
         keep_group(inst, &self.group, &self.now.paths, &mut self.accepted.paths)?;
         self.accepted.cost = self.now.cost;
         if self.now.cost < self.best.cost {
-            let _demands = inst.demands();
+            inst.lawful();
             self.best.set_to(&self.now.paths, self.now.cost)?;
         }
         Ok(())

@@ -9,7 +9,7 @@ use Rattle.plan_base.specs.Designs.{capacity_with, module_cost_with}
 use Rattle.link_steps.specs.declared.limits.TheConstants.{MAX_STEPS}
 use Rattle.link_steps.specs.declared.step_fault.StepFault.{StepFault}
 use Rattle.link_steps.specs.declared.step_fault.StepFault.TheVariants.{TooManySteps, OutOfMemory}
-use Rattle.link_steps.specs.Costs.{Carries, IsLeastModuleCost, AreCostsWithin, HasMoreSteps, IsFaultOf}
+use Rattle.link_steps.specs.Costs.{CarriesOn, IsLeastModuleCostOn, AreCostsWithin, HasMoreSteps, IsFaultOf}
 
 -- a link without capacity of its own, with a module of 10 units and one of 40
 pub record HasTens (l : Link) : Type 0 where
@@ -30,11 +30,11 @@ capacity : (l : Link) → HasTens l → (counts : List ℕ) → capacity_with l 
 capacity l h counts = rw (h.pre, h.modules) (omega arith)
 
 -- counts that carry a load carry each load of no higher level
-carried : (l : Link) → HasTens l → (counts : List ℕ) (x y : ℕ) → level y ≤ level x → Carries l x counts → Carries l y counts
+carried : (l : Link) → HasTens l → (counts : List ℕ) (x y : ℕ) → level y ≤ level x → CarriesOn l x counts → CarriesOn l y counts
 carried l h counts x y low c = record { count = c.count; enough = omega (arith, low, c.enough, capacity l h counts) }
 
 -- a load that costs more has a higher level
-higher : (l : Link) → HasTens l → (x y cost dear : ℕ) → IsLeastModuleCost l x cost → IsLeastModuleCost l y dear → cost < dear → level x < level y
+higher : (l : Link) → HasTens l → (x y cost dear : ℕ) → IsLeastModuleCostOn l x cost → IsLeastModuleCostOn l y dear → cost < dear → level x < level y
 higher l h x y cost dear cheap costly less = by (cases_lt (level x) (level y))
   where
     by : (level x < level y) ⊎ (level y ≤ level x) → level x < level y

@@ -97,7 +97,7 @@ pub(crate) fn tell_allowed(question: Question<'_>, text: &mut String) -> Option<
     let path = question.path(3)?;
     let restriction = restriction_at(question, 4)?.copy().ok()?;
     let demand = DemandId(question.number(2));
-    let arcs = question.inst.links().saturating_mul(2);
+    let arcs = question.inst.arcs();
     tell_arcs(arcs, &restriction, demand, text)?;
     write!(text, " path {}", restriction.permits(demand, &path)).ok()
 }

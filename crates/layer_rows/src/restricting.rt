@@ -11,7 +11,7 @@ pub(crate) fn forbid(
     demand: u32,
     arc: u32,
 ) -> bool {
-    let arcs = inst.links().saturating_mul(2);
+    let arcs = inst.arcs();
     if !restriction.fits(inst) || demand >= inst.demands() || arc >= arcs {
         return false;
     }

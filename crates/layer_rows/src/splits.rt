@@ -50,7 +50,7 @@ fn tell_answers(
 /// Adds each demand with an arc that is forbidden to it.
 fn tell_forbidden(inst: &Instance, restriction: &Restriction, text: &mut String) -> Option<()> {
     for demand in 0..inst.demands() {
-        for arc in 0..inst.links().saturating_mul(2) {
+        for arc in 0..inst.arcs() {
             if !restriction.allows(DemandId(demand), ArcId(arc)) {
                 write!(text, " {demand}:{arc}").ok()?;
             }

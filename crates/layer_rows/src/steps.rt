@@ -1,7 +1,8 @@
 //! What loads cost on links, and what prices give to links.
 
-ghost use Rattle.std.specs.Prelude.{◌≡◌, ◌<◌, ◌≤◌, length};
+ghost use Rattle.std.specs.Prelude.{◌≡◌, ◌<◌, ◌≤◌, false, length};
 ghost use Rattle.plan_base.specs.Facts.{price_limit, total_load};
+ghost use Rattle.plan_base.specs.Places.{is_two_way};
 
 use crate::asking::{Question, word_at};
 use crate::telling::{tell_list, tell_number};
@@ -57,13 +58,39 @@ fn tell_load(
     write!(text, " {:?}", counts.as_slice()).ok()
 }
 
-/// Adds the link value of a price, and the first load that has it.
-fn tell_value(table: &StepTable, link: LinkId, price: u128, text: &mut String) -> Option<()>
+/// The price of the link's other place, 0 where it has one place.
+fn back_price(question: Question<'_>) -> u128
+    ensures { is_two_way question.entry.inst.now.orient ≡ false → result ≡ 0 }
+{
+    if question.inst.orient().is_two_way() {
+        u128::from(question.amount(4))
+    } else {
+        0
+    }
+}
+
+/// Adds the link value of the prices of a link's places, and the first loads that have it.
+fn tell_value(
+    table: &StepTable,
+    link: LinkId,
+    price: u128,
+    question: Question<'_>,
+    text: &mut String,
+) -> Option<()>
+    requires table { table.now ≡ question.inst.now }
     requires link { link.0 < length table.now.links }
     requires price { price ≤ price_limit table.now }
 {
-    let found = table.link_value(link, price);
-    write!(text, " {} at {}", found.value, found.load).ok()
+    let back = back_price(question);
+    if back > question.inst.price_limit() {
+        return None;
+    }
+    let found = table.link_value(link, price, back);
+    write!(text, " {} at {}", found.value, found.load).ok()?;
+    if question.inst.orient().is_two_way() {
+        write!(text, " back {}", found.back).ok()?;
+    }
+    Some(())
 }
 
 /// Adds the answer to a question about a load or a price on a link.
@@ -80,7 +107,7 @@ fn tell_amount(table: &StepTable, question: Question<'_>, text: &mut String) -> 
         return tell_load(table, link, amount, question, text);
     }
     if word_at(question.row, 0) == "value" && price <= question.inst.price_limit() {
-        return tell_value(table, link, price, text);
+        return tell_value(table, link, price, question, text);
     }
     None
 }

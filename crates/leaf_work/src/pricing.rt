@@ -6,29 +6,20 @@ ghost use Rattle.arc_restrict.specs.Rows.{forbids};
 ghost use Rattle.path_pricing.specs.Priced.{ArePrices, IsPriced};
 ghost use Rattle.path_pricing.specs.Faults.{priced_fault};
 
-use arc_restrict::Restriction;
+use arc_restrict::{Restriction, price_along};
 use path_pricing::{Priced, check_priced, price};
-use plan_base::{ArcId, DemandId, Instance, Prices};
+use plan_base::{DemandId, Instance, Prices};
 use std::alloc::{AllocError, Global};
 use std::sync::Arc;
 
-/// The sum of the prices of the arcs' links, as far as a number can hold it; None where a link has no price.
-fn summed(prices: &[u128], arcs: &[ArcId]) -> Option<u128> {
-    let mut sum: u128 = 0;
-    for arc in arcs {
-        sum = sum.saturating_add(*prices.get((arc.0 / 2) as usize)?);
-    }
-    Some(sum)
-}
-
-/// Whether a known path has its length under these prices too: a look at few links, before each arc is tested.
-fn has_length(prices: &Prices, known: &Priced) -> bool {
+/// Whether a known path has its length under these prices too: a look at few places, before each arc is tested.
+fn has_length(inst: &Instance, prices: &Prices, known: &Priced) -> bool {
     match known {
         Priced::Path {
             path,
             length,
             potentials: _potentials,
-        } => summed(prices.as_slice(), path.as_slice()) == Some(*length),
+        } => price_along(inst, prices.as_slice(), path.as_slice()) == *length,
         Priced::NoPath { reached: _reached } => true,
     }
 }
@@ -49,7 +40,7 @@ pub(crate) fn still_shown(
     ensures accepted { IfOk result (λ found. IfSome found (λ shared. priced_fault inst.now prices.now demand.0 (forbids restriction.now) (arc_value shared) ≡ None)) }
 {
     if let Some(known) = known {
-        if !has_length(prices, &**known) {
+        if !has_length(inst, prices, &**known) {
             return Ok(None);
         }
         if check_priced(inst, prices, demand, restriction, &**known).is_ok() {

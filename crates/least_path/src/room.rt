@@ -65,7 +65,7 @@ impl Room {
         ensures none { IfOk result (λ found. IfNone found (HasNoUsablePath inst.now weights.now source target)) }
         ensures kept { IfOk result (λ found. IfNone found (self.new ≡ self.old)) }
     {
-        prove!(weights.len() == 2 * inst.links() as usize);
+        prove!(weights.len() == inst.arcs() as usize);
         let query = Query {
             inst,
             weights,

@@ -162,7 +162,7 @@ impl Query<'_> {
 
 /// How many nodes wait at most: the source, and one for each arc.
 pub fn most_waits(inst: &Instance) -> usize {
-    2 * inst.links() as usize + 1
+    inst.arcs() as usize + 1
 }
 
 /// The label of the source.
@@ -244,7 +244,7 @@ pub fn search(
     requires target { target.0 < inst.now.nodes }
     ensures found { IfOk result (IsFound inst.now weights.now source target) }
 {
-    prove!(weights.len() == 2 * inst.links() as usize);
+    prove!(weights.len() == inst.arcs() as usize);
     let query = Query {
         inst,
         weights,

@@ -72,7 +72,7 @@ impl Tree {
         requires source { source.0 < inst.now.nodes }
         ensures { IfOk result (IsTree inst.now weights.now source) }
     {
-        prove!(weights.len() == 2 * inst.links() as usize);
+        prove!(weights.len() == inst.arcs() as usize);
         // No node has this number: the search goes on until no node is left.
         let outside = NodeId(inst.nodes());
         let query = Query {
@@ -143,7 +143,7 @@ impl Tree {
         ensures least { (ws : Weights) (s : AnyNode) → IsTree inst.now ws s self.now → IfOk result (λ found. IfSome found (λ path. IsLeastPath inst.now ws s node path (unwrap_or (length_at self.now node.0) 0))) }
         ensures none { (ws : Weights) (s : AnyNode) → IsTree inst.now ws s self.now → IfOk result (λ found. IfNone found (HasNoUsablePath inst.now ws s node)) }
     {
-        let _links = inst.links();
+        inst.lawful();
         let Some(last) = self.label(node) else {
             return Ok(None);
         };

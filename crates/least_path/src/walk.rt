@@ -104,7 +104,7 @@ pub fn search_slow(
     requires target { target.0 < inst.now.nodes }
     ensures found { IfOk result (IsFound inst.now weights.now source target) }
 {
-    prove!(weights.len() == 2 * inst.links() as usize);
+    prove!(weights.len() == inst.arcs() as usize);
     let query = Query {
         inst,
         weights,

@@ -23,5 +23,5 @@ fn are_small(weights: &[Option<u128>]) -> bool
 pub fn are_weights(inst: &Instance, weights: &[Option<u128>]) -> bool
     ensures fits { IsTrue result ↔ AreWeights inst.now weights.now }
 {
-    weights.len() == 2 * inst.links() as usize && are_small(weights)
+    weights.len() == inst.arcs() as usize && are_small(weights)
 }

@@ -12,14 +12,14 @@ use Rattle.plan_base.specs.Facts.{total_load, top_load, is_useful}
 use Rattle.plan_base.specs.Designs.{module_at, no_module, capacity_with}
 use Rattle.plan_base.proofs.SumsBelow.{term-le-sum_below}
 pub use Rattle.plan_base.proofs.TopLoads.{capacity-useless}
-use Rattle.link_steps.specs.Costs.{Carries, CanCarry}
+use Rattle.link_steps.specs.Costs.{CarriesOn, CanCarryOn}
 
 -- as many of each module as the load has grains
 abbrev all_of_each : Link → ℕ → List ℕ
 all_of_each l load = replicate (length l.modules) load
 
 -- a load that some counts carry is at most the top load
-pub carried-le-top : (p : Parts) (l : Link) (load : ℕ) → load ≤ total_load p → CanCarry l load → load ≤ top_load p l
+pub carried-le-top : (p : Parts) (l : Link) (load : ℕ) → load ≤ total_load p → CanCarryOn l load → load ≤ top_load p l
 carried-le-top p l load within (counts, carries) = by_cases (is_useful l) refl
   where
     by_cases : (b : Bool) → is_useful l ≡ b → load ≤ top_load p l
@@ -27,7 +27,7 @@ carried-le-top p l load within (counts, carries) = by_cases (is_useful l) refl
     by_cases false is = rw is (let same = capacity-useless l counts is in let enough = carries.enough in omega arith)
 
 -- so many carry the load up to the top load
-top-carried : (p : Parts) (l : Link) (load : ℕ) → load ≤ top_load p l → Carries l load (all_of_each l load)
+top-carried : (p : Parts) (l : Link) (load : ℕ) → load ≤ top_load p l → CarriesOn l load (all_of_each l load)
 top-carried p l load within = record { count = length-replicate (length l.modules) load; enough = by_cases (is_useful l) refl }
   where
     by_cases : (b : Bool) → is_useful l ≡ b → load ≤ capacity_with l (all_of_each l load)
@@ -48,5 +48,5 @@ top-carried p l load within = record { count = length-replicate (length l.module
         rw (capacity-useless l (all_of_each l load) is) (omega arith)
 
 -- up to the top load a link can carry each load
-pub top-can_carry : (p : Parts) (l : Link) (load : ℕ) → load ≤ top_load p l → CanCarry l load
+pub top-can_carry : (p : Parts) (l : Link) (load : ℕ) → load ≤ top_load p l → CanCarryOn l load
 top-can_carry p l load within = (all_of_each l load, top-carried p l load within)

@@ -9,7 +9,7 @@ use Rattle.plan_base.specs.Faults.{link_id}
 use Rattle.link_steps.specs.declared.step_fault.StepFault.{StepFault}
 use Rattle.link_steps.specs.declared.step_fault.StepFault.TheVariants.{TooManySteps, OutOfMemory}
 use Rattle.link_steps.specs.declared.step.Step.{Step}
-use Rattle.link_steps.specs.Costs.{Carries, IsCostWithin, AreCostsWithin, HasSteps, HasAtMostSteps, HasMoreSteps, IsFaultOf}
+use Rattle.link_steps.specs.Costs.{CarriesOn, IsCostWithin, AreCostsWithin, HasSteps, HasAtMostSteps, HasMoreSteps, IsFaultOf}
 use Rattle.link_steps.specs.declared.limits.TheConstants.{MAX_STEPS}
 use Rattle.link_steps.specs.Steps.{no_step, step_at, last_of, AreSteps, AreAllSteps, IsFaultOfLink}
 use Rattle.link_steps.proofs.Order.{either_way}
@@ -52,7 +52,7 @@ HasMoreSteps-steps total l steps number are more =
     record { costs = costs_of steps; are_costs = AreCostsWithin-steps total l steps are; more = omega (arith, length-costs_of steps) }
 
 -- the first step that reaches a load up to the total load, where some counts carry it
-pub carried-reached : (total : ℕ) (l : Link) (steps : List Step) (load : ℕ) (counts : List ℕ) → AreAllSteps total l steps → load ≤ total → Carries l load counts → (i : ℕ) × IsFirstReaching steps load i
+pub carried-reached : (total : ℕ) (l : Link) (steps : List Step) (load : ℕ) (counts : List ℕ) → AreAllSteps total l steps → load ≤ total → CarriesOn l load counts → (i : ℕ) × IsFirstReaching steps load i
 carried-reached total l steps load counts are within carries =
     let some = are.are_steps.in_order.some in
     first_reaching steps load (length steps - 1) are.are_steps.in_order.rising (omega arith)

@@ -5,7 +5,7 @@ use Rattle.std.proofs.lemmas.Bool.{leb-true, le-leb}
 use Rattle.plan_base.specs.declared.parts.Link.{Link}
 use Rattle.plan_base.specs.Sums.{sum_below}
 use Rattle.plan_base.specs.Designs.{module_at, capacity_with, module_cost_with}
-use Rattle.link_steps.specs.Costs.{Carries, CanCarry, IsLeastModuleCost}
+use Rattle.link_steps.specs.Costs.{CarriesOn, CanCarryOn, IsLeastModuleCostOn}
 use Rattle.link_steps.proofs.Order.{either_way}
 use Rattle.link_steps.proofs.Least.{IsLeastOf}
 use Rattle.link_steps.proofs.Search.{AreCountsUpto, searched-counts}
@@ -52,20 +52,20 @@ capped-cost load counts cost (suc n) =
     let fewer : slice_index (capped load counts) n ≤ slice_index counts n = rw (capped-at load counts n) (omega arith) in
     omega (arith, capped-cost load counts cost n, mul-le-mul_right (cost n) fewer)
 
-Carries-capped : (l : Link) (load : ℕ) (counts : List ℕ) → Carries l load counts → load ≤ capacity_with l (capped load counts)
+Carries-capped : (l : Link) (load : ℕ) (counts : List ℕ) → CarriesOn l load counts → load ≤ capacity_with l (capped load counts)
 Carries-capped l load counts carries =
     let kept = capped-enough load counts (λ m. (module_at l m).capacity) (length l.modules) in
     let enough = carries.enough in
     omega arith
 
 -- a link that can carry a load has a least module cost for it
-pub least_cost-exists : (l : Link) (load : ℕ) → CanCarry l load → (cost : ℕ) × IsLeastModuleCost l load cost
+pub least_cost-exists : (l : Link) (load : ℕ) → CanCarryOn l load → (cost : ℕ) × IsLeastModuleCostOn l load cost
 least_cost-exists l load (some, some_carries) = by_outcome (searched-counts load (length l.modules) (λ counts. nat_le load (capacity_with l counts)) (module_cost_with l)).outcome
   where
-    passes : (counts : List ℕ) → Carries l load counts → (AreCountsUpto load (length l.modules) (capped load counts)) × (nat_le load (capacity_with l (capped load counts)) ≡ true)
+    passes : (counts : List ℕ) → CarriesOn l load counts → (AreCountsUpto load (length l.modules) (capped load counts)) × (nat_le load (capacity_with l (capped load counts)) ≡ true)
     passes counts carries = (capped-upto load (length l.modules) counts carries.count, le-leb _ _ (Carries-capped l load counts carries))
 
-    by_outcome : ((counts : List ℕ) × IsLeastOf (λ counts. (AreCountsUpto load (length l.modules) counts) × (nat_le load (capacity_with l counts) ≡ true)) (module_cost_with l) counts) ⊎ ((counts : List ℕ) → (AreCountsUpto load (length l.modules) counts) × (nat_le load (capacity_with l counts) ≡ true) → ⊥) → (cost : ℕ) × IsLeastModuleCost l load cost
+    by_outcome : ((counts : List ℕ) × IsLeastOf (λ counts. (AreCountsUpto load (length l.modules) counts) × (nat_le load (capacity_with l counts) ≡ true)) (module_cost_with l) counts) ⊎ ((counts : List ℕ) → (AreCountsUpto load (length l.modules) counts) × (nat_le load (capacity_with l counts) ≡ true) → ⊥) → (cost : ℕ) × IsLeastModuleCostOn l load cost
     by_outcome (inl (best, is)) = (
       module_cost_with l best,
       record {

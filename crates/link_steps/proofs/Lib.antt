@@ -13,3 +13,4 @@ pub mod Prices
 pub mod Made
 pub mod BestEnds
 pub mod Units
+pub mod ValueTotals

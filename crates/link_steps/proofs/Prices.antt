@@ -1,9 +1,9 @@
 -- What prices give to a link, told by its steps.
-use Rattle.std.proofs.Common.{◌≡◌, ℕ, zero, suc, ◌+◌, ◌*◌, ◌/◌, ◌<◌, ◌≤◌, inl, inr, Bool, true, false, min, max, List, [], ◌∷◌, ◌++◌, length, slice_index, Option, Some, None, refl, sym, ap, ◌∙◌, arith}
-use Rattle.std.specs.Prelude.{ℤ, pos, ◌-ℤ◌, ◌≤ℤ◌, ◌<ℤ◌}
+use Rattle.std.proofs.Common.{◌≡◌, ℕ, zero, suc, ◌+◌, ◌-◌, ◌*◌, ◌/◌, ◌<◌, ◌≤◌, inl, inr, Bool, true, false, min, max, List, [], ◌∷◌, ◌++◌, length, slice_index, if◌then◌else◌, Option, Some, None, refl, sym, ap, arith}
+use Rattle.std.specs.Prelude.{ℤ, pos, ◌-ℤ◌, ◌≤ℤ◌}
 use Rattle.std.proofs.Math.Seq.{get_or-append_seam}
 use Rattle.std.proofs.lemmas.List.{get_or_append_left, length-replicate}
-use Rattle.std.proofs.Math.Nat.{mul-le-mul, mul-le-mul_left, mul-add-div, div-mul-le_self, div-le_self}
+use Rattle.std.proofs.Math.Nat.{mul-le-mul, mul-le-mul_left, div-mul-le_self, div-le_self}
 use Rattle.std.proofs.lemmas.Int.{ints}
 use Rattle.std.proofs.lemmas.Nat.{le-div}
 use Rattle.plan_base.specs.declared.parts.Link.{Link}
@@ -14,8 +14,9 @@ use Rattle.plan_base.specs.Arcs.{link_at}
 use Rattle.plan_base.specs.Facts.{total_load, is_useful, top_load, price_limit}
 use Rattle.link_steps.specs.declared.step.Step.{Step}
 use Rattle.link_steps.specs.declared.ends.End.{End}
-use Rattle.link_steps.specs.Costs.{IsStepCost}
-use Rattle.link_steps.specs.Values.{value_at, IsLinkValue, IsFirstLoad, IsLeastUnitPrice, IsStartPrice}
+use Rattle.link_steps.specs.Costs.{IsLeastModuleCostOn, IsStepCostOn}
+use Rattle.link_steps.specs.Values.{top_back, value_at, GiveValue, IsLinkValue, AreFirstLoads, share, IsLeastUnitPrice, IsStartPrice}
+use Rattle.plan_base.specs.Places.{is_two_way, link_of_place}
 use Rattle.link_steps.specs.Steps.{step_at, AreSteps, AreAllSteps, end_in, AreEndsOf, IsBestEnd, unit_at, IsUnitOf, IsLeastUnit}
 use Rattle.link_steps.proofs.Order.{either_way, before_or_last}
 use Rattle.link_steps.proofs.Reached.{IsFirstReaching, first-least, least-unique}
@@ -43,122 +44,267 @@ end-reached p l steps i are within =
       before = λ j before. omega (arith, below-top p l steps i j are before within, are.in_order.rising j i before within);
     }
 
-end-cost : (p : Parts) (l : Link) (steps : List Step) (i : ℕ) → AreSteps (total_load p) l steps → i < length steps → IsStepCost l (min (step_at steps i).reach (top_load p l)) (l.routing * min (step_at steps i).reach (top_load p l) + (step_at steps i).cost)
-end-cost p l steps i are within =
-    record { module_cost = (step_at steps i).cost; is_least = first-least (total_load p) l steps _ i are (end-reached p l steps i are within); is_sum = refl }
+end-least : (p : Parts) (l : Link) (steps : List Step) (i : ℕ) → AreSteps (total_load p) l steps → i < length steps → IsLeastModuleCostOn l (min (step_at steps i).reach (top_load p l)) (step_at steps i).cost
+end-least p l steps i are within = first-least (total_load p) l steps _ i are (end-reached p l steps i are within)
 
--- the cost of a load is that of the first step that reaches it
-record IsCostOf (l : Link) (steps : List Step) (load cost : ℕ) : Type 0 where
+-- the least module cost of a load is the cost of the first step that reaches it
+record IsCostOf (steps : List Step) (load cost : ℕ) : Type 0 where
   place : ℕ
   first : IsFirstReaching steps load place
-  is_sum : cost ≡ l.routing * load + (step_at steps place).cost
+  is : cost ≡ (step_at steps place).cost
 
-cost-of : (p : Parts) (l : Link) (steps : List Step) (load cost : ℕ) → AreAllSteps (total_load p) l steps → load ≤ top_load p l → IsStepCost l load cost → IsCostOf l steps load cost
-cost-of p l steps load cost are within is_cost =
-    let least = is_cost.is_least in
+cost-of : (p : Parts) (l : Link) (steps : List Step) (load cost : ℕ) → AreAllSteps (total_load p) l steps → load ≤ top_load p l → IsLeastModuleCostOn l load cost → IsCostOf steps load cost
+cost-of p l steps load cost are within least =
     let found = carried-reached (total_load p) l steps load least.counts are (omega (arith, top-le p l)) least.carries in
-    let same = least-unique l load _ _ least (first-least (total_load p) l steps load found.0 are.are_steps found.1) in
-    record { place = found.0; first = found.1; is_sum = omega (arith, is_cost.is_sum, same) }
+    record { place = found.0; first = found.1; is = least-unique l load _ _ least (first-least (total_load p) l steps load found.0 are.are_steps found.1) }
 
 difference-le : (a b c d : ℕ) → a + d ≤ c + b → (pos a -ℤ pos b) ≤ℤ (pos c -ℤ pos d)
 difference-le a b c d h = omega (arith, ints)
 
-difference-lt : (a b c d : ℕ) → a + d < c + b → (pos a -ℤ pos b) <ℤ (pos c -ℤ pos d)
-difference-lt a b c d h = omega (arith, ints)
+difference-back : (a b c d : ℕ) → (pos c -ℤ pos d) ≡ (pos a -ℤ pos b) → c + b ≡ a + d
+difference-back a b c d h = omega (arith, ints)
 
 difference-same : (a b c d : ℕ) → a + d ≡ c + b → (pos a -ℤ pos b) ≡ (pos c -ℤ pos d)
 difference-same a b c d h = omega (arith, ints)
 
-module _ (p : Parts) (l : Link) (steps : List Step) (price slope : ℕ) (best : End)
-    (are : AreAllSteps (total_load p) l steps) (is_price : price ≡ 1000 * l.routing + slope) (positive : 0 < slope)
-    (is_best : IsBestEnd steps (top_load p l) slope best) where
+-- the load of a place: the whole load where its price is above the routing costs, else none
+pub record IsLoadAt (slope whole load : ℕ) : Type 0 where
+  pub sloping : 0 < slope → load ≡ whole
+  pub level : slope ≡ 0 → load ≡ 0
+
+-- what is left of a price above the routing costs
+abbrev pub IsSlope : ℕ → ℕ → ℕ → Type 0
+IsSlope routing price slope = slope ≡ price - 1000 * routing
+
+-- the price of a load is at most its routing costs and what is left of the price times any larger load
+place-le : (routing price slope load whole : ℕ) → IsSlope routing price slope → load ≤ whole → price * load ≤ 1000 * (routing * load) + slope * whole
+place-le routing price slope load whole is le =
+    let less : price ≤ 1000 * routing + slope = (let same : slope ≡ price - 1000 * routing = is in omega arith) in
+    let priced : load * price ≤ load * (1000 * routing + slope) = mul-le-mul_left load less in
+    let larger : slope * load ≤ slope * whole = mul-le-mul_left slope le in
+    omega arith
+
+-- it is less where something is left and the load is smaller
+place-lt : (routing price slope load whole : ℕ) → IsSlope routing price slope → 0 < slope → load < whole → price * load < 1000 * (routing * load) + slope * whole
+place-lt routing price slope load whole is positive lt =
+    let less : price ≤ 1000 * routing + slope = (let same : slope ≡ price - 1000 * routing = is in omega arith) in
+    let priced : load * price ≤ load * (1000 * routing + slope) = mul-le-mul_left load less in
+    let larger : slope * (load + 1) ≤ slope * whole = mul-le-mul_left slope (let le : load + 1 ≤ whole = omega arith in le) in
+    omega arith
+
+-- it is as much at the load of the place
+place-same : (routing price slope load whole : ℕ) → IsSlope routing price slope → IsLoadAt slope whole load → price * load ≡ 1000 * (routing * load) + slope * whole
+place-same routing price slope load whole is at =
+    elim (either_way slope 0) [
+      | inl none ↦
+          (let level : slope ≡ 0 = omega arith in
+          let no_load : load ≡ 0 = at.level level in
+          rw (no_load, level) (omega arith))
+      | inr some ↦
+          (let whole_is : load ≡ whole = at.sloping some in
+          let price_is : price ≡ 1000 * routing + slope = (let same : slope ≡ price - 1000 * routing = is in omega arith) in
+          rw (whole_is, price_is) (omega arith))
+    ]
+
+-- the loads of two places of which one has the whole load
+larger-whole : (slope back_slope whole load back : ℕ) → 0 < slope + back_slope → IsLoadAt slope whole load → IsLoadAt back_slope whole back → max load back ≡ whole
+larger-whole slope back_slope whole load back positive at at_back =
+    elim (either_way slope 0) [
+      | inl none ↦
+          (let no_load : load ≡ 0 = at.level (omega arith) in
+          let back_is : back ≡ whole = at_back.sloping (omega arith) in
+          rw (no_load, back_is) (omega arith))
+      | inr some ↦
+          (let load_is : load ≡ whole = at.sloping some in
+          elim (either_way back_slope 0) [
+            | inl none ↦ (let no_back : back ≡ 0 = at_back.level (omega arith) in rw (load_is, no_back) (omega arith))
+            | inr also ↦ (let back_is : back ≡ whole = at_back.sloping also in rw (load_is, back_is) (omega arith))
+          ])
+    ]
+
+module _ (p : Parts) (l : Link) (steps : List Step) (price back_price slope back_slope load back : ℕ) (best : End)
+    (are : AreAllSteps (total_load p) l steps) (is_slope : IsSlope l.routing price slope) (is_back : IsSlope l.routing back_price back_slope)
+    (positive : 0 < slope + back_slope) (one_way : is_two_way p.orient ≡ false → back_price ≡ 0)
+    (is_best : IsBestEnd steps (top_load p l) (slope + back_slope) best) (at : IsLoadAt slope best.load load) (at_back : IsLoadAt back_slope best.load back) where
   cost_is : best.cost ≡ (step_at steps is_best.is_end_of.place).cost
   cost_is = ap (λ (e : End). e.cost) is_best.is_end_of.is_end
 
   load_is : best.load ≡ min (step_at steps is_best.is_end_of.place).reach (top_load p l)
   load_is = ap (λ (e : End). e.load) is_best.is_end_of.is_end
 
-  best-cost : IsStepCost l best.load (l.routing * best.load + best.cost)
-  best-cost = rw (cost_is, load_is) (end-cost p l steps is_best.is_end_of.place are.are_steps is_best.is_end_of.within)
+  larger_is : max load back ≡ best.load
+  larger_is = larger-whole slope back_slope best.load load back positive at at_back
 
-  attained-best : value_at price best.load (l.routing * best.load + best.cost) ≡ (pos (1000 * best.cost) -ℤ pos (slope * best.load))
-  attained-best = rw is_price (difference-same (1000 * (l.routing * best.load + best.cost)) ((1000 * l.routing + slope) * best.load) (1000 * best.cost) (slope * best.load) (omega arith))
+  back-within : back ≤ top_back p l
+  back-within = by_cases (is_two_way p.orient) refl
+    where
+      by_cases : (b : Bool) → is_two_way p.orient ≡ b → back ≤ (if b then top_load p l else 0)
+      by_cases true is = omega (arith, larger_is, load_is)
+      by_cases false is =
+          let no_price : back_price ≡ 0 = one_way is in
+          let level : back_slope ≡ 0 = (let same : back_slope ≡ back_price - 1000 * l.routing = is_back in omega arith) in
+          omega (arith, at_back.level level)
 
-  -- the end of its step is at least as good as a load
-  at_its_end : (load : ℕ) → (i : ℕ) → IsFirstReaching steps load i → load ≤ top_load p l → slope * load ≤ slope * min (step_at steps i).reach (top_load p l)
-  at_its_end load i first within = mul-le-mul_left slope (let here = first.here in let le : load ≤ min (step_at steps i).reach (top_load p l) = omega arith in le)
+  best-least : IsLeastModuleCostOn l (max load back) best.cost
+  best-least = rw (larger_is, cost_is, load_is) (end-least p l steps is_best.is_end_of.place are.are_steps is_best.is_end_of.within)
 
-  no-less : (other c : ℕ) → other ≤ top_load p l → IsStepCost l other c → (pos (1000 * best.cost) -ℤ pos (slope * best.load)) ≤ℤ value_at price other c
-  no-less other c within is_cost =
-      let cost = cost-of p l steps other c are within is_cost in
-      let at_end = at_its_end other cost.place cost.first within in
-      let least = (is_best.outdoes cost.place cost.first.within).no_more in
-      rw (cost.is_sum, is_price) (difference-le (1000 * best.cost) (slope * best.load) (1000 * (l.routing * other + (step_at steps cost.place).cost)) ((1000 * l.routing + slope) * other) (omega arith))
+  value : ℤ
+  value = pos (1000 * best.cost) -ℤ pos ((slope + back_slope) * best.load)
 
-  pub IsLinkValue-best : IsLinkValue p l price (pos (1000 * best.cost) -ℤ pos (slope * best.load))
-  IsLinkValue-best = record {
-    load = best.load;
-    cost = l.routing * best.load + best.cost;
-    within = omega (arith, load_is);
-    is_cost = best-cost;
-    attained = attained-best;
-    least = no-less;
+  give-best : GiveValue p l price back_price (pos (1000 * best.cost) -ℤ pos ((slope + back_slope) * best.load)) load back
+  give-best = record {
+    within = omega (arith, larger_is, load_is);
+    back_within = back-within;
+    cost = l.routing * (load + back) + best.cost;
+    is_cost = record { module_cost = best.cost; is_least = best-least; is_sum = refl };
+    attained =
+        (let one = place-same l.routing price slope load best.load is_slope at in
+        let other = place-same l.routing back_price back_slope back best.load is_back at_back in
+        difference-same (1000 * (l.routing * (load + back) + best.cost)) (price * load + back_price * back) (1000 * best.cost) ((slope + back_slope) * best.load) (omega arith));
   }
 
-  more-before : (other c : ℕ) → other < best.load → IsStepCost l other c → (pos (1000 * best.cost) -ℤ pos (slope * best.load)) <ℤ value_at price other c
-  more-before other c before is_cost =
-      let within : other ≤ top_load p l = omega (arith, load_is) in
-      let cost = cost-of p l steps other c are within is_cost in
-      let place = cost.place in
-      let at_end = at_its_end other place cost.first within in
-      let strict : 1000 * best.cost + slope * other < 1000 * (step_at steps place).cost + slope * best.load =
-      elim (either_way best.load (min (step_at steps place).reach (top_load p l))) [
+  -- where the larger of two loads is carried, the best end is no worse than at the larger load
+  at_larger : (whole cost : ℕ) → whole ≤ top_load p l → IsLeastModuleCostOn l whole cost → 1000 * best.cost + (slope + back_slope) * whole ≤ 1000 * cost + (slope + back_slope) * best.load
+  at_larger whole cost within least =
+      let found = cost-of p l steps whole cost are within least in
+      let here = found.first.here in
+      let at_end : (slope + back_slope) * whole ≤ (slope + back_slope) * min (step_at steps found.place).reach (top_load p l) =
+      mul-le-mul_left (slope + back_slope) (let le : whole ≤ min (step_at steps found.place).reach (top_load p l) = omega arith in le) in
+      let no_more = (is_best.outdoes found.place found.first.within).no_more in
+      rw found.is (omega arith)
+
+  -- it is better where the larger load is smaller than at the best end
+  at_smaller : (whole cost : ℕ) → whole ≤ top_load p l → IsLeastModuleCostOn l whole cost → whole < best.load → 1000 * best.cost + (slope + back_slope) * whole < 1000 * cost + (slope + back_slope) * best.load
+  at_smaller whole cost within least before =
+      let found = cost-of p l steps whole cost are within least in
+      let here = found.first.here in
+      let outdoes = is_best.outdoes found.place found.first.within in
+      let no_more = outdoes.no_more in
+      rw found.is (elim (either_way best.load (min (step_at steps found.place).reach (top_load p l))) [
         | inl far ↦
-            (let least = (is_best.outdoes place cost.first.within).no_more in
-            let more : slope * (other + 1) ≤ slope * min (step_at steps place).reach (top_load p l) = mul-le-mul_left slope (let le : other + 1 ≤ min (step_at steps place).reach (top_load p l) = omega arith in le) in
+            (let more : (slope + back_slope) * (whole + 1) ≤ (slope + back_slope) * min (step_at steps found.place).reach (top_load p l) =
+            mul-le-mul_left (slope + back_slope) (let le : whole + 1 ≤ min (step_at steps found.place).reach (top_load p l) = omega arith in le) in
             omega arith)
-        | inr near ↦ (let first = (is_best.outdoes place cost.first.within).less near in omega arith)
-      ] in
-      let priced : price * other ≡ (1000 * l.routing + slope) * other = ap (λ (q : ℕ). q * other) is_price in
-      rw cost.is_sum (difference-lt (1000 * best.cost) (slope * best.load) (1000 * (l.routing * other + (step_at steps place).cost)) (price * other) (omega arith))
+        | inr near ↦
+            (let less = outdoes.less near in
+            let at_end : (slope + back_slope) * whole ≤ (slope + back_slope) * min (step_at steps found.place).reach (top_load p l) =
+            mul-le-mul_left (slope + back_slope) (let le : whole ≤ min (step_at steps found.place).reach (top_load p l) = omega arith in le) in
+            omega arith)
+      ])
 
-  pub IsFirstLoad-best : IsFirstLoad l price (pos (1000 * best.cost) -ℤ pos (slope * best.load)) best.load
-  IsFirstLoad-best = record { cost = l.routing * best.load + best.cost; is_cost = best-cost; attained = attained-best; before = more-before }
+  top-larger : (x y : ℕ) → x ≤ top_load p l → y ≤ top_back p l → max x y ≤ top_load p l
+  top-larger x y within = by_cases (is_two_way p.orient)
+    where
+      by_cases : (b : Bool) → y ≤ (if b then top_load p l else 0) → max x y ≤ top_load p l
+      by_cases true back_within = omega arith
+      by_cases false back_within = omega arith
 
--- carrying nothing costs nothing
-nothing-cost : (p : Parts) (l : Link) (steps : List Step) → AreSteps (total_load p) l steps → IsStepCost l 0 0
-nothing-cost p l steps are =
-    let first = are.first in
+  no-less : (x y c : ℕ) → x ≤ top_load p l → y ≤ top_back p l → IsStepCostOn l x y c → (pos (1000 * best.cost) -ℤ pos ((slope + back_slope) * best.load)) ≤ℤ value_at price back_price x y c
+  no-less x y c within back_within is_cost =
+      let one = place-le l.routing price slope x (max x y) is_slope (omega arith) in
+      let other = place-le l.routing back_price back_slope y (max x y) is_back (omega arith) in
+      let whole = at_larger (max x y) is_cost.module_cost (top-larger x y within back_within) is_cost.is_least in
+      rw is_cost.is_sum (difference-le (1000 * best.cost) ((slope + back_slope) * best.load) (1000 * (l.routing * (x + y) + is_cost.module_cost)) (price * x + back_price * y) (omega arith))
+
+  pub IsLinkValue-best : IsLinkValue p l price back_price (pos (1000 * best.cost) -ℤ pos ((slope + back_slope) * best.load))
+  IsLinkValue-best = record { load = load; back = back; give = give-best; least = no-less }
+
+  -- loads that give the value, in whole numbers
+  given : (x y : ℕ) (give : GiveValue p l price back_price (pos (1000 * best.cost) -ℤ pos ((slope + back_slope) * best.load)) x y)
+      → 1000 * (l.routing * (x + y) + give.is_cost.module_cost) + (slope + back_slope) * best.load ≡ 1000 * best.cost + (price * x + back_price * y)
+  given x y give =
+      let sum = give.is_cost.is_sum in
+      let attained : value_at price back_price x y (l.routing * (x + y) + give.is_cost.module_cost) ≡ (pos (1000 * best.cost) -ℤ pos ((slope + back_slope) * best.load)) = rw sum at give.attained in
+      difference-back (1000 * best.cost) ((slope + back_slope) * best.load) (1000 * (l.routing * (x + y) + give.is_cost.module_cost)) (price * x + back_price * y) attained
+
+  none-smaller : (x y : ℕ) → GiveValue p l price back_price (pos (1000 * best.cost) -ℤ pos ((slope + back_slope) * best.load)) x y → max load back ≤ max x y
+  none-smaller x y give =
+      elim (either_way best.load (max x y)) [
+        | inl le ↦ omega (arith, larger_is)
+        | inr lt ↦
+            (let one = place-le l.routing price slope x (max x y) is_slope (omega arith) in
+            let other = place-le l.routing back_price back_slope y (max x y) is_back (omega arith) in
+            let more = at_smaller (max x y) give.is_cost.module_cost (top-larger x y give.within give.back_within) give.is_cost.is_least lt in
+            let same = given x y give in
+            absurd (omega arith))
+      ]
+
+  no_less-load : (x y : ℕ) → GiveValue p l price back_price (pos (1000 * best.cost) -ℤ pos ((slope + back_slope) * best.load)) x y → max x y ≡ max load back → load ≤ x
+  no_less-load x y give at_whole =
+      elim (either_way load x) [
+        | inl le ↦ le
+        | inr lt ↦
+            (let some : 0 < slope = elim (either_way slope 0) [ inl none ↦ absurd (let level : slope ≡ 0 = omega arith in omega (arith, at.level level)) | inr some ↦ some ] in
+            let one = place-lt l.routing price slope x (max x y) is_slope some (omega (arith, larger_is)) in
+            let other = place-le l.routing back_price back_slope y (max x y) is_back (omega arith) in
+            let more = at_larger (max x y) give.is_cost.module_cost (top-larger x y give.within give.back_within) give.is_cost.is_least in
+            let same = given x y give in
+            absurd (omega arith))
+      ]
+
+  no_less-back : (x y : ℕ) → GiveValue p l price back_price (pos (1000 * best.cost) -ℤ pos ((slope + back_slope) * best.load)) x y → max x y ≡ max load back → back ≤ y
+  no_less-back x y give at_whole =
+      elim (either_way back y) [
+        | inl le ↦ le
+        | inr lt ↦
+            (let some : 0 < back_slope = elim (either_way back_slope 0) [ inl none ↦ absurd (let level : back_slope ≡ 0 = omega arith in omega (arith, at_back.level level)) | inr some ↦ some ] in
+            let one = place-le l.routing price slope x (max x y) is_slope (omega arith) in
+            let other = place-lt l.routing back_price back_slope y (max x y) is_back some (omega (arith, larger_is)) in
+            let more = at_larger (max x y) give.is_cost.module_cost (top-larger x y give.within give.back_within) give.is_cost.is_least in
+            let same = given x y give in
+            absurd (omega arith))
+      ]
+
+  pub AreFirstLoads-best : AreFirstLoads p l price back_price (pos (1000 * best.cost) -ℤ pos ((slope + back_slope) * best.load)) load back
+  AreFirstLoads-best = record {
+    give = give-best;
+    larger = none-smaller;
+    each = λ x y give at_whole. (no_less-load x y give at_whole, no_less-back x y give at_whole);
+  }
+
+-- carrying nothing costs nothing, whatever the steps
+no_load-cost : (l : Link) → IsStepCostOn l 0 0 0
+no_load-cost l =
     record {
-      module_cost = (step_at steps 0).cost;
-      is_least = first-least (total_load p) l steps 0 0 are (record { within = are.in_order.some; here = omega arith; before = λ j below. absurd (omega arith) });
-      is_sum = omega (arith, first.no_cost);
+      module_cost = 0;
+      is_least = record {
+        counts = none_of_each l;
+        carries = record { count = length-replicate (length l.modules) 0; enough = omega arith };
+        attained = cost-none l;
+        least = λ others carries. omega arith;
+      };
+      is_sum = omega arith;
     }
 
--- where the routing cost is no less than the price, carrying nothing is best
-pub IsLinkValue-nothing : (p : Parts) (l : Link) (steps : List Step) (price : ℕ) → AreSteps (total_load p) l steps → price ≤ 1000 * l.routing → IsLinkValue p l price (pos 0)
-IsLinkValue-nothing p l steps price are low =
+-- where the routing cost is no less than the prices, carrying nothing is best
+give-nothing : (p : Parts) (l : Link) (price back_price : ℕ) → GiveValue p l price back_price (pos 0) 0 0
+give-nothing p l price back_price = record {
+  within = omega arith;
+  back_within = omega arith;
+  cost = 0;
+  is_cost = no_load-cost l;
+  attained = difference-same (1000 * 0) (price * 0 + back_price * 0) 0 0 (omega arith);
+}
+
+pub IsLinkValue-nothing : (p : Parts) (l : Link) (price back_price : ℕ) → price ≤ 1000 * l.routing → back_price ≤ 1000 * l.routing → IsLinkValue p l price back_price (pos 0)
+IsLinkValue-nothing p l price back_price low back_low =
     record {
       load = 0;
-      cost = 0;
-      within = omega arith;
-      is_cost = nothing-cost p l steps are;
-      attained = difference-same (1000 * 0) (price * 0) 0 0 (omega arith);
-      least = λ other c within is_cost.
+      back = 0;
+      give = give-nothing p l price back_price;
+      least = λ x y c within back_within is_cost.
           (let is_sum = is_cost.is_sum in
-          let le : other * price ≤ other * (1000 * l.routing) = mul-le-mul_left other low in
-          difference-le 0 0 (1000 * c) (price * other) (rw is_sum (omega arith)));
+          let le : x * price ≤ x * (1000 * l.routing) = mul-le-mul_left x low in
+          let back_le : y * back_price ≤ y * (1000 * l.routing) = mul-le-mul_left y back_low in
+          difference-le 0 0 (1000 * c) (price * x + back_price * y) (rw is_sum (omega arith)));
     }
 
-pub IsFirstLoad-nothing : (p : Parts) (l : Link) (steps : List Step) (price : ℕ) → AreSteps (total_load p) l steps → IsFirstLoad l price (pos 0) 0
-IsFirstLoad-nothing p l steps price are =
-    record { cost = 0; is_cost = nothing-cost p l steps are; attained = difference-same (1000 * 0) (price * 0) 0 0 (omega arith); before = λ other c before. absurd (omega arith) }
-
--- a thousand costs for each load grain: those of routing, and those of the modules
-unit-sum : (routing load cost : ℕ) → 0 < load → 1000 * (routing * load + cost) / load ≡ 1000 * routing + 1000 * cost / load
-unit-sum routing load cost positive =
-    let split : 1000 * (routing * load + cost) ≡ load * (1000 * routing) + 1000 * cost = omega arith in
-    ap (λ (n : ℕ). n / load) split ∙ mul-add-div positive (1000 * routing) (1000 * cost)
+pub AreFirstLoads-nothing : (p : Parts) (l : Link) (price back_price : ℕ) → AreFirstLoads p l price back_price (pos 0) 0 0
+AreFirstLoads-nothing p l price back_price = record {
+  give = give-nothing p l price back_price;
+  larger = λ x y give. omega arith;
+  each = λ x y give same. (omega arith, omega arith);
+}
 
 -- a larger load has no larger quotient
 quotient-le : (n small large : ℕ) → 0 < small → small ≤ large → n / large ≤ n / small
@@ -171,48 +317,48 @@ abbrev pub start_of : Parts → Link → Option ℕ → ℕ
 start_of p l None = price_limit p
 start_of p l (Some unit) = 1000 * l.routing + unit
 
-no-unit : (p : Parts) (l : Link) (steps : List Step) → AreAllSteps (total_load p) l steps → IsLeastUnit steps (top_load p l) (length steps) None → 0 < top_load p l → ⊥
+no-unit : (p : Parts) (l : Link) (steps : List Step) → AreAllSteps (total_load p) l steps → IsLeastUnit (share p) steps (top_load p l) (length steps) None → 0 < top_load p l → ⊥
 no-unit p l steps are none positive =
     let carried = top-can_carry p l 1 (omega arith) in
     let found = carried-reached (total_load p) l steps 1 carried.0 are (omega (arith, top-le p l)) carried.1 in
     omega (arith, none found.0 found.1.within, found.1.here)
 
-IsLeastUnitPrice-unit : (p : Parts) (l : Link) (steps : List Step) (unit : ℕ) → AreAllSteps (total_load p) l steps → IsUnitOf steps (top_load p l) (length steps) unit
-    → ((i : ℕ) → i < length steps → 0 < min (step_at steps i).reach (top_load p l) → unit ≤ unit_at steps (top_load p l) i) → IsLeastUnitPrice p l (1000 * l.routing + unit)
+IsLeastUnitPrice-unit : (p : Parts) (l : Link) (steps : List Step) (unit : ℕ) → AreAllSteps (total_load p) l steps → IsUnitOf (share p) steps (top_load p l) (length steps) unit
+    → ((i : ℕ) → i < length steps → 0 < min (step_at steps i).reach (top_load p l) → unit ≤ unit_at (share p) steps (top_load p l) i) → IsLeastUnitPrice p l (1000 * l.routing + unit)
 IsLeastUnitPrice-unit p l steps unit are is_unit least =
     let i = is_unit.place in
-    let load = min (step_at steps i).reach (top_load p l) in
-    let unit_is = is_unit.is_unit in
     record {
-      load = load;
-      cost = l.routing * load + (step_at steps i).cost;
+      load = min (step_at steps i).reach (top_load p l);
+      cost = (step_at steps i).cost;
       positive = is_unit.positive;
       within = omega arith;
-      is_cost = end-cost p l steps i are.are_steps is_unit.within;
-      attained = unit-sum l.routing load (step_at steps i).cost is_unit.positive ∙ ap (λ (u : ℕ). 1000 * l.routing + u) (sym unit_is);
+      is_least = end-least p l steps i are.are_steps is_unit.within;
+      attained = ap (λ (u : ℕ). 1000 * l.routing + u) (sym is_unit.is_unit);
       least = λ other c positive within is_cost.
           (let cost = cost-of p l steps other c are within is_cost in
           let j = cost.place in
           let here = cost.first.here in
-          let sum : 1000 * c / other ≡ 1000 * l.routing + 1000 * (step_at steps j).cost / other =
-          ap (λ (n : ℕ). 1000 * n / other) cost.is_sum ∙ unit-sum l.routing other (step_at steps j).cost positive in
           let at_end = least j cost.first.within (omega arith) in
-          let smaller = quotient-le (1000 * (step_at steps j).cost) other (min (step_at steps j).reach (top_load p l)) positive (omega arith) in
-          omega (arith, sum, at_end, smaller));
+          let smaller = quotient-le (share p * (step_at steps j).cost) other (min (step_at steps j).reach (top_load p l)) positive (omega arith) in
+          rw cost.is (omega (arith, at_end, smaller)));
     }
 
-pub IsStartPrice-unit : (p : Parts) (l : Link) (steps : List Step) (least : Option ℕ) → AreAllSteps (total_load p) l steps → IsLeastUnit steps (top_load p l) (length steps) least → IsStartPrice p l (start_of p l least)
-IsStartPrice-unit p l steps None are h =
+pub IsStartPrice-unit : (p : Parts) (l : Link) (steps : List Step) (least : Option ℕ) → AreAllSteps (total_load p) l steps → IsLeastUnit (share p) steps (top_load p l) (length steps) least
+    → start_of p l least ≤ price_limit p → IsStartPrice p l (start_of p l least)
+IsStartPrice-unit p l steps None are h limit =
     record { of_used = λ positive. absurd (no-unit p l steps are h positive); of_unused = λ _. refl }
-IsStartPrice-unit p l steps (Some unit) are h =
-    record { of_used = λ positive. IsLeastUnitPrice-unit p l steps unit are h.0 h.1; of_unused = λ none. absurd (omega (arith, h.0.positive)) }
+IsStartPrice-unit p l steps (Some unit) are h limit =
+    record {
+      of_used = λ positive. record { unit_price = 1000 * l.routing + unit; is_least = IsLeastUnitPrice-unit p l steps unit are h.0 h.1; cut = omega (arith, limit) };
+      of_unused = λ none. absurd (omega (arith, h.0.positive));
+    }
 
--- one link more
-pub IsStartPrice-push : (p : Parts) (prices : List ℕ) (price n : ℕ) → length prices ≡ n → ((e : ℕ) → e < n → IsStartPrice p (link_at p e) (slice_index prices e)) → IsStartPrice p (link_at p n) price
-    → (e : ℕ) → e < n + 1 → IsStartPrice p (link_at p e) (slice_index (prices ++ price ∷ []) e)
-IsStartPrice-push p prices price n long before here e below =
-    elim (before_or_last e n below) [
-      | inl old ↦ rw (get_or_append_left {A = ℕ} prices (price ∷ []) 0 e (omega arith)) (before e old)
+-- one place more
+pub IsStartPrice-push : (p : Parts) (prices : List ℕ) (price n : ℕ) → length prices ≡ n → ((q : ℕ) → q < n → IsStartPrice p (link_at p (link_of_place p q)) (slice_index prices q)) → IsStartPrice p (link_at p (link_of_place p n)) price
+    → (q : ℕ) → q < n + 1 → IsStartPrice p (link_at p (link_of_place p q)) (slice_index (prices ++ price ∷ []) q)
+IsStartPrice-push p prices price n long before here q below =
+    elim (before_or_last q n below) [
+      | inl old ↦ rw (get_or_append_left {A = ℕ} prices (price ∷ []) 0 q (omega arith)) (before q old)
       | inr new ↦ rw (new, ← long, get_or-append_seam {A = ℕ} prices price [] 0) (rw long here)
     ]
 
@@ -230,32 +376,45 @@ cost-of-useless total l steps (suc i) are none within =
     let adds = are.adds (suc i) (omega arith) within in
     absurd (omega (arith, adds.reach, no-capacity l (step_at steps (suc i)).added none adds.added, are.in_order.rising (step_at steps (suc i)).before (suc i) adds.before within))
 
+-- the share is at most a thousand
+share-small : (p : Parts) → share p ≤ 1000
+share-small p = by_cases (is_two_way p.orient)
+  where
+    by_cases : (b : Bool) → (if b then 500 else 1000) ≤ 1000
+    by_cases true = omega arith
+    by_cases false = omega arith
+
+-- a share of a small cost is small
+share-cost : (p : Parts) (cost : ℕ) → cost ≤ MAX_STEPS * MODULE_COST_BOUND → share p * cost ≤ 1000 * (MAX_STEPS * MODULE_COST_BOUND)
+share-cost p cost cheap = mul-le-mul (share-small p) cheap
+
 -- the least unit is small enough for the whole load
 unit-small : (p : Parts) (l : Link) (steps : List Step) (unit : ℕ) → AreAllSteps (total_load p) l steps → 0 < top_load p l
-    → ((i : ℕ) → i < length steps → 0 < min (step_at steps i).reach (top_load p l) → unit ≤ unit_at steps (top_load p l) i) → unit * total_load p ≤ 1000 * (MAX_STEPS * MODULE_COST_BOUND)
+    → ((i : ℕ) → i < length steps → 0 < min (step_at steps i).reach (top_load p l) → unit ≤ unit_at (share p) steps (top_load p l) i) → unit * total_load p ≤ 1000 * (MAX_STEPS * MODULE_COST_BOUND)
 unit-small p l steps unit are positive least =
     let carried = top-can_carry p l (top_load p l) (omega arith) in
     let found = carried-reached (total_load p) l steps (top_load p l) carried.0 are (top-le p l) carried.1 in
     let i = found.0 in
     let first = found.1 in
     let at_top : min (step_at steps i).reach (top_load p l) ≡ top_load p l = (let here = first.here in omega arith) in
-    let small : unit ≤ 1000 * (step_at steps i).cost / top_load p l = rw at_top at (least i first.within (rw at_top positive)) in
+    let small : unit ≤ share p * (step_at steps i).cost / top_load p l = rw at_top at (least i first.within (rw at_top positive)) in
     let cheap : (step_at steps i).cost ≤ MAX_STEPS * MODULE_COST_BOUND = omega (arith, are.are_steps.in_order.cheap i first.within, first.within, are.within) in
     by_cases (is_useful l) refl i small cheap first.within
   where
-    by_cases : (b : Bool) → is_useful l ≡ b → (i : ℕ) → unit ≤ 1000 * (step_at steps i).cost / top_load p l → (step_at steps i).cost ≤ MAX_STEPS * MODULE_COST_BOUND → i < length steps → unit * total_load p ≤ 1000 * (MAX_STEPS * MODULE_COST_BOUND)
+    by_cases : (b : Bool) → is_useful l ≡ b → (i : ℕ) → unit ≤ share p * (step_at steps i).cost / top_load p l → (step_at steps i).cost ≤ MAX_STEPS * MODULE_COST_BOUND → i < length steps → unit * total_load p ≤ 1000 * (MAX_STEPS * MODULE_COST_BOUND)
     by_cases true is i small cheap within =
-        let small_of_total : unit ≤ 1000 * (step_at steps i).cost / total_load p = rw is at small in
-        let product : total_load p * unit ≤ total_load p * (1000 * (step_at steps i).cost / total_load p) = mul-le-mul_left (total_load p) small_of_total in
-        omega (arith, product, div-mul-le_self (1000 * (step_at steps i).cost) (total_load p))
+        let small_of_total : unit ≤ share p * (step_at steps i).cost / total_load p = rw is at small in
+        let product : total_load p * unit ≤ total_load p * (share p * (step_at steps i).cost / total_load p) = mul-le-mul_left (total_load p) small_of_total in
+        omega (arith, product, div-mul-le_self (share p * (step_at steps i).cost) (total_load p), share-cost p (step_at steps i).cost cheap)
     by_cases false is i small cheap within =
         let no_cost = cost-of-useless (total_load p) l steps i are.are_steps is within in
-        let no_unit : unit ≤ 0 = omega (arith, small, div-le_self (1000 * (step_at steps i).cost) (top_load p l), no_cost) in
+        let no_share : share p * (step_at steps i).cost ≡ 0 = rw no_cost (omega arith) in
+        let no_unit : unit ≤ 0 = omega (arith, small, div-le_self (share p * (step_at steps i).cost) (top_load p l), no_share) in
         let none : unit ≡ 0 = omega arith in
         rw none (omega arith)
 
 -- a start price is at most the limit
-pub start-within : (p : Parts) (l : Link) (steps : List Step) (least : Option ℕ) → AreAllSteps (total_load p) l steps → l.routing * total_load p ≤ MAX_ROUTING_COST → IsLeastUnit steps (top_load p l) (length steps) least → start_of p l least ≤ price_limit p
+pub start-within : (p : Parts) (l : Link) (steps : List Step) (least : Option ℕ) → AreAllSteps (total_load p) l steps → l.routing * total_load p ≤ MAX_ROUTING_COST → IsLeastUnit (share p) steps (top_load p l) (length steps) least → start_of p l least ≤ price_limit p
 start-within p l steps None are cheap h = omega arith
 start-within p l steps (Some unit) are cheap h =
     let positive : 0 < top_load p l = omega (arith, h.0.positive) in
@@ -264,34 +423,34 @@ start-within p l steps (Some unit) are cheap h =
     let product : (1000 * l.routing + unit) * total_load p ≤ MAX_PRICED_LOAD = omega (arith, small, cheap) in
     le-div (1000 * l.routing + unit) (MAX_PRICED_LOAD) (max (total_load p) 1) (omega arith) (rw whole product)
 
--- carrying nothing costs nothing, whatever the steps
-no_load-cost : (l : Link) → IsStepCost l 0 0
-no_load-cost l =
-    record {
-      module_cost = 0;
-      is_least = record {
-        counts = none_of_each l;
-        carries = record { count = length-replicate (length l.modules) 0; enough = omega arith };
-        attained = cost-none l;
-        least = λ others carries. omega arith;
-      };
-      is_sum = omega arith;
-    }
-
 -- a link value is not positive
-pub IsLinkValue-not_positive : (p : Parts) (l : Link) (price : ℕ) (value : ℤ) → IsLinkValue p l price value → value ≤ℤ pos 0
-IsLinkValue-not_positive p l price value is = at_nothing (price * 0) value (omega arith) (is.least 0 0 (omega arith) (no_load-cost l))
+pub IsLinkValue-not_positive : (p : Parts) (l : Link) (price back_price : ℕ) (value : ℤ) → IsLinkValue p l price back_price value → value ≤ℤ pos 0
+IsLinkValue-not_positive p l price back_price value is = at_nothing (price * 0 + back_price * 0) value (omega arith) (is.least 0 0 0 (omega arith) (omega arith) (no_load-cost l))
   where
     at_nothing : (nothing : ℕ) (v : ℤ) → nothing ≡ 0 → v ≤ℤ (pos (1000 * 0) -ℤ pos nothing) → v ≤ℤ pos 0
     at_nothing nothing v none le = omega (arith, ints)
 
--- at a price up to the limit, a link value is not far below 0
-pub IsLinkValue-bounded : (p : Parts) (l : Link) (price : ℕ) (value : ℤ) → price ≤ price_limit p → IsLinkValue p l price value → (pos 0 -ℤ pos MAX_PRICED_LOAD) ≤ℤ value
-IsLinkValue-bounded p l price value limit is =
-    rw (← is.attained) (above (1000 * is.cost) (price * is.load) (slope-within p l price price is.load limit (omega arith) is.within))
+-- a load back is at most the top load
+back-top : (p : Parts) (l : Link) (back : ℕ) → back ≤ top_back p l → back ≤ top_load p l
+back-top p l back = by_cases (is_two_way p.orient)
   where
-    above : (cost priced : ℕ) → priced ≤ MAX_PRICED_LOAD → (pos 0 -ℤ pos MAX_PRICED_LOAD) ≤ℤ (pos cost -ℤ pos priced)
+    by_cases : (b : Bool) → back ≤ (if b then top_load p l else 0) → back ≤ top_load p l
+    by_cases true within = within
+    by_cases false within = omega arith
+
+-- at prices up to the limit, a link value is not far below 0
+pub IsLinkValue-bounded : (p : Parts) (l : Link) (price back_price : ℕ) (value : ℤ) → price ≤ price_limit p → back_price ≤ price_limit p → IsLinkValue p l price back_price value → (pos 0 -ℤ pos (2 * MAX_PRICED_LOAD)) ≤ℤ value
+IsLinkValue-bounded p l price back_price value limit back_limit is =
+    rw (← is.give.attained) (above (1000 * is.give.cost) (price * is.load + back_price * is.back)
+    (omega (arith, slope-within p l price price is.load limit (omega arith) is.give.within, slope-within p l back_price back_price is.back back_limit (omega arith) (back-top p l is.back is.give.back_within))))
+  where
+    above : (cost priced : ℕ) → priced ≤ 2 * MAX_PRICED_LOAD → (pos 0 -ℤ pos (2 * MAX_PRICED_LOAD)) ≤ℤ (pos cost -ℤ pos priced)
     above cost priced le = omega (arith, ints)
+
+-- both slopes together, too, are small enough with any load up to the top load
+pub slopes-within : (p : Parts) (l : Link) (price back_price slope back_slope load : ℕ) → price ≤ price_limit p → back_price ≤ price_limit p → slope ≤ price → back_slope ≤ back_price → load ≤ top_load p l → (slope + back_slope) * load ≤ 2 * MAX_PRICED_LOAD
+slopes-within p l price back_price slope back_slope load limit back_limit less back_less within =
+    omega (arith, slope-within p l price slope load limit less within, slope-within p l back_price back_slope load back_limit back_less within)
 
 -- there is a best end, each costs little, and none is past the top load
 pub AreEndsOf-some : (p : Parts) (l : Link) (ends : List End) → AreEndsOf p l ends → 0 < length ends

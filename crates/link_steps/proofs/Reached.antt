@@ -6,7 +6,7 @@ use Rattle.std.proofs.lemmas.List.{length-replicate, get_or-replicate}
 use Rattle.plan_base.specs.declared.parts.Link.{Link}
 use Rattle.plan_base.specs.Designs.{module_at, module_cost_with}
 use Rattle.link_steps.specs.declared.step.Step.{Step}
-use Rattle.link_steps.specs.Costs.{Carries, CannotCarry, IsLeastModuleCost}
+use Rattle.link_steps.specs.Costs.{CarriesOn, CannotCarryOn, IsLeastModuleCostOn}
 use Rattle.link_steps.specs.Steps.{step_at, last_of, AreRising, IsFree, IsFirstStep, AreSteps, AreAllSteps}
 use Rattle.link_steps.proofs.Order.{either_way}
 use Rattle.plan_base.proofs.CountSums.{none_of_each, capacity-none, cost-none, capacity-set, cost-set}
@@ -74,13 +74,13 @@ first_reaching steps load (suc k) rising within here =
     ]
 
 -- what carries a load costs at least the first step that reaches it
-pub cost-le : (total : ℕ) (l : Link) (steps : List Step) (load i : ℕ) (counts : List ℕ) → AreSteps total l steps → IsFirstReaching steps load i → Carries l load counts → (step_at steps i).cost ≤ module_cost_with l counts
+pub cost-le : (total : ℕ) (l : Link) (steps : List Step) (load i : ℕ) (counts : List ℕ) → AreSteps total l steps → IsFirstReaching steps load i → CarriesOn l load counts → (step_at steps i).cost ≤ module_cost_with l counts
 cost-le total l steps load zero counts are first carries = omega (arith, are.first.no_cost)
 cost-le total l steps load (suc i) counts are first carries =
     are.next i (suc i) counts (omega arith) first.within carries.count (omega (arith, first.before i (omega arith), carries.enough))
 
 -- the cost of the first step that reaches a load is its least module cost
-pub first-least : (total : ℕ) (l : Link) (steps : List Step) (load i : ℕ) → AreSteps total l steps → IsFirstReaching steps load i → IsLeastModuleCost l load (step_at steps i).cost
+pub first-least : (total : ℕ) (l : Link) (steps : List Step) (load i : ℕ) → AreSteps total l steps → IsFirstReaching steps load i → IsLeastModuleCostOn l load (step_at steps i).cost
 first-least total l steps load i are first =
     let attained = step-attained total l steps i are first.within in
     record {
@@ -91,11 +91,11 @@ first-least total l steps load i are first =
     }
 
 -- where no step reaches a load, no counts carry it
-pub none-carries : (total : ℕ) (l : Link) (steps : List Step) (load : ℕ) → AreAllSteps total l steps → load ≤ total → (last_of steps).reach < load → CannotCarry l load
+pub none-carries : (total : ℕ) (l : Link) (steps : List Step) (load : ℕ) → AreAllSteps total l steps → load ≤ total → (last_of steps).reach < load → CannotCarryOn l load
 none-carries total l steps load are within past = λ counts carries.
     omega (arith, are.whole (omega arith) counts carries.count, carries.enough)
 
 -- two least module costs of one load are the same
-pub least-unique : (l : Link) (load a b : ℕ) → IsLeastModuleCost l load a → IsLeastModuleCost l load b → a ≡ b
+pub least-unique : (l : Link) (load a b : ℕ) → IsLeastModuleCostOn l load a → IsLeastModuleCostOn l load b → a ≡ b
 least-unique l load a b ha hb =
     omega (arith, ha.least hb.counts hb.carries, hb.least ha.counts ha.carries, ha.attained, hb.attained)

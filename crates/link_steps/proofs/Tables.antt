@@ -8,7 +8,7 @@ use Rattle.plan_base.specs.Facts.{total_load, top_load}
 use Rattle.plan_base.specs.Arcs.{link_at}
 use Rattle.link_steps.specs.declared.step.Step.{Step}
 use Rattle.link_steps.specs.declared.ends.End.{End}
-use Rattle.link_steps.specs.Costs.{AreLeastCounts}
+use Rattle.link_steps.specs.Costs.{AreLeastCountsOn}
 use Rattle.link_steps.specs.Steps.{step_at, AreSteps, AreAllSteps, AreBestEnds, AreTablesTo, IsMadeOf}
 use Rattle.link_steps.proofs.Reached.{IsFirstReaching, cost-le}
 use Rattle.link_steps.proofs.Order.{before_or_last}
@@ -39,7 +39,7 @@ AreTablesTo-push p tables ends steps best n before are_all are_best =
     }
 
 -- counts that carry a load at the cost of the first step that reaches it are the least
-pub AreLeastCounts-made : (total : ℕ) (l : Link) (steps : List Step) (load place : ℕ) (counts : List ℕ) → AreSteps total l steps → IsFirstReaching steps load place → IsMadeOf l (step_at steps place) load counts → AreLeastCounts l load counts
+pub AreLeastCounts-made : (total : ℕ) (l : Link) (steps : List Step) (load place : ℕ) (counts : List ℕ) → AreSteps total l steps → IsFirstReaching steps load place → IsMadeOf l (step_at steps place) load counts → AreLeastCountsOn l load counts
 AreLeastCounts-made total l steps load place counts are first made =
     record {
       carries = record { count = made.count; enough = made.enough };

@@ -1,5 +1,5 @@
 -- What it costs to carry a load on a link, over all counts of its modules.
-use Rattle.std.specs.Prelude.{ℕ, ◌≡◌, ◌<◌, ◌≤◌, ◌+◌, ◌*◌, List, length, slice_index}
+use Rattle.std.specs.Prelude.{ℕ, ◌≡◌, ◌<◌, ◌≤◌, ◌+◌, ◌*◌, max, List, length, slice_index}
 use Rattle.plan_base.specs.declared.parts.Link.{Link}
 use Rattle.plan_base.specs.declared.parts.Parts.{Parts}
 use Rattle.plan_base.specs.Arcs.{link_at}
@@ -10,41 +10,65 @@ use Rattle.link_steps.specs.declared.step_fault.StepFault.{StepFault}
 use Rattle.link_steps.specs.declared.step_fault.StepFault.TheVariants.{TooManySteps, OutOfMemory}
 
 -- one count for each module of the link, together with a capacity of at least the load
-pub record Carries (l : Link) (load : ℕ) (counts : List ℕ) : Type 0 where
+pub record CarriesOn (l : Link) (load : ℕ) (counts : List ℕ) : Type 0 where
   pub count : length counts ≡ length l.modules
   pub enough : load ≤ capacity_with l counts
 
 -- some counts carry the load
-abbrev pub CanCarry : Link → ℕ → Type 0
-CanCarry l load = (counts : List ℕ) × Carries l load counts
+abbrev pub CanCarryOn : Link → ℕ → Type 0
+CanCarryOn l load = (counts : List ℕ) × CarriesOn l load counts
 
 -- no counts carry the load
-abbrev pub CannotCarry : Link → ℕ → Type 0
-CannotCarry l load = (counts : List ℕ) → Carries l load counts → ⊥
+abbrev pub CannotCarryOn : Link → ℕ → Type 0
+CannotCarryOn l load = (counts : List ℕ) → CarriesOn l load counts → ⊥
 
 -- it is what some counts cost that carry the load, and all that carry it cost at least as much, in cost grains
-pub record IsLeastModuleCost (l : Link) (load cost : ℕ) : Type 0 where
+pub record IsLeastModuleCostOn (l : Link) (load cost : ℕ) : Type 0 where
   pub counts : List ℕ
-  pub carries : Carries l load counts
+  pub carries : CarriesOn l load counts
   pub attained : module_cost_with l counts ≡ cost
-  pub least : (others : List ℕ) → Carries l load others → cost ≤ module_cost_with l others
+  pub least : (others : List ℕ) → CarriesOn l load others → cost ≤ module_cost_with l others
 
 -- counts that carry the load, and none that carry it cost less
-pub record AreLeastCounts (l : Link) (load : ℕ) (counts : List ℕ) : Type 0 where
-  pub carries : Carries l load counts
-  pub least : (others : List ℕ) → Carries l load others → module_cost_with l counts ≤ module_cost_with l others
+pub record AreLeastCountsOn (l : Link) (load : ℕ) (counts : List ℕ) : Type 0 where
+  pub carries : CarriesOn l load counts
+  pub least : (others : List ℕ) → CarriesOn l load others → module_cost_with l counts ≤ module_cost_with l others
 
--- the routing cost of the load and its least module cost, in cost grains
-pub record IsStepCost (l : Link) (load cost : ℕ) : Type 0 where
+-- the routing cost of the loads of a link's places, the second 0 where it has one, and the least module cost of the larger load, in cost grains
+pub record IsStepCostOn (l : Link) (load back cost : ℕ) : Type 0 where
   pub module_cost : ℕ
-  pub is_least : IsLeastModuleCost l load module_cost
-  pub is_sum : cost ≡ l.routing * load + module_cost
+  pub is_least : IsLeastModuleCostOn l (max load back) module_cost
+  pub is_sum : cost ≡ l.routing * (load + back) + module_cost
+
+-- one count for each module of the link of this number, together with a capacity of at least the load
+abbrev pub Carries : Parts → ℕ → ℕ → List ℕ → Type 0
+Carries p e = CarriesOn (link_at p e)
+
+-- some counts of the link of this number carry the load
+abbrev pub CanCarry : Parts → ℕ → ℕ → Type 0
+CanCarry p e = CanCarryOn (link_at p e)
+
+-- no counts of the link of this number carry the load
+abbrev pub CannotCarry : Parts → ℕ → ℕ → Type 0
+CannotCarry p e = CannotCarryOn (link_at p e)
+
+-- the least cost of counts that carry the load on the link of this number, in cost grains
+abbrev pub IsLeastModuleCost : Parts → ℕ → ℕ → ℕ → Type 0
+IsLeastModuleCost p e = IsLeastModuleCostOn (link_at p e)
+
+-- counts that carry the load on the link of this number, and none that carry it cost less
+abbrev pub AreLeastCounts : Parts → ℕ → ℕ → List ℕ → Type 0
+AreLeastCounts p e = AreLeastCountsOn (link_at p e)
+
+-- the routing cost of the loads of the places of the link of this number, and the least module cost of the larger one, in cost grains
+abbrev pub IsStepCost : Parts → ℕ → ℕ → ℕ → ℕ → Type 0
+IsStepCost p e = IsStepCostOn (link_at p e)
 
 -- it is the least module cost of a load from 0 to the total load
 pub record IsCostWithin (total : ℕ) (l : Link) (cost : ℕ) : Type 0 where
   pub load : ℕ
   pub within : load ≤ total
-  pub is_least : IsLeastModuleCost l load cost
+  pub is_least : IsLeastModuleCostOn l load cost
 
 -- some of the least module costs of the loads from 0 to the total load, in rising order
 pub record AreCostsWithin (total : ℕ) (l : Link) (costs : List ℕ) : Type 0 where

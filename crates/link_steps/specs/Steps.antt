@@ -205,22 +205,22 @@ pub record IsBestEnd (steps : List Step) (top slope : ℕ) (best : End) : Type 0
   pub is_end_of : IsEndOf steps top (length steps) best
   pub outdoes : (k : ℕ) → k < length steps → Outdoes slope best (end_at top (step_at steps k))
 
--- a thousand costs for each load grain at the end of a step, rounded down
-abbrev pub unit_at : List Step → ℕ → ℕ → ℕ
-unit_at steps top i = 1000 * (step_at steps i).cost / min (step_at steps i).reach top
+-- so many thousandths of a cost for each load grain at the end of a step, rounded down
+abbrev pub unit_at : ℕ → List Step → ℕ → ℕ → ℕ
+unit_at part steps top i = part * (step_at steps i).cost / min (step_at steps i).reach top
 
 -- what one of the first ends costs for each load grain
-pub record IsUnitOf (steps : List Step) (top count unit : ℕ) : Type 0 where
+pub record IsUnitOf (part : ℕ) (steps : List Step) (top count unit : ℕ) : Type 0 where
   pub place : ℕ
   pub within : place < count
   pub positive : 0 < min (step_at steps place).reach top
-  pub is_unit : unit ≡ unit_at steps top place
+  pub is_unit : unit ≡ unit_at part steps top place
 
 -- the least of these over the first ends past load 0
-abbrev pub IsLeastUnit : List Step → ℕ → ℕ → Option ℕ → Type 0
-IsLeastUnit steps top count None = (i : ℕ) → i < count → min (step_at steps i).reach top ≡ 0
-IsLeastUnit steps top count (Some unit) =
-    IsUnitOf steps top count unit × ((i : ℕ) → i < count → 0 < min (step_at steps i).reach top → unit ≤ unit_at steps top i)
+abbrev pub IsLeastUnit : ℕ → List Step → ℕ → ℕ → Option ℕ → Type 0
+IsLeastUnit part steps top count None = (i : ℕ) → i < count → min (step_at steps i).reach top ≡ 0
+IsLeastUnit part steps top count (Some unit) =
+    IsUnitOf part steps top count unit × ((i : ℕ) → i < count → 0 < min (step_at steps i).reach top → unit ≤ unit_at part steps top i)
 
 -- the best ends of all steps of a link
 pub record AreEndsOf (p : Parts) (l : Link) (ends : List End) : Type 0 where

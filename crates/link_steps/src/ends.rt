@@ -80,7 +80,7 @@ pub fn best_end(ends: &[End], slope: u128) -> End
     requires some { 0 < length ends.now }
     requires rising { AreRisingEnds ends.now }
     requires cost { (i : ℕ) → i < length ends.now → (end_in ends.now i).cost ≤ MAX_STEPS * MODULE_COST_BOUND }
-    requires slope { (i : ℕ) → i < length ends.now → slope * (end_in ends.now i).load ≤ MAX_PRICED_LOAD }
+    requires slope { (i : ℕ) → i < length ends.now → slope * (end_in ends.now i).load ≤ 2 * MAX_PRICED_LOAD }
     ensures { IsBestSoFar ends.now slope (length ends.now) result }
 {
     let mut best = ends[0];
@@ -97,24 +97,25 @@ pub fn best_end(ends: &[End], slope: u128) -> End
 /// A thousand costs less the slope times the load, in thousandths of a cost grain.
 pub fn value_of(end: End, slope: u128) -> i128
     requires cost { end.cost ≤ MAX_STEPS * MODULE_COST_BOUND }
-    requires slope { slope * end.load ≤ MAX_PRICED_LOAD }
+    requires slope { slope * end.load ≤ 2 * MAX_PRICED_LOAD }
     ensures { result ≡ (pos (1000 * end.cost) -ℤ pos (slope * end.load)) }
 {
     (1000 * end.cost) as i128 - (slope * u128::from(end.load)) as i128
 }
 
-/// The least of a thousand costs for each load grain, rounded down, over the ends past load 0.
-pub fn least_unit(steps: &[Step], top: u64) -> Option<u128>
+/// The least of so many thousandths of a cost for each load grain, rounded down, over the ends past load 0.
+pub fn least_unit(part: u128, steps: &[Step], top: u64) -> Option<u128>
+    requires part { part ≤ 1000 }
     requires in_order { AreInOrder steps.now }
     requires few { length steps.now ≤ MAX_STEPS }
-    ensures least { IsLeastUnit steps.now top (length steps.now) result }
+    ensures least { IsLeastUnit part steps.now top (length steps.now) result }
     ensures within { IfSome result (λ unit. unit ≤ 1000 * (MAX_STEPS * MODULE_COST_BOUND)) }
 {
     let mut least: Option<u128> = None;
     for step in steps {
         let end = end_of(*step, top);
         if end.load > 0 {
-            least = Some(smaller(least, 1000 * end.cost / u128::from(end.load)));
+            least = Some(smaller(least, part * end.cost / u128::from(end.load)));
         }
     }
     least

@@ -6,41 +6,41 @@ ghost use Rattle.plan_base.specs.declared.parts.Parts.{Parts as AnyParts};
 ghost use Rattle.plan_base.specs.declared.path.Design.{Design as AnyDesign};
 ghost use Rattle.plan_base.specs.Facts.{total_load, top_load};
 ghost use Rattle.plan_base.specs.Arcs.{link_at};
-ghost use Rattle.plan_base.specs.Designs.{load_on, counts_at, module_cost_with, IsDesign, IsFeasible};
+ghost use Rattle.plan_base.specs.Designs.{need, counts_at, module_cost_with, IsDesign, IsFeasible};
 ghost use Rattle.link_steps.specs.Costs.{CanCarry, Carries, IsLeastModuleCost, HasAtMostSteps, HasMoreSteps};
 
 /// Up to the total load, a least module cost is defined exactly where the load is at most the top load.
 pub fn defined_up_to_top()
-    ensures defined { (p : AnyParts) (l : AnyLink) (load : ℕ) → load ≤ top_load p l → (cost : ℕ) × IsLeastModuleCost l load cost }
-    ensures only { (p : AnyParts) (l : AnyLink) (load cost : ℕ) → load ≤ total_load p → IsLeastModuleCost l load cost → load ≤ top_load p l }
+    ensures defined { (p : AnyParts) (e load : ℕ) → load ≤ top_load p (link_at p e) → (cost : ℕ) × IsLeastModuleCost p e load cost }
+    ensures only { (p : AnyParts) (e load cost : ℕ) → load ≤ total_load p → IsLeastModuleCost p e load cost → load ≤ top_load p (link_at p e) }
 {}
 
 /// A least module cost is defined for each load that some counts carry.
 pub fn defined_where_carried()
-    ensures { (l : AnyLink) (load : ℕ) → CanCarry l load → (cost : ℕ) × IsLeastModuleCost l load cost }
+    ensures { (p : AnyParts) (e load : ℕ) → CanCarry p e load → (cost : ℕ) × IsLeastModuleCost p e load cost }
 {}
 
 /// The least module cost never falls as the load grows.
 pub fn never_falls()
-    ensures { (l : AnyLink) (low high low_cost high_cost : ℕ) → low ≤ high
-        → IsLeastModuleCost l low low_cost → IsLeastModuleCost l high high_cost → low_cost ≤ high_cost }
+    ensures { (p : AnyParts) (e low high low_cost high_cost : ℕ) → low ≤ high
+        → IsLeastModuleCost p e low low_cost → IsLeastModuleCost p e high high_cost → low_cost ≤ high_cost }
 {}
 
 /// Counts that carry a load cost at least its least module cost.
 pub fn least_is_least()
-    ensures { (l : AnyLink) (counts : List ℕ) (load cost : ℕ)
-        → Carries l load counts → IsLeastModuleCost l load cost → cost ≤ module_cost_with l counts }
+    ensures { (p : AnyParts) (e : ℕ) (counts : List ℕ) (load cost : ℕ)
+        → Carries p e load counts → IsLeastModuleCost p e load cost → cost ≤ module_cost_with (link_at p e) counts }
 {}
 
 /// The modules that a feasible design installs on a link cost at least the least module cost of its load there.
 pub fn designs_cost_the_least()
     ensures { (p : AnyParts) (d : AnyDesign) (e cost : ℕ) → IsDesign p d → IsFeasible p d → e < length p.links
-        → IsLeastModuleCost (link_at p e) (load_on p d e) cost → cost ≤ module_cost_with (link_at p e) (counts_at d e) }
+        → IsLeastModuleCost p e (need p d e) cost → cost ≤ module_cost_with (link_at p e) (counts_at d e) }
 {}
 
 /// A load has one least module cost.
 pub fn least_is_one()
-    ensures { (l : AnyLink) (load a b : ℕ) → IsLeastModuleCost l load a → IsLeastModuleCost l load b → a ≡ b }
+    ensures { (p : AnyParts) (e load a b : ℕ) → IsLeastModuleCost p e load a → IsLeastModuleCost p e load b → a ≡ b }
 {}
 
 /// No link has at most so many steps and more.

@@ -8,13 +8,15 @@ use crate::step::Step;
 use plan_base::Link;
 use std::alloc::{AllocError, Global};
 
-/// The least value that prices give to a link, and the smallest load that gives it.
+/// The least value that prices give to a link, and the smallest loads that give it.
 #[derive(Clone, Copy, Debug, PartialEq, Eq)]
 pub struct LinkValue {
     /// In thousandths of a cost grain.
     pub value: i128,
-    /// In load grains.
+    /// The load of its place, in load grains.
     pub load: u64,
+    /// The load of its other place, the one of its arc back, in load grains, and 0 where it has one place.
+    pub back: u64,
 }
 
 /// How many steps are looked at one by one before the others are halved.

@@ -1,11 +1,12 @@
 //! The step table: the least module costs of all links of an instance.
 
-ghost use Rattle.std.specs.Prelude.{ℕ, ◌≡◌, ◌<◌, ◌≤◌, ◌-◌, ◌*◌, ◌-ℤ◌, ◌≤ℤ◌, pos, length, All, IfOk, IfErr, IfSome, IfNone};
+ghost use Rattle.std.specs.Prelude.{ℕ, false, ◌≡◌, ◌<◌, ◌≤◌, ◌-◌, ◌*◌, ◌-ℤ◌, ◌≤ℤ◌, pos, length, All, IfOk, IfErr, IfSome, IfNone};
 ghost use Rattle.plan_base.specs.Facts.{total_load, top_load, price_limit, IsInstance};
 ghost use Rattle.plan_base.specs.Arcs.{link_at};
 ghost use Rattle.plan_base.specs.Designs.{AreCountsInShape};
 ghost use Rattle.link_steps.specs.Costs.{CannotCarry, IsLeastModuleCost, AreLeastCounts, HasSteps, HasAtMostSteps, IsFaultOf};
-ghost use Rattle.link_steps.specs.Values.{IsLinkValue, IsFirstLoad, IsStartPrice, AreStartPrices};
+ghost use Rattle.link_steps.specs.Values.{share, top_back, IsLinkValue, IsValueTotal, AreFirstLoads, IsStartPrice, AreStartPrices};
+ghost use Rattle.plan_base.specs.Places.{is_two_way, places};
 
 use crate::ends::{End, best_end, best_ends, least_unit, value_of};
 use crate::limits::MAX_STEPS;
@@ -17,6 +18,14 @@ use plan_base::limits::{MAX_PRICED_LOAD, MODULE_COST_BOUND};
 use plan_base::{Instance, Items, LinkId, Prices};
 use std::alloc::{AllocError, Global};
 use std::marker::Model;
+
+/// The load where a slope is, and none where there is no slope.
+fn load_at_slope(slope: u128, load: u64) -> u64
+    ensures sloping { 0 < slope → result ≡ load }
+    ensures level { slope ≡ 0 → result ≡ 0 }
+{
+    if slope > 0 { load } else { 0 }
+}
 
 /// The least module costs of all links of an instance, of which it keeps a copy.
 #[derive(Debug, Drop)]
@@ -91,8 +100,8 @@ impl StepTable {
     pub fn at(&self, link: LinkId, load: u64) -> Option<u128>
         requires link { link.0 < length self.now.links }
         requires load { load ≤ total_load self.now }
-        ensures least { IfSome result (IsLeastModuleCost (link_at self.now link.0) load) }
-        ensures none { IfNone result (CannotCarry (link_at self.now link.0) load) }
+        ensures least { IfSome result (IsLeastModuleCost self.now link.0 load) }
+        ensures none { IfNone result (CannotCarry self.now link.0 load) }
         ensures within { IfSome result (λ cost. cost ≤ (MAX_STEPS - 1) * MODULE_COST_BOUND) }
     {
         let steps = self.steps_of_link(link);
@@ -114,8 +123,8 @@ impl StepTable {
     pub fn at_near(&self, link: LinkId, load: u64, near: u32) -> Option<PlacedCost>
         requires link { link.0 < length self.now.links }
         requires load { load ≤ total_load self.now }
-        ensures least { IfSome result (λ found. IsLeastModuleCost (link_at self.now link.0) load found.cost) }
-        ensures none { IfNone result (CannotCarry (link_at self.now link.0) load) }
+        ensures least { IfSome result (λ found. IsLeastModuleCost self.now link.0 load found.cost) }
+        ensures none { IfNone result (CannotCarry self.now link.0 load) }
         ensures within { IfSome result (λ found. found.cost ≤ (MAX_STEPS - 1) * MODULE_COST_BOUND) }
     {
         let steps = self.steps_of_link(link);
@@ -145,9 +154,9 @@ impl StepTable {
     ) -> Result<Option<Items<u64>>, AllocError>
         requires link { link.0 < length self.now.links }
         requires load { load ≤ total_load self.now }
-        ensures least { IfOk result (λ found. IfSome found (AreLeastCounts (link_at self.now link.0) load)) }
+        ensures least { IfOk result (λ found. IfSome found (AreLeastCounts self.now link.0 load)) }
         ensures in_shape { IfOk result (λ found. IfSome found (AreCountsInShape (link_at self.now link.0))) }
-        ensures none { IfOk result (λ found. IfNone found (CannotCarry (link_at self.now link.0) load)) }
+        ensures none { IfOk result (λ found. IfNone found (CannotCarry self.now link.0 load)) }
     {
         let steps = self.steps_of_link(link);
         let place = first_reaching(steps, load);
@@ -170,36 +179,80 @@ impl StepTable {
         self.steps_of_link(link).len() as u32
     }
 
-    /// The least that a price leaves of the step costs of a link: of a thousand step costs less the price times the
-    /// load, over the loads from 0 to the top load. Takes no memory.
+    /// The least that prices leave of the step costs of a link: of a thousand step costs less the prices times the
+    /// loads, over the loads of its places from 0 to the top load. Takes no memory.
     ///
-    /// - Takes: a link of the instance; a price of at most the price limit, in thousandths of a cost grain per load grain.
-    /// - Gives: that value, in thousandths of a cost grain, and the smallest load that gives it, in load grains.
+    /// - Takes: a link of the instance; the prices of its places, each of at most the price limit, in thousandths of a
+    ///   cost grain per load grain, the second 0 where it has one place.
+    /// - Gives: that value, in thousandths of a cost grain, and of the loads that give it those whose larger one is
+    ///   smallest, and then each as small as possible, in load grains.
     /// - Rule: docs/DEFINITIONS.md, "Link value".
     /// - Time: the number of corners of the lower hull of the ends of steps, which are few.
-    pub fn link_value(&self, link: LinkId, price: u128) -> LinkValue
+    pub fn link_value(&self, link: LinkId, price: u128, back: u128) -> LinkValue
         requires link { link.0 < length self.now.links }
         requires price { price ≤ price_limit self.now }
-        ensures value { IsLinkValue self.now (link_at self.now link.0) price result.value }
-        ensures load { IsFirstLoad (link_at self.now link.0) price result.value result.load }
+        requires back { back ≤ price_limit self.now }
+        requires one_way { is_two_way self.now.orient ≡ false → back ≡ 0 }
+        ensures value { IsLinkValue self.now (link_at self.now link.0) price back result.value }
+        ensures loads { AreFirstLoads self.now (link_at self.now link.0) price back result.value result.load result.back }
         ensures load_within { result.load ≤ top_load self.now (link_at self.now link.0) }
+        ensures back_within { result.back ≤ top_back self.now (link_at self.now link.0) }
         ensures not_positive { result.value ≤ℤ pos 0 }
-        ensures bounded { (pos 0 -ℤ pos MAX_PRICED_LOAD) ≤ℤ result.value }
+        ensures bounded { (pos 0 -ℤ pos (2 * MAX_PRICED_LOAD)) ≤ℤ result.value }
     {
         let ends = self.ends_of_link(link);
         let routing = 1000 * u128::from(self.inst.link(link).routing);
-        if price <= routing {
-            return LinkValue { value: 0, load: 0 };
+        let slope = price.saturating_sub(routing);
+        let back_slope = back.saturating_sub(routing);
+        let whole = slope + back_slope;
+        if whole == 0 {
+            return LinkValue {
+                value: 0,
+                load: 0,
+                back: 0,
+            };
         }
-        let slope = price - routing;
-        let end = best_end(ends, slope);
+        let end = best_end(ends, whole);
         LinkValue {
-            value: value_of(end, slope),
-            load: end.load,
+            value: value_of(end, whole),
+            load: load_at_slope(slope, end.load),
+            back: load_at_slope(back_slope, end.load),
         }
     }
 
-    /// The start price of a link, in thousandths of a cost grain per load grain.
+    /// The sum of the values of all links at these prices. Takes no memory.
+    ///
+    /// - Takes: one price for each place, of at most the price limit, in thousandths of a cost grain per load grain.
+    /// - Gives: thousandths of a cost grain; never more than 0.
+    /// - Rule: docs/DEFINITIONS.md, "Link value".
+    /// - Time: one link value for each link.
+    pub fn value_total(&self, prices: &Prices) -> i128
+        requires count { length prices.now ≡ places self.now }
+        requires limit { All (λ price. price ≤ price_limit self.now) prices.now }
+        ensures { IsValueTotal self.now prices.now (length self.now.links) result }
+    {
+        let mut total = 0;
+        for place in 0..self.inst.links() {
+            let link = LinkId(place);
+            let priced = prices.of_link(&self.inst, link);
+            total += self.link_value(link, priced.there, priced.back).value;
+        }
+        total
+    }
+
+    /// The thousandths of a module cost that the price of each place of a link has to bear.
+    fn share(&self) -> u128
+        ensures value { result ≡ share self.now }
+        ensures within { result ≤ 1000 }
+    {
+        if self.inst.orient().is_two_way() {
+            500
+        } else {
+            1000
+        }
+    }
+
+    /// The start price of the places of a link, in thousandths of a cost grain per load grain.
     fn start_price(&self, link: LinkId) -> u128
         requires lawful { IsInstance self.now }
         requires link { link.0 < length self.now.links }
@@ -207,16 +260,16 @@ impl StepTable {
         ensures within { result ≤ price_limit self.now }
     {
         let steps = self.steps_of_link(link);
-        match least_unit(steps, self.inst.top_load(link)) {
+        match least_unit(self.share(), steps, self.inst.top_load(link)) {
             None => self.inst.price_limit(),
             Some(unit) => 1000 * u128::from(self.inst.link(link).routing) + unit,
         }
     }
 
-    /// The start prices: at each link the greatest whole price that leaves nothing negative, and the price limit where
-    /// the link may carry no load.
+    /// The start prices: at each place the greatest whole price that leaves nothing negative where the other place of
+    /// its link has the same, and the price limit where the link may carry no load.
     ///
-    /// - Gives: one price for each link, in order, in thousandths of a cost grain per load grain.
+    /// - Gives: one price for each place, in order, in thousandths of a cost grain per load grain.
     /// - Errors: want of memory alone.
     /// - Rule: docs/DEFINITIONS.md, "Start prices".
     /// - Time: the number of steps of all links.
@@ -225,8 +278,8 @@ impl StepTable {
         ensures within { IfOk result (All (λ price. price ≤ price_limit self.now)) }
     {
         let mut numerators = Vec::new(alloc);
-        for place in 0..self.inst.links() {
-            numerators.push(self.start_price(LinkId(place)))?;
+        for place in 0..self.inst.places() {
+            numerators.push(self.start_price(self.inst.link_of_place(place)))?;
         }
         Ok(Prices::from_vec(numerators))
     }

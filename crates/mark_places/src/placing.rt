@@ -73,8 +73,8 @@ fn bend_of(orient: Orient, before: u32) -> i64 {
     let before = i64::from(before.min(20));
     match orient {
         Orient::Directed => 26 + 36 * before,
-        Orient::Undirected if before % 2 == 0 => 0 - 22 * before,
-        Orient::Undirected => 22 * (before + 1),
+        Orient::Undirected | Orient::Bidirected if before % 2 == 0 => 0 - 22 * before,
+        Orient::Undirected | Orient::Bidirected => 22 * (before + 1),
     }
 }
 
@@ -120,7 +120,7 @@ fn bend_spot(source: Spot, target: Spot, bend: i64) -> Spot {
 fn are_twins(one: &Span, other: &Span, orient: Orient) -> bool {
     let same = other.source == one.source && other.target == one.target;
     let turned = other.source == one.target && other.target == one.source;
-    same || turned && orient == Orient::Undirected
+    same || turned && orient.goes_back()
 }
 
 /// How many of these links have the ends of this one, in either order unless links are directed.

@@ -6,21 +6,22 @@ use Rattle.std.proofs.lemmas.Bool.{ltb-true, ltb-false}
 use Rattle.std.proofs.lemmas.List.{append-nil}
 use Rattle.std.proofs.lemmas.List.Elements.{All-push, All-nil, All-cons}
 use Rattle.plan_base.specs.declared.ids.ArcId.{ArcId}
+use Rattle.plan_base.specs.declared.parts.Parts.{Parts}
 use Rattle.arc_restrict.specs.Prices.{price_of}
 use Rattle.master_step.specs.Columns.{cheaper, least_column, IsFirstLeast}
 
-fold_push : (prices : List ℕ) (best : List ArcId) (paths : List (List ArcId)) (path : List ArcId) → fold (cheaper prices) best (paths ++ path ∷ []) ≡ cheaper prices (fold (cheaper prices) best paths) path
-fold_push prices best [] path = refl
-fold_push prices best (other ∷ paths) path = fold_push prices (cheaper prices best other) paths path
+fold_push : (p : Parts) (prices : List ℕ) (best : List ArcId) (paths : List (List ArcId)) (path : List ArcId) → fold (cheaper p prices) best (paths ++ path ∷ []) ≡ cheaper p prices (fold (cheaper p prices) best paths) path
+fold_push p prices best [] path = refl
+fold_push p prices best (other ∷ paths) path = fold_push p prices (cheaper p prices best other) paths path
 
-pub least_column-one : (prices : List ℕ) (path : List ArcId) → least_column prices (path ∷ []) ≡ path
+pub least_column-one : (p : Parts) (prices : List ℕ) (path : List ArcId) → least_column p prices (path ∷ []) ≡ path
 unfolding least_column
-least_column-one prices path = refl
+least_column-one p prices path = refl
 
-pub least_column-push : (prices : List ℕ) (paths : List (List ArcId)) (path : List ArcId) → 0 < length paths → least_column prices (paths ++ path ∷ []) ≡ cheaper prices (least_column prices paths) path
+pub least_column-push : (p : Parts) (prices : List ℕ) (paths : List (List ArcId)) (path : List ArcId) → 0 < length paths → least_column p prices (paths ++ path ∷ []) ≡ cheaper p prices (least_column p prices paths) path
 unfolding least_column
-least_column-push prices [] path some = absurd (omega arith)
-least_column-push prices (first ∷ paths) path some = fold_push prices first paths path
+least_column-push p prices [] path some = absurd (omega arith)
+least_column-push p prices (first ∷ paths) path some = fold_push p prices first paths path
 
 slice_get-append_left : (xs ys : List (List ArcId)) (i : ℕ) (z : List ArcId) → slice_get xs i ≡ Some z → slice_get (xs ++ ys) i ≡ Some z
 slice_get-append_left [] ys i z is = absurd (let bad : ◌≡◌ {A = Option (List ArcId)} None (Some z) = is in cc)
@@ -47,45 +48,45 @@ slice_get-get (x ∷ xs) zero z is = cc
 slice_get-get (x ∷ xs) (suc i) z is = slice_get-get xs i z is
 
 -- a column that is read costs at least the least one
-not_less : (prices : List ℕ) (paths : List (List ArcId)) (best : List ArcId) (i : ℕ) (other : List ArcId) → All (λ x. price_of prices best ≤ price_of prices x) paths → slice_get paths i ≡ Some other → price_of prices best ≤ price_of prices other
-not_less prices paths best i other all is =
-    subst (λ (x : List ArcId). price_of prices best ≤ price_of prices x) (slice_get-get paths i other is) (all i other (slice_get-within paths i other is))
+not_less : (p : Parts) (prices : List ℕ) (paths : List (List ArcId)) (best : List ArcId) (i : ℕ) (other : List ArcId) → All (λ x. price_of p prices best ≤ price_of p prices x) paths → slice_get paths i ≡ Some other → price_of p prices best ≤ price_of p prices other
+not_less p prices paths best i other all is =
+    subst (λ (x : List ArcId). price_of p prices best ≤ price_of p prices x) (slice_get-get paths i other is) (all i other (slice_get-within paths i other is))
 
 -- one column more
-first_least-push : (prices : List ℕ) (paths : List (List ArcId)) (best path : List ArcId) → IsFirstLeast prices paths best → IsFirstLeast prices (paths ++ path ∷ []) (cheaper prices best path)
-first_least-push prices paths best path h = by (nat_lt (price_of prices path) (price_of prices best)) refl
+first_least-push : (p : Parts) (prices : List ℕ) (paths : List (List ArcId)) (best path : List ArcId) → IsFirstLeast p prices paths best → IsFirstLeast p prices (paths ++ path ∷ []) (cheaper p prices best path)
+first_least-push p prices paths best path h = by (nat_lt (price_of p prices path) (price_of p prices best)) refl
   where
-    by : (b : Bool) → nat_lt (price_of prices path) (price_of prices best) ≡ b → IsFirstLeast prices (paths ++ path ∷ []) (if b then path else best)
+    by : (b : Bool) → nat_lt (price_of p prices path) (price_of p prices best) ≡ b → IsFirstLeast p prices (paths ++ path ∷ []) (if b then path else best)
     by true less =
-        let below : price_of prices path < price_of prices best = ltb-true _ _ less in
+        let below : price_of p prices path < price_of p prices best = ltb-true _ _ less in
         record {
           place = length paths;
           is_path = slice_get-last paths path;
-          least = All-push (λ x. price_of prices path ≤ price_of prices x) paths path (λ k d within. (let most = h.least k d within in omega arith)) (omega arith);
-          first = λ i other before is. (let most = not_less prices paths best i other h.least (slice_get-front paths (path ∷ []) i other before is) in omega arith);
+          least = All-push (λ x. price_of p prices path ≤ price_of p prices x) paths path (λ k d within. (let most = h.least k d within in omega arith)) (omega arith);
+          first = λ i other before is. (let most = not_less p prices paths best i other h.least (slice_get-front paths (path ∷ []) i other before is) in omega arith);
         }
     by false more =
-        let above : price_of prices best ≤ price_of prices path = ltb-false _ _ more in
+        let above : price_of p prices best ≤ price_of p prices path = ltb-false _ _ more in
         record {
           place = h.place;
           is_path = slice_get-append_left paths (path ∷ []) h.place best h.is_path;
-          least = All-push (λ x. price_of prices best ≤ price_of prices x) paths path h.least above;
+          least = All-push (λ x. price_of p prices best ≤ price_of p prices x) paths path h.least above;
           first = λ i other before is. h.first i other before (slice_get-front paths (path ∷ []) i other (let place = slice_get-within paths h.place best h.is_path in omega arith) is);
         }
 
-first_least-fold : (prices : List ℕ) (rest done : List (List ArcId)) (best : List ArcId) → IsFirstLeast prices done best → IsFirstLeast prices (done ++ rest) (fold (cheaper prices) best rest)
-first_least-fold prices [] done best h = subst (λ (xs : List (List ArcId)). IsFirstLeast prices xs best) (sym (append-nil done)) h
-first_least-fold prices (path ∷ rest) done best h =
-    subst (λ (xs : List (List ArcId)). IsFirstLeast prices xs (fold (cheaper prices) (cheaper prices best path) rest)) (append_assoc done (path ∷ []) rest)
-    (first_least-fold prices rest (done ++ path ∷ []) (cheaper prices best path) (first_least-push prices done best path h))
+first_least-fold : (p : Parts) (prices : List ℕ) (rest done : List (List ArcId)) (best : List ArcId) → IsFirstLeast p prices done best → IsFirstLeast p prices (done ++ rest) (fold (cheaper p prices) best rest)
+first_least-fold p prices [] done best h = subst (λ (xs : List (List ArcId)). IsFirstLeast p prices xs best) (sym (append-nil done)) h
+first_least-fold p prices (path ∷ rest) done best h =
+    subst (λ (xs : List (List ArcId)). IsFirstLeast p prices xs (fold (cheaper p prices) (cheaper p prices best path) rest)) (append_assoc done (path ∷ []) rest)
+    (first_least-fold p prices rest (done ++ path ∷ []) (cheaper p prices best path) (first_least-push p prices done best path h))
 
-pub first_least : (prices : List ℕ) (paths : List (List ArcId)) → 0 < length paths → IsFirstLeast prices paths (least_column prices paths)
+pub first_least : (p : Parts) (prices : List ℕ) (paths : List (List ArcId)) → 0 < length paths → IsFirstLeast p prices paths (least_column p prices paths)
 unfolding least_column
-first_least prices [] some = absurd (omega arith)
-first_least prices (first ∷ paths) some =
-    first_least-fold prices paths (first ∷ []) first (record {
+first_least p prices [] some = absurd (omega arith)
+first_least p prices (first ∷ paths) some =
+    first_least-fold p prices paths (first ∷ []) first (record {
       place = 0;
       is_path = refl;
-      least = All-cons (λ x. price_of prices first ≤ price_of prices x) first [] (omega arith) (All-nil (λ x. price_of prices first ≤ price_of prices x));
+      least = All-cons (λ x. price_of p prices first ≤ price_of p prices x) first [] (omega arith) (All-nil (λ x. price_of p prices first ≤ price_of p prices x));
       first = λ i other before is. absurd (omega arith);
     })

@@ -3,7 +3,8 @@ pub mod Uniqueness
 pub mod Looking
 pub mod SmallPrices
 pub mod SmallValues
-pub mod LinkLoads
+pub mod PlaceLaws
+pub mod PlaceLoads
 pub mod Moves
 pub mod Trying
 pub mod Rising

@@ -18,7 +18,7 @@ use Rattle.master_step.specs.Columns.{least_column, least_price}
 use Rattle.master_step.specs.Choosing.{all_of, is_allowed, allowed_of, IsSource, IsLeastAt, IsLeastOf, cheaper_of}
 use Rattle.master_step.proofs.LeastColumns.{least_column-one, least_column-push}
 
-module _ (prices : List ℕ) (test : List ArcId → Bool) (all : List (List ArcId)) (n : ℕ) (within : n < length all) where
+module _ (p : Parts) (prices : List ℕ) (test : List ArcId → Bool) (all : List (List ArcId)) (n : ℕ) (within : n < length all) where
   -- the columns that pass before a place
   abbrev passing : ℕ → List (List ArcId)
   passing count = filter test (take count all)
@@ -34,47 +34,47 @@ module _ (prices : List ℕ) (test : List ArcId → Bool) (all : List (List ArcI
       rw passes at next
 
   -- a column that does not pass
-  pub least-skip : (least : Option Least) → test (get_or all n []) ≡ false → IsLeastOf prices test all n least → IsLeastOf prices test all (n + 1) least
+  pub least-skip : (least : Option Least) → test (get_or all n []) ≡ false → IsLeastOf p prices test all n least → IsLeastOf p prices test all (n + 1) least
   least-skip None fails h = passing-skip fails ∙ h
   least-skip (Some least) fails h =
       let same = passing-skip fails in
       record {
         some = subst (λ (xs : List (List ArcId)). 0 < length xs) (sym same) h.some;
         within = (let w = h.within in omega arith);
-        is_path = h.is_path ∙ ap (least_column prices) (sym same);
-        is_price = h.is_price ∙ ap (least_price prices) (sym same);
+        is_path = h.is_path ∙ ap (least_column p prices) (sym same);
+        is_price = h.is_price ∙ ap (least_price p prices) (sym same);
       }
 
   -- a column that passes, of this price
-  pub least-more : (least : Option Least) (price : ℕ) → test (get_or all n []) ≡ true → price ≡ price_of prices (get_or all n []) → IsLeastOf prices test all n least
-      → IsLeastOf prices test all (n + 1) (Some (cheaper_of least (record { place = n; price = price })))
+  pub least-more : (least : Option Least) (price : ℕ) → test (get_or all n []) ≡ true → price ≡ price_of p prices (get_or all n []) → IsLeastOf p prices test all n least
+      → IsLeastOf p prices test all (n + 1) (Some (cheaper_of least (record { place = n; price = price })))
   least-more None price passes is h =
       let one : passing (n + 1) ≡ get_or all n [] ∷ [] = passing-more passes ∙ ap (λ (xs : List (List ArcId)). xs ++ get_or all n [] ∷ []) h in
-      let path : get_or all n [] ≡ least_column prices (passing (n + 1)) = sym (ap (least_column prices) one ∙ least_column-one prices (get_or all n [])) in
+      let path : get_or all n [] ≡ least_column p prices (passing (n + 1)) = sym (ap (least_column p prices) one ∙ least_column-one p prices (get_or all n [])) in
       record {
         some = subst (λ (xs : List (List ArcId)). 0 < length xs) (sym one) (omega arith);
         within = omega arith;
         is_path = path;
-        is_price = is ∙ ap (price_of prices) path;
+        is_price = is ∙ ap (price_of p prices) path;
       }
   least-more (Some least) price passes is h = by (nat_lt price least.price) refl
     where
       longer : 0 < length (passing (n + 1))
       longer = subst (λ (xs : List (List ArcId)). 0 < length xs) (sym (passing-more passes)) (omega (arith, length-append (passing n) (get_or all n [] ∷ [])))
 
-      pushed : least_column prices (passing (n + 1)) ≡ (if nat_lt (price_of prices (get_or all n [])) (least_price prices (passing n)) then get_or all n [] else least_column prices (passing n))
-      pushed = ap (least_column prices) (passing-more passes) ∙ least_column-push prices (passing n) (get_or all n []) h.some
+      pushed : least_column p prices (passing (n + 1)) ≡ (if nat_lt (price_of p prices (get_or all n [])) (least_price p prices (passing n)) then get_or all n [] else least_column p prices (passing n))
+      pushed = ap (least_column p prices) (passing-more passes) ∙ least_column-push p prices (passing n) (get_or all n []) h.some
 
-      tested : nat_lt (price_of prices (get_or all n [])) (least_price prices (passing n)) ≡ nat_lt price least.price
-      tested = ap (λ (x : ℕ). nat_lt x (least_price prices (passing n))) (sym is) ∙ ap (nat_lt price) (sym h.is_price)
+      tested : nat_lt (price_of p prices (get_or all n [])) (least_price p prices (passing n)) ≡ nat_lt price least.price
+      tested = ap (λ (x : ℕ). nat_lt x (least_price p prices (passing n))) (sym is) ∙ ap (nat_lt price) (sym h.is_price)
 
-      by : (b : Bool) → nat_lt price least.price ≡ b → IsLeastAt prices test all (n + 1) (if b then record { place = n; price = price } else least)
+      by : (b : Bool) → nat_lt price least.price ≡ b → IsLeastAt p prices test all (n + 1) (if b then record { place = n; price = price } else least)
       by true less =
-          let path : get_or all n [] ≡ least_column prices (passing (n + 1)) = sym (pushed ∙ rw (tested ∙ less) refl) in
-          record { some = longer; within = omega arith; is_path = path; is_price = is ∙ ap (price_of prices) path }
+          let path : get_or all n [] ≡ least_column p prices (passing (n + 1)) = sym (pushed ∙ rw (tested ∙ less) refl) in
+          record { some = longer; within = omega arith; is_path = path; is_price = is ∙ ap (price_of p prices) path }
       by false more =
-          let path : least_column prices (passing n) ≡ least_column prices (passing (n + 1)) = sym (pushed ∙ rw (tested ∙ more) refl) in
-          record { some = longer; within = (let w = h.within in omega arith); is_path = h.is_path ∙ path; is_price = h.is_price ∙ ap (price_of prices) path }
+          let path : least_column p prices (passing n) ≡ least_column p prices (passing (n + 1)) = sym (pushed ∙ rw (tested ∙ more) refl) in
+          record { some = longer; within = (let w = h.within in omega arith); is_path = h.is_path ∙ path; is_price = h.is_price ∙ ap (price_of p prices) path }
 
 -- a test that tells whether the path is permitted
 pub permits-is : (r : Forbidden) (k : ℕ) (path : List ArcId) (told : Bool) → (told ≡ true → IsPermitted r k path) → (IsPermitted r k path → told ≡ true) → told ≡ is_permitted r k path
@@ -86,15 +86,15 @@ permits-is r k path false shows shown = by (is_permitted r k path) refl
     by false e = sym e
 
 -- the least of all columns of a demand is its least column
-pub least-column : (p : Parts) (source : Source) (prices : List ℕ) (k : ℕ) (least : Least) → IsLeastAt prices (is_allowed source k) (all_of source k) (length (all_of source k)) least
-    → get_or (all_of source k) least.place [] ≡ least_column prices (allowed_of source k)
+pub least-column : (p : Parts) (source : Source) (prices : List ℕ) (k : ℕ) (least : Least) → IsLeastAt p prices (is_allowed source k) (all_of source k) (length (all_of source k)) least
+    → get_or (all_of source k) least.place [] ≡ least_column p prices (allowed_of source k)
 least-column p source prices k least h =
-    h.is_path ∙ ap (λ (xs : List (List ArcId)). least_column prices (filter (is_allowed source k) xs)) (take_all (length (all_of source k)) (all_of source k) (omega arith))
+    h.is_path ∙ ap (λ (xs : List (List ArcId)). least_column p prices (filter (is_allowed source k) xs)) (take_all (length (all_of source k)) (all_of source k) (omega arith))
 
-pub least-price : (p : Parts) (source : Source) (prices : List ℕ) (k : ℕ) (least : Least) → IsLeastAt prices (is_allowed source k) (all_of source k) (length (all_of source k)) least
-    → least.price ≡ least_price prices (allowed_of source k)
+pub least-price : (p : Parts) (source : Source) (prices : List ℕ) (k : ℕ) (least : Least) → IsLeastAt p prices (is_allowed source k) (all_of source k) (length (all_of source k)) least
+    → least.price ≡ least_price p prices (allowed_of source k)
 least-price p source prices k least h =
-    h.is_price ∙ ap (λ (xs : List (List ArcId)). least_price prices (filter (is_allowed source k) xs)) (take_all (length (all_of source k)) (all_of source k) (omega arith))
+    h.is_price ∙ ap (λ (xs : List (List ArcId)). least_price p prices (filter (is_allowed source k) xs)) (take_all (length (all_of source k)) (all_of source k) (omega arith))
 
 -- where no column passes, the demand has none
 pub none_passes : (source : Source) (prices : List ℕ) (k : ℕ) → filter (is_allowed source k) (take (length (all_of source k)) (all_of source k)) ≡ [] → length (allowed_of source k) ≡ 0

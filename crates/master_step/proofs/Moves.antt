@@ -3,20 +3,20 @@ use Rattle.std.proofs.Math.Nat.{mul-le-mul, pow-le-pow_right, one-le-pow}
 use Rattle.std.proofs.Common.{Vec, Global, add-one, pow-suc, ◌≡◌, ℕ, ◌+◌, ◌*◌, ◌^◌, ◌<◌, ◌≤◌, List, length, slice_index, sym, ap, subst, ◌∙◌, arith}
 use Rattle.plan_base.specs.declared.parts.Parts.{Parts}
 use Rattle.plan_base.specs.Facts.{price_limit, total_load}
-use Rattle.plan_base.specs.Arcs.{link_at}
-use Rattle.plan_base.specs.declared.limits.TheConstants.{MAX_LINKS, MAX_TOTAL_LOAD}
+use Rattle.plan_base.specs.Places.{places}
+use Rattle.plan_base.specs.declared.limits.TheConstants.{MAX_PLACES, MAX_TOTAL_LOAD}
 use Rattle.master_step.specs.declared.rows.Rows.{Rows}
 use Rattle.master_step.specs.Columns.{Choices}
 use Rattle.master_step.specs.Trials.{column_load, AreValueLoads, apart, widest_gap, greatest_price, moved, IsTrial}
 use Rattle.master_step.specs.Climbing.{HasLoads, HasRoom, AreLow, AreMoved}
-use Rattle.master_step.proofs.Uniqueness.{max_below-same, value_load-unique}
+use Rattle.master_step.proofs.Uniqueness.{max_below-same, place-unique}
 
 module _ (p : Parts) (choices : Choices) (prices : List ℕ) (rows : Rows) (loads : HasLoads p choices prices rows) where
   -- the widest gap of the rows
   pub widest-rows : widest_gap p (slice_index rows.column_loads.items) (slice_index rows.value_loads.items) ≡ widest_gap p (column_load p choices prices) (slice_index rows.value_loads.items)
   widest-rows =
-      max_below-same (λ e. apart (slice_index rows.column_loads.items e) (slice_index rows.value_loads.items e)) (λ e. apart (column_load p choices prices e) (slice_index rows.value_loads.items e)) (length p.links)
-      (λ e below. ap (λ (x : ℕ). apart x (slice_index rows.value_loads.items e)) (loads.columns e below))
+      max_below-same (λ q. apart (slice_index rows.column_loads.items q) (slice_index rows.value_loads.items q)) (λ q. apart (column_load p choices prices q) (slice_index rows.value_loads.items q)) (places p)
+      (λ q below. ap (λ (x : ℕ). apart x (slice_index rows.value_loads.items q)) (loads.columns q below))
 
   pub moved-trial : (greatest widest divisor j : ℕ) (trial : List ℕ) → greatest ≡ greatest_price p prices → widest ≡ widest_gap p (slice_index rows.column_loads.items) (slice_index rows.value_loads.items) → 0 < widest → divisor ≡ widest * 2 ^ j
       → AreMoved p prices greatest divisor rows trial → IsTrial p choices prices j trial
@@ -27,38 +27,38 @@ module _ (p : Parts) (choices : Choices) (prices : List ℕ) (rows : Rows) (load
         are_loads = loads.values;
         some_gap = subst (λ (x : ℕ). 0 < x) wide some;
         count = h.count;
-        each = λ e below.
-            h.each e below
-            ∙ ap (λ (x : ℕ). moved (price_limit p) x divisor (slice_index rows.column_loads.items e) (slice_index rows.value_loads.items e) (slice_index prices e)) is_greatest
-            ∙ ap (λ (x : ℕ). moved (price_limit p) (greatest_price p prices) x (slice_index rows.column_loads.items e) (slice_index rows.value_loads.items e) (slice_index prices e)) (is_divisor ∙ ap (λ (x : ℕ). x * 2 ^ j) wide)
-            ∙ ap (λ (x : ℕ). moved (price_limit p) (greatest_price p prices) (widest_gap p (column_load p choices prices) (slice_index rows.value_loads.items) * 2 ^ j) x (slice_index rows.value_loads.items e) (slice_index prices e)) (loads.columns e below);
+        each = λ q below.
+            h.each q below
+            ∙ ap (λ (x : ℕ). moved (price_limit p) x divisor (slice_index rows.column_loads.items q) (slice_index rows.value_loads.items q) (slice_index prices q)) is_greatest
+            ∙ ap (λ (x : ℕ). moved (price_limit p) (greatest_price p prices) x (slice_index rows.column_loads.items q) (slice_index rows.value_loads.items q) (slice_index prices q)) (is_divisor ∙ ap (λ (x : ℕ). x * 2 ^ j) wide)
+            ∙ ap (λ (x : ℕ). moved (price_limit p) (greatest_price p prices) (widest_gap p (column_load p choices prices) (slice_index rows.value_loads.items) * 2 ^ j) x (slice_index rows.value_loads.items q) (slice_index prices q)) (loads.columns q below);
       }
 
   -- where there is no gap, there is no trial
   pub no_gap-no_trial : (j : ℕ) (trial : List ℕ) → widest_gap p (slice_index rows.column_loads.items) (slice_index rows.value_loads.items) ≡ 0 → IsTrial p choices prices j trial → ⊥
   no_gap-no_trial j trial none h =
       let same : widest_gap p (column_load p choices prices) h.loads ≡ widest_gap p (column_load p choices prices) (slice_index rows.value_loads.items) =
-      max_below-same (λ e. apart (column_load p choices prices e) (h.loads e)) (λ e. apart (column_load p choices prices e) (slice_index rows.value_loads.items e)) (length p.links)
-      (λ e below. ap (λ (x : ℕ). apart (column_load p choices prices e) x) (value_load-unique p (link_at p e) (slice_index prices e) _ _ (h.are_loads e below) (loads.values e below))) in
+      max_below-same (λ q. apart (column_load p choices prices q) (h.loads q)) (λ q. apart (column_load p choices prices q) (slice_index rows.value_loads.items q)) (places p)
+      (λ q below. ap (λ (x : ℕ). apart (column_load p choices prices q) x) (place-unique p prices h.loads (slice_index rows.value_loads.items) h.are_loads loads.values q below)) in
       absurd (let wide : 0 < 0 = subst (λ (x : ℕ). 0 < x) (same ∙ sym widest-rows ∙ none) h.some_gap in omega arith)
 
 -- rows with the same loads
 pub loads-same : (p : Parts) (choices : Choices) (prices : List ℕ) (rows other : Rows) → other.column_loads ≡ rows.column_loads → other.value_loads ≡ rows.value_loads → HasLoads p choices prices rows → HasLoads p choices prices other
 loads-same p choices prices rows other columns values h = record {
-  columns = subst (λ (v : Vec ℕ Global). (e : ℕ) → e < length p.links → slice_index v.items e ≡ column_load p choices prices e) (sym columns) h.columns;
+  columns = subst (λ (v : Vec ℕ Global). (q : ℕ) → q < places p → slice_index v.items q ≡ column_load p choices prices q) (sym columns) h.columns;
   values = subst (λ (v : Vec ℕ Global). AreValueLoads p prices (slice_index v.items)) (sym values) h.values;
 }
 
 pub low-same : (p : Parts) (rows other : Rows) → other.column_loads ≡ rows.column_loads → other.value_loads ≡ rows.value_loads → AreLow p rows → AreLow p other
 low-same p rows other columns values h = record {
-  columns = subst (λ (v : Vec ℕ Global). (e : ℕ) → e < length p.links → slice_index v.items e ≤ total_load p) (sym columns) h.columns;
-  values = subst (λ (v : Vec ℕ Global). (e : ℕ) → e < length p.links → slice_index v.items e ≤ total_load p) (sym values) h.values;
+  columns = subst (λ (v : Vec ℕ Global). (q : ℕ) → q < places p → slice_index v.items q ≤ total_load p) (sym columns) h.columns;
+  values = subst (λ (v : Vec ℕ Global). (q : ℕ) → q < places p → slice_index v.items q ≤ total_load p) (sym values) h.values;
 }
 
-pub room-same : (links : ℕ) (rows other : Rows) → other.column_loads ≡ rows.column_loads → other.value_loads ≡ rows.value_loads → length other.trial ≡ links → HasRoom links rows → HasRoom links other
-room-same links rows other columns values trial h = record {
-  columns = subst (λ (v : Vec ℕ Global). length v.items ≡ MAX_LINKS) (sym columns) h.columns;
-  values = subst (λ (v : Vec ℕ Global). length v.items ≡ MAX_LINKS) (sym values) h.values;
+pub room-same : (count : ℕ) (rows other : Rows) → other.column_loads ≡ rows.column_loads → other.value_loads ≡ rows.value_loads → length other.trial ≡ count → HasRoom count rows → HasRoom count other
+room-same count rows other columns values trial h = record {
+  columns = subst (λ (v : Vec ℕ Global). length v.items ≡ MAX_PLACES) (sym columns) h.columns;
+  values = subst (λ (v : Vec ℕ Global). length v.items ≡ MAX_PLACES) (sym values) h.values;
   trial = trial;
   few = h.few;
 }

@@ -1,10 +1,11 @@
 -- The better of a step and an ascent.
-use Rattle.std.proofs.Common.{◌≡◌, ℕ, ◌+◌, ◌-◌, ◌*◌, ◌/◌, ◌<◌, ◌≤◌, min, Bool, true, false, List, length, slice_index, set, refl, sym, subst, ◌∙◌, arith}
+use Rattle.std.proofs.Common.{◌≡◌, ℕ, ◌+◌, ◌-◌, ◌*◌, ◌/◌, ◌<◌, ◌≤◌, min, Bool, true, false, List, slice_index, set, refl, sym, subst, ◌∙◌, arith}
 use Rattle.std.specs.Prelude.{ℤ, ◌<ℤ◌, int_lt, nat_lt, if◌then◌else◌}
 use Rattle.std.proofs.lemmas.List.{length-set}
 use Rattle.std.proofs.lemmas.List.Elements.{All-from_get_or, All-set}
 use Rattle.plan_base.specs.declared.parts.Parts.{Parts}
 use Rattle.plan_base.specs.Facts.{price_limit}
+use Rattle.plan_base.specs.Places.{places}
 use Rattle.arc_restrict.specs.Prices.{AreWithinLimit}
 use Rattle.master_step.specs.declared.ascending.Ascent.{Ascent}
 use Rattle.master_step.specs.declared.step.Step.TheVariants.{Raised, Same}
@@ -27,16 +28,16 @@ moved-le limit greatest divisor columns value price low = by (nat_lt value colum
 pub trial-prices : (p : Parts) (choices : Choices) (prices : List ℕ) (j : ℕ) (trial : List ℕ) → AreWithinLimit p prices → IsTrial p choices prices j trial → ArePrices p trial
 trial-prices p choices prices j trial within h = record {
   count = h.count;
-  within = All-from_get_or (λ x. x ≤ price_limit p) trial 0 (λ e here.
-      (let below : e < length p.links = omega (arith, h.count) in
-      subst (λ (x : ℕ). x ≤ price_limit p) (sym (h.each e below)) (moved-le (price_limit p) _ _ _ _ (slice_index prices e) (price-le prices (price_limit p) e within))));
+  within = All-from_get_or (λ x. x ≤ price_limit p) trial 0 (λ q here.
+      (let below : q < places p = omega (arith, h.count) in
+      subst (λ (x : ℕ). x ≤ price_limit p) (sym (h.each q below)) (moved-le (price_limit p) _ _ _ _ (slice_index prices q) (price-le prices (price_limit p) q within))));
 }
 
 -- one price more is put
-pub prices_put : (p : Parts) (prices : List ℕ) (e price : ℕ) → ArePrices p prices → price ≤ price_limit p → ArePrices p (set prices e price)
-prices_put p prices e price h low = record {
-  count = length-set prices e price ∙ h.count;
-  within = All-set (λ x. x ≤ price_limit p) prices e price low h.within;
+pub prices_put : (p : Parts) (prices : List ℕ) (q price : ℕ) → ArePrices p prices → price ≤ price_limit p → ArePrices p (set prices q price)
+prices_put p prices q price h low = record {
+  count = length-set prices q price ∙ h.count;
+  within = All-set (λ x. x ≤ price_limit p) prices q price low h.within;
 }
 
 module _ (p : Parts) (choices : Choices) (prices : List ℕ) (within : AreWithinLimit p prices) (ascent : Ascent) (h : IsAscent p choices prices ascent) where

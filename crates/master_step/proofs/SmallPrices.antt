@@ -1,7 +1,7 @@
 -- Prices of paths and their sums are small.
-use Rattle.std.proofs.Common.{◌≡◌, ℕ, ◌+◌, ◌*◌, ◌/◌, ◌^◌, ◌<◌, ◌≤◌, max, List, [], ◌∷◌, length, slice_index, get_or, take, All, arith}
+use Rattle.std.proofs.Common.{◌≡◌, ℕ, ◌*◌, ◌/◌, ◌^◌, ◌<◌, ◌≤◌, ◌-◌, min, max, List, [], ◌∷◌, length, slice_index, All, arith}
 use Rattle.std.proofs.Math.Nat.{mul-le-mul, mul-le-mul_left, mul-le-mul_right, le-div_iff_mul-le}
-use Rattle.std.proofs.lemmas.List.Sums.{sum_by-cons, sum_by_more}
+use Rattle.std.proofs.lemmas.List.Sums.{sum_by-cons}
 use Rattle.std.proofs.lemmas.List.{get_or_past}
 use Rattle.std.proofs.lemmas.Bool.{cases_lt}
 use Rattle.std.proofs.Common.{inl, inr}
@@ -10,10 +10,12 @@ use Rattle.plan_base.specs.declared.parts.Parts.{Parts}
 use Rattle.plan_base.specs.declared.limits.TheConstants.{MAX_PRICED_LOAD}
 use Rattle.plan_base.specs.Facts.{price_limit, total_load, IsInstance}
 use Rattle.plan_base.specs.Sums.{sum_below}
-use Rattle.plan_base.specs.Arcs.{link_of, demand_at, no_demand}
+use Rattle.plan_base.specs.Arcs.{demand_at, no_demand}
+use Rattle.plan_base.specs.Places.{place_of}
 use Rattle.plan_base.specs.Paths.{IsSimplePath}
 use Rattle.plan_base.proofs.SumsBelow.{sum_below-le, sum_below-times}
 use Rattle.plan_base.proofs.PathLaws.{length-IsSimplePath}
+use Rattle.plan_base.proofs.PriceLaws.{price_limit_le}
 use Rattle.arc_restrict.specs.Prices.{price_of, AreWithinLimit}
 use Rattle.bound_assembly.specs.declared.limits.TheConstants.{MAX_PATH_LINKS}
 use Rattle.bound_assembly.proofs.SmallSums.{loads-le, priced_limit-le}
@@ -26,18 +28,23 @@ price-le prices limit e all = elim (cases_lt e (length prices)) [
 ]
 
 -- each arc costs at most the limit
-pub price_of-le : (prices : List ℕ) (limit : ℕ) (arcs : List ArcId) → All (λ price. price ≤ limit) prices → price_of prices arcs ≤ length arcs * limit
-price_of-le prices limit [] all = omega arith
-price_of-le prices limit (a ∷ arcs) all =
-    omega (arith, sum_by-cons (λ (x : ArcId). slice_index prices (link_of x)) a arcs, price_of-le prices limit arcs all, price-le prices limit (link_of a) all)
+pub price_of-le : (p : Parts) (prices : List ℕ) (limit : ℕ) (arcs : List ArcId) → All (λ price. price ≤ limit) prices → price_of p prices arcs ≤ length arcs * limit
+price_of-le p prices limit [] all = omega arith
+price_of-le p prices limit (a ∷ arcs) all =
+    omega (arith, sum_by-cons (λ (x : ArcId). slice_index prices (place_of p x)) a arcs, price_of-le p prices limit arcs all, price-le prices limit (place_of p a) all)
 
 -- a simple path has few arcs
-pub few_arcs : (p : Parts) (k : ℕ) (arcs : List ArcId) → IsInstance p → k < length p.demands → IsSimplePath p (demand_at p k) arcs → length arcs ≤ MAX_PATH_LINKS
+few_arcs : (p : Parts) (k : ℕ) (arcs : List ArcId) → IsInstance p → k < length p.demands → IsSimplePath p (demand_at p k) arcs → length arcs ≤ MAX_PATH_LINKS
 few_arcs p k arcs inst within simple = omega (arith, length-IsSimplePath p (demand_at p k) arcs inst (inst.demands k no_demand within).source simple, inst.nodes)
 
-pub path-le : (p : Parts) (k : ℕ) (prices : List ℕ) (arcs : List ArcId) → IsInstance p → k < length p.demands → AreWithinLimit p prices → IsSimplePath p (demand_at p k) arcs → price_of prices arcs ≤ MAX_PATH_LINKS * price_limit p
+pub path-le : (p : Parts) (k : ℕ) (prices : List ℕ) (arcs : List ArcId) → IsInstance p → k < length p.demands → AreWithinLimit p prices → IsSimplePath p (demand_at p k) arcs → price_of p prices arcs ≤ MAX_PATH_LINKS * price_limit p
 path-le p k prices arcs inst within all simple =
-    omega (arith, price_of-le prices (price_limit p) arcs all, mul-le-mul_right (price_limit p) (few_arcs p k arcs inst within simple))
+    omega (arith, price_of-le p prices (price_limit p) arcs all, mul-le-mul_right (price_limit p) (few_arcs p k arcs inst within simple))
+
+-- the price along a simple path is not cut
+pub price_along-whole : (p : Parts) (k : ℕ) (prices : List ℕ) (arcs : List ArcId) (price : ℕ) → IsInstance p → k < length p.demands → AreWithinLimit p prices → IsSimplePath p (demand_at p k) arcs → price ≡ min (price_of p prices arcs) (2 ^ 128 - 1) → price ≡ price_of p prices arcs
+price_along-whole p k prices arcs price inst within all simple is =
+    omega (arith, is, path-le p k prices arcs inst within all simple, price_limit_le p)
 
 -- loads times prices of paths of the first demands
 pub priced_within : (p : Parts) (q : ℕ → ℕ) (n : ℕ) → n ≤ length p.demands → ((k : ℕ) → k < n → q k ≤ MAX_PATH_LINKS * price_limit p) → sum_below (λ k. (demand_at p k).load * q k) n ≤ MAX_PATH_LINKS * MAX_PRICED_LOAD
@@ -49,10 +56,6 @@ priced_within p q n within small =
     let times = sum_below-times cap (λ k. (demand_at p k).load) n in
     let whole : cap * sum_below (λ k. (demand_at p k).load) n ≤ cap * total_load p = mul-le-mul_left cap (loads-le p n within) in
     omega (arith, each, times, whole, priced_limit-le p)
-
--- one arc more
-pub price_next : (prices : List ℕ) (arcs : List ArcId) (i : ℕ) (d : ArcId) → i < length arcs → price_of prices (take (i + 1) arcs) ≡ price_of prices (take i arcs) + slice_index prices (link_of (get_or arcs i d))
-price_next prices arcs i d within = sum_by_more (λ (x : ArcId). slice_index prices (link_of x)) arcs i d within
 
 one-le-div : (n d : ℕ) → 0 < d → d ≤ n → 1 ≤ n / d
 one-le-div n d some most = (le-div_iff_mul-le some).1 (omega arith)

@@ -16,12 +16,12 @@ use Rattle.master_step.proofs.LeastColumns.{first_least}
 use Rattle.master_step.proofs.SmallPrices.{path-le}
 
 pub small_price : (p : Parts) (source : Source) (prices : List ℕ) (k : ℕ) → IsInstance p → AreWithinLimit p prices → IsSource p source → HasColumns p (allowed_of source) → k < length p.demands
-    → least_price prices (allowed_of source k) ≤ MAX_PATH_LINKS * price_limit p
+    → least_price p prices (allowed_of source k) ≤ MAX_PATH_LINKS * price_limit p
 small_price p source prices k inst within is has below =
-    let least = first_least prices (allowed_of source k) (has k below) in
+    let least = first_least p prices (allowed_of source k) (has k below) in
     let all : All (λ path. IsSimplePath p (demand_at p k) path) (all_of source k) = All-from_get_or (λ path. IsSimplePath p (demand_at p k) path) (all_of source k) [] (λ i here. is.simple k i below here) in
     let allowed : All (λ path. IsSimplePath p (demand_at p k) path) (allowed_of source k) = All-filter (is_allowed source k) (λ path. IsSimplePath p (demand_at p k) path) (all_of source k) all in
-    let simple : IsSimplePath p (demand_at p k) (least_column prices (allowed_of source k)) =
-    subst (λ (path : List ArcId). IsSimplePath p (demand_at p k) path) (get_or_from_slice_get (allowed_of source k) least.place (least_column prices (allowed_of source k)) [] least.is_path)
-    (allowed least.place [] (slice_get_within (allowed_of source k) least.place (least_column prices (allowed_of source k)) least.is_path)) in
-    path-le p k prices (least_column prices (allowed_of source k)) inst below within simple
+    let simple : IsSimplePath p (demand_at p k) (least_column p prices (allowed_of source k)) =
+    subst (λ (path : List ArcId). IsSimplePath p (demand_at p k) path) (get_or_from_slice_get (allowed_of source k) least.place (least_column p prices (allowed_of source k)) [] least.is_path)
+    (allowed least.place [] (slice_get_within (allowed_of source k) least.place (least_column p prices (allowed_of source k)) least.is_path)) in
+    path-le p k prices (least_column p prices (allowed_of source k)) inst below within simple

@@ -7,43 +7,40 @@ use Rattle.plan_base.specs.declared.parts.Link.{Link}
 use Rattle.plan_base.specs.declared.parts.Parts.{Parts}
 use Rattle.plan_base.specs.Facts.{price_limit}
 use Rattle.plan_base.specs.Arcs.{link_at}
-use Rattle.link_steps.specs.Values.{value_at}
+use Rattle.plan_base.specs.Places.{places, there_of, back_of}
+use Rattle.link_steps.specs.Values.{GiveValue}
 use Rattle.proof_tree.specs.Bounds.{price_total}
 use Rattle.proof_tree.proofs.Uniqueness.{link_value-unique, int_sum_below-same}
 use Rattle.master_step.specs.Columns.{Choices, least_price}
 use Rattle.master_step.specs.Restricted.{IsRestrictedValue}
-use Rattle.master_step.specs.Trials.{column_load, IsValueLoad, apart, max_below, widest_gap, greatest_price, moved, IsTrial}
+use Rattle.master_step.specs.Trials.{column_load, HasValueLoads, AreValueLoads, apart, max_below, widest_gap, greatest_price, moved, IsTrial}
 use Rattle.master_step.specs.Outcomes.{IsRaise, IsGain, IsStalled}
+use Rattle.master_step.proofs.PlaceLaws.{places-same}
 
 pub value-unique : (p : Parts) (choices : Choices) (prices : List ℕ) (v w : ℤ) → IsRestrictedValue p choices prices v → IsRestrictedValue p choices prices w → v ≡ w
 value-unique p choices prices v w hv hw =
     hv.is_sum
-    ∙ ap (λ (x : ℤ). pos (price_total p (λ k. least_price prices (choices k))) +ℤ x)
-    (int_sum_below-same hv.values hw.values (length p.links) (λ e below. link_value-unique p (link_at p e) (slice_index prices e) _ _ (hv.are_values e below) (hw.are_values e below)))
+    ∙ ap (λ (x : ℤ). pos (price_total p (λ k. least_price p prices (choices k))) +ℤ x)
+    (int_sum_below-same hv.values hw.values (length p.links) (λ e below. link_value-unique p (link_at p e) (there_of p (slice_index prices) e) (back_of p (slice_index prices) e) _ _ (hv.are_values e below) (hw.are_values e below)))
     ∙ sym hw.is_sum
 
 either_way : (x y : ℕ) → (x ≤ y) ⊎ (y < x)
 either_way x y = grind arith
 
--- a smaller load that gives the same value is no other one
-not_smaller : (p : Parts) (l : Link) (price a b : ℕ) → IsValueLoad p l price a → IsValueLoad p l price b → a < b → ⊥
-not_smaller p l price a b ha hb less =
-    let same : ha.value ≡ hb.value = link_value-unique p l price ha.value hb.value ha.is_value hb.is_value in
-    let above : hb.value <ℤ value_at price a ha.is_first.cost = hb.is_first.before a ha.is_first.cost less ha.is_first.is_cost in
-    let there : hb.value <ℤ hb.value = subst (λ (x : ℤ). hb.value <ℤ x) (ha.is_first.attained ∙ same) above in
-    absurd (irreflexive hb.value there)
-  where
-    irreflexive : (x : ℤ) → x <ℤ x → ⊥
-    irreflexive x h = omega (arith, ints)
+-- the first loads of a link are one
+loads-unique : (p : Parts) (l : Link) (price back_price load back other other_back : ℕ) → HasValueLoads p l price back_price load back → HasValueLoads p l price back_price other other_back → (load ≡ other) × (back ≡ other_back)
+loads-unique p l price back_price load back other other_back h k =
+    let same = link_value-unique p l price back_price h.value k.value h.is_value k.is_value in
+    let gives = subst (λ (v : ℤ). GiveValue p l price back_price v load back) same h.are_first.give in
+    let other_gives = subst (λ (v : ℤ). GiveValue p l price back_price v other other_back) (sym same) k.are_first.give in
+    let equal : max load back ≡ max other other_back = omega (arith, h.are_first.larger other other_back other_gives, k.are_first.larger load back gives) in
+    let one = h.are_first.each other other_back other_gives (sym equal) in
+    let two = k.are_first.each load back gives equal in
+    (omega (arith, one.0, two.0), omega (arith, one.1, two.1))
 
-pub value_load-unique : (p : Parts) (l : Link) (price a b : ℕ) → IsValueLoad p l price a → IsValueLoad p l price b → a ≡ b
-value_load-unique p l price a b ha hb = elim (either_way a b) [
-  | inr more ↦ absurd (not_smaller p l price b a hb ha more)
-  | inl most ↦ elim (either_way b a) [
-    | inr less ↦ absurd (not_smaller p l price a b ha hb less)
-    | inl least ↦ omega arith
-  ]
-]
+-- and so are those of a place
+pub place-unique : (p : Parts) (prices : List ℕ) (loads others : ℕ → ℕ) → AreValueLoads p prices loads → AreValueLoads p prices others → (q : ℕ) → q < places p → loads q ≡ others q
+place-unique p prices loads others h k q within = places-same p loads others q within (λ e below. loads-unique p (link_at p e) _ _ _ _ _ _ (h e below) (k e below))
 
 pub max_below-same : (f g : ℕ → ℕ) (n : ℕ) → ((i : ℕ) → i < n → f i ≡ g i) → max_below f n ≡ max_below g n
 max_below-same f g zero h = refl
@@ -52,16 +49,16 @@ max_below-same f g (suc n) h =
 
 pub trial-unique : (p : Parts) (choices : Choices) (prices : List ℕ) (j : ℕ) (trial other : List ℕ) → IsTrial p choices prices j trial → IsTrial p choices prices j other → trial ≡ other
 trial-unique p choices prices j trial other h k =
-    let loads : (e : ℕ) → e < length p.links → h.loads e ≡ k.loads e = λ e below. value_load-unique p (link_at p e) (slice_index prices e) _ _ (h.are_loads e below) (k.are_loads e below) in
+    let loads : (q : ℕ) → q < places p → h.loads q ≡ k.loads q = place-unique p prices h.loads k.loads h.are_loads k.are_loads in
     let widest : widest_gap p (column_load p choices prices) h.loads ≡ widest_gap p (column_load p choices prices) k.loads =
-    max_below-same (λ e. apart (column_load p choices prices e) (h.loads e)) (λ e. apart (column_load p choices prices e) (k.loads e)) (length p.links)
-    (λ e below. ap (λ (x : ℕ). apart (column_load p choices prices e) x) (loads e below)) in
-    ext_get_or 0 trial other (h.count ∙ sym k.count) (λ e within.
-    (let below : e < length p.links = omega (arith, h.count) in
-    h.each e below
-    ∙ ap (λ (w : ℕ). moved (price_limit p) (greatest_price p prices) (w * 2 ^ j) (column_load p choices prices e) (h.loads e) (slice_index prices e)) widest
-    ∙ ap (λ (x : ℕ). moved (price_limit p) (greatest_price p prices) (widest_gap p (column_load p choices prices) k.loads * 2 ^ j) (column_load p choices prices e) x (slice_index prices e)) (loads e below)
-    ∙ sym (k.each e below)))
+    max_below-same (λ q. apart (column_load p choices prices q) (h.loads q)) (λ q. apart (column_load p choices prices q) (k.loads q)) (places p)
+    (λ q below. ap (λ (x : ℕ). apart (column_load p choices prices q) x) (loads q below)) in
+    ext_get_or 0 trial other (h.count ∙ sym k.count) (λ q within.
+    (let below : q < places p = omega (arith, h.count) in
+    h.each q below
+    ∙ ap (λ (w : ℕ). moved (price_limit p) (greatest_price p prices) (w * 2 ^ j) (column_load p choices prices q) (h.loads q) (slice_index prices q)) widest
+    ∙ ap (λ (x : ℕ). moved (price_limit p) (greatest_price p prices) (widest_gap p (column_load p choices prices) k.loads * 2 ^ j) (column_load p choices prices q) x (slice_index prices q)) (loads q below)
+    ∙ sym (k.each q below)))
 
 not_both : (v w : ℤ) → v <ℤ w → w ≤ℤ v → ⊥
 not_both v w h k = omega (arith, ints)

@@ -1,6 +1,7 @@
 -- What an ascent finds, and the better of a step and an ascent.
 use Rattle.std.specs.Prelude.{ℕ, ◌≡◌, List, length, ℤ, ◌≤ℤ◌, ◌<ℤ◌, int_lt, if◌then◌else◌}
 use Rattle.plan_base.specs.declared.parts.Parts.{Parts}
+use Rattle.plan_base.specs.Places.{places}
 use Rattle.arc_restrict.specs.Prices.{AreWithinLimit}
 use Rattle.master_step.specs.declared.ascending.Ascent.{Ascent}
 use Rattle.master_step.specs.declared.step.Step.{Step}
@@ -9,9 +10,9 @@ use Rattle.master_step.specs.Columns.{Choices, IsFirstBare}
 use Rattle.master_step.specs.Restricted.{IsRestrictedValue}
 use Rattle.master_step.specs.Outcomes.{IsRaise, IsStalled}
 
--- one price for each link, none above the price limit
+-- one price for each place, none above the price limit
 pub record ArePrices (p : Parts) (prices : List ℕ) : Type 0 where
-  pub count : length prices ≡ length p.links
+  pub count : length prices ≡ places p
   pub within : AreWithinLimit p prices
 
 -- prices whose restricted value is at least that of the old ones

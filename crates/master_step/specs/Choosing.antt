@@ -36,16 +36,16 @@ pub record IsSource (p : Parts) (source : Source) : Type 0 where
   pub simple : (k i : ℕ) → k < length p.demands → i < length (all_of source k) → IsSimplePath p (demand_at p k) (slice_index_or (all_of source k) i [])
 
 -- the place and the price of the least of the columns before a place that pass a test
-pub record IsLeastAt (prices : List ℕ) (test : List ArcId → Bool) (all : List (List ArcId)) (count : ℕ) (least : Least) : Type 0 where
+pub record IsLeastAt (p : Parts) (prices : List ℕ) (test : List ArcId → Bool) (all : List (List ArcId)) (count : ℕ) (least : Least) : Type 0 where
   pub some : 0 < length (filter test (take count all))
   pub within : least.place < count
-  pub is_path : slice_index_or all least.place [] ≡ least_column prices (filter test (take count all))
-  pub is_price : least.price ≡ least_price prices (filter test (take count all))
+  pub is_path : slice_index_or all least.place [] ≡ least_column p prices (filter test (take count all))
+  pub is_price : least.price ≡ least_price p prices (filter test (take count all))
 
 -- the least of them, or that none passes
-abbrev pub IsLeastOf : List ℕ → (List ArcId → Bool) → List (List ArcId) → ℕ → Option Least → Type 0
-IsLeastOf prices test all count None = filter test (take count all) ≡ []
-IsLeastOf prices test all count (Some least) = IsLeastAt prices test all count least
+abbrev pub IsLeastOf : Parts → List ℕ → (List ArcId → Bool) → List (List ArcId) → ℕ → Option Least → Type 0
+IsLeastOf p prices test all count None = filter test (take count all) ≡ []
+IsLeastOf p prices test all count (Some least) = IsLeastAt p prices test all count least
 
 -- the cheaper of two, the first of them where both cost the same
 abbrev pub cheaper_of : Option Least → Least → Least

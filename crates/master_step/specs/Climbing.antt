@@ -1,45 +1,47 @@
--- Pieces of the search among the trials. No public clause cites this module.
-use Rattle.std.specs.Prelude.{ℕ, ◌≡◌, ◌<◌, ◌≤◌, ◌*◌, ◌^◌, List, length, slice_index, Option, Some, None, ℤ, ◌≤ℤ◌, ◌<ℤ◌, if◌then◌else◌, int_lt}
+-- Pieces of the search among the trials, and of the ascent. No public clause cites this module.
+use Rattle.std.specs.Prelude.{ℕ, ◌≡◌, ◌<◌, ◌≤◌, ◌*◌, ◌^◌, false, List, length, slice_index, Option, Some, None, ℤ, ◌≤ℤ◌, ◌<ℤ◌, if◌then◌else◌, int_lt}
 use Rattle.plan_base.specs.declared.parts.Parts.{Parts}
-use Rattle.plan_base.specs.declared.limits.TheConstants.{MAX_LINKS}
+use Rattle.plan_base.specs.declared.limits.TheConstants.{MAX_PLACES}
 use Rattle.plan_base.specs.Facts.{total_load, price_limit}
+use Rattle.plan_base.specs.Places.{is_two_way, places}
 use Rattle.master_step.specs.declared.rows.Rows.{Rows}
 use Rattle.master_step.specs.declared.climbing.Best.{Best}
 use Rattle.master_step.specs.declared.climbing.Master.{Master}
+use Rattle.master_step.specs.declared.ascending.Turn.{Turn}
 use Rattle.arc_restrict.specs.Prices.{AreWithinLimit}
 use Rattle.master_step.specs.Columns.{Choices, HasColumns}
 use Rattle.master_step.specs.Choosing.{allowed_of, IsSource}
 use Rattle.master_step.specs.Restricted.{IsRestrictedValue}
 use Rattle.master_step.specs.Trials.{column_load, AreValueLoads, moved, IsTrial}
 
--- rows with room for an instance of so many links
-pub record HasRoom (links : ℕ) (rows : Rows) : Type 0 where
-  pub columns : length rows.column_loads.items ≡ MAX_LINKS
-  pub values : length rows.value_loads.items ≡ MAX_LINKS
-  pub trial : length rows.trial ≡ links
-  pub few : links ≤ MAX_LINKS
+-- rows with room for an instance of so many places
+pub record HasRoom (count : ℕ) (rows : Rows) : Type 0 where
+  pub columns : length rows.column_loads.items ≡ MAX_PLACES
+  pub values : length rows.value_loads.items ≡ MAX_PLACES
+  pub trial : length rows.trial ≡ count
+  pub few : count ≤ MAX_PLACES
 
 -- no load of the rows is above the total load
 pub record AreLow (p : Parts) (rows : Rows) : Type 0 where
-  pub columns : (e : ℕ) → e < length p.links → slice_index rows.column_loads.items e ≤ total_load p
-  pub values : (e : ℕ) → e < length p.links → slice_index rows.value_loads.items e ≤ total_load p
+  pub columns : (q : ℕ) → q < places p → slice_index rows.column_loads.items q ≤ total_load p
+  pub values : (q : ℕ) → q < places p → slice_index rows.value_loads.items q ≤ total_load p
 
 -- the rows hold the loads of the columns and of the values
 pub record HasLoads (p : Parts) (choices : Choices) (prices : List ℕ) (rows : Rows) : Type 0 where
-  pub columns : (e : ℕ) → e < length p.links → slice_index rows.column_loads.items e ≡ column_load p choices prices e
+  pub columns : (q : ℕ) → q < places p → slice_index rows.column_loads.items q ≡ column_load p choices prices q
   pub values : AreValueLoads p prices (slice_index rows.value_loads.items)
 
--- one price for each link, that of the link moved by the loads of the rows, and not above the limit
+-- one price for each place, that of the place moved by the loads of the rows, and not above the limit
 pub record AreMoved (p : Parts) (prices : List ℕ) (greatest divisor : ℕ) (rows : Rows) (trial : List ℕ) : Type 0 where
-  pub count : length trial ≡ length p.links
-  pub each : (e : ℕ) → e < length p.links → slice_index trial e
-      ≡ moved (price_limit p) greatest divisor (slice_index rows.column_loads.items e) (slice_index rows.value_loads.items e) (slice_index prices e)
+  pub count : length trial ≡ places p
+  pub each : (q : ℕ) → q < places p → slice_index trial q
+      ≡ moved (price_limit p) greatest divisor (slice_index rows.column_loads.items q) (slice_index rows.value_loads.items q) (slice_index prices q)
   pub within : AreWithinLimit p trial
 
 -- the parts of a step belong together, and each demand has a column
 pub record IsMaster (m : Master) : Type 0 where
   pub table : m.table.now ≡ m.inst.now
-  pub price_count : length m.prices.now ≡ length m.inst.now.links
+  pub price_count : length m.prices.now ≡ places m.inst.now
   pub price_limit : AreWithinLimit m.inst.now m.prices.now
   pub source : IsSource m.inst.now m.source
   pub columns : HasColumns m.inst.now (allowed_of m.source)
@@ -65,3 +67,9 @@ pub record IsBestOf (p : Parts) (choices : Choices) (prices : List ℕ) (old : �
 abbrev pub AreTried : Parts → Choices → List ℕ → ℤ → ℕ → ℕ → Option Best → Type 0
 AreTried p choices prices old widest count None = (i : ℕ) (other : List ℕ) (value : ℤ) → i < count → IsTrial p choices prices i other → IsRestrictedValue p choices other value → value ≤ℤ old
 AreTried p choices prices old widest count (Some best) = IsBestOf p choices prices old widest count best
+
+-- a link of the instance, and a price of its other place within the limit, 0 where it has no other place
+pub record IsTurn (p : Parts) (turn : Turn) : Type 0 where
+  pub link : turn.link.0 < length p.links
+  pub other : turn.other ≤ price_limit p
+  pub one_way : is_two_way p.orient ≡ false → turn.other ≡ 0

@@ -10,24 +10,24 @@ abbrev pub Choices : Type 0
 Choices = ℕ → List (List ArcId)
 
 -- the cheaper of two columns, the first of them where both cost the same
-abbrev pub cheaper : List ℕ → List ArcId → List ArcId → List ArcId
-cheaper prices first second = if nat_lt (price_of prices second) (price_of prices first) then second else first
+abbrev pub cheaper : Parts → List ℕ → List ArcId → List ArcId → List ArcId
+cheaper p prices first second = if nat_lt (price_of p prices second) (price_of p prices first) then second else first
 
 -- the first column of least price; no arcs where there is no column
-unfoldable pub least_column : List ℕ → List (List ArcId) → List ArcId
-least_column prices [] = []
-least_column prices (path ∷ paths) = fold (cheaper prices) path paths
+unfoldable pub least_column : Parts → List ℕ → List (List ArcId) → List ArcId
+least_column p prices [] = []
+least_column p prices (path ∷ paths) = fold (cheaper p prices) path paths
 
 -- what that column costs, in thousandths of a cost grain per load grain
-abbrev pub least_price : List ℕ → List (List ArcId) → ℕ
-least_price prices paths = price_of prices (least_column prices paths)
+abbrev pub least_price : Parts → List ℕ → List (List ArcId) → ℕ
+least_price p prices paths = price_of p prices (least_column p prices paths)
 
 -- the path stands among the columns, none of them costs less, and those before it cost more
-pub record IsFirstLeast (prices : List ℕ) (paths : List (List ArcId)) (path : List ArcId) : Type 0 where
+pub record IsFirstLeast (p : Parts) (prices : List ℕ) (paths : List (List ArcId)) (path : List ArcId) : Type 0 where
   pub place : ℕ
   pub is_path : slice_get paths place ≡ Some path
-  pub least : All (λ other. price_of prices path ≤ price_of prices other) paths
-  pub first : (i : ℕ) (other : List ArcId) → i < place → slice_get paths i ≡ Some other → price_of prices path < price_of prices other
+  pub least : All (λ other. price_of p prices path ≤ price_of p prices other) paths
+  pub first : (i : ℕ) (other : List ArcId) → i < place → slice_get paths i ≡ Some other → price_of p prices path < price_of p prices other
 
 -- each demand has a column
 abbrev pub HasColumns : Parts → Choices → Type 0

@@ -3,6 +3,7 @@ use Rattle.std.specs.Prelude.{ℕ, ◌≡◌, ◌<◌, List, length, slice_index
 use Rattle.plan_base.specs.declared.parts.Parts.{Parts}
 use Rattle.plan_base.specs.Facts.{is_useful}
 use Rattle.plan_base.specs.Arcs.{link_at}
+use Rattle.plan_base.specs.Places.{places, link_of_place}
 use Rattle.master_step.specs.declared.limits.TheConstants.{MAX_TRIALS}
 use Rattle.master_step.specs.declared.step.Step.{Step}
 use Rattle.master_step.specs.declared.step.Step.TheVariants.{Raised, Same, Bare}
@@ -46,11 +47,11 @@ IsStepOf p choices prices (Raised trial old new) = IsRaise p choices prices old 
 IsStepOf p choices prices (Same value) = IsStalled p choices prices value
 IsStepOf p choices prices (Bare demand) = IsFirstBare p choices demand.0
 
--- 0 for a link with a useful module, and the price of another one
+-- 0 for a place of a link with a useful module, and the price of another one
 abbrev pub crowd_price : Parts → List ℕ → ℕ → ℕ
-crowd_price p prices e = if is_useful (link_at p e) then 0 else slice_index prices e
+crowd_price p prices q = if is_useful (link_at p (link_of_place p q)) then 0 else slice_index prices q
 
--- the crowd price of each link
+-- the crowd price of each place
 pub record AreCrowdPrices (p : Parts) (old new : List ℕ) : Type 0 where
-  pub count : length new ≡ length p.links
-  pub each : (e : ℕ) → e < length p.links → slice_index new e ≡ crowd_price p old e
+  pub count : length new ≡ places p
+  pub each : (q : ℕ) → q < places p → slice_index new q ≡ crowd_price p old q

@@ -1,7 +1,9 @@
 -- The restricted value of prices.
 use Rattle.std.specs.Prelude.{ℕ, ◌≡◌, List, length, ℤ, pos, ◌+ℤ◌}
 use Rattle.plan_base.specs.declared.parts.Parts.{Parts}
-use Rattle.proof_tree.specs.Bounds.{int_sum_below, price_total, AreLinkValues}
+use Rattle.plan_base.specs.Sums.{int_sum_below}
+use Rattle.link_steps.specs.Values.{AreLinkValues}
+use Rattle.proof_tree.specs.Bounds.{price_total}
 use Rattle.master_step.specs.Columns.{Choices, least_price, HasColumns}
 
 -- the sum of loads times the prices of least columns over the demands, and of the links' values, in thousandths of a cost
@@ -10,4 +12,4 @@ pub record IsRestrictedValue (p : Parts) (choices : Choices) (prices : List ℕ)
   pub has_columns : HasColumns p choices
   pub values : ℕ → ℤ
   pub are_values : AreLinkValues p prices values
-  pub is_sum : value ≡ (pos (price_total p (λ k. least_price prices (choices k))) +ℤ int_sum_below values (length p.links))
+  pub is_sum : value ≡ (pos (price_total p (λ k. least_price p prices (choices k))) +ℤ int_sum_below values (length p.links))

@@ -1,6 +1,7 @@
 //! The step, and what it gains.
 
 ghost use Rattle.std.specs.Prelude.{◌≡◌, ◌<◌, length, Option, Some, None, IfOk, IfSome, IfNone};
+ghost use Rattle.plan_base.specs.Places.{places};
 ghost use Rattle.arc_restrict.specs.Rows.{forbids};
 ghost use Rattle.arc_restrict.specs.Prices.{AreWithinLimit};
 ghost use Rattle.column_pool.specs.Columns.{columns_at, permitted_at, AreColumns};
@@ -55,8 +56,8 @@ fn raise(alloc: Global, master: &Master<'_>) -> Result<Step, AllocError>
 /// The master step: of the trial prices those of greatest restricted value, where that is more than the value of the
 /// brief's prices.
 ///
-/// Each trial moves the price of each link up where the least columns put more on it than the load that gives the link its
-/// value, and down where they put less, in proportion to the gap; each trial after the first moves half as far.
+/// Each trial moves the price of each place up where the least columns put more on it than what it carries where its link
+/// has its value, and down where they put less, in proportion to the gap; each trial after the first moves half as far.
 ///
 /// - Takes: the instance and its table; a brief that fits it.
 /// - Gives: `Raised` with the first trial of greatest value; `Same` where none has more; `Bare` exactly where a demand has
@@ -90,7 +91,7 @@ pub fn advance(
 /// The restricted value that the master step raises prices to, over the columns that a restriction permits. Takes no
 /// memory.
 ///
-/// - Takes: the instance and its table; one price for each link, of at most the price limit; columns of the instance, of
+/// - Takes: the instance and its table; one price for each place, of at most the price limit; columns of the instance, of
 ///   which the restriction permits at least one to each demand; room that was made for the instance.
 /// - Gives: thousandths of a cost grain; None exactly where no trial has a greater value than the prices.
 /// - Rule: docs/METHOD.md, "Master step".
@@ -104,11 +105,11 @@ pub fn gain(
     room: &mut Room,
 ) -> Option<i128>
     requires table { table.now ≡ inst.now }
-    requires price_count { length prices.now ≡ length inst.now.links }
+    requires price_count { length prices.now ≡ places inst.now }
     requires price_limit { AreWithinLimit inst.now prices.now }
     requires columns { AreColumns inst.now columns.now }
     requires permitted { HasColumns inst.now (permitted_at (forbids restriction.now) columns.now) }
-    requires room { room.old ≡ length inst.now.links }
+    requires room { room.old ≡ places inst.now }
     ensures some { IfSome result (HasGain inst.now (permitted_at (forbids restriction.now) columns.now) prices.now) }
     ensures none { IfNone result (HasStalled inst.now (permitted_at (forbids restriction.now) columns.now) prices.now) }
     ensures room { room.new ≡ room.old }

@@ -1,11 +1,13 @@
-//! The ascent: each link's own price in turn, to the best that it can be.
+//! The ascent: each place's own price in turn, to the best that it can be.
 
-ghost use Rattle.std.specs.Prelude.{◌≡◌, ◌<◌, ◌≤◌, length, IfOk};
+ghost use Rattle.std.specs.Prelude.{◌≡◌, ◌<◌, ◌≤◌, false, length, IfOk};
 ghost use Rattle.plan_base.specs.Facts.{price_limit};
+ghost use Rattle.plan_base.specs.Places.{is_two_way, places};
 ghost use Rattle.column_pool.specs.Columns.{columns_at};
 ghost use Rattle.column_pool.specs.Briefs.{IsBriefFor};
 ghost use Rattle.master_step.specs.Columns.{HasColumns};
 ghost use Rattle.master_step.specs.Ascents.{ArePrices, IsAscent};
+ghost use Rattle.master_step.specs.Climbing.{IsTurn};
 
 use crate::crossings::Crossings;
 use crate::gaps::greatest_price;
@@ -20,19 +22,27 @@ use std::alloc::{AllocError, Global};
 /// How many times the greatest price a price may become.
 const MOST_TIMES: u128 = 4096;
 
-/// The part of the restricted value that the price of this link decides.
-fn worth(table: &StepTable, link: LinkId, share: &Share, price: u128) -> i128
-    requires link { link.0 < length table.now.links }
+/// A link of which one place's price is moved. A link's value is the same where its places change their prices.
+#[derive(Clone, Copy)]
+pub struct Turn {
+    pub link: LinkId,
+    /// The price of its other place, in thousandths of a cost grain per load grain, and 0 where it has none.
+    pub other: u128,
+}
+
+/// The part of the restricted value that the price of this place decides.
+fn worth(table: &StepTable, turn: Turn, share: &Share, price: u128) -> i128
+    requires turn { IsTurn table.now turn }
     requires price { price ≤ price_limit table.now }
 {
     share
         .income(price)
-        .saturating_add(table.link_value(link, price).value)
+        .saturating_add(table.link_value(turn.link, price, turn.other).value)
 }
 
 /// The least price up to a limit from which on a higher one is worth no more: the worth rises first, and then falls.
-fn best_price(table: &StepTable, link: LinkId, share: &Share, most: u128) -> u128
-    requires link { link.0 < length table.now.links }
+fn best_price(table: &StepTable, turn: Turn, share: &Share, most: u128) -> u128
+    requires turn { IsTurn table.now turn }
     requires most { most ≤ price_limit table.now }
     ensures { result ≤ most }
 {
@@ -40,7 +50,7 @@ fn best_price(table: &StepTable, link: LinkId, share: &Share, most: u128) -> u12
     let mut high = most;
     while low < high {
         let middle = low + (high - low) / 2;
-        if worth(table, link, share, middle) < worth(table, link, share, middle + 1) {
+        if worth(table, turn, share, middle) < worth(table, turn, share, middle + 1) {
             low = middle + 1;
         } else {
             high = middle;
@@ -49,32 +59,59 @@ fn best_price(table: &StepTable, link: LinkId, share: &Share, most: u128) -> u12
     low
 }
 
-/// The price of a link that is worth most, the price itself where none is worth more.
-fn raised_price(table: &StepTable, link: LinkId, share: &Share, price: u128, most: u128) -> u128
-    requires link { link.0 < length table.now.links }
+/// The price of a place that is worth most, the price itself where none is worth more.
+fn raised_price(table: &StepTable, turn: Turn, share: &Share, price: u128, most: u128) -> u128
+    requires turn { IsTurn table.now turn }
     requires price { price ≤ price_limit table.now }
     requires most { most ≤ price_limit table.now }
     ensures { result ≤ price_limit table.now }
 {
-    let best = best_price(table, link, share, most);
-    if worth(table, link, share, best) > worth(table, link, share, price) {
+    let best = best_price(table, turn, share, most);
+    if worth(table, turn, share, best) > worth(table, turn, share, price) {
         best
     } else {
         price
     }
 }
 
-/// Puts the price of a link.
-fn put_price(inst: &Instance, prices: &mut Prices, link: LinkId, price: u128)
-    requires link { link.0 < length inst.now.links }
+/// The price of the other place of a place's link, and 0 where it has none.
+fn other_price(inst: &Instance, prices: &Prices, place: u32) -> u128
+    requires place { place < places inst.now }
+    requires prices { ArePrices inst.now prices.now }
+    ensures within { result ≤ price_limit inst.now }
+    ensures one_way { is_two_way inst.now.orient ≡ false → result ≡ 0 }
+{
+    let priced = prices.of_link(inst, inst.link_of_place(place));
+    if inst.orient().is_two_way() && place % 2 == 1 {
+        priced.there
+    } else {
+        priced.back
+    }
+}
+
+/// The turn of a place.
+fn turn_of(inst: &Instance, prices: &Prices, place: u32) -> Turn
+    requires place { place < places inst.now }
+    requires prices { ArePrices inst.now prices.now }
+    ensures { IsTurn inst.now result }
+{
+    Turn {
+        link: inst.link_of_place(place),
+        other: other_price(inst, prices, place),
+    }
+}
+
+/// Puts the price of a place.
+fn put_price(inst: &Instance, prices: &mut Prices, place: u32, price: u128)
+    requires place { place < places inst.now }
     requires prices { ArePrices inst.now prices.old }
     requires price { price ≤ price_limit inst.now }
     ensures { ArePrices inst.now prices.new }
 {
-    prices.put(link, price);
+    prices.put(place, price);
 }
 
-/// The prices after each link that may carry load had its own price moved once, in the order of the links.
+/// The prices after each place whose link may carry load had its own price moved once, in the order of the places.
 fn moved_prices(
     alloc: Global,
     inst: &Instance,
@@ -93,14 +130,14 @@ fn moved_prices(
     let mut moved = prices.copy()?;
     let mut crossings = Crossings::new(alloc, inst, lists, prices.as_slice())?;
     let mut share = Share::new(alloc);
-    for place in 0..inst.links() {
-        let link = LinkId(place);
-        if inst.top_load(link) > 0 {
+    for place in 0..inst.places() {
+        let turn = turn_of(inst, &moved, place);
+        if inst.top_load(turn.link) > 0 {
             let price = moved.as_slice()[place as usize];
-            crossings.fill_share(link, price, &mut share)?;
-            let raised = raised_price(table, link, &share, price, most);
-            crossings.move_price(link, price, raised);
-            put_price(inst, &mut moved, link, raised);
+            crossings.fill_share(place, price, &mut share)?;
+            let raised = raised_price(table, turn, &share, price, most);
+            crossings.move_price(place, price, raised);
+            put_price(inst, &mut moved, place, raised);
         }
     }
     Ok(moved)
@@ -109,7 +146,7 @@ fn moved_prices(
 /// Prices, and what they are worth.
 #[derive(Debug, Drop)]
 pub struct Ascent {
-    /// One price for each link, in thousandths of a cost grain per load grain.
+    /// One price for each place, in thousandths of a cost grain per load grain.
     pub prices: Prices,
     /// The restricted value of the prices that the ascent began with, in thousandths of a cost grain.
     pub old: i128,
@@ -117,14 +154,14 @@ pub struct Ascent {
     pub new: i128,
 }
 
-/// One pass of ascent: moves the price of each link in turn to where the restricted value is greatest, with the prices of
+/// One pass of ascent: moves the price of each place in turn to where the restricted value is greatest, with the prices of
 /// the others as they are by then.
 ///
 /// - Takes: the instance and its table; a brief that fits it, with a column for each demand.
 /// - Gives: prices that fit the instance; their restricted value is at least that of the brief's prices.
 /// - Errors: want of memory alone.
 /// - Rule: docs/METHOD.md, "Restricted value".
-/// - Time: linear in the arcs of all columns, and for each link in the columns of the demands that have one over it and in
+/// - Time: linear in the arcs of all columns, and for each place in the columns of the demands that have one over it and in
 ///   what the search for its price asks of them.
 pub fn ascend(
     alloc: Global,

@@ -3,6 +3,7 @@
 ghost use Rattle.std.specs.Prelude.{◌≡◌, ◌<◌, ◌≤◌, ◌*◌, length, slice_index, Option, Some, None, IfSome, IfNone};
 ghost use Rattle.plan_base.specs.declared.limits.TheConstants.{MAX_TOTAL_LOAD};
 ghost use Rattle.plan_base.specs.Facts.{price_limit};
+ghost use Rattle.plan_base.specs.Places.{places};
 ghost use Rattle.master_step.specs.Restricted.{IsRestrictedValue};
 ghost use Rattle.master_step.specs.Trials.{widest_gap as widest_of, greatest_price as greatest_of};
 ghost use Rattle.master_step.specs.Outcomes.{IsRaise, IsStalled};
@@ -55,8 +56,8 @@ impl Master<'_> {
     /// Writes the loads of the columns and of the values into the rows.
     fn fill_loads(&self, rows: &mut Rows)
         requires master { IsMaster self.now }
-        requires room { HasRoom (length self.now.inst.now.links) rows.old }
-        ensures room { HasRoom (length self.now.inst.now.links) rows.new }
+        requires room { HasRoom (places self.now.inst.now) rows.old }
+        ensures room { HasRoom (places self.now.inst.now) rows.new }
         ensures loads { HasLoads self.now.inst.now (allowed_of self.now.source) self.now.prices.now rows.new }
         ensures low { AreLow self.now.inst.now rows.new }
     {
@@ -69,7 +70,7 @@ impl Master<'_> {
     /// The value of a trial, whose prices it writes into the rows.
     fn try_one(&self, greatest: u128, divisor: u128, rows: &mut Rows) -> i128
         requires master { IsMaster self.now }
-        requires room { HasRoom (length self.now.inst.now.links) rows.old }
+        requires room { HasRoom (places self.now.inst.now) rows.old }
         requires low { AreLow self.now.inst.now rows.old }
         requires greatest { greatest ≤ price_limit self.now.inst.now }
         requires divisor { 0 < divisor }
@@ -85,7 +86,7 @@ impl Master<'_> {
     /// The best of all trials, if one is better than the old value.
     fn best_trial(&self, old: i128, greatest: u128, widest: u128, rows: &mut Rows) -> Option<Best>
         requires master { IsMaster self.now }
-        requires room { HasRoom (length self.now.inst.now.links) rows.old }
+        requires room { HasRoom (places self.now.inst.now) rows.old }
         requires low { AreLow self.now.inst.now rows.old }
         requires loads { HasLoads self.now.inst.now (allowed_of self.now.source) self.now.prices.now rows.old }
         requires greatest { greatest ≡ greatest_of self.now.inst.now self.now.prices.now }
@@ -96,7 +97,7 @@ impl Master<'_> {
         ensures best { AreTried self.now.inst.now (allowed_of self.now.source) self.now.prices.now old widest MAX_TRIALS result }
         ensures columns { rows.new.column_loads ≡ rows.old.column_loads }
         ensures values { rows.new.value_loads ≡ rows.old.value_loads }
-        ensures room { HasRoom (length self.now.inst.now.links) rows.new }
+        ensures room { HasRoom (places self.now.inst.now) rows.new }
     {
         let mut best = None;
         let mut divisor = widest;
@@ -112,10 +113,10 @@ impl Master<'_> {
     /// the prices of that trial.
     pub fn climb(&self, rows: &mut Rows) -> (i128, Option<i128>)
         requires master { IsMaster self.now }
-        requires room { HasRoom (length self.now.inst.now.links) rows.old }
+        requires room { HasRoom (places self.now.inst.now) rows.old }
         ensures raised { IfSome result.1 (IsRaise self.now.inst.now (allowed_of self.now.source) self.now.prices.now result.0 rows.new.trial) }
         ensures stalled { IfNone result.1 (IsStalled self.now.inst.now (allowed_of self.now.source) self.now.prices.now result.0) }
-        ensures room { HasRoom (length self.now.inst.now.links) rows.new }
+        ensures room { HasRoom (places self.now.inst.now) rows.new }
     {
         let _total = self.inst.total_load();
         let old = value_of(self.inst, self.table, self.prices, &self.source);

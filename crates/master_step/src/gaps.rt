@@ -4,12 +4,13 @@ ghost use Rattle.std.specs.Prelude.{◌≡◌, ◌<◌, ◌≤◌, ◌*◌, max,
 ghost use Rattle.plan_base.specs.declared.limits.TheConstants.{MAX_PRICED_LOAD};
 ghost use Rattle.plan_base.specs.Facts.{total_load, top_load, price_limit};
 ghost use Rattle.plan_base.specs.Arcs.{link_at};
+ghost use Rattle.plan_base.specs.Places.{places, link_of_place};
 ghost use Rattle.arc_restrict.specs.Prices.{AreWithinLimit};
 ghost use Rattle.master_step.specs.Trials.{apart as apart_of, moved as moved_price, widest_gap as widest_of, greatest_price as greatest_of};
 ghost use Rattle.master_step.specs.Climbing.{HasRoom, AreLow, AreMoved};
 
 use crate::rows::Rows;
-use plan_base::{Instance, LinkId, Prices};
+use plan_base::{Instance, Prices};
 
 /// How far two loads are apart.
 fn apart(load: u128, other: u128) -> u128
@@ -18,39 +19,43 @@ fn apart(load: u128, other: u128) -> u128
     load.abs_diff(other)
 }
 
-/// The most that the two loads of a link are apart, in load grains.
+/// The most that the two loads of a place are apart, in load grains.
 pub fn widest_gap(inst: &Instance, rows: &Rows) -> u128
-    requires room { HasRoom (length inst.now.links) rows.now }
+    requires room { HasRoom (places inst.now) rows.now }
     requires low { AreLow inst.now rows.now }
     ensures within { result ≤ total_load inst.now }
     ensures value { result ≡ widest_of inst.now (slice_index rows.now.column_loads.items) (slice_index rows.now.value_loads.items) }
 {
     let mut widest = 0;
-    for place in 0..inst.links() as usize {
+    for place in 0..inst.places() as usize {
         widest = widest.max(apart(rows.column_loads[place], rows.value_loads[place]));
     }
     widest
 }
 
-/// The price, if the link may carry load, and else 0.
-fn loaded_price(inst: &Instance, link: LinkId, price: u128) -> u128
-    requires { link.0 < length inst.now.links }
-    ensures { result ≡ (if top_load inst.now (link_at inst.now link.0) == 0 then 0 else price) }
+/// The price of a place, if its link may carry load, and else 0.
+fn loaded_price(inst: &Instance, place: u32, price: u128) -> u128
+    requires { place < places inst.now }
+    ensures { result ≡ (if top_load inst.now (link_at inst.now (link_of_place inst.now place)) == 0 then 0 else price) }
 {
-    if inst.top_load(link) == 0 { 0 } else { price }
+    if inst.top_load(inst.link_of_place(place)) == 0 {
+        0
+    } else {
+        price
+    }
 }
 
-/// The greatest price of the links that may carry load, and at least 1.
+/// The greatest price of the places whose links may carry load, and at least 1.
 pub fn greatest_price(inst: &Instance, prices: &Prices) -> u128
-    requires count { length prices.now ≡ length inst.now.links }
+    requires count { length prices.now ≡ places inst.now }
     requires limit { AreWithinLimit inst.now prices.now }
     ensures value { result ≡ greatest_of inst.now prices.now }
     ensures within { result ≤ price_limit inst.now }
 {
-    let _links = inst.links();
+    inst.lawful();
     let mut greatest = 0;
     for (place, price) in prices.as_slice().iter().enumerate() {
-        greatest = greatest.max(loaded_price(inst, LinkId(place as u32), *price));
+        greatest = greatest.max(loaded_price(inst, place as u32, *price));
     }
     greatest.max(1)
 }
@@ -81,9 +86,9 @@ fn moved(
 
 /// Writes the prices of a trial into the rows.
 pub fn set_trial(inst: &Instance, prices: &Prices, greatest: u128, divisor: u128, rows: &mut Rows)
-    requires count { length prices.now ≡ length inst.now.links }
+    requires count { length prices.now ≡ places inst.now }
     requires limit { AreWithinLimit inst.now prices.now }
-    requires room { HasRoom (length inst.now.links) rows.old }
+    requires room { HasRoom (places inst.now) rows.old }
     requires loads { AreLow inst.now rows.old }
     requires greatest { greatest ≤ price_limit inst.now }
     requires divisor { 0 < divisor }
@@ -96,6 +101,6 @@ pub fn set_trial(inst: &Instance, prices: &Prices, greatest: u128, divisor: u128
         let columns = rows.column_loads[place];
         let value = rows.value_loads[place];
         let price = moved(limit, greatest, divisor, columns, value, *price);
-        rows.trial.put(LinkId(place as u32), price);
+        rows.trial.put(place as u32, price);
     }
 }

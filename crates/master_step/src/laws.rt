@@ -10,7 +10,7 @@ ghost use Rattle.master_step.specs.Outcomes.{IsRaise, IsGain, IsStalled};
 
 /// The least column of a list with columns is its first column of least price.
 pub fn least_column_is_least()
-    ensures { (prices : List ℕ) (paths : List (List AnyArc)) → 0 < length paths → IsFirstLeast prices paths (least_column prices paths) }
+    ensures { (p : AnyParts) (prices : List ℕ) (paths : List (List AnyArc)) → 0 < length paths → IsFirstLeast p prices paths (least_column p prices paths) }
 {}
 
 /// Prices have one restricted value.

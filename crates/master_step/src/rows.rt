@@ -1,17 +1,18 @@
 //! The room that a step works in.
 
 ghost use Rattle.std.specs.Prelude.{◌≡◌, length, IfOk};
+ghost use Rattle.plan_base.specs.Places.{places};
 ghost use Rattle.master_step.specs.Climbing.{HasRoom};
 
-use plan_base::limits::MAX_LINKS;
+use plan_base::limits::MAX_PLACES;
 use plan_base::{Instance, Prices};
 use std::alloc::{AllocError, Global};
 use std::marker::Model;
 
-/// Rows with an entry for each link.
+/// Rows with an entry for each place.
 #[derive(Debug, Drop)]
 pub struct Rows {
-    /// What the least columns put on the links, in load grains.
+    /// What the least columns put on the places, in load grains.
     pub column_loads: Vec<u128>,
     /// What gives the links their values, in load grains.
     pub value_loads: Vec<u128>,
@@ -22,19 +23,19 @@ pub struct Rows {
 impl Rows {
     /// Rows for an instance.
     pub fn new(alloc: Global, inst: &Instance) -> Result<Rows, AllocError>
-        ensures { IfOk result (HasRoom (length inst.now.links)) }
+        ensures { IfOk result (HasRoom (places inst.now)) }
     {
         Ok(Rows {
-            column_loads: vec![in alloc; 0; MAX_LINKS]?,
-            value_loads: vec![in alloc; 0; MAX_LINKS]?,
-            trial: Prices::from_vec(vec![in alloc; 0; inst.links() as usize]?),
+            column_loads: vec![in alloc; 0; MAX_PLACES]?,
+            value_loads: vec![in alloc; 0; MAX_PLACES]?,
+            trial: Prices::from_vec(vec![in alloc; 0; inst.places() as usize]?),
         })
     }
 }
 
 /// The room that `gain` works in. Its contents mean nothing between calls.
 ///
-/// Contracts see it as the count of links that it has room for.
+/// Contracts see it as the count of places that it has room for.
 #[derive(Debug, Drop)]
 pub struct Room {
     pub(crate) rows: Rows,
@@ -56,7 +57,7 @@ impl Room {
     ///
     /// - Errors: want of memory alone.
     pub fn new(alloc: Global, inst: &Instance) -> Result<Room, AllocError>
-        ensures { IfOk result (λ room. room ≡ length inst.now.links) }
+        ensures { IfOk result (λ room. room ≡ places inst.now) }
     {
         Ok(Room {
             rows: Rows::new(alloc, inst)?,

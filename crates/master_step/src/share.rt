@@ -1,8 +1,8 @@
-//! What the price of one link brings in.
+//! What the price of one place brings in.
 
 use std::alloc::{AllocError, Global};
 
-/// A load that a link carries up to a price, in thousandths of a cost grain per load grain; beyond it the load goes
+/// A load that a place carries up to a price, in thousandths of a cost grain per load grain; beyond it the load goes
 /// another way.
 #[derive(Clone, Copy)]
 struct Tie {
@@ -10,15 +10,15 @@ struct Tie {
     load: u128,
 }
 
-/// The least that a demand's columns cost beside a link, in thousandths of a cost grain per load grain: of those over the
-/// link, and of the others.
+/// The least that a demand's columns cost beside a place, in thousandths of a cost grain per load grain: of those over the
+/// place, and of the others.
 #[derive(Clone, Copy)]
 pub(crate) struct Ways {
     pub over: Option<u128>,
     pub around: Option<u128>,
 }
 
-/// What the price of one link brings in from the demands that may use it.
+/// What the price of one place brings in from the demands that may use it.
 #[derive(Drop)]
 pub(crate) struct Share {
     /// The load that has no other way, in load grains.
@@ -27,7 +27,7 @@ pub(crate) struct Share {
 }
 
 impl Share {
-    /// No demand uses the link.
+    /// No demand uses the place.
     pub(crate) fn new(alloc: Global) -> Share {
         Share {
             held: 0,
@@ -41,7 +41,7 @@ impl Share {
         self.ties.clear();
     }
 
-    /// Adds what a demand of this load does with the link.
+    /// Adds what a demand of this load does with the place.
     pub(crate) fn add(&mut self, ways: Ways, load: u128) -> Result<(), AllocError> {
         match (ways.over, ways.around) {
             (Some(_), None) => self.held = self.held.saturating_add(load),

@@ -1,18 +1,18 @@
 //! The columns that a step chooses among.
 
-ghost use Rattle.std.specs.Prelude.{ℕ, ◌≡◌, ◌<◌, ◌≤◌, ◌*◌, ◌+◌, [], length, slice_index_or, Option, Some, All};
+ghost use Rattle.std.specs.Prelude.{◌≡◌, ◌<◌, ◌≤◌, ◌*◌, ◌+◌, [], length, slice_index_or, Option, Some};
 ghost use Rattle.plan_base.specs.Facts.{price_limit};
-ghost use Rattle.plan_base.specs.Arcs.{link_of, demand_at};
-ghost use Rattle.plan_base.specs.Paths.{arc_at, IsSimplePath};
-ghost use Rattle.arc_restrict.specs.Prices.{price_of as price_along, AreWithinLimit};
+ghost use Rattle.plan_base.specs.Arcs.{demand_at};
+ghost use Rattle.plan_base.specs.Places.{places};
+ghost use Rattle.plan_base.specs.Paths.{IsSimplePath};
+ghost use Rattle.arc_restrict.specs.Prices.{AreWithinLimit};
+ghost use Rattle.bound_assembly.specs.declared.limits.TheConstants.{MAX_PATH_LINKS};
 ghost use Rattle.master_step.specs.Columns.{least_column, least_price, HasColumns};
 ghost use Rattle.master_step.specs.Choosing.{list_count, all_of, is_allowed, allowed_of, IsSource, IsLeastOf, cheaper_of};
 
-use arc_restrict::Restriction;
-use bound_assembly::limits::MAX_PATH_LINKS;
+use arc_restrict::{Restriction, price_along};
 use column_pool::ColumnPool;
-use plan_base::limits::MAX_PRICED_LOAD;
-use plan_base::{ArcId, DemandId, Instance, Items, Path, Prices};
+use plan_base::{DemandId, Instance, Items, Path, Prices};
 
 /// The columns of all demands.
 #[derive(Clone, Copy)]
@@ -38,21 +38,6 @@ fn cheaper(held: Option<Least>, next: Least) -> Least
         Some(least) if next.price >= least.price => least,
         _ => next,
     }
-}
-
-/// What the arcs cost.
-#[tactic(auto, using(crate::proofs::SmallPrices::price_next))]
-fn price_of(prices: &[u128], arcs: &[ArcId]) -> u128
-    requires inside { (i : ℕ) → i < length arcs.now → link_of (arc_at arcs.now i) < length prices.now }
-    requires few { length arcs.now ≤ MAX_PATH_LINKS }
-    requires limit { All (λ price. price ≤ MAX_PRICED_LOAD) prices.now }
-    ensures { result ≡ price_along prices.now arcs.now }
-{
-    let mut total = 0;
-    for arc in arcs {
-        total += prices[(arc.0 / 2) as usize];
-    }
-    total
 }
 
 impl<'a> Source<'a> {
@@ -103,18 +88,18 @@ impl<'a> Source<'a> {
     ) -> Option<Least>
         requires demand { demand.0 < length inst.now.demands }
         requires source { IsSource inst.now self.now }
-        requires count { length prices.now ≡ length inst.now.links }
+        requires count { length prices.now ≡ places inst.now }
         requires limit { AreWithinLimit inst.now prices.now }
         requires place { place < length (all_of self.now demand.0) }
-        requires least { IsLeastOf prices.now (is_allowed self.now demand.0) (all_of self.now demand.0) place least }
-        ensures { IsLeastOf prices.now (is_allowed self.now demand.0) (all_of self.now demand.0) (place + 1) result }
+        requires least { IsLeastOf inst.now prices.now (is_allowed self.now demand.0) (all_of self.now demand.0) place least }
+        ensures { IsLeastOf inst.now prices.now (is_allowed self.now demand.0) (all_of self.now demand.0) (place + 1) result }
     {
-        let _demands = inst.demands();
+        inst.lawful();
         let path = self.path(demand, place);
         if !self.allows(demand, path) {
             return least;
         }
-        let price = price_of(prices, path.as_slice());
+        let price = price_along(inst, prices, path.as_slice());
         Some(cheaper(least, Least { place, price }))
     }
 
@@ -122,9 +107,9 @@ impl<'a> Source<'a> {
     fn least(&self, inst: &Instance, demand: DemandId, prices: &[u128]) -> Option<Least>
         requires demand { demand.0 < length inst.now.demands }
         requires source { IsSource inst.now self.now }
-        requires count { length prices.now ≡ length inst.now.links }
+        requires count { length prices.now ≡ places inst.now }
         requires limit { AreWithinLimit inst.now prices.now }
-        ensures { IsLeastOf prices.now (is_allowed self.now demand.0) (all_of self.now demand.0) (length (all_of self.now demand.0)) result }
+        ensures { IsLeastOf inst.now prices.now (is_allowed self.now demand.0) (all_of self.now demand.0) (length (all_of self.now demand.0)) result }
     {
         let mut least = None;
         for place in 0..self.count(demand) {
@@ -138,14 +123,14 @@ impl<'a> Source<'a> {
         requires demand { demand.0 < length inst.now.demands }
         requires source { IsSource inst.now self.now }
         requires columns { HasColumns inst.now (allowed_of self.now) }
-        requires count { length prices.now ≡ length inst.now.links }
+        requires count { length prices.now ≡ places inst.now }
         requires limit { AreWithinLimit inst.now prices.now }
-        ensures path { result.0.now ≡ least_column prices.now (allowed_of self.now demand.0) }
-        ensures price { result.1 ≡ least_price prices.now (allowed_of self.now demand.0) }
+        ensures path { result.0.now ≡ least_column inst.now prices.now (allowed_of self.now demand.0) }
+        ensures price { result.1 ≡ least_price inst.now prices.now (allowed_of self.now demand.0) }
         ensures simple { IsSimplePath inst.now (demand_at inst.now demand.0) result.0.now }
         ensures within { result.1 ≤ MAX_PATH_LINKS * price_limit inst.now }
     {
-        let _demands = inst.demands();
+        inst.lawful();
         match self.least(inst, demand, prices.as_slice()) {
             Some(least) => (self.path(demand, least.place), least.price),
             None => unreachable!(),

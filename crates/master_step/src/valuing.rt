@@ -2,6 +2,7 @@
 
 ghost use Rattle.std.specs.Prelude.{◌≡◌, ◌<◌, ◌≤◌, ◌*◌, length, pos, ◌+ℤ◌, ◌-ℤ◌, ◌≤ℤ◌};
 ghost use Rattle.plan_base.specs.declared.limits.TheConstants.{MAX_LINKS, MAX_PRICED_LOAD};
+ghost use Rattle.plan_base.specs.Places.{places};
 ghost use Rattle.arc_restrict.specs.Rows.{forbids};
 ghost use Rattle.arc_restrict.specs.Prices.{AreWithinLimit};
 ghost use Rattle.proof_tree.specs.Bounds.{price_total};
@@ -13,18 +14,17 @@ ghost use Rattle.master_step.specs.Choosing.{allowed_of, IsSource};
 
 use crate::source::Source;
 use arc_restrict::Restriction;
-use bound_assembly::link_total;
 use column_pool::ColumnPool;
 use link_steps::StepTable;
 use plan_base::{DemandId, Instance, Prices};
 
 /// The sum of loads times least prices over the demands, in thousandths of a cost grain.
 fn column_total(inst: &Instance, prices: &Prices, source: &Source<'_>) -> u128
-    requires price_count { length prices.now ≡ length inst.now.links }
+    requires price_count { length prices.now ≡ places inst.now }
     requires price_limit { AreWithinLimit inst.now prices.now }
     requires source { IsSource inst.now source.now }
     requires columns { HasColumns inst.now (allowed_of source.now) }
-    ensures value { result ≡ price_total inst.now (λ k. least_price prices.now (allowed_of source.now k)) }
+    ensures value { result ≡ price_total inst.now (λ k. least_price inst.now prices.now (allowed_of source.now k)) }
     ensures within { result ≤ MAX_PATH_LINKS * MAX_PRICED_LOAD }
 {
     let mut total = 0;
@@ -40,7 +40,7 @@ fn column_total(inst: &Instance, prices: &Prices, source: &Source<'_>) -> u128
 fn total_of(priced: u128, values: i128) -> i128
     requires priced { priced ≤ MAX_PATH_LINKS * MAX_PRICED_LOAD }
     requires not_positive { values ≤ℤ pos 0 }
-    requires bounded { (pos 0 -ℤ pos (MAX_LINKS * MAX_PRICED_LOAD)) ≤ℤ values }
+    requires bounded { (pos 0 -ℤ pos (MAX_LINKS * (2 * MAX_PRICED_LOAD))) ≤ℤ values }
     ensures { result ≡ (pos priced +ℤ values) }
 {
     priced as i128 + values
@@ -49,21 +49,21 @@ fn total_of(priced: u128, values: i128) -> i128
 /// The restricted value of prices over the columns of a source, in thousandths of a cost grain.
 pub fn value_of(inst: &Instance, table: &StepTable, prices: &Prices, source: &Source<'_>) -> i128
     requires table { table.now ≡ inst.now }
-    requires price_count { length prices.now ≡ length inst.now.links }
+    requires price_count { length prices.now ≡ places inst.now }
     requires price_limit { AreWithinLimit inst.now prices.now }
     requires source { IsSource inst.now source.now }
     requires columns { HasColumns inst.now (allowed_of source.now) }
     ensures { IsRestrictedValue inst.now (allowed_of source.now) prices.now result }
 {
-    let _links = inst.links();
+    inst.lawful();
     let priced = column_total(inst, prices, source);
-    let values = link_total(inst, table, prices);
+    let values = table.value_total(prices);
     total_of(priced, values)
 }
 
 /// The restricted value of prices over the columns that a restriction permits. Takes no memory.
 ///
-/// - Takes: the instance and its table; one price for each link, of at most the price limit; columns of the instance, of
+/// - Takes: the instance and its table; one price for each place, of at most the price limit; columns of the instance, of
 ///   which the restriction permits at least one to each demand.
 /// - Gives: thousandths of a cost grain; it may be negative.
 /// - Rule: docs/METHOD.md, "Restricted value".
@@ -76,7 +76,7 @@ pub fn value(
     restriction: &Restriction,
 ) -> i128
     requires table { table.now ≡ inst.now }
-    requires price_count { length prices.now ≡ length inst.now.links }
+    requires price_count { length prices.now ≡ places inst.now }
     requires price_limit { AreWithinLimit inst.now prices.now }
     requires columns { AreColumns inst.now columns.now }
     requires permitted { HasColumns inst.now (permitted_at (forbids restriction.now) columns.now) }

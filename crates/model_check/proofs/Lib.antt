@@ -2,3 +2,4 @@ mod Lists
 mod Values
 mod Possible
 mod Only
+mod OnePlace

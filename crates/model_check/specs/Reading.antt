@@ -14,7 +14,7 @@ use Rattle.snd_model.specs.declared.values.LinkModel.TheVariants as links
 use Rattle.snd_model.specs.declared.file.ModelFile.{ModelFile}
 use Rattle.model_check.specs.Profile.{IsSupported}
 
--- directed links are used from source to target alone, others both ways; bidirected links are refused before
+-- directed links are used from source to target alone, others both ways; bidirected links are refused before, and what stands for them is never read
 abbrev pub orient_of : LinkModel → Orient
 orient_of links.Undirected = Undirected
 orient_of links.Directed = Directed

@@ -24,19 +24,19 @@ by_and-false false b h = refl
 and-false_second : (a b : Bool) → a ≡ true → (a && b) ≡ false → b ≡ false
 and-false_second a b is h = rw is at h
 
-low-dearer_fault : (p : Parts) (prices : List ℕ) (k : ℕ) (r : Forbidden) (potentials : List ℕ) (a : ArcId) → dearer_fault p prices k r potentials a ≡ None → is_open p r k a ≡ true → potential_at potentials (head_of p a) ≤ potential_at potentials (tail_of p a) + price_at prices a
+low-dearer_fault : (p : Parts) (prices : List ℕ) (k : ℕ) (r : Forbidden) (potentials : List ℕ) (a : ArcId) → dearer_fault p prices k r potentials a ≡ None → is_open p r k a ≡ true → potential_at potentials (head_of p a) ≤ potential_at potentials (tail_of p a) + price_at p prices a
 unfolding dearer_fault
 low-dearer_fault p prices k r potentials a h is =
-    let less = nat_lt (potential_at potentials (tail_of p a) + price_at prices a) (potential_at potentials (head_of p a)) in
+    let less = nat_lt (potential_at potentials (tail_of p a) + price_at p prices a) (potential_at potentials (head_of p a)) in
     ltb-false _ _ (and-false_second (is_open p r k a) less is (when-none (is_open p r k a && less) (Dearer a) h))
 
-dearer_fault-low : (p : Parts) (prices : List ℕ) (k : ℕ) (r : Forbidden) (potentials : List ℕ) (a : ArcId) → (is_open p r k a ≡ true → potential_at potentials (head_of p a) ≤ potential_at potentials (tail_of p a) + price_at prices a) → dearer_fault p prices k r potentials a ≡ None
+dearer_fault-low : (p : Parts) (prices : List ℕ) (k : ℕ) (r : Forbidden) (potentials : List ℕ) (a : ArcId) → (is_open p r k a ≡ true → potential_at potentials (head_of p a) ≤ potential_at potentials (tail_of p a) + price_at p prices a) → dearer_fault p prices k r potentials a ≡ None
 unfolding dearer_fault
 dearer_fault-low p prices k r potentials a h =
     none-when _ _ (by_and-false (is_open p r k a) _ (λ is. le-ltb _ _ (h is)))
 
 -- potentials of which no arc is dearer rise along each permitted arc
-low-first_dearer : (p : Parts) (prices : List ℕ) (k : ℕ) (r : Forbidden) (potentials : List ℕ) → first_dearer p prices k r potentials ≡ None → (a : ArcId) → is_open p r k a ≡ true → potential_at potentials (head_of p a) ≤ potential_at potentials (tail_of p a) + price_at prices a
+low-first_dearer : (p : Parts) (prices : List ℕ) (k : ℕ) (r : Forbidden) (potentials : List ℕ) → first_dearer p prices k r potentials ≡ None → (a : ArcId) → is_open p r k a ≡ true → potential_at potentials (head_of p a) ≤ potential_at potentials (tail_of p a) + price_at p prices a
 low-first_dearer p prices k r potentials none a is =
     low-dearer_fault p prices k r potentials a
     (first_fault-none (λ n. dearer_fault p prices k r potentials (arc_id n)) (2 * length p.links) none a.0 (arc-within p a (and-first _ _ is))) is
@@ -46,7 +46,7 @@ unfolding length_fault
 length-shown p prices k r path price potentials walk count rise h =
     let source = when (not (potential_at potentials (demand_at p k).source == 0)) WrongLength in
     let target = when (not (potential_at potentials (demand_at p k).target == price)) WrongLength in
-    let length_ = when (not (price_of prices path == price)) WrongLength in
+    let length_ = when (not (price_of p prices path == price)) WrongLength in
     let one = or_else-none source (target or_else length_) h in
     let two = or_else-none target length_ one.1 in
     record {

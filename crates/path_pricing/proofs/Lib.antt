@@ -7,4 +7,4 @@ pub mod FaultLaws
 mod WeightLaws
 mod FoundLaws
 mod PriceSums
-mod DoubledPrices
+mod ArcPrices

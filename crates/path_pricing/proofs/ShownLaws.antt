@@ -4,7 +4,8 @@ use Rattle.std.proofs.lemmas.List.{take_all}
 use Rattle.std.proofs.lemmas.List.Sums.{sum_by_more}
 use Rattle.plan_base.specs.declared.ids.ArcId.{ArcId}
 use Rattle.plan_base.specs.declared.parts.Parts.{Parts}
-use Rattle.plan_base.specs.Arcs.{tail_of, link_of, demand_at, no_arc}
+use Rattle.plan_base.specs.Arcs.{tail_of, demand_at, no_arc}
+use Rattle.plan_base.specs.Places.{place_of}
 use Rattle.plan_base.specs.Paths.{arc_at, node_at}
 use Rattle.arc_restrict.specs.Restrictions.{Forbidden, IsPermittedPath, HasNoPath}
 use Rattle.arc_restrict.specs.Prices.{price_of}
@@ -17,23 +18,23 @@ pub is_open-path : (p : Parts) (k : ℕ) (r : Forbidden) (arcs : List ArcId) (i 
 is_open-path p k r arcs i h within = rw (h.simple.are_arcs i within, h.permitted i no_arc within) refl
 
 -- along a permitted path potentials rise by at most the prices
-rises : (p : Parts) (prices : List ℕ) (k : ℕ) (r : Forbidden) (price : ℕ) (potentials : List ℕ) (arcs : List ArcId) → ArePotentials p prices k r price potentials → IsPermittedPath p r k arcs → (i : ℕ) → i ≤ length arcs → slice_index potentials (node_at p (demand_at p k).source arcs i) ≤ price_of prices (take i arcs)
+rises : (p : Parts) (prices : List ℕ) (k : ℕ) (r : Forbidden) (price : ℕ) (potentials : List ℕ) (arcs : List ArcId) → ArePotentials p prices k r price potentials → IsPermittedPath p r k arcs → (i : ℕ) → i ≤ length arcs → slice_index potentials (node_at p (demand_at p k).source arcs i) ≤ price_of p prices (take i arcs)
 rises p prices k r price potentials arcs h path zero within = omega (arith, h.at_source)
 rises p prices k r price potentials arcs h path (suc i) within =
     let a = arc_at arcs i in
     let before = rises p prices k r price potentials arcs h path i (omega arith) in
     let step = h.along a (is_open-path p k r arcs i path (omega arith)) in
     let tail : slice_index potentials (tail_of p a).0 ≡ slice_index potentials (node_at p (demand_at p k).source arcs i) = ap (slice_index potentials) (path.simple.goes_on i (omega arith)) in
-    let more : price_of prices (take (suc i) arcs) ≡ price_of prices (take i arcs) + price_at prices a =
-    (let m = sum_by_more (λ (x : ArcId). slice_index prices (link_of x)) arcs i no_arc (omega arith) in rw add-one at m) in
+    let more : price_of p prices (take (suc i) arcs) ≡ price_of p prices (take i arcs) + price_at p prices a =
+    (let m = sum_by_more (λ (x : ArcId). slice_index prices (place_of p x)) arcs i no_arc (omega arith) in rw add-one at m) in
     omega (arith, before, step, tail, more)
 
 -- no permitted path has a price below the target's potential
-undercut-none : (p : Parts) (prices : List ℕ) (k : ℕ) (r : Forbidden) (price : ℕ) (potentials : List ℕ) → ArePotentials p prices k r price potentials → (other : List ArcId) → IsPermittedPath p r k other → price ≤ price_of prices other
+undercut-none : (p : Parts) (prices : List ℕ) (k : ℕ) (r : Forbidden) (price : ℕ) (potentials : List ℕ) → ArePotentials p prices k r price potentials → (other : List ArcId) → IsPermittedPath p r k other → price ≤ price_of p prices other
 undercut-none p prices k r price potentials h other path =
     let up = rises p prices k r price potentials other h path (length other) (omega arith) in
     let end_ : slice_index potentials (node_at p (demand_at p k).source other (length other)) ≡ price = ap (slice_index potentials) path.simple.ends_at_target ∙ h.at_target in
-    let whole : price_of prices (take (length other) other) ≡ price_of prices other = ap (price_of prices) (take_all (length other) other (omega arith)) in
+    let whole : price_of p prices (take (length other) other) ≡ price_of p prices other = ap (price_of p prices) (take_all (length other) other (omega arith)) in
     omega (arith, up, end_, whole)
 
 -- a permitted path does not leave a closed set

@@ -1,6 +1,6 @@
 -- What is known of the arcs of a path without a fault, and of prices that fit.
 use Rattle.std.proofs.Common.{◌≡◌, ℕ, ◌<◌, ◌≤◌, Bool, true, not, ◌==◌, List, length, get_or, All, Some, None, refl, sym, subst, arith}
-use Rattle.std.proofs.lemmas.Bool.{ltb-true, eq-eqb}
+use Rattle.std.proofs.lemmas.Bool.{eq-eqb}
 use Rattle.std.proofs.lemmas.List.Elements.{All-from_get_or}
 use Rattle.plan_base.specs.declared.ids.ArcId.{ArcId}
 use Rattle.plan_base.specs.declared.parts.Demand.{Demand}
@@ -8,9 +8,10 @@ use Rattle.plan_base.specs.declared.parts.Parts.{Parts}
 use Rattle.plan_base.specs.declared.limits.TheConstants.{MAX_NODES, MAX_PRICED_LOAD}
 use Rattle.plan_base.specs.First.{◌or_else◌, when, first_fault, fault_at, first_in}
 use Rattle.plan_base.specs.Facts.{IsInstance, price_limit}
-use Rattle.plan_base.specs.Arcs.{link_of, demand_at, no_arc}
+use Rattle.plan_base.specs.Arcs.{demand_at, no_arc}
+use Rattle.plan_base.specs.Places.{places, place_of}
+use Rattle.plan_base.proofs.PathSums.{place-within}
 use Rattle.plan_base.specs.Paths.{arc_at, node_at}
-use Rattle.plan_base.proofs.Bools.{and-first}
 use Rattle.plan_base.proofs.FirstFault.{or_else-none}
 use Rattle.plan_base.proofs.PriceLaws.{price_limit_le}
 use Rattle.arc_restrict.specs.Restrictions.{Forbidden}
@@ -44,12 +45,12 @@ walk-short p d f arcs inst start h =
     let short = place-short p d f arcs (length arcs) inst start (omega arith) (places-walk_fault p d f arcs h) in
     omega (arith, short, inst.nodes)
 
--- each of its arcs has a link with a price
-pub walk-links : (p : Parts) (d : Demand) (f : ArcId → Bool) (arcs : List ArcId) (prices : List ℕ) → ArePrices p prices → None ≡ walk_fault p d f arcs → All (λ a. link_of a < length prices) arcs
-walk-links p d f arcs prices fits h =
-    All-from_get_or (λ a. link_of a < length prices) arcs no_arc (λ i within.
+-- each of its arcs has a place with a price
+pub walk-places : (p : Parts) (d : Demand) (f : ArcId → Bool) (arcs : List ArcId) (prices : List ℕ) → ArePrices p prices → None ≡ walk_fault p d f arcs → All (λ a. place_of p a < length prices) arcs
+walk-places p d f arcs prices fits h =
+    All-from_get_or (λ a. place_of p a < length prices) arcs no_arc (λ i within.
     let place = IsInPlace-before p d f arcs (length arcs) (omega arith) (places-walk_fault p d f arcs h) i within in
-    let inside : link_of (arc_at arcs i) < length p.links = ltb-true _ _ (and-first _ _ place.is_an_arc) in
+    let inside : place_of p (arc_at arcs i) < places p = place-within p (arc_at arcs i) place.is_an_arc in
     omega (arith, inside, fits.count))
 
 -- no price is above the limit of all limits

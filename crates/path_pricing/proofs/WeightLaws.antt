@@ -1,14 +1,14 @@
 -- The weights that a search is told: the price of each permitted arc, none for another.
 use Rattle.std.proofs.Common.{◌≡◌, ℕ, zero, suc, ◌+◌, ◌*◌, ◌<◌, ◌≤◌, ◌⊎◌, inl, inr, Bool, true, false, List, [], ◌∷◌, ◌++◌, length, get_or, Option, Some, None, IsSome, refl, subst, ap, ◌∙◌, arith, add-one, sum_by}
 use Rattle.std.specs.Option.{unwrap_or}
-use Rattle.std.proofs.lemmas.Bool.{ltb-true}
 use Rattle.std.proofs.lemmas.List.{get_or_append_left, get_or_push, length_push}
 use Rattle.std.proofs.lemmas.List.Elements.{All-from_get_or}
 use Rattle.std.proofs.lemmas.List.Sums.{sum_by-cons}
 use Rattle.plan_base.specs.declared.ids.ArcId.{ArcId}
 use Rattle.plan_base.specs.declared.parts.Parts.{Parts}
 use Rattle.plan_base.specs.Facts.{price_limit}
-use Rattle.plan_base.specs.Arcs.{link_of}
+use Rattle.plan_base.specs.Places.{places, place_of}
+use Rattle.plan_base.proofs.PathSums.{place-within}
 use Rattle.plan_base.specs.Paths.{arc_at}
 use Rattle.plan_base.proofs.Bools.{and-first}
 use Rattle.plan_base.proofs.PriceLaws.{price_limit_le}
@@ -54,8 +54,8 @@ weights_below-at p prices k r (suc n) i within =
 price_small : (p : Parts) (prices : List ℕ) (k : ℕ) (r : Forbidden) (a : ArcId) → ArePrices p prices → (b : Bool) → is_open p r k a ≡ b → unwrap_or (open_price p prices k r a) 0 ≤ MAX_WEIGHT
 unfolding open_price
 price_small p prices k r a fits true is =
-    let inside : link_of a < length p.links = ltb-true _ _ (and-first _ _ (and-first _ _ is)) in
-    let small : price_at prices a ≤ price_limit p = fits.within_limit (link_of a) 0 (omega (arith, fits.count)) in
+    let inside : place_of p a < places p = place-within p a (and-first _ _ is) in
+    let small : price_at p prices a ≤ price_limit p = fits.within_limit (place_of p a) 0 (omega (arith, fits.count)) in
     let limit = price_limit_le p in
     rw is (omega (arith, small, limit))
 price_small p prices k r a fits false is = rw is (omega arith)
@@ -71,7 +71,7 @@ AreWeights-weights_below p prices k r fits =
     }
 
 -- a permitted arc has its price as weight
-pub weights_below-open : (p : Parts) (prices : List ℕ) (k : ℕ) (r : Forbidden) (a : ArcId) → is_open p r k a ≡ true → get_or (weights_below p prices k r (2 * length p.links)) a.0 None ≡ Some (price_at prices a)
+pub weights_below-open : (p : Parts) (prices : List ℕ) (k : ℕ) (r : Forbidden) (a : ArcId) → is_open p r k a ≡ true → get_or (weights_below p prices k r (2 * length p.links)) a.0 None ≡ Some (price_at p prices a)
 unfolding open_price
 weights_below-open p prices k r a is =
     weights_below-at p prices k r (2 * length p.links) a.0 (arc-within p a (and-first _ _ is)) ∙ rw is refl
@@ -82,7 +82,7 @@ IsUsable-open p prices k r a is = record {
   weighted = rw (weights_below-open p prices k r a is) refl;
 }
 
-pub weight_at-open : (p : Parts) (prices : List ℕ) (k : ℕ) (r : Forbidden) (a : ArcId) → is_open p r k a ≡ true → weight_at (weights_below p prices k r (2 * length p.links)) a ≡ price_at prices a
+pub weight_at-open : (p : Parts) (prices : List ℕ) (k : ℕ) (r : Forbidden) (a : ArcId) → is_open p r k a ≡ true → weight_at (weights_below p prices k r (2 * length p.links)) a ≡ price_at p prices a
 weight_at-open p prices k r a is = rw (weights_below-open p prices k r a is) refl
 
 -- a usable arc is permitted

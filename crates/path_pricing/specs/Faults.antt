@@ -35,7 +35,7 @@ arc_id n = record { 0 = n }
 -- the arc is permitted, and its head's potential is above its tail's plus its price
 unfoldable pub dearer_fault : Parts → List ℕ → ℕ → Forbidden → List ℕ → ArcId → Option Unfit
 dearer_fault p prices k r potentials a =
-    when (is_open p r k a && nat_lt (potential_at potentials (tail_of p a) + price_at prices a) (potential_at potentials (head_of p a))) (Dearer a)
+    when (is_open p r k a && nat_lt (potential_at potentials (tail_of p a) + price_at p prices a) (potential_at potentials (head_of p a))) (Dearer a)
 
 -- the first such arc, by number
 abbrev pub first_dearer : Parts → List ℕ → ℕ → Forbidden → List ℕ → Option Unfit
@@ -46,7 +46,7 @@ unfoldable pub length_fault : Parts → List ℕ → Demand → List ArcId → �
 length_fault p prices demand path price potentials =
     when (not (potential_at potentials demand.source == 0)) WrongLength
     or_else when (not (potential_at potentials demand.target == price)) WrongLength
-    or_else when (not (price_of prices path == price)) WrongLength
+    or_else when (not (price_of p prices path == price)) WrongLength
 
 -- the first fault of a path: its arcs, the count of potentials, the potentials along arcs, its length
 unfoldable pub path_fault : Parts → List ℕ → ℕ → Forbidden → List ArcId → ℕ → List ℕ → Option Unfit

@@ -3,24 +3,25 @@ use Rattle.std.specs.Prelude.{ℕ, ◌≡◌, ◌≤◌, ◌+◌, Bool, false, n
 use Rattle.plan_base.specs.declared.ids.NodeId.{NodeId}
 use Rattle.plan_base.specs.declared.ids.ArcId.{ArcId}
 use Rattle.plan_base.specs.declared.parts.Parts.{Parts}
-use Rattle.plan_base.specs.Arcs.{is_arc, tail_of, head_of, link_of, demand_at}
+use Rattle.plan_base.specs.Arcs.{is_arc, tail_of, head_of, demand_at}
+use Rattle.plan_base.specs.Places.{places, place_of}
 use Rattle.arc_restrict.specs.Restrictions.{Forbidden, IsPermittedPath, HasNoPath}
 use Rattle.arc_restrict.specs.Prices.{AreWithinLimit, price_of, IsLeastPrice}
 use Rattle.path_pricing.specs.declared.priced.Priced.{Priced}
 use Rattle.path_pricing.specs.declared.priced.Priced.TheVariants.{Path, NoPath}
 
--- one price for each link, none above the price limit
+-- one price for each place, none above the price limit
 pub record ArePrices (p : Parts) (prices : List ℕ) : Type 0 where
-  pub count : length prices ≡ length p.links
+  pub count : length prices ≡ places p
   pub within_limit : AreWithinLimit p prices
 
 -- the arc exists and is not forbidden to the demand of this number
 abbrev pub is_open : Parts → Forbidden → ℕ → ArcId → Bool
 is_open p r k a = is_arc p a && not (r k a)
 
--- the price of the arc's link
-abbrev pub price_at : List ℕ → ArcId → ℕ
-price_at prices a = slice_index prices (link_of a)
+-- the price of the arc's place
+abbrev pub price_at : Parts → List ℕ → ArcId → ℕ
+price_at p prices a = slice_index prices (place_of p a)
 
 -- the potential of the node
 abbrev pub potential_at : List ℕ → NodeId → ℕ
@@ -36,12 +37,12 @@ pub record ArePotentials (p : Parts) (prices : List ℕ) (k : ℕ) (r : Forbidde
   pub at_source : potential_at potentials (demand_at p k).source ≡ 0
   pub at_target : potential_at potentials (demand_at p k).target ≡ price
   pub along : (a : ArcId) → IsTrue (is_open p r k a)
-      → potential_at potentials (head_of p a) ≤ potential_at potentials (tail_of p a) + price_at prices a
+      → potential_at potentials (head_of p a) ≤ potential_at potentials (tail_of p a) + price_at p prices a
 
 -- a permitted path of the demand with this price, and potentials that rise to the price
 pub record IsShownPath (p : Parts) (prices : List ℕ) (k : ℕ) (r : Forbidden) (path : List ArcId) (price : ℕ) (potentials : List ℕ) : Type 0 where
   pub permitted : IsPermittedPath p r k path
-  pub price_is : price_of prices path ≡ price
+  pub price_is : price_of p prices path ≡ price
   pub potentials_rise : ArePotentials p prices k r price potentials
 
 -- one entry for each node; the set holds the demand's source and not its target, and no permitted arc leaves it
@@ -59,7 +60,7 @@ IsShown p prices k r (NoPath reached) = IsClosedSet p k r reached
 -- a permitted path of the demand with this price, which is the least price
 pub record IsLeastPath (p : Parts) (prices : List ℕ) (k : ℕ) (r : Forbidden) (path : List ArcId) (price : ℕ) : Type 0 where
   pub permitted : IsPermittedPath p r k path
-  pub price_is : price_of prices path ≡ price
+  pub price_is : price_of p prices path ≡ price
   pub least : IsLeastPrice p r prices k price
 
 -- what is found is so: the path is a least one, or there is no permitted path

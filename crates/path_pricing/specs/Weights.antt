@@ -1,4 +1,4 @@
--- What a search is told of arcs. No public clause cites this module.
+-- What a search is told of arcs.
 use Rattle.std.specs.Prelude.{ℕ, zero, suc, List, [], ◌∷◌, ◌++◌, Option, Some, None, if◌then◌else◌}
 use Rattle.plan_base.specs.declared.ids.ArcId.{ArcId}
 use Rattle.plan_base.specs.declared.parts.Parts.{Parts}
@@ -12,7 +12,7 @@ use Rattle.path_pricing.specs.Faults.{arc_id}
 
 -- the price of a permitted arc, none for another
 unfoldable pub open_price : Parts → List ℕ → ℕ → Forbidden → ArcId → Option ℕ
-open_price p prices k r a = if is_open p r k a then Some (price_at prices a) else None
+open_price p prices k r a = if is_open p r k a then Some (price_at p prices a) else None
 
 -- one weight for each of the arcs 0 to n - 1
 abbrev pub weights_below : Parts → List ℕ → ℕ → Forbidden → ℕ → List (Option ℕ)

@@ -3,7 +3,7 @@
 ghost use Rattle.std.specs.Prelude.{◌≡◌, ◌↔◌, ◌<◌, ◌≤◌, ◌+◌, IsOk, IfOk, All, None, length, nat_lt};
 ghost use Rattle.std.specs.Result.{result_err};
 ghost use Rattle.plan_base.specs.Facts.{IsInstance};
-ghost use Rattle.plan_base.specs.Arcs.{link_of};
+ghost use Rattle.plan_base.specs.Places.{places, place_of};
 ghost use Rattle.plan_base.specs.declared.limits.TheConstants.{MAX_NODES, MAX_PRICED_LOAD};
 ghost use Rattle.arc_restrict.specs.Rows.{forbids};
 ghost use Rattle.arc_restrict.specs.Prices.{price_of};
@@ -29,7 +29,7 @@ impl Query<'_> {
     /// Whether the arc is forbidden, or rises by at most its price.
     #[tactic(auto, unfolding(crate::specs::Faults::dearer_fault))]
     fn check_rise(&self, potentials: &[u128], arc: ArcId) -> Result<(), Unfit>
-        requires prices { length self.now.prices.now ≡ length self.now.inst.now.links }
+        requires prices { length self.now.prices.now ≡ places self.now.inst.now }
         requires potentials { length potentials.now ≡ self.now.inst.now.nodes }
         ensures { result_err result
             ≡ dearer_fault self.now.inst.now self.now.prices.now self.now.demand.0 (forbids self.now.restriction.now) potentials.now arc }
@@ -47,7 +47,7 @@ impl Query<'_> {
 
     /// Whether each permitted arc rises by at most its price.
     fn check_rises(&self, potentials: &[u128]) -> Result<(), Unfit>
-        requires prices { length self.now.prices.now ≡ length self.now.inst.now.links }
+        requires prices { length self.now.prices.now ≡ places self.now.inst.now }
         requires potentials { length potentials.now ≡ self.now.inst.now.nodes }
         ensures { result_err result
             ≡ first_dearer self.now.inst.now self.now.prices.now self.now.demand.0 (forbids self.now.restriction.now) potentials.now }
@@ -58,13 +58,13 @@ impl Query<'_> {
         Ok(())
     }
 
-    /// The sum of the prices of the arcs' links.
+    /// The sum of the prices of the arcs' places.
     #[tactic(auto, using(crate::proofs::PriceSums::price_sums))]
     fn price_of(&self, arcs: &[ArcId]) -> u128
         requires short { length arcs.now < MAX_NODES }
-        requires links { All (λ a. link_of a < length self.now.prices.now) arcs.now }
+        requires places { All (λ a. place_of self.now.inst.now a < length self.now.prices.now) arcs.now }
         requires small { All (λ price. price ≤ MAX_PRICED_LOAD) self.now.prices.now }
-        ensures { result ≡ price_of self.now.prices.now arcs.now }
+        ensures { result ≡ price_of self.now.inst.now self.now.prices.now arcs.now }
     {
         let mut price: u128 = 0;
         for arc in arcs {
@@ -85,7 +85,7 @@ impl Query<'_> {
         requires source { demand.now.source.0 < length potentials.now }
         requires target { demand.now.target.0 < length potentials.now }
         requires short { length arcs.now < MAX_NODES }
-        requires links { All (λ a. link_of a < length self.now.prices.now) arcs.now }
+        requires places { All (λ a. place_of self.now.inst.now a < length self.now.prices.now) arcs.now }
         requires small { All (λ price. price ≤ MAX_PRICED_LOAD) self.now.prices.now }
         ensures { result_err result ≡ length_fault self.now.inst.now self.now.prices.now demand.now arcs.now price potentials.now }
     {
@@ -225,7 +225,7 @@ pub fn check_priced(
     ensures least { IfOk result (λ _. IsPriced inst.now prices.now demand.0 (forbids restriction.now) found.now) }
     ensures fault { result_err result ≡ priced_fault inst.now prices.now demand.0 (forbids restriction.now) found.now }
 {
-    let _links = inst.links();
+    inst.lawful();
     let query = Query {
         inst,
         prices,

@@ -19,5 +19,5 @@ mod walks;
 
 pub use checking::check_priced;
 pub use priced::{Priced, Unfit};
-pub use pricing::{price, price_slow};
+pub use pricing::{arc_weights, price, price_slow};
 pub use source_tree::SourceTree;

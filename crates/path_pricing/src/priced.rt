@@ -8,7 +8,7 @@ use plan_base::{ArcId, Items, Path};
 #[derive(Debug, Drop)]
 pub enum Priced {
     /// The path, its price, and one potential for each node: 0 at the demand's source, the length at its
-    /// target, and along each permitted arc it rises by at most the price of the arc's link. All are in
+    /// target, and along each permitted arc it rises by at most the price of the arc's place. All are in
     /// thousandths of a cost grain per load grain.
     Path {
         path: Path,

@@ -1,6 +1,7 @@
 //! The search for a least price.
 
 ghost use Rattle.std.specs.Prelude.{◌≡◌, ◌<◌, ◌*◌, length, IfOk, None};
+ghost use Rattle.plan_base.specs.Places.{places};
 ghost use Rattle.arc_restrict.specs.Rows.{forbids};
 ghost use Rattle.path_pricing.specs.Priced.{ArePrices, IsShown, IsPriced};
 ghost use Rattle.path_pricing.specs.Faults.{priced_fault};
@@ -17,7 +18,7 @@ impl Query<'_> {
     /// The price of a permitted arc, none for another.
     #[tactic(auto, unfolding(crate::specs::Weights::open_price))]
     fn open_price(&self, arc: ArcId) -> Option<u128>
-        requires { length self.now.prices.now ≡ length self.now.inst.now.links }
+        requires { length self.now.prices.now ≡ places self.now.inst.now }
         ensures { result
             ≡ open_price self.now.inst.now self.now.prices.now self.now.demand.0 (forbids self.now.restriction.now) arc }
     {
@@ -27,19 +28,37 @@ impl Query<'_> {
             None
         }
     }
+}
 
-    /// The weight of each arc: its price, none where it is not permitted.
-    fn weights(&self, alloc: Global) -> Result<Vec<Option<u128>>, AllocError>
-        requires { length self.now.prices.now ≡ length self.now.inst.now.links }
-        ensures { IfOk result
-            (λ weights. weights.items ≡ weights_below self.now.inst.now self.now.prices.now self.now.demand.0 (forbids self.now.restriction.now) (2 * length self.now.inst.now.links)) }
-    {
-        let mut weights = Vec::with_capacity(alloc, 2 * self.inst.links() as usize)?;
-        for number in 0..2 * self.inst.links() {
-            weights.push(self.open_price(ArcId(number)))?;
-        }
-        Ok(weights)
+/// The weight of each number of an arc: its price, and none where it is no arc or is forbidden to the demand.
+///
+/// - Takes: where memory comes from; an instance, prices that fit it in thousandths of a cost grain per load grain, a
+///   demand of it, and a restriction.
+/// - Errors: want of memory alone.
+/// - Rule: docs/DEFINITIONS.md, "Prices of paths".
+/// - Time: linear in links.
+pub fn arc_weights(
+    alloc: Global,
+    inst: &Instance,
+    prices: &Prices,
+    demand: DemandId,
+    restriction: &Restriction,
+) -> Result<Vec<Option<u128>>, AllocError>
+    requires { length prices.now ≡ places inst.now }
+    ensures { IfOk result
+        (λ weights. weights.items ≡ weights_below inst.now prices.now demand.0 (forbids restriction.now) (2 * length inst.now.links)) }
+{
+    let query = Query {
+        inst,
+        prices,
+        demand,
+        restriction,
+    };
+    let mut weights = Vec::with_capacity(alloc, inst.arcs() as usize)?;
+    for number in 0..inst.arcs() {
+        weights.push(query.open_price(ArcId(number)))?;
     }
+    Ok(weights)
 }
 
 /// What a search found, as what is found for a demand.
@@ -83,13 +102,7 @@ pub fn price(
     ensures shown { IfOk result (IsShown inst.now prices.now demand.0 (forbids restriction.now)) }
     ensures accepted { IfOk result (λ found. priced_fault inst.now prices.now demand.0 (forbids restriction.now) found ≡ None) }
 {
-    let query = Query {
-        inst,
-        prices,
-        demand,
-        restriction,
-    };
-    let weights = query.weights(alloc)?;
+    let weights = arc_weights(alloc, inst, prices, demand, restriction)?;
     let asked = inst.demand(demand);
     let found = search(alloc, inst, &weights, asked.source, asked.target)?;
     Ok(priced(found))
@@ -114,13 +127,7 @@ pub fn price_slow(
     ensures shown { IfOk result (IsShown inst.now prices.now demand.0 (forbids restriction.now)) }
     ensures accepted { IfOk result (λ found. priced_fault inst.now prices.now demand.0 (forbids restriction.now) found ≡ None) }
 {
-    let query = Query {
-        inst,
-        prices,
-        demand,
-        restriction,
-    };
-    let weights = query.weights(alloc)?;
+    let weights = arc_weights(alloc, inst, prices, demand, restriction)?;
     let asked = inst.demand(demand);
     let found = search_slow(alloc, inst, &weights, asked.source, asked.target)?;
     Ok(priced(found))

@@ -1,7 +1,7 @@
 //! What is asked: the least price of one demand.
 
 ghost use Rattle.std.specs.Prelude.{◌≡◌, ◌<◌, length};
-ghost use Rattle.plan_base.specs.Arcs.{link_of};
+ghost use Rattle.plan_base.specs.Places.{place_of};
 ghost use Rattle.arc_restrict.specs.Rows.{forbids};
 ghost use Rattle.path_pricing.specs.Priced.{is_open, price_at};
 
@@ -25,11 +25,11 @@ impl Query<'_> {
         self.inst.is_arc(arc) && self.restriction.allows(self.demand, arc)
     }
 
-    /// The price of the arc's link.
+    /// The price of the arc's place.
     pub fn price_at(&self, arc: ArcId) -> u128
-        requires { link_of arc < length self.now.prices.now }
-        ensures { result ≡ price_at self.now.prices.now arc }
+        requires { place_of self.now.inst.now arc < length self.now.prices.now }
+        ensures { result ≡ price_at self.now.inst.now self.now.prices.now arc }
     {
-        self.prices.as_slice()[(arc.0 / 2) as usize]
+        self.prices.as_slice()[self.inst.place(arc) as usize]
     }
 }

@@ -10,7 +10,7 @@ use crate::checking::check_priced;
 use crate::priced::Priced;
 use arc_restrict::Restriction;
 use least_path::Tree;
-use plan_base::{DemandId, Instance, Items, NodeId, Prices};
+use plan_base::{ArcId, DemandId, Instance, Items, NodeId, Prices};
 use std::alloc::{AllocError, Global};
 
 /// A path of least price from a source to each node that arcs lead to, where nothing is forbidden.
@@ -24,7 +24,7 @@ pub struct SourceTree {
     potentials: Items<u128>,
 }
 
-/// The price of each arc: that of its link, in either direction.
+/// The price of each arc: that of its place.
 fn arc_prices(
     alloc: Global,
     inst: &Instance,
@@ -33,10 +33,9 @@ fn arc_prices(
     requires { ArePrices inst.now prices.now }
     ensures { IfOk result (λ weights. AreWeights inst.now weights.items) }
 {
-    let mut weights = Vec::with_capacity(alloc, 2 * inst.links() as usize)?;
-    for price in prices {
-        weights.push(Some(*price))?;
-        weights.push(Some(*price))?;
+    let mut weights = Vec::with_capacity(alloc, inst.arcs() as usize)?;
+    for number in 0..inst.arcs() {
+        weights.push(Some(prices[inst.place(ArcId(number)) as usize]))?;
     }
     Ok(weights)
 }

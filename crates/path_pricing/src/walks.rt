@@ -40,7 +40,7 @@ impl Query<'_> {
             return Err(Unfit::NotPermitted { place });
         }
         let next = self.inst.head(arc);
-        let _nodes = self.inst.nodes();
+        self.inst.lawful();
         if met.has(next.0) {
             return Err(Unfit::NotPermitted { place });
         }

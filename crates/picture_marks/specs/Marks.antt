@@ -3,7 +3,8 @@ use Rattle.std.specs.Prelude.{ℕ, ◌-◌, ◌/◌, List, [], ◌∷◌, ◌++�
 use Rattle.plan_base.specs.declared.parts.Parts.{Parts}
 use Rattle.plan_base.specs.declared.path.Design.{Design}
 use Rattle.plan_base.specs.Arcs.{link_at}
-use Rattle.plan_base.specs.Designs.{path_at, counts_at, load_on, capacity_with}
+use Rattle.plan_base.specs.Places.{is_two_way, there_of, back_of}
+use Rattle.plan_base.specs.Designs.{path_at, counts_at, load_at, need, capacity_with}
 use Rattle.plan_base.specs.Paths.{uses}
 use Rattle.scaled_numbers.specs.Canonical.{grains_text}
 use Rattle.picture_marks.specs.declared.marks.TheConstants.{LOAD_SCALE}
@@ -52,13 +53,13 @@ node_text name look = circle_text name look.at ++ label_text (codes "place") loo
 
 -- ---- links
 
--- how full a link is: without a load, up to a half, at its capacity, with a fifth of it, rounded down, left, or with less
+-- how full a link is that needs so much: without a load, up to a half, at its capacity, with a fifth of it, rounded down, left, or with less
 abbrev pub shade : ℕ → ℕ → List ℕ
-shade load capacity =
-    if nat_eq load 0 then codes "unused"
-    else if nat_le load (capacity / 2) then codes "low"
-    else if nat_le capacity load then codes "full"
-    else if nat_le load (capacity - capacity / 5) then codes "middle"
+shade needed capacity =
+    if nat_eq needed 0 then codes "unused"
+    else if nat_le needed (capacity / 2) then codes "low"
+    else if nat_le capacity needed then codes "full"
+    else if nat_le needed (capacity - capacity / 5) then codes "middle"
     else codes "high"
 
 -- the class that goes with a light, behind a blank
@@ -72,19 +73,35 @@ abbrev pub light_on : Design → Option ℕ → ℕ → Light
 light_on d None e = lights.Plain
 light_on d (Some k) e = if uses e (path_at d k) then lights.Lit else lights.Dim
 
--- the load and the capacity of a link, and the light on it
+-- the load of a link's other place, where it has one
+abbrev pub back_load : Parts → Design → ℕ → Option ℕ
+back_load p d e = if is_two_way p.orient then Some (back_of p (load_at p d) e) else None
+
+-- the loads of a link's places, the capacity that it needs and the one that it has, and the light on it
 abbrev pub traffic_on : Parts → Design → Option ℕ → ℕ → Traffic
-traffic_on p d lit e = record { load = load_on p d e; capacity = capacity_with (link_at p e) (counts_at d e); light = light_on d lit e }
+traffic_on p d lit e = record {
+  load = there_of p (load_at p d) e;
+  back = back_load p d e;
+  need = need p d e;
+  capacity = capacity_with (link_at p e) (counts_at d e);
+  light = light_on d lit e;
+}
 
 -- the classes of a link
 unfoldable pub classes : Option Traffic → List ℕ
 classes None = codes "unused"
-classes (Some on) = shade on.load on.capacity ++ light_word on.light
+classes (Some on) = shade on.need on.capacity ++ light_word on.light
+
+-- the load of a link's other place, behind its word, where it has one
+unfoldable pub back_text : Option ℕ → List ℕ
+back_text None = []
+back_text (Some back) = codes " back " ++ grains_text back LOAD_SCALE
 
 -- what is told of a link of this name
 unfoldable pub title : List ℕ → Option Traffic → List ℕ
 title name None = escaped name
-title name (Some on) = escaped name ++ codes " load " ++ grains_text on.load LOAD_SCALE ++ codes " capacity " ++ grains_text on.capacity LOAD_SCALE
+title name (Some on) =
+    escaped name ++ codes " load " ++ grains_text on.load LOAD_SCALE ++ back_text on.back ++ codes " capacity " ++ grains_text on.capacity LOAD_SCALE
 
 -- how a link of this width is drawn
 unfoldable pub stroke_text : Option Traffic → ℕ → List ℕ

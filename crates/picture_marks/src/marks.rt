@@ -1,15 +1,16 @@
 //! The marks of nodes and links.
 
-ghost use Rattle.std.specs.Prelude.{◌≡◌, ◌<◌, ◌++◌, length, decimal, option_map, OnOk, IfSome};
+ghost use Rattle.std.specs.Prelude.{◌≡◌, ◌<◌, ◌++◌, length, decimal, if◌then◌else◌, option_map, OnOk, IfSome, Some, None};
 ghost use Rattle.plan_base.specs.Facts.{IsInstance};
-ghost use Rattle.plan_base.specs.Designs.{load_on, IsGoodDesign};
+ghost use Rattle.plan_base.specs.Places.{is_two_way, there_of, back_of};
+ghost use Rattle.plan_base.specs.Designs.{load_at, IsGoodDesign};
 ghost use Rattle.mark_places.specs.Places.{HasLooks};
-ghost use Rattle.picture_marks.specs.Marks.{spot_text, label_text, circle_text, node_text, shade, light_word, light_on, traffic_on, classes, title, stroke_text, curve_text, hover_text, link_text};
+ghost use Rattle.picture_marks.specs.Marks.{spot_text, label_text, circle_text, node_text, shade, light_word, light_on, traffic_on, classes, back_text, title, stroke_text, curve_text, hover_text, link_text};
 
 use crate::escapes::push_escaped;
 use itoa::Buffer;
 use mark_places::{Looks, NodeLook, Spot};
-use plan_base::{DemandId, Design, Instance, LinkId, capacity_with};
+use plan_base::{DemandId, Design, Instance, LinkId, LinkLoads, capacity_with};
 use scaled_numbers::write_grains;
 use std::alloc::AllocError;
 
@@ -80,17 +81,17 @@ pub fn push_node(text: &mut Vec<u8>, name: &[u8], look: NodeLook) -> Result<(), 
     push_label(text, b"place", look.label, name)
 }
 
-/// How full a link is with this load, both in load grains.
-fn shade(load: u128, capacity: u128) -> &'static [u8]
-    ensures { result.now ≡ shade load capacity }
+/// How full a link is that needs so much of this capacity, both in load grains.
+fn shade(needed: u128, capacity: u128) -> &'static [u8]
+    ensures { result.now ≡ shade needed capacity }
 {
-    if load == 0 {
+    if needed == 0 {
         b"unused"
-    } else if load <= capacity / 2 {
+    } else if needed <= capacity / 2 {
         b"low"
-    } else if load >= capacity {
+    } else if needed >= capacity {
         b"full"
-    } else if load <= capacity - capacity / 5 {
+    } else if needed <= capacity - capacity / 5 {
         b"middle"
     } else {
         b"high"
@@ -138,34 +139,55 @@ fn light_on(design: &Design, lit: Option<DemandId>, id: LinkId) -> Light
     }
 }
 
-/// The load of a link and what can be carried on it, both in load grains, and the light on it.
+/// What a link carries and what can be carried on it, in load grains, and the light on it.
 #[derive(Clone, Copy, Debug, PartialEq, Eq)]
 pub struct Traffic {
+    /// The load of its place.
     pub load: u128,
+    /// The load of its other place, where it has one.
+    pub back: Option<u128>,
+    /// The capacity that it needs.
+    pub need: u128,
+    /// The capacity that it has.
     pub capacity: u128,
     pub light: Light,
 }
 
-/// The traffic on a link with this load.
+/// The load of a link's other place, where it has one, of these loads of its places.
+fn back_load(inst: &Instance, loads: LinkLoads) -> Option<u128>
+    ensures { result ≡ if is_two_way inst.now.orient then Some loads.back else None }
+{
+    if inst.orient().is_two_way() {
+        Some(loads.back)
+    } else {
+        None
+    }
+}
+
+/// The traffic on a link with these loads of its places.
 ///
-/// - Takes: an instance, a good design of it, the demand whose path is lit, if one is, and a link with its load.
+/// - Takes: an instance, a good design of it, the demand whose path is lit, if one is, and a link with the loads of
+///   its places.
 /// - Rule: docs/DEFINITIONS.md, "Pictures".
 pub fn traffic_on(
     inst: &Instance,
     design: &Design,
     lit: Option<DemandId>,
     id: LinkId,
-    load: u128,
+    loads: LinkLoads,
 ) -> Traffic
     requires link { id.0 < length inst.now.links }
     requires good { IsGoodDesign inst.now design.now }
-    requires load { load ≡ load_on inst.now design.now id.0 }
+    requires there { loads.there ≡ there_of inst.now (load_at inst.now design.now) id.0 }
+    requires back { loads.back ≡ back_of inst.now (load_at inst.now design.now) id.0 }
     requires lit { IfSome lit (λ k. k.0 < length inst.now.demands) }
     ensures { result ≡ traffic_on inst.now design.now (option_map (λ k. k.0) lit) id.0 }
 {
     let counts = design.counts.as_slice()[id.0 as usize].as_slice();
     Traffic {
-        load,
+        load: loads.there,
+        back: back_load(inst, loads),
+        need: loads.need(),
         capacity: capacity_with(inst.link(id), counts),
         light: light_on(design, lit, id),
     }
@@ -178,10 +200,24 @@ fn push_classes(text: &mut Vec<u8>, traffic: Option<Traffic>) -> Result<(), Allo
 {
     match traffic {
         Some(traffic) => {
-            text.extend_from_slice(shade(traffic.load, traffic.capacity))?;
+            text.extend_from_slice(shade(traffic.need, traffic.capacity))?;
             text.extend_from_slice(traffic.light.word())
         }
         None => text.extend_from_slice(b"unused"),
+    }
+}
+
+/// Writes the load of a link's other place, behind its word, where it has one.
+#[tactic(auto, unfolding(crate::specs::Marks::back_text))]
+fn push_back(text: &mut Vec<u8>, back: Option<u128>) -> Result<(), AllocError>
+    ensures { OnOk result (text.new.items ≡ text.old.items ++ back_text back) }
+{
+    match back {
+        Some(load) => {
+            text.extend_from_slice(b" back ")?;
+            write_grains(load, LOAD_SCALE, text)
+        }
+        None => Ok(()),
     }
 }
 
@@ -195,6 +231,7 @@ fn push_title(text: &mut Vec<u8>, name: &[u8], traffic: Option<Traffic>) -> Resu
         Some(traffic) => {
             text.extend_from_slice(b" load ")?;
             write_grains(traffic.load, LOAD_SCALE, text)?;
+            push_back(text, traffic.back)?;
             text.extend_from_slice(b" capacity ")?;
             write_grains(traffic.capacity, LOAD_SCALE, text)
         }

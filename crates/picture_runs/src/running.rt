@@ -15,7 +15,7 @@ ghost use Rattle.picture_runs.specs.PictureRuns.{usage_line, names_in, lit_in, I
 
 use cert_verifier::{Rejected, verify};
 use plan_base::{DemandId, Instance};
-use plan_io::{Gate, Shelf, Sink};
+use plan_io::{Shelf, Sink};
 use plan_picture::picture_text;
 use plan_report::verdict_line;
 use plan_texts::{Answer, Problem, Status, Stop, read_planned, write_answer};
@@ -126,14 +126,13 @@ fn draw(
 
 /// Reads a network text, a model text and a plan text, and draws the plan, once it is verified.
 #[tactic(auto, using(plan_texts::proofs::Begins::memory_after_three, plan_texts::proofs::Answering::read_from, crate::proofs::Drawing::drawn_texts))]
-fn draw_plan<S: Shelf, G: Gate>(
+fn draw_plan<S: Shelf>(
     alloc: Global,
     network: &str,
     model: &str,
     plan: &str,
     name: Option<&str>,
     shelf: &mut S,
-    gate: &G,
 ) -> Result<Answer, Stop>
     ensures done { IfOk result (λ answer. HoldsOfTexts (S.text shelf.old) (three network.now model.now plan.now) 3
         (λ texts. IsDrawn (option_map (λ word. word.now) name.entry) texts answer.status answer.text.items)) }
@@ -144,7 +143,7 @@ fn draw_plan<S: Shelf, G: Gate>(
     ensures too_long { IfErr result (TookMore (S.taken shelf.new)) }
     ensures later { S.faults shelf.old ≤ S.faults shelf.new }
 {
-    let planned = match read_planned(alloc, network, model, plan, shelf, gate) {
+    let planned = match read_planned(alloc, network, model, plan, shelf) {
         Ok(planned) => planned,
         Err(stop) => return Err(stop),
     };
@@ -167,12 +166,7 @@ fn misread(alloc: Global) -> Result<Answer, Stop>
 
 /// What a run of these words has to say.
 #[tactic(auto, using(crate::proofs::Drawing::found_other_count))]
-fn answer_to<S: Shelf, G: Gate>(
-    alloc: Global,
-    words: &[String],
-    shelf: &mut S,
-    gate: &G,
-) -> Result<Answer, Stop>
+fn answer_to<S: Shelf>(alloc: Global, words: &[String], shelf: &mut S) -> Result<Answer, Stop>
     ensures found { IsFound usage_line (IsDrawn (lit_in (map string_bytes words.now)))
         (names_in (map string_bytes words.now)) (S.text shelf.old) (S.begins shelf.old) (S.begins shelf.new) result }
     ensures read_fault { IfErr result (λ stop. IsReadStop stop → Rose (S.faults shelf.old) (S.faults shelf.new)) }
@@ -188,7 +182,6 @@ fn answer_to<S: Shelf, G: Gate>(
                 plan.as_str(),
                 None,
                 shelf,
-                gate,
             )
         }
         [network, model, plan, option, name] => {
@@ -202,7 +195,6 @@ fn answer_to<S: Shelf, G: Gate>(
                 plan.as_str(),
                 Some(name.as_str()),
                 shelf,
-                gate,
             )
         }
         _ => misread(alloc),
@@ -213,17 +205,16 @@ fn answer_to<S: Shelf, G: Gate>(
 ///
 /// - Takes: the words after the program's name: the names of a network text, a model text and a plan text, and perhaps
 ///   `--demand` with the name of a demand whose path is lit; a shelf that has the texts; the sink that the answer goes
-///   to; a gate that is passed once, between reading and the work.
+///   to.
 /// - Gives: how the run ended.
 /// - Rule: docs/FORMATS.md, "Pictures".
 /// - Time: linear in the texts' bytes, that of verifying the plan, and that of drawing it.
 #[tactic(auto, using(text_runs::proofs::Ending::own_end, text_runs::proofs::Ending::read_rose, text_runs::proofs::Ending::no_write_fault, crate::proofs::Drawing::drawn_ends))]
-pub fn picture_run<S: Shelf, W: Sink, G: Gate>(
+pub fn picture_run<S: Shelf, W: Sink>(
     alloc: Global,
     words: &[String],
     shelf: &mut S,
     out: &mut W,
-    gate: &G,
 ) -> Status
     ensures answer { IsPictureRun (map string_bytes words.now) (S.text shelf.old)
         (counts_of (S.faults shelf.old) (S.faults shelf.new) (S.taken shelf.new))
@@ -237,6 +228,6 @@ pub fn picture_run<S: Shelf, W: Sink, G: Gate>(
     ensures shelf_later { S.faults shelf.old ≤ S.faults shelf.new }
     ensures sink_later { W.faults out.old ≤ W.faults out.new }
 {
-    let found = answer_to(alloc, words, shelf, gate);
+    let found = answer_to(alloc, words, shelf);
     write_answer(alloc, out, found)
 }

@@ -6,6 +6,7 @@ use Rattle.std.proofs.lemmas.Bool.{eqb-true, ltb-true, ltb-false}
 use Rattle.std.proofs.lemmas.Option.{slice_get_within}
 use Rattle.plan_base.specs.declared.parts.Parts.{Parts}
 use Rattle.plan_base.specs.declared.path.Design.{Design}
+use Rattle.plan_base.specs.Places.{is_two_way}
 use Rattle.arc_restrict.specs.Restrictions.{Forbidden, none_forbidden, with_forbidden}
 use Rattle.proof_tree.specs.declared.tree.Evidence.TheVariants as evidence
 use Rattle.proof_tree.specs.declared.tree.TreeNode.{TreeNode}
@@ -117,12 +118,13 @@ done_cases s done some = by (s.examined == s.budget) refl
         absurd (omega arith)
 
 -- a plan that is put together from a state's parts is that of the state
-pub made_plan : (s : State) (plan : Plan) → IsReachable s → plan.nodes ≡ s.problem.nodes → plan.links ≡ length s.problem.links → plan.demands ≡ length s.problem.demands → plan.status ≡ status_of s
+pub made_plan : (s : State) (plan : Plan) → IsReachable s → plan.nodes ≡ s.problem.nodes → plan.links ≡ length s.problem.links → plan.demands ≡ length s.problem.demands → plan.both ≡ is_two_way s.problem.orient → plan.status ≡ status_of s
     → plan.budget ≡ s.budget → plan.examined ≡ s.examined → plan.design ≡ stated_design s.incumbent → plan.tree ≡ tree_of s → IsStatedBound s plan.status plan.bound → IsPlanOf s plan
-made_plan s plan h nodes links demands status budget examined design tree bound = record {
+made_plan s plan h nodes links demands both status budget examined design tree bound = record {
   nodes = nodes;
   links = links;
   demands = demands;
+  both = both;
   status = status;
   budget = budget;
   examined = examined;
@@ -198,7 +200,7 @@ module _ (s : State) (plan : Plan) (h : IsReachable s) (is : IsPlanOf s plan) wh
 
   pub plan_valid : is_done s ≡ true → IsValidPlan s.problem plan
   plan_valid done = record {
-    sizes = record { nodes = is.nodes; links = is.links; demands = is.demands };
+    sizes = record { nodes = is.nodes; links = is.links; demands = is.demands; both = is.both };
     examined = is.examined ∙ sym (tree-examined s h) ∙ ap (λ (records : List TreeNode). sum_by (λ record_. cond (not (is_open record_)) 1 0) records) (sym is.tree);
     design = stated plan.design s.incumbent is.design sound.incumbent;
     tree = valid_tree;

@@ -10,11 +10,12 @@ use Rattle.plan_base.specs.declared.path.Design.{Design}
 use Rattle.plan_base.specs.declared.limits.TheConstants.{MAX_COUNT_COST, MAX_LINKS}
 use Rattle.plan_base.specs.Sums.{sum_below}
 use Rattle.plan_base.specs.Facts.{IsInstance, price_limit}
-use Rattle.plan_base.specs.Arcs.{link_at, link_of, demand_at, no_link, no_demand}
-use Rattle.plan_base.specs.Designs.{module_at, counts_at, load_on, link_cost}
-use Rattle.plan_base.proofs.LoadLaws.{load_on-le-total}
+use Rattle.plan_base.specs.Arcs.{link_at, demand_at, no_link, no_demand}
+use Rattle.plan_base.specs.Places.{place_of, there_of, back_of}
+use Rattle.plan_base.specs.Designs.{module_at, counts_at, load_at, link_cost}
+use Rattle.plan_base.proofs.LoadLaws.{need-le-total}
 use Rattle.plan_base.proofs.PathLaws.{length-IsSimplePath}
-use Rattle.completions.proofs.CompletionLaws.{routing-within}
+use Rattle.completions.proofs.CompletionLaws.{both-within}
 use Rattle.arc_restrict.specs.Restrictions.{Forbidden, HasNoPath}
 use Rattle.path_pricing.specs.Priced.{ArePrices}
 use Rattle.arc_restrict.specs.Rows.{Rows, forbids}
@@ -198,25 +199,25 @@ pub record ArePricedBefore (p : Parts) (r : Forbidden) (prices : List ℕ) (roun
   pub least : (k price : ℕ) → length_at round.lengths k ≡ Some price → IsLeastPrice p r prices k price
   pub further : (k : ℕ) → number ≤ k → length_at round.lengths k ≡ None
 
-price-within : (p : Parts) (prices : List ℕ) → AreWithinLimit p prices → (e : ℕ) → slice_index prices e ≤ price_limit p
-price-within p prices within e = elim (past-or-there (length prices) e) [
-  | inl past ↦ (let none : slice_index prices e ≡ 0 = get_or_past prices e 0 past in omega arith)
-  | inr there ↦ within e 0 there
+price-within : (p : Parts) (prices : List ℕ) → AreWithinLimit p prices → (q : ℕ) → slice_index prices q ≤ price_limit p
+price-within p prices within q = elim (past-or-there (length prices) q) [
+  | inl past ↦ (let none : slice_index prices q ≡ 0 = get_or_past prices q 0 past in omega arith)
+  | inr there ↦ within q 0 there
 ]
   where
     past-or-there : (n i : ℕ) → (n ≤ i) ⊎ (i < n)
     past-or-there n i = grind arith
 
--- a least price is that of a simple path, which has at most so many links
+-- a least price is that of a simple path, which has at most so many arcs
 least-short : (p : Parts) (r : Forbidden) (prices : List ℕ) (k price : ℕ) → IsInstance p → AreWithinLimit p prices → k < length p.demands → IsLeastPrice p r prices k price → price ≤ MAX_PATH_LINKS * price_limit p
 least-short p r prices k price lawful within below least =
     let start = (lawful.demands k no_demand below).source in
     let few = length-IsSimplePath p (demand_at p k) least.path lawful start least.permitted.simple in
     let nodes = lawful.nodes in
-    let each = sum_by-le (λ a. slice_index prices (link_of a)) (price_limit p) least.path (λ i d there. price-within p prices within (link_of (get_or least.path i d))) in
-    let links : length least.path ≤ MAX_PATH_LINKS = omega arith in
+    let each = sum_by-le (λ a. slice_index prices (place_of p a)) (price_limit p) least.path (λ i d there. price-within p prices within (place_of p (get_or least.path i d))) in
+    let arcs : length least.path ≤ MAX_PATH_LINKS = omega arith in
     let same : price_limit p ≤ price_limit p = omega arith in
-    let most : length least.path * price_limit p ≤ MAX_PATH_LINKS * price_limit p = mul-le-mul links same in
+    let most : length least.path * price_limit p ≤ MAX_PATH_LINKS * price_limit p = mul-le-mul arcs same in
     let is = least.attained in
     omega arith
 
@@ -254,7 +255,7 @@ modules-within : (f : ℕ → ℕ) (n : ℕ) → ((i : ℕ) → i < n → f i �
 modules-within f zero h = omega arith
 modules-within f (suc n) h = let before = modules-within f n (λ i below. h i (omega arith)) in let here = h n (omega arith) in omega arith
 
-links-within : (f : ℕ → ℕ) (n : ℕ) → ((i : ℕ) → i < n → f i ≤ 33 * MAX_COUNT_COST) → sum_below f n ≤ n * (33 * MAX_COUNT_COST)
+links-within : (f : ℕ → ℕ) (n : ℕ) → ((i : ℕ) → i < n → f i ≤ 34 * MAX_COUNT_COST) → sum_below f n ≤ n * (34 * MAX_COUNT_COST)
 links-within f zero h = omega arith
 links-within f (suc n) h = let before = links-within f n (λ i below. h i (omega arith)) in let here = h n (omega arith) in omega arith
 
@@ -262,8 +263,8 @@ links-within f (suc n) h = let before = links-within f n (λ i below. h i (omega
 pub cost-small : (p : Parts) (cost : ℕ) (d : Design) → IsInstance p → IsStatedDesign p cost d → cost < 2 ^ 127
 cost-small p cost d lawful stated =
     let good = stated.good in
-    let each : (e : ℕ) → e < length p.links → link_cost p d e ≤ 33 * MAX_COUNT_COST = λ e within.
-    let routed = routing-within p e (load_on p d e) lawful within (load_on-le-total p d e) in
+    let each : (e : ℕ) → e < length p.links → link_cost p d e ≤ 34 * MAX_COUNT_COST = λ e within.
+    let routed = both-within p e (there_of p (load_at p d) e) (back_of p (load_at p d) e) lawful within (need-le-total p d e) in
     let modules = modules-within (λ m. slice_index (counts_at d e) m * (module_at (link_at p e) m).cost) (length (link_at p e).modules) (λ m below. (good.in_shape e within m below).cost_within) in
     let few = (lawful.links e no_link within).module_count in
     omega arith in
@@ -272,7 +273,7 @@ cost-small p cost d lawful stated =
     let is = stated.cost_is in
     small cost (length p.links) (omega arith) links
   where
-    small : (c n : ℕ) → c ≤ n * (33 * MAX_COUNT_COST) → n ≤ MAX_LINKS → c < 2 ^ 127
+    small : (c n : ℕ) → c ≤ n * (34 * MAX_COUNT_COST) → n ≤ MAX_LINKS → c < 2 ^ 127
     small c n h few = omega arith
 
 -- the held design costs less

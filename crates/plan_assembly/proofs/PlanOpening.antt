@@ -1,6 +1,6 @@
 -- The bound of each open leaf is at least the bound of the root at the start prices.
-use Rattle.std.proofs.Common.{◌≡◌, ℕ, zero, suc, ◌<◌, ◌≤◌, ◌⊎◌, inl, inr, Bool, true, false, List, length, slice_index, Option, Some, None, slice_get, refl, sym, ap, subst, ◌∙◌, arith, ℤ, pos, ◌≤ℤ◌}
-use Rattle.std.specs.Prelude.{int_lt}
+use Rattle.std.proofs.Common.{◌≡◌, ℕ, zero, suc, ◌<◌, ◌≤◌, ◌⊎◌, inl, inr, Bool, true, false, List, slice_index, Option, Some, None, slice_get, refl, sym, ap, subst, ◌∙◌, arith, ℤ, pos, ◌≤ℤ◌}
+use Rattle.std.specs.Prelude.{min, int_lt}
 use Rattle.std.proofs.lemmas.Int.{ints}
 use Rattle.std.proofs.lemmas.List.{ext_get_or}
 use Rattle.std.proofs.lemmas.Option.{slice_get_within}
@@ -8,9 +8,10 @@ use Rattle.plan_base.specs.declared.ids.ArcId.{ArcId}
 use Rattle.plan_base.specs.declared.parts.Link.{Link}
 use Rattle.plan_base.specs.declared.parts.Parts.{Parts}
 use Rattle.plan_base.specs.declared.path.Design.{Design}
-use Rattle.plan_base.specs.Facts.{top_load}
+use Rattle.plan_base.specs.Facts.{top_load, price_limit}
 use Rattle.plan_base.specs.Arcs.{link_at}
-use Rattle.link_steps.specs.Values.{IsStartPrice, AreStartPrices}
+use Rattle.plan_base.specs.Places.{places, link_of_place}
+use Rattle.link_steps.specs.Values.{IsLeastUnitPrice, IsStartPrice, AreStartPrices}
 use Rattle.arc_restrict.specs.Restrictions.{Forbidden, none_forbidden, with_forbidden}
 use Rattle.proof_tree.specs.Bounds.{IsBound, IsOpeningBound}
 use Rattle.proof_tree.specs.Plans.{IsStatedDesign}
@@ -36,23 +37,27 @@ use Rattle.plan_assembly.proofs.PlanBorn.{division_by, division_in, IsReachable-
 either-or : (n : ℕ) → (0 < n) ⊎ (n ≡ 0)
 either-or n = grind arith
 
+unit-unique : (p : Parts) (l : Link) (a b : ℕ) → IsLeastUnitPrice p l a → IsLeastUnitPrice p l b → a ≡ b
+unit-unique p l a b u v =
+    let low : a ≤ b = subst (λ (n : ℕ). a ≤ n) v.attained (u.least v.load v.cost v.positive v.within v.is_least) in
+    let high : b ≤ a = subst (λ (n : ℕ). b ≤ n) u.attained (v.least u.load u.cost u.positive u.within u.is_least) in
+    omega arith
+
 start-unique : (p : Parts) (l : Link) (a b : ℕ) → IsStartPrice p l a → IsStartPrice p l b → a ≡ b
 start-unique p l a b x y = elim (either-or (top_load p l)) [
   | inl used ↦
       let u = x.of_used used in
       let v = y.of_used used in
-      let low : a ≤ b = subst (λ (n : ℕ). a ≤ n) v.attained (u.least v.load v.cost v.positive v.within v.is_cost) in
-      let high : b ≤ a = subst (λ (n : ℕ). b ≤ n) u.attained (v.least u.load u.cost u.positive u.within u.is_cost) in
-      omega arith
+      u.cut ∙ (ap (λ (n : ℕ). min n (price_limit p)) (unit-unique p l u.unit_price v.unit_price u.is_least v.is_least) ∙ sym v.cut)
   | inr unused ↦ x.of_unused unused ∙ sym (y.of_unused unused)
 ]
 
 starts-unique : (p : Parts) (one other : List ℕ) → AreStartPrices p one → AreStartPrices p other → one ≡ other
 starts-unique p one other x y =
     ext_get_or 0 one other (x.count ∙ sym y.count)
-    (λ e within.
-    let below : e < length p.links = (let c = x.count in omega arith) in
-    start-unique p (link_at p e) (slice_index one e) (slice_index other e) (x.each e below) (y.each e below))
+    (λ q within.
+    let below : q < places p = (let c = x.count in omega arith) in
+    start-unique p (link_at p (link_of_place p q)) (slice_index one q) (slice_index other q) (x.each q below) (y.each q below))
 
 -- Parents
 

@@ -62,7 +62,7 @@ fn bound_at(
     ensures { IfOk result (IsBoundOrNone inst.now (forbids restriction.now) prices.now) }
 {
     let demands = inst.demands();
-    let mut round = Round::new(alloc, demands, inst.links())?;
+    let mut round = Round::new(alloc, demands, inst.places())?;
     round.restart(BranchId(0), 0, prices);
     for number in 0..demands {
         let demand = DemandId(number);

@@ -8,7 +8,7 @@ use Rattle.plan_base.specs.First.{◌or_else◌, first_fault}
 use Rattle.plan_base.specs.Faults.{link_id, demand_id}
 use Rattle.plan_base.specs.Arcs.{link_at, demand_at}
 use Rattle.plan_base.specs.Paths.{IsSimplePath}
-use Rattle.plan_base.specs.Designs.{path_at, counts_at, load_on, capacity_with, AreCountsInShape, IsGoodDesign}
+use Rattle.plan_base.specs.Designs.{path_at, counts_at, need, capacity_with, AreCountsInShape, IsGoodDesign}
 use Rattle.plan_base.specs.DesignFaults.{counts_fault, load_fault, carries_fault, wrong_count, demand_path_fault, design_fault}
 use Rattle.plan_base.proofs.Bools.{not_and-both, both-not_and}
 use Rattle.plan_base.proofs.FirstFault.{or_else-none, none-or_else, when-none, none-when, first_fault-none, none-first_fault}
@@ -19,24 +19,24 @@ use Rattle.plan_base.proofs.PathLaws.{IsSimplePath-path_fault, path_fault-IsSimp
 record Carries (p : Parts) (d : Design) (e : ℕ) : Type 0 where
   counts : length (counts_at d e) ≡ length (link_at p e).modules
   shape : AreCountsInShape (link_at p e) (counts_at d e)
-  load : load_on p d e ≤ capacity_with (link_at p e) (counts_at d e)
+  load : need p d e ≤ capacity_with (link_at p e) (counts_at d e)
 
 Carries-carries_fault : (p : Parts) (d : Design) (e : ℕ) → carries_fault p d e ≡ None → Carries p d e
 unfolding carries_fault
 Carries-carries_fault p d e h =
-    let both = or_else-none (counts_fault (link_id e) (link_at p e) (counts_at d e)) (load_fault (link_id e) (load_on p d e) (capacity_with (link_at p e) (counts_at d e))) h in
+    let both = or_else-none (counts_fault (link_id e) (link_at p e) (counts_at d e)) (load_fault (link_id e) (need p d e) (capacity_with (link_at p e) (counts_at d e))) h in
     record {
       counts = length-counts_fault (link_id e) (link_at p e) (counts_at d e) both.0;
       shape = shape-counts_fault (link_id e) (link_at p e) (counts_at d e) both.0;
-      load = ltb-false _ _ (when-none (nat_lt (capacity_with (link_at p e) (counts_at d e)) (load_on p d e)) (Short (link_id e) (load_on p d e) (capacity_with (link_at p e) (counts_at d e))) both.1);
+      load = ltb-false _ _ (when-none (nat_lt (capacity_with (link_at p e) (counts_at d e)) (need p d e)) (Short (link_id e) (need p d e) (capacity_with (link_at p e) (counts_at d e))) both.1);
     }
 
 carries_fault-Carries : (p : Parts) (d : Design) (e : ℕ) → Carries p d e → carries_fault p d e ≡ None
 unfolding carries_fault
 carries_fault-Carries p d e h =
-    none-or_else (counts_fault (link_id e) (link_at p e) (counts_at d e)) (load_fault (link_id e) (load_on p d e) (capacity_with (link_at p e) (counts_at d e)))
+    none-or_else (counts_fault (link_id e) (link_at p e) (counts_at d e)) (load_fault (link_id e) (need p d e) (capacity_with (link_at p e) (counts_at d e)))
     (counts_fault-in_shape (link_id e) (link_at p e) (counts_at d e) h.counts h.shape)
-    (none-when (nat_lt (capacity_with (link_at p e) (counts_at d e)) (load_on p d e)) (Short (link_id e) (load_on p d e) (capacity_with (link_at p e) (counts_at d e))) (le-ltb _ _ h.load))
+    (none-when (nat_lt (capacity_with (link_at p e) (counts_at d e)) (need p d e)) (Short (link_id e) (need p d e) (capacity_with (link_at p e) (counts_at d e))) (le-ltb _ _ h.load))
 
 -- the three groups of checks, none of which finds a fault
 record HasNoFault (p : Parts) (d : Design) : Type 0 where
@@ -71,7 +71,7 @@ IsGoodDesign-design_fault p d h =
         paths = paths_are_simple p d none.paths;
         counts = λ e within. (carries e within).counts;
       };
-      feasible = λ e within. (carries e within).load;
+      feasible = record { carried = λ e within. (carries e within).load };
       in_shape = λ e within. (carries e within).shape;
     }
 
@@ -82,7 +82,7 @@ design_fault-IsGoodDesign p d h = design_fault-HasNoFault p d (record {
   links = none-first_fault (carries_fault p d) (length p.links) (λ e within. carries_fault-Carries p d e (record {
     counts = h.design.counts e within;
     shape = h.in_shape e within;
-    load = h.feasible e within;
+    load = h.feasible.carried e within;
   }));
 })
 

@@ -10,6 +10,7 @@ pub mod SumsBelow
 pub mod LoadLaws
 pub mod SimplePaths
 pub mod PathSums
+pub mod PlaceSums
 pub mod CountSums
 pub mod TopLoads
 pub mod WalkLaws

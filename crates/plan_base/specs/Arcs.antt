@@ -1,17 +1,18 @@
--- Arcs: link e gives arc 2e from source to target and, where undirected, arc 2e + 1 back.
+-- Arcs: link e gives arc 2e from source to target and, where links may be used against their direction, arc 2e + 1 back.
 use Rattle.std.specs.Prelude.{ℕ, ◌/◌, ◌%◌, Bool, true, false, ◌&&◌, ◌||◌, length, [], slice_index_or, if◌then◌else◌, nat_lt, ◌==◌}
 use Rattle.plan_base.specs.declared.ids.NodeId.{NodeId}
 use Rattle.plan_base.specs.declared.ids.ArcId.{ArcId}
 use Rattle.plan_base.specs.declared.parts.Orient.{Orient}
-use Rattle.plan_base.specs.declared.parts.Orient.TheVariants.{Directed, Undirected}
+use Rattle.plan_base.specs.declared.parts.Orient.TheVariants.{Directed, Undirected, Bidirected}
 use Rattle.plan_base.specs.declared.parts.Link.{Link}
 use Rattle.plan_base.specs.declared.parts.Demand.{Demand}
 use Rattle.plan_base.specs.declared.parts.Parts.{Parts}
 
 -- links may be used against their direction
-abbrev pub is_undirected : Orient → Bool
-is_undirected Directed = false
-is_undirected Undirected = true
+abbrev pub goes_back : Orient → Bool
+goes_back Directed = false
+goes_back Undirected = true
+goes_back Bidirected = true
 
 -- the node that is read past the end of a list
 abbrev pub no_node : NodeId
@@ -45,9 +46,9 @@ link_of a = a.0 / 2
 abbrev pub is_back : ArcId → Bool
 is_back a = a.0 % 2 == 1
 
--- the arc exists: its link does, and it goes back only where links are undirected
+-- the arc exists: its link does, and it goes back only where links may be used so
 abbrev pub is_arc : Parts → ArcId → Bool
-is_arc p a = nat_lt (link_of a) (length p.links) && (a.0 % 2 == 0 || is_undirected p.orient)
+is_arc p a = nat_lt (link_of a) (length p.links) && (a.0 % 2 == 0 || goes_back p.orient)
 
 -- the node that an arc leaves
 abbrev pub tail_of : Parts → ArcId → NodeId

@@ -17,7 +17,7 @@ use Rattle.plan_base.specs.First.{◌or_else◌, when, first_fault, first_in}
 use Rattle.plan_base.specs.Faults.{link_id, demand_id}
 use Rattle.plan_base.specs.Arcs.{is_arc, tail_of, head_of, demand_at, link_at}
 use Rattle.plan_base.specs.Paths.{node_at}
-use Rattle.plan_base.specs.Designs.{path_at, counts_at, load_on, capacity_with}
+use Rattle.plan_base.specs.Designs.{path_at, counts_at, need, capacity_with}
 
 -- the walk from the source along these arcs has met the node
 abbrev pub has_met : Parts → NodeId → List ArcId → NodeId → Bool
@@ -49,15 +49,15 @@ counts_fault id l counts =
     when (not (length counts == length l.modules)) (CountShape id)
     or_else first_in (count_fault id counts) l.modules
 
--- the load, in load grains, is above the capacity
+-- the needed capacity, in load grains, is above the capacity
 abbrev pub load_fault : LinkId → ℕ → ℕ → Option DesignFault
 load_fault id load capacity = when (nat_lt capacity load) (Short id load capacity)
 
--- what is wrong with a link: its counts, or else its load
+-- what is wrong with a link: its counts, or else what it needs
 unfoldable pub carries_fault : Parts → Design → ℕ → Option DesignFault
 carries_fault p d e =
     counts_fault (link_id e) (link_at p e) (counts_at d e)
-    or_else load_fault (link_id e) (load_on p d e) (capacity_with (link_at p e) (counts_at d e))
+    or_else load_fault (link_id e) (need p d e) (capacity_with (link_at p e) (counts_at d e))
 
 -- there is not one path for each demand and one list of counts for each link
 abbrev pub wrong_count : Parts → Design → Option DesignFault

@@ -1,5 +1,5 @@
 -- Designs: what they carry, what they install and what they cost.
-use Rattle.std.specs.Prelude.{ℕ, ◌≡◌, ◌<◌, ◌≤◌, ◌+◌, ◌*◌, List, [], length, slice_index, slice_index_or, if◌then◌else◌}
+use Rattle.std.specs.Prelude.{ℕ, ◌≡◌, ◌<◌, ◌≤◌, ◌+◌, ◌*◌, max, List, [], length, slice_index, slice_index_or, if◌then◌else◌}
 use Rattle.plan_base.specs.declared.ids.ArcId.{ArcId}
 use Rattle.plan_base.specs.declared.parts.Module.{Module}
 use Rattle.plan_base.specs.declared.parts.Link.{Link}
@@ -8,7 +8,8 @@ use Rattle.plan_base.specs.declared.path.Design.{Design}
 use Rattle.plan_base.specs.declared.limits.TheConstants.{MAX_COUNT, MAX_COUNT_COST}
 use Rattle.plan_base.specs.Sums.{sum_below}
 use Rattle.plan_base.specs.Arcs.{link_at, demand_at}
-use Rattle.plan_base.specs.Paths.{IsSimplePath, uses}
+use Rattle.plan_base.specs.Places.{there_of, back_of}
+use Rattle.plan_base.specs.Paths.{IsSimplePath, uses_place}
 
 -- the path of the demand of this number
 abbrev pub path_at : Design → ℕ → List ArcId
@@ -26,13 +27,21 @@ no_module = record { capacity = 0; cost = 0 }
 abbrev pub module_at : Link → ℕ → Module
 module_at l m = slice_index_or l.modules m no_module
 
--- what a demand puts on a link: its load where its path uses the link, in either direction
+-- what a demand puts on a place: its load where its path uses an arc of the place
 unfoldable pub load_from : Parts → Design → ℕ → ℕ → ℕ
-load_from p d e k = if uses e (path_at d k) then (demand_at p k).load else 0
+load_from p d q k = if uses_place p q (path_at d k) then (demand_at p k).load else 0
 
--- the load of a link
-abbrev pub load_on : Parts → Design → ℕ → ℕ
-load_on p d e = sum_below (load_from p d e) (length p.demands)
+-- the load of a place
+abbrev pub load_at : Parts → Design → ℕ → ℕ
+load_at p d q = sum_below (load_from p d q) (length p.demands)
+
+-- the capacity that a link needs: the load of its place, or the larger load of its two places
+abbrev pub need : Parts → Design → ℕ → ℕ
+need p d e = max (there_of p (load_at p d) e) (back_of p (load_at p d) e)
+
+-- the loads of a link's places added up
+abbrev pub carried : Parts → Design → ℕ → ℕ
+carried p d e = there_of p (load_at p d) e + back_of p (load_at p d) e
 
 -- the pre-installed capacity and that of the modules that are installed
 abbrev pub capacity_with : Link → List ℕ → ℕ
@@ -42,9 +51,9 @@ capacity_with l counts = l.pre + sum_below (λ m. slice_index counts m * (module
 abbrev pub module_cost_with : Link → List ℕ → ℕ
 module_cost_with l counts = sum_below (λ m. slice_index counts m * (module_at l m).cost) (length l.modules)
 
--- what a link costs, in cost grains: its routing cost times its load, and its modules
+-- what a link costs, in cost grains: its routing cost times the loads of its places, and its modules
 abbrev pub link_cost : Parts → Design → ℕ → ℕ
-link_cost p d e = (link_at p e).routing * load_on p d e + module_cost_with (link_at p e) (counts_at d e)
+link_cost p d e = (link_at p e).routing * carried p d e + module_cost_with (link_at p e) (counts_at d e)
 
 -- the sum over links of routing costs and of counts times module costs
 abbrev pub cost_of : Parts → Design → ℕ
@@ -57,9 +66,13 @@ pub record IsDesign (p : Parts) (d : Design) : Type 0 where
   pub paths : (k : ℕ) → k < length p.demands → IsSimplePath p (demand_at p k) (path_at d k)
   pub counts : (e : ℕ) → e < length p.links → length (counts_at d e) ≡ length (link_at p e).modules
 
--- no link carries more than its capacity
-abbrev pub IsFeasible : Parts → Design → Type 0
-IsFeasible p d = (e : ℕ) → e < length p.links → load_on p d e ≤ capacity_with (link_at p e) (counts_at d e)
+-- no link needs more than its capacity
+abbrev pub CarriesLoads : Parts → Design → Type 0
+CarriesLoads p d = (e : ℕ) → e < length p.links → need p d e ≤ capacity_with (link_at p e) (counts_at d e)
+
+-- its links carry what its paths put on them
+pub record IsFeasible (p : Parts) (d : Design) : Type 0 where
+  pub carried : CarriesLoads p d
 
 -- the count, and its cost in cost grains, is small enough
 pub record IsCountInShape (count cost : ℕ) : Type 0 where
@@ -73,6 +86,12 @@ AreCountsInShape l counts = (m : ℕ) → m < length l.modules → IsCountInShap
 -- each count, and its cost, is small enough
 abbrev pub IsInShape : Parts → Design → Type 0
 IsInShape p d = (e : ℕ) → e < length p.links → AreCountsInShape (link_at p e) (counts_at d e)
+
+-- a design in shape whose links carry what its paths put on them
+pub record IsCarriedDesign (p : Parts) (d : Design) : Type 0 where
+  pub design : IsDesign p d
+  pub carried : CarriesLoads p d
+  pub in_shape : IsInShape p d
 
 -- a feasible design in shape
 pub record IsGoodDesign (p : Parts) (d : Design) : Type 0 where

@@ -2,6 +2,7 @@ pub mod First
 pub mod Sums
 pub mod Facts
 pub mod Arcs
+pub mod Places
 pub mod Paths
 pub mod Designs
 pub mod Faults

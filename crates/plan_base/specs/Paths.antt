@@ -6,6 +6,7 @@ use Rattle.plan_base.specs.declared.ids.ArcId.{ArcId}
 use Rattle.plan_base.specs.declared.parts.Demand.{Demand}
 use Rattle.plan_base.specs.declared.parts.Parts.{Parts}
 use Rattle.plan_base.specs.Arcs.{is_arc, tail_of, head_of, link_of, no_arc}
+use Rattle.plan_base.specs.Places.{place_of}
 
 -- the arc at a place of a list
 abbrev pub arc_at : List ArcId → ℕ → ArcId
@@ -23,6 +24,14 @@ pub record IsSimplePath (p : Parts) (k : Demand) (arcs : List ArcId) : Type 0 wh
   pub no_node_twice : (i j : ℕ) → i < j → j ≤ length arcs → node_at p k.source arcs i ≢ node_at p k.source arcs j
   pub ends_at_target : node_at p k.source arcs (length arcs) ≡ k.target.0
 
+-- an arc of the path has this number of its kind, as of its link or of its place
+abbrev pub uses_by : (ArcId → ℕ) → ℕ → List ArcId → Bool
+uses_by kind n arcs = list_any (λ a. kind a == n) arcs
+
+-- an arc of the path is of this place
+abbrev pub uses_place : Parts → ℕ → List ArcId → Bool
+uses_place p q arcs = uses_by (place_of p) q arcs
+
 -- the path goes along the link of this number, in either direction
 abbrev pub uses : ℕ → List ArcId → Bool
-uses e arcs = list_any (λ a. link_of a == e) arcs
+uses e arcs = uses_by link_of e arcs

@@ -9,6 +9,7 @@ use Rattle.plan_base.specs.declared.design_fault.DesignFault.{DesignFault}
 use Rattle.plan_base.specs.declared.design_fault.DesignFault.TheVariants.{NotAPath, Repeats}
 use Rattle.plan_base.specs.First.{◌or_else◌, when}
 use Rattle.plan_base.specs.Arcs.{is_arc, tail_of, head_of, link_of}
+use Rattle.plan_base.specs.Places.{place_of}
 use Rattle.plan_base.specs.Paths.{arc_at, node_at}
 use Rattle.plan_base.specs.DesignFaults.{has_met}
 
@@ -24,7 +25,15 @@ pub record IsWalk (p : Parts) (source : NodeId) (arcs : List ArcId) (i here : �
   pub stands_within : here < p.nodes
   pub has_met_nodes : (node : NodeId) → is_met met node.0 ≡ has_met p source (take i arcs) node
 
--- each link's number is below n, and no two places have one link
-pub record HasLinksOnce (n : ℕ) (arcs : List ArcId) : Type 0 where
-  pub within : (i : ℕ) → i < length arcs → link_of (arc_at arcs i) < n
-  pub once : (i j : ℕ) → i < length arcs → j < length arcs → link_of (arc_at arcs i) ≡ link_of (arc_at arcs j) → i ≡ j
+-- each arc's number of this kind, as of its link or of its place, is below n, and no two arcs have the same
+pub record HasOnce (kind : ArcId → ℕ) (n : ℕ) (arcs : List ArcId) : Type 0 where
+  pub within : (i : ℕ) → i < length arcs → kind (arc_at arcs i) < n
+  pub once : (i j : ℕ) → i < length arcs → j < length arcs → kind (arc_at arcs i) ≡ kind (arc_at arcs j) → i ≡ j
+
+-- no two arcs are of one link
+abbrev pub HasLinksOnce : ℕ → List ArcId → Type 0
+HasLinksOnce n arcs = HasOnce link_of n arcs
+
+-- no two arcs are of one place
+abbrev pub HasPlacesOnce : Parts → ℕ → List ArcId → Type 0
+HasPlacesOnce p n arcs = HasOnce (place_of p) n arcs

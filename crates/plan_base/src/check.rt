@@ -1,17 +1,17 @@
 //! Whether a design serves an instance, and what it costs.
 
-ghost use Rattle.std.specs.Prelude.{ℕ, ◌≡◌, ◌<◌, ◌≤◌, ◌*◌, ◌^◌, ◌↔◌, ◌&&◌, ◌==◌, length, IfOk, IsOk, All, slice_index};
+ghost use Rattle.std.specs.Prelude.{ℕ, ◌≡◌, ◌<◌, ◌≤◌, ◌+◌, ◌*◌, max, ◌^◌, ◌↔◌, ◌&&◌, ◌==◌, length, IfOk, IsOk, All, slice_index};
 ghost use Rattle.std.specs.Result.{result_err};
 ghost use Rattle.plan_base.specs.First.{first_fault};
 ghost use Rattle.plan_base.specs.Facts.{total_load, IsInstance};
-ghost use Rattle.plan_base.specs.Designs.{capacity_with, module_cost_with, load_on, link_cost, cost_of, AreCountsInShape, IsGoodDesign};
+ghost use Rattle.plan_base.specs.Designs.{load_at, capacity_with, module_cost_with, need, carried, link_cost, cost_of, AreCountsInShape, IsGoodDesign};
 ghost use Rattle.plan_base.specs.DesignFaults.{is_past_shape, counts_fault, carries_fault, design_fault};
 
 use crate::design_fault::DesignFault;
 use crate::ids::LinkId;
 use crate::instance::Instance;
-use crate::limits::{CAPACITY_BOUND, MAX_COUNT, MAX_COUNT_COST, MAX_LINKS};
-use crate::loads::loads_of;
+use crate::limits::{CAPACITY_BOUND, MAX_COUNT, MAX_COUNT_COST, MAX_PLACES};
+use crate::loads::{LinkLoads, loads_of};
 use crate::parts::Link;
 use crate::path::Design;
 use crate::walks::check_paths;
@@ -117,20 +117,27 @@ pub fn module_cost_with(link: &Link, counts: &[u64]) -> u128
 
 /// What the link costs, where it has a capacity for its load.
 #[tactic(auto, using(crate::proofs::CountLaws::count_laws), unfolding(crate::specs::DesignFaults::carries_fault))]
-fn check_link(inst: &Instance, design: &Design, id: LinkId, load: u128) -> Result<u128, DesignFault>
+fn check_link(
+    inst: &Instance,
+    design: &Design,
+    id: LinkId,
+    loads: LinkLoads,
+) -> Result<u128, DesignFault>
     requires lawful { IsInstance inst.now }
     requires link { id.0 < length inst.now.links }
     requires counts { length design.now.counts ≡ length inst.now.links }
-    requires load { load ≡ load_on inst.now design.now id.0 }
-    requires within { load ≤ total_load inst.now }
+    requires need { max loads.there loads.back ≡ need inst.now design.now id.0 }
+    requires carried { loads.there + loads.back ≡ carried inst.now design.now id.0 }
+    requires within { loads.there + loads.back ≤ 2 * total_load inst.now }
     ensures fault { result_err result ≡ carries_fault inst.now design.now id.0 }
     ensures cost { IfOk result (λ cost. cost ≡ link_cost inst.now design.now id.0) }
-    ensures within { IfOk result (λ cost. cost ≤ 33 * 10 ^ 30) }
+    ensures within { IfOk result (λ cost. cost ≤ 34 * 10 ^ 30) }
 {
     let link = inst.link(id);
     let counts = design.counts.as_slice()[id.0 as usize].as_slice();
     check_counts(id, link, counts)?;
     let capacity = capacity_with(link, counts);
+    let load = loads.need();
     if load > capacity {
         return Err(DesignFault::Short {
             link: id,
@@ -138,7 +145,7 @@ fn check_link(inst: &Instance, design: &Design, id: LinkId, load: u128) -> Resul
             capacity,
         });
     }
-    Ok(u128::from(link.routing) * load + module_cost_with(link, counts))
+    Ok(u128::from(link.routing) * (loads.there + loads.back) + module_cost_with(link, counts))
 }
 
 /// What the links cost, where each has a capacity for its load.
@@ -146,17 +153,18 @@ fn check_link(inst: &Instance, design: &Design, id: LinkId, load: u128) -> Resul
 fn check_links(
     inst: &Instance,
     design: &Design,
-    loads: &[u128; MAX_LINKS],
+    loads: &[u128; MAX_PLACES],
 ) -> Result<u128, DesignFault>
     requires counts { length design.now.counts ≡ length inst.now.links }
-    requires loads { (e : ℕ) → e < MAX_LINKS → slice_index loads.now e ≡ load_on inst.now design.now e }
+    requires loads { (q : ℕ) → q < MAX_PLACES → slice_index loads.now q ≡ load_at inst.now design.now q }
     ensures fault { result_err result
         ≡ first_fault (carries_fault inst.now design.now) (length inst.now.links) }
     ensures cost { IfOk result (λ cost. cost ≡ cost_of inst.now design.now) }
 {
     let mut cost: u128 = 0;
     for place in 0..inst.links() {
-        cost += check_link(inst, design, LinkId(place), loads[place as usize])?;
+        let link = LinkId(place);
+        cost += check_link(inst, design, link, LinkLoads::of_link(inst, loads, link))?;
     }
     Ok(cost)
 }

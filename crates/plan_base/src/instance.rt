@@ -1,11 +1,12 @@
 //! An instance: parts that are within all limits.
 
-ghost use Rattle.std.specs.Prelude.{◌≡◌, ◌<◌, ◌≤◌, length, IfOk, IfErr, IsTrue, All};
+ghost use Rattle.std.specs.Prelude.{◌≡◌, ◌<◌, ◌≤◌, ◌*◌, length, IfOk, IfErr, IsTrue, All};
 ghost use Rattle.std.specs.Result.{result_err};
 ghost use Rattle.std.specs.List.{list_any};
 ghost use Rattle.plan_base.specs.First.{first_in};
 ghost use Rattle.plan_base.specs.Facts.{total_load, total_load as total_load_of_parts, is_useful, top_load, price_limit, IsLink, IsDemand, IsInstance};
-ghost use Rattle.plan_base.specs.Arcs.{is_arc, link_at, demand_at, tail_of, head_of};
+ghost use Rattle.plan_base.specs.Arcs.{link_of, is_arc, link_at, demand_at, tail_of, head_of};
+ghost use Rattle.plan_base.specs.Places.{places, place_of, link_of_place};
 ghost use Rattle.plan_base.specs.Leaving.{AreLeaving};
 ghost use Rattle.plan_base.specs.Faults.{told_of, is_large, has_large_number_of, has_end_outside, size_fault, link_fault, demand_fault, total_fault, routing_fault, build_fault, IsBuildFault};
 
@@ -255,6 +256,13 @@ impl Instance {
         })
     }
 
+    /// That it is an instance, for a proof that needs it. It does nothing.
+    pub fn lawful(&self)
+        ensures { IsInstance self.now }
+    {
+        let _nodes = self.parts.nodes;
+    }
+
     /// The count of nodes.
     pub fn nodes(&self) -> u32
         ensures value { result ≡ self.now.nodes }
@@ -304,15 +312,72 @@ impl Instance {
         &self.parts.demands.as_slice()[demand.0 as usize]
     }
 
-    /// Whether the arc exists: its link does, and it is even or the instance is undirected.
+    /// How many numbers of arcs there are: two for each link, of which the odd one is no arc where links may not be
+    /// used against their direction.
+    ///
+    /// - Rule: docs/DEFINITIONS.md, "Arcs".
+    pub fn arcs(&self) -> u32
+        ensures value { result ≡ 2 * length self.now.links }
+        ensures within { result ≤ 2 * MAX_LINKS }
+        ensures lawful { IsInstance self.now }
+    {
+        2 * self.links()
+    }
+
+    /// The count of places, which are what has a price: the links, or where each direction has a capacity of its own
+    /// twice as many.
+    ///
+    /// - Rule: docs/DEFINITIONS.md, "Places".
+    pub fn places(&self) -> u32
+        ensures value { result ≡ places self.now }
+        ensures within { result ≤ 2 * MAX_LINKS }
+        ensures lawful { IsInstance self.now }
+    {
+        let links = self.links();
+        if self.parts.orient.is_two_way() {
+            2 * links
+        } else {
+            links
+        }
+    }
+
+    /// The place of an arc: its link, or where each direction has a capacity of its own the arc's number.
+    ///
+    /// - Rule: docs/DEFINITIONS.md, "Places".
+    pub fn place(&self, arc: ArcId) -> u32
+        ensures value { result ≡ place_of self.now arc }
+        ensures within { link_of arc < length self.now.links → result < places self.now }
+    {
+        if self.parts.orient.is_two_way() {
+            arc.0
+        } else {
+            arc.link().0
+        }
+    }
+
+    /// The link of a place.
+    ///
+    /// - Rule: docs/DEFINITIONS.md, "Places".
+    pub fn link_of_place(&self, place: u32) -> LinkId
+        requires { place < places self.now }
+        ensures value { result.0 ≡ link_of_place self.now place }
+        ensures within { result.0 < length self.now.links }
+    {
+        if self.parts.orient.is_two_way() {
+            LinkId(place / 2)
+        } else {
+            LinkId(place)
+        }
+    }
+
+    /// Whether the arc exists: its link does, and it is even or links may be used against their direction.
     ///
     /// - Rule: docs/DEFINITIONS.md, "Arcs".
     pub fn is_arc(&self, arc: ArcId) -> bool
         ensures { result ≡ is_arc self.now arc }
     {
         let links = self.parts.links.len();
-        ((arc.0 / 2) as usize) < links
-            && (arc.0 % 2 == 0 || self.parts.orient == Orient::Undirected)
+        ((arc.0 / 2) as usize) < links && (arc.0 % 2 == 0 || self.parts.orient.goes_back())
     }
 
     /// The node that the arc leaves.
@@ -323,7 +388,7 @@ impl Instance {
         ensures value { result ≡ tail_of self.now arc }
         ensures within { result.0 < self.now.nodes }
     {
-        let link = self.link(LinkId(arc.0 / 2));
+        let link = self.link(arc.link());
         if arc.0 % 2 == 1 {
             link.target
         } else {
@@ -339,7 +404,7 @@ impl Instance {
         ensures value { result ≡ head_of self.now arc }
         ensures within { result.0 < self.now.nodes }
     {
-        let link = self.link(LinkId(arc.0 / 2));
+        let link = self.link(arc.link());
         if arc.0 % 2 == 1 {
             link.source
         } else {

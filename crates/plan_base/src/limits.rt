@@ -6,6 +6,9 @@ pub const MAX_NODES: u32 = 512;
 /// The most links.
 pub const MAX_LINKS: usize = 1024;
 
+/// The most places: two for each link.
+pub const MAX_PLACES: usize = 2 * MAX_LINKS;
+
 /// The most demands.
 pub const MAX_DEMANDS: usize = 4096;
 

@@ -1,48 +1,90 @@
-//! What the links carry.
+//! What places and links carry.
 
-ghost use Rattle.std.specs.Prelude.{◌≡◌, ◌<◌, ◌≤◌, ◌+◌, ℕ, length, slice_index, if◌then◌else◌};
+ghost use Rattle.std.specs.Prelude.{◌≡◌, ◌<◌, ◌≤◌, ◌+◌, ℕ, max, length, slice_index, if◌then◌else◌};
 ghost use Rattle.plan_base.specs.Facts.{total_load};
 ghost use Rattle.plan_base.specs.Arcs.{demand_at};
-ghost use Rattle.plan_base.specs.Paths.{uses, IsSimplePath};
-ghost use Rattle.plan_base.specs.Designs.{path_at, load_on};
-ghost use Rattle.plan_base.specs.Walks.{HasLinksOnce};
+ghost use Rattle.plan_base.specs.Paths.{uses_place, IsSimplePath};
+ghost use Rattle.plan_base.specs.Places.{there_of, back_of};
+ghost use Rattle.plan_base.specs.Designs.{path_at, load_at, need, carried};
+ghost use Rattle.plan_base.specs.Walks.{HasPlacesOnce};
 
-use crate::ids::{ArcId, DemandId};
+use crate::ids::{ArcId, DemandId, LinkId};
 use crate::instance::Instance;
-use crate::limits::{MAX_LINKS, MAX_TOTAL_LOAD};
+use crate::limits::{MAX_PLACES, MAX_TOTAL_LOAD};
 use crate::path::Design;
 
-/// Adds the load to each link of the path.
-fn add_load(loads: &mut [u128; MAX_LINKS], arcs: &[ArcId], load: u128)
-    requires once { HasLinksOnce MAX_LINKS arcs.now }
+/// Adds the load to each place of the path.
+fn add_load(inst: &Instance, loads: &mut [u128; MAX_PLACES], arcs: &[ArcId], load: u128)
+    requires once { HasPlacesOnce inst.now MAX_PLACES arcs.now }
     requires load { load ≤ MAX_TOTAL_LOAD }
-    requires loads { (e : ℕ) → e < MAX_LINKS → slice_index loads.old e ≤ MAX_TOTAL_LOAD }
-    ensures { (e : ℕ) → e < MAX_LINKS → slice_index loads.new e
-        ≡ slice_index loads.old e + (if uses e arcs.now then load else 0) }
+    requires loads { (q : ℕ) → q < MAX_PLACES → slice_index loads.old q ≤ MAX_TOTAL_LOAD }
+    ensures { (q : ℕ) → q < MAX_PLACES → slice_index loads.new q
+        ≡ slice_index loads.old q + (if uses_place inst.now q arcs.now then load else 0) }
 {
     for arc in arcs {
-        loads[(arc.0 / 2) as usize] += load;
+        loads[inst.place(*arc) as usize] += load;
     }
 }
 
-/// The load of each link, in load grains.
+/// The load of each place, in load grains.
 ///
 /// - Takes: an instance; a design with one simple path for each demand. Its counts are not read.
-/// - Gives: one load for each link, in the order of the file, and 0 past the last.
+/// - Gives: one load for each place, and 0 past the last.
 /// - Rule: docs/DEFINITIONS.md, "Designs".
 /// - Time: linear in the arcs of all paths. Takes no memory.
-pub fn loads_of(inst: &Instance, design: &Design) -> [u128; MAX_LINKS]
+pub fn loads_of(inst: &Instance, design: &Design) -> [u128; MAX_PLACES]
     requires paths { length design.now.paths ≡ length inst.now.demands }
     requires simple { (k : ℕ) → k < length inst.now.demands
         → IsSimplePath inst.now (demand_at inst.now k) (path_at design.now k) }
-    ensures value { (e : ℕ) → e < MAX_LINKS → slice_index result e ≡ load_on inst.now design.now e }
-    ensures within { (e : ℕ) → e < MAX_LINKS → slice_index result e ≤ total_load inst.now }
+    ensures value { (q : ℕ) → q < MAX_PLACES → slice_index result q ≡ load_at inst.now design.now q }
+    ensures within { (q : ℕ) → q < MAX_PLACES → slice_index result q ≤ total_load inst.now }
 {
-    let mut loads = [0; MAX_LINKS];
+    let mut loads = [0; MAX_PLACES];
     for place in 0..inst.demands() {
         let path = &design.paths.as_slice()[place as usize];
         let load = inst.demand(DemandId(place)).load;
-        add_load(&mut loads, path.as_slice(), load);
+        add_load(inst, &mut loads, path.as_slice(), load);
     }
     loads
+}
+
+/// The loads of a link's places, in load grains.
+#[derive(Clone, Copy, Debug)]
+pub struct LinkLoads {
+    /// That of its place.
+    pub there: u128,
+    /// That of its other place, the one of its arc back, and 0 where it has one place.
+    pub back: u128,
+}
+
+impl LinkLoads {
+    /// The loads of a link, from those of all places.
+    ///
+    /// - Rule: docs/DEFINITIONS.md, "Places".
+    pub fn of_link(inst: &Instance, loads: &[u128; MAX_PLACES], link: LinkId) -> LinkLoads
+        requires { link.0 < length inst.now.links }
+        ensures there { result.there ≡ there_of inst.now (slice_index loads.now) link.0 }
+        ensures back { result.back ≡ back_of inst.now (slice_index loads.now) link.0 }
+    {
+        inst.lawful();
+        let number = link.0 as usize;
+        if inst.orient().is_two_way() {
+            LinkLoads {
+                there: loads[2 * number],
+                back: loads[2 * number + 1],
+            }
+        } else {
+            LinkLoads {
+                there: loads[number],
+                back: 0,
+            }
+        }
+    }
+
+    /// The larger one: the capacity that the link needs.
+    pub fn need(self) -> u128
+        ensures { result ≡ max self.there self.back }
+    {
+        self.there.max(self.back)
+    }
 }

@@ -1,6 +1,8 @@
 //! What an instance is built of.
 
 ghost use Rattle.std.specs.Prelude.{◌≡◌, IfOk};
+ghost use Rattle.plan_base.specs.Arcs.{goes_back};
+ghost use Rattle.plan_base.specs.Places.{is_two_way};
 
 use crate::ids::NodeId;
 use base_items::Items;
@@ -13,6 +15,30 @@ pub enum Orient {
     Directed,
     /// Flow goes both ways, and both share one capacity.
     Undirected,
+    /// Flow goes both ways, and each way has the link's capacity for itself.
+    Bidirected,
+}
+
+impl Orient {
+    /// Whether links may be used against their direction.
+    pub fn goes_back(self) -> bool
+        ensures { result ≡ goes_back self }
+    {
+        match self {
+            Orient::Directed => false,
+            Orient::Undirected | Orient::Bidirected => true,
+        }
+    }
+
+    /// Whether each direction of a link has a capacity and a price of its own.
+    pub fn is_two_way(self) -> bool
+        ensures { result ≡ is_two_way self }
+    {
+        match self {
+            Orient::Directed | Orient::Undirected => false,
+            Orient::Bidirected => true,
+        }
+    }
 }
 
 /// A capacity that may be installed any number of times, at a cost each time.

@@ -1,19 +1,29 @@
-//! Prices of links.
+//! Prices of places.
 
-ghost use Rattle.std.specs.Prelude.{◌≡◌, ◌<◌, ◌≤◌, ◌↔◌, length, slice_set, All, IfOk, IsTrue};
+ghost use Rattle.std.specs.Prelude.{◌≡◌, ◌<◌, ◌≤◌, ◌↔◌, length, slice_index, slice_set, All, IfOk, IsTrue};
 ghost use Rattle.plan_base.specs.Facts.{price_limit};
+ghost use Rattle.plan_base.specs.Places.{places, there_of, back_of};
 
 use crate::ids::LinkId;
 use crate::instance::Instance;
 use std::alloc::AllocError;
 use std::marker::Model;
 
-/// One price for each link, in thousandths of a cost grain per load grain.
+/// One price for each place, in thousandths of a cost grain per load grain.
 ///
 /// Nothing is asked of it: `fits` tells whether the prices are those of an instance.
 #[derive(Debug, Drop)]
 pub struct Prices {
     numerators: Vec<u128>,
+}
+
+/// The prices of the places of a link, in thousandths of a cost grain per load grain.
+#[derive(Clone, Copy, Debug)]
+pub struct LinkPrices {
+    /// That of its place.
+    pub there: u128,
+    /// That of its other place, the one of its arc back, and 0 where it has one place.
+    pub back: u128,
 }
 
 impl Model for Prices {
@@ -25,7 +35,7 @@ impl Model for Prices {
 }
 
 impl Prices {
-    /// The same prices, in the order of the links. Takes no memory.
+    /// The same prices, in the order of the places. Takes no memory.
     pub fn from_vec(numerators: Vec<u128>) -> Self
         ensures { result ≡ numerators.items }
     {
@@ -72,27 +82,53 @@ impl Prices {
             .copy_from_slice(other.as_slice());
     }
 
-    /// Puts another price for one link. Takes no memory.
+    /// Puts another price for one place. Takes no memory.
     ///
-    /// - Takes: a link that there is a price for; a price in thousandths of a cost grain per load grain.
+    /// - Takes: a place that there is a price for; a price in thousandths of a cost grain per load grain.
     /// - Time: constant.
-    pub fn put(&mut self, link: LinkId, price: u128)
-        requires { link.0 < length self.old }
-        ensures { self.new ≡ slice_set self.old link.0 price }
+    pub fn put(&mut self, place: u32, price: u128)
+        requires { place < length self.old }
+        ensures { self.new ≡ slice_set self.old place price }
     {
-        self.numerators[link.0 as usize] = price;
+        self.numerators[place as usize] = price;
     }
 
-    /// Whether there is one price for each link and none is above the price limit.
+    /// The prices of the places of a link. Takes no memory.
+    ///
+    /// - Takes: an instance with one price for each place; a link of it.
+    /// - Rule: docs/DEFINITIONS.md, "Places".
+    /// - Time: constant.
+    pub fn of_link(&self, inst: &Instance, link: LinkId) -> LinkPrices
+        requires count { length self.now ≡ places inst.now }
+        requires link { link.0 < length inst.now.links }
+        ensures there { result.there ≡ there_of inst.now (slice_index self.now) link.0 }
+        ensures back { result.back ≡ back_of inst.now (slice_index self.now) link.0 }
+    {
+        inst.lawful();
+        let number = link.0 as usize;
+        if inst.orient().is_two_way() {
+            LinkPrices {
+                there: self.numerators[2 * number],
+                back: self.numerators[2 * number + 1],
+            }
+        } else {
+            LinkPrices {
+                there: self.numerators[number],
+                back: 0,
+            }
+        }
+    }
+
+    /// Whether there is one price for each place and none is above the price limit.
     ///
     /// - Rule: docs/DEFINITIONS.md, "Instances".
     /// - Time: linear in the prices. Takes no memory.
     pub fn fits(&self, inst: &Instance) -> bool
         ensures { IsTrue result
-            ↔ (length self.now ≡ length inst.now.links) × All (λ x. x ≤ price_limit inst.now) self.now }
+            ↔ (length self.now ≡ places inst.now) × All (λ x. x ≤ price_limit inst.now) self.now }
     {
         let limit = inst.price_limit();
-        self.numerators.len() == inst.links() as usize
+        self.numerators.len() == inst.places() as usize
             && self.numerators.iter().all(|price| *price <= limit)
     }
 }

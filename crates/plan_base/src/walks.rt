@@ -104,7 +104,7 @@ pub fn is_simple_path(inst: &Instance, demand: DemandId, path: &Path) -> bool
     requires { demand.0 < length inst.now.demands }
     ensures { IsTrue result ↔ IsSimplePath inst.now (demand_at inst.now demand.0) path.now }
 {
-    let _demands = inst.demands();
+    inst.lawful();
     let mut met = MetNodes::new();
     check_path(inst, demand, inst.demand(demand), path.as_slice(), &mut met).is_ok()
 }

@@ -1,12 +1,12 @@
 -- The picture of a valid plan.
 use Rattle.std.specs.Prelude.{ℕ, ◌≡◌, ◌<◌, List, [], ◌++◌, length, codes, drop, slice_index, slice_index_or, flat_map, Bool, if◌then◌else◌, Option, Some, None, IfSome}
 use Rattle.std.specs.List.{range_with_len}
-use Rattle.plan_base.specs.declared.limits.TheConstants.{MAX_LINKS}
+use Rattle.plan_base.specs.declared.limits.TheConstants.{MAX_PLACES}
 use Rattle.plan_base.specs.declared.parts.Orient.{Orient}
-use Rattle.plan_base.specs.declared.parts.Orient.TheVariants.{Directed, Undirected}
+use Rattle.plan_base.specs.declared.parts.Orient.TheVariants.{Directed, Undirected, Bidirected}
 use Rattle.plan_base.specs.declared.parts.Parts.{Parts}
 use Rattle.plan_base.specs.declared.path.Design.{Design}
-use Rattle.plan_base.specs.Designs.{load_on}
+use Rattle.plan_base.specs.Designs.{load_at}
 use Rattle.snd_network.specs.declared.file.NetworkFile.{NetworkFile}
 use Rattle.snd_network.specs.WellFormed.{node_names}
 use Rattle.proof_tree.specs.declared.plan.Plan.{Plan}
@@ -33,10 +33,11 @@ head utf8 =
 abbrev pub group : Orient → List ℕ
 group Directed = codes "<g class='directed'>\n"
 group Undirected = codes "<g class='undirected'>\n"
+group Bidirected = codes "<g class='bidirected'>\n"
 
--- these are the loads of a plan's design, where it has one
+-- these are the loads of the places in a plan's design, where it has one
 abbrev pub HasLoads : Parts → Option (ℕ × Design) → List ℕ → Type 0
-HasLoads p design loads = IfSome design (λ stated. (e : ℕ) → e < MAX_LINKS → slice_index loads e ≡ load_on p stated.1 e)
+HasLoads p design loads = IfSome design (λ stated. (q : ℕ) → q < MAX_PLACES → slice_index loads q ≡ load_at p stated.1 q)
 
 -- the traffic on a link of a plan's design, where it has one
 abbrev pub traffic_of : Parts → Option (ℕ × Design) → Option ℕ → ℕ → Option Traffic

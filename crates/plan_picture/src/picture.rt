@@ -11,7 +11,7 @@ use crate::sites::looks_of_plan;
 use crate::traffic::{loads_of_plan, traffic_of};
 use mark_places::Looks;
 use picture_marks::{push_escaped, push_label, push_link, push_node};
-use plan_base::limits::MAX_LINKS;
+use plan_base::limits::MAX_PLACES;
 use plan_base::{DemandId, Instance, LinkId, Orient};
 use plan_report::trial_line;
 use proof_tree::Plan;
@@ -76,6 +76,7 @@ fn push_group(text: &mut Vec<u8>, orient: Orient) -> Result<(), AllocError>
     match orient {
         Orient::Directed => text.extend_from_slice(b"<g class='directed'>\n"),
         Orient::Undirected => text.extend_from_slice(b"<g class='undirected'>\n"),
+        Orient::Bidirected => text.extend_from_slice(b"<g class='bidirected'>\n"),
     }
 }
 
@@ -116,7 +117,7 @@ fn push_link_at(
     plan: &Plan,
     lit: Option<DemandId>,
     looks: &Looks,
-    loads: &[u128; MAX_LINKS],
+    loads: &[u128; MAX_PLACES],
     id: LinkId,
 ) -> Result<(), AllocError>
     requires names { HasNames net.now inst.now }
@@ -128,7 +129,7 @@ fn push_link_at(
     ensures { OnOk result (text.new.items ≡ text.old.items
         ++ link_mark net.now inst.now plan.now.design (option_map (λ k. k.0) lit) looks.now id.0) }
 {
-    let _links = inst.links();
+    inst.lawful();
     let name = net.links.as_slice()[id.0 as usize].name.as_slice();
     let traffic = traffic_of(inst, plan, lit, id, loads);
     push_link(text, name, inst, looks, traffic, id)
@@ -143,7 +144,7 @@ fn push_links(
     plan: &Plan,
     lit: Option<DemandId>,
     looks: &Looks,
-    loads: &[u128; MAX_LINKS],
+    loads: &[u128; MAX_PLACES],
 ) -> Result<(), AllocError>
     requires names { HasNames net.now inst.now }
     requires valid { IsValidPlan inst.now plan.now }

@@ -21,7 +21,7 @@ fn capacities_of(alloc: Global, inst: &Instance, plan: &Plan) -> Result<Vec<u128
     let mut all = Vec::new(alloc);
     for place in 0..inst.links() {
         match traffic_of(inst, plan, None, LinkId(place), &loads) {
-            Some(traffic) if traffic.load > 0 => all.push(traffic.capacity)?,
+            Some(traffic) if traffic.need > 0 => all.push(traffic.capacity)?,
             _ => all.push(0)?,
         }
     }

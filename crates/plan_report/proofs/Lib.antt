@@ -1,3 +1,4 @@
 pub mod Counted
 mod Lists
+pub mod PlaceLoads
 mod Steps

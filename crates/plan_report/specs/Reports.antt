@@ -5,7 +5,8 @@ use Rattle.plan_base.specs.declared.ids.ArcId.{ArcId}
 use Rattle.plan_base.specs.declared.parts.Parts.{Parts}
 use Rattle.plan_base.specs.declared.path.Design.{Design}
 use Rattle.plan_base.specs.Arcs.{link_at, link_of}
-use Rattle.plan_base.specs.Designs.{path_at, counts_at, load_on, capacity_with, link_cost}
+use Rattle.plan_base.specs.Places.{there_of}
+use Rattle.plan_base.specs.Designs.{path_at, counts_at, load_at, capacity_with, link_cost}
 use Rattle.snd_network.specs.declared.file.NetworkFile.{NetworkFile}
 use Rattle.snd_network.specs.WellFormed.{link_names, demand_names}
 use Rattle.snd_model.specs.declared.file.ModelFile.{ModelFile}
@@ -40,10 +41,10 @@ link_name net e = slice_index_or (link_names net.links) e []
 abbrev pub demand_name : NetworkFile → ℕ → List ℕ
 demand_name net k = slice_index_or (demand_names net.demands) k []
 
--- the load of a link, of both directions together, and its capacity, with what is installed before
+-- the load of a link's place, of both directions together where they share it, and the link's capacity, with what is installed before
 abbrev pub traffic_text : Parts → Design → ℕ → List ℕ
 traffic_text p d e =
-    codes " load " ++ load_text (load_on p d e)
+    codes " load " ++ load_text (there_of p (load_at p d) e)
     ++ codes " capacity " ++ load_text (capacity_with (link_at p e) (counts_at d e))
 
 -- how often each module of a link is installed, and what its routing and its modules cost

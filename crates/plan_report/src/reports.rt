@@ -1,25 +1,26 @@
 //! The text of a report.
 
-ghost use Rattle.std.specs.Prelude.{ℕ, ◌≡◌, ◌<◌, ◌≤◌, ◌++◌, length, slice_index, All, OnOk, IfOk};
-ghost use Rattle.plan_base.specs.Facts.{total_load, IsInstance};
+ghost use Rattle.std.specs.Prelude.{ℕ, ◌≡◌, ◌<◌, ◌++◌, length, slice_index, All, OnOk, IfOk};
+ghost use Rattle.plan_base.specs.Facts.{IsInstance};
 ghost use Rattle.plan_base.specs.Arcs.{link_of};
-ghost use Rattle.plan_base.specs.Designs.{load_on, link_cost, IsGoodDesign};
+ghost use Rattle.plan_base.specs.Places.{there_of, back_of};
+ghost use Rattle.plan_base.specs.Designs.{load_at, link_cost, IsGoodDesign};
 ghost use Rattle.proof_tree.specs.Plans.{IsValidPlan};
 ghost use Rattle.plan_report.specs.Reports.{IsReadFrom, HasNames, traffic_text, installed_text, link_line, way_text, demand_line, link_lines, demand_lines, design_text, report_text};
 
 use crate::check_lines::LOAD_SCALE;
 use crate::numbers::push_numbers;
 use crate::verdict_lines::{COST_SCALE, status_word};
-use plan_base::limits::MAX_LINKS;
+use plan_base::limits::MAX_PLACES;
 use plan_base::{
-    ArcId, DemandId, Design, Instance, LinkId, capacity_with, loads_of, module_cost_with,
+    ArcId, DemandId, Design, Instance, LinkId, LinkLoads, capacity_with, loads_of, module_cost_with,
 };
 use proof_tree::Plan;
 use scaled_numbers::write_grains;
 use snd_network::NetworkFile;
 use std::alloc::{AllocError, Global};
 
-/// Writes the load of a link, which is this one, and its capacity.
+/// Writes the load of a link's place, which is this one, and the capacity of the link.
 fn push_traffic(
     text: &mut Vec<u8>,
     inst: &Instance,
@@ -29,7 +30,7 @@ fn push_traffic(
 ) -> Result<(), AllocError>
     requires link { id.0 < length inst.now.links }
     requires good { IsGoodDesign inst.now design.now }
-    requires load { load ≡ load_on inst.now design.now id.0 }
+    requires load { load ≡ there_of inst.now (load_at inst.now design.now) id.0 }
     ensures { OnOk result (text.new.items ≡ text.old.items ++ traffic_text inst.now design.now id.0) }
 {
     let counts = design.counts.as_slice()[id.0 as usize].as_slice();
@@ -39,62 +40,64 @@ fn push_traffic(
     write_grains(capacity_with(inst.link(id), counts), LOAD_SCALE, text)
 }
 
-/// What a link costs with its load, which is this one.
-fn link_cost(inst: &Instance, design: &Design, id: LinkId, load: u128) -> u128
+/// What a link costs with the loads of its places, which are these.
+#[tactic(auto, using(plan_base::proofs::LoadLaws::load_laws))]
+fn link_cost(inst: &Instance, design: &Design, id: LinkId, loads: LinkLoads) -> u128
     requires lawful { IsInstance inst.now }
     requires link { id.0 < length inst.now.links }
     requires good { IsGoodDesign inst.now design.now }
-    requires load { load ≡ load_on inst.now design.now id.0 }
-    requires within { load ≤ total_load inst.now }
+    requires there { loads.there ≡ there_of inst.now (load_at inst.now design.now) id.0 }
+    requires back { loads.back ≡ back_of inst.now (load_at inst.now design.now) id.0 }
     ensures { result ≡ link_cost inst.now design.now id.0 }
 {
     let link = inst.link(id);
     let counts = design.counts.as_slice()[id.0 as usize].as_slice();
-    u128::from(link.routing) * load + module_cost_with(link, counts)
+    u128::from(link.routing) * (loads.there + loads.back) + module_cost_with(link, counts)
 }
 
-/// Writes how often each module of a link is installed, and what the link costs with its load, which is this one.
+/// Writes how often each module of a link is installed, and what the link costs with the loads of its places, which
+/// are these.
 fn push_installed(
     text: &mut Vec<u8>,
     inst: &Instance,
     design: &Design,
     id: LinkId,
-    load: u128,
+    loads: LinkLoads,
 ) -> Result<(), AllocError>
     requires lawful { IsInstance inst.now }
     requires link { id.0 < length inst.now.links }
     requires good { IsGoodDesign inst.now design.now }
-    requires load { load ≡ load_on inst.now design.now id.0 }
-    requires within { load ≤ total_load inst.now }
+    requires there { loads.there ≡ there_of inst.now (load_at inst.now design.now) id.0 }
+    requires back { loads.back ≡ back_of inst.now (load_at inst.now design.now) id.0 }
     ensures { OnOk result (text.new.items ≡ text.old.items ++ installed_text inst.now design.now id.0) }
 {
     text.extend_from_slice(b" modules")?;
     push_numbers(text, design.counts.as_slice()[id.0 as usize].as_slice())?;
     text.extend_from_slice(b" cost ")?;
-    write_grains(link_cost(inst, design, id, load), COST_SCALE, text)
+    write_grains(link_cost(inst, design, id, loads), COST_SCALE, text)
 }
 
-/// Writes the line of a link with its load, which is this one.
+/// Writes the line of a link with the loads of its places, which are these.
 fn push_link(
     text: &mut Vec<u8>,
     net: &NetworkFile,
     inst: &Instance,
     design: &Design,
     id: LinkId,
-    load: u128,
+    loads: LinkLoads,
 ) -> Result<(), AllocError>
     requires lawful { IsInstance inst.now }
     requires names { HasNames net.now inst.now }
     requires link { id.0 < length inst.now.links }
     requires good { IsGoodDesign inst.now design.now }
-    requires load { load ≡ load_on inst.now design.now id.0 }
-    requires within { load ≤ total_load inst.now }
+    requires there { loads.there ≡ there_of inst.now (load_at inst.now design.now) id.0 }
+    requires back { loads.back ≡ back_of inst.now (load_at inst.now design.now) id.0 }
     ensures { OnOk result (text.new.items ≡ text.old.items ++ link_line net.now inst.now design.now id.0) }
 {
     text.extend_from_slice(b"LINK ")?;
     text.extend_from_slice(net.links.as_slice()[id.0 as usize].name.as_slice())?;
-    push_traffic(text, inst, design, id, load)?;
-    push_installed(text, inst, design, id, load)?;
+    push_traffic(text, inst, design, id, loads.there)?;
+    push_installed(text, inst, design, id, loads)?;
     text.push(b'\n')?;
     Ok(())
 }
@@ -106,17 +109,17 @@ fn push_links(
     net: &NetworkFile,
     inst: &Instance,
     design: &Design,
-    loads: &[u128; MAX_LINKS],
+    loads: &[u128; MAX_PLACES],
 ) -> Result<(), AllocError>
     requires names { HasNames net.now inst.now }
     requires good { IsGoodDesign inst.now design.now }
-    requires loads { (e : ℕ) → e < MAX_LINKS → slice_index loads.now e ≡ load_on inst.now design.now e }
-    requires within { (e : ℕ) → e < MAX_LINKS → slice_index loads.now e ≤ total_load inst.now }
+    requires loads { (q : ℕ) → q < MAX_PLACES → slice_index loads.now q ≡ load_at inst.now design.now q }
     ensures { OnOk result (text.new.items ≡ text.old.items ++ link_lines net.now inst.now design.now (length inst.now.links)) }
 {
     for place in 0..inst.links() {
-        let load = loads[place as usize];
-        push_link(text, net, inst, design, LinkId(place), load)?;
+        let link = LinkId(place);
+        let link_loads = LinkLoads::of_link(inst, loads, link);
+        push_link(text, net, inst, design, link, link_loads)?;
     }
     Ok(())
 }
@@ -128,7 +131,7 @@ fn push_way(text: &mut Vec<u8>, net: &NetworkFile, arcs: &[ArcId]) -> Result<(),
     ensures { OnOk result (text.new.items ≡ text.old.items ++ way_text net.now arcs.now) }
 {
     for arc in arcs {
-        let link = &net.links.as_slice()[(arc.0 / 2) as usize];
+        let link = &net.links.as_slice()[arc.link().0 as usize];
         text.push(b' ')?;
         text.extend_from_slice(link.name.as_slice())?;
     }

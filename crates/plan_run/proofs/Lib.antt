@@ -4,3 +4,4 @@ mod Finding
 mod Says
 mod Planned
 mod Supported
+mod Covered

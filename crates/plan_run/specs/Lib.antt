@@ -1,4 +1,5 @@
 pub mod Searches
+pub mod Budgets
 pub mod Plans
 pub mod Samples
 pub mod Runs

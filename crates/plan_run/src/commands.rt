@@ -38,17 +38,17 @@ fn do_command<R: Threads + Wait + Sync, S: Shelf, G: Gate>(
             workers,
             budget,
         } => plan(rt, alloc, network, model, workers, budget, shelf, gate),
-        Command::Check { network, model } => check(alloc, network, model, shelf, gate),
+        Command::Check { network, model } => check(alloc, network, model, shelf),
         Command::Verify {
             network,
             model,
             plan,
-        } => verify_plan(alloc, network, model, plan, shelf, gate),
+        } => verify_plan(alloc, network, model, plan, shelf),
         Command::Report {
             network,
             model,
             plan,
-        } => report(alloc, network, model, plan, shelf, gate),
+        } => report(alloc, network, model, plan, shelf),
         Command::Sample(key) => match write_sample(alloc, key) {
             Ok(answer) => Ok(answer),
             Err(AllocError) => Err(Stop::OutOfMemory),

@@ -10,7 +10,11 @@ ghost use Rattle.plan_texts.specs.declared.status.Status.TheVariants as statuses
 ghost use Rattle.plan_texts.specs.Texts.{Told, Text, Texts, two, three};
 ghost use Rattle.plan_texts.specs.Refusals.{AreRefused, Counts, counts_of};
 ghost use Rattle.plan_texts.specs.Answers.{IsVerified};
+ghost use Rattle.instance_maker.specs.declared.trials.TheConstants.{TRIAL_BUDGET};
+ghost use Rattle.command_words.specs.declared.command.SampleKey.{SampleKey as AnyKey};
+ghost use Rattle.plan_run.specs.Budgets.{CoversSplits};
 ghost use Rattle.plan_run.specs.Plans.{IsPlanDone};
+ghost use Rattle.plan_run.specs.Samples.{parts_of, IsTried};
 ghost use Rattle.plan_run.specs.Supports.{AreSupported, EndsWith};
 ghost use Rattle.plan_run.specs.Runs.{IsRun, IsDone, IsOwnAnswer, Says};
 
@@ -19,6 +23,7 @@ use plan_io::{Gate, SureShelf, SureSink};
 use plan_texts::Status;
 use plan_texts::laws::one_answer_below;
 pub use plan_texts::laws::{accepted_where_valid, one_refusal, one_verdict, refused_or_read};
+use pool_machine::laws::enough_budget;
 use std::alloc::Global;
 use std::sync::Wait;
 use std::thread::Threads;
@@ -61,6 +66,17 @@ pub fn accepted_where_planned()
         → other ≡ statuses.Good }
 {
     one_answer_below();
+}
+
+/// Where the budget has a node for each place down to the branching depth of the instance, `plan` does not end undecided,
+/// and neither does `trial` where this holds of its own budget. So with such a budget a network that is supported gets its
+/// cheapest design, or that none exists.
+pub fn decided_where_covered()
+    ensures planned { (budget : ℕ) (texts : Texts) (bytes : List ℕ) (done : IsPlanDone budget texts statuses.Undecided bytes) →
+        CoversSplits done.parts budget → ⊥ }
+    ensures tried { (key : AnyKey) (bytes : List ℕ) → IsTried key statuses.Undecided bytes → CoversSplits (parts_of key) TRIAL_BUDGET → ⊥ }
+{
+    enough_budget();
 }
 
 /// Where the texts of a command are supported, it does its work, unless something outside fails or memory is

@@ -1,6 +1,7 @@
 //! The command that plans.
 
-ghost use Rattle.std.specs.Prelude.{◌≡◌, ◌≤◌, IfOk, IfErr};
+ghost use Rattle.std.specs.Prelude.{◌≡◌, ◌≤◌, false, IfOk, IfErr};
+ghost use Rattle.plan_base.specs.Places.{is_two_way};
 ghost use Rattle.plan_io.specs.Causes.{Rose};
 ghost use Rattle.command_words.specs.Words.{AreWorkers, IsBudget};
 ghost use Rattle.plan_texts.specs.Texts.{Begun, two, HoldsOfTexts};
@@ -25,6 +26,7 @@ fn planned<R: Threads + Wait + Sync, G: Gate>(
     gate: &G,
 ) -> Result<Answer, AllocError>
     requires table { problem.table ≡ problem.inst }
+    requires one_way { is_two_way problem.inst.orient ≡ false }
     requires workers { AreWorkers workers }
     requires budget { IsBudget budget }
     ensures { IfOk result (λ answer. IsPlanned problem.inst budget answer.status answer.text.items) }
@@ -62,7 +64,7 @@ pub fn plan<R: Threads + Wait + Sync, S: Shelf, G: Gate>(
     ensures too_long { IfErr result (TookMore (S.taken shelf.new)) }
     ensures later { S.faults shelf.old ≤ S.faults shelf.new }
 {
-    let problem = match read_problem(alloc, network, model, shelf, gate) {
+    let problem = match read_problem(alloc, network, model, shelf) {
         Ok(problem) => problem,
         Err(stop) => return Err(stop),
     };

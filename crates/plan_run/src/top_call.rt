@@ -17,8 +17,7 @@ use std::thread::Threads;
 /// output is made.
 ///
 /// - Takes: what starts threads; the words after the program's name; a shelf that has the texts that they name; the
-///   sink that the answer goes to; a gate that is passed once, between reading texts and the work, and then by each of
-///   several workers with each task.
+///   sink that the answer goes to; a gate that each worker of a `plan` passes with each task.
 /// - Gives: how the run ended.
 /// - Rule: docs/DEFINITIONS.md, "Runs"; docs/FORMATS.md.
 /// - Time: linear in the texts' bytes, and that of the search or of verifying the plan.

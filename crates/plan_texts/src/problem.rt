@@ -1,8 +1,9 @@
 //! From texts on a shelf to the instance that is planned.
 
-ghost use Rattle.std.specs.Prelude.{◌≡◌, ◌≤◌, length, None, Some, IfOk, IfErr};
+ghost use Rattle.std.specs.Prelude.{◌≡◌, ◌≤◌, false, length, None, Some, IfOk, IfErr};
 ghost use Rattle.plan_io.specs.Causes.{Rose};
 ghost use Rattle.plan_base.specs.Facts.{IsInstance};
+ghost use Rattle.plan_base.specs.Places.{is_two_way};
 ghost use Rattle.snd_network.specs.WellFormed.{IsWellFormed};
 ghost use Rattle.model_check.specs.Reading.{ReadsAs};
 ghost use Rattle.proof_tree.specs.Spellings.{IsSpellable};
@@ -17,7 +18,7 @@ use cert_format::limits::MAX_PLAN_BYTES;
 use link_steps::StepTable;
 use model_check::to_instance;
 use plan_base::Instance;
-use plan_io::{Gate, Shelf};
+use plan_io::Shelf;
 use proof_tree::Plan;
 use snd_model::ModelFile;
 use snd_network::NetworkFile;
@@ -39,6 +40,7 @@ fn instance_of(alloc: Global, network: &NetworkFile, model: &ModelFile) -> Resul
     requires { IsWellFormed network.now }
     ensures read { IfOk result (ReadsAs network.now model.now) }
     ensures lawful { IfOk result IsInstance }
+    ensures one_way { IfOk result (λ inst. is_two_way inst.orient ≡ false) }
     ensures stop { IfErr result (IsFileStop network.now model.now) }
 {
     match to_instance(alloc, network, model) {
@@ -56,6 +58,7 @@ fn problem_of(alloc: Global, network: NetworkFile, model: &ModelFile) -> Result<
     ensures lawful { IfOk result (λ problem. IsInstance problem.inst) }
     ensures few { IfOk result (λ problem. HasFewSteps problem.inst) }
     ensures table { IfOk result (λ problem. problem.table ≡ problem.inst) }
+    ensures one_way { IfOk result (λ problem. is_two_way problem.inst.orient ≡ false) }
     ensures stop { IfErr result (IsProblemStop network model.now) }
 {
     let inst = instance_of(alloc, &network, model)?;
@@ -74,6 +77,7 @@ fn spelt_problem(alloc: Global, network: &[u8], model: &[u8]) -> Result<Problem,
     requires model { length model.now ≤ MAX_TEXT_BYTES }
     ensures spelt { IfOk result (λ problem. IsProblem (two network.now model.now) problem.network problem.inst None) }
     ensures table { IfOk result (λ problem. problem.table ≡ problem.inst) }
+    ensures one_way { IfOk result (λ problem. is_two_way problem.inst.orient ≡ false) }
     ensures stop { IfErr result (IsTextStop (two network.now model.now)) }
 {
     let network = network_of(alloc, network)?;
@@ -106,24 +110,23 @@ fn spelt_planned(alloc: Global, network: &[u8], model: &[u8], plan: &[u8]) -> Re
     Ok(Planned { problem, plan })
 }
 
-/// Reads a network text and a model text, and gives the problem that they spell. The gate is passed once, between
-/// reading and the work.
+/// Reads a network text and a model text, and gives the problem that they spell.
 ///
 /// - Takes: the names of the two texts, in the order in which they are read.
 /// - Errors: the first refusal of the texts in the order of their rules, a fault of the shelf, or want of memory.
 /// - Rule: docs/DEFINITIONS.md, "Runs".
 /// - Time: linear in the texts' bytes, and that of making the steps.
 #[tactic(auto, using(crate::proofs::Begins::texts_stop))]
-pub fn read_problem<S: Shelf, G: Gate>(
+pub fn read_problem<S: Shelf>(
     alloc: Global,
     network: &str,
     model: &str,
     shelf: &mut S,
-    gate: &G,
 ) -> Result<Problem, Stop>
     ensures spelt { IfOk result (λ problem. HoldsOfTexts (S.text shelf.old) (two network.now model.now) 2
         (λ texts. IsProblem texts problem.network problem.inst None)) }
     ensures table { IfOk result (λ problem. problem.table ≡ problem.inst) }
+    ensures one_way { IfOk result (λ problem. is_two_way problem.inst.orient ≡ false) }
     ensures begun { IfOk result (λ _. Begun 2 (S.begins shelf.old) (S.begins shelf.new)) }
     ensures stop { IfErr result (Stops (two network.now model.now) (S.text shelf.old)
         (S.begins shelf.old) (S.begins shelf.new)) }
@@ -135,25 +138,22 @@ pub fn read_problem<S: Shelf, G: Gate>(
         Ok(texts) => texts,
         Err(stop) => return Err(stop),
     };
-    gate.pass(0, 0);
     spelt_problem(alloc, texts.network.as_slice(), texts.model.as_slice())
 }
 
-/// Reads a network text, a model text and a plan text, and gives the problem and the plan that they spell. The gate is
-/// passed once, between reading and the work.
+/// Reads a network text, a model text and a plan text, and gives the problem and the plan that they spell.
 ///
 /// - Takes: the names of the three texts, in the order in which they are read.
 /// - Errors: the first refusal of the texts in the order of their rules, a fault of the shelf, or want of memory.
 /// - Rule: docs/DEFINITIONS.md, "Runs".
 /// - Time: linear in the texts' bytes, and that of making the steps.
 #[tactic(auto, using(crate::proofs::Begins::texts_stop))]
-pub fn read_planned<S: Shelf, G: Gate>(
+pub fn read_planned<S: Shelf>(
     alloc: Global,
     network: &str,
     model: &str,
     plan: &str,
     shelf: &mut S,
-    gate: &G,
 ) -> Result<Planned, Stop>
     ensures spelt { IfOk result (λ planned. HoldsOfTexts (S.text shelf.old) (three network.now model.now plan.now) 3
         (λ texts. IsProblem texts planned.problem.network planned.problem.inst (Some planned.plan))) }
@@ -170,7 +170,6 @@ pub fn read_planned<S: Shelf, G: Gate>(
         Ok(texts) => texts,
         Err(stop) => return Err(stop),
     };
-    gate.pass(0, 0);
     spelt_planned(
         alloc,
         texts.network.as_slice(),

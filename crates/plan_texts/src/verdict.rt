@@ -13,7 +13,7 @@ use crate::problem::{Problem, read_planned, read_problem};
 use crate::status::Status;
 use crate::stop::Stop;
 use cert_verifier::{Rejected, verify};
-use plan_io::{Gate, Shelf};
+use plan_io::Shelf;
 use plan_report::{check_line, report_text, verdict_line};
 use proof_tree::Plan;
 use std::alloc::{AllocError, Global};
@@ -76,12 +76,11 @@ fn report_on(alloc: Global, problem: &Problem, plan: &Plan) -> Result<Answer, Al
 /// - Rule: docs/DEFINITIONS.md, "Runs"; docs/FORMATS.md, "The line of `check`".
 /// - Time: linear in the texts' bytes, and that of making the steps.
 #[tactic(auto, using(crate::proofs::Begins::memory_after_two, crate::proofs::Answering::checked_texts))]
-pub fn check<S: Shelf, G: Gate>(
+pub fn check<S: Shelf>(
     alloc: Global,
     network: &str,
     model: &str,
     shelf: &mut S,
-    gate: &G,
 ) -> Result<Answer, Stop>
     ensures done { IfOk result (λ answer. HoldsOfTexts (S.text shelf.old) (two network.now model.now) 2
         (λ texts. IsChecked texts answer.status answer.text.items)) }
@@ -92,7 +91,7 @@ pub fn check<S: Shelf, G: Gate>(
     ensures too_long { IfErr result (TookMore (S.taken shelf.new)) }
     ensures later { S.faults shelf.old ≤ S.faults shelf.new }
 {
-    let problem = match read_problem(alloc, network, model, shelf, gate) {
+    let problem = match read_problem(alloc, network, model, shelf) {
         Ok(problem) => problem,
         Err(stop) => return Err(stop),
     };
@@ -109,13 +108,12 @@ pub fn check<S: Shelf, G: Gate>(
 /// - Rule: docs/DEFINITIONS.md, "Runs"; docs/FORMATS.md, "The line of `verify`".
 /// - Time: linear in the texts' bytes, and that of verifying the plan.
 #[tactic(auto, using(crate::proofs::Begins::memory_after_three, crate::proofs::Answering::verified_texts))]
-pub fn verify_plan<S: Shelf, G: Gate>(
+pub fn verify_plan<S: Shelf>(
     alloc: Global,
     network: &str,
     model: &str,
     plan: &str,
     shelf: &mut S,
-    gate: &G,
 ) -> Result<Answer, Stop>
     ensures done { IfOk result (λ answer. HoldsOfTexts (S.text shelf.old) (three network.now model.now plan.now) 3
         (λ texts. IsVerified texts answer.status answer.text.items)) }
@@ -126,7 +124,7 @@ pub fn verify_plan<S: Shelf, G: Gate>(
     ensures too_long { IfErr result (TookMore (S.taken shelf.new)) }
     ensures later { S.faults shelf.old ≤ S.faults shelf.new }
 {
-    let planned = match read_planned(alloc, network, model, plan, shelf, gate) {
+    let planned = match read_planned(alloc, network, model, plan, shelf) {
         Ok(planned) => planned,
         Err(stop) => return Err(stop),
     };
@@ -144,13 +142,12 @@ pub fn verify_plan<S: Shelf, G: Gate>(
 /// - Rule: docs/DEFINITIONS.md, "Runs"; docs/FORMATS.md, "The text of `report`".
 /// - Time: linear in the texts' bytes, and that of verifying and telling the plan.
 #[tactic(auto, using(crate::proofs::Begins::memory_after_three, crate::proofs::Answering::read_from, crate::proofs::Answering::reported_texts))]
-pub fn report<S: Shelf, G: Gate>(
+pub fn report<S: Shelf>(
     alloc: Global,
     network: &str,
     model: &str,
     plan: &str,
     shelf: &mut S,
-    gate: &G,
 ) -> Result<Answer, Stop>
     ensures done { IfOk result (λ answer. HoldsOfTexts (S.text shelf.old) (three network.now model.now plan.now) 3
         (λ texts. IsReported texts answer.status answer.text.items)) }
@@ -161,7 +158,7 @@ pub fn report<S: Shelf, G: Gate>(
     ensures too_long { IfErr result (TookMore (S.taken shelf.new)) }
     ensures later { S.faults shelf.old ≤ S.faults shelf.new }
 {
-    let planned = match read_planned(alloc, network, model, plan, shelf, gate) {
+    let planned = match read_planned(alloc, network, model, plan, shelf) {
         Ok(planned) => planned,
         Err(stop) => return Err(stop),
     };

@@ -7,6 +7,7 @@ use Rattle.plan_base.specs.declared.ids.BranchId.{BranchId}
 use Rattle.plan_base.specs.declared.parts.Parts.{Parts}
 use Rattle.plan_base.specs.Facts.{price_limit, is_useful}
 use Rattle.plan_base.specs.Arcs.{link_at}
+use Rattle.plan_base.specs.Places.{places, link_of_place}
 use Rattle.arc_restrict.specs.Prices.{AreWithinLimit}
 use Rattle.column_pool.specs.declared.brief.Brief.{Brief}
 use Rattle.column_pool.specs.Columns.{columns_at}
@@ -107,17 +108,17 @@ module _ (t : State) (id : BranchId) (version : ℕ) (brief : Brief) (sound : Is
     })
   ]
 
-crowd-within : (p : Parts) (old new : List ℕ) → length old ≡ length p.links → AreWithinLimit p old → AreCrowdPrices p old new → AreWithinLimit p new
+crowd-within : (p : Parts) (old new : List ℕ) → length old ≡ places p → AreWithinLimit p old → AreCrowdPrices p old new → AreWithinLimit p new
 crowd-within p old new count within h =
-    All-from_get_or (λ price. price ≤ price_limit p) new 0 (λ e here.
-    (let below : e < length p.links = omega (arith, h.count) in
-    subst (λ (x : ℕ). x ≤ price_limit p) (sym (h.each e below)) (either (is_useful (link_at p e)) (slice_index old e) (within e 0 (omega (arith, count))))))
+    All-from_get_or (λ price. price ≤ price_limit p) new 0 (λ q here.
+    (let below : q < places p = omega (arith, h.count) in
+    subst (λ (x : ℕ). x ≤ price_limit p) (sym (h.each q below)) (either (is_useful (link_at p (link_of_place p q))) (slice_index old q) (within q 0 (omega (arith, count))))))
   where
     either : (b : Bool) (price : ℕ) → price ≤ price_limit p → (if b then 0 else price) ≤ price_limit p
     either true price most = omega arith
     either false price most = most
 
-next-count : (p : Parts) (brief : Brief) (prices : List ℕ) → IsNext p brief (Some prices) → length prices ≡ length p.links
+next-count : (p : Parts) (brief : Brief) (prices : List ℕ) → IsNext p brief (Some prices) → length prices ≡ places p
 next-count p brief prices h = elim h [ inl raised ↦ raised.is_rise.are_prices.count | inr crowd ↦ crowd.are_crowd.count ]
 
 next-within : (p : Parts) (brief : Brief) (prices : List ℕ) → IsBriefFor p brief.prices brief.columns → IsNext p brief (Some prices) → AreWithinLimit p prices

@@ -7,6 +7,7 @@ use Rattle.std.proofs.lemmas.Option.{slice_get-get_or}
 use Rattle.std.proofs.lemmas.List.Sums.{sum_by-append, sum_by-cons}
 use Rattle.plan_base.specs.declared.ids.BranchId.{BranchId}
 use Rattle.plan_base.specs.declared.parts.Parts.{Parts}
+use Rattle.plan_base.specs.Places.{places}
 use Rattle.arc_restrict.specs.Rows.{Rows}
 use Rattle.pool_machine.specs.State.{Round, Node, State, restriction_of, rounds_by, rounds_in, active_count}
 use Rattle.pool_machine.specs.Opening.{HasSlot, IsTaken}
@@ -73,8 +74,8 @@ module _ (s t : State) (id : ℕ) (old new : Node) (more : List Node) (e : HasEn
       let none : rounds_in new ≡ 0 = ap rounds_by e.no_round in
       omega arith
 
-  HasPlaces-idle : (places : List Slot) → old.round ≡ None → HasPlaces s places → HasPlaces t places
-  HasPlaces-idle places none h = record {
+  HasPlaces-idle : (slots : List Slot) → old.round ≡ None → HasPlaces s slots → HasPlaces t slots
+  HasPlaces-idle slots none h = record {
     count = h.count;
     total = (
         let after = active-after in
@@ -86,24 +87,24 @@ module _ (s t : State) (id : ℕ) (old new : Node) (more : List Node) (e : HasEn
     free = λ k place is taken. let b = taken-back k taken in h.free k place is (b.0, b.1, b.2, b.3);
     slot_is = h.slot_is;
     demands = λ k place is. h.demands k place is ∙ sym (ap (λ (p : Parts). length p.demands) e.problem);
-    prices = λ k place is. h.prices k place is ∙ sym (ap (λ (p : Parts). length p.links) e.problem);
+    prices = λ k place is. h.prices k place is ∙ sym (ap places e.problem);
   }
 
-  module _ (places : List Slot) (round : Round) (had : old.round ≡ Some round) (h : HasPlaces s places) where
+  module _ (slots : List Slot) (round : Round) (had : old.round ≡ Some round) (h : HasPlaces s slots) where
     is_sound : IsSoundRound s.problem (restriction_of old) round
     is_sound = (rw had at ((node_at s id old sound e.is_node).round)).1
 
     has_slot : HasSlot round.slot old
     has_slot = subst (λ (o : Option Round). IsSomeAnd o (λ r. r.slot ≡ round.slot)) (sym had) refl
 
-    pub slot-within : round.slot < length places
+    pub slot-within : round.slot < length slots
     slot-within = let w = is_sound.slot in let c = h.count in omega arith
 
     -- its place was taken
-    was_taken : (n : BranchId) × (slice_get places round.slot ≡ Some (Of n))
-    was_taken = by_cases (get_or places round.slot (Free round)) (slice_get-get_or places round.slot (Free round) slot-within)
+    was_taken : (n : BranchId) × (slice_get slots round.slot ≡ Some (Of n))
+    was_taken = by_cases (get_or slots round.slot (Free round)) (slice_get-get_or slots round.slot (Free round) slot-within)
       where
-        by_cases : (o : Slot) → slice_get places round.slot ≡ Some o → (n : BranchId) × (slice_get places round.slot ≡ Some (Of n))
+        by_cases : (o : Slot) → slice_get slots round.slot ≡ Some o → (n : BranchId) × (slice_get slots round.slot ≡ Some (Of n))
         by_cases (Of n) is = (n, is)
         by_cases (Free place) is = absurd (h.free round.slot place is (id, old, e.is_node, has_slot))
 
@@ -114,24 +115,24 @@ module _ (s t : State) (id : ℕ) (old new : Node) (more : List Node) (e : HasEn
         let ours = slot-badge old.round round.slot has_slot in
         ne (sound.apart.slots m id round.slot theirs.0 ours.0 (badge_at-at s.nodes m node at ∙ theirs.1) (badge_at-at s.nodes id old e.is_node ∙ ours.1))
 
-    same_place : (k : ℕ) (place : Round) → slice_get (set places round.slot (Free round)) k ≡ Some (Free place)
-        → ((k ≡ round.slot) × (place ≡ round)) ⊎ ((k ≢ round.slot) × (slice_get places k ≡ Some (Free place)))
-    same_place k place is = elim (slice_get-set_cases places round.slot k (Free round) (Free place) is) [
+    same_place : (k : ℕ) (place : Round) → slice_get (set slots round.slot (Free round)) k ≡ Some (Free place)
+        → ((k ≡ round.slot) × (place ≡ round)) ⊎ ((k ≢ round.slot) × (slice_get slots k ≡ Some (Free place)))
+    same_place k place is = elim (slice_get-set_cases slots round.slot k (Free round) (Free place) is) [
       | inl w ↦ inl (w.0, (let e' = w.1 in cc))
       | inr w ↦ inr w
     ]
 
-    HasPlaces-active : HasPlaces t (set places round.slot (Free round))
+    HasPlaces-active : HasPlaces t (set slots round.slot (Free round))
     HasPlaces-active = record {
-      count = length-set places round.slot (Free round) ∙ h.count;
+      count = length-set slots round.slot (Free round) ∙ h.count;
       total = (
           let after = active-after in
           let one : rounds_in old ≡ 1 = ap rounds_by had in
-          let c = sum_by-set_at (λ (o : Slot). cond (is_free o) 1 0) places round.slot (Of was_taken.0) (Free round) was_taken.1 in
+          let c = sum_by-set_at (λ (o : Slot). cond (is_free o) 1 0) slots round.slot (Of was_taken.0) (Free round) was_taken.1 in
           let total = h.total in
           omega arith
           );
-      taken = λ k n is. elim (slice_get-set_cases places round.slot k (Free round) (Of n) is) [
+      taken = λ k n is. elim (slice_get-set_cases slots round.slot k (Free round) (Of n) is) [
         | inl w ↦ absurd (let bad : Of n ≡ Free round = w.1 in cc)
         | inr w ↦ taken-there k n.0 (h.taken k n w.1) (λ has. w.0 (sym (subst (λ (o : Option Round). IsSomeAnd o (λ r. r.slot ≡ k)) had has)))
       ];
@@ -150,19 +151,19 @@ module _ (s t : State) (id : ℕ) (old new : Node) (more : List Node) (e : HasEn
       prices = λ k place is. elim (same_place k place is) [
         | inl w ↦ ap (λ (r : Round). length r.prices) w.1 ∙ is_sound.prices.count
         | inr w ↦ h.prices k place w.1
-      ] ∙ sym (ap (λ (p : Parts). length p.links) e.problem);
+      ] ∙ sym (ap places e.problem);
     }
 
-  -- the places once the round has ended are those of the state after
-  pub HasPlaces-ended : (places : List Slot) → HasPlaces s places → HasPlaces t (given_back places old.round)
-  HasPlaces-ended places h = by_cases old.round refl
+  -- the slots once the round has ended are those of the state after
+  pub HasPlaces-ended : (slots : List Slot) → HasPlaces s slots → HasPlaces t (given_back slots old.round)
+  HasPlaces-ended slots h = by_cases old.round refl
     where
-      by_cases : (o : Option Round) → old.round ≡ o → HasPlaces t (given_back places o)
-      by_cases None none = HasPlaces-idle places none h
-      by_cases (Some round) had = HasPlaces-active places round had h
+      by_cases : (o : Option Round) → old.round ≡ o → HasPlaces t (given_back slots o)
+      by_cases None none = HasPlaces-idle slots none h
+      by_cases (Some round) had = HasPlaces-active slots round had h
 
-  pub round-within : (places : List Slot) → HasPlaces s places → (round : Round) → old.round ≡ Some round → round.slot < length places
-  round-within places h round had = slot-within places round had h
+  pub round-within : (slots : List Slot) → HasPlaces s slots → (round : Round) → old.round ≡ Some round → round.slot < length slots
+  round-within slots h round had = slot-within slots round had h
 
 -- a node that is no open leaf keeps no restriction
 pub HasGrounds-cleared : (p : Parts) (nodes : List Node) (grounds : List (Option Rows)) (id : ℕ) (old new : Node) → slice_get nodes id ≡ Some old

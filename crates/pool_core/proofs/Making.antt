@@ -7,6 +7,7 @@ use Rattle.std.proofs.lemmas.Option.{slice_get_within}
 use Rattle.std.proofs.lemmas.List.Sums.{sum_by-cons}
 use Rattle.plan_base.specs.declared.parts.Parts.{Parts}
 use Rattle.plan_base.specs.Facts.{IsInstance}
+use Rattle.plan_base.specs.Places.{places}
 use Rattle.link_steps.specs.Values.{AreStartPrices}
 use Rattle.arc_restrict.specs.Restrictions.{none_forbidden}
 use Rattle.arc_restrict.specs.Prices.{AreWithinLimit}
@@ -23,39 +24,39 @@ use Rattle.pool_core.specs.Roots.{HasFreeRoot}
 use Rattle.pool_machine.proofs.Lists.{slice_get-append_left, slice_get-append_right}
 use Rattle.pool_machine.proofs.Frames.{one_at}
 
-pub free_places-none : (demands links : ℕ) → AreFreePlaces 0 demands links []
-free_places-none demands links = record { length_is = refl; each = λ slot below. absurd (omega arith) }
+pub free_places-none : (demands prices : ℕ) → AreFreePlaces 0 demands prices []
+free_places-none demands prices = record { length_is = refl; each = λ slot below. absurd (omega arith) }
 
 below-or-last : (i n : ℕ) → i < n + 1 → (i < n) ⊎ (i ≡ n)
 below-or-last i n h = grind arith
 
 -- one more place
-pub free_places-next : (count demands links : ℕ) (places : List Slot) (place : Round) → AreFreePlaces count demands links places
-    → place.slot ≡ count → length place.found ≡ demands → length place.prices ≡ links → AreFreePlaces (count + 1) demands links (places ++ (Free place ∷ []))
-free_places-next count demands links places place h slot found prices =
-    let long = length-append places (Free place ∷ []) in
+pub free_places-next : (count demands width : ℕ) (slots : List Slot) (place : Round) → AreFreePlaces count demands width slots
+    → place.slot ≡ count → length place.found ≡ demands → length place.prices ≡ width → AreFreePlaces (count + 1) demands width (slots ++ (Free place ∷ []))
+free_places-next count demands width slots place h slot found prices =
+    let long = length-append slots (Free place ∷ []) in
     let size = h.length_is in
     record {
       length_is = omega arith;
       each = λ n below. elim (below-or-last n count below) [
-        | inl before ↦ let e = h.each n before in (e.0, slice_get-append_left places (Free place ∷ []) n (Free e.0) e.1, e.2, e.3, e.4)
+        | inl before ↦ let e = h.each n before in (e.0, slice_get-append_left slots (Free place ∷ []) n (Free e.0) e.1, e.2, e.3, e.4)
         | inr last ↦
-            let at : slice_get (places ++ (Free place ∷ [])) (length places + 0) ≡ Some (Free place) = slice_get-append_right places (Free place ∷ []) 0 in
-            let here : length places + 0 ≡ n = omega arith in
-            (place, subst (λ (i : ℕ). slice_get (places ++ (Free place ∷ [])) i ≡ Some (Free place)) here at, slot ∙ sym last, found, prices)
+            let at : slice_get (slots ++ (Free place ∷ [])) (length slots + 0) ≡ Some (Free place) = slice_get-append_right slots (Free place ∷ []) 0 in
+            let here : length slots + 0 ≡ n = omega arith in
+            (place, subst (λ (i : ℕ). slice_get (slots ++ (Free place ∷ [])) i ≡ Some (Free place)) here at, slot ∙ sym last, found, prices)
       ];
     }
 
 pub ruleset free_places = (free_places-none, free_places-next)
 
 -- where each place is free, all are counted
-all_free : (places : List Slot) → ((k : ℕ) → k < length places → (place : Round) × (slice_get places k ≡ Some (Free place))) → count_by is_free places ≡ length places
+all_free : (slots : List Slot) → ((k : ℕ) → k < length slots → (place : Round) × (slice_get slots k ≡ Some (Free place))) → count_by is_free slots ≡ length slots
 all_free [] each = refl
-all_free (o ∷ places) each =
+all_free (o ∷ slots) each =
     let first = each 0 (omega arith) in
     let is : o ≡ Free first.0 = (let e = first.1 in cc) in
     let one : ◌≡◌ {A = ℕ} (cond (is_free o) 1 0) 1 = ap (λ (x : Slot). cond {A = ℕ} (is_free x) 1 0) is in
-    omega (arith, one, sum_by-cons (λ (x : Slot). cond (is_free x) 1 0) o places, all_free places (λ k below. each (suc k) (omega arith)))
+    omega (arith, one, sum_by-cons (λ (x : Slot). cond (is_free x) 1 0) o slots, all_free slots (λ k below. each (suc k) (omega arith)))
 
 module _ (s : State) (prices : List ℕ) (nodes : s.nodes ≡ root_with prices ∷ []) where
   none_taken : (slot : ℕ) → IsTaken s slot → ⊥
@@ -65,19 +66,19 @@ module _ (s : State) (prices : List ℕ) (nodes : s.nodes ≡ root_with prices �
       at_root zero node is has = let same : root_with prices ≡ node = cc in subst (λ (x : Node). IsSomeAnd x.round (λ r. r.slot ≡ slot)) (sym same) has
       at_root (suc n) node is has = let bad : ◌≡◌ {A = Option Node} None (Some node) = is in absurd (cc)
 
-  pub opening-places : (places : List Slot) → AreFreePlaces MAX_ROUNDS (length s.problem.demands) (length s.problem.links) places → HasPlaces s places
-  opening-places places h =
-      let free : (k : ℕ) (o : Slot) → slice_get places k ≡ Some o → (place : Round) × (o ≡ Free place) × (place.slot ≡ k) × (length place.found ≡ length s.problem.demands) × (length place.prices ≡ length s.problem.links)
+  pub opening-slots : (slots : List Slot) → AreFreePlaces MAX_ROUNDS (length s.problem.demands) (places s.problem) slots → HasPlaces s slots
+  opening-slots slots h =
+      let free : (k : ℕ) (o : Slot) → slice_get slots k ≡ Some o → (place : Round) × (o ≡ Free place) × (place.slot ≡ k) × (length place.found ≡ length s.problem.demands) × (length place.prices ≡ places s.problem)
       = λ k o is.
       let size = h.length_is in
-      let within = slice_get_within places k o is in
+      let within = slice_get_within slots k o is in
       let e = h.each k (omega arith) in
-      (e.0, one_at places k o (Free e.0) is e.1, e.2, e.3, e.4) in
-      let same : (k : ℕ) (place : Round) (is : slice_get places k ≡ Some (Free place)) → (free k (Free place) is).0 ≡ place = λ k place is. let e = (free k (Free place) is).1 in cc in
+      (e.0, one_at slots k o (Free e.0) is e.1, e.2, e.3, e.4) in
+      let same : (k : ℕ) (place : Round) (is : slice_get slots k ≡ Some (Free place)) → (free k (Free place) is).0 ≡ place = λ k place is. let e = (free k (Free place) is).1 in cc in
       record {
         count = h.length_is;
         total = (
-            let all = all_free places (λ k below. let size = h.length_is in let e = h.each k (omega arith) in (e.0, e.1)) in
+            let all = all_free slots (λ k below. let size = h.length_is in let e = h.each k (omega arith) in (e.0, e.1)) in
             let size = h.length_is in
             let idle : sum_by (λ (x : Node). rounds_in x) s.nodes ≡ 0 = ap (sum_by (λ (x : Node). rounds_in x)) nodes in
             omega arith
@@ -118,29 +119,29 @@ module _ (p : Parts) (budget : ℕ) (prices : List ℕ) (lawful : IsInstance p) 
   pub opening-state : IsOpeningState p budget (opening_with p budget prices)
   opening-state = record { lawful = lawful; prices = prices; are_start = start; within_limit = within; is_state = refl }
 
-  pub opening-kept : (table : Parts) (rows : Rows) (places : List Slot) → 0 < budget → budget ≤ MAX_BUDGET → table ≡ p
-      → AreFreePlaces MAX_ROUNDS (length p.demands) (length p.links) places → forbids rows ≡ none_forbidden → HasSizeOf p rows
-      → IsKeptPool (opening_with p budget prices) table (Some rows ∷ []) places
-  opening-kept table rows places some most same free none size = record {
+  pub opening-kept : (table : Parts) (rows : Rows) (slots : List Slot) → 0 < budget → budget ≤ MAX_BUDGET → table ≡ p
+      → AreFreePlaces MAX_ROUNDS (length p.demands) (places p) slots → forbids rows ≡ none_forbidden → HasSizeOf p rows
+      → IsKeptPool (opening_with p budget prices) table (Some rows ∷ []) slots
+  opening-kept table rows slots some most same free none size = record {
     pool = record {
       some_budget = some;
       budget = most;
       reachable = record { opening = opening_with p budget prices; entries = []; is_opening = opening-state; run = refl };
-      has_places = opening-places (opening_with p budget prices) prices refl places free;
+      has_places = opening-slots (opening_with p budget prices) prices refl slots free;
     };
     table_is = same;
     has_grounds = opening-grounds (opening_with p budget prices) prices refl rows none size;
   }
 
   -- the same on the pool's own fields
-  pub opening-kept-at : (table : Parts) (nodes : List Node) (columns : Columns) (grounds : List (Option Rows)) (places : List Slot) → 0 < budget → budget ≤ MAX_BUDGET → table ≡ p
-      → AreFreePlaces MAX_ROUNDS (length p.demands) (length p.links) places → HasFreeRoot p grounds → nodes ≡ root_with prices ∷ [] → columns ≡ no_columns p
-      → IsKeptPool (record (opening_with p budget prices) { nodes = nodes; columns = columns }) table grounds places
-  opening-kept-at table nodes columns grounds places some most same free root is_nodes is_columns =
-      let kept = opening-kept table root.rows places some most same free root.empty root.size in
-      subst (λ (cs : Columns). IsKeptPool (record (opening_with p budget prices) { nodes = nodes; columns = cs }) table grounds places) (sym is_columns)
-      (subst (λ (xs : List Node). IsKeptPool (record (opening_with p budget prices) { nodes = xs }) table grounds places) (sym is_nodes)
-      (subst (λ (xs : List (Option Rows)). IsKeptPool (opening_with p budget prices) table xs places) (sym root.is_ground) kept))
+  pub opening-kept-at : (table : Parts) (nodes : List Node) (columns : Columns) (grounds : List (Option Rows)) (slots : List Slot) → 0 < budget → budget ≤ MAX_BUDGET → table ≡ p
+      → AreFreePlaces MAX_ROUNDS (length p.demands) (places p) slots → HasFreeRoot p grounds → nodes ≡ root_with prices ∷ [] → columns ≡ no_columns p
+      → IsKeptPool (record (opening_with p budget prices) { nodes = nodes; columns = columns }) table grounds slots
+  opening-kept-at table nodes columns grounds slots some most same free root is_nodes is_columns =
+      let kept = opening-kept table root.rows slots some most same free root.empty root.size in
+      subst (λ (cs : Columns). IsKeptPool (record (opening_with p budget prices) { nodes = nodes; columns = cs }) table grounds slots) (sym is_columns)
+      (subst (λ (xs : List Node). IsKeptPool (record (opening_with p budget prices) { nodes = xs }) table grounds slots) (sym is_nodes)
+      (subst (λ (xs : List (Option Rows)). IsKeptPool (opening_with p budget prices) table xs slots) (sym root.is_ground) kept))
 
   pub opening-state-at : (nodes : List Node) (columns : Columns) → nodes ≡ root_with prices ∷ [] → columns ≡ no_columns p → IsOpeningState p budget (record (opening_with p budget prices) { nodes = nodes; columns = columns })
   opening-state-at nodes columns is is_columns =

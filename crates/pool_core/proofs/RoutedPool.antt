@@ -6,8 +6,7 @@ use Rattle.plan_base.specs.declared.ids.BranchId.{BranchId}
 use Rattle.plan_base.specs.declared.ids.LinkId.{LinkId}
 use Rattle.plan_base.specs.declared.path.Design.{Design}
 use Rattle.plan_base.specs.declared.design_fault.DesignFault.{DesignFault}
-use Rattle.plan_base.specs.Arcs.{link_at}
-use Rattle.plan_base.specs.Designs.{load_on, counts_at}
+use Rattle.plan_base.specs.Designs.{need, counts_at}
 use Rattle.link_steps.specs.Costs.{AreLeastCounts}
 use Rattle.completions.specs.Completions.{ArePaths, IsCompletion, IsFirstOverfull}
 use Rattle.proof_tree.specs.declared.tree.Evidence.TheVariants as evidence
@@ -22,7 +21,7 @@ use Rattle.pool_machine.specs.Machine.{Examining, to_examining, IsReachable}
 use Rattle.pool_reading.specs.Views.{closed_at}
 use Rattle.pool_reading.specs.Examining.{HasOnlyPaths}
 use Rattle.pool_core.proofs.Examining.{open-at, shown-closed}
-use Rattle.pool_core.proofs.Routings.{are-paths, overfull-closed, completion-routed, with_cheaper, better-holds}
+use Rattle.pool_core.proofs.Routings.{carried-good, are-paths, overfull-closed, completion-routed, with_cheaper, better-holds}
 use Rattle.pool_machine.proofs.Runs.{IsReachable-step}
 
 module _ (s : State) (id : BranchId) (paths : List (List ArcId)) (at : HasOnlyPaths s id paths) where
@@ -52,10 +51,10 @@ module _ (s : State) (id : BranchId) (paths : List (List ArcId)) (at : HasOnlyPa
 
   -- the design of the paths is handed in first
   module _ (cost : ℕ) (design : Design) (done : IsCompletion s.problem paths cost design)
-      (counts : (e : ℕ) → e < length s.problem.links → AreLeastCounts (link_at s.problem e) (load_on s.problem design e) (counts_at design e))
+      (counts : (e : ℕ) → e < length s.problem.links → AreLeastCounts s.problem e (need s.problem design e) (counts_at design e))
       (t : State) (answer : Result Better DesignFault) (step : BetterStep s design answer t) where
     held : t ≡ with_cheaper s cost design
-    held = better-holds s t cost design answer step done.good (sym done.is_cost)
+    held = better-holds s t cost design answer step (carried-good s.problem design done.carried) (sym done.is_cost)
 
     pub routed-open : is_open_state (state_of t id) ≡ true
     routed-open = subst (λ (x : State). is_open_state (state_of x id) ≡ true) (sym held) paths-open

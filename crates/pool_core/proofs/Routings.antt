@@ -7,7 +7,7 @@ use Rattle.plan_base.specs.declared.parts.Parts.{Parts}
 use Rattle.plan_base.specs.declared.path.Design.{Design}
 use Rattle.plan_base.specs.declared.design_fault.DesignFault.{DesignFault}
 use Rattle.plan_base.specs.Arcs.{link_at}
-use Rattle.plan_base.specs.Designs.{counts_at, load_on, module_cost_with, link_cost, cost_of, IsGoodDesign}
+use Rattle.plan_base.specs.Designs.{counts_at, need, module_cost_with, link_cost, cost_of, IsCarriedDesign, IsGoodDesign}
 use Rattle.plan_base.proofs.DesignLaws.{design_fault-IsGoodDesign}
 use Rattle.link_steps.specs.Costs.{AreLeastCounts}
 use Rattle.arc_restrict.specs.Restrictions.{Forbidden, IsOnlyPath}
@@ -21,6 +21,10 @@ use Rattle.pool_machine.specs.State.{State}
 use Rattle.pool_machine.specs.Examining.{cheaper_of, IsRouted}
 use Rattle.pool_machine.specs.Bettering.{is_cheaper, BetterStep}
 
+-- a design whose links carry its paths is a good one
+pub carried-good : (p : Parts) (d : Design) → IsCarriedDesign p d → IsGoodDesign p d
+carried-good p d is = record { design = is.design; feasible = record { carried = is.carried }; in_shape = is.in_shape }
+
 module _ (p : Parts) (r : Forbidden) (paths : List (List ArcId)) (only : AreOnlyOnes p r paths) where
   pub are-paths : ArePaths p paths
   are-paths = record { count = only.count; simple = λ k within. (only.only k within).permitted.simple }
@@ -32,10 +36,10 @@ module _ (p : Parts) (r : Forbidden) (paths : List (List ArcId)) (only : AreOnly
   overfull-closed link first = record { routing = with_paths paths; only = only-of (with_paths paths) refl; is_link = first.within; overfull = first.overfull }
 
   pub completion-routed : (cost : ℕ) (d : Design) → IsCompletion p paths cost d
-      → ((e : ℕ) → e < length p.links → AreLeastCounts (link_at p e) (load_on p d e) (counts_at d e)) → IsRouted p r cost d
+      → ((e : ℕ) → e < length p.links → AreLeastCounts p e (need p d e) (counts_at d e)) → IsRouted p r cost d
   completion-routed cost d done counts = record {
     only = only-of d done.same_paths;
-    good = done.good;
+    good = carried-good p d done.carried;
     is_cost = sym done.is_cost;
     step_costs = link_cost p d;
     are_costs = λ e within. record {
@@ -46,7 +50,7 @@ module _ (p : Parts) (r : Forbidden) (paths : List (List ArcId)) (only : AreOnly
     is_least = done.is_cost;
   }
 
--- where each link carries its load, none is overfull
+-- where each link carries what it needs, none is overfull
 pub carry-overfull : (p : Parts) (paths : List (List ArcId)) → CarryLoads p paths (length p.links) → HasOverfull p paths → ⊥
 carry-overfull p paths carry over = let can = carry over.link over.within in over.overfull can.0 can.1
 

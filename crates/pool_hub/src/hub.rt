@@ -2,6 +2,7 @@
 
 ghost use Rattle.std.specs.Prelude.{◌≡◌, ◌+◌, ◌<◌, ◌≤◌, ◌↔◌, true, [], length, slice_get, IfOk, OnErr, IfSome, IsSome, sum_by};
 ghost use Rattle.std.specs.Arc.{arc_value};
+ghost use Rattle.plan_base.specs.Places.{places};
 ghost use Rattle.arc_restrict.specs.Rows.{forbids};
 ghost use Rattle.dual_versions.specs.Boards.{Begins};
 ghost use Rattle.pool_machine.specs.declared.limits.TheConstants.{MAX_ROUNDS};
@@ -17,7 +18,7 @@ ghost use Rattle.pool_machine.specs.Examining.{ExamineStep};
 ghost use Rattle.pool_machine.specs.Bettering.{BetterStep};
 ghost use Rattle.pool_machine.specs.Tasks.{IsLawfulTask, IsSearchState};
 ghost use Rattle.pool_core.specs.Views.{IsPublishedAt, design_of};
-ghost use Rattle.pool_core.specs.Foretold.{IfPublished};
+ghost use Rattle.pool_core.specs.Foretold.{IfPublished, IfRefused};
 ghost use Rattle.pool_hub.specs.States.{HasState, HasStep};
 ghost use Rattle.pool_hub.specs.Standings.{standing_of};
 ghost use Rattle.pool_hub.specs.Shown.{HasFirst, HasEntry};
@@ -152,7 +153,7 @@ impl<N: Naming, R: Wait + Drop> Hub<N, R> {
         requires search { (pool.problem ≡ N.problem) × (pool.budget ≡ N.budget) }
         requires fresh { pool.accepted ≡ 0 }
         requires slots { writer.slots ≡ MAX_ROUNDS }
-        requires prices { writer.prices ≡ length pool.problem.links }
+        requires prices { writer.prices ≡ places pool.problem }
         requires none_pending { writer.pending ≡ [] }
         requires readers { length readers.items ≡ workers }
         ensures count { IfOk result (λ made. length made.1.items ≡ workers) }
@@ -259,6 +260,7 @@ impl<N: Naming, R: Wait + Drop> Hub<N, R> {
         ensures answer { IfOk result (λ answer. HasStep N.problem N.budget (λ old new. OpenStep old node answer new
             × IfOk answer (HasFirst old node seat.new.reader))) }
         ensures later { Begins seat.old.reader seat.new.reader }
+        ensures refused { IfOk result (λ answer. OnErr answer (seat.new.reader ≡ seat.old.reader)) }
         ensures unchanged { OnErr result (seat.new.reader ≡ seat.old.reader) }
         ensures seat { (seat.new.number ≡ seat.old.number) × (seat.new.share ≡ seat.old.share) }
     {
@@ -271,6 +273,7 @@ impl<N: Naming, R: Wait + Drop> Hub<N, R> {
         ensures answer { HasStep N.problem N.budget (λ old new. OfferStep old offer result new) }
         ensures booked { seat.new.share.amount ≡ seat.old.share.amount + accepted_by result }
         ensures number { seat.new.number ≡ seat.old.number }
+        ensures reader { seat.new.reader ≡ seat.old.reader }
     {
         self.kept.lock(rt).offer(offer, &mut seat.share)
     }
@@ -307,6 +310,7 @@ impl<N: Naming, R: Wait + Drop> Hub<N, R> {
         ensures answer { IfOk result (λ answer. HasStep N.problem N.budget (λ old new. PublishStep old node seen prices.now answer new)) }
         ensures seen { IfOk result (λ answer. IfPublished answer (HasEntry seat.new.reader node prices.now)) }
         ensures later { Begins seat.old.reader seat.new.reader }
+        ensures refused { IfOk result (λ answer. IfRefused answer (seat.new.reader ≡ seat.old.reader)) }
         ensures unchanged { OnErr result (seat.new.reader ≡ seat.old.reader) }
         ensures seat { (seat.new.number ≡ seat.old.number) × (seat.new.share ≡ seat.old.share) }
     {

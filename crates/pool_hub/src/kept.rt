@@ -2,6 +2,7 @@
 
 ghost use Rattle.std.specs.Prelude.{◌≡◌, ◌+◌, ◌<◌, ◌↔◌, ◌∷◌, true, [], length, IfOk, OnOk, OnErr, IfSome, IsSome, slice_get};
 ghost use Rattle.std.specs.Arc.{arc_value};
+ghost use Rattle.plan_base.specs.Places.{places};
 ghost use Rattle.arc_restrict.specs.Rows.{forbids};
 ghost use Rattle.dual_versions.specs.Boards.{Begins};
 ghost use Rattle.pool_machine.specs.declared.limits.TheConstants.{MAX_ROUNDS};
@@ -48,7 +49,7 @@ pub struct Kept<N: Naming, R: Wait + Drop> {
     ghost problem_is: { pool.problem ≡ N.problem },
     ghost budget_is: { pool.budget ≡ N.budget },
     ghost slots: { board.slots ≡ MAX_ROUNDS },
-    ghost prices: { board.prices ≡ length N.problem.links },
+    ghost prices: { board.prices ≡ places N.problem },
     ghost none_pending: { board.pending ≡ [] },
 }
 
@@ -139,7 +140,7 @@ impl<N: Naming, R: Wait + Drop> Kept<N, R> {
         ensures search { IsSearchState N.problem N.budget self.old.pool }
         ensures event { IfOk result (λ answer. OpenStep self.old.pool node answer self.new.pool) }
         ensures shows { IfOk result (λ answer. IfOk answer (λ opened. ShowsFirst self.old.pool node self.old.board opened self.new.board)) }
-        ensures refused { IfOk result (λ answer. OnErr answer (self.new.board ≡ self.old.board)) }
+        ensures refused { IfOk result (λ answer. OnErr answer ((self.new.board ≡ self.old.board) × (reader.new ≡ reader.old))) }
         ensures unchanged { OnErr result ((self.new.pool ≡ self.old.pool) × (self.new.board ≡ self.old.board) × (reader.new ≡ reader.old)) }
         ensures later { Begins reader.old reader.new }
         ensures seen { IfOk result (λ answer. IfOk answer (HasFirst self.old.pool node reader.new)) }
@@ -200,7 +201,7 @@ impl<N: Naming, R: Wait + Drop> Kept<N, R> {
         ensures search { IsSearchState N.problem N.budget self.old.pool }
         ensures event { IfOk result (λ answer. PublishStep self.old.pool node seen prices.now answer self.new.pool) }
         ensures shows { IfOk result (λ answer. IfPublished answer (λ slot version. self.new.board ≡ with_entry self.old.board slot (entry_for node version prices.now))) }
-        ensures refused { IfOk result (λ answer. IfRefused answer (self.new.board ≡ self.old.board)) }
+        ensures refused { IfOk result (λ answer. IfRefused answer ((self.new.board ≡ self.old.board) × (reader.new ≡ reader.old))) }
         ensures unchanged { OnErr result ((self.new.pool ≡ self.old.pool) × (self.new.board ≡ self.old.board) × (reader.new ≡ reader.old)) }
         ensures later { Begins reader.old reader.new }
         ensures seen { IfOk result (λ answer. IfPublished answer (HasEntry reader.new node prices.now)) }

@@ -2,10 +2,10 @@
 //!
 //! Promises that each holding of the lock is one event of the machine, whoever makes the call and when; that whenever
 //! the lock is free the pool is in a sound state of the search that the hub's type names, in which each answer was given;
-//! that a worker ends only where nothing is left to do or memory is wanting; and that the pool of an ended hub has
-//! accepted just what all seats have booked. Begin at `Hub`, what lies under its lock is `Kept`. Stands on `pool_core`
-//! for what a call does, and on `leaf_work` for what a task computes, which no lock covers. That workers run at the same
-//! time, and that a wait ends, no contract says.
+//! and that the pool of an ended hub has accepted just what all seats have booked. Of a worker that ends, and not for want
+//! of memory, it says that some state of that search has nothing left to do, which is no fact about this hub's pool. Begin
+//! at `Hub`, what lies under its lock is `Kept`. Stands on `pool_core` for what a call does, and on `leaf_work` for what a
+//! task computes, which no lock covers. That workers run at the same time, and that a wait ends, no contract says.
 #![tactic(auto)]
 
 mod bench;

@@ -1,6 +1,7 @@
 //! A search by several workers.
 
 ghost use Rattle.std.specs.Prelude.{◌≡◌, ◌≤◌, ◌<◌, [], length, IfOk};
+ghost use Rattle.plan_base.specs.Places.{places};
 ghost use Rattle.pool_machine.specs.declared.limits.TheConstants.{MAX_ROUNDS};
 ghost use Rattle.pool_machine.specs.Tasks.{IsSearchState};
 ghost use Rattle.plan_io.specs.declared.gate.TheConstants.{MAX_WORKERS};
@@ -36,8 +37,8 @@ pub fn search<R: Threads + Wait + Sync, G: Gate>(
     requires fresh { pool.accepted ≡ 0 }
     ensures { IfOk result (IsSearchState pool.problem pool.budget) }
 {
-    let links = pool.instance().links();
-    let (writer, readers) = board(rt, alloc, MAX_ROUNDS, workers, links)?;
+    let places = pool.instance().places();
+    let (writer, readers) = board(rt, alloc, MAX_ROUNDS, workers, places)?;
     let blank = Blank::new(u64::from(workers));
     search_as::<Brand, R, G>(rt, alloc, blank, pool, workers, writer, readers, gate)
 }
@@ -61,7 +62,7 @@ fn search_as<'a, N: Naming + Send + Sync, R: Threads + Wait + Sync, G: Gate>(
     requires search { (pool.problem ≡ N.problem) × (pool.budget ≡ N.budget) }
     requires fresh { pool.accepted ≡ 0 }
     requires slots { writer.slots ≡ MAX_ROUNDS }
-    requires prices { writer.prices ≡ length pool.problem.links }
+    requires prices { writer.prices ≡ places pool.problem }
     requires none_pending { writer.pending ≡ [] }
     requires readers { length readers.items ≡ workers }
     ensures { IfOk result (IsSearchState N.problem N.budget) }

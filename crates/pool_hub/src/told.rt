@@ -9,8 +9,9 @@ ghost use Rattle.column_pool.specs.Briefs.{IsBriefFor};
 ghost use Rattle.master_step.specs.Columns.{HasColumns};
 
 use crate::naming::Naming;
+use arc_restrict::price_along;
 use column_pool::Brief;
-use plan_base::{DemandId, Instance, Items, Path, Prices};
+use plan_base::{DemandId, Instance, Items, Path};
 use std::alloc::{AllocError, Global};
 use std::marker::PhantomData;
 
@@ -36,25 +37,15 @@ fn has_columns(inst: &Instance, columns: &[Items<Path>]) -> bool
     true
 }
 
-/// What a path costs under the prices; no more than the greatest number, where it costs more.
-fn price_along(prices: &Prices, path: &Path) -> u128 {
-    let mut total: u128 = 0;
-    for arc in path.as_slice() {
-        if let Some(price) = prices.as_slice().get((arc.0 / 2) as usize) {
-            total = total.saturating_add(*price);
-        }
-    }
-    total
-}
-
 /// Where among the columns of a demand one stands that none undercuts.
-fn least_place(prices: &Prices, columns: &[Path]) -> usize
+fn least_place(inst: &Instance, prices: &[u128], columns: &[Path]) -> usize
     requires { 0 < length columns.now }
     ensures { result < length columns.now }
 {
     let mut least = 0;
     for place in 1..columns.len() {
-        if price_along(prices, &columns[place]) < price_along(prices, &columns[least]) {
+        let price = price_along(inst, prices, columns[place].as_slice());
+        if price < price_along(inst, prices, columns[least].as_slice()) {
             least = place;
         }
     }
@@ -103,7 +94,7 @@ impl<N: Naming> Told<N> {
         ensures { IfOk result (IsSimplePath inst.now (demand_at inst.now demand.0)) }
     {
         let columns = self.brief.columns.as_slice()[demand.0 as usize].as_slice();
-        let place = least_place(&self.brief.prices, columns);
+        let place = least_place(inst, self.brief.prices.as_slice(), columns);
         columns[place].copy()
     }
 

@@ -243,6 +243,8 @@ fn do_tasks<N: Naming, R: Wait + Drop, W: Wait, G: Gate>(
 /// Does tasks until none is left: until the budget of the search is spent or no leaf is open.
 ///
 /// - Takes: a hub, a seat of it, and a gate, which is passed between the taking of a task and its work.
+/// - Gives: Ok where the last task was `Done`. Its clause says that some state of this search has nothing left to do, and not
+///   that the hub's pool is in it.
 /// - Errors: want of memory alone. Then the seat is as the calls made so far left it.
 pub fn work<N: Naming, R: Wait + Drop, W: Wait, G: Gate>(
     rt: &W,

@@ -1,8 +1,9 @@
 -- A node that is closed with evidence leaves a state sound.
-use Rattle.std.proofs.Common.{◌≡◌, ℕ, suc, inr, false, length, Option, Some, None, refl, sym, ap, subst, arith, pos, ◌≤ℤ◌}
+use Rattle.std.proofs.Common.{◌≡◌, ℕ, suc, inr, false, Option, Some, None, refl, sym, ap, subst, arith, pos, ◌≤ℤ◌}
 use Rattle.std.specs.Prelude.{IsSomeAnd}
 use Rattle.plan_base.specs.declared.ids.BranchId.{BranchId}
 use Rattle.plan_base.specs.declared.parts.Parts.{Parts}
+use Rattle.plan_base.specs.Places.{places}
 use Rattle.proof_tree.specs.Evidence.{HasEvidence, ClosedByBound}
 use Rattle.proof_tree.specs.declared.tree.TreeNode.TheVariants.{Leaf}
 use Rattle.proof_tree.specs.Plans.{is_open}
@@ -24,7 +25,7 @@ IsSomeAnd-weaker P Q f None h = h
 IsSomeAnd-weaker P Q f (Some x) h = f x h
 
 pub closed-sound : (s : State) (id : BranchId) (node : Node) (found : Evidence) → IsSound s → IsExamined s id node
-    → is_open (Leaf found) ≡ false → HasEvidence s.problem (cutoff_of s) (restriction_of node) found → FitsEvidence s.problem.nodes (length s.problem.links) found
+    → is_open (Leaf found) ≡ false → HasEvidence s.problem (cutoff_of s) (restriction_of node) found → FitsEvidence s.problem.nodes (places s.problem) found
     → IsSound (examined_with s id (closed_by found node))
 closed-sound s id node found h is not_open has fits =
     let new : Node = closed_by found node in
@@ -53,7 +54,7 @@ closed-sound s id node found h is not_open has fits =
 
 -- the evidence by which a closable node is closed
 ClosesBy-evidence : (p : Parts) (cost : Option ℕ) (node : Node) (found : Evidence) → IsSoundNode p node → ClosesBy cost node found
-    → (is_open (Leaf found) ≡ false) × HasEvidence p cost (restriction_of node) found × FitsEvidence p.nodes (length p.links) found
+    → (is_open (Leaf found) ≡ false) × HasEvidence p cost (restriction_of node) found × FitsEvidence p.nodes (places p) found
 ClosesBy-evidence p cost node found k (by_crowd prices is) = let crowd = rw is at (k.crowd) in (refl, crowd.0, crowd.1)
 ClosesBy-evidence p cost node found k (by_bound best none is enough) =
     let b : IsSoundBest p (restriction_of node) node.first_prices node.completed best = rw is at (k.best) in (

@@ -5,10 +5,12 @@ use Rattle.plan_base.specs.declared.ids.ArcId.{ArcId}
 use Rattle.plan_base.specs.declared.ids.DemandId.{DemandId}
 use Rattle.plan_base.specs.declared.parts.Parts.{Parts}
 use Rattle.plan_base.specs.Arcs.{link_at, demand_at}
+use Rattle.plan_base.specs.Places.{there_of, back_of}
 use Rattle.plan_base.proofs.Bools.{or-false_both}
 use Rattle.proof_tree.proofs.Uniqueness.{link_value-unique, int_sum_below-same}
 use Rattle.arc_restrict.specs.Restrictions.{Forbidden, with_forbidden, IsPermittedPath}
-use Rattle.proof_tree.specs.Bounds.{int_sum_below, price_total, IsBound}
+use Rattle.plan_base.specs.Sums.{int_sum_below}
+use Rattle.proof_tree.specs.Bounds.{price_total, IsBound}
 use Rattle.pool_machine.specs.State.{Best, Division, Node, State, restriction_of, restriction_by, kept_by}
 use Rattle.pool_machine.specs.Family.{IsChild}
 use Rattle.pool_machine.specs.Nodes.{IsSoundBest}
@@ -32,7 +34,7 @@ IsBound-rises p r id arcs prices above below x y =
     mul-le-mul_left (demand_at p k).load (omega arith)) in
     let values : int_sum_below x.values (length p.links) ≡ int_sum_below y.values (length p.links) =
     int_sum_below-same x.values y.values (length p.links)
-    (λ e within. link_value-unique p (link_at p e) (slice_index prices e) (x.values e) (y.values e) (x.are_values e within) (y.are_values e within)) in
+    (λ e within. link_value-unique p (link_at p e) (there_of p (slice_index prices) e) (back_of p (slice_index prices) e) (x.values e) (y.values e) (x.are_values e within) (y.are_values e within)) in
     x.rounded.least below (sums _ _ _ _ _ total values y.rounded.reaches)
   where
     sums : (a b : ℕ) (u v z : ℤ) → a ≤ b → u ≡ v → (pos b +ℤ v) ≤ℤ z → (pos a +ℤ u) ≤ℤ z

@@ -5,9 +5,10 @@ use Rattle.plan_base.specs.declared.ids.ArcId.{ArcId}
 use Rattle.plan_base.specs.declared.parts.Parts.{Parts}
 use Rattle.plan_base.specs.Facts.{price_limit}
 use Rattle.plan_base.specs.Arcs.{demand_at}
-use Rattle.plan_base.specs.Paths.{uses}
+use Rattle.plan_base.specs.Places.{places}
+use Rattle.plan_base.specs.Paths.{uses_place}
 use Rattle.plan_base.proofs.SumsBelow.{sum_below-same}
-use Rattle.proof_tree.specs.Bounds.{int_sum_below}
+use Rattle.plan_base.specs.Sums.{int_sum_below}
 use Rattle.master_step.specs.Columns.{Choices, least_column, least_price}
 use Rattle.master_step.specs.Restricted.{IsRestrictedValue}
 use Rattle.master_step.specs.Trials.{column_load, apart, widest_gap, greatest_price, moved, IsTrial}
@@ -27,29 +28,29 @@ value-same p one other prices value same h = record {
   values = h.values;
   are_values = h.are_values;
   is_sum = h.is_sum ∙ ap (λ (n : ℕ). pos n +ℤ int_sum_below h.values (length p.links))
-      (sum_below-same (λ k. (demand_at p k).load * least_price prices (one k)) (λ k. (demand_at p k).load * least_price prices (other k)) (length p.demands)
-      (λ k below. ap (λ (paths : List (List ArcId)). (demand_at p k).load * least_price prices paths) (same k below)));
+      (sum_below-same (λ k. (demand_at p k).load * least_price p prices (one k)) (λ k. (demand_at p k).load * least_price p prices (other k)) (length p.demands)
+      (λ k below. ap (λ (paths : List (List ArcId)). (demand_at p k).load * least_price p prices paths) (same k below)));
 }
 
-load-same : (p : Parts) (one other : Choices) (prices : List ℕ) (e : ℕ) → AreSame p one other → column_load p one prices e ≡ column_load p other prices e
-load-same p one other prices e same =
-    sum_below-same (λ k. if uses e (least_column prices (one k)) then (demand_at p k).load else 0) (λ k. if uses e (least_column prices (other k)) then (demand_at p k).load else 0) (length p.demands)
-    (λ k below. ap (λ (paths : List (List ArcId)). if uses e (least_column prices paths) then (demand_at p k).load else 0) (same k below))
+load-same : (p : Parts) (one other : Choices) (prices : List ℕ) (q : ℕ) → AreSame p one other → column_load p one prices q ≡ column_load p other prices q
+load-same p one other prices q same =
+    sum_below-same (λ k. if uses_place p q (least_column p prices (one k)) then (demand_at p k).load else 0) (λ k. if uses_place p q (least_column p prices (other k)) then (demand_at p k).load else 0) (length p.demands)
+    (λ k below. ap (λ (paths : List (List ArcId)). if uses_place p q (least_column p prices paths) then (demand_at p k).load else 0) (same k below))
 
 trial-same : (p : Parts) (one other : Choices) (prices : List ℕ) (j : ℕ) (trial : List ℕ) → AreSame p one other → IsTrial p one prices j trial → IsTrial p other prices j trial
 trial-same p one other prices j trial same h =
-    let loads : (e : ℕ) → column_load p one prices e ≡ column_load p other prices e = λ e. load-same p one other prices e same in
+    let loads : (q : ℕ) → column_load p one prices q ≡ column_load p other prices q = λ q. load-same p one other prices q same in
     let widest : widest_gap p (column_load p one prices) h.loads ≡ widest_gap p (column_load p other prices) h.loads =
-    max_below-same (λ e. apart (column_load p one prices e) (h.loads e)) (λ e. apart (column_load p other prices e) (h.loads e)) (length p.links)
-    (λ e below. ap (λ (x : ℕ). apart x (h.loads e)) (loads e)) in
+    max_below-same (λ q. apart (column_load p one prices q) (h.loads q)) (λ q. apart (column_load p other prices q) (h.loads q)) (places p)
+    (λ q below. ap (λ (x : ℕ). apart x (h.loads q)) (loads q)) in
     record {
       loads = h.loads;
       are_loads = h.are_loads;
       some_gap = subst (λ (x : ℕ). 0 < x) widest h.some_gap;
       count = h.count;
-      each = λ e below. h.each e below
-          ∙ ap (λ (w : ℕ). moved (price_limit p) (greatest_price p prices) (w * 2 ^ j) (column_load p one prices e) (h.loads e) (slice_index prices e)) widest
-          ∙ ap (λ (x : ℕ). moved (price_limit p) (greatest_price p prices) (widest_gap p (column_load p other prices) h.loads * 2 ^ j) x (h.loads e) (slice_index prices e)) (loads e);
+      each = λ q below. h.each q below
+          ∙ ap (λ (w : ℕ). moved (price_limit p) (greatest_price p prices) (w * 2 ^ j) (column_load p one prices q) (h.loads q) (slice_index prices q)) widest
+          ∙ ap (λ (x : ℕ). moved (price_limit p) (greatest_price p prices) (widest_gap p (column_load p other prices) h.loads * 2 ^ j) x (h.loads q) (slice_index prices q)) (loads q);
     }
 
 pub stalled-same : (p : Parts) (one other : Choices) (prices : List ℕ) (old : ℤ) → AreSame p one other → IsStalled p one prices old → IsStalled p other prices old

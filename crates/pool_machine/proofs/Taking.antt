@@ -3,6 +3,7 @@ use Rattle.std.proofs.Common.{◌≡◌, ℕ, zero, suc, ◌<◌, inl, inr, Bool
 use Rattle.std.specs.Prelude.{IfSome, int_lt}
 use Rattle.std.proofs.lemmas.Int.{ints}
 use Rattle.plan_base.specs.declared.parts.Parts.{Parts}
+use Rattle.plan_base.specs.Places.{places}
 use Rattle.arc_restrict.specs.Restrictions.{Forbidden}
 use Rattle.proof_tree.specs.Bounds.{IsBound}
 use Rattle.proof_tree.specs.Evidence.{ClosedByCrowd}
@@ -60,11 +61,11 @@ versions_in_round-some : (completed left : ℕ) → 0 < left → versions_in_rou
 versions_in_round-some completed zero h = absurd (omega arith)
 versions_in_round-some completed (suc left) h = refl
 
--- a crowd proof with one price for each link
+-- a crowd proof with one price for each place
 abbrev IsSizedCrowd : Parts → Node → List ℕ → Type 0
-IsSizedCrowd p node prices = ClosedByCrowd p (restriction_of node) prices × (length prices ≡ length p.links)
+IsSizedCrowd p node prices = ClosedByCrowd p (restriction_of node) prices × (length prices ≡ places p)
 
-KeepsCrowd-sound : (p : Parts) (old : Node) (prices : List ℕ) (crowd : Option (List ℕ)) → length prices ≡ length p.links → KeepsCrowd p old prices crowd
+KeepsCrowd-sound : (p : Parts) (old : Node) (prices : List ℕ) (crowd : Option (List ℕ)) → length prices ≡ places p → KeepsCrowd p old prices crowd
     → IfSome old.crowd (IsSizedCrowd p old) → IfSome crowd (IsSizedCrowd p old)
 KeepsCrowd-sound p old prices crowd fits keeps h = elim keeps [
   | inl w ↦ subst (λ (o : Option (List ℕ)). IfSome o (IsSizedCrowd p old)) (sym w.1) (w.0, fits)

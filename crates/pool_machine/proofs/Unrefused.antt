@@ -1,5 +1,5 @@
 -- Where a gathering, a settling or a publishing may come, no refusal applies.
-use Rattle.std.proofs.Common.{◌≡◌, ℕ, zero, suc, ◌+◌, ◌<◌, ◌≤◌, true, false, List, [], ◌∷◌, length, Option, Some, None, slice_get, refl, ap, ◌∙◌, arith, sum_by}
+use Rattle.std.proofs.Common.{◌≡◌, ℕ, zero, suc, ◌+◌, ◌<◌, ◌≤◌, true, false, List, [], ◌∷◌, Option, Some, None, slice_get, refl, ap, ◌∙◌, arith, sum_by}
 use Rattle.std.specs.Prelude.{option_map, option_and_then, nat_lt, nat_le}
 use Rattle.std.proofs.lemmas.Bool.{eq-eqb}
 use Rattle.std.proofs.lemmas.Bool.Decides.{nat_tests}
@@ -8,6 +8,7 @@ use Rattle.plan_base.specs.declared.ids.BranchId.{BranchId}
 use Rattle.plan_base.specs.declared.ids.DemandId.{DemandId}
 use Rattle.plan_base.specs.First.{first_in}
 use Rattle.plan_base.specs.Facts.{price_limit}
+use Rattle.plan_base.specs.Places.{places, link_of_place}
 use Rattle.plan_base.proofs.Bools.{not-true}
 use Rattle.plan_base.proofs.FirstFault.{none-or_else, none-when, none-first_in}
 use Rattle.pool_machine.specs.declared.limits.TheConstants.{MAX_VERSIONS}
@@ -89,9 +90,9 @@ module _ (s : State) (id : BranchId) (version : ℕ) (node : Node) (round : Roun
       (none-or_else _ _ (none-when _ publish.Settled (ap settled_in is.is_node ∙ h.not_settled))
       (none-or_else _ _ (ap (λ (o : Option DemandId). option_map publish.Incomplete o) (no_gap is))
       (none-or_else _ _ (none-when _ (publish.Rounds (completed_in (slice_get s.nodes id.0))) (ap (λ (o : Option Node). nat_le MAX_VERSIONS (completed_in o)) is.is_node ∙ not_reached MAX_VERSIONS node.completed h.room))
-      (none-or_else _ _ (none-when _ (publish.PriceCount (length s.problem.links)) (not-true _ (eq-eqb _ _ h.count)))
-      (none-or_else _ _ (none-first_in (price_fault (price_limit s.problem)) prices (λ e price at.
-      none-when _ (publish.OverPrice (record { 0 = e })) (not_below (price_limit s.problem) price (All-at (λ x. x ≤ price_limit s.problem) prices e price h.within_limit at))))
+      (none-or_else _ _ (none-when _ (publish.PriceCount (places s.problem)) (not-true _ (eq-eqb _ _ h.count)))
+      (none-or_else _ _ (none-first_in (price_fault s.problem) prices (λ q price at.
+      none-when _ (publish.OverPrice (record { 0 = link_of_place s.problem q })) (not_below (price_limit s.problem) price (All-at (λ x. x ≤ price_limit s.problem) prices q price h.within_limit at))))
       (ap (λ (o : Option DemandId). option_map publish.Ungathered o) (none_ungathered h.is_gathered)))))))
 
 -- a task to go on with a complete version names one that may be gathered

@@ -4,9 +4,9 @@ use Rattle.plan_base.specs.declared.ids.LinkId.{LinkId}
 use Rattle.plan_base.specs.declared.ids.BranchId.{BranchId}
 use Rattle.plan_base.specs.declared.parts.Parts.{Parts}
 use Rattle.plan_base.specs.declared.path.Design.{Design}
-use Rattle.plan_base.specs.Arcs.{link_at}
+use Rattle.plan_base.specs.Places.{there_of, back_of}
 use Rattle.plan_base.specs.Sums.{sum_below}
-use Rattle.plan_base.specs.Designs.{cost_of, load_on, IsGoodDesign}
+use Rattle.plan_base.specs.Designs.{cost_of, load_at, IsGoodDesign}
 use Rattle.link_steps.specs.Costs.{IsStepCost}
 use Rattle.arc_restrict.specs.Restrictions.{Forbidden}
 use Rattle.proof_tree.specs.Evidence.{AreOnlyPaths, ClosedByOverfull}
@@ -43,7 +43,7 @@ pub record IsRouted (p : Parts) (r : Forbidden) (cost : ℕ) (design : Design) :
   pub good : IsGoodDesign p design
   pub is_cost : cost_of p design ≡ cost
   pub step_costs : ℕ → ℕ
-  pub are_costs : (e : ℕ) → e < length p.links → IsStepCost (link_at p e) (load_on p design e) (step_costs e)
+  pub are_costs : (e : ℕ) → e < length p.links → IsStepCost p e (there_of p (load_at p design) e) (back_of p (load_at p design) e) (step_costs e)
   pub is_least : cost ≡ sum_below step_costs (length p.links)
 
 -- the held design, or this one where there is none or this one is cheaper

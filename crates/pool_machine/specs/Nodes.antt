@@ -3,6 +3,7 @@ use Rattle.std.specs.Prelude.{ℕ, ◌≡◌, ◌<◌, ◌≤◌, ⊤, false, Li
 use Rattle.plan_base.specs.declared.ids.ArcId.{ArcId}
 use Rattle.plan_base.specs.declared.parts.Parts.{Parts}
 use Rattle.plan_base.specs.Arcs.{is_arc, tail_of, demand_at}
+use Rattle.plan_base.specs.Places.{places}
 use Rattle.arc_restrict.specs.Restrictions.{Forbidden}
 use Rattle.arc_restrict.specs.Prices.{AreWithinLimit}
 use Rattle.proof_tree.specs.Bounds.{IsBound}
@@ -15,15 +16,15 @@ use Rattle.pool_machine.specs.declared.limits.TheConstants.{MAX_ROUNDS, MAX_VERS
 use Rattle.path_pricing.specs.Priced.{IsLeastPath}
 use Rattle.pool_machine.specs.State.{Round, Best, Node, restriction_of, left_of, Found, Fate, Undone, ClosedBy, DividedBy}
 
--- one price for each link, none above the limit
+-- one price for each place, none above the limit
 pub record IsPriceList (p : Parts) (prices : List ℕ) : Type 0 where
-  pub count : length prices ≡ length p.links
+  pub count : length prices ≡ places p
   pub within_limit : AreWithinLimit p prices
 
 -- each split is one of the node's restriction, parts two paths and has ascending sides; each closed leaf has its evidence, of the instance's size
 abbrev pub IsSoundFate : Parts → Option ℕ → Forbidden → Fate → Type 0
 IsSoundFate p cost r Undone = ⊤
-IsSoundFate p cost r (ClosedBy evidence) = (is_open (Leaf evidence) ≡ false) × HasEvidence p cost r evidence × FitsEvidence p.nodes (length p.links) evidence
+IsSoundFate p cost r (ClosedBy evidence) = (is_open (Leaf evidence) ≡ false) × HasEvidence p cost r evidence × FitsEvidence p.nodes (places p) evidence
 IsSoundFate p cost r (DividedBy d) = IsSplit p r d.demand d.at d.left d.right × PartsTwoPaths p r d.demand d.left d.right × IsAscending d.left × IsAscending d.right
 
 -- the same of a node at its own restriction
@@ -87,4 +88,4 @@ pub record IsSoundNode (p : Parts) (node : Node) : Type 0 where
   pub version_count : node.completed ≤ MAX_VERSIONS
   pub waiting : node.fate ≡ Undone → node.round ≡ None → node.completed ≡ 0
   pub cut : IfSome node.cut (λ cut. ClosedByCut p (restriction_of node) cut.demand cut.reached × (length cut.reached ≡ p.nodes))
-  pub crowd : IfSome node.crowd (λ prices. ClosedByCrowd p (restriction_of node) prices × (length prices ≡ length p.links))
+  pub crowd : IfSome node.crowd (λ prices. ClosedByCrowd p (restriction_of node) prices × (length prices ≡ places p))

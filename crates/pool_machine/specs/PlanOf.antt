@@ -2,6 +2,7 @@
 use Rattle.std.specs.Prelude.{ℕ, ◌≤ℤ◌, ⊤, ◌≡◌, Bool, true, false, ◌||◌, ◌==◌, List, [], ◌∷◌, length, Option, Some, None, option_map, sum_by, MatchOption, ℤ, nat_lt}
 use Rattle.plan_base.specs.declared.parts.Parts.{Parts}
 use Rattle.plan_base.specs.declared.path.Design.{Design}
+use Rattle.plan_base.specs.Places.{is_two_way}
 use Rattle.proof_tree.specs.declared.tree.TreeNode.{TreeNode}
 use Rattle.proof_tree.specs.declared.tree.TreeNode.TheVariants.{Split, Leaf}
 use Rattle.proof_tree.specs.declared.plan.Plan.{Plan}
@@ -69,6 +70,7 @@ pub record IsPlanOf (s : State) (plan : Plan) : Type 0 where
   pub nodes : plan.nodes ≡ s.problem.nodes
   pub links : plan.links ≡ length s.problem.links
   pub demands : plan.demands ≡ length s.problem.demands
+  pub both : plan.both ≡ is_two_way s.problem.orient
   pub status : plan.status ≡ status_of s
   pub budget : plan.budget ≡ s.budget
   pub examined : plan.examined ≡ s.examined

@@ -1,8 +1,10 @@
 -- Publishings: the round of a node is emptied, and gets further prices.
 use Rattle.std.specs.Prelude.{ℕ, suc, ◌≡◌, ◌<◌, ◌⊎◌, Bool, true, false, not, ◌==◌, List, length, Option, Some, option_map, slice_get, slice_set, nat_lt, nat_le, ℤ, ◌≤ℤ◌, ◌<ℤ◌}
 use Rattle.plan_base.specs.declared.ids.BranchId.{BranchId}
+use Rattle.plan_base.specs.declared.parts.Parts.{Parts}
 use Rattle.plan_base.specs.First.{◌or_else◌, when, first_in}
 use Rattle.plan_base.specs.Facts.{price_limit}
+use Rattle.plan_base.specs.Places.{places, link_of_place}
 use Rattle.arc_restrict.specs.Prices.{AreWithinLimit}
 use Rattle.master_step.specs.Restricted.{IsRestrictedValue}
 use Rattle.master_step.specs.Outcomes.{HasStalled, AreCrowdPrices}
@@ -15,20 +17,20 @@ use Rattle.pool_machine.specs.Opening.{empty_round}
 use Rattle.pool_machine.specs.Readiness.{completed_in, settled_in}
 use Rattle.pool_machine.specs.Gathering.{columns_for, first_ungathered, IsGathered}
 
--- the price of the link of this place, where it is above the limit
-abbrev pub price_fault : ℕ → ℕ → ℕ → Option Publish
-price_fault limit e price = when (nat_lt limit price) (publish.OverPrice (record { 0 = e }))
+-- the link of the place of this number, where the place's price is above the limit
+abbrev pub price_fault : Parts → ℕ → ℕ → Option Publish
+price_fault p q price = when (nat_lt (price_limit p) price) (publish.OverPrice (record { 0 = link_of_place p q }))
 
 -- why a publishing is refused before prices are valued, the first cause first: spent, stale, settled, a demand not priced,
--- no version left, not one price for each link, a price above the limit, a path that is no column
+-- no version left, not one price for each place, a price above the limit, a path that is no column
 unfoldable pub publish_fault : State → BranchId → ℕ → List ℕ → Option Publish
 publish_fault s id seen prices =
     stale_fault publish.Spent publish.Stale s id seen
     or_else when (settled_in (slice_get s.nodes id.0)) publish.Settled
     or_else option_map publish.Incomplete (first_gap (round_of s id))
     or_else when (nat_le MAX_VERSIONS (completed_in (slice_get s.nodes id.0))) (publish.Rounds (completed_in (slice_get s.nodes id.0)))
-    or_else when (not (length prices == length s.problem.links)) (publish.PriceCount (length s.problem.links))
-    or_else first_in (price_fault (price_limit s.problem)) prices
+    or_else when (not (length prices == places s.problem)) (publish.PriceCount (places s.problem))
+    or_else first_in (price_fault s.problem) prices
     or_else option_map publish.Ungathered (first_ungathered s.columns (round_of s id))
 
 -- the prices may follow those of the node's gathered round
@@ -36,7 +38,7 @@ pub record MayFollow (s : State) (id : BranchId) (seen : ℕ) (prices : List ℕ
   pub is_gathered : IsGathered s id seen node round
   pub not_settled : node.settled ≡ false
   pub room : node.completed < MAX_VERSIONS
-  pub count : length prices ≡ length s.problem.links
+  pub count : length prices ≡ places s.problem
   pub within_limit : AreWithinLimit s.problem prices
 
 -- the prices have a greater restricted value than those of the round

@@ -105,11 +105,11 @@ pub enum Publish {
     Rounds {
         done: u32,
     },
-    /// There is not one price for each link: so many are needed.
+    /// There is not one price for each place: so many are needed.
     PriceCount {
         needed: u32,
     },
-    /// The first link whose price is above the price limit.
+    /// The link of the first place whose price is above the price limit.
     OverPrice {
         link: LinkId,
     },

@@ -8,7 +8,8 @@ use Rattle.std.proofs.lemmas.Option.{slice_get-get_or}
 use Rattle.plan_base.specs.declared.ids.ArcId.{ArcId}
 use Rattle.plan_base.specs.declared.parts.Parts.{Parts}
 use Rattle.plan_base.specs.Facts.{IsInstance, IsDemand, price_limit}
-use Rattle.plan_base.specs.Arcs.{link_of, demand_at, no_demand}
+use Rattle.plan_base.specs.Arcs.{demand_at, no_demand}
+use Rattle.plan_base.specs.Places.{place_of}
 use Rattle.plan_base.proofs.PathLaws.{length-IsSimplePath}
 use Rattle.arc_restrict.specs.Restrictions.{Forbidden}
 use Rattle.arc_restrict.specs.Prices.{AreWithinLimit, IsLeastPrice}
@@ -72,13 +73,13 @@ price-le p prices within i = elim (either_way (length prices) i) [
 ]
 
 module _ (p : Parts) (r : Forbidden) (round : Round) (inst : IsInstance p) (h : IsSoundRound p r round) where
-  -- a simple path has at most so many links, and each has a price within the limit
+  -- a simple path has at most so many arcs, and the place of each has a price within the limit
   path-short : (k : ℕ) (path : List ArcId) (price : ℕ) → k < length p.demands → IsLeastPath p round.prices k r path price → price ≤ MAX_PATH_LINKS * price_limit p
   path-short k path price below least =
       let demand : IsDemand p.nodes (demand_at p k) = inst.demands k no_demand below in
       let few = length-IsSimplePath p (demand_at p k) path inst demand.source least.permitted.simple in
       let nodes = inst.nodes in
-      let each = sum_by-le (λ a. slice_index round.prices (link_of a)) (price_limit p) path (λ i d within. price-le p round.prices h.prices.within_limit (link_of (get_or path i d))) in
+      let each = sum_by-le (λ a. slice_index round.prices (place_of p a)) (price_limit p) path (λ i d within. price-le p round.prices h.prices.within_limit (place_of p (get_or path i d))) in
       let most : length path * price_limit p ≤ MAX_PATH_LINKS * price_limit p = mul-le-mul (let few' : length path ≤ MAX_PATH_LINKS = omega arith in few') (let same : price_limit p ≤ price_limit p = omega arith in same) in
       let is = least.price_is in
       omega arith

@@ -2,6 +2,7 @@
 use Rattle.std.specs.Prelude.{ℕ, ◌≡◌, ◌≤◌, Bool, not, false, List, length, map, Option, Some, None, option_map, IsSomeAnd, IfSome, IsSome, IsTrue, is_some, ◌||◌, true, ⊤, ℤ, int_lt, [], ◌∷◌}
 use Rattle.plan_base.specs.declared.parts.Parts.{Parts}
 use Rattle.plan_base.specs.declared.ids.BranchId.{BranchId}
+use Rattle.plan_base.specs.Places.{places}
 use Rattle.dual_versions.specs.declared.published.Published.{Published}
 use Rattle.bound_assembly.specs.Rounds.{RoundState}
 use Rattle.proof_tree.specs.declared.tree.Evidence.{Evidence}
@@ -75,10 +76,10 @@ abbrev pub is_below : Option ℤ → ℤ → Bool
 is_below None bound = true
 is_below (Some held) bound = int_lt held bound
 
--- an open leaf, whose round is sound, with one first price for each link and not too many complete versions
+-- an open leaf, whose round is sound, with one first price for each place and not too many complete versions
 pub record MayComplete (p : Parts) (node : Node) : Type 0 where
   pub undone : node.fate ≡ Undone
-  pub price_count : length node.first_prices ≡ length p.links
+  pub price_count : length node.first_prices ≡ places p
   pub version_count : node.completed ≤ MAX_VERSIONS
   pub is_sound : IfSome node.round (λ round. IsSoundRound p (restriction_of node) round)
 

@@ -5,6 +5,7 @@ use Rattle.std.proofs.lemmas.Option.{get_or_from_slice_get}
 use Rattle.plan_base.specs.declared.ids.BranchId.{BranchId}
 use Rattle.plan_base.specs.declared.parts.Parts.{Parts}
 use Rattle.plan_base.specs.declared.limits.TheConstants.{MAX_DEMANDS}
+use Rattle.plan_base.specs.Places.{places}
 use Rattle.arc_restrict.specs.Restrictions.{Forbidden}
 use Rattle.arc_restrict.specs.Rows.{Rows, forbids}
 use Rattle.arc_restrict.specs.Prices.{AreWithinLimit}
@@ -56,8 +57,8 @@ round-few s id round sound is =
 -- What a valuing asks for, and what it tells, where the instance and the restriction are those of the pool
 
 module _ (s : State) (id : BranchId) (sound : IsSound s) (at : IsGatheredAt s id) (p : Parts) (rows : Rows) (is_p : p ≡ s.problem) (is_rows : forbids rows ≡ restriction_of at.node) where
-  pub ask-count : (prices : List ℕ) → IsPriceList s.problem prices → length prices ≡ length p.links
-  ask-count prices h = subst (λ (q : Parts). length prices ≡ length q.links) (sym is_p) h.count
+  pub ask-count : (prices : List ℕ) → IsPriceList s.problem prices → length prices ≡ places p
+  ask-count prices h = subst (λ (q : Parts). length prices ≡ places q) (sym is_p) h.count
 
   pub ask-limit : (prices : List ℕ) → IsPriceList s.problem prices → AreWithinLimit p prices
   ask-limit prices h = subst (λ (q : Parts). AreWithinLimit q prices) (sym is_p) h.within_limit

@@ -3,6 +3,7 @@ use Rattle.std.specs.Prelude.{ℕ, ◌≡◌, ◌<◌, ◌≤◌, ◌+◌, List,
 use Rattle.pool_machine.specs.declared.limits.TheConstants.{MAX_ROUNDS, MAX_BUDGET}
 use Rattle.plan_base.specs.declared.parts.Parts.{Parts}
 use Rattle.plan_base.specs.declared.path.Design.{Design}
+use Rattle.plan_base.specs.Places.{places}
 use Rattle.arc_restrict.specs.Rows.{Rows}
 use Rattle.dual_versions.specs.declared.published.Published.{Published}
 use Rattle.plan_base.specs.declared.ids.BranchId.{BranchId}
@@ -22,40 +23,40 @@ use Rattle.pool_machine.specs.Machine.{IsReachable}
 abbrev pub IsTakenBy : State → ℕ → ℕ → Type 0
 IsTakenBy s slot n = (node : Node) × (slice_get s.nodes n ≡ Some node) × HasSlot slot node
 
--- each slot that no round has is free, with a place that has room for one length for each demand and one price for
--- each link; each other one names the node whose round has it
-pub record HasPlaces (s : State) (places : List Slot) : Type 0 where
-  pub count : length places ≡ MAX_ROUNDS
-  pub total : count_by is_free places + active_count s ≡ MAX_ROUNDS
-  pub taken : (slot : ℕ) (id : BranchId) → slice_get places slot ≡ Some (Of id) → IsTakenBy s slot id.0
-  pub free : (slot : ℕ) (place : Round) → slice_get places slot ≡ Some (Free place) → IsTaken s slot → ⊥
-  pub slot_is : (slot : ℕ) (place : Round) → slice_get places slot ≡ Some (Free place) → place.slot ≡ slot
-  pub demands : (slot : ℕ) (place : Round) → slice_get places slot ≡ Some (Free place) → length place.found ≡ length s.problem.demands
-  pub prices : (slot : ℕ) (place : Round) → slice_get places slot ≡ Some (Free place) → length place.prices ≡ length s.problem.links
+-- each slot that no round has is free, with room for one length for each demand and one price for each place; each other
+-- one names the node whose round has it
+pub record HasPlaces (s : State) (slots : List Slot) : Type 0 where
+  pub count : length slots ≡ MAX_ROUNDS
+  pub total : count_by is_free slots + active_count s ≡ MAX_ROUNDS
+  pub taken : (slot : ℕ) (id : BranchId) → slice_get slots slot ≡ Some (Of id) → IsTakenBy s slot id.0
+  pub free : (slot : ℕ) (place : Round) → slice_get slots slot ≡ Some (Free place) → IsTaken s slot → ⊥
+  pub slot_is : (slot : ℕ) (place : Round) → slice_get slots slot ≡ Some (Free place) → place.slot ≡ slot
+  pub demands : (slot : ℕ) (place : Round) → slice_get slots slot ≡ Some (Free place) → length place.found ≡ length s.problem.demands
+  pub prices : (slot : ℕ) (place : Round) → slice_get slots slot ≡ Some (Free place) → length place.prices ≡ places s.problem
 
--- each of the first places is free, has its own number as slot, and has room for so many demands and prices
-pub record AreFreePlaces (count demands links : ℕ) (places : List Slot) : Type 0 where
-  pub length_is : length places ≡ count
-  pub each : (slot : ℕ) → slot < count → (place : Round) × (slice_get places slot ≡ Some (Free place))
-      × (place.slot ≡ slot) × (length place.found ≡ demands) × (length place.prices ≡ links)
+-- each of the first slots is free, has its own number, and has room for so many demands and prices
+pub record AreFreePlaces (count demands prices : ℕ) (slots : List Slot) : Type 0 where
+  pub length_is : length slots ≡ count
+  pub each : (slot : ℕ) → slot < count → (place : Round) × (slice_get slots slot ≡ Some (Free place))
+      × (place.slot ≡ slot) × (length place.found ≡ demands) × (length place.prices ≡ prices)
 
--- the state is one that events lead to, and the places are those of its free slots
-pub record IsPool (s : State) (places : List Slot) : Type 0 where
+-- the state is one that events lead to, and these are its slots
+pub record IsPool (s : State) (slots : List Slot) : Type 0 where
   pub reachable : IsReachable s
   pub some_budget : 0 < s.budget
   pub budget : s.budget ≤ MAX_BUDGET
-  pub has_places : HasPlaces s places
+  pub has_places : HasPlaces s slots
 
 -- a pool with the step table of its instance and the restrictions of its open leaves
-pub record IsKeptPool (s : State) (table : Parts) (grounds : List (Option Rows)) (places : List Slot) : Type 0 where
-  pub pool : IsPool s places
+pub record IsKeptPool (s : State) (table : Parts) (grounds : List (Option Rows)) (slots : List Slot) : Type 0 where
+  pub pool : IsPool s slots
   pub table_is : table ≡ s.problem
   pub has_grounds : HasGrounds s.problem s.nodes grounds
 
 -- the same with room for the steps of its instance
-pub record IsFittedPool (s : State) (table : Parts) (room : ℕ) (grounds : List (Option Rows)) (places : List Slot) : Type 0 where
-  pub kept : IsKeptPool s table grounds places
-  pub room_is : room ≡ length s.problem.links
+pub record IsFittedPool (s : State) (table : Parts) (room : ℕ) (grounds : List (Option Rows)) (slots : List Slot) : Type 0 where
+  pub kept : IsKeptPool s table grounds slots
+  pub room_is : room ≡ places s.problem
 
 -- the best design so far, or none
 abbrev pub design_of : State → Option Design

@@ -7,6 +7,7 @@
 
 mod calls;
 mod handing;
+mod made;
 mod planning;
 mod telling;
 mod working;
@@ -48,6 +49,7 @@ fn tell_row(
     }
     write!(text, "{row}:").ok()?;
     match kind {
+        "made" => made::tell_networks(alloc, text)?,
         "pool" => *pool = Some(pool_of(alloc, networks.as_slice(), rest)?),
         "plan" => planning::tell_plan(alloc, pool.take()?, text)?,
         _ => tell(alloc, pool.as_mut()?, kind, rest, text)?,

@@ -12,8 +12,8 @@ use Rattle.plan_base.specs.declared.parts.Parts.{Parts}
 use Rattle.plan_base.specs.declared.path.Design.{Design}
 use Rattle.plan_base.specs.Facts.{is_useful}
 use Rattle.plan_base.specs.Arcs.{link_at, demand_at, no_arc}
-use Rattle.plan_base.specs.Paths.{uses, arc_at, node_at, IsSimplePath}
-use Rattle.plan_base.specs.Designs.{path_at, counts_at, load_from, load_on, link_cost, cost_of, IsDesign, IsFeasible}
+use Rattle.plan_base.specs.Paths.{uses_place, arc_at, node_at, IsSimplePath}
+use Rattle.plan_base.specs.Designs.{path_at, counts_at, load_from, load_at, need, carried, link_cost, cost_of, IsDesign, IsFeasible}
 use Rattle.link_steps.specs.Costs.{Carries, IsStepCost}
 use Rattle.link_steps.proofs.Carrying.{capacity-useless}
 use Rattle.arc_restrict.specs.Restrictions.{Forbidden, none_forbidden, IsPermitted, IsPermittedPath, LiesIn}
@@ -28,6 +28,8 @@ use Rattle.plan_base.specs.Claims.{IsOptimal, HasNoDesign}
 use Rattle.proof_tree.specs.Evidence.{AreOnlyPaths, ClosedByRouting, ClosedByOverfull, ClosedByCut, ClosedByCrowd, HasEvidence}
 use Rattle.proof_tree.specs.Trees.{LeafAt, leaves_of, IsValidTree}
 use Rattle.proof_tree.specs.Plans.{stated_cost, is_open, IsStatedDesign, IsOpenBound, IsCandidate, IsLeastCandidate, HasStatus, IsValidPlan, IsUndercutByNone, ClaimHolds, HasItsClaim}
+use Rattle.plan_base.specs.Places.{places, link_of_place, there_of, back_of}
+use Rattle.plan_base.proofs.PlaceSums.{there-same, back-same, place-le-larger, link_of_place-within}
 use Rattle.plan_base.proofs.SumsBelow.{sum_below-same, sum_below-le}
 use Rattle.proof_tree.proofs.Covering.{tree-covers, leaves-evidence, leaves-fail}
 use Rattle.proof_tree.proofs.Duality.{price_total-le, bound-le-cost}
@@ -43,32 +45,45 @@ permitted_path : (p : Parts) (r : Forbidden) (d : Design) → IsDesign p d → L
 permitted_path p r d design lies k below = record { simple = design.paths k below; permitted = lies k below }
 
 -- where only one routing is permitted, a design in the restriction has its loads
-only_paths-load : (p : Parts) (r : Forbidden) (routing d : Design) (e : ℕ) → AreOnlyPaths p r routing → IsDesign p d → LiesIn p d r → load_on p d e ≡ load_on p routing e
+only_paths-load : (p : Parts) (r : Forbidden) (routing d : Design) (q : ℕ) → AreOnlyPaths p r routing → IsDesign p d → LiesIn p d r → load_at p d q ≡ load_at p routing q
 unfolding load_from
-only_paths-load p r routing d e only design lies =
-    sum_below-same (load_from p d e) (load_from p routing e) (length p.demands)
-    (λ k below. ap (λ arcs. if uses e arcs then (demand_at p k).load else 0) ((only k below).only (path_at d k) (permitted_path p r d design lies k below)))
+only_paths-load p r routing d q only design lies =
+    sum_below-same (load_from p d q) (load_from p routing q) (length p.demands)
+    (λ k below. ap (λ arcs. if uses_place p q arcs then (demand_at p k).load else 0) ((only k below).only (path_at d k) (permitted_path p r d design lies k below)))
 
-Carries-load : (p : Parts) (d : Design) (e load : ℕ) → IsDesign p d → IsFeasible p d → e < length p.links → load_on p d e ≡ load → Carries (link_at p e) load (counts_at d e)
-Carries-load p d e load design feasible within same = record { count = design.counts e within; enough = rw (← same) (feasible e within) }
+-- and so on the places of a link
+record HasLoads (p : Parts) (d routing : Design) (e : ℕ) : Type 0 where
+  there : there_of p (load_at p d) e ≡ there_of p (load_at p routing) e
+  back : back_of p (load_at p d) e ≡ back_of p (load_at p routing) e
 
-step_cost-le : (p : Parts) (d : Design) (e load cost : ℕ) → IsDesign p d → IsFeasible p d → e < length p.links → load_on p d e ≡ load → IsStepCost (link_at p e) load cost → cost ≤ link_cost p d e
-step_cost-le p d e load cost design feasible within same is_cost =
-    let cheaper = is_cost.is_least.least (counts_at d e) (Carries-load p d e load design feasible within same) in
+only_paths-loads : (p : Parts) (r : Forbidden) (routing d : Design) (e : ℕ) → e < length p.links → AreOnlyPaths p r routing → IsDesign p d → LiesIn p d r → HasLoads p d routing e
+only_paths-loads p r routing d e within only design lies = record {
+  there = there-same p (load_at p d) (load_at p routing) e within (λ q below. only_paths-load p r routing d q only design lies);
+  back = back-same p (load_at p d) (load_at p routing) e within (λ q below. only_paths-load p r routing d q only design lies);
+}
+
+Carries-load : (p : Parts) (d routing : Design) (e : ℕ) → IsDesign p d → IsFeasible p d → e < length p.links → HasLoads p d routing e → Carries p e (need p routing e) (counts_at d e)
+Carries-load p d routing e design feasible within same = record { count = design.counts e within; enough = rw (← same.there, ← same.back) (feasible.carried e within) }
+
+step_cost-le : (p : Parts) (d routing : Design) (e cost : ℕ) → IsDesign p d → IsFeasible p d → e < length p.links → HasLoads p d routing e
+    → IsStepCost p e (there_of p (load_at p routing) e) (back_of p (load_at p routing) e) cost → cost ≤ link_cost p d e
+step_cost-le p d routing e cost design feasible within same is_cost =
+    let cheaper = is_cost.is_least.least (counts_at d e) (Carries-load p d routing e design feasible within same) in
     let sum = is_cost.is_sum in
-    let routed : (link_at p e).routing * load_on p d e ≡ (link_at p e).routing * load = ap (λ x. (link_at p e).routing * x) same in
+    let loads : carried p d e ≡ carried p routing e = omega (arith, same.there, same.back) in
+    let routed : (link_at p e).routing * carried p d e ≡ (link_at p e).routing * carried p routing e = ap (λ x. (link_at p e).routing * x) loads in
     omega arith
 
 routing-le : (p : Parts) (r : Forbidden) (cost : ℕ) (d : Design) → ClosedByRouting p r cost → IsFeasibleIn p r d → cost ≤ cost_of p d
 routing-le p r cost d closed h =
     let each = sum_below-le closed.step_costs (link_cost p d) (length p.links) (λ e within.
-    step_cost-le p d e (load_on p closed.routing e) (closed.step_costs e) h.design h.feasible within (only_paths-load p r closed.routing d e closed.only h.design h.lies) (closed.are_costs e within)) in
+    step_cost-le p d closed.routing e (closed.step_costs e) h.design h.feasible within (only_paths-loads p r closed.routing d e within closed.only h.design h.lies) (closed.are_costs e within)) in
     let enough = closed.enough in
     omega arith
 
 overfull-none : (p : Parts) (r : Forbidden) (link : LinkId) (d : Design) → ClosedByOverfull p r link → IsFeasibleIn p r d → ⊥
 overfull-none p r link d closed h =
-    closed.overfull (counts_at d link.0) (Carries-load p d link.0 _ h.design h.feasible closed.is_link (only_paths-load p r closed.routing d link.0 closed.only h.design h.lies))
+    closed.overfull (counts_at d link.0) (Carries-load p d closed.routing link.0 h.design h.feasible closed.is_link (only_paths-loads p r closed.routing d link.0 closed.is_link closed.only h.design h.lies))
 
 -- a permitted path does not leave a closed set
 stays : (p : Parts) (r : Forbidden) (id : DemandId) (reached : List Bool) (arcs : List ArcId) → ClosedByCut p r id reached → IsSimplePath p (demand_at p id.0) arcs → IsPermitted r id.0 arcs → (i : ℕ) → i ≤ length arcs → slice_index_or reached (node_at p (demand_at p id.0).source arcs i) false ≡ true
@@ -87,16 +102,18 @@ cut-none p r id reached d closed h =
 crowd-none : (p : Parts) (r : Forbidden) (prices : List ℕ) (d : Design) → ClosedByCrowd p r prices → IsFeasibleIn p r d → ⊥
 crowd-none p r prices d closed h =
     let priced = price_total-le p r prices closed.least_prices d closed.are_least h.design h.lies in
-    let carried = sum_below-le (λ e. slice_index prices e * load_on p d e) (λ e. slice_index prices e * (link_at p e).pre) (length p.links) (λ e within. at_link e within (is_useful (link_at p e)) refl) in
+    let carried = sum_below-le (λ q. slice_index prices q * load_at p d q) (λ q. slice_index prices q * (link_at p (link_of_place p q)).pre) (places p) (λ q within. at_place q within (is_useful (link_at p (link_of_place p q))) refl) in
     let crowded = closed.crowded in
     omega arith
   where
-    at_link : (e : ℕ) → e < length p.links → (b : Bool) → is_useful (link_at p e) ≡ b → slice_index prices e * load_on p d e ≤ slice_index prices e * (link_at p e).pre
-    at_link e within true is = rw (closed.free e within is) (omega arith)
-    at_link e within false is =
+    at_place : (q : ℕ) → q < places p → (b : Bool) → is_useful (link_at p (link_of_place p q)) ≡ b → slice_index prices q * load_at p d q ≤ slice_index prices q * (link_at p (link_of_place p q)).pre
+    at_place q within true is = rw (closed.free q within is) (omega arith)
+    at_place q within false is =
+        let e = link_of_place p q in
         let same = capacity-useless (link_at p e) (counts_at d e) is in
-        let carries = h.feasible e within in
-        mul-le-mul_left (slice_index prices e) (omega arith)
+        let carries = h.feasible.carried e (link_of_place-within p q within) in
+        let larger : load_at p d q ≤ need p d e = place-le-larger p (load_at p d) q in
+        mul-le-mul_left (slice_index prices q) (omega arith)
 
 -- a feasible design in a closed leaf costs at least the cost that the leaf is closed against, and there is one
 closed_leaf : (p : Parts) (cost : Option ℕ) (r : Forbidden) (evidence : Evidence) (d : Design) → HasEvidence p cost r evidence → is_open (Leaf evidence) ≡ false → IsFeasibleIn p r d → IsSomeAnd cost (λ c. c ≤ cost_of p d)

@@ -4,6 +4,7 @@ use Rattle.std.specs.Option.{option_map}
 use Rattle.std.specs.List.{list_any}
 use Rattle.plan_base.specs.declared.parts.Parts.{Parts}
 use Rattle.plan_base.specs.declared.path.Design.{Design}
+use Rattle.plan_base.specs.Places.{is_two_way}
 use Rattle.plan_base.specs.Designs.{IsDesign, IsFeasible, IsGoodDesign, cost_of}
 use Rattle.arc_restrict.specs.Restrictions.{Forbidden}
 use Rattle.proof_tree.specs.declared.tree.Evidence.{Evidence}
@@ -32,11 +33,12 @@ needs_cost (Leaf (Bound prices)) = true
 needs_cost (Leaf Routed) = true
 needs_cost _ = false
 
--- the plan states the sizes of the instance
+-- the plan states the sizes of the instance, and whether each link has two places
 pub record HasSizes (p : Parts) (plan : Plan) : Type 0 where
   pub nodes : plan.nodes ≡ p.nodes
   pub links : plan.links ≡ length p.links
   pub demands : plan.demands ≡ length p.demands
+  pub both : plan.both ≡ is_two_way p.orient
 
 -- the plan's design is feasible, in shape, and has its stated cost
 pub record IsStatedDesign (p : Parts) (cost : ℕ) (d : Design) : Type 0 where

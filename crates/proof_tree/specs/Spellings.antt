@@ -1,5 +1,5 @@
 -- Plans that a plan text can spell: their sizes, numbers and lists go together.
-use Rattle.std.specs.Prelude.{ℕ, suc, ◌≡◌, ◌<◌, ◌≤◌, List, length, IsTrue, All, ⊤, Option, IsSome, IsNone, IfSome, ℤ}
+use Rattle.std.specs.Prelude.{ℕ, false, suc, ◌≡◌, ◌<◌, ◌≤◌, List, length, IsTrue, All, ⊤, Option, IsSome, IsNone, IfSome, ℤ}
 use Rattle.plan_base.specs.declared.ids.ArcId.{ArcId}
 use Rattle.plan_base.specs.declared.path.Design.{Design}
 use Rattle.plan_base.specs.declared.limits.TheConstants.{MAX_NODES, MAX_LINKS, MAX_DEMANDS, MAX_MODULES}
@@ -55,13 +55,14 @@ FitsStatus Optimal design bound = IsSome design × IsNone bound
 FitsStatus Infeasible design bound = IsNone design × IsNone bound
 FitsStatus Undecided design bound = ⊤
 
--- sizes of an instance, and a budget that may be given
+-- sizes of an instance whose links have one place each, and a budget that may be given
 pub record FitsSizes (plan : Plan) : Type 0 where
   pub nodes : plan.nodes ≤ MAX_NODES
   pub links : plan.links ≤ MAX_LINKS
   pub demands : plan.demands ≤ MAX_DEMANDS
   pub some_budget : 1 ≤ plan.budget
   pub budget : plan.budget ≤ MAX_BUDGET
+  pub one_way : plan.both ≡ false
 
 -- a plan that a text can spell
 pub record IsSpellable (plan : Plan) : Type 0 where

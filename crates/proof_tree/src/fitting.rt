@@ -60,7 +60,7 @@ pub(crate) fn fits_records(nodes: u32, links: u32, records: &[TreeNode]) -> bool
     records.len() <= MAX_RECORDS && records.iter().all(|node| fits_record(nodes, links, node))
 }
 
-/// Whether the sizes are those of an instance, and the budget is one that may be given.
+/// Whether the sizes are those of an instance whose links have one place each, and the budget is one that may be given.
 pub(crate) fn fits_sizes(plan: &Plan) -> bool
     ensures { IsTrue result ↔ FitsSizes plan.now }
 {
@@ -69,6 +69,7 @@ pub(crate) fn fits_sizes(plan: &Plan) -> bool
         && plan.demands as usize <= MAX_DEMANDS
         && 1 <= plan.budget
         && plan.budget <= MAX_BUDGET
+        && !plan.both
 }
 
 /// Whether there is a design and a bound as the status asks.

@@ -27,6 +27,8 @@ pub struct Plan {
     pub links: u32,
     /// The count of the instance's demands.
     pub demands: u32,
+    /// Whether each direction of a link has a capacity and a price of its own.
+    pub both: bool,
     /// What the plan claims.
     pub status: PlanStatus,
     /// How many nodes of the tree were allowed to be examined.

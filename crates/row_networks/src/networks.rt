@@ -97,6 +97,7 @@ fn instance_of(alloc: Global, text: &str) -> Option<Instance> {
     let orient = match direction {
         "directed" => Orient::Directed,
         "undirected" => Orient::Undirected,
+        "bidirected" => Orient::Bidirected,
         _ => return None,
     };
     let parts = Parts {

@@ -3,7 +3,7 @@
 use crate::runs::{ROOM, words_of};
 use crate::texts::Texts;
 use picture_runs::picture_run;
-use plan_io::{MemSink, NoGate, SureShelf};
+use plan_io::{MemSink, SureShelf};
 use std::alloc::Global;
 
 /// How many lines of this text have this part.
@@ -19,7 +19,7 @@ pub(crate) fn draw_row(alloc: Global, texts: &Texts, rest: &str, text: &mut Stri
     let words = words_of(alloc, line).ok()?;
     let mut shelf = SureShelf::new(alloc, named.as_slice()).ok()?;
     let mut sink = MemSink::new(alloc, ROOM, &[]).ok()?;
-    let status = picture_run(alloc, words.as_slice(), &mut shelf, &mut sink, &NoGate);
+    let status = picture_run(alloc, words.as_slice(), &mut shelf, &mut sink);
     let picture = str::from_utf8(sink.bytes()).ok()?;
     write!(text, "{name} {}\n", status.number()).ok()?;
     for part in parts.split(',') {

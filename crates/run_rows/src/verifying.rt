@@ -13,7 +13,7 @@ fn ends_so(alloc: Global, texts: &[(&str, &[u8])], status: u8, line: &[u8]) -> O
     let words = words_of(alloc, "net model plan").ok()?;
     let mut shelf = SureShelf::new(alloc, texts).ok()?;
     let mut alone = MemSink::new(alloc, ROOM, &[]).ok()?;
-    let ended = verify_run(alloc, words.as_slice(), &mut shelf, &mut alone, &NoGate);
+    let ended = verify_run(alloc, words.as_slice(), &mut shelf, &mut alone);
     Some(ended as u8 == status && alone.bytes() == line)
 }
 

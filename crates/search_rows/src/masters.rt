@@ -1,10 +1,11 @@
 //! The master step, compared with a plain slow twin on made briefs.
 //!
 //! The instances are small and come from a small generator, the same ones in each run: three nodes with eight links
-//! between them, loads and capacities of a few grains, and up to six columns a demand. The twin tries all loads for each
-//! link's value and works with signed numbers. `advance`, `value` and `gain` must answer what it answers, and `best_step`
-//! must not be worse. Written is how many briefs were raised and how many stalled, and that the two links of
-//! docs/METHOD.md come out as they are worked out there (`worked`). Begin at `raises`.
+//! between them, loads and capacities of a few grains, and up to six columns a demand. The links of most share the capacity
+//! of both directions, those of some have it for each. The twin tries all loads for each link's value, there and back, and
+//! works with signed numbers. `advance`, `value` and `gain` must answer what it answers, and `best_step` must not be worse.
+//! Written is how many briefs were raised and how many stalled, and that the two links of docs/METHOD.md come out as they
+//! are worked out there (`worked`). Begin at `raises`.
 
 ghost use Rattle.std.specs.Prelude.{◌≡◌};
 
@@ -18,15 +19,18 @@ use columns::are_values;
 use link_steps::StepTable;
 use made::{made_brief, made_instance};
 use master_step::{Step, advance, best_step};
-use plan_base::Instance;
+use plan_base::{Instance, Orient};
 use row_draws::Draws;
 use row_networks::table_of;
 use std::alloc::Global;
 use twin::{Found, slow_step};
 use worked::are_as_worked_out;
 
-/// How many briefs are compared.
+/// How many briefs of links with one place are compared.
 const BRIEFS: u32 = 400;
+
+/// How many briefs of links with a place for each direction are compared.
+const TWO_WAY_BRIEFS: u32 = 60;
 
 /// Whether a step is what the twin found.
 fn is_step(step: &Step, found: &Found) -> bool {
@@ -95,26 +99,26 @@ fn brief_raises(alloc: Global, inst: &Instance, brief: &Brief) -> Option<bool> {
 }
 
 /// Whether the prices of the brief of this number are raised. None where an answer is not what the twin found.
-fn raises(alloc: Global, number: u32) -> Option<bool> {
+fn raises(alloc: Global, number: u32, orient: Orient) -> Option<bool> {
     let mut draws = Draws::begin(number);
-    let inst = made_instance(alloc, &mut draws)?;
+    let inst = made_instance(alloc, &mut draws, orient)?;
     brief_raises(alloc, &inst, &made_brief(alloc, &inst, &mut draws)?)
 }
 
 /// Adds how many briefs are raised, or the first one of which an answer is not what the twin found.
-fn tell_briefs(alloc: Global, text: &mut String) -> Option<()> {
+fn tell_briefs(alloc: Global, briefs: u32, orient: Orient, text: &mut String) -> Option<()> {
     let mut raised: u32 = 0;
-    for number in 0..BRIEFS {
-        match raises(alloc, number) {
+    for number in 0..briefs {
+        match raises(alloc, number, orient) {
             Some(true) => raised = raised.saturating_add(1),
             Some(false) => {}
             None => return write!(text, "brief {number} differs\n").ok(),
         }
     }
-    let stalled = BRIEFS.saturating_sub(raised);
+    let stalled = briefs.saturating_sub(raised);
     write!(
         text,
-        "{BRIEFS} briefs, {raised} raised, {stalled} stalled\n"
+        "{briefs} briefs, {raised} raised, {stalled} stalled\n"
     )
     .ok()
 }
@@ -129,6 +133,7 @@ fn tell_two_links(alloc: Global, text: &mut String) -> Option<()> {
 
 /// Adds what becomes of all briefs, and of the two links.
 pub(crate) fn tell_masters(alloc: Global, text: &mut String) -> Option<()> {
-    tell_briefs(alloc, text)?;
+    tell_briefs(alloc, BRIEFS, Orient::Undirected, text)?;
+    tell_briefs(alloc, TWO_WAY_BRIEFS, Orient::Bidirected, text)?;
     tell_two_links(alloc, text)
 }

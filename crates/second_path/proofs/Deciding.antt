@@ -1,11 +1,12 @@
 -- What is held after each demand.
-use Rattle.std.proofs.Common.{◌≡◌, ℕ, ◌<◌, ◌+◌, inl, inr, List, [], ◌∷◌, ◌++◌, length, Option, Some, None, slice_index_or, sym, ap, subst, arith}
+use Rattle.std.proofs.Common.{◌≡◌, ℕ, ◌<◌, ◌+◌, inl, inr, List, [], ◌∷◌, ◌++◌, length, Option, Some, None, IfSome, slice_index_or, sym, ap, subst, ◌∙◌, arith}
 use Rattle.std.proofs.lemmas.List.{get_or_append_left, get_or_push, length_push}
 use Rattle.plan_base.specs.declared.ids.ArcId.{ArcId}
 use Rattle.plan_base.specs.declared.parts.Parts.{Parts}
+use Rattle.plan_base.specs.Arcs.{demand_at}
 use Rattle.arc_restrict.specs.Restrictions.{Forbidden, IsPermittedPath, IsOnlyPath}
 use Rattle.second_path.specs.declared.determining.Held.{Held}
-use Rattle.second_path.specs.Others.{IsOtherPath, HasPath, IsFirstTwo}
+use Rattle.second_path.specs.Others.{IsOtherPath, HasPath, ComesBefore, IsFirstTwo}
 use Rattle.second_path.proofs.Trees.{last_or_before}
 use Rattle.second_path.specs.Searching.{ArePaths, IsHeld, IsHeldTo}
 
@@ -23,6 +24,28 @@ held_only p r paths n (Some held) only h = record {
     | inr is ↦ subst (λ i. IsOnlyPath p r i (slice_index_or paths i [])) (sym is) only
   ];
 }
+
+-- the next demand has another path too, and a larger load than what is held
+pub held_other : (p : Parts) (r : Forbidden) (paths : List (List ArcId)) (n : ℕ) (held : Option Held) (found : Held) → found.demand.0 ≡ n → IsOtherPath p r n (slice_index_or paths n []) found.other
+    → IfSome held (λ old. (demand_at p old.demand.0).load < (demand_at p n).load) → IsHeldTo p r paths n held → IsHeld p r paths (n + 1) found
+held_other p r paths n held found is other larger h = record {
+  within = omega (arith, is);
+  other = rw is other;
+  before = λ m below first. elim (last_or_before n m below) [
+    | inl earlier ↦ only_before held larger h m earlier (rw is at first)
+    | inr here ↦ absurd (elim first [
+      | inl more ↦ omega (arith, ap (λ (k : ℕ). (demand_at p k).load) (here ∙ sym is), more)
+      | inr same ↦ omega (arith, same.1, here, is)
+    ])
+  ];
+}
+  where
+    only_before : (old : Option Held) → IfSome old (λ h. (demand_at p h.demand.0).load < (demand_at p n).load) → IsHeldTo p r paths n old → (m : ℕ) → m < n → ComesBefore p m n → IsOnlyPath p r m (slice_index_or paths m [])
+    only_before None larger h m below first = h m below
+    only_before (Some old) larger h m below first = h.before m below (inl (elim first [
+      | inl more ↦ omega (arith, more, larger)
+      | inr same ↦ omega (arith, same.0, larger)
+    ]))
 
 -- ---- the answers
 

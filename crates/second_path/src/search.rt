@@ -178,7 +178,7 @@ impl Search {
         ensures nodes { OnOk result (vec_len self.new.met ≡ ways.now.inst.now.nodes) }
         ensures blocked { self.new.blocked ≡ self.old.blocked }
     {
-        let _links = ways.inst.links();
+        ways.inst.lawful();
         self.begin(ways, start)?;
         let mut place = 0;
         while place < self.arrivals.len() {

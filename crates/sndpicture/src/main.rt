@@ -2,7 +2,7 @@
 #![tactic(auto)]
 
 use picture_runs::{Status, picture_run};
-use plan_io::{FileShelf, NoGate, OutSink};
+use plan_io::{FileShelf, OutSink};
 use std::process::ExitCode;
 use std::{env, io};
 
@@ -23,6 +23,6 @@ fn main(rt: HostRuntime) -> ExitCode {
     };
     let mut shelf = FileShelf::new(&rt);
     let mut out = OutSink::new(io::writer(&rt));
-    let status = picture_run(rt.alloc(), words.as_slice(), &mut shelf, &mut out, &NoGate);
+    let status = picture_run(rt.alloc(), words.as_slice(), &mut shelf, &mut out);
     ExitCode::from(status.number())
 }

@@ -1,7 +1,7 @@
 //! The verifier alone: hands the words, the files and standard output to `verify_run`, and ends with its status.
 #![tactic(auto)]
 
-use plan_io::{FileShelf, NoGate, OutSink};
+use plan_io::{FileShelf, OutSink};
 use std::process::ExitCode;
 use std::{env, io};
 use text_runs::{Status, verify_run};
@@ -23,6 +23,6 @@ fn main(rt: HostRuntime) -> ExitCode {
     };
     let mut shelf = FileShelf::new(&rt);
     let mut out = OutSink::new(io::writer(&rt));
-    let status = verify_run(rt.alloc(), words.as_slice(), &mut shelf, &mut out, &NoGate);
+    let status = verify_run(rt.alloc(), words.as_slice(), &mut shelf, &mut out);
     ExitCode::from(status.number())
 }

@@ -9,7 +9,7 @@ ghost use Rattle.text_runs.specs.Endings.{IsOwnEnd, IsUsage};
 ghost use Rattle.text_runs.specs.Found.{IsFound};
 ghost use Rattle.text_runs.specs.VerifyRuns.{names_in, usage_line, IsVerifyRun};
 
-use plan_io::{Gate, Shelf, Sink};
+use plan_io::{Shelf, Sink};
 use plan_texts::{Answer, Status, Stop, verify_plan, write_answer};
 use std::alloc::{AllocError, Global};
 
@@ -28,12 +28,7 @@ fn usage(alloc: Global) -> Result<Answer, AllocError>
 
 /// What a run of these words has to say.
 #[tactic(auto, using(crate::proofs::Ending::found_named, crate::proofs::Ending::found_usage, crate::proofs::Ending::usage_wanting))]
-fn answer_to<S: Shelf, G: Gate>(
-    alloc: Global,
-    words: &[String],
-    shelf: &mut S,
-    gate: &G,
-) -> Result<Answer, Stop>
+fn answer_to<S: Shelf>(alloc: Global, words: &[String], shelf: &mut S) -> Result<Answer, Stop>
     ensures found { IsFound usage_line IsVerified (names_in (map string_bytes words.now)) (S.text shelf.old)
         (S.begins shelf.old) (S.begins shelf.new) result }
     ensures read_fault { IfErr result (λ stop. IsReadStop stop → Rose (S.faults shelf.old) (S.faults shelf.new)) }
@@ -48,7 +43,6 @@ fn answer_to<S: Shelf, G: Gate>(
                 model.as_str(),
                 plan.as_str(),
                 shelf,
-                gate,
             )
         }
         _ => match usage(alloc) {
@@ -61,18 +55,16 @@ fn answer_to<S: Shelf, G: Gate>(
 /// Verifies the plan that these words name, and writes the verdict. Nothing is written before the whole output is made.
 ///
 /// - Takes: the words after the program's name, which are the names of a network text, a model text and a plan text; a
-///   shelf that has these texts; the sink that the answer goes to; a gate that is passed once, between reading and the
-///   work.
+///   shelf that has these texts; the sink that the answer goes to.
 /// - Gives: how the run ended.
 /// - Rule: docs/DEFINITIONS.md, "Runs"; docs/FORMATS.md, "Commands".
 /// - Time: linear in the texts' bytes, and that of verifying the plan.
 #[tactic(auto, using(crate::proofs::Ending::own_end, crate::proofs::Ending::read_rose, crate::proofs::Ending::no_write_fault, crate::proofs::Ending::verified_ends))]
-pub fn verify_run<S: Shelf, W: Sink, G: Gate>(
+pub fn verify_run<S: Shelf, W: Sink>(
     alloc: Global,
     words: &[String],
     shelf: &mut S,
     out: &mut W,
-    gate: &G,
 ) -> Status
     ensures answer { IsVerifyRun (map string_bytes words.now) (S.text shelf.old)
         (counts_of (S.faults shelf.old) (S.faults shelf.new) (S.taken shelf.new))
@@ -86,6 +78,6 @@ pub fn verify_run<S: Shelf, W: Sink, G: Gate>(
     ensures shelf_later { S.faults shelf.old ≤ S.faults shelf.new }
     ensures sink_later { W.faults out.old ≤ W.faults out.new }
 {
-    let found = answer_to(alloc, words, shelf, gate);
+    let found = answer_to(alloc, words, shelf);
     write_answer(alloc, out, found)
 }

@@ -53,10 +53,10 @@ label-below label price bound is h = subst (λ (x : Option ℕ). IsAtMost x boun
 
 -- the labels tell the least price of a permitted path, or that there is none
 pub least-price : (p : Parts) (r : Forbidden) (prices : List ℕ) (k : ℕ) (labels : List (Option ℕ)) (label : Option ℕ) → (demand_at p k).target.0 < p.nodes
-    → AreLeast p (may_take p r k None) (price_of prices) (demand_at p k).source.0 labels → label_at labels (demand_at p k).target.0 ≡ label
+    → AreLeast p (may_take p r k None) (price_of p prices) (demand_at p k).source.0 labels → label_at labels (demand_at p k).target.0 ≡ label
     → MatchOption label (HasNoPath p r k) (λ price. IsLeastPrice p r prices k price)
 least-price p r prices k labels None within least is = λ arcs path.
-    subst (λ (x : Option ℕ). IsAtMost x (price_of prices arcs)) is
+    subst (λ (x : Option ℕ). IsAtMost x (price_of p prices arcs)) is
     (least.least (demand_at p k).target.0 arcs within (way_of_simple p (may_take p r k None) (demand_at p k) arcs path.simple (path-taken p r k arcs path)))
 least-price p r prices k labels (Some price) within least is =
     let takes = may_take p r k None in

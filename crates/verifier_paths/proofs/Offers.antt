@@ -5,7 +5,8 @@ use Rattle.std.proofs.lemmas.Bool.{cases_eq, cases_Bool, leb-true, leb-false}
 use Rattle.std.proofs.lemmas.List.{get_or-set_same, get_or-set_other}
 use Rattle.plan_base.specs.declared.ids.ArcId.{ArcId}
 use Rattle.plan_base.specs.declared.parts.Parts.{Parts}
-use Rattle.plan_base.specs.Arcs.{tail_of, head_of, link_of}
+use Rattle.plan_base.specs.Arcs.{tail_of, head_of}
+use Rattle.plan_base.specs.Places.{place_of}
 use Rattle.verifier_paths.specs.Labels.{label_at, lower_of, offered_to, IsAtMost, IsRelaxed}
 
 -- ---- prices and bounds
@@ -56,13 +57,13 @@ pub record IsAlong (p : Parts) (takes : ArcId → Bool) (prices : List ℕ) (old
   pub leads : (head_of p arc).0 ≡ v
   pub before : ℕ
   pub tail : label_at old (tail_of p arc).0 ≡ Some before
-  pub sum : before + slice_index prices (link_of arc) ≡ price
+  pub sum : before + slice_index prices (place_of p arc) ≡ price
 
 -- the new prices are the old ones, or lower ones along arcs; and all arcs of numbers below the place were offered
 pub record AreOffered (p : Parts) (takes : ArcId → Bool) (prices : List ℕ) (old : List (Option ℕ)) (place : ℕ) (new : List (Option ℕ)) : Type 0 where
   pub from : (v price : ℕ) → label_at new v ≡ Some price → (label_at old v ≡ Some price) ⊎ IsAlong p takes prices old v price
   pub kept : (v bound : ℕ) → IsAtMost (label_at old v) bound → IsAtMost (label_at new v) bound
-  pub offered : (a : ArcId) (price : ℕ) → a.0 < place → IsTrue (takes a) → label_at old (tail_of p a).0 ≡ Some price → IsAtMost (label_at new (head_of p a).0) (price + slice_index prices (link_of a))
+  pub offered : (a : ArcId) (price : ℕ) → a.0 < place → IsTrue (takes a) → label_at old (tail_of p a).0 ≡ Some price → IsAtMost (label_at new (head_of p a).0) (price + slice_index prices (place_of p a))
 
 pub offered-none : (p : Parts) (takes : ArcId → Bool) (prices : List ℕ) (old : List (Option ℕ)) → AreOffered p takes prices old 0 old
 offered-none p takes prices old = record {
@@ -120,7 +121,7 @@ offered-new p takes prices old place price new taken tail within h = record {
     head = (head_of p (arc_of place)).0
 
     offer : ℕ
-    offer = price + slice_index prices (link_of (arc_of place))
+    offer = price + slice_index prices (place_of p (arc_of place))
 
     lower : Option ℕ
     lower = lower_of (label_at new head) offer
@@ -137,12 +138,12 @@ offered-new p takes prices old place price new taken tail within h = record {
       | inr other ↦ h.from v q (sym (get_or-set_other new head v lower None other) ∙ is)
     ]
 
-    at_here : (a : ArcId) (q : ℕ) → a ≡ arc_of place → label_at old (tail_of p a).0 ≡ Some q → IsAtMost (label_at (set new head lower) (head_of p a).0) (q + slice_index prices (link_of a))
+    at_here : (a : ArcId) (q : ℕ) → a ≡ arc_of place → label_at old (tail_of p a).0 ≡ Some q → IsAtMost (label_at (set new head lower) (head_of p a).0) (q + slice_index prices (place_of p a))
     at_here a q is a_tail =
         let same : price ≡ q = (let both : Some price ≡ Some q = sym tail ∙ ap (λ (b : ArcId). label_at old (tail_of p b).0) (sym is) ∙ a_tail in cc) in
         let low : IsAtMost (label_at (set new head lower) head) offer = subst (λ (x : Option ℕ). IsAtMost x offer) (sym at_head) (lower-offered (label_at new head) offer) in
-        subst (λ (b : ArcId). IsAtMost (label_at (set new head lower) (head_of p b).0) (q + slice_index prices (link_of b))) (sym is)
-        (subst (λ (n : ℕ). IsAtMost (label_at (set new head lower) head) (n + slice_index prices (link_of (arc_of place)))) same low)
+        subst (λ (b : ArcId). IsAtMost (label_at (set new head lower) (head_of p b).0) (q + slice_index prices (place_of p b))) (sym is)
+        (subst (λ (n : ℕ). IsAtMost (label_at (set new head lower) head) (n + slice_index prices (place_of p (arc_of place)))) same low)
 
 by_tail : (p : Parts) (takes : ArcId → Bool) (prices : List ℕ) (old : List (Option ℕ)) (place : ℕ) (new : List (Option ℕ)) (label : Option ℕ)
     → IsTrue (takes (arc_of place)) → label_at old (tail_of p (arc_of place)).0 ≡ label → (head_of p (arc_of place)).0 < length new

@@ -14,6 +14,7 @@ use Rattle.plan_base.specs.declared.parts.Parts.{Parts}
 use Rattle.plan_base.specs.declared.limits.TheConstants.{MAX_PRICED_LOAD}
 use Rattle.plan_base.specs.Facts.{IsInstance, price_limit}
 use Rattle.plan_base.specs.Arcs.{is_arc, is_back, tail_of, link_of, no_link}
+use Rattle.plan_base.specs.Places.{place_of}
 use Rattle.plan_base.proofs.Bools.{and-first}
 use Rattle.plan_base.proofs.PathLaws.{length-IsSimplePath}
 use Rattle.plan_base.proofs.PriceLaws.{price_limit_le}
@@ -45,23 +46,23 @@ number-within p a is = half-below a.0 (length p.links) (ltb-true (link_of a) (le
 -- ---- one round
 
 offered-way : (p : Parts) (takes : ArcId → Bool) (prices : List ℕ) (old new : List (Option ℕ)) (source most v : ℕ) (arcs : List ArcId) → IsInstance p → TakesArcs p takes
-    → AreOffered p takes prices old (2 * length p.links) new → AreLeastWithin p takes (price_of prices) source most old
-    → v < p.nodes → IsWay p takes source v arcs → length arcs ≤ suc most → IsAtMost (label_at new v) (price_of prices arcs)
+    → AreOffered p takes prices old (2 * length p.links) new → AreLeastWithin p takes (price_of p prices) source most old
+    → v < p.nodes → IsWay p takes source v arcs → length arcs ≤ suc most → IsAtMost (label_at new v) (price_of p prices arcs)
 offered-way p takes prices old new source most v [] inst are h least within way few = h.kept v 0 ((least.each v within).least [] way (omega arith))
 offered-way p takes prices old new source most v (b ∷ arcs) inst are h least within way few =
     let l = has_last p takes source v b arcs way in
     let size : length (b ∷ arcs) ≡ length l.front + 1 = ap length l.is ∙ length-append l.front (l.last ∷ []) in
     let tail = known _ _ ((least.each (tail_of p l.last).0 (tail-within p l.last inst (are l.last l.taken))).least l.front l.way (omega (arith, size, few))) in
     let offer = h.offered l.last tail.price (number-within p l.last (are l.last l.taken)) l.taken tail.is in
-    let sum : price_of prices (b ∷ arcs) ≡ price_of prices l.front + slice_index prices (link_of l.last) = ap (price_of prices) l.is ∙ price-push prices l.front l.last in
-    subst (λ (w : ℕ). IsAtMost (label_at new w) (price_of prices (b ∷ arcs))) l.leads (at_most-le _ _ _ offer (omega (arith, sum, tail.within)))
+    let sum : price_of p prices (b ∷ arcs) ≡ price_of p prices l.front + slice_index prices (place_of p l.last) = ap (price_of p prices) l.is ∙ price-push p prices l.front l.last in
+    subst (λ (w : ℕ). IsAtMost (label_at new w) (price_of p prices (b ∷ arcs))) l.leads (at_most-le _ _ _ offer (omega (arith, sum, tail.within)))
 
 along-way : (p : Parts) (takes : ArcId → Bool) (prices : List ℕ) (old : List (Option ℕ)) (source most v price : ℕ) → IsInstance p → TakesArcs p takes
-    → AreLeastWithin p takes (price_of prices) source most old → IsAlong p takes prices old v price → HasWay p takes (price_of prices) source v (suc most) price
+    → AreLeastWithin p takes (price_of p prices) source most old → IsAlong p takes prices old v price → HasWay p takes (price_of p prices) source v (suc most) price
 along-way p takes prices old source most v price inst are least along =
     let before = (least.each (tail_of p along.arc).0 (tail-within p along.arc inst (are along.arc along.taken))).attained along.before along.tail in
     let size : length (before.arcs ++ along.arc ∷ []) ≡ length before.arcs + 1 = length-append before.arcs (along.arc ∷ []) in
-    let sum = price-push prices before.arcs along.arc in
+    let sum = price-push p prices before.arcs along.arc in
     record {
       arcs = before.arcs ++ along.arc ∷ [];
       way = subst (λ (w : ℕ). IsWay p takes source w (before.arcs ++ along.arc ∷ [])) along.leads (way_on p takes source (tail_of p along.arc).0 before.arcs along.arc before.way along.taken refl);
@@ -71,7 +72,7 @@ along-way p takes prices old source most v price inst are least along =
 
 -- where all arcs were offered, the round is done
 pub round_law : (p : Parts) (takes : ArcId → Bool) (prices : List ℕ) (old new : List (Option ℕ)) → IsInstance p → TakesArcs p takes
-    → length new ≡ length old → AreOffered p takes prices old (2 * length p.links) new → IsRound p takes (price_of prices) old new
+    → length new ≡ length old → AreOffered p takes prices old (2 * length p.links) new → IsRound p takes (price_of p prices) old new
 round_law p takes prices old new inst are same h source most least = record {
   count = same ∙ least.count;
   each = λ v within. record {
@@ -87,7 +88,7 @@ round_law p takes prices old new inst are same h source most least = record {
 
 -- ---- the first prices
 
-pub first_least : (p : Parts) (takes : ArcId → Bool) (prices : List ℕ) (source : ℕ) → source < p.nodes → AreLeastWithin p takes (price_of prices) source 0 (first_labels p.nodes source)
+pub first_least : (p : Parts) (takes : ArcId → Bool) (prices : List ℕ) (source : ℕ) → source < p.nodes → AreLeastWithin p takes (price_of p prices) source 0 (first_labels p.nodes source)
 first_least p takes prices source within = record {
   count = length-set (replicate p.nodes None) source (Some 0) ∙ length-replicate p.nodes None;
   each = λ v inside. elim (cases_eq v source) [
@@ -112,16 +113,16 @@ first_least p takes prices source within = record {
 
 -- ---- sums of prices stay small
 
-price-at_most : (p : Parts) (prices : List ℕ) (e : ℕ) → AreWithinLimit p prices → slice_index prices e ≤ price_limit p
-price-at_most p [] e limit = omega arith
+price-at_most : (p : Parts) (prices : List ℕ) (q : ℕ) → AreWithinLimit p prices → slice_index prices q ≤ price_limit p
+price-at_most p [] q limit = omega arith
 price-at_most p (x ∷ xs) zero limit = limit 0 0 (omega arith)
-price-at_most p (x ∷ xs) (suc e) limit = price-at_most p xs e (λ i d below. limit (suc i) d (omega (arith, below)))
+price-at_most p (x ∷ xs) (suc q) limit = price-at_most p xs q (λ i d below. limit (suc i) d (omega (arith, below)))
 
-pub price-few : (p : Parts) (prices : List ℕ) (arcs : List ArcId) → AreWithinLimit p prices → price_of prices arcs ≤ length arcs * price_limit p
-price-few p prices arcs limit = sum_by-le (λ (a : ArcId). slice_index prices (link_of a)) (price_limit p) arcs (λ i d below. price-at_most p prices (link_of (get_or arcs i d)) limit)
+pub price-few : (p : Parts) (prices : List ℕ) (arcs : List ArcId) → AreWithinLimit p prices → price_of p prices arcs ≤ length arcs * price_limit p
+price-few p prices arcs limit = sum_by-le (λ (a : ArcId). slice_index prices (place_of p a)) (price_limit p) arcs (λ i d below. price-at_most p prices (place_of p (get_or arcs i d)) limit)
 
 pub least-small : (p : Parts) (takes : ArcId → Bool) (prices : List ℕ) (source most : ℕ) (labels : List (Option ℕ)) → AreWithinLimit p prices → most ≤ 511
-    → AreLeastWithin p takes (price_of prices) source most labels → AreSmall labels
+    → AreLeastWithin p takes (price_of p prices) source most labels → AreSmall labels
 least-small p takes prices source most labels limit few least =
     All-from_get_or (λ label. IfSome label (λ price. price ≤ 511 * MAX_PRICED_LOAD)) labels None (λ v within. one v (label_at labels v) refl (omega (arith, within, least.count)))
   where
@@ -137,7 +138,7 @@ least-small p takes prices source most labels limit few least =
 
 -- after as many rounds as leave a simple path room, the prices are least of all ways
 pub rounds_done : (p : Parts) (takes : ArcId → Bool) (prices : List ℕ) (source : NodeId) (most : ℕ) (labels : List (Option ℕ)) → IsInstance p → TakesArcs p takes → source.0 < p.nodes
-    → p.nodes ≤ most + 1 → most ≤ p.nodes → AreLeastWithin p takes (price_of prices) source.0 most labels → AreLeast p takes (price_of prices) source.0 labels
+    → p.nodes ≤ most + 1 → most ≤ p.nodes → AreLeastWithin p takes (price_of p prices) source.0 most labels → AreLeast p takes (price_of p prices) source.0 labels
 rounds_done p takes prices source most labels inst are within enough few least = record {
   count = least.count;
   attained = λ v price inside is.

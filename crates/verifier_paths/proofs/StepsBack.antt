@@ -1,14 +1,14 @@
 -- Counts of arcs as prices: from a node that is reached an arc leads back to one that is one arc nearer.
 use Rattle.std.proofs.Common.{◌≡◌, ℕ, suc, ◌+◌, ◌*◌, ◌<◌, ◌≤◌, inl, inr, Bool, List, [], ◌∷◌, ◌++◌, length, reverse, slice_index, Option, Some, None, refl, sym, ap, subst, ◌∙◌, arith, length-append}
 use Rattle.std.specs.Prelude.{⊤}
-use Rattle.std.proofs.lemmas.Bool.{ltb-true}
 use Rattle.std.proofs.lemmas.List.{reverse-append}
 use Rattle.plan_base.specs.declared.ids.ArcId.{ArcId}
 use Rattle.plan_base.specs.declared.ids.NodeId.{NodeId}
 use Rattle.plan_base.specs.declared.parts.Parts.{Parts}
 use Rattle.plan_base.specs.Facts.{IsInstance}
-use Rattle.plan_base.specs.Arcs.{tail_of, head_of, link_of, demand_at}
-use Rattle.plan_base.proofs.Bools.{and-first}
+use Rattle.plan_base.specs.Arcs.{tail_of, head_of, demand_at}
+use Rattle.plan_base.specs.Places.{places, place_of}
+use Rattle.plan_base.proofs.PathSums.{place-within}
 use Rattle.arc_restrict.specs.Prices.{price_of}
 use Rattle.verifier_paths.specs.Labels.{label_at, IsAtMost, IsWay, AreLeast}
 use Rattle.verifier_paths.specs.OnlyPaths.{AreOnes, AreFewest, IsPathOf, IsStep}
@@ -19,15 +19,15 @@ use Rattle.verifier_paths.proofs.LeastPrices.{label-below}
 
 -- ---- prices 1 count arcs
 
-ones-count : (p : Parts) (takes : ArcId → Bool) (prices : List ℕ) (from to : ℕ) (arcs : List ArcId) → AreOnes p prices → TakesArcs p takes → IsWay p takes from to arcs → price_of prices arcs ≡ length arcs
+ones-count : (p : Parts) (takes : ArcId → Bool) (prices : List ℕ) (from to : ℕ) (arcs : List ArcId) → AreOnes p prices → TakesArcs p takes → IsWay p takes from to arcs → price_of p prices arcs ≡ length arcs
 ones-count p takes prices from to [] ones are way = refl
 ones-count p takes prices from to (a ∷ arcs) ones are way =
     let rest = ones-count p takes prices (head_of p a).0 to arcs ones are way.2 in
-    let inside : link_of a < length p.links = ltb-true _ _ (and-first _ _ (are a way.0)) in
-    let one : slice_index prices (link_of a) ≡ 1 = ones.each (link_of a) 0 (omega (arith, inside, ones.count)) in
-    omega (arith, price-cons prices a arcs, rest, one)
+    let inside : place_of p a < places p = place-within p a (are a way.0) in
+    let one : slice_index prices (place_of p a) ≡ 1 = ones.each (place_of p a) 0 (omega (arith, inside, ones.count)) in
+    omega (arith, price-cons p prices a arcs, rest, one)
 
-pub fewest_of_least : (p : Parts) (takes : ArcId → Bool) (prices : List ℕ) (source : ℕ) (labels : List (Option ℕ)) → AreOnes p prices → TakesArcs p takes → AreLeast p takes (price_of prices) source labels → AreFewest p takes source labels
+pub fewest_of_least : (p : Parts) (takes : ArcId → Bool) (prices : List ℕ) (source : ℕ) (labels : List (Option ℕ)) → AreOnes p prices → TakesArcs p takes → AreLeast p takes (price_of p prices) source labels → AreFewest p takes source labels
 fewest_of_least p takes prices source labels ones are least = record {
   count = least.count;
   attained = λ v price within is.

@@ -8,7 +8,8 @@ use Rattle.plan_base.specs.declared.ids.NodeId.{NodeId}
 use Rattle.plan_base.specs.declared.ids.ArcId.{ArcId}
 use Rattle.plan_base.specs.declared.parts.Demand.{Demand}
 use Rattle.plan_base.specs.declared.parts.Parts.{Parts}
-use Rattle.plan_base.specs.Arcs.{is_arc, tail_of, head_of, link_of, no_arc}
+use Rattle.plan_base.specs.Arcs.{is_arc, tail_of, head_of, no_arc}
+use Rattle.plan_base.specs.Places.{place_of}
 use Rattle.plan_base.specs.Paths.{arc_at, node_at, IsSimplePath}
 use Rattle.arc_restrict.specs.Prices.{price_of}
 use Rattle.verifier_paths.specs.Labels.{IsWay}
@@ -33,11 +34,11 @@ has_last p takes from to a (b ∷ arcs) way =
     let rest = has_last p takes (head_of p a).0 to b arcs way.2 in
     record { front = a ∷ rest.front; last = rest.last; way = (way.0, way.1, rest.way); taken = rest.taken; leads = rest.leads; is = ap (λ (xs : List ArcId). a ∷ xs) rest.is }
 
-pub price-cons : (prices : List ℕ) (a : ArcId) (arcs : List ArcId) → price_of prices (a ∷ arcs) ≡ slice_index prices (link_of a) + price_of prices arcs
-price-cons prices a arcs = sum_by-cons (λ (a : ArcId). slice_index prices (link_of a)) a arcs
+pub price-cons : (p : Parts) (prices : List ℕ) (a : ArcId) (arcs : List ArcId) → price_of p prices (a ∷ arcs) ≡ slice_index prices (place_of p a) + price_of p prices arcs
+price-cons p prices a arcs = sum_by-cons (λ (a : ArcId). slice_index prices (place_of p a)) a arcs
 
-pub price-push : (prices : List ℕ) (arcs : List ArcId) (a : ArcId) → price_of prices (arcs ++ a ∷ []) ≡ price_of prices arcs + slice_index prices (link_of a)
-price-push prices arcs a = sum_by_push (λ (a : ArcId). slice_index prices (link_of a)) arcs a
+pub price-push : (p : Parts) (prices : List ℕ) (arcs : List ArcId) (a : ArcId) → price_of p prices (arcs ++ a ∷ []) ≡ price_of p prices arcs + slice_index prices (place_of p a)
+price-push p prices arcs a = sum_by_push (λ (a : ArcId). slice_index prices (place_of p a)) arcs a
 
 -- ---- no node twice
 
@@ -56,26 +57,26 @@ pub record HasRoute (p : Parts) (takes : ArcId → Bool) (prices : List ℕ) (fr
   pub arcs : List ArcId
   pub way : IsWay p takes from to arcs
   pub once : MeetOnce p from arcs
-  pub low : price_of prices arcs ≤ bound
+  pub low : price_of p prices arcs ≤ bound
 
 -- a route avoids the node, or goes on from it as a route
-from_node : (p : Parts) (takes : ArcId → Bool) (prices : List ℕ) (v from to : ℕ) (arcs : List ArcId) → IsWay p takes from to arcs → MeetOnce p from arcs → Avoids p v arcs ⊎ HasRoute p takes prices v to (price_of prices arcs)
+from_node : (p : Parts) (takes : ArcId → Bool) (prices : List ℕ) (v from to : ℕ) (arcs : List ArcId) → IsWay p takes from to arcs → MeetOnce p from arcs → Avoids p v arcs ⊎ HasRoute p takes prices v to (price_of p prices arcs)
 from_node p takes prices v from to [] way once = inl tt
 from_node p takes prices v from to (a ∷ arcs) way once = elim (cases_eq (head_of p a).0 v) [
   | inl here ↦ inr (record {
     arcs = arcs;
     way = subst (λ (w : ℕ). IsWay p takes w to arcs) here way.2;
     once = subst (λ (w : ℕ). MeetOnce p w arcs) here once.1;
-    low = omega (arith, price-cons prices a arcs);
+    low = omega (arith, price-cons p prices a arcs);
   })
   | inr other ↦ elim (from_node p takes prices v (head_of p a).0 to arcs way.2 once.1) [
     | inl avoids ↦ inl (other, avoids)
-    | inr r ↦ inr (record { arcs = r.arcs; way = r.way; once = r.once; low = omega (arith, r.low, price-cons prices a arcs) })
+    | inr r ↦ inr (record { arcs = r.arcs; way = r.way; once = r.once; low = omega (arith, r.low, price-cons p prices a arcs) })
   ]
 ]
 
 -- of each way there is a route that costs no more
-pub route_of_way : (p : Parts) (takes : ArcId → Bool) (prices : List ℕ) (from to : ℕ) (arcs : List ArcId) → IsWay p takes from to arcs → HasRoute p takes prices from to (price_of prices arcs)
+pub route_of_way : (p : Parts) (takes : ArcId → Bool) (prices : List ℕ) (from to : ℕ) (arcs : List ArcId) → IsWay p takes from to arcs → HasRoute p takes prices from to (price_of p prices arcs)
 route_of_way p takes prices from to [] way = record { arcs = []; way = way; once = tt; low = omega arith }
 route_of_way p takes prices from to (a ∷ arcs) way =
     let r = route_of_way p takes prices (head_of p a).0 to arcs way.2 in
@@ -84,11 +85,11 @@ route_of_way p takes prices from to (a ∷ arcs) way =
         arcs = r.arcs;
         way = subst (λ (w : ℕ). IsWay p takes w to r.arcs) back r.way;
         once = subst (λ (w : ℕ). MeetOnce p w r.arcs) back r.once;
-        low = omega (arith, r.low, price-cons prices a arcs);
+        low = omega (arith, r.low, price-cons p prices a arcs);
       }
       | inr other ↦ elim (from_node p takes prices from (head_of p a).0 to r.arcs r.way r.once) [
-        | inl avoids ↦ record { arcs = a ∷ r.arcs; way = (way.0, way.1, r.way); once = ((other, avoids), r.once); low = omega (arith, r.low, price-cons prices a arcs, price-cons prices a r.arcs) }
-        | inr q ↦ record { arcs = q.arcs; way = q.way; once = q.once; low = omega (arith, q.low, r.low, price-cons prices a arcs) }
+        | inl avoids ↦ record { arcs = a ∷ r.arcs; way = (way.0, way.1, r.way); once = ((other, avoids), r.once); low = omega (arith, r.low, price-cons p prices a arcs, price-cons p prices a r.arcs) }
+        | inr q ↦ record { arcs = q.arcs; way = q.way; once = q.once; low = omega (arith, q.low, r.low, price-cons p prices a arcs) }
       ]
     ]
 

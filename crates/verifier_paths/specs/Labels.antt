@@ -2,7 +2,8 @@
 use Rattle.std.specs.Prelude.{ℕ, suc, ◌≡◌, ◌<◌, ◌≤◌, ◌+◌, ◌*◌, ◌==◌, ◌&&◌, Bool, false, not, List, [], ◌∷◌, length, slice_index, slice_index_or, slice_set, replicate, IsTrue, All, Option, Some, None, MatchOption, IfSome, if◌then◌else◌, nat_le}
 use Rattle.plan_base.specs.declared.ids.ArcId.{ArcId}
 use Rattle.plan_base.specs.declared.parts.Parts.{Parts}
-use Rattle.plan_base.specs.Arcs.{is_arc, tail_of, head_of, link_of}
+use Rattle.plan_base.specs.Arcs.{is_arc, tail_of, head_of}
+use Rattle.plan_base.specs.Places.{place_of}
 use Rattle.plan_base.specs.declared.limits.TheConstants.{MAX_PRICED_LOAD}
 use Rattle.verifier_paths.specs.declared.limits.TheConstants.{MAX_WAY_ARCS}
 use Rattle.arc_restrict.specs.Restrictions.{Forbidden}
@@ -29,7 +30,7 @@ lower_of (Some price) offered = if nat_le price offered then Some price else Som
 abbrev pub offered_to : Parts → List ℕ → ArcId → Option ℕ → List (Option ℕ) → List (Option ℕ)
 offered_to p prices a None new = new
 offered_to p prices a (Some price) new =
-    slice_set new (head_of p a).0 (lower_of (label_at new (head_of p a).0) (price + slice_index prices (link_of a)))
+    slice_set new (head_of p a).0 (lower_of (label_at new (head_of p a).0) (price + slice_index prices (place_of p a)))
 
 -- one arc is relaxed, from the old prices into the new ones
 abbrev pub IsRelaxed : Parts → (ArcId → Bool) → List ℕ → List (Option ℕ) → ArcId → List (Option ℕ) → List (Option ℕ) → Type 0

@@ -3,6 +3,7 @@ use Rattle.std.specs.Prelude.{ℕ, ◌≡◌, ◌<◌, Bool, List, [], length, s
 use Rattle.plan_base.specs.declared.ids.ArcId.{ArcId}
 use Rattle.plan_base.specs.declared.parts.Parts.{Parts}
 use Rattle.plan_base.specs.Arcs.{tail_of, head_of, demand_at}
+use Rattle.plan_base.specs.Places.{places}
 use Rattle.plan_base.specs.Paths.{IsSimplePath}
 use Rattle.arc_restrict.specs.Restrictions.{Forbidden, IsPermittedPath, IsOnlyPath}
 use Rattle.arc_restrict.specs.Prices.{AreWithinLimit}
@@ -20,9 +21,9 @@ pub record HasSecond (p : Parts) (r : Forbidden) : Type 0 where
   pub within : demand < length p.demands
   pub second : (arcs : List ArcId) → IsOnlyPath p r demand arcs → ⊥
 
--- the price 1 for each link, which is within the limit
+-- the price 1 for each place, which is within the limit
 pub record AreOnes (p : Parts) (prices : List ℕ) : Type 0 where
-  pub count : length prices ≡ length p.links
+  pub count : length prices ≡ places p
   pub each : All (λ price. price ≡ 1) prices
   pub limit : AreWithinLimit p prices
 

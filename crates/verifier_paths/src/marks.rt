@@ -40,7 +40,7 @@ impl Forbidden {
         ensures size { IfOk result (HasRows inst.now) }
     {
         let demands = inst.demands();
-        let arcs = 2 * inst.links();
+        let arcs = inst.arcs();
         let marks = vec![in alloc; false; demands as usize * arcs as usize]?;
         Ok(Forbidden {
             demands,

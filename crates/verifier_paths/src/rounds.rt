@@ -3,6 +3,7 @@
 ghost use Rattle.std.specs.Prelude.{◌≡◌, ◌≤◌, ◌<◌, ◌*◌, true, length, IfOk, IfSome, MatchOption, None};
 ghost use Rattle.plan_base.specs.Arcs.{demand_at};
 ghost use Rattle.plan_base.specs.Facts.{IsInstance, total_load};
+ghost use Rattle.plan_base.specs.Places.{places};
 ghost use Rattle.plan_base.specs.declared.limits.TheConstants.{MAX_PRICED_LOAD};
 ghost use Rattle.arc_restrict.specs.Restrictions.{HasNoPath};
 ghost use Rattle.arc_restrict.specs.Prices.{price_of, AreWithinLimit, IsLeastPrice};
@@ -53,7 +54,7 @@ fn relax_arc(
     old: &[Option<u128>],
     new: &mut Vec<Option<u128>>,
 )
-    requires count { length prices.now ≡ length ways.now.inst.now.links }
+    requires count { length prices.now ≡ places ways.now.inst.now }
     requires limit { AreWithinLimit ways.now.inst.now prices.now }
     requires old { length old.now ≡ ways.now.inst.now.nodes }
     requires small { AreSmall old.now }
@@ -68,23 +69,23 @@ fn relax_arc(
     }
     if let Some(price) = old[ways.inst.tail(arc).0 as usize] {
         let head = ways.inst.head(arc).0 as usize;
-        new[head] = lower(new[head], price + prices[(arc.0 / 2) as usize]);
+        new[head] = lower(new[head], price + prices[ways.inst.place(arc) as usize]);
     }
 }
 
 /// One round: each node's price by one arc more, in the new list.
 fn relax_all(ways: &Ways, prices: &[u128], old: &[Option<u128>], new: &mut Vec<Option<u128>>)
-    requires count { length prices.now ≡ length ways.now.inst.now.links }
+    requires count { length prices.now ≡ places ways.now.inst.now }
     requires limit { AreWithinLimit ways.now.inst.now prices.now }
     requires old { length old.now ≡ ways.now.inst.now.nodes }
     requires small { AreSmall old.now }
     requires same { new.old.items ≡ old.now }
     ensures round { IsRound ways.now.inst.now
         (may_take ways.now.inst.now (forbidden_by ways.now.forbidden.now) ways.now.demand.0 ways.now.left_out)
-        (price_of prices.now) old.now new.new.items }
+        (price_of ways.now.inst.now prices.now) old.now new.new.items }
     ensures count { length new.new.items ≡ length old.now }
 {
-    for arc in 0..2 * ways.inst.links() {
+    for arc in 0..ways.inst.arcs() {
         relax_arc(ways, prices, ArcId(arc), old, new);
     }
 }
@@ -123,14 +124,14 @@ pub(crate) fn least_prices(
     prices: &[u128],
 ) -> Result<Vec<Option<u128>>, AllocError>
     requires demand { ways.now.demand.0 < length ways.now.inst.now.demands }
-    requires count { length prices.now ≡ length ways.now.inst.now.links }
+    requires count { length prices.now ≡ places ways.now.inst.now }
     requires limit { AreWithinLimit ways.now.inst.now prices.now }
     ensures lawful { IsInstance ways.now.inst.now }
     ensures least { IfOk result (λ labels. AreLeast ways.now.inst.now
         (may_take ways.now.inst.now (forbidden_by ways.now.forbidden.now) ways.now.demand.0 ways.now.left_out)
-        (price_of prices.now) (demand_at ways.now.inst.now ways.now.demand.0).source.0 labels.items) }
+        (price_of ways.now.inst.now prices.now) (demand_at ways.now.inst.now ways.now.demand.0).source.0 labels.items) }
 {
-    let _links = ways.inst.links();
+    ways.inst.lawful();
     let nodes = ways.inst.nodes();
     let source = ways.inst.demand(ways.demand).source;
     let mut old = first_prices(alloc, nodes, source)?;
@@ -147,7 +148,7 @@ pub(crate) fn least_prices(
 
 /// The least price of a permitted path of the demand, and none where it has none.
 ///
-/// - Takes: a demand of the instance, and one price for each link, within the limit, in thousandths of a cost grain per
+/// - Takes: a demand of the instance, and one price for each place, within the limit, in thousandths of a cost grain per
 ///   load grain.
 /// - Gives: a price in the same unit.
 /// - Errors: want of memory.
@@ -161,7 +162,7 @@ pub fn least_price(
     prices: &[u128],
 ) -> Result<Option<u128>, AllocError>
     requires demand { demand.0 < length inst.now.demands }
-    requires count { length prices.now ≡ length inst.now.links }
+    requires count { length prices.now ≡ places inst.now }
     requires limit { AreWithinLimit inst.now prices.now }
     ensures value { IfOk result (λ price. MatchOption price
         (HasNoPath inst.now (forbidden_by forbidden.now) demand.0)

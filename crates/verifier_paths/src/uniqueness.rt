@@ -44,7 +44,7 @@ fn step_back(ways: &Ways, labels: &[Option<u128>], here: NodeId, steps: u128) ->
         (may_take ways.now.inst.now (forbidden_by ways.now.forbidden.now) ways.now.demand.0 ways.now.left_out)
         labels.now here.0 steps result }
 {
-    for number in 0..2 * ways.inst.links() {
+    for number in 0..ways.inst.arcs() {
         let arc = ArcId(number);
         if is_step(ways, labels, arc, here, steps) {
             return Some(arc);
@@ -206,7 +206,7 @@ pub fn only_paths(
 ) -> Result<OnlyPaths, AllocError>
     ensures left { IfOk result (IsOnlyPaths inst.now (forbidden_by forbidden.now)) }
 {
-    let ones = vec![in alloc; 1; inst.links() as usize]?;
+    let ones = vec![in alloc; 1; inst.places() as usize]?;
     match first_paths(alloc, inst, forbidden, &ones)? {
         Some(paths) => {
             if any_second(alloc, inst, forbidden, &paths, &ones)? {

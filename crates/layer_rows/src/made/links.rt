@@ -1,9 +1,10 @@
 //! Made links, whose tables are compared with what trying all counts tells.
 
-ghost use Rattle.std.specs.Prelude.{◌<◌, ◌≡◌, ◌≤◌, length, IfSome};
+ghost use Rattle.std.specs.Prelude.{◌<◌, ◌≡◌, ◌≤◌, false, length, IfSome};
 ghost use Rattle.plan_base.specs.Facts.{price_limit, total_load};
+ghost use Rattle.plan_base.specs.Places.{is_two_way};
 
-use super::trying::{Costs, SmallLink, tried_costs, tried_gain, tried_start};
+use super::trying::{Costs, Gain, SmallLink, tried_costs, tried_gain, tried_start};
 use crate::telling::tell_differing;
 use link_steps::StepTable;
 use plan_base::{Demand, Instance, Items, Link, LinkId, Module, NodeId, Orient, Parts, Prices};
@@ -12,7 +13,7 @@ use row_networks::table_of;
 use std::alloc::{AllocError, Global};
 
 /// How many links are made.
-const LINKS: u32 = 240;
+const LINKS: u32 = 300;
 
 /// A module of a capacity below 5 and a cost below 8.
 fn made_module(draws: &mut Draws) -> Module {
@@ -32,7 +33,7 @@ fn made_link(draws: &mut Draws) -> SmallLink {
 }
 
 /// The parts of all made links, between two nodes, and a demand of 8 grains.
-fn made_parts(alloc: Global) -> Result<Parts, AllocError> {
+fn made_parts(alloc: Global, orient: Orient) -> Result<Parts, AllocError> {
     let (source, target) = (NodeId(0), NodeId(1));
     let mut draws = Draws::begin(1);
     let mut links = Vec::new(alloc);
@@ -52,7 +53,7 @@ fn made_parts(alloc: Global) -> Result<Parts, AllocError> {
         load: 8,
     };
     Ok(Parts {
-        orient: Orient::Undirected,
+        orient,
         nodes: 2,
         links: Items::from_vec(links),
         demands: Items::from_vec(vec![in alloc; demand]?),
@@ -60,12 +61,15 @@ fn made_parts(alloc: Global) -> Result<Parts, AllocError> {
 }
 
 /// The table of all made links.
-fn made_table(alloc: Global) -> Option<StepTable>
-    ensures { IfSome result (λ table. (length table.links ≡ 240) × (total_load table ≡ 8)
+fn made_table(alloc: Global, orient: Orient) -> Option<StepTable>
+    ensures { IfSome result (λ table. (table.orient ≡ orient) × (length table.links ≡ 300) × (total_load table ≡ 8)
         × (1_000_000_000 ≤ price_limit table)) }
 {
-    let inst = Instance::build(alloc, made_parts(alloc).ok()?).ok()?;
-    if inst.links() != LINKS || inst.total_load() != 8 || inst.price_limit() < 1_000_000_000 {
+    let inst = Instance::build(alloc, made_parts(alloc, orient).ok()?).ok()?;
+    if inst.orient() != orient || inst.links() != LINKS {
+        return None;
+    }
+    if inst.total_load() != 8 || inst.price_limit() < 1_000_000_000 {
         return None;
     }
     table_of(alloc, &inst)
@@ -97,54 +101,124 @@ fn costs_agree(table: &StepTable, link: LinkId, costs: &Costs) -> bool
     true
 }
 
+/// A price of the other place of a link, 0 where it has one place.
+fn back_price(orient: Orient, step: u64) -> u128
+    ensures one_way { is_two_way orient ≡ false → result ≡ 0 }
+    ensures within { result ≤ 1_000_000_000 }
+{
+    if orient.is_two_way() {
+        u128::from(step.wrapping_mul(7) % 30 * 300)
+    } else {
+        0
+    }
+}
+
+/// What the table tells of the worth of a link at prices.
+fn found_gain(table: &StepTable, link: LinkId, price: u128, back: u128) -> Gain
+    requires link { link.0 < length table.now.links }
+    requires price { price ≤ price_limit table.now }
+    requires back { back ≤ price_limit table.now }
+    requires one_way { is_two_way table.now.orient ≡ false → back ≡ 0 }
+{
+    let found = table.link_value(link, price, back);
+    Gain {
+        worth: found.value.unsigned_abs(),
+        load: found.load,
+        back: found.back,
+    }
+}
+
 /// Whether the table tells of some prices what trying tells.
-fn values_agree(table: &StepTable, link: LinkId, small: &SmallLink, costs: &Costs) -> bool
+fn values_agree(
+    table: &StepTable,
+    orient: Orient,
+    link: LinkId,
+    small: &SmallLink,
+    costs: &Costs,
+) -> bool
+    requires orient { table.now.orient ≡ orient }
     requires link { link.0 < length table.now.links }
     requires limit { 1_000_000_000 ≤ price_limit table.now }
 {
     for step in 0..30u64 {
         let price = u128::from(step * 300);
-        let found = table.link_value(link, price);
-        if (found.value.unsigned_abs(), found.load) != tried_gain(small, costs, price) {
+        let back = back_price(orient, step);
+        let tried = tried_gain(small, costs, (price, back), orient.is_two_way());
+        if found_gain(table, link, price, back) != tried {
             return false;
         }
     }
     true
 }
 
+/// Whether each place of the link has the start price that trying tells, where it tells one.
+fn starts_agree(
+    prices: &Prices,
+    orient: Orient,
+    link: LinkId,
+    small: &SmallLink,
+    costs: &Costs,
+) -> bool {
+    let place = link.0 as usize;
+    let prices = prices.as_slice();
+    if orient.is_two_way() {
+        let start = tried_start(small, costs, 500);
+        let there = prices.get(place.saturating_mul(2)).copied();
+        let back = prices
+            .get(place.saturating_mul(2).saturating_add(1))
+            .copied();
+        return start.is_none() || (there == start && back == start);
+    }
+    let start = tried_start(small, costs, 1000);
+    start.is_none() || prices.get(place).copied() == start
+}
+
 /// Whether the table and the start prices tell of a link what trying tells.
-fn all_agree(table: &StepTable, prices: &Prices, link: LinkId, small: &SmallLink) -> bool
+fn all_agree(
+    table: &StepTable,
+    orient: Orient,
+    prices: &Prices,
+    link: LinkId,
+    small: &SmallLink,
+) -> bool
+    requires orient { table.now.orient ≡ orient }
     requires link { link.0 < length table.now.links }
     requires total { total_load table.now ≡ 8 }
     requires limit { 1_000_000_000 ≤ price_limit table.now }
 {
     let costs = tried_costs(small);
-    let start = tried_start(small, &costs);
-    let found = prices.as_slice().get(link.0 as usize).copied();
     costs_agree(table, link, &costs)
-        && values_agree(table, link, small, &costs)
-        && (start.is_none() || found == start)
+        && values_agree(table, orient, link, small, &costs)
+        && starts_agree(prices, orient, link, small, &costs)
 }
 
 /// The first made link of which the table and the start prices do not tell what trying tells.
-fn first_differing(table: &StepTable, prices: &Prices) -> Option<u32>
-    requires links { length table.now.links ≡ 240 }
+fn first_differing(table: &StepTable, orient: Orient, prices: &Prices) -> Option<u32>
+    requires orient { table.now.orient ≡ orient }
+    requires links { length table.now.links ≡ 300 }
     requires total { total_load table.now ≡ 8 }
     requires limit { 1_000_000_000 ≤ price_limit table.now }
 {
     let mut draws = Draws::begin(1);
     for place in 0..LINKS {
         let small = made_link(&mut draws);
-        if !all_agree(table, prices, LinkId(place), &small) {
+        if !all_agree(table, orient, prices, LinkId(place), &small) {
             return Some(place);
         }
     }
     None
 }
 
-/// Adds the first made link of which the tables do not tell what trying tells.
-pub(crate) fn tell_links(alloc: Global, text: &mut String) -> Option<()> {
-    let table = made_table(alloc)?;
+/// Adds the first made link of this orientation of which the tables do not tell what trying tells.
+fn tell_oriented(alloc: Global, orient: Orient, text: &mut String) -> Option<()> {
+    let table = made_table(alloc, orient)?;
     let prices = table.start_prices(alloc).ok()?;
-    tell_differing("link", first_differing(&table, &prices), text)
+    tell_differing("link", first_differing(&table, orient, &prices), text)
+}
+
+/// Adds the first made link of which the tables do not tell what trying tells, with one place and with two.
+pub(crate) fn tell_links(alloc: Global, text: &mut String) -> Option<()> {
+    tell_oriented(alloc, Orient::Undirected, text)?;
+    text.push_str(",").ok()?;
+    tell_oriented(alloc, Orient::Bidirected, text)
 }

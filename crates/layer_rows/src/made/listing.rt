@@ -3,7 +3,7 @@
 ghost use Rattle.std.specs.Prelude.{◌<◌, length};
 
 use crate::searching::Asked;
-use plan_base::{ArcId, DemandId, NodeId, Path};
+use plan_base::{ArcId, DemandId, NodeId, Orient, Path};
 use std::alloc::AllocError;
 
 /// A walk without a node twice.
@@ -37,6 +37,14 @@ pub(crate) fn arcs_of(path: &Path) -> u64 {
     arcs
 }
 
+/// Where the price of the arc stands: one for each arc where links are bidirected, else one for each link.
+fn place_of(asked: Asked<'_>, arc: ArcId) -> usize {
+    match asked.inst.orient() {
+        Orient::Bidirected => arc.0 as usize,
+        Orient::Directed | Orient::Undirected => (arc.0 / 2) as usize,
+    }
+}
+
 /// The walk with the arc, where it is permitted and leads on to a new node.
 fn longer(asked: Asked<'_>, demand: DemandId, walk: Walk, arc: ArcId) -> Option<Walk> {
     if !asked.inst.is_arc(arc) || !asked.restriction.allows(demand, arc) {
@@ -46,7 +54,7 @@ fn longer(asked: Asked<'_>, demand: DemandId, walk: Walk, arc: ArcId) -> Option<
     if asked.inst.tail(arc) != walk.here || walk.met & bit(head) != 0 {
         return None;
     }
-    let price = *asked.prices.as_slice().get((arc.0 / 2) as usize)?;
+    let price = *asked.prices.as_slice().get(place_of(asked, arc))?;
     Some(Walk {
         here: head,
         met: walk.met | bit(head),
@@ -59,7 +67,7 @@ fn longer(asked: Asked<'_>, demand: DemandId, walk: Walk, arc: ArcId) -> Option<
 fn all_longer(asked: Asked<'_>, demand: DemandId, walks: &[Walk]) -> Result<Vec<Walk>, AllocError> {
     let mut all = Vec::new(asked.alloc);
     for walk in walks {
-        for number in 0..asked.inst.links().saturating_mul(2) {
+        for number in 0..asked.inst.arcs() {
             if let Some(more) = longer(asked, demand, *walk, ArcId(number)) {
                 all.push(more)?;
             }

@@ -65,10 +65,10 @@ fn made_demands(alloc: Global, draws: &mut Draws, nodes: u32) -> Result<Items<De
 /// A network of 2 to 6 nodes.
 fn made_network(alloc: Global, draws: &mut Draws) -> Result<Parts, AllocError> {
     let nodes = 2 + draws.below(5);
-    let orient = if draws.below(2) == 0 {
-        Orient::Directed
-    } else {
-        Orient::Undirected
+    let orient = match draws.below(3) {
+        0 => Orient::Directed,
+        1 => Orient::Undirected,
+        _ => Orient::Bidirected,
     };
     Ok(Parts {
         orient,
@@ -81,7 +81,7 @@ fn made_network(alloc: Global, draws: &mut Draws) -> Result<Parts, AllocError> {
 /// Prices from 0 to 9.
 fn made_prices(alloc: Global, draws: &mut Draws, inst: &Instance) -> Result<Prices, AllocError> {
     let mut prices = Vec::new(alloc);
-    for _ in 0..inst.links() {
+    for _ in 0..inst.places() {
         prices.push(u128::from(draws.below(10)))?;
     }
     Ok(Prices::from_vec(prices))

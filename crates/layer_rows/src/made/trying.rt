@@ -53,35 +53,82 @@ pub(crate) fn tried_costs(small: &SmallLink) -> Costs {
     costs
 }
 
-/// A thousand step costs of a load, where counts carry it.
-fn step_cost(small: &SmallLink, costs: &Costs, load: usize) -> Option<u128>
-    requires { load < 9 }
+/// The least module cost of the larger of two loads, and the routing cost of both, a thousand times, where counts carry it.
+fn step_cost(small: &SmallLink, costs: &Costs, load: usize, back: usize) -> Option<u128>
+    requires load { load < 9 }
+    requires back { back < 9 }
 {
-    let routing = u128::from(small.routing).saturating_mul(load as u128);
-    let modules = costs[load]?;
+    let both = (load as u128).saturating_add(back as u128);
+    let routing = u128::from(small.routing).saturating_mul(both);
+    let modules = costs[load.max(back)]?;
     Some(modules.saturating_add(routing).saturating_mul(1000))
 }
 
-/// How much more the best load is worth at a price than it costs, and the first such load.
-pub(crate) fn tried_gain(small: &SmallLink, costs: &Costs, price: u128) -> (u128, u64) {
-    let mut best = (0, 0);
-    for load in 0..9 {
-        if let Some(cost) = step_cost(small, costs, load) {
-            let gain = price.saturating_mul(load as u128).saturating_sub(cost);
-            if gain > best.0 {
-                best = (gain, load as u64);
-            }
+/// How much more than it costs some load there, and back, is worth at prices.
+#[derive(Clone, Copy, PartialEq, Eq)]
+pub(crate) struct Gain {
+    pub(crate) worth: u128,
+    pub(crate) load: u64,
+    pub(crate) back: u64,
+}
+
+/// Takes the loads there and back, where they are worth more than what is known.
+fn offer_loads(
+    small: &SmallLink,
+    costs: &Costs,
+    prices: (u128, u128),
+    load: usize,
+    back: usize,
+    best: &mut Gain,
+)
+    requires load { load < 9 }
+    requires back { back < 9 }
+{
+    let Some(cost) = step_cost(small, costs, load, back) else {
+        return;
+    };
+    let there_paid = prices.0.saturating_mul(load as u128);
+    let back_paid = prices.1.saturating_mul(back as u128);
+    let worth = there_paid.saturating_add(back_paid).saturating_sub(cost);
+    if worth > best.worth {
+        *best = Gain {
+            worth,
+            load: load as u64,
+            back: back as u64,
+        };
+    }
+}
+
+/// How much more the best loads are worth at prices than they cost, and the first such loads: those whose larger one is
+/// smallest, and of these the smallest. A link of one place has no load back.
+pub(crate) fn tried_gain(
+    small: &SmallLink,
+    costs: &Costs,
+    prices: (u128, u128),
+    is_two_way: bool,
+) -> Gain {
+    let mut best = Gain {
+        worth: 0,
+        load: 0,
+        back: 0,
+    };
+    for number in 0..9 * 9 * 9 {
+        let (larger, load, back) = (number / 81, number / 9 % 9, number % 9);
+        if load.max(back) == larger && (is_two_way || back == 0) {
+            offer_loads(small, costs, prices, load, back, &mut best);
         }
     }
     best
 }
 
-/// The least cost of a load grain in thousandths, rounded down.
-pub(crate) fn tried_start(small: &SmallLink, costs: &Costs) -> Option<u128> {
+/// The least cost of a load grain in thousandths, rounded down, where each place of the link bears so many of them.
+pub(crate) fn tried_start(small: &SmallLink, costs: &Costs, share: u128) -> Option<u128> {
     let mut least = None;
     for load in 1..9 {
-        if let Some(cost) = step_cost(small, costs, load) {
-            least = Some(smaller(least, cost / load as u128));
+        if let Some(modules) = costs[load] {
+            let unit = modules.saturating_mul(share) / load as u128;
+            let routing = u128::from(small.routing).saturating_mul(1000);
+            least = Some(smaller(least, routing.saturating_add(unit)));
         }
     }
     least

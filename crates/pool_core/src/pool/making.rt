@@ -2,6 +2,7 @@
 
 ghost use Rattle.std.specs.Prelude.{◌≡◌, ◌<◌, ◌≤◌, ◌∷◌, [], length, IfOk};
 ghost use Rattle.std.specs.Arc.{arc_value};
+ghost use Rattle.plan_base.specs.Places.{places};
 ghost use Rattle.pool_machine.specs.declared.limits.TheConstants.{MAX_BUDGET, MAX_ROUNDS};
 ghost use Rattle.pool_machine.specs.Machine.{IsOpeningState, root_with};
 ghost use Rattle.pool_reading.specs.Views.{AreFreePlaces};
@@ -20,19 +21,19 @@ use pool_reading::{Claims, OpenLeaves};
 use std::alloc::{AllocError, Global};
 use std::sync::Arc;
 
-/// A free place for each slot.
+/// Free room for a round in each slot.
 ///
-/// - Takes: one price for each link, which are put into each place.
+/// - Takes: one price for each place, which are put into each room.
 fn free_places(alloc: Global, inst: &Instance, prices: &Prices) -> Result<Vec<Slot>, AllocError>
-    requires { length prices.now ≡ length inst.now.links }
-    ensures { IfOk result (λ places. AreFreePlaces MAX_ROUNDS (length inst.now.demands) (length inst.now.links) places.items) }
+    requires { length prices.now ≡ places inst.now }
+    ensures { IfOk result (λ slots. AreFreePlaces MAX_ROUNDS (length inst.now.demands) (places inst.now) slots.items) }
 {
-    let mut places = Vec::new(alloc);
+    let mut slots = Vec::new(alloc);
     for slot in 0..MAX_ROUNDS {
         let place = PoolRound::new(alloc, slot, inst, prices)?;
-        places.push(Slot::Free(place))?;
+        slots.push(Slot::Free(place))?;
     }
-    Ok(places)
+    Ok(slots)
 }
 
 /// The root alone, which waits with these prices.
@@ -72,8 +73,7 @@ impl Pool {
         requires table { arc_value table ≡ arc_value inst }
         ensures opening { IfOk result (λ pool. IsOpeningState (arc_value inst) budget pool) }
     {
-        // Whoever reads an instance knows that it is within its limits, which the proof needs.
-        let _links = inst.links();
+        inst.lawful();
         let prices = table.start_prices(alloc)?;
         let places = free_places(alloc, &*inst, &prices)?;
         let nodes = root_alone(alloc, prices)?;

@@ -1,6 +1,7 @@
 //! Further versions of the prices of a node.
 
 ghost use Rattle.std.specs.Prelude.{◌≡◌, ◌<◌, ◌↔◌, ◌||◌, IsTrue, IfOk, IfErr, length, int_lt};
+ghost use Rattle.plan_base.specs.Places.{places};
 ghost use Rattle.pool_machine.specs.declared.answers.Publish.TheVariants as publish;
 ghost use Rattle.pool_machine.specs.Nodes.{IsPriceList};
 ghost use Rattle.pool_machine.specs.Publishing.{IsCrowding, PublishStep};
@@ -82,7 +83,7 @@ impl Pool {
         ensures refused { IfErr result (λ refusal. PublishStep self.old node seen prices.now refusal self.old) }
         ensures no_success { IfErr result (λ refusal. IfPublished refusal (λ slot version. ⊥)) }
         ensures slot { IfOk result (λ next. next.slot < MAX_ROUNDS) }
-        ensures count { IfOk result (λ next. length prices.now ≡ length self.old.problem.links) }
+        ensures count { IfOk result (λ next. length prices.now ≡ places self.old.problem) }
     {
         if let Some(refusal) = self.view().publish_refusal(node, seen, prices) {
             return Err(refusal);
@@ -119,8 +120,8 @@ impl Pool {
     /// - Takes: the version of its round; the prices, in thousandths of a cost grain per load grain.
     /// - Gives: in this order, `Spent` where the budget is spent; `Stale` where the node has no round of the version;
     ///   `Settled` where it is settled; `Incomplete` with the first demand that is not priced; `Rounds` where 16 versions
-    ///   were complete; `PriceCount` where there is not one price for each link; `OverPrice` with the first link whose
-    ///   price is above the price limit; `Ungathered` with the first demand whose path is none of its columns; `NoGain`
+    ///   were complete; `PriceCount` where there is not one price for each place; `OverPrice` with the link of the first
+    ///   place whose price is above the price limit; `Ungathered` with the first demand whose path is none of its columns; `NoGain`
     ///   where the prices have no greater restricted value than the round's, and are not the crowd prices of a stalled
     ///   round that are tried for the first time; else `Published` with the slot and the version.
     /// - Rule: docs/METHOD.md, "The search as a machine".

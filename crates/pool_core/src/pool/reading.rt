@@ -2,6 +2,7 @@
 
 ghost use Rattle.std.specs.Prelude.{◌≡◌, ◌↔◌, true, IsSome, IfSome, IfOk, length, slice_get};
 ghost use Rattle.std.specs.Arc.{arc_value};
+ghost use Rattle.plan_base.specs.Places.{places};
 ghost use Rattle.arc_restrict.specs.Rows.{forbids};
 ghost use Rattle.pool_machine.specs.State.{state_of, cutoff_of, restriction_of};
 ghost use Rattle.pool_machine.specs.Changes.{bound_in, is_open_state};
@@ -60,12 +61,12 @@ impl Pool {
         }
     }
 
-    /// The prices with which a node that waits begins, one for each link, in thousandths of a cost grain per load
+    /// The prices with which a node that waits begins, one for each place, in thousandths of a cost grain per load
     /// grain; None exactly where the node does not wait.
     pub fn first_prices(&self, node: BranchId) -> Option<&Prices>
         ensures waits { IsSome result ↔ (is_waiting (state_of self.now node) ≡ true) }
         ensures value { IfSome result (λ prices. IfSome (slice_get self.now.nodes node.0) (λ x. prices.now ≡ x.first_prices)) }
-        ensures count { IfSome result (λ prices. length prices.now ≡ length self.now.problem.links) }
+        ensures count { IfSome result (λ prices. length prices.now ≡ places self.now.problem) }
     {
         self.view().first_prices(node)
     }

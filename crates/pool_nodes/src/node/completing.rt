@@ -38,8 +38,7 @@ impl PoolNode {
         requires ready { MayComplete inst.now self.old }
         ensures { IfSome self.old.round (λ round. TakesRound inst.now self.old round self.new) }
     {
-        // Whoever reads an instance knows that it is within its limits, which the proof needs.
-        let _links = inst.links();
+        inst.lawful();
         let Some(round) = &self.round else {
             return;
         };

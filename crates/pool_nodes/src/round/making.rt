@@ -1,6 +1,7 @@
 //! New places.
 
 ghost use Rattle.std.specs.Prelude.{◌≡◌, length, replicate, None, IfOk};
+ghost use Rattle.plan_base.specs.Places.{places};
 
 use super::PoolRound;
 use bound_assembly::Round;
@@ -22,7 +23,7 @@ fn none_found(alloc: Global, demands: u32) -> Result<Vec<Option<Found>>, AllocEr
 impl PoolRound {
     /// A place that no round has used.
     ///
-    /// - Takes: its slot; one price for each link, which are put there.
+    /// - Takes: its slot; one price for each place, which are put there.
     /// - Errors: want of memory alone.
     pub fn new(
         alloc: Global,
@@ -30,14 +31,14 @@ impl PoolRound {
         inst: &Instance,
         prices: &Prices,
     ) -> Result<PoolRound, AllocError>
-        requires { length prices.now ≡ length inst.now.links }
+        requires { length prices.now ≡ places inst.now }
         ensures slot { IfOk result (λ place. place.slot ≡ slot) }
         ensures demands { IfOk result (λ place. length place.found ≡ length inst.now.demands) }
-        ensures prices { IfOk result (λ place. length place.prices ≡ length inst.now.links) }
+        ensures prices { IfOk result (λ place. length place.prices ≡ places inst.now) }
     {
         let demands = inst.demands();
         let found = none_found(alloc, demands)?;
-        let mut lengths = Round::new(alloc, demands, inst.links())?;
+        let mut lengths = Round::new(alloc, demands, inst.places())?;
         lengths.restart(BranchId(0), 0, prices);
         Ok(PoolRound {
             slot,

@@ -24,8 +24,7 @@ impl<'a> PoolView<'a> {
         ensures division { IfOk result (IsDivisionAt self.now node) }
         ensures demand { IfOk result (λ division. division.demand ≡ demand) }
     {
-        // Whoever reads an instance knows that it is within its limits, which the proof needs.
-        let _links = self.problem.links();
+        self.problem.lawful();
         let ground = &self.grounds[node.0 as usize];
         let Some(rows) = ground.rows() else {
             unreachable!();

@@ -45,13 +45,13 @@ pub(crate) fn tell_published(published: Option<Published>, text: &mut String) ->
 /// - Gives: None where memory is wanting.
 pub(crate) fn tell_restriction(
     demands: u32,
-    links: u32,
+    arcs: u32,
     rows: &Restriction,
     text: &mut String,
 ) -> Option<()> {
     text.push_str(" forbidden").ok()?;
     for demand in 0..demands {
-        for arc in 0..links.saturating_mul(2) {
+        for arc in 0..arcs {
             if !rows.allows(DemandId(demand), ArcId(arc)) {
                 write!(text, " {demand}:{arc}").ok()?;
             }

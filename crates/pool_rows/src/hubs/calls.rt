@@ -15,7 +15,7 @@ pub(crate) struct Common<'a, 'r, N: Naming, R: Wait> {
     pub(crate) rt: &'r R,
     pub(crate) alloc: Global,
     pub(crate) demands: u32,
-    pub(crate) links: u32,
+    pub(crate) arcs: u32,
     pub(crate) hub: &'a Hub<N, &'r R>,
 }
 
@@ -48,7 +48,7 @@ impl<'a, 'r, N: Naming, R: Wait> Common<'a, 'r, N, R> {
     /// Adds what is forbidden at a node, where it is an open leaf.
     fn tell_ground(&self, seat: &mut Seat<N>, rest: &str, text: &mut String) -> Option<()> {
         match self.hub.ground(self.rt, seat, node_of(rest)?).ok()? {
-            Some(rows) => tell_restriction(self.demands, self.links, &*rows, text),
+            Some(rows) => tell_restriction(self.demands, self.arcs, &*rows, text),
             None => text.push_str(" no leaf").ok(),
         }
     }

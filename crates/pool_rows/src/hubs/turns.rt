@@ -70,14 +70,15 @@ fn take_turns<N: Naming, R: Wait>(
     requires fresh { pool.accepted ≡ 0 }
 {
     let demands = pool.instance().demands();
-    let links = pool.instance().links();
-    let (writer, readers) = board(rt, alloc, MAX_ROUNDS, workers, links).ok()?;
+    let arcs = pool.instance().arcs();
+    let places = pool.instance().places();
+    let (writer, readers) = board(rt, alloc, MAX_ROUNDS, workers, places).ok()?;
     let (hub, mut seats) = Hub::<N, &R>::new(alloc, blank, pool, workers, writer, readers).ok()?;
     let common = Common {
         rt,
         alloc,
         demands,
-        links,
+        arcs,
         hub: &hub,
     };
     tell_calls(&common, seats.as_mut_slice(), rows, text)?;

@@ -25,6 +25,9 @@ pub(crate) fn tell_plan(alloc: Global, pool: Pool, text: &mut String) -> Option<
         return None;
     }
     let plan = pool.into_plan().ok()?;
+    if !plan.fits() {
+        return None;
+    }
     let written = write_plan(alloc, &plan).ok()?;
     tell_lines(written.as_slice(), text)
 }

@@ -14,7 +14,7 @@ pub(crate) fn tell_node(pool: &Pool, rest: &str, text: &mut String) -> Option<()
     match pool.restriction(node) {
         Some(rows) => {
             let inst = pool.instance();
-            tell_restriction(inst.demands(), inst.links(), &**rows, text)
+            tell_restriction(inst.demands(), inst.arcs(), &**rows, text)
         }
         None => Some(()),
     }

@@ -38,7 +38,7 @@ fn price_demand(
 }
 
 /// Prices all demands at the prices of the round in a slot, and tells the last answer.
-fn price_all(alloc: Global, pool: &mut Pool, slot: u32) -> Option<Option<Offered>> {
+pub(crate) fn price_all(alloc: Global, pool: &mut Pool, slot: u32) -> Option<Option<Offered>> {
     let published = pool.prices(slot).ok()??;
     let demands = pool.instance().demands();
     let mut answer = None;

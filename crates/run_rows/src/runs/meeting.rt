@@ -4,8 +4,7 @@ use plan_io::{Gate, Standing};
 use std::sync::atomic::{AtomicBool, Ordering};
 use std::thread;
 
-/// At their second task the first two workers each raise a flag and wait for the other's, for so many yields at most.
-/// The first pass of a run is none of a worker's.
+/// At their first task the first two workers each raise a flag and wait for the other's, for so many yields at most.
 #[derive(Drop)]
 pub(crate) struct Meeting {
     first: AtomicBool,
@@ -48,7 +47,7 @@ fn rises(flag: &AtomicBool) -> bool {
 
 impl Gate for Meeting {
     fn pass(&self, worker: u32, turn: u64) {
-        if turn != 1 {
+        if turn != 0 {
             return;
         }
         if worker == 0 {

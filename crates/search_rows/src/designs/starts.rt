@@ -6,17 +6,16 @@ ghost use Rattle.plan_base.specs.Designs.{IsGoodDesign};
 
 use least_path::{Room, are_weights};
 use link_steps::StepTable;
-use plan_base::{Demand, DemandId, Design, Instance, Items, LinkId, Path, check_design};
+use plan_base::{ArcId, Demand, DemandId, Design, Instance, Items, LinkId, Path, check_design};
 use std::alloc::Global;
 
-/// The start price of its link for each arc.
-fn start_weights(alloc: Global, table: &StepTable) -> Option<Vec<Option<u128>>> {
+/// The start price of its place for each arc.
+fn start_weights(alloc: Global, inst: &Instance, table: &StepTable) -> Option<Vec<Option<u128>>> {
     let prices = table.start_prices(alloc).ok()?;
     let mut weights = Vec::new(alloc);
-    for price in prices.as_slice() {
-        weights
-            .extend_from_slice(&[Some(*price), Some(*price)])
-            .ok()?;
+    for number in 0..inst.arcs() {
+        let place = inst.place(ArcId(number)) as usize;
+        weights.push(prices.as_slice().get(place).copied()).ok()?;
     }
     Some(weights)
 }
@@ -78,7 +77,7 @@ fn full_counts(alloc: Global, inst: &Instance, table: &StepTable) -> Option<Item
 
 /// A path of least weight for each demand at the start prices.
 fn start_paths(alloc: Global, inst: &Instance, table: &StepTable) -> Option<Items<Path>> {
-    least_paths(alloc, inst, &start_weights(alloc, table)?)
+    least_paths(alloc, inst, &start_weights(alloc, inst, table)?)
 }
 
 /// A dear design with the least paths at the start prices.

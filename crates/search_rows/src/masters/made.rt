@@ -78,9 +78,9 @@ fn made_demands(alloc: Global, draws: &mut Draws) -> Option<Items<Demand>> {
 }
 
 /// An instance.
-pub(crate) fn made_instance(alloc: Global, draws: &mut Draws) -> Option<Instance> {
+pub(crate) fn made_instance(alloc: Global, draws: &mut Draws, orient: Orient) -> Option<Instance> {
     let parts = Parts {
-        orient: Orient::Undirected,
+        orient,
         nodes: 3,
         links: made_links(alloc, draws)?,
         demands: made_demands(alloc, draws)?,
@@ -119,9 +119,9 @@ fn made_columns(alloc: Global, draws: &mut Draws, target: NodeId) -> Option<Item
 }
 
 /// Prices below 9,000.
-fn made_prices(alloc: Global, draws: &mut Draws, links: u32) -> Option<Prices> {
+fn made_prices(alloc: Global, draws: &mut Draws, places: u32) -> Option<Prices> {
     let mut prices = Vec::new(alloc);
-    for _ in 0..links {
+    for _ in 0..places {
         prices.push(u128::from(draws.below(9_000))).ok()?;
     }
     Some(Prices::from_vec(prices))
@@ -142,7 +142,7 @@ pub(crate) fn made_brief(alloc: Global, inst: &Instance, draws: &mut Draws) -> O
     Some(Brief {
         node: BranchId(0),
         version: 1,
-        prices: made_prices(alloc, draws, inst.links())?,
+        prices: made_prices(alloc, draws, inst.places())?,
         columns: all_columns(alloc, draws, inst)?,
         crowd_tried: false,
         incumbent: None,

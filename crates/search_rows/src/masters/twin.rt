@@ -3,7 +3,8 @@
 ghost use Rattle.std.specs.Prelude.{◌<◌, length};
 
 use column_pool::Brief;
-use plan_base::{DemandId, Instance, Items, Link, LinkId, Path};
+use plan_base::{ArcId, DemandId, Instance, Items, Link, LinkId, Orient, Path};
+use row_networks::module_costs;
 use std::alloc::Global;
 
 /// How many trials are made.
@@ -43,72 +44,126 @@ fn at(numbers: &[i128], place: u32) -> i128 {
     numbers.get(place as usize).copied().unwrap_or(0)
 }
 
-/// The least cost of modules for a need, where those of smaller needs are known. None where no modules reach it.
-fn least_cost(link: &Link, need: u64, known: &[Option<i128>]) -> Option<i128> {
-    let mut least: Option<i128> = None;
-    for module in link.modules.as_slice() {
-        let rest = need.saturating_sub(module.capacity) as usize;
-        if let Some(Some(before)) = known.get(rest).copied() {
-            let cost = before.saturating_add(i128::try_from(module.cost).unwrap_or(0));
-            least = Some(least.unwrap_or(cost).min(cost));
-        }
-    }
-    least
+/// The loads of a link's places, the second 0 where it has one place, and what they are worth.
+#[derive(Clone, Copy)]
+struct Worth {
+    value: i128,
+    loads: [i128; 2],
 }
 
-/// The least cost of modules for each need up to the total load.
-fn module_costs(alloc: Global, link: &Link, total: u64) -> Option<Vec<Option<i128>>> {
-    let mut costs = vec![in alloc; Some(0)].ok()?;
-    for need in 1..total.saturating_add(1) {
-        let least = least_cost(link, need, &costs);
-        costs.push(least).ok()?;
-    }
-    Some(costs)
-}
-
-/// What a load costs on the link, less what the price gives for it. None where the link cannot carry it.
-fn cost_at(link: &Link, costs: &[Option<i128>], price: i128, load: u64) -> Option<i128> {
-    let need = load.saturating_sub(link.pre) as usize;
+/// What loads there and back cost on the link, less what the prices give for them. None where it cannot carry them.
+fn cost_at(
+    link: &Link,
+    costs: &[Option<i128>],
+    prices: [i128; 2],
+    loads: [u64; 2],
+) -> Option<i128> {
+    let need = loads[0].max(loads[1]).saturating_sub(link.pre) as usize;
     let modules = costs.get(need).copied().flatten()?;
-    let load = i128::from(load);
-    let routing = i128::from(link.routing).saturating_mul(load);
+    let [there, back] = [i128::from(loads[0]), i128::from(loads[1])];
+    let routing = i128::from(link.routing).saturating_mul(there.saturating_add(back));
     let cost = routing.saturating_add(modules).saturating_mul(1000);
-    Some(cost.saturating_sub(price.saturating_mul(load)))
+    let paid = prices[0].saturating_mul(there);
+    Some(cost.saturating_sub(paid.saturating_add(prices[1].saturating_mul(back))))
 }
 
-/// The value of a link at its price, and the smallest load that gives it: all loads are tried.
-fn slow_value(asked: Asked<'_>, prices: &[i128], link: LinkId) -> Option<(i128, i128)>
+/// Takes the loads there and back, where their value is less than what is found.
+fn take_loads(
+    link: &Link,
+    costs: &[Option<i128>],
+    prices: [i128; 2],
+    loads: [u64; 2],
+    best: &mut Worth,
+) {
+    if let Some(value) = cost_at(link, costs, prices, loads)
+        && value < best.value
+    {
+        *best = Worth {
+            value,
+            loads: [i128::from(loads[0]), i128::from(loads[1])],
+        };
+    }
+}
+
+/// Where the price of the first of a link's places stands.
+fn place_there(inst: &Instance, link: LinkId) -> u32 {
+    match inst.orient() {
+        Orient::Bidirected => link.0.saturating_mul(2),
+        Orient::Directed | Orient::Undirected => link.0,
+    }
+}
+
+/// The prices of a link's places, the second 0 where it has one place.
+fn prices_at(inst: &Instance, prices: &[i128], link: LinkId) -> [i128; 2] {
+    let place = place_there(inst, link);
+    match inst.orient() {
+        Orient::Bidirected => [at(prices, place), at(prices, place.saturating_add(1))],
+        Orient::Directed | Orient::Undirected => [at(prices, place), 0],
+    }
+}
+
+/// The value of a link at its prices, and of the loads that give it those whose larger one is smallest, and of these the
+/// smallest: all loads are tried.
+fn slow_value(asked: Asked<'_>, prices: &[i128], link: LinkId) -> Option<Worth>
     requires { link.0 < length asked.inst.now.links }
 {
     let total = u64::from(u32::try_from(asked.inst.total_load()).unwrap_or(0));
-    let price = at(prices, link.0);
+    let prices = prices_at(asked.inst, prices, link);
+    let is_two_way = asked.inst.orient() == Orient::Bidirected;
     let link = asked.inst.link(link);
     let costs = module_costs(asked.alloc, link, total)?;
-    let mut best = (0, 0);
-    for load in 0..total.saturating_add(1) {
-        if let Some(here) = cost_at(link, &costs, price, load)
-            && here < best.0
-        {
-            best = (here, i128::from(load));
+    let mut best = Worth {
+        value: 0,
+        loads: [0, 0],
+    };
+    for larger in 0..total.saturating_add(1) {
+        if is_two_way {
+            take_pairs(link, &costs, prices, larger, &mut best);
+        } else {
+            take_loads(link, &costs, prices, [larger, 0], &mut best);
         }
     }
     Some(best)
 }
 
+/// Takes the loads whose larger one is this, where their value is less than what is found: smaller loads there first.
+fn take_pairs(
+    link: &Link,
+    costs: &[Option<i128>],
+    prices: [i128; 2],
+    larger: u64,
+    best: &mut Worth,
+) {
+    for load in 0..larger {
+        take_loads(link, costs, prices, [load, larger], best);
+    }
+    for back in 0..larger.saturating_add(1) {
+        take_loads(link, costs, prices, [larger, back], best);
+    }
+}
+
+/// Where the price of an arc stands.
+fn place_of(inst: &Instance, arc: ArcId) -> u32 {
+    match inst.orient() {
+        Orient::Bidirected => arc.0,
+        Orient::Directed | Orient::Undirected => arc.0 / 2,
+    }
+}
+
 /// What the path costs.
-fn slow_price(path: &Path, prices: &[i128]) -> i128 {
+fn slow_price(inst: &Instance, path: &Path, prices: &[i128]) -> i128 {
     let mut total = 0i128;
     for arc in path.as_slice() {
-        total = total.saturating_add(at(prices, arc.0 / 2));
+        total = total.saturating_add(at(prices, place_of(inst, *arc)));
     }
     total
 }
 
 /// The place of the first path of least price, and that price.
-fn slow_least(paths: &[Path], prices: &[i128]) -> (usize, i128) {
+fn slow_least(inst: &Instance, paths: &[Path], prices: &[i128]) -> (usize, i128) {
     let mut least = (0, i128::MAX);
     for (place, path) in paths.iter().enumerate() {
-        let price = slow_price(path, prices);
+        let price = slow_price(inst, path, prices);
         if price < least.1 {
             least = (place, price);
         }
@@ -131,11 +186,14 @@ fn load_of(inst: &Instance, demand: DemandId) -> i128
     i128::try_from(inst.demand(demand).load).unwrap_or(0)
 }
 
-/// Whether the first path of least price goes along the link.
-fn takes(paths: &[Path], prices: &[i128], link: LinkId) -> bool {
-    let (least, _price) = slow_least(paths, prices);
+/// Whether the first path of least price has an arc whose price stands at the place.
+fn takes(inst: &Instance, paths: &[Path], prices: &[i128], place: u32) -> bool {
+    let (least, _price) = slow_least(inst, paths, prices);
     match paths.get(least) {
-        Some(path) => path.uses(link),
+        Some(path) => path
+            .as_slice()
+            .iter()
+            .any(|arc| place_of(inst, *arc) == place),
         None => false,
     }
 }
@@ -144,7 +202,7 @@ fn takes(paths: &[Path], prices: &[i128], link: LinkId) -> bool {
 fn slow_paths(asked: Asked<'_>, prices: &[i128]) -> i128 {
     let mut total = 0i128;
     for place in 0..asked.inst.demands() {
-        let (_place, price) = slow_least(list_at(asked.lists, place), prices);
+        let (_place, price) = slow_least(asked.inst, list_at(asked.lists, place), prices);
         let load = load_of(asked.inst, DemandId(place));
         total = total.saturating_add(load.saturating_mul(price));
     }
@@ -155,30 +213,35 @@ fn slow_paths(asked: Asked<'_>, prices: &[i128]) -> i128 {
 fn slow_restricted(asked: Asked<'_>, prices: &[i128]) -> Option<i128> {
     let mut total = slow_paths(asked, prices);
     for place in 0..asked.inst.links() {
-        let (value, _load) = slow_value(asked, prices, LinkId(place))?;
-        total = total.saturating_add(value);
+        let worth = slow_value(asked, prices, LinkId(place))?;
+        total = total.saturating_add(worth.value);
     }
     Some(total)
 }
 
-/// What the least paths put on a link.
-fn slow_load(asked: Asked<'_>, prices: &[i128], link: LinkId) -> i128 {
+/// What the least paths put on a place.
+fn slow_load(asked: Asked<'_>, prices: &[i128], place: u32) -> i128 {
     let mut total = 0i128;
-    for place in 0..asked.inst.demands() {
-        if takes(list_at(asked.lists, place), prices, link) {
-            total = total.saturating_add(load_of(asked.inst, DemandId(place)));
+    for demand in 0..asked.inst.demands() {
+        if takes(asked.inst, list_at(asked.lists, demand), prices, place) {
+            total = total.saturating_add(load_of(asked.inst, DemandId(demand)));
         }
     }
     total
 }
 
-/// For each link what the least paths put on it, less the load that gives its value.
+/// For each place what the least paths put on it, less the load of it that gives its link's value.
 fn slow_gaps(asked: Asked<'_>, prices: &[i128]) -> Option<Vec<i128>> {
     let mut gaps = Vec::new(asked.alloc);
-    for place in 0..asked.inst.links() {
-        let (_value, load) = slow_value(asked, prices, LinkId(place))?;
-        let put = slow_load(asked, prices, LinkId(place));
-        gaps.push(put.saturating_sub(load)).ok()?;
+    for number in 0..asked.inst.links() {
+        let worth = slow_value(asked, prices, LinkId(number))?;
+        let place = place_there(asked.inst, LinkId(number));
+        gaps.push(slow_load(asked, prices, place).saturating_sub(worth.loads[0]))
+            .ok()?;
+        if asked.inst.orient() == Orient::Bidirected {
+            let put = slow_load(asked, prices, place.saturating_add(1));
+            gaps.push(put.saturating_sub(worth.loads[1])).ok()?;
+        }
     }
     Some(gaps)
 }
@@ -192,12 +255,13 @@ fn widest_of(gaps: &[i128]) -> i128 {
     widest
 }
 
-/// The greatest price of a link that may carry load, and at least 1.
+/// The greatest price of a place of a link that may carry load, and at least 1.
 fn slow_greatest(inst: &Instance, prices: &[i128]) -> i128 {
     let mut greatest = 1;
     for link in 0..inst.links() {
         if inst.top_load(LinkId(link)) > 0 {
-            greatest = greatest.max(at(prices, link));
+            let [there, back] = prices_at(inst, prices, LinkId(link));
+            greatest = greatest.max(there).max(back);
         }
     }
     greatest

@@ -63,6 +63,7 @@ pub(crate) fn plan_with(
         nodes: 2,
         links: 1,
         demands: 1,
+        both: false,
         status,
         budget: 1000,
         examined: 1,

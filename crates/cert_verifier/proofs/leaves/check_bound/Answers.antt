@@ -17,7 +17,7 @@ pub returns-in-Some : goal.returns-in-Some
 returns-in-Some c = λ differs.
     let at = c.args.at.now in
     let fits : c.fits.result ≡ true = search rules in
-    let is = rw (c.in-Some.is, c.as_slice.ensures.value) at c.in_ok-bound.ensures.bound in
+    let is = rw c.in-Some.is at c.in_ok-bound.ensures.bound in
     let small : SFits w128 c.in-Some.bound = search rules in
     let above = rw (to_z-of_z w128 c.in-Some.bound small) at c.is_above.ensures in
     bound_decided at.inst.now at.cost (forbidden_by at.forbidden.now) at.index c.args.prices.now c.in-Some.bound c.is_above.result _ (c.fits.ensures.0 fits).1 is above c.holds_or.ensures.ok c.holds_or.ensures.broken

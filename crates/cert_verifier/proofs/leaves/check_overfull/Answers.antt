@@ -1,4 +1,7 @@
-use Rattle.std.proofs.Common.{inl, inr, refl, ◌<◌, length, arith}
+use Rattle.std.proofs.Common.{inl, inr, refl, ◌<◌, ◌≤◌, length, arith}
+use Rattle.plan_base.specs.declared.limits.TheConstants.{MAX_PLACES}
+use Rattle.plan_base.specs.Places.{places}
+use Rattle.plan_base.proofs.PlaceSums.{places-few}
 use Rattle.verifier_paths.specs.Kept.{forbidden_by}
 use Rattle.cert_verifier.specs.LeafRules.{LeafFinds}
 use Rattle.cert_verifier.specs.Routings.{design_of}
@@ -32,15 +35,17 @@ returns-in-Some c = λ differs.
     let at = c.args.at.now in
     let loads = c.loads_of_paths-loads.result in
     let only = rw c.in-Only.is at c.in_ok-only_paths.ensures.left in
-    let are_loads : AreLoadsOf at.inst.now (design_of c.in-Only.paths) loads = λ e below. c.loads_of_paths-loads.ensures.value e (omega (arith, below, c.links.ensures.lawful.link_count)) in
-    let least = rw c.requires.table at c.in-Some.ensures.least in
-    rw c.broken-in-Some.ensures (overfull_carried at.inst.now at.cost (forbidden_by at.forbidden.now) at.index c.args.link (design_of c.in-Only.paths) loads c.in-Some.field-0 (omega arith) only.1 are_loads least)
+    let few : places at.inst.now ≤ MAX_PLACES = places-few at.inst.now c.links.ensures.lawful in
+    let are_loads : AreLoadsOf at.inst.now (design_of c.in-Only.paths) loads = λ q below. c.loads_of_paths-loads.ensures.value q (omega (arith, below, few)) in
+    let least = rw (c.of_link-needed.ensures.there, c.of_link-needed.ensures.back) at c.in-Some.ensures.cost.is_least in
+    rw c.broken-in-Some.ensures (overfull_carried at.inst.now at.cost (forbidden_by at.forbidden.now) at.index c.args.link (design_of c.in-Only.paths) loads c.in-Some.ensures.cost.module_cost (omega arith) only.1 are_loads least)
 
 pub returns-in-None : goal.returns-in-None
 returns-in-None c = λ differs.
     let at = c.args.at.now in
     let loads = c.loads_of_paths-loads.result in
     let only = rw c.in-Only.is at c.in_ok-only_paths.ensures.left in
-    let are_loads : AreLoadsOf at.inst.now (design_of c.in-Only.paths) loads = λ e below. c.loads_of_paths-loads.ensures.value e (omega (arith, below, c.links.ensures.lawful.link_count)) in
-    let cannot = rw c.requires.table at c.in-None.ensures.none in
+    let few : places at.inst.now ≤ MAX_PLACES = places-few at.inst.now c.links.ensures.lawful in
+    let are_loads : AreLoadsOf at.inst.now (design_of c.in-Only.paths) loads = λ q below. c.loads_of_paths-loads.ensures.value q (omega (arith, below, few)) in
+    let cannot = rw (c.of_link-needed.ensures.there, c.of_link-needed.ensures.back) at c.in-None.ensures.none in
     overfull_found at.inst.now at.cost (forbidden_by at.forbidden.now) at.index c.args.link (design_of c.in-Only.paths) loads (omega arith) only.1 are_loads cannot

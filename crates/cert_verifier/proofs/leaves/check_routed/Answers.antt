@@ -1,4 +1,7 @@
-use Rattle.std.proofs.Common.{inl, inr, refl, arith}
+use Rattle.std.proofs.Common.{inl, inr, refl, ◌≤◌, arith}
+use Rattle.plan_base.specs.declared.limits.TheConstants.{MAX_PLACES}
+use Rattle.plan_base.specs.Places.{places}
+use Rattle.plan_base.proofs.PlaceSums.{places-few}
 use Rattle.verifier_paths.specs.Kept.{forbidden_by}
 use Rattle.cert_verifier.specs.LeafRules.{LeafFinds}
 use Rattle.cert_verifier.specs.Routings.{design_of}
@@ -23,7 +26,8 @@ returns-in-Some c = λ differs.
     let at = c.args.at.now in
     let loads = c.loads_of_paths-loads.result in
     let only = rw c.in-Only.is at c.in_ok-only_paths.ensures.left in
-    let are_loads : AreLoadsOf at.inst.now (design_of c.in-Only.paths) loads = λ e below. c.loads_of_paths-loads.ensures.value e (omega (arith, below, c.links-links.ensures.lawful.link_count)) in
+    let few : places at.inst.now ≤ MAX_PLACES = places-few at.inst.now c.lawful.ensures in
+    let are_loads : AreLoadsOf at.inst.now (design_of c.in-Only.paths) loads = λ q below. c.loads_of_paths-loads.ensures.value q (omega (arith, below, few)) in
     routed_decided at.inst.now at.cost (forbidden_by at.forbidden.now) at.index (design_of c.in-Only.paths) loads c.in-Some.total c.costs_enough.result _ only.1 are_loads c.in-Some.ensures.cost c.costs_enough.ensures
     c.holds_or.ensures.ok c.holds_or.ensures.broken
 
@@ -32,5 +36,6 @@ returns-in-None c = λ differs.
     let at = c.args.at.now in
     let loads = c.loads_of_paths-loads.result in
     let only = rw c.in-Only.is at c.in_ok-only_paths.ensures.left in
-    let are_loads : AreLoadsOf at.inst.now (design_of c.in-Only.paths) loads = λ e below. c.loads_of_paths-loads.ensures.value e (omega (arith, below, c.links-links.ensures.lawful.link_count)) in
+    let few : places at.inst.now ≤ MAX_PLACES = places-few at.inst.now c.lawful.ensures in
+    let are_loads : AreLoadsOf at.inst.now (design_of c.in-Only.paths) loads = λ q below. c.loads_of_paths-loads.ensures.value q (omega (arith, below, few)) in
     rw c.broken-in-None.ensures (routed_overfull at.inst.now at.cost (forbidden_by at.forbidden.now) at.index (design_of c.in-Only.paths) loads only.1 are_loads c.in-None.ensures.none)

@@ -1,4 +1,4 @@
-use Rattle.std.proofs.Common.{ℕ, Option, List, IfSome, IfNone, subst, arith}
+use Rattle.std.proofs.Common.{ℕ, max, Option, List, IfSome, IfNone, subst, arith}
 use Rattle.plan_base.specs.declared.parts.Parts.{Parts}
 use Rattle.plan_base.specs.Arcs.{link_at}
 use Rattle.plan_base.specs.Designs.{AreCountsInShape}
@@ -7,20 +7,24 @@ use Rattle.completions.proofs.CompletionLaws.{link-completed}
 use Rattle.completions.proofs.completing.complete_link.Goals as goal
 
 pub returns-in_default-clause-none : goal.returns-in_default-clause-none
-returns-in_default-clause-none c = subst (λ (p : Parts). CannotCarry (link_at p c.args.link.0) c.args.load) c.requires.table c.in_default.ensures.none
+returns-in_default-clause-none c =
+    let none = rw c.need-need.ensures at c.in_default.ensures.none in
+    subst (λ (p : Parts). CannotCarry p c.args.link.0 (max c.args.loads.there c.args.loads.back)) c.requires.table none
 
 pub returns-clause-some : goal.returns-clause-some
 returns-clause-some c =
     let e = c.args.link.0 in
-    let load = c.args.load in
+    let there = c.args.loads.there in
+    let back = c.args.loads.back in
     let modules = c.in-Some.modules in
     let counts = c.in-Some-2.counts in
     let table = c.args.table.now in
-    let counted = subst (λ (found : Option (List ℕ)). IfSome found (AreLeastCounts (link_at table e) load)) c.in-Some-2.is c.in_ok-counts.ensures.least in
+    let counted = subst (λ (found : Option (List ℕ)). IfSome found (AreLeastCounts table e (max there back))) c.in-Some-2.is (rw c.need-need.ensures at c.in_ok-counts.ensures.least) in
     let in_shape = subst (λ (found : Option (List ℕ)). IfSome found (AreCountsInShape (link_at table e))) c.in-Some-2.is c.in_ok-counts.ensures.in_shape in
-    link-completed (link_at c.args.inst.now e) load c.routing_cost.result modules counts c.routing_cost.ensures.value
-    (subst (λ (p : Parts). IsLeastModuleCost (link_at p e) load modules) c.requires.table c.in-Some.ensures.least)
-    (subst (λ (p : Parts). AreLeastCounts (link_at p e) load counts) c.requires.table counted)
+    let least = rw c.need-need.ensures at c.in-Some.ensures.least in
+    link-completed c.args.inst.now e there back c.routing_cost.result modules counts c.routing_cost.ensures.value
+    (subst (λ (p : Parts). IsLeastModuleCost p e (max there back) modules) c.requires.table least)
+    (subst (λ (p : Parts). AreLeastCounts p e (max there back) counts) c.requires.table counted)
     (subst (λ (p : Parts). AreCountsInShape (link_at p e) counts) c.requires.table in_shape)
 
 pub returns-clause-within : goal.returns-clause-within
@@ -30,17 +34,17 @@ pub at-requires-clause-link : goal.at-requires-clause-link
 at-requires-clause-link c = rw c.requires.table c.requires.link
 
 pub at-requires-clause-load : goal.at-requires-clause-load
-at-requires-clause-load c = rw c.requires.table c.requires.load
+at-requires-clause-load c = rw (c.requires.table, c.need-need.ensures) c.requires.need
 
 pub counts-requires-clause-link : goal.counts-requires-clause-link
 counts-requires-clause-link c = rw c.requires.table c.requires.link
 
 pub counts-requires-clause-load : goal.counts-requires-clause-load
-counts-requires-clause-load c = rw c.requires.table c.requires.load
+counts-requires-clause-load c = rw (c.requires.table, c.need-need.ensures) c.requires.need
 
 pub returns-in_default-2-clause-none : goal.returns-in_default-2-clause-none
 returns-in_default-2-clause-none c =
     let e = c.args.link.0 in
-    let load = c.args.load in
-    let none = subst (λ (found : Option (List ℕ)). IfNone found (CannotCarry (link_at c.args.table.now e) load)) c.in_default-2.is c.in_ok-counts.ensures.none in
-    subst (λ (p : Parts). CannotCarry (link_at p e) load) c.requires.table none
+    let load = max c.args.loads.there c.args.loads.back in
+    let none = subst (λ (found : Option (List ℕ)). IfNone found (CannotCarry c.args.table.now e load)) c.in_default-2.is (rw c.need-need.ensures at c.in_ok-counts.ensures.none) in
+    subst (λ (p : Parts). CannotCarry p e load) c.requires.table none

@@ -1,33 +1,33 @@
-use Rattle.std.proofs.Common.{ℕ, ◌≡◌, ◌≤◌, Option, List, IfSome, IfNone, length, slice_index, subst, arith}
-use Rattle.plan_base.specs.Arcs.{link_at}
-use Rattle.plan_base.specs.Designs.{load_on}
+use Rattle.std.proofs.Common.{ℕ, ◌≡◌, ◌≤◌, max, Option, List, IfSome, IfNone, length, subst, arith}
 use Rattle.link_steps.specs.Costs.{CannotCarry}
 use Rattle.completions.specs.declared.completing.TheConstants.{LINK_COST_BOUND}
 use Rattle.completions.specs.Links.{IsLinkCompletion, AreCompletedTo}
-use Rattle.completions.proofs.CompletionLaws.{overfull-found, completed-more}
+use Rattle.completions.proofs.CompletionLaws.{HasLoads, loads-read, overfull-found, completed-more}
 use Rattle.completions.proofs.completing.complete_links.Goals as goal
 
 pub returns-in_default-clause-none : goal.returns-in_default-clause-none
 returns-in_default-clause-none c =
     let p = c.args.inst.now in
     let e = c.loop-place.place in
-    let load = slice_index c.loads_of-loads.result e in
-    let same : load ≡ load_on p c.args.design.now e = c.loads_of-loads.ensures.value e (omega arith) in
-    overfull-found p c.args.design.now e load (omega arith) same
-    (subst (λ (found : Option (ℕ × List ℕ)). IfNone found (CannotCarry (link_at p e) load)) c.in_default.is c.in_ok-least.ensures.none)
+    let held : HasLoads p c.args.design.now e c.of_link-held.result.there c.of_link-held.result.back =
+    loads-read p c.args.design.now e c.of_link-held.result.there c.of_link-held.result.back c.loads_of-loads.result c.links-place-end.ensures.lawful (omega arith) c.loads_of-loads.ensures.value c.of_link-held.ensures.there c.of_link-held.ensures.back in
+    overfull-found p c.args.design.now e c.of_link-held.result.there c.of_link-held.result.back (omega arith) held
+    (subst (λ (found : Option (ℕ × List ℕ)). IfNone found (CannotCarry p e (max c.of_link-held.result.there c.of_link-held.result.back))) c.in_default.is c.in_ok-least.ensures.none)
 
 pub loop-place-preserved : goal.loop-place-preserved
 loop-place-preserved c =
     let p = c.args.inst.now in
     let e = c.loop-place.place in
-    let load = slice_index c.loads_of-loads.result e in
-    let same : load ≡ load_on p c.args.design.now e = c.loads_of-loads.ensures.value e (omega arith) in
-    let here : IsLinkCompletion (link_at p e) load c.in-Some.least c.in-Some.counts =
-    subst (λ (found : Option (ℕ × List ℕ)). IfSome found (λ done. IsLinkCompletion (link_at p e) load done.0 done.1)) c.in-Some.is c.in_ok-least.ensures.some in
+    let there = c.of_link-held.result.there in
+    let back = c.of_link-held.result.back in
+    let held : HasLoads p c.args.design.now e there back =
+    loads-read p c.args.design.now e there back c.loads_of-loads.result c.links-place-end.ensures.lawful (omega arith) c.loads_of-loads.ensures.value c.of_link-held.ensures.there c.of_link-held.ensures.back in
+    let here : IsLinkCompletion p e there back c.in-Some.least c.in-Some.counts =
+    subst (λ (found : Option (ℕ × List ℕ)). IfSome found (λ done. IsLinkCompletion p e there back done.0 done.1)) c.in-Some.is c.in_ok-least.ensures.some in
     let small : c.in-Some.least ≤ LINK_COST_BOUND =
     subst (λ (found : Option (ℕ × List ℕ)). IfSome found (λ done. done.0 ≤ LINK_COST_BOUND)) c.in-Some.is c.in_ok-least.ensures.within in
     record {
-      done = rw c.in_ok-push.ensures.items (completed-more p c.args.design.now e c.loop-place.cost load c.in-Some.least c.loop-place.all.items c.in-Some.counts same c.loop-place.invariant.done here);
+      done = rw c.in_ok-push.ensures.items (completed-more p c.args.design.now e c.loop-place.cost there back c.in-Some.least c.loop-place.all.items c.in-Some.counts (omega arith) held c.loop-place.invariant.done here);
       within = omega (arith, c.loop-place.invariant.within, small);
     }
 

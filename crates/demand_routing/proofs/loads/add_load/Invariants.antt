@@ -1,7 +1,7 @@
 use Rattle.std.proofs.Common.{ℕ, ◌≡◌, ◌<◌, ◌+◌, ◌*◌, ◌-◌, ◌^◌, min, slice_index, take}
-use Rattle.plan_base.specs.declared.limits.TheConstants.{MAX_LINKS}
+use Rattle.plan_base.specs.declared.limits.TheConstants.{MAX_PLACES}
 use Rattle.demand_routing.specs.Traffic.{arcs_along}
 use Rattle.demand_routing.proofs.loads.add_load.Given as goal
 
 abbrev pub invariant-loop-arc : goal.invariant-loop-arc
-invariant-loop-arc l = (e : ℕ) → e < MAX_LINKS → slice_index l.loads e ≡ min (slice_index l.initial.loads e + arcs_along e (take l.arc-index l.arcs) * l.load) (2 ^ 128 - 1)
+invariant-loop-arc l = (q : ℕ) → q < MAX_PLACES → slice_index l.loads q ≡ min (slice_index l.initial.loads q + arcs_along l.inst q (take l.arc-index l.arcs) * l.load) (2 ^ 128 - 1)

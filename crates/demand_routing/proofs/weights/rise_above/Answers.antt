@@ -1,25 +1,25 @@
-use Rattle.std.proofs.Common.{◌≡◌, ◌+◌, subst, arith}
-use Rattle.plan_base.specs.Arcs.{link_at}
-use Rattle.link_steps.specs.Costs.{CannotCarry, IsStepCost}
+use Rattle.std.proofs.Common.{◌<◌, slice_index, arith}
+use Rattle.plan_base.specs.Facts.{total_load}
+use Rattle.plan_base.specs.Places.{link_of_place}
+use Rattle.demand_routing.specs.Traffic.{with_more}
+use Rattle.demand_routing.proofs.Rises.{too_much-cut, rise-cut}
 use Rattle.demand_routing.proofs.weights.rise_above.Goals as goal
 
 pub returns-in_err-after-clause-value : goal.returns-in_err-after-clause-value
 returns-in_err-after-clause-value c =
-    rw c.from_residual.ensures (λ within.
-    let same : c.saturating_add.result ≡ c.args.carried + c.args.load = omega (arith, c.saturating_add.ensures, within, c.requires.lawful.total) in
-    subst (CannotCarry (link_at c.args.inst.now c.args.link.0)) same (c.in_err-after.ensures.none (omega (arith, same, within))))
+    let p = c.args.inst.now in
+    let f = slice_index c.args.loads.now in
+    let none = rw c.link_of_place-link.ensures.value at c.in_err-after.ensures.none in
+    let above : total_load p < 340282366920938463463374607431768211455 = omega (arith, c.requires.lawful.total) in
+    rw c.from_residual.ensures (too_much-cut p (with_more f c.args.place c.args.load) (link_of_place p c.args.place) c.loads_with-more.result.there c.loads_with-more.result.back 340282366920938463463374607431768211455 above c.loads_with-more.ensures.there c.loads_with-more.ensures.back none)
 
 pub returns-clause-value : goal.returns-clause-value
 returns-clause-value c =
-    let same : c.saturating_add.result ≡ c.args.carried + c.args.load = omega (arith, c.saturating_add.ensures, c.in_ok-after.ensures.load, c.requires.lawful.total) in
-    record {
-      before = c.args.before.cost;
-      after = c.in_ok-after.after.cost;
-      within = omega (arith, same, c.in_ok-after.ensures.load);
-      costs_before = c.requires.before;
-      costs_after = subst (λ load. IsStepCost (link_at c.args.inst.now c.args.link.0) load c.in_ok-after.after.cost) same c.in_ok-after.ensures.some;
-      is_rise = c.saturating_sub.ensures;
-    }
+    let p = c.args.inst.now in
+    let f = slice_index c.args.loads.now in
+    let after = rw c.link_of_place-link.ensures.value at c.in_ok-after.ensures.some in
+    let above : total_load p < 340282366920938463463374607431768211455 = omega (arith, c.requires.lawful.total) in
+    rw c.saturating_sub.ensures (rise-cut p f c.args.place c.args.load c.loads_with-more.result.there c.loads_with-more.result.back c.args.before.cost c.in_ok-after.after.cost 340282366920938463463374607431768211455 above c.loads_with-more.ensures.there c.loads_with-more.ensures.back c.in_ok-after.ensures.load c.requires.before after)
 
 pub returns-clause-within : goal.returns-clause-within
 returns-clause-within c = omega (arith, c.saturating_sub.ensures, c.in_ok-after.ensures.within)

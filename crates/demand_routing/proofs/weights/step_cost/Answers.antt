@@ -1,6 +1,5 @@
-use Rattle.std.proofs.Common.{subst, arith}
+use Rattle.std.proofs.Common.{max, subst, arith}
 use Rattle.plan_base.specs.declared.parts.Parts.{Parts}
-use Rattle.plan_base.specs.Arcs.{link_at}
 use Rattle.link_steps.specs.Costs.{IsLeastModuleCost}
 use Rattle.demand_routing.proofs.weights.step_cost.Goals as goal
 
@@ -9,7 +8,7 @@ returns-clause-some c =
     let modules = c.in_ok-modules.modules.cost in
     record {
       module_cost = modules;
-      is_least = subst (λ (p : Parts). IsLeastModuleCost (link_at p c.args.link.0) c.args.load modules) c.requires.table c.in_ok-modules.ensures.least;
+      is_least = subst (λ (p : Parts). IsLeastModuleCost p c.args.link.0 (max c.args.loads.there c.args.loads.back) modules) c.requires.table (rw c.need-larger.ensures at c.in_ok-modules.ensures.least);
       is_sum = omega (arith, c.routing_cost.ensures.value);
     }
 

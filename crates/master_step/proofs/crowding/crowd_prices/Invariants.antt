@@ -5,5 +5,5 @@ use Rattle.master_step.proofs.crowding.crowd_prices.Given as goal
 abbrev pub invariant-loop-place : goal.invariant-loop-place
 invariant-loop-place l = record {
   count : length l.numerators.items ≡ l.place;
-  each : (e : ℕ) → e < l.place → slice_index l.numerators.items e ≡ crowd_price l.inst l.prices e;
+  each : (q : ℕ) → q < l.place → slice_index l.numerators.items q ≡ crowd_price l.inst l.prices q;
 }

@@ -1,16 +1,17 @@
 use Rattle.std.proofs.Common.{◌≡◌, ◌≤◌, ◌<◌, ℕ, List, Vec, Global, length, slice_index, get_or, sym, ap, subst, ◌∙◌, arith}
 use Rattle.std.proofs.lemmas.List.{get_or_read, length-set}
 use Rattle.plan_base.specs.Facts.{price_limit, total_load}
+use Rattle.plan_base.specs.Places.{places}
 use Rattle.master_step.specs.Trials.{moved, apart}
 use Rattle.master_step.proofs.SmallPrices.{product-within}
-use Rattle.master_step.proofs.LinkLoads.{row-next}
+use Rattle.master_step.proofs.PlaceLoads.{row-next}
 use Rattle.master_step.proofs.gaps.set_trial.Goals as goal
 
 pub moved-price-requires-clause-product : goal.moved-price-requires-clause-product
 moved-price-requires-clause-product c =
     let p = c.args.inst.now in
     let place = c.loop-place.place in
-    let here : place < length p.links = omega (arith, c.loop-place-test.true, c.as_slice-price-items.ensures.len, c.requires.count) in
+    let here : place < places p = omega (arith, c.loop-place-test.true, c.as_slice-price-items.ensures.len, c.requires.count) in
     let columns = get_or_read c.args.rows.now.column_loads.items place c.index-columns.result.now (omega (arith, here, c.requires.room.columns, c.requires.room.few))
     (subst (λ (v : Vec ℕ Global). c.index-columns.result.now ≡ get_or v.items place c.index-columns.result.now) c.loop-place.invariant.columns c.index-columns.ensures) 0 in
     let values = get_or_read c.args.rows.now.value_loads.items place c.index-value.result.now (omega (arith, here, c.requires.room.values, c.requires.room.few))
@@ -23,7 +24,7 @@ pub loop-place-preserved : goal.loop-place-preserved
 loop-place-preserved c =
     let p = c.args.inst.now in
     let place = c.loop-place.place in
-    let here : place < length p.links = omega (arith, c.loop-place-test.true, c.as_slice-price-items.ensures.len, c.requires.count) in
+    let here : place < places p = omega (arith, c.loop-place-test.true, c.as_slice-price-items.ensures.len, c.requires.count) in
     let columns : c.index-columns.result.now ≡ slice_index c.args.rows.now.column_loads.items place =
     get_or_read c.args.rows.now.column_loads.items place c.index-columns.result.now (omega (arith, here, c.requires.room.columns, c.requires.room.few))
     (subst (λ (v : Vec ℕ Global). c.index-columns.result.now ≡ get_or v.items place c.index-columns.result.now) c.loop-place.invariant.columns c.index-columns.ensures) 0 in
@@ -42,8 +43,8 @@ loop-place-preserved c =
       columns = c.loop-place.invariant.columns;
       values = c.loop-place.invariant.values;
       count = ap length c.put.ensures ∙ length-set c.loop-place.rows.trial place c.moved-price.result ∙ c.loop-place.invariant.count;
-      each = λ e below. subst (λ (xs : List ℕ). slice_index xs e ≡ moved (price_limit p) c.args.greatest c.args.divisor (slice_index c.args.rows.now.column_loads.items e) (slice_index c.args.rows.now.value_loads.items e) (slice_index c.args.prices.now e)) (sym c.put.ensures)
-          (row-next (λ i x. x ≡ moved (price_limit p) c.args.greatest c.args.divisor (slice_index c.args.rows.now.column_loads.items i) (slice_index c.args.rows.now.value_loads.items i) (slice_index c.args.prices.now i)) c.loop-place.rows.trial place c.moved-price.result within c.loop-place.invariant.each value e below);
-      within = λ e below. subst (λ (xs : List ℕ). slice_index xs e ≤ price_limit p) (sym c.put.ensures)
-          (row-next (λ i x. x ≤ price_limit p) c.loop-place.rows.trial place c.moved-price.result within c.loop-place.invariant.within low e below);
+      each = λ q below. subst (λ (xs : List ℕ). slice_index xs q ≡ moved (price_limit p) c.args.greatest c.args.divisor (slice_index c.args.rows.now.column_loads.items q) (slice_index c.args.rows.now.value_loads.items q) (slice_index c.args.prices.now q)) (sym c.put.ensures)
+          (row-next (λ i x. x ≡ moved (price_limit p) c.args.greatest c.args.divisor (slice_index c.args.rows.now.column_loads.items i) (slice_index c.args.rows.now.value_loads.items i) (slice_index c.args.prices.now i)) c.loop-place.rows.trial place c.moved-price.result within c.loop-place.invariant.each value q below);
+      within = λ q below. subst (λ (xs : List ℕ). slice_index xs q ≤ price_limit p) (sym c.put.ensures)
+          (row-next (λ i x. x ≤ price_limit p) c.loop-place.rows.trial place c.moved-price.result within c.loop-place.invariant.within low q below);
     }

@@ -1,5 +1,6 @@
 use Rattle.std.proofs.Common.{ℕ, ◌≡◌, ◌<◌, ◌≤◌, slice_index, length}
 use Rattle.plan_base.specs.Facts.{price_limit}
+use Rattle.plan_base.specs.Places.{places}
 use Rattle.master_step.specs.Trials.{moved}
 use Rattle.master_step.proofs.gaps.set_trial.Given as goal
 
@@ -7,8 +8,8 @@ abbrev pub invariant-loop-place : goal.invariant-loop-place
 invariant-loop-place l = record {
   columns : l.rows.column_loads ≡ l.initial.rows.column_loads;
   values : l.rows.value_loads ≡ l.initial.rows.value_loads;
-  count : length l.rows.trial ≡ length l.inst.links;
-  each : (e : ℕ) → e < l.place → slice_index l.rows.trial e
-      ≡ moved (price_limit l.inst) l.greatest l.divisor (slice_index l.initial.rows.column_loads.items e) (slice_index l.initial.rows.value_loads.items e) (slice_index l.prices e);
-  within : (e : ℕ) → e < l.place → slice_index l.rows.trial e ≤ price_limit l.inst;
+  count : length l.rows.trial ≡ places l.inst;
+  each : (q : ℕ) → q < l.place → slice_index l.rows.trial q
+      ≡ moved (price_limit l.inst) l.greatest l.divisor (slice_index l.initial.rows.column_loads.items q) (slice_index l.initial.rows.value_loads.items q) (slice_index l.prices q);
+  within : (q : ℕ) → q < l.place → slice_index l.rows.trial q ≤ price_limit l.inst;
 }

@@ -5,6 +5,6 @@ use Rattle.master_step.proofs.gaps.widest_gap.Given as goal
 
 abbrev pub invariant-loop-place : goal.invariant-loop-place
 invariant-loop-place l = record {
-  value : l.widest ≡ max_below (λ e. apart (slice_index l.rows.column_loads.items e) (slice_index l.rows.value_loads.items e)) l.place;
+  value : l.widest ≡ max_below (λ q. apart (slice_index l.rows.column_loads.items q) (slice_index l.rows.value_loads.items q)) l.place;
   within : l.widest ≤ total_load l.inst;
 }

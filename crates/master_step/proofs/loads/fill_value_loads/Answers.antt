@@ -1,22 +1,32 @@
-use Rattle.std.proofs.Common.{◌<◌, ◌≤◌, length, slice_index, sym, subst, arith}
-use Rattle.plan_base.specs.Facts.{total_load}
+use Rattle.std.proofs.Common.{◌≡◌, inl, inr, length, slice_index, arith}
 use Rattle.plan_base.specs.Arcs.{link_at}
-use Rattle.plan_base.proofs.TopLoads.{top-le}
-use Rattle.master_step.specs.Trials.{IsValueLoad}
-use Rattle.master_step.proofs.LinkLoads.{row-next}
+use Rattle.plan_base.specs.Places.{there_of, back_of}
+use Rattle.link_steps.proofs.Order.{before_or_last}
+use Rattle.master_step.specs.Trials.{HasValueLoads, AreValueLoads}
+use Rattle.master_step.proofs.PlaceLaws.{values-low}
 use Rattle.master_step.proofs.loads.fill_value_loads.Goals as goal
 
-pub loop-place-preserved : goal.loop-place-preserved
-loop-place-preserved c =
+pub loop-number-preserved : goal.loop-number-preserved
+loop-number-preserved c =
     let p = c.args.inst.now in
-    let place = c.loop-place.place in
-    let within : place < length c.loop-place.loads = omega (arith, c.loop-place-test.true, c.as_slice-price-items.ensures.len, c.requires.price_count, c.requires.size, c.links-links.ensures.lawful.link_count, c.loop-place.auto.loads) in
-    let value = rw (c.requires.table, c.as_slice-price-items.ensures.value) at c.link_value.ensures.value in
-    let load = rw (c.requires.table, c.as_slice-price-items.ensures.value) at c.link_value.ensures.load in
-    let here : IsValueLoad p (link_at p place) (slice_index c.args.prices.now place) c.from.result =
-    subst (IsValueLoad p (link_at p place) (slice_index c.args.prices.now place)) (sym c.from.ensures) (record { value = c.link_value.result.value; is_value = value; is_first = load }) in
-    let low : c.from.result ≤ total_load p = omega (arith, c.from.ensures, (rw c.requires.table at c.link_value.ensures.load_within), top-le p (link_at p place)) in
+    let n = c.loop-number.number in
+    let prices = c.args.prices.now in
+    let value = rw (c.requires.table, c.of_link-priced.ensures.there, c.of_link-priced.ensures.back) at c.link_value-found.ensures.value in
+    let loads = rw (c.requires.table, c.of_link-priced.ensures.there, c.of_link-priced.ensures.back) at c.link_value-found.ensures.loads in
+    let here : HasValueLoads p (link_at p n) (there_of p (slice_index prices) n) (back_of p (slice_index prices) n) c.link_value-found.result.load c.link_value-found.result.back =
+    record { value = c.link_value-found.result.value; is_value = value; are_first = loads } in
     record {
-      value = row-next (λ e load. IsValueLoad p (link_at p e) (slice_index c.args.prices.now e) load) c.loop-place.loads place c.from.result within c.loop-place.invariant.value here;
-      within = row-next (λ e load. load ≤ total_load p) c.loop-place.loads place c.from.result within c.loop-place.invariant.within low;
+      size = c.put_loads.ensures.size;
+      value = λ e below. elim (before_or_last e n below) [
+        | inl old ↦ rw (c.put_loads.ensures.there_before e old, c.put_loads.ensures.back_before e old) (c.loop-number.invariant.value e old)
+        | inr new ↦ rw (new, c.put_loads.ensures.there, c.put_loads.ensures.back, c.from.ensures, c.from-in-loop-number.ensures) here
+      ];
     }
+
+pub returns-clause-within : goal.returns-clause-within
+returns-clause-within c =
+    let p = c.args.inst.now in
+    let all : c.loop-number.number ≡ length p.links = omega arith in
+    let loads : AreValueLoads p c.args.prices.now (slice_index c.loop-number.loads) =
+    rw all at c.loop-number.invariant.value in
+    values-low p c.args.prices.now (slice_index c.loop-number.loads) loads

@@ -6,4 +6,4 @@ use Rattle.master_step.specs.Choosing.{allowed_of}
 use Rattle.master_step.proofs.valuing.column_total.Given as goal
 
 abbrev pub invariant-loop-place : goal.invariant-loop-place
-invariant-loop-place l = l.total ≡ sum_below (λ k. (demand_at l.inst k).load * least_price l.prices (allowed_of l.source k)) l.place
+invariant-loop-place l = l.total ≡ sum_below (λ k. (demand_at l.inst k).load * least_price l.inst l.prices (allowed_of l.source k)) l.place

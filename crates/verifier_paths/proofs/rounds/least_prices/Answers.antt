@@ -18,7 +18,7 @@ loop-round-init c =
     let within = subst (λ (x : Demand). x.source.0 < p.nodes) c.demand.ensures.value c.demand.ensures.lawful.source in (
       c.in_ok-new.ensures.items ∙ c.deref.ensures.value,
       omega arith,
-      subst (AreLeastWithin p takes (price_of c.args.prices.now) d.source.0 0) (sym is) (first_least p takes c.args.prices.now d.source.0 within),
+      subst (AreLeastWithin p takes (price_of p c.args.prices.now) d.source.0 0) (sym is) (first_least p takes c.args.prices.now d.source.0 within),
     )
 
 pub relax_all-requires-clause-small : goal.relax_all-requires-clause-small
@@ -33,7 +33,7 @@ pub returns-then-are_same-clause-least : goal.returns-then-are_same-clause-least
 returns-then-are_same-clause-least c =
     let p = c.args.ways.now.inst.now in
     let takes = may_take p (forbidden_by c.args.ways.now.forbidden.now) c.args.ways.now.demand.0 c.args.ways.now.left_out in
-    let cost = price_of c.args.prices.now in
+    let cost = price_of p c.args.prices.now in
     let old = c.loop-round.old.items in
     let same : old ≡ c.relax_all.new.new.items = sym c.deref-in-loop-round-2.ensures.value ∙ c.are_same.ensures c.if-are_same.true ∙ c.deref-in-loop-round-3.ensures.value in
     let round = subst (λ (xs : List (Option ℕ)). IsRound p takes cost xs c.relax_all.new.new.items) c.deref-in-loop-round.ensures.value c.relax_all.ensures.round in
@@ -45,7 +45,7 @@ pub loop-round-preserved : goal.loop-round-preserved
 loop-round-preserved c =
     let p = c.args.ways.now.inst.now in
     let takes = may_take p (forbidden_by c.args.ways.now.forbidden.now) c.args.ways.now.demand.0 c.args.ways.now.left_out in
-    let cost = price_of c.args.prices.now in
+    let cost = price_of p c.args.prices.now in
     let source = (demand_at p c.args.ways.now.demand.0).source.0 in
     let new = c.relax_all.new.new.items in
     let is : c.replace_prices.new.prices.items ≡ new = c.replace_prices.ensures ∙ c.deref-in-loop-round-4.ensures.value in
@@ -63,7 +63,7 @@ returns-clause-least c =
     let r = forbidden_by c.args.ways.now.forbidden.now in
     let k = c.args.ways.now.demand.0 in
     let within = subst (λ (x : Demand). x.source.0 < p.nodes) c.demand.ensures.value c.demand.ensures.lawful.source in
-    rounds_done p (may_take p r k c.args.ways.now.left_out) c.args.prices.now (demand_at p k).source (c.loop-round._round - 1) c.loop-round.old.items c.links-links.ensures.lawful
+    rounds_done p (may_take p r k c.args.ways.now.left_out) c.args.prices.now (demand_at p k).source (c.loop-round._round - 1) c.loop-round.old.items c.lawful.ensures
     (takes_arcs p r k c.args.ways.now.left_out) within
     (omega (arith, c.nodes-nodes.ensures.value, c.loop-round-test.false, c.loop-round.invariant.1))
     (omega (arith, c.nodes-nodes.ensures.value, c.loop-round.auto._round-end, c.loop-round.invariant.1))

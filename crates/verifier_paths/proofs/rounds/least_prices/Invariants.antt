@@ -11,4 +11,4 @@ invariant-loop-round l =
     (l.new.items ≡ l.old.items)
     × (1 ≤ l._round)
     × AreLeastWithin l.ways.inst.now (may_take l.ways.inst.now (forbidden_by l.ways.forbidden.now) l.ways.demand.0 l.ways.left_out)
-    (price_of l.prices) (demand_at l.ways.inst.now l.ways.demand.0).source.0 (l._round - 1) l.old.items
+    (price_of l.ways.inst.now l.prices) (demand_at l.ways.inst.now l.ways.demand.0).source.0 (l._round - 1) l.old.items

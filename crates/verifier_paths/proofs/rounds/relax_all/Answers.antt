@@ -16,7 +16,7 @@ loop-arc-preserved c =
     let place = c.loop-arc.arc in (
       c.relax_arc.ensures.count ∙ c.loop-arc.invariant.0,
       offered-more p (may_take p r k out) c.args.prices.now c.args.old.now place c.loop-arc.new.items c.relax_arc.new.new.items
-          (λ taken. let inside = head-within p (record { 0 = place }) c.links-arc-end.ensures.lawful (takes_arcs p r k out (record { 0 = place }) taken) in omega (arith, inside, c.loop-arc.invariant.0, c.requires.old))
+          (λ taken. let inside = head-within p (record { 0 = place }) c.arcs-arc-end.ensures.lawful (takes_arcs p r k out (record { 0 = place }) taken) in omega (arith, inside, c.loop-arc.invariant.0, c.requires.old))
           c.relax_arc.ensures.relaxed
           c.loop-arc.invariant.1,
     )
@@ -28,6 +28,6 @@ returns-clause-round c =
     let k = c.args.ways.now.demand.0 in
     let out = c.args.ways.now.left_out in
     let end : c.loop-arc.arc ≡ 2 * length p.links = search rules in
-    round_law p (may_take p r k out) c.args.prices.now c.args.old.now c.loop-arc.new.items c.links-arc-end.ensures.lawful (takes_arcs p r k out)
+    round_law p (may_take p r k out) c.args.prices.now c.args.old.now c.loop-arc.new.items c.arcs-arc-end.ensures.lawful (takes_arcs p r k out)
     c.loop-arc.invariant.0
     (subst (λ n. AreOffered p (may_take p r k out) c.args.prices.now c.args.old.now n c.loop-arc.new.items) end c.loop-arc.invariant.1)

@@ -1,6 +1,6 @@
 use Rattle.std.proofs.Common.{◌≡◌, false, List, Bool, subst, sym, arith, rules, replicate}
 use Rattle.std.proofs.lemmas.List.{get_or-replicate}
-use Rattle.plan_base.specs.declared.limits.TheConstants.{MAX_LINKS}
+use Rattle.plan_base.specs.declared.limits.TheConstants.{MAX_PLACES}
 use Rattle.demand_routing.specs.Routings.{AreLoads}
 use Rattle.demand_routing.proofs.RoutingLaws.{loads-none}
 use Rattle.demand_routing.proofs.routing.Routing.new.Goals as goal
@@ -14,6 +14,6 @@ returns-clause-routing c =
       marks = omega (arith, c.in_ok-vec.ensures.len, c.demands.ensures.value);
       loads =
           subst (AreLoads p c.args.paths.items c.in_ok-vec.field-0.items) (sym c.in_ok-new.ensures.ok)
-          (subst (λ (laid : List Bool). AreLoads p c.args.paths.items laid (replicate MAX_LINKS 0)) (sym items) (loads-none p c.args.paths.items c.demands.result (replicate MAX_LINKS 0) c.demands.ensures.value (λ e below. get_or-replicate MAX_LINKS e 0 0 below)));
+          (subst (λ (laid : List Bool). AreLoads p c.args.paths.items laid (replicate MAX_PLACES 0)) (sym items) (loads-none p c.args.paths.items c.demands.result (replicate MAX_PLACES 0) c.demands.ensures.value (λ e below. get_or-replicate MAX_PLACES e 0 0 below)));
       weights = c.in_ok-no_weights.ensures;
     }

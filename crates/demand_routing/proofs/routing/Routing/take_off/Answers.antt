@@ -25,6 +25,6 @@ returns-clause-routing c =
     record {
       paths = are.paths;
       marks = length-set laid k false ∙ are.marks;
-      loads = loads-off p paths laid c.deref_mut.result.now c.remove_load.new.loads k c.demand.result.now.load c.as_slice-arcs.result.now c.demands-demands.ensures.lawful are.paths c.requires.demand are.marks load path loads on c.remove_load.ensures;
+      loads = loads-off p paths laid c.deref_mut.result.now c.remove_load.new.loads k c.demand.result.now.load c.as_slice-arcs.result.now c.lawful.ensures are.paths c.requires.demand are.marks load path loads on c.remove_load.ensures;
       weights = are.weights;
     }

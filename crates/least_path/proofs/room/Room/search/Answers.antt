@@ -47,4 +47,4 @@ returns-clause-path c =
     let near = subst (λ (found : Option Stop). IfSome found (IsNearest ls)) c.in-Some.is c.in_ok-found.ensures.nearest in
     let at_target = subst (λ (found : Option Stop). IfSome found (λ last. last.node.0 ≡ t.0)) c.in-Some.is c.in_ok-found.ensures.at_target in
     subst (λ (arcs : List ArcId). IsLeastPath p ws s t arcs stop.label.length) (sym (c.in_ok-self-inside.ensures ∙ ap (λ (x : Labels). way p x stop.label.steps stop.label) c.deref.ensures.value))
-    (found-path p ws s t ls stop c.links.ensures.lawful c.in_ok-found.ensures.search near at_target)
+    (found-path p ws s t ls stop c.arcs.ensures.lawful c.in_ok-found.ensures.search near at_target)

@@ -2,7 +2,7 @@ use Rattle.least_path.proofs.TreeLaws.{all-settled}
 use Rattle.least_path.proofs.tree.Tree.grow.Goals as goal
 
 pub reach-requires-clause-lawful : goal.reach-requires-clause-lawful
-reach-requires-clause-lawful c = c.links.ensures.lawful
+reach-requires-clause-lawful c = c.arcs.ensures.lawful
 
 pub returns : goal.returns
 returns c =

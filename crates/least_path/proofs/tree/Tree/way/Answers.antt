@@ -41,4 +41,4 @@ returns-clause-least c = λ ws s h.
     let ls = c.args.self.now in
     let at = sym c.label.ensures ∙ c.in-Some.is in
     subst (λ (xs : List ArcId). IsLeastPath p ws s c.args.node xs (unwrap_or (length_at ls c.args.node.0) 0)) (sym (c.from_vec.ensures ∙ c.reverse.ensures.items))
-    (read_least p ws s c.args.node ls c.in-Some.last c.loop.here c.loop.arcs.items c.loop.counter c.links-links.ensures.lawful h at (omega arith) (c.loop.invariant ws s c.in-Some.last h at))
+    (read_least p ws s c.args.node ls c.in-Some.last c.loop.here c.loop.arcs.items c.loop.counter c.lawful.ensures h at (omega arith) (c.loop.invariant ws s c.in-Some.last h at))

@@ -1,9 +1,10 @@
-use Rattle.std.proofs.Common.{◌≡◌, ◌*◌, ◌+◌, ◌^◌, ℕ, Vec, Global, slice_index, length, sym, ap, subst, ◌∙◌, arith, rules}
+use Rattle.std.proofs.Common.{◌≡◌, ◌*◌, ◌+◌, ◌^◌, ℕ, Vec, Global, slice_index, sym, ap, subst, ◌∙◌, arith, rules}
 use Rattle.std.specs.Prelude.{ℤ}
 use Rattle.std.proofs.lemmas.Int.{to_z-of_z}
 use mir.Syntax.{w128}
 use mir.Val.{SFits, to_z, of_z}
 use Rattle.master_step.specs.declared.limits.TheConstants.{MAX_TRIALS}
+use Rattle.plan_base.specs.Places.{places}
 use Rattle.master_step.specs.Trials.{widest_gap}
 use Rattle.master_step.specs.Choosing.{allowed_of}
 use Rattle.master_step.specs.Climbing.{better_of, AreTried}
@@ -42,7 +43,7 @@ loop-trial-preserved c =
       divisor = ap (λ (d : ℕ). d * 2) before.divisor ∙ doubled c.args.widest j;
       columns = step.ensures.columns ∙ before.columns;
       values = step.ensures.values ∙ before.values;
-      room = room-same (length p.links) rows step.new.rows step.ensures.columns step.ensures.values step.ensures.trial.count before.room;
+      room = room-same (places p) rows step.new.rows step.ensures.columns step.ensures.values step.ensures.trial.count before.room;
     }
 
 pub returns-clause-best : goal.returns-clause-best

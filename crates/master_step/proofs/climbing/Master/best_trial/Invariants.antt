@@ -1,4 +1,5 @@
-use Rattle.std.proofs.Common.{◌≡◌, ◌*◌, ◌^◌, length}
+use Rattle.std.proofs.Common.{◌≡◌, ◌*◌, ◌^◌}
+use Rattle.plan_base.specs.Places.{places}
 use Rattle.master_step.specs.Choosing.{allowed_of}
 use Rattle.master_step.specs.Climbing.{HasRoom, AreTried}
 use Rattle.master_step.proofs.climbing.Master.best_trial.Given as goal
@@ -9,5 +10,5 @@ invariant-loop-trial l = record {
   divisor : l.divisor ≡ l.widest * 2 ^ l._trial;
   columns : l.rows.column_loads ≡ l.initial.rows.column_loads;
   values : l.rows.value_loads ≡ l.initial.rows.value_loads;
-  room : HasRoom (length l.self.inst.now.links) l.rows;
+  room : HasRoom (places l.self.inst.now) l.rows;
 }

@@ -9,7 +9,7 @@ use Rattle.master_step.proofs.source.Source.column.Goals as goal
 pub returns-clause-within : goal.returns-clause-within
 returns-clause-within c =
     let k = c.args.demand.0 in
-    let least : IsLeastAt c.args.prices.now (is_allowed c.args.self.now k) (all_of c.args.self.now k) (length (all_of c.args.self.now k)) c.in-Some.least =
-    subst (λ (prices : List ℕ). IsLeastAt prices (is_allowed c.args.self.now k) (all_of c.args.self.now k) (length (all_of c.args.self.now k)) c.in-Some.least) c.as_slice.ensures.value c.in-Some.ensures in
+    let least : IsLeastAt c.args.inst.now c.args.prices.now (is_allowed c.args.self.now k) (all_of c.args.self.now k) (length (all_of c.args.self.now k)) c.in-Some.least =
+    subst (λ (prices : List ℕ). IsLeastAt c.args.inst.now prices (is_allowed c.args.self.now k) (all_of c.args.self.now k) (length (all_of c.args.self.now k)) c.in-Some.least) c.as_slice.ensures.value c.in-Some.ensures in
     subst (λ (x : ℕ). x ≤ MAX_PATH_LINKS * price_limit c.args.inst.now) (sym (least-price c.args.inst.now c.args.self.now c.args.prices.now k c.in-Some.least least))
-    (small_price c.args.inst.now c.args.self.now c.args.prices.now k c.demands-demands.ensures.lawful c.requires.limit c.requires.source c.requires.columns c.requires.demand)
+    (small_price c.args.inst.now c.args.self.now c.args.prices.now k c.lawful.ensures c.requires.limit c.requires.source c.requires.columns c.requires.demand)

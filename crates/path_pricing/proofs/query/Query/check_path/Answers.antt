@@ -1,7 +1,7 @@
 use Rattle.std.proofs.Common.{◌≡◌, length, refl, arith}
 use Rattle.std.proofs.lemmas.Result.{err_from_is_err_and}
 use Rattle.arc_restrict.specs.Rows.{forbids}
-use Rattle.path_pricing.proofs.WalkEnds.{walk-short, walk-links, prices-small, path_fault-walk, path_fault-rest}
+use Rattle.path_pricing.proofs.WalkEnds.{walk-short, walk-places, prices-small, path_fault-walk, path_fault-rest}
 use Rattle.path_pricing.proofs.query.Query.check_path.Goals as goal
 
 pub check_walk-requires-clause-source : goal.check_walk-requires-clause-source
@@ -16,9 +16,9 @@ pub check_length-requires-clause-short : goal.check_length-requires-clause-short
 check_length-requires-clause-short c =
     walk-short c.args.self.now.inst.now c.demand-demand.result.now (forbids c.args.self.now.restriction.now c.args.self.now.demand.0) c.args.arcs.now c.requires.lawful c.demand-demand.ensures.lawful.source c.in_ok-check_walk.ensures
 
-pub check_length-requires-clause-links : goal.check_length-requires-clause-links
-check_length-requires-clause-links c =
-    walk-links c.args.self.now.inst.now c.demand-demand.result.now (forbids c.args.self.now.restriction.now c.args.self.now.demand.0) c.args.arcs.now c.args.self.now.prices.now c.requires.prices c.in_ok-check_walk.ensures
+pub check_length-requires-clause-places : goal.check_length-requires-clause-places
+check_length-requires-clause-places c =
+    walk-places c.args.self.now.inst.now c.demand-demand.result.now (forbids c.args.self.now.restriction.now c.args.self.now.demand.0) c.args.arcs.now c.args.self.now.prices.now c.requires.prices c.in_ok-check_walk.ensures
 
 pub check_length-requires-clause-small : goal.check_length-requires-clause-small
 check_length-requires-clause-small c = prices-small c.args.self.now.inst.now c.args.self.now.prices.now c.requires.prices

@@ -5,6 +5,6 @@ use Rattle.path_pricing.proofs.query.Query.price_of.Given as goal
 
 abbrev pub invariant-loop-arc : goal.invariant-loop-arc
 invariant-loop-arc l = record {
-  is : l.price ≡ price_of l.self.prices.now (take l.arc-index l.arcs);
+  is : l.price ≡ price_of l.self.inst.now l.self.prices.now (take l.arc-index l.arcs);
   small : l.price ≤ l.arc-index * MAX_PRICED_LOAD;
 }

@@ -1,5 +1,6 @@
-use Rattle.std.proofs.Common.{◌≡◌, true, length, refl, sym, ap, subst, ◌∙◌}
+use Rattle.std.proofs.Common.{◌≡◌, true, false, length, refl, sym, ap, subst, ◌∙◌}
 use Rattle.plan_base.specs.declared.parts.Parts.{Parts}
+use Rattle.plan_base.specs.Places.{is_two_way}
 use Rattle.proof_tree.specs.declared.plan.Plan.{Plan}
 use Rattle.proof_tree.specs.Plans.{IsValidPlan}
 use Rattle.plan_assembly.specs.contracts.assembly.Assembly.{the_view}
@@ -36,6 +37,7 @@ returns c =
       nodes = c.nodes.result;
       links = c.links.result;
       demands = c.demands.result;
+      both = c.is_two_way.result;
       status = c.status-status.result;
       budget = c.self.inside.budget;
       examined = c.self.inside.examined;
@@ -48,13 +50,14 @@ returns c =
     (c.nodes.ensures.value ∙ ap (λ (p : Parts). p.nodes) c.deref.ensures)
     (c.links.ensures.value ∙ ap (λ (p : Parts). length p.links) c.deref-2.ensures)
     (c.demands.ensures.value ∙ ap (λ (p : Parts). length p.demands) c.deref-3.ensures)
+    (c.is_two_way.ensures ∙ ap is_two_way (c.orient.ensures ∙ ap (λ (p : Parts). p.orient) c.deref-4.ensures))
     (c.status-status.ensures ∙ sym (ap status_of c.self.view_is))
     refl refl c.design_of.ensures c.in_ok-tree.ensures
     (subst (λ (x : State). IsStatedBound x c.status-status.result c.in_ok-bound.bound) (sym c.self.view_is) c.in_ok-bound.ensures) in
     record {
       plan = subst (λ (x : State). IsPlanOf x plan) c.self.view_is is;
       valid = subst (λ (x : State). IsValidPlan x.problem plan) c.self.view_is (plan_valid s plan reach is (subst (λ (x : State). is_done x ≡ true) (sym c.self.view_is) c.requires.done));
-      fits = plan_spellable s plan reach c.self.invariant.some_budget c.self.invariant.budget is;
+      fits = λ one_way. plan_spellable s plan reach c.self.invariant.some_budget c.self.invariant.budget is (subst (λ (x : State). is_two_way x.problem.orient ≡ false) (sym c.self.view_is) one_way);
       bound = subst (λ (x : State). HasOpeningBound x.problem plan) c.self.view_is (plan_opening s plan reach is);
       splits = subst (λ (x : State). PartsPaths x.problem plan.tree) c.self.view_is (plan_parts s plan reach is);
     }

@@ -1,7 +1,7 @@
 use Rattle.std.proofs.Common.{◌≡◌, ◌<◌, length, refl, sym, ap, subst, ◌∙◌, rules}
 use Rattle.arc_restrict.specs.Rows.{forbids}
 use Rattle.pool_core.specs.contracts.pool.Pool.{the_view}
-use Rattle.plan_base.specs.declared.parts.Parts.{Parts}
+use Rattle.plan_base.specs.Places.{places}
 use Rattle.master_step.specs.Outcomes.{HasGain, HasStalled}
 use Rattle.pool_machine.specs.State.{State, restriction_of}
 use Rattle.pool_machine.specs.Gathering.{columns_for}
@@ -57,7 +57,7 @@ gain-requires c =
       price_limit = ask-limit s c.args.node sound at c.deref.result.now c.deref-3.result.now c.deref.ensures forbidden c.prices.result.now prices;
       columns = ask-columns s c.args.node sound at c.deref.result.now c.deref-3.result.now c.deref.ensures forbidden;
       permitted = ask-permitted s c.args.node sound at c.deref.result.now c.deref-3.result.now c.deref.ensures forbidden;
-      room = c.self.invariant.room_is ∙ ap (λ (p : Parts). length p.links) (sym c.deref.ensures);
+      room = c.self.invariant.room_is ∙ ap places (sym c.deref.ensures);
     }
 
 pub invariant_of-self : goal.invariant_of-self

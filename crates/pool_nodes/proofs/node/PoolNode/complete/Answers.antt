@@ -13,12 +13,12 @@ use Rattle.pool_nodes.proofs.node.PoolNode.complete.Goals.{then-is_crowded, else
 pub bound-requires-clause-short : goal.bound-requires-clause-short
 bound-requires-clause-short c =
     let ready : MayComplete c.args.inst.now (the_view c.self.inside) = subst (MayComplete c.args.inst.now) (sym c.self.view_is) c.requires.ready in
-    ready-short c.args.inst.now (the_view c.self.inside) c.in-Some.round c.in-Some.is c.links-links.ensures.lawful ready
+    ready-short c.args.inst.now (the_view c.self.inside) c.in-Some.round c.in-Some.is c.lawful.ensures ready
 
 pub is_crowded-requires-clause-short : goal.is_crowded-requires-clause-short
 is_crowded-requires-clause-short c =
     let ready : MayComplete c.args.inst.now (the_view c.self.inside) = subst (MayComplete c.args.inst.now) (sym c.self.view_is) c.requires.ready in
-    ready-short c.args.inst.now (the_view c.self.inside) c.in-Some.round c.in-Some.is c.links-links.ensures.lawful ready
+    ready-short c.args.inst.now (the_view c.self.inside) c.in-Some.round c.in-Some.is c.lawful.ensures ready
 
 pub invariant_of-self : goal.invariant_of-self
 invariant_of-self c =
@@ -28,7 +28,7 @@ invariant_of-self c =
       | then-is_crowded w ↦ rw w.self-inside-is
           (rooms-filled inside.first_prices inside.best_prices c.keep_better.new.room w.prices-then-is_crowded.result.now inside.fate inside.crowd_prices w.fill.new.room
           c.self.invariant c.keep_better.ensures.room w.fill.ensures
-          (ready-fits c.args.inst.now (the_view c.self.inside) c.in-Some.round c.in-Some.is c.links-links.ensures.lawful ready w.prices-then-is_crowded.result.now w.prices-then-is_crowded.ensures))
+          (ready-fits c.args.inst.now (the_view c.self.inside) c.in-Some.round c.in-Some.is c.lawful.ensures ready w.prices-then-is_crowded.result.now w.prices-then-is_crowded.ensures))
       | else-is_crowded w ↦ rw w.self-inside-is
           (rooms-kept inside.first_prices inside.best_prices c.keep_better.new.room inside.fate inside.crowd_prices c.self.invariant c.keep_better.ensures.room)
     ]
@@ -44,12 +44,12 @@ returns c =
     elim c.if-is_crowded.branch [
       | then-is_crowded w ↦ rw w.self-inside-is
           (TakesRound-now c.args.inst.now (the_view c.self.inside) c.args.self.now c.in-Some.round _ c.self.view_is c.in-Some.is
-          (completed-with c.args.inst.now (the_view c.self.inside) c.in-Some.round c.in-Some.is c.links-links.ensures.lawful ready c.in-Some-bound.bound c.prices.result.now _ w.fill.new.room c.prices.ensures none
+          (completed-with c.args.inst.now (the_view c.self.inside) c.in-Some.round c.in-Some.is c.lawful.ensures ready c.in-Some-bound.bound c.prices.result.now _ w.fill.new.room c.prices.ensures none
           c.in-Some-bound.ensures.bound best
           (inl (c.is_crowded.ensures.0 w.if-is_crowded.true, w.fill.ensures ∙ ap (λ (ps : List ℕ). Some ps) w.prices-then-is_crowded.ensures))))
       | else-is_crowded w ↦ rw w.self-inside-is
           (TakesRound-now c.args.inst.now (the_view c.self.inside) c.args.self.now c.in-Some.round _ c.self.view_is c.in-Some.is
-          (completed-with c.args.inst.now (the_view c.self.inside) c.in-Some.round c.in-Some.is c.links-links.ensures.lawful ready c.in-Some-bound.bound c.prices.result.now _ (the_view c.self.inside).crowd c.prices.ensures none
+          (completed-with c.args.inst.now (the_view c.self.inside) c.in-Some.round c.in-Some.is c.lawful.ensures ready c.in-Some-bound.bound c.prices.result.now _ (the_view c.self.inside).crowd c.prices.ensures none
           c.in-Some-bound.ensures.bound best
           (inr ((λ crowds. let bad : true ≡ false = sym (c.is_crowded.ensures.1 crowds) ∙ w.if-is_crowded.false in cc), refl))))
     ]

@@ -12,7 +12,7 @@ pub loop-place-smaller : goal.loop-place-smaller
 loop-place-smaller c =
     let within : c.loop-place.place < length c.loop-place.self.arrivals.items = omega arith in
     let few : length c.loop-place.self.arrivals.items ≤ c.args.ways.now.inst.now.nodes =
-    few_arrivals c.args.ways.now.inst.now _ _ _ _ c.links-links.ensures.lawful (takes_arcs c.args.ways.now.inst.now _ _ _) c.loop-place.invariant.0.search.tree in
+    few_arrivals c.args.ways.now.inst.now _ _ _ _ c.lawful.ensures (takes_arcs c.args.ways.now.inst.now _ _ _) c.loop-place.invariant.0.search.tree in
     let smaller : c.args.ways.now.inst.now.nodes - (c.loop-place.place + 1) < c.args.ways.now.inst.now.nodes - c.loop-place.place = omega (arith, within, few) in
     smaller
 

@@ -1,0 +1,50 @@
+-- With a node for each place down to the branching depth a search decides.
+use Rattle.std.proofs.Common.{◌≡◌, ◌≤◌, ◌+◌, ◌-◌, ◌^◌, ℕ, List, Option, Some, None, refl, subst, sym, ◌∙◌}
+use Rattle.std.specs.Prelude.{nat_lt}
+use Rattle.plan_base.specs.declared.parts.Parts.{Parts}
+use Rattle.proof_tree.specs.declared.plan.Plan.{Plan}
+use Rattle.proof_tree.specs.declared.plan.PlanStatus.{PlanStatus}
+use Rattle.proof_tree.specs.declared.plan.PlanStatus.TheVariants as plan_statuses
+use Rattle.proof_tree.specs.Plans.{HasStatus}
+use Rattle.pool_machine.specs.Depth.{branching_depth}
+use Rattle.pool_machine.specs.declared.tree.Incumbent.{Incumbent}
+use Rattle.pool_core.specs.State.{State}
+use Rattle.pool_core.specs.Soundness.{IsSound}
+use Rattle.pool_core.specs.PlanOf.{open_count, status_by}
+use Rattle.plan_texts.specs.declared.status.Status.{Status}
+use Rattle.plan_texts.specs.declared.status.Status.TheVariants.{Undecided}
+use Rattle.plan_texts.specs.Statuses.{status_of_plan}
+use Rattle.plan_run.specs.Budgets.{CoversSplits}
+use Rattle.plan_run.specs.Searches.{IsSearched}
+use Rattle.plan_run.specs.Plans.{IsPlanned}
+
+-- with such a budget no leaf stays open
+abbrev pub Decides : Type 0
+Decides = (s : State) → IsSound s → 2 ^ (branching_depth s.problem + 1) - 1 ≤ s.budget → s.examined ≡ s.budget → open_count s ≡ 0
+
+-- a state without an open leaf is not undecided
+none-undecided : (open_leaves : ℕ) (held : Option Incumbent) → open_leaves ≡ 0 → status_by (nat_lt 0 open_leaves) held ≡ plan_statuses.Undecided → ⊥
+none-undecided open_leaves None none is = absurd (let bad : ◌≡◌ {A = PlanStatus} plan_statuses.Infeasible plan_statuses.Undecided = rw none at is in cc)
+none-undecided open_leaves (Some held) none is = absurd (let bad : ◌≡◌ {A = PlanStatus} plan_statuses.Optimal plan_statuses.Undecided = rw none at is in cc)
+
+decided : Decides → (p : Parts) (budget : ℕ) (plan : Plan) → IsSearched p budget plan → CoversSplits p budget → plan.status ≡ plan_statuses.Undecided → ⊥
+decided decides p budget plan h covers is =
+    let of = h.of_search in
+    let undecided = subst (HasStatus p plan) is h.valid.status in
+    let spent : of.state.examined ≡ of.state.budget = sym of.is_plan.examined ∙ undecided.spent ∙ of.is_plan.budget in
+    let covered : 2 ^ (branching_depth of.state.problem + 1) - 1 ≤ of.state.budget = rw (of.problem_is, of.budget_is) covers in
+    none-undecided (open_count of.state) of.state.incumbent (decides of.state of.sound covered spent) (sym of.is_plan.status ∙ is)
+
+-- only an undecided plan ends so
+undecided-plan : (status : PlanStatus) → Undecided ≡ status_of_plan status → status ≡ plan_statuses.Undecided
+undecided-plan plan_statuses.Optimal is = absurd (let bad : ◌≡◌ {A = Status} Undecided (status_of_plan plan_statuses.Optimal) = is in cc)
+undecided-plan plan_statuses.Infeasible is = absurd (let bad : ◌≡◌ {A = Status} Undecided (status_of_plan plan_statuses.Infeasible) = is in cc)
+undecided-plan plan_statuses.Undecided is = refl
+
+-- so the plan that is written ends as a decided one
+pub decided-planned : Decides → (p : Parts) (budget : ℕ) (bytes : List ℕ) → IsPlanned p budget Undecided bytes → CoversSplits p budget → ⊥
+decided-planned decides p budget bytes h covers = decided decides p budget h.plan h.searched covers (undecided-plan h.plan.status h.is_status)
+
+-- and so does the plan of which a line is written
+pub decided-searched : Decides → (p : Parts) (budget : ℕ) (plan : Plan) → IsSearched p budget plan → Undecided ≡ status_of_plan plan.status → CoversSplits p budget → ⊥
+decided-searched decides p budget plan h is covers = decided decides p budget plan h covers (undecided-plan plan.status is)
