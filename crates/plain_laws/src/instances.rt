@@ -4,13 +4,14 @@ ghost use Rattle.std.specs.Prelude.{◌≡◌, ◌↔◌, ◌*◌, ◌^◌, None
 ghost use Rattle.plan_base.specs.declared.parts.Parts.{Parts as AnyParts};
 ghost use Rattle.plan_base.specs.Facts.{IsInstance};
 ghost use Rattle.plan_base.specs.Faults.{build_fault};
-ghost use Rattle.plan_base.specs.declared.limits.TheConstants.{MAX_NODES, MAX_LINKS, MAX_DEMANDS, MAX_MODULES, MAX_TOTAL_LOAD, MAX_ROUTING_COST, CAPACITY_BOUND, MODULE_COST_BOUND, MAX_PRICED_LOAD};
+ghost use Rattle.plan_base.specs.declared.limits.TheConstants.{MAX_NODES, MAX_LINKS, MAX_PLACES, MAX_DEMANDS, MAX_MODULES, MAX_TOTAL_LOAD, MAX_ROUTING_COST, CAPACITY_BOUND, MODULE_COST_BOUND, MAX_PRICED_LOAD};
 ghost use Rattle.link_steps.specs.declared.limits.TheConstants.{MAX_STEPS};
 
-/// How many nodes, links and demands an instance has at most, and modules a link.
+/// How many nodes, links, places and demands an instance has at most, and modules a link.
 pub fn sizes_of_instances()
     ensures nodes { MAX_NODES ≡ 512 }
     ensures links { MAX_LINKS ≡ 1024 }
+    ensures places { MAX_PLACES ≡ 2048 }
     ensures demands { MAX_DEMANDS ≡ 4096 }
     ensures modules { MAX_MODULES ≡ 32 }
 {}

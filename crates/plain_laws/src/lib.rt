@@ -8,10 +8,15 @@
 
 mod instances;
 mod plans;
+mod samples;
 mod searches;
 mod texts;
 
 pub use instances::{amounts_of_instances, built_or_refused, sizes_of_instances, steps_of_links};
 pub use plans::{numbers_of_designs, sizes_of_plans};
-pub use searches::{counts_of_workers, each_step, sizes_of_searches};
+pub use samples::{nodes_of_trials, numbers_of_draws, sizes_of_samples};
+pub use searches::{
+    counts_of_turns, counts_of_workers, each_step, sizes_of_paths, sizes_of_searches,
+    trials_of_steps,
+};
 pub use texts::{lengths_of_texts, scales_of_lines};

@@ -1,7 +1,13 @@
 //! Limits of searches.
 
-ghost use Rattle.std.specs.Prelude.{◌≡◌};
+ghost use Rattle.std.specs.Prelude.{◌≡◌, ◌^◌};
 ghost use Rattle.plan_io.specs.declared.gate.TheConstants.{MAX_WORKERS};
+ghost use Rattle.command_words.specs.declared.command.TheConstants.{DEFAULT_WORKERS, DEFAULT_BUDGET};
+ghost use Rattle.one_history.specs.declared.limits.TheConstants.{MAX_CALLERS, MAX_CALLS};
+ghost use Rattle.least_path.specs.declared.limits.TheConstants.{MAX_WEIGHT};
+ghost use Rattle.verifier_paths.specs.declared.limits.TheConstants.{MAX_WAY_ARCS};
+ghost use Rattle.bound_assembly.specs.declared.limits.TheConstants.{MAX_PATH_LINKS};
+ghost use Rattle.master_step.specs.declared.limits.TheConstants.{MAX_TRIALS};
 ghost use Rattle.column_pool.specs.declared.limits.TheConstants.{MAX_COLUMNS};
 ghost use Rattle.pool_machine.specs.State.{State};
 ghost use Rattle.pool_machine.specs.Machine.{Event, Answer, Step};
@@ -17,9 +23,30 @@ pub fn sizes_of_searches()
     ensures columns { MAX_COLUMNS ≡ 64 }
 {}
 
-/// How many workers a run has at most.
+/// How many trials a master step makes.
+pub fn trials_of_steps()
+    ensures { MAX_TRIALS ≡ 24 }
+{}
+
+/// How many arcs a simple path has at most, for whoever assembles a bound and for the verifier, and the greatest weight of an
+/// arc that a search takes.
+pub fn sizes_of_paths()
+    ensures links { MAX_PATH_LINKS ≡ 511 }
+    ensures arcs { MAX_WAY_ARCS ≡ 511 }
+    ensures weight { MAX_WEIGHT ≡ 10 ^ 35 }
+{}
+
+/// How many workers a run has at most, and how many workers and nodes where the words name none.
 pub fn counts_of_workers()
-    ensures { MAX_WORKERS ≡ 64 }
+    ensures most { MAX_WORKERS ≡ 64 }
+    ensures workers { DEFAULT_WORKERS ≡ 4 }
+    ensures budget { DEFAULT_BUDGET ≡ 1000 }
+{}
+
+/// How many callers use a value in turn at most, and how many calls each of them makes at most.
+pub fn counts_of_turns()
+    ensures callers { MAX_CALLERS ≡ 64 }
+    ensures calls { MAX_CALLS ≡ 2 ^ 56 }
 {}
 
 /// Each event leads from a sound state to a sound one, whatever led to the first.
