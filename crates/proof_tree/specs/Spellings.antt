@@ -1,5 +1,5 @@
 -- Plans that a plan text can spell: their sizes, numbers and lists go together.
-use Rattle.std.specs.Prelude.{ℕ, false, suc, ◌≡◌, ◌<◌, ◌≤◌, List, length, IsTrue, All, ⊤, Option, IsSome, IsNone, IfSome, ℤ}
+use Rattle.std.specs.Prelude.{ℕ, suc, ◌≡◌, ◌<◌, ◌≤◌, ◌*◌, Bool, if◌then◌else◌, List, length, IsTrue, All, ⊤, Option, IsSome, IsNone, IfSome, ℤ}
 use Rattle.plan_base.specs.declared.ids.ArcId.{ArcId}
 use Rattle.plan_base.specs.declared.path.Design.{Design}
 use Rattle.plan_base.specs.declared.limits.TheConstants.{MAX_NODES, MAX_LINKS, MAX_DEMANDS, MAX_MODULES}
@@ -23,24 +23,28 @@ pub record IsWrittenSide (arcs : List ArcId) : Type 0 where
   pub few : length arcs ≤ MAX_SIDE_ARCS
   pub ascending : IsAscending arcs
 
--- one price for each link, or for each node whether it is reached
-abbrev pub FitsEvidence : ℕ → ℕ → Evidence → Type 0
-FitsEvidence nodes links (Bound prices) = length prices ≡ links
-FitsEvidence nodes links Routed = ⊤
-FitsEvidence nodes links (Overfull link) = ⊤
-FitsEvidence nodes links (Cut demand reached) = length reached ≡ nodes
-FitsEvidence nodes links (Crowd prices) = length prices ≡ links
-FitsEvidence nodes links (Open prices) = length prices ≡ links
+-- how many places the links of a plan have: one each, or two where each direction has a price of its own
+abbrev pub places_in : Bool → ℕ → ℕ
+places_in both links = if both then 2 * links else links
 
--- a record that can stand in a text of these counts of nodes and links
+-- one price for each place, or for each node whether it is reached
+abbrev pub FitsEvidence : ℕ → ℕ → Evidence → Type 0
+FitsEvidence nodes places (Bound prices) = length prices ≡ places
+FitsEvidence nodes places Routed = ⊤
+FitsEvidence nodes places (Overfull link) = ⊤
+FitsEvidence nodes places (Cut demand reached) = length reached ≡ nodes
+FitsEvidence nodes places (Crowd prices) = length prices ≡ places
+FitsEvidence nodes places (Open prices) = length prices ≡ places
+
+-- a record that can stand in a text of these counts of nodes and places
 abbrev pub FitsRecord : ℕ → ℕ → TreeNode → Type 0
-FitsRecord nodes links (Split demand at left right) = IsWrittenSide left × IsWrittenSide right
-FitsRecord nodes links (Leaf evidence) = FitsEvidence nodes links evidence
+FitsRecord nodes places (Split demand at left right) = IsWrittenSide left × IsWrittenSide right
+FitsRecord nodes places (Leaf evidence) = FitsEvidence nodes places evidence
 
 -- few enough records, each of which can stand there
-pub record FitsTree (nodes links : ℕ) (records : List TreeNode) : Type 0 where
+pub record FitsTree (nodes places : ℕ) (records : List TreeNode) : Type 0 where
   pub few : length records ≤ MAX_RECORDS
-  pub each : All (FitsRecord nodes links) records
+  pub each : All (FitsRecord nodes places) records
 
 -- a path for each demand and a list of counts for each link, none of them too long
 pub record FitsDesign (demands links : ℕ) (d : Design) : Type 0 where
@@ -55,14 +59,13 @@ FitsStatus Optimal design bound = IsSome design × IsNone bound
 FitsStatus Infeasible design bound = IsNone design × IsNone bound
 FitsStatus Undecided design bound = ⊤
 
--- sizes of an instance whose links have one place each, and a budget that may be given
+-- sizes of an instance, and a budget that may be given
 pub record FitsSizes (plan : Plan) : Type 0 where
   pub nodes : plan.nodes ≤ MAX_NODES
   pub links : plan.links ≤ MAX_LINKS
   pub demands : plan.demands ≤ MAX_DEMANDS
   pub some_budget : 1 ≤ plan.budget
   pub budget : plan.budget ≤ MAX_BUDGET
-  pub one_way : plan.both ≡ false
 
 -- a plan that a text can spell
 pub record IsSpellable (plan : Plan) : Type 0 where
@@ -70,4 +73,4 @@ pub record IsSpellable (plan : Plan) : Type 0 where
   pub status : FitsStatus plan.status plan.design plan.bound
   pub design : IfSome plan.design (λ design. FitsDesign plan.demands plan.links design.1)
   pub whole : IsTrue (are_trees 1 plan.tree)
-  pub records : FitsTree plan.nodes plan.links plan.tree
+  pub records : FitsTree plan.nodes (places_in plan.both plan.links) plan.tree

@@ -1,8 +1,8 @@
 //! Whether a plan's parts are of the sizes that a plan text can hold.
 
-ghost use Rattle.std.specs.Prelude.{◌≤◌, ◌↔◌, length, IsTrue, IfSome, All};
+ghost use Rattle.std.specs.Prelude.{◌≡◌, ◌≤◌, ◌↔◌, length, IsTrue, IfSome, All};
 ghost use Rattle.plan_base.specs.declared.limits.TheConstants.{MAX_MODULES};
-ghost use Rattle.proof_tree.specs.Spellings.{IsAscending, IsWrittenSide, FitsEvidence, FitsRecord, FitsStatus, FitsSizes, FitsDesign, FitsTree};
+ghost use Rattle.proof_tree.specs.Spellings.{IsAscending, IsWrittenSide, places_in, FitsEvidence, FitsRecord, FitsStatus, FitsSizes, FitsDesign, FitsTree};
 
 use crate::limits::{MAX_BUDGET, MAX_PATH_ARCS, MAX_RECORDS, MAX_SIDE_ARCS};
 use crate::plan::{Plan, PlanStatus};
@@ -29,13 +29,24 @@ fn is_side(arcs: &[ArcId]) -> bool
     arcs.len() <= MAX_SIDE_ARCS && is_ascending(arcs)
 }
 
-/// Whether the lists of the evidence have a place for each link, or for each node.
-fn fits_evidence(nodes: u32, links: u32, evidence: &Evidence) -> bool
-    ensures { IsTrue result ↔ FitsEvidence nodes links evidence.now }
+/// How many places there are: one for each link, or two where each direction has a price of its own.
+pub(crate) fn places(both: bool, links: u32) -> usize
+    ensures { result ≡ places_in both links }
+{
+    if both {
+        2 * links as usize
+    } else {
+        links as usize
+    }
+}
+
+/// Whether the evidence has one price for each place, or one answer for each node.
+fn fits_evidence(nodes: u32, places: usize, evidence: &Evidence) -> bool
+    ensures { IsTrue result ↔ FitsEvidence nodes places evidence.now }
 {
     match evidence {
         Evidence::Bound(prices) | Evidence::Crowd(prices) | Evidence::Open(prices) => {
-            prices.as_slice().len() == links as usize
+            prices.as_slice().len() == places
         }
         Evidence::Cut { reached, .. } => reached.len() == nodes as usize,
         Evidence::Routed | Evidence::Overfull { .. } => true,
@@ -43,24 +54,24 @@ fn fits_evidence(nodes: u32, links: u32, evidence: &Evidence) -> bool
 }
 
 /// Whether the record can stand in a text.
-fn fits_record(nodes: u32, links: u32, node: &TreeNode) -> bool
-    ensures { IsTrue result ↔ FitsRecord nodes links node.now }
+fn fits_record(nodes: u32, places: usize, node: &TreeNode) -> bool
+    ensures { IsTrue result ↔ FitsRecord nodes places node.now }
 {
     match node {
         TreeNode::Split { left, right, .. } => is_side(left.as_slice())
             && is_side(right.as_slice()),
-        TreeNode::Leaf(evidence) => fits_evidence(nodes, links, evidence),
+        TreeNode::Leaf(evidence) => fits_evidence(nodes, places, evidence),
     }
 }
 
 /// Whether there are few enough records, and each can stand in a text.
-pub(crate) fn fits_records(nodes: u32, links: u32, records: &[TreeNode]) -> bool
-    ensures { IsTrue result ↔ FitsTree nodes links records.now }
+pub(crate) fn fits_records(nodes: u32, places: usize, records: &[TreeNode]) -> bool
+    ensures { IsTrue result ↔ FitsTree nodes places records.now }
 {
-    records.len() <= MAX_RECORDS && records.iter().all(|node| fits_record(nodes, links, node))
+    records.len() <= MAX_RECORDS && records.iter().all(|node| fits_record(nodes, places, node))
 }
 
-/// Whether the sizes are those of an instance whose links have one place each, and the budget is one that may be given.
+/// Whether the sizes are those of an instance, and the budget is one that may be given.
 pub(crate) fn fits_sizes(plan: &Plan) -> bool
     ensures { IsTrue result ↔ FitsSizes plan.now }
 {
@@ -69,7 +80,6 @@ pub(crate) fn fits_sizes(plan: &Plan) -> bool
         && plan.demands as usize <= MAX_DEMANDS
         && 1 <= plan.budget
         && plan.budget <= MAX_BUDGET
-        && !plan.both
 }
 
 /// Whether there is a design and a bound as the status asks.

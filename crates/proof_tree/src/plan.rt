@@ -55,6 +55,10 @@ impl Plan {
         fitting::fits_sizes(self)
             && fitting::fits_status(self)
             && fitting::fits_design(self)
-            && fitting::fits_records(self.nodes, self.links, self.tree.nodes())
+            && fitting::fits_records(
+                self.nodes,
+                fitting::places(self.both, self.links),
+                self.tree.nodes(),
+            )
     }
 }
