@@ -1,10 +1,10 @@
 -- The groups of rules of a plan, one after the other, as a check goes through them.
-use Rattle.std.proofs.Common.{◌≡◌, ℕ, false, length, All, Option, Some, None, inl, inr, refl, sym, subst, ◌∙◌}
+use Rattle.std.proofs.Common.{◌≡◌, ℕ, All, Option, Some, None, inl, inr, refl, ap₂, subst}
 use Rattle.plan_base.specs.declared.parts.Parts.{Parts}
-use Rattle.plan_base.specs.Places.{is_two_way, places}
+use Rattle.plan_base.specs.Places.{places}
 use Rattle.proof_tree.specs.declared.plan.Plan.{Plan}
 use Rattle.proof_tree.specs.Plans.{HasSizes}
-use Rattle.proof_tree.specs.Spellings.{FitsRecord, IsSpellable}
+use Rattle.proof_tree.specs.Spellings.{places_in, FitsRecord, IsSpellable}
 use Rattle.cert_verifier.specs.declared.rejected.Rejected.{Rejected}
 use Rattle.cert_verifier.specs.declared.rejected.Rejected.TheVariants.{Size}
 use Rattle.cert_verifier.specs.RecordRules.{TreeFinds}
@@ -36,11 +36,9 @@ pub plan-bound : (p : Parts) (plan : Plan) (found : Option Rejected) → IsSound
 unfolding PlanFinds
 plan-bound p plan found h counts bound = inr (inl (h.sizes, refl), inr (h.design, inr (h.tree, inr (counts, bound))))
 
-one_place : (p : Parts) → is_two_way p.orient ≡ false → places p ≡ length p.links
-one_place p one_way = rw one_way refl
-
 -- the records of a plan of the instance's sizes have one price for each of its places
 pub fits_places : (p : Parts) (plan : Plan) → HasSizes p plan → IsSpellable plan → All (FitsRecord p.nodes (places p)) plan.tree
 fits_places p plan sizes spelled =
-    let count : plan.links ≡ places p = sizes.links ∙ sym (one_place p (sym sizes.both ∙ spelled.sizes.one_way)) in
-    subst (λ (n : ℕ). All (FitsRecord p.nodes n) plan.tree) count (subst (λ (n : ℕ). All (FitsRecord n plan.links) plan.tree) sizes.nodes spelled.records.each)
+    let count : places_in plan.both plan.links ≡ places p = ap₂ places_in sizes.both sizes.links in
+    subst (λ (n : ℕ). All (FitsRecord p.nodes n) plan.tree) count
+    (subst (λ (n : ℕ). All (FitsRecord n (places_in plan.both plan.links)) plan.tree) sizes.nodes spelled.records.each)
