@@ -182,21 +182,14 @@ handed_simple : (names options : List Text) → list_all (λ (a : Rule). a.is_si
 handed_simple names [] = handed_names names
 handed_simple names (o ∷ options) = handed_simple names options
 
-names_simple : (place : ℕ) (names : List Text) → list_all (λ (a : Rule). a.is_simple) (names_from place names) ≡ true
-names_simple place [] = refl
-names_simple place (id ∷ more) = names_simple (min (place + 1) usize_max) more
+-- what passes a test as an option or a name passes it in the table
+names_pass : (test : Rule → Bool) → ((place : ℕ) (id : Text) → test (name_plain place id) ≡ true) → (place : ℕ) (names : List Text) → list_all test (names_from place names) ≡ true
+names_pass test name place [] = refl
+names_pass test name place (id ∷ more) = rw (name place id, names_pass test name (min (place + 1) usize_max) more) refl
 
-table_simple : (names options : List Text) → list_all (λ (a : Rule). a.is_simple) (table names options) ≡ true
-table_simple names [] = names_simple 1 names
-table_simple names (o ∷ options) = table_simple names options
-
-names_free : (place : ℕ) (names : List Text) → list_all (λ (a : Rule). a.is_free) (names_from place names) ≡ true
-names_free place [] = refl
-names_free place (id ∷ more) = names_free (min (place + 1) usize_max) more
-
-table_free : (names options : List Text) → list_all (λ (a : Rule). a.is_free) (table names options) ≡ true
-table_free names [] = names_free 1 names
-table_free names (o ∷ options) = table_free names options
+table_passes : (test : Rule → Bool) → ((id : Text) → test (option_plain id) ≡ true) → ((place : ℕ) (id : Text) → test (name_plain place id) ≡ true) → (names options : List Text) → list_all test (table names options) ≡ true
+table_passes test option name names [] = names_pass test name 1 names
+table_passes test option name names (o ∷ options) = rw (option o, table_passes test option name names options) refl
 
 names_single : (n place : ℕ) (names : List Text) → list_any (is_early_multiple n) (names_from place names) ≡ false
 names_single n place [] = refl
@@ -213,9 +206,9 @@ all_pass a b early c first second third fourth = rw (first, second, third, fourt
 pub line_is_simple : (names options : List Text) (line : App) → line ≡ line_app names options → is_simple_and_free line ≡ true
 line_is_simple names options line is =
     ap is_simple_and_free is
-    ∙ all_pass _ _ _ _ (handed_simple names options) (ap (list_all (λ (a : Rule). a.is_simple)) (filled_is names options) ∙ table_simple names options)
+    ∙ all_pass _ _ _ _ (handed_simple names options) (ap (list_all (λ (a : Rule). a.is_simple)) (filled_is names options) ∙ table_passes (λ (a : Rule). a.is_simple) (λ id. refl) (λ place id. refl) names options)
     (ap (list_any (is_early_multiple (count_by (λ (a : Rule). is_some a.index) (filled_from 1 (handed names options))))) (filled_is names options) ∙ table_single _ names options)
-    (ap (list_all (λ (a : Rule). a.is_free)) (filled_is names options) ∙ table_free names options)
+    (ap (list_all (λ (a : Rule). a.is_free)) (filled_is names options) ∙ table_passes (λ (a : Rule). a.is_free) (λ id. refl) (λ place id. refl) names options)
 
 -- ---- what is read by the line
 
