@@ -1,4 +1,4 @@
-use Rattle.std.proofs.Common.{◌≡◌, ◌≢◌, ℕ, List, [], ◌∷◌, ◌++◌, get_or, set, ◌⊎◌, inl, inr, ⊎_elim, ap, sym, refl, subst, ◌∙◌, Option, Some, None}
+use Rattle.std.proofs.Common.{◌≡◌, ◌≢◌, ℕ, ◌+◌, Bool, List, [], ◌∷◌, ◌++◌, length, get_or, set, sum_by, ◌⊎◌, inl, inr, ⊎_elim, ap, sym, refl, subst, ◌∙◌, arith, Option, Some, None}
 use mathlib.Core.Logic.{dite}
 use mathlib.Core.Option.{none, some, some-injective}
 use native.Mathlib.Decide.{ℕ_discrete}
@@ -9,12 +9,12 @@ use Rattle.one_history.specs.declared.view.Entry.{Entry}
 use Rattle.one_history.specs.declared.view.Role.{Role}
 use Rattle.one_history.specs.declared.view.Role.TheVariants.{Maker, Caller, Guest}
 use Rattle.one_history.specs.declared.view.Stage.{Stage}
-use Rattle.one_history.specs.declared.view.Stage.TheVariants.{Idle}
+use Rattle.one_history.specs.declared.view.Stage.TheVariants.{Idle, Holding}
 use Rattle.one_history.specs.declared.view.View.{View}
 use Rattle.one_history.specs.Histories.{Leading}
-use Rattle.one_history.specs.Rules.{TableState, RolesApart, ticket_of, TicketsApart, Apart, HoldsSlot, IsHome, IsOut, Kept}
+use Rattle.one_history.specs.Rules.{TableState, RolesApart, ticket_of, TicketsApart, Apart, StageFits, HoldsSlot, raises, IsHome, IsOut, all_draws, Kept}
 use Rattle.one_history.specs.Steps.{Knowing, Learns}
-use Rattle.one_history.proofs.ViewLists.{at_end, each_set, each_snoc}
+use Rattle.one_history.proofs.ViewLists.{at_end, total_set, each_set, each_snoc}
 
 -- What all steps share: the views stay apart, and the value stays where it is.
 
@@ -139,6 +139,35 @@ module _ {D C : Type 0} (leads : Leading D C) (callers : ℕ) (s : TableState D 
 
   pub holder_view : (a : IsOut k.serving k.history s) → get_elem? s.views id ≡ some v → ticket_of v.stage ≡ Some k.serving → a.view ≡ v
   holder_view a at is = some-injective _ _ (sym a.here ∙ (ap (get_elem? s.views) (holder_is a at is) ∙ at))
+
+  -- what is so while a pass holds the slot: its ticket is served, and the history has its call or not yet
+  pub holding : (t : ℕ) (raised : Bool) → v.stage ≡ Holding t raised → get_elem? s.views id ≡ some v → IsOut k.serving k.history s
+      → StageFits k.tickets k.serving k.history v (Holding t raised) × (ticket_of v.stage ≡ Some k.serving) × (length k.history ≡ k.serving + raises raised)
+  holding t raised is at a =
+      let holds = subst (StageFits k.tickets k.serving k.history v) is (k.each id v at).stage in
+      let mine : ticket_of v.stage ≡ Some k.serving = ap ticket_of is ∙ ap (λ (x : ℕ). Some x) holds.0 in
+      let stages : Holding t raised ≡ Holding k.serving a.raised = sym is ∙ (ap (λ (u : View C). u.stage) (sym (holder_view a at mine)) ∙ a.stage) in
+      let same : a.raised ≡ raised = cc stages in
+      (holds, mine, a.long ∙ ap (λ b. k.serving + raises b) same)
+
+  -- then the others have other tickets
+  pub others_apart : ticket_of v.stage ≡ Some k.serving → get_elem? s.views id ≡ some v → (j : ℕ) (u : View C) → j ≢ id → get_elem? s.views j ≡ some u → TicketsApart (ticket_of u.stage) (Some k.serving)
+  others_apart mine at j u ne there = subst (TicketsApart (ticket_of u.stage)) mine (k.apart j id u v ne there at).1
+
+  -- at another stage with the same ticket the view is apart from the others as before
+  pub stays_apart : (stage : Stage) → ticket_of stage ≡ ticket_of v.stage → get_elem? s.views id ≡ some v → (j : ℕ) (u : View C) → j ≢ id → get_elem? s.views j ≡ some u
+      → Apart (record v { stage = stage }) u × Apart u (record v { stage = stage })
+  stays_apart stage same at j u ne there =
+      let l = k.apart id j v u (λ e. ne (sym e)) at there in
+      let r = k.apart j id u v ne there at in
+      ((l.0, subst (λ z. TicketsApart z (ticket_of u.stage)) (sym same) l.1), (r.0, subst (TicketsApart (ticket_of u.stage)) (sym same) r.1))
+
+  -- a change that leaves the view its draws and its parts changes neither sum
+  pub draws_stay : (w : View C) → w.draws ≡ v.draws → get_elem? s.views id ≡ some v → k.tickets + sum_by (λ (u : View C). u.draws) (set s.views id w) ≡ all_draws
+  draws_stay w same at = let all : k.tickets + sum_by (λ (u : View C). u.draws) s.views ≡ all_draws = k.draws in omega (arith, total_set (λ (u : View C). u.draws) s.views id v w at, same)
+
+  pub parts_stay : (w : View C) → w.parts ≡ v.parts → get_elem? s.views id ≡ some v → sum_by (λ (u : View C). u.parts) (set s.views id w) ≡ callers
+  parts_stay w same at = let all = k.parts in omega (arith, total_set (λ (u : View C). u.parts) s.views id v w at, same)
 
   -- whoever holds the slot has it out
   pub is_out : HoldsSlot v.stage → get_elem? s.views id ≡ some v → IsHome leads k.serving k.history s ⊎ IsOut k.serving k.history s → IsOut k.serving k.history s

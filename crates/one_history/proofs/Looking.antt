@@ -1,64 +1,68 @@
-use Rattle.std.proofs.Common.{◌≡◌, ◌≢◌, ℕ, false, [], ◌∷◌, length, set, ◌⊎◌, inl, inr, refl, ap, sym, subst, ◌∙◌, arith, Some}
+use Rattle.std.proofs.Common.{◌≡◌, ◌≢◌, ℕ, false, [], ◌∷◌, length, set, ◌⊎◌, inl, inr, refl, ap, sym, subst, ◌∙◌, arith, Option, Some}
 use mathlib.Core.Logic.{dite}
 use mathlib.Core.Option.{some, none}
 use native.Mathlib.Decide.{ℕ_discrete}
 use lib.ListN.{get_elem?}
-use Rattle.atomic_table.specs.Table.{keeps, takes, Allows, rest}
+use Rattle.atomic_table.specs.Table.{Act, keeps, takes, Allows, rest, homes_after}
 use Rattle.atomic_table.proofs.Lists.{set_again, set_here}
+use Rattle.one_history.specs.declared.view.Stage.{Stage}
 use Rattle.one_history.specs.declared.view.Stage.TheVariants.{Idle, Waiting, Holding}
 use Rattle.one_history.specs.declared.view.View.{View}
 use Rattle.one_history.specs.Histories.{Leading}
-use Rattle.one_history.specs.Rules.{TableState, ticket_of, TicketsApart, StageFits, Fits, IsHome, IsOut, Kept}
+use Rattle.one_history.specs.Rules.{TableState, ticket_of, StageFits, Fits, IsHome, IsOut, Kept}
 use Rattle.one_history.specs.Steps.{Knowing, with_seen, IsServed, LooksAt, Looks, Hears}
-use Rattle.one_history.proofs.ViewLists.{prefix_self, total_set, each_set, at_inside, held_set}
-use Rattle.one_history.proofs.Keeping.{any_step, GoesAt, idle_holds_none, apart_set, place_set, learned, holder_view}
+use Rattle.one_history.proofs.ViewLists.{prefix_self, each_set, at_inside, held_set}
+use Rattle.one_history.proofs.Keeping.{any_step, GoesAt, idle_holds_none, apart_set, place_set, learned, holder_view, stays_apart, draws_stay, parts_stay}
 
 -- Looking which ticket is served keeps the rule.
 
 module _ {D C : Type 0} (leads : Leading D C) (callers id : ℕ) (m : Knowing D C) (s : TableState D C) (k : Kept leads callers s) where
+  -- the table after the pass has seen the whole history and done this with the slot
+  abbrev seen_all : Stage → Act (Option D) → TableState D C
+  seen_all stage act = record { words = k.tickets ∷ k.serving ∷ length k.history ∷ []; homes = homes_after s.homes m.1 act; views = set s.views id (with_seen m.0 stage k.history) }
+
+  -- a pass that sees the whole history and keeps its ticket keeps the rule
+  sees_all : get_elem? s.views id ≡ some m.0 → (stage : Stage) (act : Act (Option D)) → ticket_of stage ≡ ticket_of m.0.stage → StageFits k.tickets k.serving k.history (with_seen m.0 stage k.history) stage
+      → IsHome leads k.serving k.history (seen_all stage act) ⊎ IsOut k.serving k.history (seen_all stage act) → Kept leads callers (seen_all stage act)
+  sees_all at stage act same fits place =
+      let v = m.0 in
+      let w = with_seen v stage k.history in
+      let f = k.each id v at in
+      record {
+        tickets = k.tickets;
+        serving = k.serving;
+        history = k.history;
+        order = k.order;
+        words = refl;
+        draws = draws_stay leads callers s k id v w refl at;
+        parts = parts_stay leads callers s k id v w refl at;
+        legal = k.legal;
+        each = each_set (λ _ u. Fits k.tickets k.serving k.history u) s.views id w (record { seen = prefix_self k.history; heard = f.heard; own = f.own; stage = fits }) (λ j u _ there. k.each j u there);
+        apart = apart_set s.views id w k.apart (stays_apart leads callers s k id v stage same at);
+        held = λ t from below. held_set s.views id v w t at (λ has. same ∙ has) (k.held t from below);
+        place = place;
+      }
+
   -- the ticket is served: the pass takes the slot
   served : get_elem? s.views id ≡ some m.0 → m.0.stage ≡ Waiting k.serving → IsHome leads k.serving k.history s
       → GoesAt leads callers s (k.tickets ∷ k.serving ∷ length k.history ∷ []) id m 1 (λ n. n) (λ n new. LooksAt leads (Waiting k.serving) m n new)
   served at is home =
       let v = m.0 in
       let w = with_seen v (Holding k.serving false) k.history in
-      let draws = total_set (λ u. u.draws) s.views id v w at in
-      let all = k.draws in
-      let parts = total_set (λ u. u.parts) s.views id v w at in
-      let all_parts = k.parts in
-      let f = k.each id v at in
-      let waits = subst (StageFits k.tickets k.serving k.history v) is f.stage in
+      let waits = subst (StageFits k.tickets k.serving k.history v) is (k.each id v at).stage in
       let long = home.long in (
         w,
         takes 0 (Some home.value),
         ap (λ hs. get_elem? hs 0) home.homes,
-        record {
-          tickets = k.tickets;
-          serving = k.serving;
-          history = k.history;
-          order = k.order;
-          words = refl;
-          draws = omega arith;
-          parts = omega arith;
-          legal = k.legal;
-          each = each_set (λ _ u. Fits k.tickets k.serving k.history u) s.views id w
-              (record { seen = prefix_self k.history; heard = f.heard; own = f.own; stage = (refl, waits.1, waits.2, waits.3, refl) })
-              (λ j u _ there. k.each j u there);
-          apart = apart_set s.views id w k.apart (λ j u ne there.
-              let l = k.apart id j v u (λ e. ne (sym e)) at there in
-              let r = k.apart j id u v ne there at in
-              ((l.0, subst (λ z. TicketsApart (ticket_of z) (ticket_of u.stage)) is l.1), (r.0, subst (λ z. TicketsApart (ticket_of u.stage) (ticket_of z)) is r.1)));
-          held = λ t from below. held_set s.views id v w t at (λ has. ap ticket_of (sym is) ∙ has) (k.held t from below);
-          place = inr record {
-            homes = ap (λ hs. set hs 0 none) home.homes;
-            holder = id;
-            view = w;
-            raised = false;
-            here = set_here s.views id w (at_inside s.views id v at);
-            stage = refl;
-            long = omega arith;
-          };
-        },
+        sees_all at (Holding k.serving false) (takes 0 (Some home.value)) (ap ticket_of (sym is)) (refl, waits.1, waits.2, waits.3, refl) (inr record {
+          homes = ap (λ hs. set hs 0 none) home.homes;
+          holder = id;
+          view = w;
+          raised = false;
+          here = set_here s.views id w (at_inside s.views id v at);
+          stage = refl;
+          long = omega arith;
+        }),
         ((λ _. record { history = k.history; value = home.value; after = refl; can = home.can; learns = learned leads callers s k id v at }), (λ ne. absurd (ne refl))),
       )
 
@@ -94,31 +98,12 @@ module _ {D C : Type 0} (leads : Leading D C) (callers id : ℕ) (m : Knowing D 
       → GoesAt leads callers s (k.tickets ∷ k.serving ∷ length k.history ∷ []) id m 1 (λ n. n) (Hears leads any_step m)
   hears_at at is =
       let v = m.0 in
-      let w = with_seen v v.stage k.history in
-      let draws = total_set (λ u. u.draws) s.views id v w at in
-      let all = k.draws in
-      let parts = total_set (λ u. u.parts) s.views id v w at in
-      let all_parts = k.parts in
-      let f = k.each id v at in (
+      let w = with_seen v v.stage k.history in (
         w,
         keeps,
         tt,
-        record {
-          tickets = k.tickets;
-          serving = k.serving;
-          history = k.history;
-          order = k.order;
-          words = refl;
-          draws = omega arith;
-          parts = omega arith;
-          legal = k.legal;
-          each = each_set (λ _ u. Fits k.tickets k.serving k.history u) s.views id w
-              (record { seen = prefix_self k.history; heard = f.heard; own = f.own; stage = subst (StageFits k.tickets k.serving k.history w) (sym is) tt })
-              (λ j u _ there. k.each j u there);
-          apart = apart_set s.views id w k.apart (λ j u ne there. (k.apart id j v u (λ e. ne (sym e)) at there, k.apart j id u v ne there at));
-          held = λ t from below. held_set s.views id v w t at (λ has. has) (k.held t from below);
-          place = place_set leads k.serving k.history s _ id v w at (idle_holds_none v.stage is) (idle_holds_none v.stage is) k.place;
-        },
+        sees_all at v.stage keeps refl (subst (StageFits k.tickets k.serving k.history w) (sym is) tt)
+            (place_set leads k.serving k.history s _ id v w at (idle_holds_none v.stage is) (idle_holds_none v.stage is) k.place),
         record { history = k.history; after = refl; learns = learned leads callers s k id v at },
       )
 

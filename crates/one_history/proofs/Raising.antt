@@ -1,4 +1,4 @@
-use Rattle.std.proofs.Common.{◌≡◌, ◌≢◌, ℕ, ◌+◌, ◌%◌, ◌^◌, true, false, List, [], ◌∷◌, ◌++◌, length, sum_by, inr, refl, ap, sym, subst, ◌∙◌, arith, length-append, Some}
+use Rattle.std.proofs.Common.{◌≡◌, ℕ, ◌+◌, ◌%◌, ◌^◌, true, false, List, [], ◌∷◌, ◌++◌, length, sum_by, inr, refl, ap, sym, subst, ◌∙◌, arith, length-append, Some}
 use mathlib.Core.Option.{some}
 use mathlib.Core.List.{IsPrefix}
 use lib.ListN.{get_elem?}
@@ -9,11 +9,11 @@ use Rattle.one_history.specs.declared.view.Stage.{Stage}
 use Rattle.one_history.specs.declared.view.Stage.TheVariants.{Idle, Waiting, Holding}
 use Rattle.one_history.specs.declared.view.View.{View}
 use Rattle.one_history.specs.Histories.{Leading, IsLegal, IsCaller, entry_of}
-use Rattle.one_history.specs.Rules.{TableState, ticket_of, TicketsApart, StageFits, Fits, HoldsSlot, raises, IsOut, all_draws, Kept}
+use Rattle.one_history.specs.Rules.{TableState, ticket_of, TicketsApart, StageFits, Fits, HoldsSlot, IsOut, all_draws, Kept}
 use Rattle.one_history.specs.Steps.{Knowing, adding, raised_stage, Raises}
-use Rattle.one_history.proofs.ViewLists.{prefix_self, prefix_more, total_set, each_set, at_inside, held_set}
+use Rattle.one_history.proofs.ViewLists.{prefix_self, prefix_more, each_set, at_inside, held_set}
 use Rattle.one_history.proofs.Growing.{own_more, own_other}
-use Rattle.one_history.proofs.Keeping.{any_step, GoesAt, apart_set, holder_view, is_out}
+use Rattle.one_history.proofs.Keeping.{any_step, GoesAt, apart_set, holding, others_apart, stays_apart, draws_stay, parts_stay, is_out}
 
 -- Raising the count keeps the rule: the holder of the slot adds its call to the history.
 
@@ -31,24 +31,18 @@ module _ {D C : Type 0} (leads : Leading D C) (callers id : ℕ) (m : Knowing D 
       let v = m.0 in
       let w = adding v (raised_stage v.stage) call in
       let e = entry_of v call in
-      let draws = total_set (λ u. u.draws) s.views id v w at in
       let all : k.tickets + sum_by (λ (u : View C). u.draws) s.views ≡ all_draws = k.draws in
-      let parts = total_set (λ u. u.parts) s.views id v w at in
-      let all_parts = k.parts in
       let f = k.each id v at in
-      let holds = subst (StageFits k.tickets k.serving k.history v) is f.stage in
-      let mine : ticket_of v.stage ≡ Some k.serving = ap ticket_of is ∙ ap (λ (x : ℕ). Some x) holds.0 in
-      let same = holder_view leads callers s k id v out at mine in
-      let stages : Holding t false ≡ Holding k.serving out.raised = sym is ∙ (ap (λ (u : View C). u.stage) (sym same) ∙ out.stage) in
-      let first : out.raised ≡ false = cc stages in
-      let long : length k.history ≡ k.serving + raises false = out.long ∙ ap (λ b. k.serving + raises b) first in
+      let has_slot = holding leads callers s k id v t false is at out in
+      let holds = has_slot.0 in
+      let long = has_slot.2 in
       let grown = length-append k.history (e ∷ []) in
       let below = holds.1 in
       let is_served = holds.0 in
       let whole : v.seen ++ e ∷ [] ≡ k.history ++ e ∷ [] = ap (λ l. l ++ e ∷ []) holds.4 in
       let after : raised_stage v.stage ≡ Holding t true = ap raised_stage is in
       let tickets : ticket_of v.stage ≡ ticket_of (raised_stage v.stage) = ap ticket_of is ∙ ap ticket_of (sym after) in
-      let others : (j : ℕ) (u : View C) → j ≢ id → get_elem? s.views j ≡ some u → TicketsApart (ticket_of u.stage) (Some k.serving) = λ j u ne there. subst (TicketsApart (ticket_of u.stage)) mine (k.apart j id u v ne there at).1 in (
+      let others = others_apart leads callers s k id v has_slot.1 at in (
         w,
         keeps,
         tt,
@@ -58,8 +52,8 @@ module _ {D C : Type 0} (leads : Leading D C) (callers id : ℕ) (m : Knowing D 
           history = k.history ++ e ∷ [];
           order = k.order;
           words = ap (λ x. k.tickets ∷ k.serving ∷ x ∷ []) (omega arith);
-          draws = omega arith;
-          parts = omega arith;
+          draws = draws_stay leads callers s k id v w refl at;
+          parts = parts_stay leads callers s k id v w refl at;
           legal = subst (IsLegal leads) whole legal;
           each = each_set (λ _ u. Fits k.tickets k.serving (k.history ++ e ∷ []) u) s.views id w
               (record {
@@ -74,10 +68,7 @@ module _ {D C : Type 0} (leads : Leading D C) (callers id : ℕ) (m : Knowing D 
                 own = own_other k.history e v.role u.role u.mine caller refl (k.apart j id u v ne there at).0 g.own;
                 stage = stage_other k.tickets k.serving k.history (k.history ++ e ∷ []) u u.stage (others j u ne there) g.stage;
               });
-          apart = apart_set s.views id w k.apart (λ j u ne there.
-              let l = k.apart id j v u (λ e. ne (sym e)) at there in
-              let r = k.apart j id u v ne there at in
-              ((l.0, subst (λ z. TicketsApart z (ticket_of u.stage)) tickets l.1), (r.0, subst (λ z. TicketsApart (ticket_of u.stage) z) tickets r.1)));
+          apart = apart_set s.views id w k.apart (stays_apart leads callers s k id v w.stage (sym tickets) at);
           held = λ u from below. held_set s.views id v w u at (λ has. sym tickets ∙ has) (k.held u from below);
           place = inr record {
             homes = out.homes;

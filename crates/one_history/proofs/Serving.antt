@@ -1,4 +1,4 @@
-use Rattle.std.proofs.Common.{◌≡◌, ◌≢◌, ℕ, ◌+◌, ◌%◌, ◌^◌, ◌≤◌, true, false, List, [], ◌∷◌, ◌++◌, length, set, sum_by, inl, refl, ap, sym, subst, ◌∙◌, arith, Option, Some, None}
+use Rattle.std.proofs.Common.{◌≡◌, ℕ, ◌+◌, ◌%◌, ◌^◌, ◌≤◌, true, false, List, [], ◌∷◌, ◌++◌, length, set, sum_by, inl, refl, ap, sym, subst, ◌∙◌, arith, Option, Some, None}
 use mathlib.Core.Logic.{dite}
 use mathlib.Core.Option.{some}
 use native.Mathlib.Decide.{ℕ_discrete}
@@ -9,10 +9,10 @@ use Rattle.one_history.specs.declared.view.Stage.{Stage}
 use Rattle.one_history.specs.declared.view.Stage.TheVariants.{Idle, Waiting, Holding}
 use Rattle.one_history.specs.declared.view.View.{View}
 use Rattle.one_history.specs.Histories.{Leading, entry_of}
-use Rattle.one_history.specs.Rules.{TableState, ticket_of, TicketsApart, StageFits, Fits, HoldsSlot, raises, IsOut, all_draws, Kept}
+use Rattle.one_history.specs.Rules.{TableState, ticket_of, TicketsApart, StageFits, Fits, HoldsSlot, IsOut, all_draws, Kept}
 use Rattle.one_history.specs.Steps.{Knowing, with_seen, adding, raised_stage, Serves}
-use Rattle.one_history.proofs.ViewLists.{total_set, each_set, held_set}
-use Rattle.one_history.proofs.Keeping.{any_step, GoesAt, no_ticket, apart_set, holder_view, is_out}
+use Rattle.one_history.proofs.ViewLists.{each_set, held_set}
+use Rattle.one_history.proofs.Keeping.{any_step, GoesAt, no_ticket, apart_set, holding, others_apart, draws_stay, parts_stay, is_out}
 
 -- Serving the next ticket keeps the rule: the slot goes back, with the value in it.
 
@@ -34,20 +34,15 @@ module _ {D C : Type 0} (leads : Leading D C) (callers id : ℕ) (m : Knowing D 
   serves_at is has can at out =
       let v = m.0 in
       let w = with_seen v Idle v.seen in
-      let draws = total_set (λ u. u.draws) s.views id v w at in
       let all : k.tickets + sum_by (λ (u : View C). u.draws) s.views ≡ all_draws = k.draws in
-      let parts = total_set (λ u. u.parts) s.views id v w at in
-      let all_parts = k.parts in
       let f = k.each id v at in
-      let holds = subst (StageFits k.tickets k.serving k.history v) is f.stage in
-      let mine : ticket_of v.stage ≡ Some k.serving = ap ticket_of is ∙ ap (λ (x : ℕ). Some x) holds.0 in
-      let same = holder_view leads callers s k id v out at mine in
-      let stages : Holding t true ≡ Holding k.serving out.raised = sym is ∙ (ap (λ (u : View C). u.stage) (sym same) ∙ out.stage) in
-      let second : out.raised ≡ true = cc stages in
-      let long : length k.history ≡ k.serving + raises true = out.long ∙ ap (λ b. k.serving + raises b) second in
+      let has_slot = holding leads callers s k id v t true is at out in
+      let holds = has_slot.0 in
+      let mine = has_slot.1 in
+      let long = has_slot.2 in
       let below = holds.1 in
       let is_served = holds.0 in
-      let others : (j : ℕ) (u : View C) → j ≢ id → get_elem? s.views j ≡ some u → TicketsApart (ticket_of u.stage) (Some k.serving) = λ j u ne there. subst (TicketsApart (ticket_of u.stage)) mine (k.apart j id u v ne there at).1 in
+      let others = others_apart leads callers s k id v mine at in
       let kept : (u : ℕ) → k.serving + 1 ≤ u → ticket_of v.stage ≡ Some u → ticket_of Idle ≡ Some u = λ u from has_it.
       let both : Some k.serving ≡ Some u = sym mine ∙ has_it in
       let one : k.serving ≡ u = cc both in absurd (omega arith) in (
@@ -60,8 +55,8 @@ module _ {D C : Type 0} (leads : Leading D C) (callers id : ℕ) (m : Knowing D 
           history = k.history;
           order = omega arith;
           words = ap (λ x. k.tickets ∷ x ∷ length k.history ∷ []) (omega arith);
-          draws = omega arith;
-          parts = omega arith;
+          draws = draws_stay leads callers s k id v w refl at;
+          parts = parts_stay leads callers s k id v w refl at;
           legal = k.legal;
           each = each_set (λ _ u. Fits k.tickets (k.serving + 1) k.history u) s.views id w
               (record { seen = f.seen; heard = f.heard; own = f.own; stage = tt })
