@@ -8,6 +8,7 @@ use Rattle.plan_base.specs.declared.ids.ArcId.{ArcId}
 use Rattle.plan_base.specs.declared.parts.Parts.{Parts}
 use Rattle.plan_base.specs.Leaving.{AreLeaving}
 use Rattle.least_path.specs.Paths.{Weights, IsUsable}
+use Rattle.limited_path.specs.declared.label.Label.{Label}
 use Rattle.limited_path.specs.Labels.{Labels, Latest, label_at, latest_at, IsLabel, IsKnown, IsOf, AreWays, IsRelaxed, IsDone, IsRound, AreRounds, IsSpread, IsSearch, first_label_of, first_labels_of, first_latest_of}
 use Rattle.limited_path.proofs.WrittenLaws.{same_or_not, lt_or_le, below_cases, some_same}
 use Rattle.limited_path.proofs.OfferLaws.{few-labels}
@@ -21,20 +22,25 @@ spread-done p ws s ls la start n k arcs leaving h = λ a usable tail.
     let stands = leaving.complete a usable.is_an_arc tail in
     subst (λ (x : ArcId). IsRelaxed p ws ls (label_at ls k) x) stands.is (h.relaxed stands.place stands.within (subst (λ (x : ArcId). IsUsable p ws x) (sym stands.is) usable))
 
-pub spread-end : (p : Parts) (ws : Weights) (s : NodeId) (ls : Labels) (la : Latest) (start n k : ℕ) (arcs : List ArcId) → AreLeaving p (label_at ls k).node.0 arcs → IsSpread p ws s ls la start n k arcs (length arcs) → IsRound p ws s ls la start n (k + 1)
-spread-end p ws s ls la start n k arcs leaving h = record {
-  ways = h.round.ways;
-  some_before = h.round.some_before;
-  start_within = h.round.start_within;
-  few = h.round.few;
-  before = h.round.before;
-  front = λ i from below. h.round.front i (omega (arith, from)) below;
-  done = λ i below. elim (below_cases i k (omega (arith, below))) [
-    | inl earlier ↦ h.round.done i earlier
-    | inr is ↦ subst (λ (x : ℕ). IsDone p ws ls (label_at ls x)) (sym is) (spread-done p ws s ls la start n k arcs leaving h)
-  ];
-  new = h.round.new;
-}
+-- when the way through the arcs is at its end, the round goes on with the next label
+pub spread-end : (p : Parts) (ws : Weights) (s : NodeId) (ls : Labels) (la : Latest) (start n k : ℕ) (here : Label) (arcs : List ArcId) (m : ℕ) → label_at ls k ≡ here → AreLeaving p here.node.0 arcs → m ≡ length arcs
+    → IsSpread p ws s ls la start n k arcs m → IsRound p ws s ls la start n (k + 1)
+spread-end p ws s ls la start n k here arcs m here_is leave all spread =
+    let leaving : AreLeaving p (label_at ls k).node.0 arcs = subst (λ (x : Label). AreLeaving p x.node.0 arcs) (sym here_is) leave in
+    let h : IsSpread p ws s ls la start n k arcs (length arcs) = subst (IsSpread p ws s ls la start n k arcs) all spread in
+    record {
+      ways = h.round.ways;
+      some_before = h.round.some_before;
+      start_within = h.round.start_within;
+      few = h.round.few;
+      before = h.round.before;
+      front = λ i from below. h.round.front i (omega (arith, from)) below;
+      done = λ i below. elim (below_cases i k (omega (arith, below))) [
+        | inl earlier ↦ h.round.done i earlier
+        | inr is ↦ subst (λ (x : ℕ). IsDone p ws ls (label_at ls x)) (sym is) (spread-done p ws s ls la start n k arcs leaving h)
+      ];
+      new = h.round.new;
+    }
 
 -- one round more
 round-times : (n m : ℕ) → 0 < n → (n - 1) * m + m ≡ n * m

@@ -1,6 +1,5 @@
 use Rattle.std.proofs.Common.{◌≡◌, ◌+◌, ◌∙◌, ◌<◌, ℕ, Option, IsSome, false, true, get_or, length, refl, sym, ap, subst, arith}
 use Rattle.plan_base.specs.Arcs.{no_arc}
-use Rattle.plan_base.specs.Leaving.{AreLeaving}
 use Rattle.limited_path.specs.declared.label.Label.{Label}
 use Rattle.limited_path.specs.declared.ways.Ways.{Ways}
 use Rattle.limited_path.specs.Labels.{Labels, Latest, IsSpread, label_at, place_of, labels_with, latest_with}
@@ -73,15 +72,5 @@ loop-arc-preserved c =
 
 pub returns-clause-round : goal.returns-clause-round
 returns-clause-round c =
-    let p = c.args.self.now.inst.now in
-    let ws = c.args.self.now.weights.now in
-    let s = c.args.self.now.source in
-    let start = c.args.round.start in
-    let n = c.args.round.steps in
-    let k = c.args.place in
-    let arcs = c.leaving-arc-items.result.now in
-    let ls = c.loop-arc.ways.labels.items in
-    let la = c.loop-arc.ways.latest.items in
-    let all : c.loop-arc.arc-index ≡ length arcs = omega arith in
-    let leaving : AreLeaving p (label_at ls k).node.0 arcs = subst (λ (x : Label). AreLeaving p x.node.0 arcs) (sym c.loop-arc.invariant.label_is) c.leaving-arc-items.ensures.value in
-    spread-end p ws s ls la start n k arcs leaving (subst (IsSpread p ws s ls la start n k arcs) all c.loop-arc.invariant.spread)
+    spread-end c.args.self.now.inst.now c.args.self.now.weights.now c.args.self.now.source c.loop-arc.ways.labels.items c.loop-arc.ways.latest.items c.args.round.start c.args.round.steps c.args.place
+    c.index-here.result.now c.leaving-arc-items.result.now c.loop-arc.arc-index c.loop-arc.invariant.label_is c.leaving-arc-items.ensures.value (omega arith) c.loop-arc.invariant.spread
