@@ -11,12 +11,14 @@ use Rattle.cert_format.proofs.Cutting.{text_of_lines}
 use Rattle.std.proofs.lemmas.Bool.{cases_Bool}
 use Rattle.proof_tree.specs.declared.plan.Plan.{Plan}
 use Rattle.cert_format.specs.Grammar.{end_line}
-use Rattle.cert_format.specs.Bodies.{only_if, fixed_of, number_row, record_of}
-use Rattle.cert_format.proofs.BodyLaws.{number_row_takes}
+use Rattle.cert_format.specs.declared.numbering.Ground.{Ground}
+use Rattle.cert_format.specs.Lists.{is_among, named_behind}
+use Rattle.cert_format.specs.Bodies.{only_if, fixed_of, number_row, list_row}
+use Rattle.cert_format.proofs.BodyLaws.{number_row_takes, list_takes}
 use Rattle.cert_format.proofs.ReadingLaws.{one_line}
-use Rattle.cert_format.specs.Reading.{◌>>=◌, bind, done, judged, one, many, records, place_of, nothing_behind, last_line, ending}
-use Rattle.cert_format.specs.Drafts.{left_open, is_complete}
-use Rattle.cert_format.specs.Answers.{StopsAt, Stops, HasNoLine, IsNoLine}
+use Rattle.cert_format.specs.Reading.{◌>>=◌, bind, done, judged, one, many, lists, record_on, records, place_of, nothing_behind, last_line, ending}
+use Rattle.cert_format.specs.Drafts.{left_open, Stated, is_complete}
+use Rattle.cert_format.specs.Answers.{StopsAt, Stops, Reads, HasNoLine, IsNoLine}
 
 -- ---- one line
 
@@ -92,35 +94,62 @@ unfolding many bind done
 many_end f zero front ls none = ap (ok-with ls) (append-nil front)
 many_end f (suc n) front ls none = absurd (omega arith)
 
+-- ---- price lists
+
+pub lists_more : (places left : ℕ) (before : List (List ℕ)) (ls : List Line) (list : List ℕ) (rest : List Line) → 0 < left → one (list_row places before) ls ≡ Ok (list, rest) → lists places left before ls ≡ lists places (left - 1) (before ++ list ∷ []) rest
+unfolding lists bind
+lists_more places zero before ls list rest some e = absurd (omega arith)
+lists_more places (suc n) before ls list rest some e =
+    let less : suc n - 1 ≡ n = omega arith in
+    ap (λ r. r >>= λ p. lists places n (before ++ p.0 ∷ []) p.1) e ∙ ap (λ k. lists places k (before ++ list ∷ []) rest) (sym less)
+
+pub lists_stop : (places left : ℕ) (before : List (List ℕ)) (ls : List Line) (e : Stop) → 0 < left → Stops e (one (list_row places before) ls) → Stops e (lists places left before ls)
+unfolding lists bind
+lists_stop places zero before ls e some s = absurd (omega arith)
+lists_stop places (suc n) before ls e some s = through e (one (list_row places before) ls) (λ p. lists places n (before ++ p.0 ∷ []) p.1) s
+
+pub lists_end : (places left : ℕ) (before : List (List ℕ)) (ls : List Line) → left ≡ 0 → lists places left before ls ≡ Ok (before, ls)
+unfolding lists done
+lists_end places zero before ls none = refl
+lists_end places (suc n) before ls none = absurd (omega arith)
+
+pub list_fresh : (places : ℕ) (before : List (List ℕ)) (ls : List Line) (list : List ℕ) (rest : List Line) → one (list_row places before) ls ≡ Ok (list, rest) → is_among before list ≡ false
+list_fresh places before ls list rest e =
+    let (body, is, read) = one_line (list_row places before) ls list rest e in
+    (list_takes places before body list read).0.fresh
+
 -- ---- the records of a tree
 
-module _ (nodes links : ℕ) where
-  pub records_more : (left trees : ℕ) (front : List TreeNode) (ls : List Line) (node : TreeNode) (rest : List Line) → 0 < left → 0 < trees → one (record_of nodes links) ls ≡ Ok (node, rest)
-      → in_front front (records nodes links left trees ls) ≡ in_front (front ++ node ∷ []) (records nodes links (left - 1) (left_open node (trees - 1)) rest)
+module _ (g : Ground) where
+  abbrev later : ℕ → TreeNode → ℕ
+  later named node = named_behind g.form g.lists named node
+
+  pub records_more : (named left trees : ℕ) (front : List TreeNode) (ls : List Line) (node : TreeNode) (rest : List Line) → 0 < left → 0 < trees → one (record_on g named) ls ≡ Ok (node, rest)
+      → in_front front (records g named left trees ls) ≡ in_front (front ++ node ∷ []) (records g (later named node) (left - 1) (left_open node (trees - 1)) rest)
   unfolding records bind done
-  records_more zero trees front ls node rest some grows e = absurd (omega arith)
-  records_more (suc n) zero front ls node rest some grows e = absurd (omega arith)
-  records_more (suc n) (suc others) front ls node rest some grows e =
+  records_more named zero trees front ls node rest some grows e = absurd (omega arith)
+  records_more named (suc n) zero front ls node rest some grows e = absurd (omega arith)
+  records_more named (suc n) (suc others) front ls node rest some grows e =
       let less : suc n - 1 ≡ n = omega arith in
       let fewer : suc others - 1 ≡ others = omega arith in
-      ap (λ r. in_front front (r >>= λ p. bind (records nodes links n (left_open p.0 others)) (λ more. done (p.0 ∷ more)) p.1)) e
-      ∙ front_more front node (records nodes links n (left_open node others) rest)
-      ∙ ap (λ k. in_front (front ++ node ∷ []) (records nodes links k (left_open node others) rest)) (sym less)
-      ∙ ap (λ k. in_front (front ++ node ∷ []) (records nodes links (suc n - 1) (left_open node k) rest)) (sym fewer)
+      ap (λ r. in_front front (r >>= λ p. bind (records g (later named p.0) n (left_open p.0 others)) (λ more. done (p.0 ∷ more)) p.1)) e
+      ∙ front_more front node (records g (later named node) n (left_open node others) rest)
+      ∙ ap (λ k. in_front (front ++ node ∷ []) (records g (later named node) k (left_open node others) rest)) (sym less)
+      ∙ ap (λ k. in_front (front ++ node ∷ []) (records g (later named node) (suc n - 1) (left_open node k) rest)) (sym fewer)
 
-  pub records_stop : (left trees : ℕ) (front : List TreeNode) (ls : List Line) (e : Stop) → 0 < left → 0 < trees → Stops e (one (record_of nodes links) ls) → Stops e (in_front front (records nodes links left trees ls))
+  pub records_stop : (named left trees : ℕ) (front : List TreeNode) (ls : List Line) (e : Stop) → 0 < left → 0 < trees → Stops e (one (record_on g named) ls) → Stops e (in_front front (records g named left trees ls))
   unfolding records bind done
-  records_stop zero trees front ls e some grows s = absurd (omega arith)
-  records_stop (suc n) zero front ls e some grows s = absurd (omega arith)
-  records_stop (suc n) (suc others) front ls e some grows s =
-      through e (one (record_of nodes links) ls >>= λ p. bind (records nodes links n (left_open p.0 others)) (λ more. done (p.0 ∷ more)) p.1) (in_front_of front)
-      (through e (one (record_of nodes links) ls) (λ p. bind (records nodes links n (left_open p.0 others)) (λ more. done (p.0 ∷ more)) p.1) s)
+  records_stop named zero trees front ls e some grows s = absurd (omega arith)
+  records_stop named (suc n) zero front ls e some grows s = absurd (omega arith)
+  records_stop named (suc n) (suc others) front ls e some grows s =
+      through e (one (record_on g named) ls >>= λ p. bind (records g (later named p.0) n (left_open p.0 others)) (λ more. done (p.0 ∷ more)) p.1) (in_front_of front)
+      (through e (one (record_on g named) ls) (λ p. bind (records g (later named p.0) n (left_open p.0 others)) (λ more. done (p.0 ∷ more)) p.1) s)
 
-  pub records_end : (left trees : ℕ) (front : List TreeNode) (ls : List Line) → (left ≡ 0) ⊎ (trees ≡ 0) → in_front front (records nodes links left trees ls) ≡ Ok (front, ls)
+  pub records_end : (named left trees : ℕ) (front : List TreeNode) (ls : List Line) → (left ≡ 0) ⊎ (trees ≡ 0) → in_front front (records g named left trees ls) ≡ Ok (front, ls)
   unfolding records bind done
-  records_end zero trees front ls none = ap (ok-with ls) (append-nil front)
-  records_end (suc n) zero front ls none = ap (ok-with ls) (append-nil front)
-  records_end (suc n) (suc others) front ls none = absurd (no none)
+  records_end named zero trees front ls none = ap (ok-with ls) (append-nil front)
+  records_end named (suc n) zero front ls none = ap (ok-with ls) (append-nil front)
+  records_end named (suc n) (suc others) front ls none = absurd (no none)
     where
       no : (suc n ≡ 0) ⊎ (suc others ≡ 0) → ⊥
       no (inl e) = omega arith
@@ -166,18 +195,35 @@ something-there plan (b ∷ rest) some =
     let (l, ls, is) = some-line b rest in
     ap (nothing_behind plan) is ∙ ap (λ us. Err us) (sym is)
 
-whole-ending : (d : ℕ × Plan) (plan : Plan) (ls rest : List Line) (u : Unit {0}) → Some plan ≡ only_if (is_complete d.0 d.1) d.1 → one (fixed_of end_line) ls ≡ Ok (u, rest) → ending (d, ls) ≡ nothing_behind plan rest
-whole-ending d plan ls rest u found e = by (is_complete d.0 d.1) refl found
+pub end_read : (plan : Plan) (ls : List Line) (rest : List ℕ) (u : Unit {0}) → one (fixed_of end_line) ls ≡ Ok (u, lines_of rest) → 0 ≡ length rest → last_line plan (one (fixed_of end_line) ls) ≡ Ok plan
+end_read plan ls rest u e none = ap (last_line plan) e ∙ nothing-there plan rest none
+
+pub end_refused : (plan : Plan) (ls : List Line) (rest : List ℕ) (u : Unit {0}) → one (fixed_of end_line) ls ≡ Ok (u, lines_of rest) → 0 < length rest → StopsAt (length rest) (last_line plan (one (fixed_of end_line) ls))
+end_refused plan ls rest u e some = record { bytes = rest; stops = ap (last_line plan) e ∙ something-there plan rest some; count = refl }
+
+pub end_stop : (plan : Plan) (e : Stop) (read : Result ((Unit {0}) × List Line) (List Line)) → Stops e read → Stops e (last_line plan read)
+end_stop plan Memory read s = tt
+end_stop plan (At left) read s = record { bytes = s.bytes; stops = ap (last_line plan) s.stops; count = s.count }
+
+pub ending_whole : (s : Stated) (plan : Plan) (ls : List Line) → Some plan ≡ only_if (is_complete s) s.plan → last_line plan (one (fixed_of end_line) ls) ≡ ending (s, ls)
+ending_whole s plan ls found = by (is_complete s) refl found
   where
-    by : (b : Bool) → is_complete d.0 d.1 ≡ b → Some plan ≡ only_if b d.1 → ending (d, ls) ≡ nothing_behind plan rest
-    by true t is = (let same : plan ≡ d.1 = cc in ap (λ b. if b then last_line d.1 (one (fixed_of end_line) ls) else Err ls) t ∙ ap (last_line d.1) e ∙ ap (λ p. nothing_behind p rest) (sym same))
+    by : (b : Bool) → is_complete s ≡ b → Some plan ≡ only_if b s.plan → last_line plan (one (fixed_of end_line) ls) ≡ ending (s, ls)
+    by true t is = (let same : plan ≡ s.plan = cc in ap (λ p. last_line p (one (fixed_of end_line) ls)) same ∙ ap (λ b. if b then last_line s.plan (one (fixed_of end_line) ls) else Err ls) (sym t))
     by false t is = absurd cc
 
-pub ending_read : (d : ℕ × Plan) (plan : Plan) (ls : List Line) (rest : List ℕ) (u : Unit {0}) → Some plan ≡ only_if (is_complete d.0 d.1) d.1 → one (fixed_of end_line) ls ≡ Ok (u, lines_of rest) → 0 ≡ length rest → ending (d, ls) ≡ Ok plan
-ending_read d plan ls rest u found e none = whole-ending d plan ls (lines_of rest) u found e ∙ nothing-there plan rest none
+pub ending_none : (s : Stated) (ls : List Line) → None ≡ only_if (is_complete s) s.plan → ending (s, ls) ≡ Err ls
+ending_none s ls found = by (is_complete s) refl found
+  where
+    by : (b : Bool) → is_complete s ≡ b → None ≡ only_if b s.plan → ending (s, ls) ≡ Err ls
+    by true t is = absurd cc
+    by false t is = ap (λ b. if b then last_line s.plan (one (fixed_of end_line) ls) else Err ls) t
 
-pub ending_refused : (d : ℕ × Plan) (plan : Plan) (ls : List Line) (rest : List ℕ) (u : Unit {0}) → Some plan ≡ only_if (is_complete d.0 d.1) d.1 → one (fixed_of end_line) ls ≡ Ok (u, lines_of rest) → 0 < length rest → StopsAt (length rest) (ending (d, ls))
-ending_refused d plan ls rest u found e some = record { bytes = rest; stops = whole-ending d plan ls (lines_of rest) u found e ∙ something-there plan rest some; count = refl }
+pub ending_stop : (s : Stated) (text : List ℕ) → None ≡ only_if (is_complete s) s.plan → StopsAt (length text) (ending (s, lines_of text))
+ending_stop s text found = record { bytes = text; stops = ending_none s (lines_of text) found; count = refl }
+
+pub reads_same : (result : Result Plan Stop) (read other : Result Plan (List Line)) → read ≡ other → Reads (λ plan. plan) result read → Reads (λ plan. plan) result other
+reads_same result read other is r = subst (Reads (λ plan. plan) result) is r
 
 -- ---- numbers within their limits
 

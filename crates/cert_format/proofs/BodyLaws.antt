@@ -1,11 +1,11 @@
 -- Each line is read exactly where it is written so.
-use Rattle.std.proofs.Common.{◌≡◌, ℕ, zero, suc, ◌^◌, ◌<◌, ◌≤◌, ◌==◌, ◌&&◌, ◌⊎◌, inl, inr, nat_lt, nat_le, Bool, true, false, cond, List, [], ◌∷◌, ◌++◌, length, map, codes, Option, Some, None, refl, sym, ap, subst, ◌∙◌, ℤ, pos, negsuc, arith}
+use Rattle.std.proofs.Common.{◌≡◌, ℕ, zero, suc, ◌-◌, ◌^◌, ◌<◌, ◌≤◌, ◌==◌, ◌&&◌, ◌⊎◌, inl, inr, nat_lt, nat_le, not, Bool, true, false, true≢false, cond, List, [], ◌∷◌, ◌++◌, length, take, drop, map, codes, Option, Some, None, refl, sym, ap, subst, ◌∙◌, append_assoc, length-append, ℤ, pos, negsuc, arith}
 use Rattle.std.specs.Prelude.{IfSome, MatchOption}
 use Rattle.std.specs.Option.{option_map}
 use Rattle.std.specs.List.{AllByRecursion}
 use Rattle.std.specs.Str.{bytes_eq}
 use Rattle.std.proofs.lemmas.Bool.{ne_eqb, eqb-true, eq-eqb, cases_Bool, and_parts, and_from, ltb-true, lt-ltb, leb-true, le-leb}
-use Rattle.std.proofs.lemmas.List.{length-map}
+use Rattle.std.proofs.lemmas.List.{length-map, append-nil, take_at, drop_at, take-append-drop}
 use Rattle.std.proofs.lemmas.Option.{cond_some}
 use Rattle.std.proofs.lemmas.Slice.Eq.{bytes_eq-Decides}
 use Rattle.scaled_numbers.specs.Canonical.{grains_text}
@@ -14,9 +14,13 @@ use Rattle.plan_base.specs.declared.limits.TheConstants.{MAX_NODES, MAX_LINKS, M
 use Rattle.proof_tree.specs.declared.limits.TheConstants.{MAX_PATH_ARCS}
 use Rattle.proof_tree.specs.declared.plan.PlanStatus.{PlanStatus}
 use Rattle.proof_tree.specs.declared.plan.PlanStatus.TheVariants.{Optimal, Infeasible, Undecided}
-use Rattle.cert_format.specs.Words.{◌>>=◌, numerals, row, behind, each, numbers_of, grains_of, row_of}
-use Rattle.cert_format.specs.Grammar.{size_line, status_line, number_line, cost_line, signed_text, bound_line, arc_numbers, counted, path_line, modules_line, AreArcs, IsBoundField}
-use Rattle.cert_format.specs.Bodies.{only_if, choose, fixed_of, one_in, number_row, sizes_with, sizes_in, size_row, status_of, none_or, cost_allowed, cost_of, positive, negative, signed_of, bound_of, numbered_arc, arc_of, count_of, uncounted, path_of, modules_of}
+use Rattle.cert_format.specs.declared.bodies.Sizes.{Sizes}
+use Rattle.cert_format.specs.declared.form.Form.{Form}
+use Rattle.cert_format.specs.declared.form.Form.TheVariants.{First, Second}
+use Rattle.cert_format.specs.Lists.{is_among}
+use Rattle.cert_format.specs.Words.{◌>>=◌, numerals, row, behind, before, each, numbers_of, grains_of, row_of}
+use Rattle.cert_format.specs.Grammar.{header_line, both_text, count_line, size_line, status_line, number_line, cost_line, signed_text, bound_line, arc_numbers, counted, path_line, modules_line, price_line, CanTell, AreArcs, IsBoundField}
+use Rattle.cert_format.specs.Bodies.{only_if, choose, fixed_of, one_in, number_row, sizes_with, sizes_in, count_row, with_both, size_row, form_of, status_of, none_or, cost_allowed, cost_of, positive, negative, signed_of, bound_of, numbered_arc, arc_of, count_of, uncounted, path_of, modules_of, list_row}
 use Rattle.cert_format.proofs.NumberWords.{then-some, map-some, behind_found, behind_takes, numbers_found, numbers_takes, each_takes, each_found}
 use Rattle.cert_format.proofs.Digits.{grains_found, grains_takes, grains_first}
 
@@ -99,39 +103,124 @@ sizes-takes (n ∷ l ∷ d ∷ []) x e =
     (subst AreSizes is (sizes-test n l d test), ap (λ (y : ℕ × ℕ × ℕ). y.0 ∷ y.1 ∷ y.2 ∷ []) is)
 sizes-takes (n ∷ l ∷ d ∷ k ∷ ns) x e = absurd cc
 
-pub size_takes : (body : List ℕ) (x : ℕ × ℕ × ℕ) → size_row body ≡ Some x → AreSizes x × (body ≡ size_line x.0 x.1 x.2)
-unfolding size_row
-size_takes body x e =
+count-takes-line : (body : List ℕ) (x : ℕ × ℕ × ℕ) → count_row body ≡ Some x → AreSizes x × (body ≡ count_line x.0 x.1 x.2)
+unfolding count_row
+count-takes-line body x e =
     let (ns, first, later) = then-some (row_of (codes "SIZE") body) sizes_in x e in
     let sizes = sizes-takes ns x later in
     (sizes.0, (row_takes (codes "SIZE") body ns first).1 ∙ ap (row (codes "SIZE")) sizes.1)
 
-pub size_again : (n l d : ℕ) → AreSizes (n, l, d) → size_row (size_line n l d) ≡ Some (n, l, d)
-unfolding size_row sizes_in
-size_again n l d s =
+count-again-line : (n l d : ℕ) → AreSizes (n, l, d) → count_row (count_line n l d) ≡ Some (n, l, d)
+unfolding count_row sizes_in
+count-again-line n l d s =
     ap (λ o. o >>= sizes_in) (row_again (codes "SIZE") (n ∷ l ∷ d ∷ []) (omega (arith, s.nodes), (omega (arith, s.links), (omega (arith, s.demands), tt))))
     ∙ only_true (nat_le n MAX_NODES && nat_le l MAX_LINKS && nat_le d MAX_DEMANDS) (sizes_with n l d)
     (and_from (nat_le n MAX_NODES && nat_le l MAX_LINKS) (nat_le d MAX_DEMANDS) (and_from (nat_le n MAX_NODES) (nat_le l MAX_LINKS) (le-leb n MAX_NODES s.nodes) (le-leb l MAX_LINKS s.links)) (le-leb d MAX_DEMANDS s.demands))
 
--- ---- the status
+-- the bytes before a word at their end
+before-takes : (word bytes rest : List ℕ) → before word bytes ≡ Some rest → bytes ≡ rest ++ word
+unfolding before
+before-takes word bytes rest e =
+    let k : ℕ = length bytes - length word in
+    let (test, is) = cond_some (bytes_eq (drop k bytes) word) (take k bytes) rest e in
+    sym (take-append-drop k bytes) ∙ ap (λ xs. xs ++ drop k bytes) is ∙ ap (λ xs. rest ++ xs) ((bytes_eq-Decides (drop k bytes) word).0 test)
 
-told : (body : List ℕ) (one s : PlanStatus) → bytes_eq body (status_line one) ≡ true → Some one ≡ Some s → body ≡ status_line s
-told body one s t is = (bytes_eq-Decides body (status_line one)).0 t ∙ ap status_line (let e : one ≡ s = cc in e)
+before-found : (word rest : List ℕ) → before word (rest ++ word) ≡ Some rest
+unfolding before
+before-found word rest =
+    let k : ℕ = length (rest ++ word) - length word in
+    let is : length rest ≡ k = omega (arith, length-append rest word) in
+    ap (λ t. cond t (Some (take k (rest ++ word))) None) (ap (λ xs. bytes_eq xs word) (drop_at rest word k is) ∙ (bytes_eq-Decides word word).1 refl)
+    ∙ ap (λ xs. Some xs) (take_at rest word k is)
+
+before-other : (rest : List ℕ) → before (codes " ONE") (rest ++ codes " BOTH") ≡ None
+unfolding before
+before-other rest =
+    let k : ℕ = length (rest ++ codes " BOTH") - length (codes " ONE") in
+    let is : length (rest ++ 32 ∷ []) ≡ k = omega (arith, length-append rest (codes " BOTH"), length-append rest (32 ∷ [])) in
+    let tail : drop k (rest ++ codes " BOTH") ≡ codes "BOTH" = ap (drop k) (sym (append_assoc rest (32 ∷ []) (codes "BOTH"))) ∙ drop_at (rest ++ 32 ∷ []) (codes "BOTH") k is in
+    ap (λ t. cond t (Some (take k (rest ++ codes " BOTH"))) None) (ap (λ xs. bytes_eq xs (codes " ONE")) tail)
+
+-- the sizes that a version can tell
+pub record AreTold (form : Form) (x : Sizes) : Type 0 where
+  pub sizes : AreSizes (x.nodes, x.links, x.demands)
+  pub told : CanTell form x.both
+
+abbrev size-of : Form → Sizes → List ℕ
+size-of form x = size_line form x.nodes x.links x.demands x.both
+
+-- these sizes
+abbrev pub sizes_at : ℕ → ℕ → ℕ → Bool → Sizes
+sizes_at n l d both = record { nodes = n; links = l; demands = d; both = both }
+
+second-takes : (both : Bool) (rest body : List ℕ) (x : Sizes) → body ≡ rest ++ both_text Second both → option_map (with_both both) (count_row rest) ≡ Some x → AreTold Second x × (body ≡ size-of Second x)
+second-takes both rest body x line e =
+    let (counts, found, is) = map-some (count_row rest) (with_both both) x e in
+    let c = count-takes-line rest counts found in
+    subst (λ (y : Sizes). AreTold Second y × (body ≡ size-of Second y)) is (record { sizes = c.0; told = tt }, line ∙ ap (λ xs. xs ++ both_text Second both) c.1)
+
+pub size_takes : (form : Form) (body : List ℕ) (x : Sizes) → size_row form body ≡ Some x → AreTold form x × (body ≡ size_line form x.nodes x.links x.demands x.both)
+unfolding size_row
+size_takes First body x e =
+    let (counts, found, is) = map-some (count_row body) (with_both false) x e in
+    let c = count-takes-line body counts found in
+    subst (λ (y : Sizes). AreTold First y × (body ≡ size-of First y)) is (record { sizes = c.0; told = refl }, c.1 ∙ sym (append-nil (count_line counts.0 counts.1 counts.2)))
+size_takes Second body x e =
+    elim (chosen (before (codes " ONE") body) (λ rest. option_map (with_both false) (count_row rest)) (choose (before (codes " BOTH") body) (λ rest. option_map (with_both true) (count_row rest)) None) x e) [
+      | inl (rest, first, later) ↦ second-takes false rest body x (before-takes (codes " ONE") body rest first) later
+      | inr other ↦ elim (chosen (before (codes " BOTH") body) (λ rest. option_map (with_both true) (count_row rest)) None x other) [
+        | inl (rest, first, later) ↦ second-takes true rest body x (before-takes (codes " BOTH") body rest first) later
+        | inr none ↦ absurd cc
+      ]
+    ]
+
+pub size_again : (form : Form) (n l d : ℕ) (both : Bool) → AreTold form (sizes_at n l d both) → size_row form (size_line form n l d both) ≡ Some (sizes_at n l d both)
+unfolding size_row
+size_again First n l d both t =
+    ap (λ bs. option_map (with_both false) (count_row bs)) (append-nil (count_line n l d)) ∙ ap (option_map (with_both false)) (count-again-line n l d t.sizes) ∙ ap (λ b. Some (sizes_at n l d b)) (sym t.told)
+size_again Second n l d false t =
+    ap (λ o. choose o (λ rest. option_map (with_both false) (count_row rest)) (choose (before (codes " BOTH") (count_line n l d ++ codes " ONE")) (λ rest. option_map (with_both true) (count_row rest)) None)) (before-found (codes " ONE") (count_line n l d))
+    ∙ ap (option_map (with_both false)) (count-again-line n l d t.sizes)
+size_again Second n l d true t =
+    ap (λ o. choose o (λ rest. option_map (with_both false) (count_row rest)) (choose (before (codes " BOTH") (count_line n l d ++ codes " BOTH")) (λ rest. option_map (with_both true) (count_row rest)) None)) (before-other (count_line n l d))
+    ∙ ap (λ o. choose o (λ rest. option_map (with_both true) (count_row rest)) None) (before-found (codes " BOTH") (count_line n l d))
+    ∙ ap (option_map (with_both true)) (count-again-line n l d t.sizes)
+
+-- ---- the version and the status
 
 -- the first of two answers where the test holds, else the second
-two-ways : (t : Bool) (x : PlanStatus) (o : Option PlanStatus) (s : PlanStatus) → cond t (Some x) o ≡ Some s → ((t ≡ true) × (Some x ≡ Some s)) ⊎ (o ≡ Some s)
-two-ways true x o s e = inl (refl, e)
+two-ways : {A : Type 0} (t : Bool) (x : A) (o : Option A) (s : A) → cond t (Some x) o ≡ Some s → ((t ≡ true) × (x ≡ s)) ⊎ (o ≡ Some s)
+two-ways true x o s e = inl (refl, cc)
 two-ways false x o s e = inr e
+
+told : {A : Type 0} (print : A → List ℕ) (body : List ℕ) (one s : A) → bytes_eq body (print one) ≡ true → one ≡ s → body ≡ print s
+told print body one s t is = (bytes_eq-Decides body (print one)).0 t ∙ ap print is
+
+pub form_takes : (body : List ℕ) (form : Form) → form_of body ≡ Some form → body ≡ header_line form
+unfolding form_of
+form_takes body form e =
+    elim (two-ways (bytes_eq body (header_line First)) First (cond (bytes_eq body (header_line Second)) (Some Second) None) form e) [
+      | inl (t, is) ↦ told header_line body First form t is
+      | inr f ↦ elim (two-ways (bytes_eq body (header_line Second)) Second None form f) [
+        | inl (t, is) ↦ told header_line body Second form t is
+        | inr g ↦ absurd cc
+      ]
+    ]
+
+pub form_again : (form : Form) → form_of (header_line form) ≡ Some form
+unfolding form_of
+form_again First = refl
+form_again Second = refl
 
 pub status_takes : (body : List ℕ) (s : PlanStatus) → status_of body ≡ Some s → body ≡ status_line s
 unfolding status_of
 status_takes body s e =
     elim (two-ways (bytes_eq body (status_line Optimal)) Optimal (cond (bytes_eq body (status_line Infeasible)) (Some Infeasible) (cond (bytes_eq body (status_line Undecided)) (Some Undecided) None)) s e) [
-      | inl (t, is) ↦ told body Optimal s t is
+      | inl (t, is) ↦ told status_line body Optimal s t is
       | inr f ↦ elim (two-ways (bytes_eq body (status_line Infeasible)) Infeasible (cond (bytes_eq body (status_line Undecided)) (Some Undecided) None) s f) [
-        | inl (t, is) ↦ told body Infeasible s t is
+        | inl (t, is) ↦ told status_line body Infeasible s t is
         | inr g ↦ elim (two-ways (bytes_eq body (status_line Undecided)) Undecided None s g) [
-          | inl (t, is) ↦ told body Undecided s t is
+          | inl (t, is) ↦ told status_line body Undecided s t is
           | inr h ↦ absurd cc
         ]
       ]
@@ -326,3 +415,32 @@ modules_again counts few h =
     ∙ ap (λ o. o >>= each count_of) (uncounted_again MAX_MODULES counts few)
     ∙ ap (each count_of) (sym (map-same counts))
     ∙ each_found count_of (λ c. c < 2 ^ 64) (λ c. c) count-again counts h
+
+-- ---- price lists
+
+-- a list that can stand behind these
+pub record IsNewList (places : ℕ) (lists : List (List ℕ)) (list : List ℕ) : Type 0 where
+  pub count : length list ≡ places
+  pub small : AreSmall list
+  pub fresh : is_among lists list ≡ false
+
+pub list_takes : (places : ℕ) (lists : List (List ℕ)) (body list : List ℕ) → list_row places lists body ≡ Some list → IsNewList places lists list × (body ≡ price_line list)
+unfolding list_row
+list_takes places lists body list e =
+    let (ns, first, test) = then-some (row_of (codes "P") body) (λ ns. only_if (length ns == places && not (is_among lists ns)) ns) list e in
+    let (both, same) = cond_some (length ns == places && not (is_among lists ns)) ns list test in
+    let parts = and_parts (length ns == places) (not (is_among lists ns)) both in
+    let r = row_takes (codes "P") body ns first in (
+      subst (IsNewList places lists) same (record { count = eqb-true (length ns) places parts.0; small = r.0; fresh = not-true (is_among lists ns) parts.1 }),
+      r.1 ∙ ap price_line same,
+    )
+  where
+    not-true : (b : Bool) → not b ≡ true → b ≡ false
+    not-true true e = absurd (true≢false (sym e))
+    not-true false e = refl
+
+pub list_again : (places : ℕ) (lists : List (List ℕ)) (list : List ℕ) → IsNewList places lists list → list_row places lists (price_line list) ≡ Some list
+unfolding list_row
+list_again places lists list n =
+    ap (λ o. o >>= λ ns. only_if (length ns == places && not (is_among lists ns)) ns) (row_again (codes "P") list n.small)
+    ∙ only_true (length list == places && not (is_among lists list)) list (and_from (length list == places) (not (is_among lists list)) (eq-eqb (length list) places n.count) (ap not n.fresh))

@@ -1,5 +1,5 @@
 -- Where bytes are cut, and the first line of a text.
-use Rattle.std.proofs.Common.{◌≡◌, ℕ, ◌+◌, ◌<◌, ◌≤◌, ◌==◌, true, false, inl, inr, map, append_assoc, List, [], ◌∷◌, ◌++◌, length, get_or, take, drop, refl, sym, ap, subst, ◌∙◌, arith}
+use Rattle.std.proofs.Common.{◌≡◌, ℕ, ◌+◌, ◌-◌, ◌<◌, ◌≤◌, ◌==◌, true, false, cond, Some, None, inl, inr, map, append_assoc, List, [], ◌∷◌, ◌++◌, length, get_or, take, drop, refl, sym, ap, subst, ◌∙◌, arith}
 use Rattle.std.specs.Borrow.{Bor}
 use Rattle.std.specs.Option.{MatchOption}
 use Rattle.std.specs.Prelude.{Option, nat_eq}
@@ -10,7 +10,8 @@ use Rattle.std.specs.List.{AllByRecursion}
 use Rattle.std.proofs.lemmas.Bool.{ne_eqb, eqb-true, cases_Bool}
 use Rattle.std.proofs.lemmas.List.{take_more, drop_more, drop_all, take-append-drop, take_all, append-nil}
 use Rattle.cert_format.specs.Lines.{Line, whole, unfinished, text_of, onto, lines_of}
-use Rattle.cert_format.specs.Answers.{Lacks, StartsWith, IsCutAt, HasNoLine}
+use Rattle.cert_format.specs.Words.{before}
+use Rattle.cert_format.specs.Answers.{found_now, Lacks, StartsWith, IsCutAt, HasNoLine}
 
 pub lacks-append : (at : ℕ) (xs ys : List ℕ) → Lacks at xs → Lacks at ys → Lacks at (xs ++ ys)
 lacks-append at [] ys h k = k
@@ -37,6 +38,13 @@ cut_nowhere at bytes front rest n k all whole_length h f r = record {
 pub strips : (bytes word : List ℕ) (r : Option (Bor (List ℕ))) → MatchOption r (pointwise nat_eq (take (length word) bytes) word ≡ false) (λ x. (pointwise nat_eq (take (length word) bytes) word ≡ true) × (x.now ≡ drop (length word) bytes) × (length x.now + length word ≡ length bytes))
     → MatchOption r ((rest : List ℕ) → bytes ≡ word ++ rest → ⊥) (λ x. bytes ≡ word ++ x.now)
 strips bytes word r h = strip_prefix_is Decides-eqb bytes word r h
+
+-- what a slice's `strip_suffix` says
+pub strips_end : (bytes word : List ℕ) (r : Option (Bor (List ℕ))) → MatchOption r (pointwise nat_eq (drop (length bytes - length word) bytes) word ≡ false) (λ x. (pointwise nat_eq (drop (length bytes - length word) bytes) word ≡ true) × (x.now ≡ take (length bytes - length word) bytes) × (length x.now + length word ≡ length bytes))
+    → found_now r ≡ before word bytes
+unfolding before
+strips_end bytes word None h = ap (λ t. cond t (Some (take (length bytes - length word) bytes)) None) (sym h)
+strips_end bytes word (Some x) h = ap (λ y. Some y) h.1 ∙ ap (λ t. cond t (Some (take (length bytes - length word) bytes)) None) (sym h.0)
 
 -- ---- lines
 

@@ -1,5 +1,5 @@
 -- No line of a plan has a line end in it.
-use Rattle.std.proofs.Common.{◌≡◌, ℕ, suc, ◌^◌, ◌<◌, ◌≤◌, ◌==◌, ◌&&◌, ◌/◌, ◌%◌, inl, inr, not, Bool, true, List, [], ◌∷◌, ◌++◌, length, map, codes, decimal, Option, Some, None, refl, ℤ, pos, negsuc, arith}
+use Rattle.std.proofs.Common.{◌≡◌, ℕ, suc, ◌^◌, ◌<◌, ◌≤◌, ◌==◌, ◌&&◌, ◌/◌, ◌%◌, inl, inr, not, Bool, true, false, List, [], ◌∷◌, ◌++◌, length, map, codes, decimal, Option, Some, None, refl, ℤ, pos, negsuc, arith}
 use Rattle.std.specs.Prelude.{IfSome}
 use Rattle.std.specs.Str.Parse.{AllDigits}
 use Rattle.std.specs.List.{AllByRecursion}
@@ -19,14 +19,22 @@ use Rattle.proof_tree.specs.declared.plan.Plan.{Plan}
 use Rattle.plan_base.specs.declared.limits.TheConstants.{MAX_NODES, MAX_MODULES}
 use Rattle.proof_tree.specs.declared.limits.TheConstants.{MAX_PATH_ARCS}
 use Rattle.proof_tree.specs.Spellings.{FitsEvidence, FitsRecord, FitsDesign, IsSpellable}
+use Rattle.proof_tree.specs.Spellings.{places_in}
+use Rattle.cert_format.specs.declared.form.Form.{Form}
+use Rattle.cert_format.specs.declared.form.Form.TheVariants.{First, Second}
+use Rattle.cert_format.specs.declared.limits.TheConstants.{MAX_LISTS}
+use Rattle.cert_format.specs.Lists.{lists_in, shown, width}
+use Rattle.cert_format.specs.Drafts.{AreListed}
 use Rattle.cert_format.specs.Words.{numerals, row}
-use Rattle.cert_format.specs.Grammar.{header_line, status_line, number_line, signed_text, path_line, modules_line, leaf_line, record_line, end_line, head_lines, design_lines, bound_lines, lines_before_end, plan_lines, arc_numbers, counted, members, AreArcs, HasLeafFields, HasRecordFields, HasDesignFields, IsBoundField, HasFields}
+use Rattle.cert_format.specs.Grammar.{header_line, both_text, count_line, status_line, number_line, signed_text, path_line, modules_line, leaf_line, record_line, end_line, head_lines, design_lines, bound_lines, price_line, price_lines, front_lines, tree_lines, plan_lines, arc_numbers, counted, members, AreArcs, HasLeafFields, HasRecordFields, HasDesignFields, IsBoundField, HasFields}
 use Rattle.cert_format.specs.Answers.{Lacks}
 use Rattle.cert_format.proofs.Cutting.{lacks-append}
 use Rattle.cert_format.proofs.NumberWords.{digits-lack, decimal_digits}
 use Rattle.cert_format.proofs.Digits.{grains_scaled}
 use Rattle.cert_format.proofs.BodyLaws.{AreSmall, arcs_small, counts_small}
 use Rattle.cert_format.proofs.RecordLaws.{cut_small, side_small, small_append}
+use Rattle.cert_format.proofs.ListLaws.{AreReady, good_listed, lists_small}
+use Rattle.cert_format.proofs.ShownLaws.{shown_all}
 use Rattle.cert_format.proofs.ReadingLaws.{GoodPath, GoodCounts, pair_of}
 
 -- no byte of these is a line end
@@ -71,12 +79,22 @@ rec-map : {A : Type 0} (P : A → Type 0) (print : A → List ℕ) → ((x : A) 
 rec-map P print law [] h = tt
 rec-map P print law (x ∷ xs) h = (law x h.0, rec-map P print law xs h.1)
 
-head-lacks : (plan : Plan) → IsSpellable plan → HasFields plan → AllByRecursion (Lacks 10) (head_lines plan)
+both-lacks : (form : Form) (both : Bool) → Lacks 10 (both_text form both)
+both-lacks First both = tt
+both-lacks Second true = lacks-by (codes " BOTH") refl
+both-lacks Second false = lacks-by (codes " ONE") refl
+
+header-lacks : (form : Form) → Lacks 10 (header_line form)
+header-lacks First = lacks-by (header_line First) refl
+header-lacks Second = lacks-by (header_line Second) refl
+
+head-lacks : (form : Form) (plan : Plan) → IsSpellable plan → HasFields plan → AllByRecursion (Lacks 10) (head_lines form plan)
 unfolding head_lines
-head-lacks plan s f = (
-  lacks-by header_line refl,
+head-lacks form plan s f = (
+  header-lacks form,
   (
-    row-lacks (codes "SIZE") (plan.nodes ∷ plan.links ∷ plan.demands ∷ []) refl (omega (arith, s.sizes.nodes), (omega (arith, s.sizes.links), (omega (arith, s.sizes.demands), tt))),
+    lacks-append 10 (count_line plan.nodes plan.links plan.demands) (both_text form plan.both)
+        (row-lacks (codes "SIZE") (plan.nodes ∷ plan.links ∷ plan.demands ∷ []) refl (omega (arith, s.sizes.nodes), (omega (arith, s.sizes.links), (omega (arith, s.sizes.demands), tt)))) (both-lacks form plan.both),
     (
       status-lacks plan.status,
       (
@@ -134,15 +152,29 @@ record-lacks nodes links few (Split demand at left right) h =
     (omega (arith, h.1.0), (omega (arith, h.1.1), small_append (counted (arc_numbers left)) (counted (arc_numbers right)) (side_small left h.0.0 h.1.2) (side_small right h.0.1 h.1.3)))
 record-lacks nodes links few (Leaf e) h = leaf-lacks nodes links e few h.0 h.1
 
-pub plan_lacks : (plan : Plan) → IsSpellable plan → HasFields plan → AllByRecursion (Lacks 10) (plan_lines plan)
-unfolding lines_before_end
-plan_lacks plan s f =
-    rec-append (head_lines plan ++ (design_lines plan.design ++ (bound_lines plan.status plan.bound ++ (number_line (codes "TREE") (length plan.tree) ∷ map record_line plan.tree)))) (end_line ∷ [])
-    (rec-append (head_lines plan) (design_lines plan.design ++ (bound_lines plan.status plan.bound ++ (number_line (codes "TREE") (length plan.tree) ∷ map record_line plan.tree))) (head-lacks plan s f)
-    (rec-append (design_lines plan.design) (bound_lines plan.status plan.bound ++ (number_line (codes "TREE") (length plan.tree) ∷ map record_line plan.tree)) (design-lacks plan.demands plan.links plan.design s.design f.design_fields)
-    (rec-append (bound_lines plan.status plan.bound) (number_line (codes "TREE") (length plan.tree) ∷ map record_line plan.tree) (bound-lacks plan.status plan.bound f.bound_field) (
+prices-lack : (form : Form) (places : ℕ) (lists : List (List ℕ)) → AreListed form places (length lists) lists → AllByRecursion (Lacks 10) (price_lines form (length lists) lists)
+unfolding price_lines
+prices-lack First places lists h = tt
+prices-lack Second places lists h = (
+  row-lacks (codes "PRICES") (length lists ∷ []) refl (let few : length lists ≤ MAX_LISTS = h.0 in omega (arith, few), tt),
+  rec-map AreSmall price_line (λ list small. row-lacks (codes "P") list refl small) lists (lists_small places [] lists h.2),
+)
+
+pub plan_lacks : (form : Form) (plan : Plan) → IsSpellable plan → HasFields plan → AreReady form (places_in plan.both plan.links) plan.tree → AllByRecursion (Lacks 10) (plan_lines form plan)
+unfolding front_lines
+plan_lacks form plan s f r =
+    let lists : List (List ℕ) = lists_in form plan.tree in
+    let places : ℕ = places_in plan.both plan.links in
+    let prices : List (List ℕ) = price_lines form (length lists) lists in
+    let fit = pair_of (FitsRecord plan.nodes places) HasRecordFields plan.tree (recursion_from_All (FitsRecord plan.nodes places) plan.tree s.records.each) f.record_fields in
+    rec-append (front_lines form (length lists) lists plan) (tree_lines form lists (length plan.tree) plan.tree ++ end_line ∷ [])
+    (rec-append (head_lines form plan) (design_lines plan.design ++ (bound_lines plan.status plan.bound ++ prices)) (head-lacks form plan s f)
+    (rec-append (design_lines plan.design) (bound_lines plan.status plan.bound ++ prices) (design-lacks plan.demands plan.links plan.design s.design f.design_fields)
+    (rec-append (bound_lines plan.status plan.bound) prices (bound-lacks plan.status plan.bound f.bound_field) (prices-lack form places lists r.listed))))
+    (rec-append (tree_lines form lists (length plan.tree) plan.tree) (end_line ∷ []) (
       row-lacks (codes "TREE") (length plan.tree ∷ []) refl (omega (arith, s.records.few), tt),
-      rec-map (λ node. FitsRecord plan.nodes plan.links node × HasRecordFields node) record_line (record-lacks plan.nodes plan.links s.sizes.nodes) plan.tree
-          (pair_of (FitsRecord plan.nodes plan.links) HasRecordFields plan.tree (recursion_from_All (FitsRecord plan.nodes plan.links) plan.tree s.records.each) f.record_fields),
-    ))))
-    (lacks-by end_line refl, tt)
+      rec-map (λ node. FitsRecord plan.nodes (width form places) (shown form lists node) × HasRecordFields (shown form lists node)) (λ node. record_line (shown form lists node))
+          (λ node. record-lacks plan.nodes (width form places) s.sizes.nodes (shown form lists node)) plan.tree
+          (shown_all form lists 0 plan.nodes places plan.tree (good_listed form places (length lists) lists r.listed) fit r.named),
+    )
+    (lacks-by end_line refl, tt))

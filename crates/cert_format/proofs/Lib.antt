@@ -6,6 +6,9 @@ pub mod Flags
 pub mod WrittenPieces
 pub mod BodyLaws
 pub mod RecordLaws
+pub mod ListSets
+pub mod ListLaws
+pub mod ShownLaws
 pub mod ReadingLaws
 pub mod Lacking
 pub mod PlanLaws
@@ -13,3 +16,5 @@ pub mod Tidy
 pub mod Places
 pub mod OneFault
 pub mod FieldsSoFar
+pub mod ListFields
+pub mod TextBound

@@ -1,24 +1,22 @@
 -- A text has at most one fault, and none where it spells a plan; what is answered is it or the plan.
-use Rattle.std.proofs.Common.{◌≡◌, ℕ, ◌⊎◌, inl, inr, ◌==◌, cond, List, [], ◌∷◌, ◌++◌, length, map, refl, sym, ap, subst, ◌∙◌, append_assoc}
+use Rattle.std.proofs.Common.{◌≡◌, ℕ, ◌⊎◌, inl, inr, List, [], ◌∷◌, ◌++◌, length, refl, sym, ap, subst, ◌∙◌, append_assoc}
 use Rattle.std.specs.Prelude.{Result, Ok, Err, IfOk, IfErr}
-use Rattle.std.proofs.lemmas.Bool.{eq-eqb, and_from}
-use Rattle.std.proofs.lemmas.List.{append-nil, map-append}
+use Rattle.std.proofs.lemmas.List.{append-nil}
 use Rattle.proof_tree.specs.declared.plan.Plan.{Plan}
-use Rattle.proof_tree.specs.Shapes.{are_trees}
 use Rattle.cert_format.specs.declared.fault.PlanFault.{PlanFault}
 use Rattle.cert_format.specs.declared.fault.PlanFault.TheVariants as faults
-use Rattle.cert_format.specs.Lines.{Line, whole, text_of, lines_of}
-use Rattle.cert_format.specs.Grammar.{lines_before_end, end_line, SpellsPlan}
+use Rattle.cert_format.specs.Lines.{Line, text_of, lines_of}
+use Rattle.cert_format.specs.Grammar.{SpellsPlan}
 use Rattle.cert_format.specs.Drafts.{IsBegun, IsMisplaced}
 use Rattle.cert_format.specs.Faults.{IsFault, OnlyPlan, OnlyFault}
 use Rattle.cert_format.specs.Reading.{plan_of}
 use Rattle.cert_format.specs.Answers.{Gives}
-use Rattle.cert_format.proofs.PlanLaws.{spelled_draft, plan_text_lines, spells_takes, spells_again}
+use Rattle.cert_format.proofs.PlanLaws.{stated_by, spelled_draft, plan_drafted, plan_text_lines, spells_takes, spells_again}
 use Rattle.cert_format.proofs.Places.{told_line, told_end}
 
 -- a front of lines that begin a draft begins it too
 front : (ls more : List Line) → IsBegun (ls ++ more) → IsBegun ls
-front ls more b = record { count = b.count; plan = b.plan; more = more ++ b.more; draft = b.draft; begins = b.begins ∙ append_assoc ls more b.more }
+front ls more b = record { states = b.states; more = more ++ b.more; draft = b.draft; begins = b.begins ∙ append_assoc ls more b.more }
 
 -- of lists that parts of one list are, the one where P ends is one
 once : (P : List Line → Type 0) → ((ls more : List Line) → P (ls ++ more) → P ls) → (before other : List Line) (l k : Line) (after behind : List Line)
@@ -40,13 +38,10 @@ not-begun text at m b = m.bad (front (m.before ++ m.line ∷ []) m.after (subst 
 -- the lines of a text that spells a plan begin one
 spelt-begun : (text : List ℕ) (plan : Plan) → SpellsPlan text plan → IsBegun (lines_of text)
 spelt-begun text plan s = record {
-  count = length plan.tree;
-  plan = plan;
+  states = stated_by s.form plan;
   more = [];
-  draft = spelled_draft plan s.spellable s.fields;
-  begins = ap (λ t. map whole (lines_before_end (length plan.tree) plan) ++ cond t (whole end_line ∷ []) []) (and_from (are_trees 1 plan.tree) (length plan.tree == length plan.tree) s.spellable.whole (eq-eqb (length plan.tree) (length plan.tree) refl))
-      ∙ sym (map-append whole (lines_before_end (length plan.tree) plan) (end_line ∷ []))
-      ∙ sym (plan_text_lines plan s.spellable s.fields) ∙ ap lines_of (sym s.is_text) ∙ sym (append-nil (lines_of text));
+  draft = spelled_draft s.form plan s.spellable s.fields s.told;
+  begins = plan_drafted s.form plan s.spellable s.fields ∙ sym (plan_text_lines s.form plan s.spellable s.fields) ∙ ap lines_of (sym s.is_text) ∙ sym (append-nil (lines_of text));
 }
 
 pub no_fault : (text : List ℕ) (plan : Plan) (fault : PlanFault) → SpellsPlan text plan → IsFault text fault → fault ≡ faults.OutOfMemory

@@ -1,5 +1,5 @@
 -- All lines before the last, the whole text, and what a text is read as.
-use Rattle.std.proofs.Common.{◌≡◌, ℕ, ◌^◌, ◌<◌, ◌≤◌, ◌==◌, Bool, true, false, cond, List, [], ◌∷◌, ◌++◌, length, map, codes, Option, Some, None, refl, sym, ap, subst, ◌∙◌, append_assoc, ℤ, arith}
+use Rattle.std.proofs.Common.{◌≡◌, ℕ, ◌^◌, ◌<◌, ◌≤◌, ◌==◌, ◌&&◌, Bool, true, false, cond, List, [], ◌∷◌, ◌++◌, length, map, codes, Option, Some, None, refl, sym, ap, subst, ◌∙◌, append_assoc, ℤ, arith}
 use Rattle.std.specs.Prelude.{Result, Ok, Err, IfSome, IsNone, IsTrue}
 use Rattle.std.specs.List.{AllByRecursion}
 use Rattle.std.proofs.lemmas.Bool.{and_parts, and_from, eqb-true, eq-eqb}
@@ -13,16 +13,22 @@ use Rattle.proof_tree.specs.declared.plan.PlanStatus.{PlanStatus}
 use Rattle.proof_tree.specs.declared.plan.PlanStatus.TheVariants.{Optimal, Infeasible, Undecided}
 use Rattle.proof_tree.specs.declared.plan.Plan.{Plan}
 use Rattle.proof_tree.specs.Shapes.{are_trees}
-use Rattle.proof_tree.specs.Spellings.{FitsRecord, FitsDesign, FitsStatus, IsSpellable}
+use Rattle.proof_tree.specs.Spellings.{places_in, FitsRecord, FitsDesign, FitsStatus, IsSpellable}
+use Rattle.cert_format.specs.declared.form.Form.{Form}
+use Rattle.cert_format.specs.declared.form.Form.TheVariants.{First, Second}
+use Rattle.cert_format.specs.declared.limits.TheConstants.{MAX_LISTS}
+use Rattle.cert_format.specs.declared.numbering.Ground.{Ground}
 use Rattle.cert_format.specs.declared.reading.Head.{Head}
 use Rattle.cert_format.specs.Lines.{Line, whole, text_of, lines_of}
-use Rattle.cert_format.specs.Grammar.{number_line, cost_line, bound_line, record_line, end_line, head_lines, design_lines, bound_lines, lines_before_end, plan_lines, plan_text, HasRecordFields, HasDesignFields, IsBoundField, HasFields, SpellsPlan}
-use Rattle.cert_format.specs.Drafts.{IsGrown, IsDraft, is_complete}
+use Rattle.cert_format.specs.Lists.{lists_in, named_from, AreNamed, AreNew}
+use Rattle.cert_format.specs.Grammar.{number_line, cost_line, bound_line, price_line, end_line, head_lines, design_lines, bound_lines, price_lines, front_lines, tree_lines, lines_with, plan_lines, plan_text, CanTell, HasRecordFields, HasDesignFields, IsBoundField, HasFields, SpellsPlan}
+use Rattle.cert_format.specs.Drafts.{IsGrown, Stated, AreListed, IsDraft, has_counts, is_complete, front_of, tree_of, closing, draft_lines}
 use Rattle.cert_format.specs.Bodies.{fixed_of, number_row, cost_allowed, cost_of, bound_of}
-use Rattle.cert_format.specs.Reading.{Reader, ◌>>=◌, bind, done, one, head, design_of, design, bound, records, tree, tree_with, draft_with, plan_with, before_end, last_line, ending, whole_plan, read_as, plan_of}
+use Rattle.cert_format.specs.Reading.{Reader, ◌>>=◌, bind, done, one, head, design_of, design, bound, list_count, front_with, opening, lists, records, tree, tree_with, ground_with, stated_on, before_end, last_line, ending, whole_plan, read_as, plan_of}
 use Rattle.cert_format.proofs.Cutting.{text_of_lines, lines_of_text}
 use Rattle.cert_format.proofs.BodyLaws.{IsCost, fixed_takes, fixed_again, number_row_takes, number_row_again, cost_takes, cost_again, bound_takes, bound_again}
-use Rattle.cert_format.proofs.ReadingLaws.{read_one, bind_ok, taken, and_then, done_parts, done_is, one_line, one_again, IsHead, lines_of_head, head_takes, head_again, after_cost, cost_in, IsDesignIn, design_of_takes, design_of_again, grown_takes, grown_again, grown_whole}
+use Rattle.cert_format.proofs.ListLaws.{AreReady, good_listed, lists_ready, lists_told}
+use Rattle.cert_format.proofs.ReadingLaws.{read_one, bind_ok, taken, and_then, done_parts, done_is, one_line, one_again, IsHead, lines_of_head, head_takes, head_again, after_cost, cost_in, IsDesignIn, design_of_takes, design_of_again, lists_take, lists_again, lists_short, IsGround, FitsGround, line_on, grown_takes, grown_again, grown_whole}
 use Rattle.cert_format.proofs.Lacking.{plan_lacks}
 
 -- ---- cost and design
@@ -86,109 +92,218 @@ bound_read_again Undecided b rest h = one_again bound_of (bound_line b) b rest (
 
 -- ---- the tree
 
-pub record IsTreeRead (h : Head) (count : ℕ) (nodes : List TreeNode) : Type 0 where
+pub record IsTreeRead (g : Ground) (count : ℕ) (nodes : List TreeNode) : Type 0 where
   pub some : 1 ≤ count
   pub few : count ≤ MAX_RECORDS
   pub grown : IsGrown count 1 nodes
-  pub each : AllByRecursion (λ node. FitsRecord h.nodes h.links node × HasRecordFields node) nodes
+  pub each : AllByRecursion (FitsGround g) nodes
+  pub names : AreNamed g.form g.lists 0 nodes
 
-abbrev pub tree_lines : ℕ → List TreeNode → List (List ℕ)
-tree_lines count nodes = number_line (codes "TREE") count ∷ map record_line nodes
+abbrev pub lines_of_tree : Ground → ℕ → List TreeNode → List (List ℕ)
+lines_of_tree g count nodes = number_line (codes "TREE") count ∷ map (line_on g) nodes
 
-pub tree_takes : (h : Head) (ls : List Line) (x : ℕ × List TreeNode) (rest : List Line) → tree h.nodes h.links ls ≡ read_one x rest → IsTreeRead h x.0 x.1 × (ls ≡ map whole (tree_lines x.0 x.1) ++ rest)
+pub tree_takes : (g : Ground) → IsGround g → (ls : List Line) (x : ℕ × List TreeNode) (rest : List Line) → tree g ls ≡ read_one x rest → IsTreeRead g x.0 x.1 × (ls ≡ map whole (lines_of_tree g x.0 x.1) ++ rest)
 unfolding tree
-tree_takes h ls x rest e =
-    let (count, us, e1, f1) = taken (one (number_row (codes "TREE") 1 MAX_RECORDS)) (λ count. bind (records h.nodes h.links count 1) λ nodes. done (tree_with count nodes)) ls x rest e in
-    let (nodes, vs, e2, f2) = taken (records h.nodes h.links count 1) (λ nodes. done (tree_with count nodes)) us x rest f1 in
+tree_takes g good ls x rest e =
+    let (count, us, e1, f1) = taken (one (number_row (codes "TREE") 1 MAX_RECORDS)) (λ count. bind (records g 0 count 1) λ nodes. done (tree_with count nodes)) ls x rest e in
+    let (nodes, vs, e2, f2) = taken (records g 0 count 1) (λ nodes. done (tree_with count nodes)) us x rest f1 in
     let p = done_parts (tree_with count nodes) x vs rest f2 in
     let (body, line, read) = one_line (number_row (codes "TREE") 1 MAX_RECORDS) ls count us e1 in
     let n = number_row_takes (codes "TREE") 1 MAX_RECORDS body count read in
-    let g = grown_takes h.nodes h.links count 1 us nodes vs e2 in
-    subst (λ (x : ℕ × List TreeNode). IsTreeRead h x.0 x.1 × (ls ≡ map whole (tree_lines x.0 x.1) ++ rest)) p.0 (
-      record { some = n.0; few = n.1; grown = g.0; each = g.1 },
-      line ∙ ap (λ bs. whole bs ∷ us) n.2 ∙ ap (λ us. whole (number_line (codes "TREE") count) ∷ us) (g.2 ∙ ap (λ ws. map whole (map record_line nodes) ++ ws) p.1),
+    let t = grown_takes g good 0 count 1 us nodes vs e2 in
+    subst (λ (x : ℕ × List TreeNode). IsTreeRead g x.0 x.1 × (ls ≡ map whole (lines_of_tree g x.0 x.1) ++ rest)) p.0 (
+      record { some = n.0; few = n.1; grown = t.grown; each = t.each; names = t.names },
+      line ∙ ap (λ bs. whole bs ∷ us) n.2 ∙ ap (λ us. whole (number_line (codes "TREE") count) ∷ us) (t.lines ∙ ap (λ ws. map whole (map (line_on g) nodes) ++ ws) p.1),
     )
 
-pub tree_again : (h : Head) → h.nodes ≤ MAX_NODES → (count : ℕ) (nodes : List TreeNode) (rest : List Line) → IsTreeRead h count nodes → tree h.nodes h.links (map whole (tree_lines count nodes) ++ rest) ≡ Ok ((count, nodes), rest)
+pub tree_again : (g : Ground) → IsGround g → g.nodes ≤ MAX_NODES → (count : ℕ) (nodes : List TreeNode) (rest : List Line) → IsTreeRead g count nodes → tree g (map whole (lines_of_tree g count nodes) ++ rest) ≡ Ok ((count, nodes), rest)
 unfolding tree
-tree_again h small count nodes rest t =
-    and_then (one (number_row (codes "TREE") 1 MAX_RECORDS)) (λ count. bind (records h.nodes h.links count 1) λ nodes. done (tree_with count nodes)) (whole (number_line (codes "TREE") count) ∷ (map whole (map record_line nodes) ++ rest)) count (map whole (map record_line nodes) ++ rest) (Ok ((count, nodes), rest))
-    (one_again (number_row (codes "TREE") 1 MAX_RECORDS) (number_line (codes "TREE") count) count (map whole (map record_line nodes) ++ rest) (number_row_again (codes "TREE") 1 MAX_RECORDS count (omega arith) t.some t.few))
-    (and_then (records h.nodes h.links count 1) (λ nodes. done (tree_with count nodes)) (map whole (map record_line nodes) ++ rest) nodes rest (Ok ((count, nodes), rest))
-    (grown_again h.nodes h.links small count 1 nodes rest t.grown t.each) (done_is (tree_with count nodes) rest))
+tree_again g good small count nodes rest t =
+    and_then (one (number_row (codes "TREE") 1 MAX_RECORDS)) (λ count. bind (records g 0 count 1) λ nodes. done (tree_with count nodes)) (whole (number_line (codes "TREE") count) ∷ (map whole (map (line_on g) nodes) ++ rest)) count (map whole (map (line_on g) nodes) ++ rest) (Ok ((count, nodes), rest))
+    (one_again (number_row (codes "TREE") 1 MAX_RECORDS) (number_line (codes "TREE") count) count (map whole (map (line_on g) nodes) ++ rest) (number_row_again (codes "TREE") 1 MAX_RECORDS count (omega arith) t.some t.few))
+    (and_then (records g 0 count 1) (λ nodes. done (tree_with count nodes)) (map whole (map (line_on g) nodes) ++ rest) nodes rest (Ok ((count, nodes), rest))
+    (grown_again g good small 0 count 1 nodes rest t.grown t.each t.names) (done_is (tree_with count nodes) rest))
 
--- ---- all lines before the last
+-- ---- how many price lists are stated
 
-abbrev pub draft3 : Head → Option (ℕ × Design) → Option ℤ → Reader (ℕ × Plan)
-draft3 h d b = bind (tree h.nodes h.links) λ t. done (draft_with h d b t)
+abbrev pub IsListCount : Form → ℕ → Type 0
+IsListCount First stated = stated ≡ 0
+IsListCount Second stated = stated ≤ MAX_LISTS
 
-abbrev pub draft2 : Head → Option (ℕ × Design) → Reader (ℕ × Plan)
-draft2 h d = bind (bound h.status) λ b. draft3 h d b
+abbrev pub count_lines : Form → ℕ → List (List ℕ)
+count_lines First stated = []
+count_lines Second stated = number_line (codes "PRICES") stated ∷ []
 
-abbrev pub draft1 : Head → Reader (ℕ × Plan)
-draft1 h = bind (design h) λ d. draft2 h d
+list-count-takes : (form : Form) (ls : List Line) (n : ℕ) (rest : List Line) → list_count form ls ≡ read_one n rest → IsListCount form n × (ls ≡ map whole (count_lines form n) ++ rest)
+unfolding list_count
+list-count-takes First ls n rest e = (let p = done_parts 0 n ls rest e in (sym p.0, p.1))
+list-count-takes Second ls n rest e =
+    let (body, line, read) = one_line (number_row (codes "PRICES") 0 MAX_LISTS) ls n rest e in
+    let r = number_row_takes (codes "PRICES") 0 MAX_LISTS body n read in
+    (r.1, line ∙ ap (λ bs. whole bs ∷ rest) r.2)
 
--- the parts of a draft
-pub record AreParts (h : Head) (d : Option (ℕ × Design)) (b : Option ℤ) (count : ℕ) (nodes : List TreeNode) : Type 0 where
-  pub head_is : IsHead h
-  pub design_is : IsDesignRead h d
-  pub bound_is : IsBoundRead h.status b
-  pub tree_is : IsTreeRead h count nodes
+list-count-again : (form : Form) (n : ℕ) (rest : List Line) → IsListCount form n → list_count form (map whole (count_lines form n) ++ rest) ≡ Ok (n, rest)
+unfolding list_count
+list-count-again First n rest h = done_is 0 rest ∙ ap (λ k. read_one k rest) (sym h)
+list-count-again Second n rest h = one_again (number_row (codes "PRICES") 0 MAX_LISTS) (number_line (codes "PRICES") n) n rest (number_row_again (codes "PRICES") 0 MAX_LISTS n (omega arith) (omega arith) h)
 
-abbrev parts_lines : Head → Option (ℕ × Design) → Option ℤ → ℕ → List TreeNode → List (List ℕ)
-parts_lines h d b count nodes = lines_of_head h ++ (design_lines d ++ (bound_lines h.status b ++ tree_lines count nodes))
+-- ---- all lines before the price lists
 
-same-lines : (h : Head) (d : Option (ℕ × Design)) (b : Option ℤ) (count : ℕ) (nodes : List TreeNode) → parts_lines h d b count nodes ≡ lines_before_end count (plan_with h d b nodes)
-unfolding lines_before_end head_lines
-same-lines h d b count nodes = refl
+-- what is read there
+abbrev pub Front : Type 0
+Front = Head × Option (ℕ × Design) × Option ℤ × ℕ
 
--- whole lines in four pieces
-four : (a b c d : List (List ℕ)) (rest : List Line) → map whole (a ++ (b ++ (c ++ d))) ++ rest ≡ map whole a ++ (map whole b ++ (map whole c ++ (map whole d ++ rest)))
-four a b c d rest =
-    ap (λ ws. ws ++ rest) (map-append whole a (b ++ (c ++ d)) ∙ ap (λ ws. map whole a ++ ws) (map-append whole b (c ++ d) ∙ ap (λ ws. map whole b ++ ws) (map-append whole c d)))
-    ∙ regroup (map whole a) (map whole b) (map whole c) (map whole d) rest
-  where
-    regroup : (a b c d rest : List Line) → (a ++ (b ++ (c ++ d))) ++ rest ≡ a ++ (b ++ (c ++ (d ++ rest)))
-    regroup a b c d rest = simp append_assoc
+abbrev pub front3 : Head → Option (ℕ × Design) → Option ℤ → Reader Front
+front3 h d b = bind (list_count h.form) λ stated. done (front_with h d b stated)
 
-pub parts_take : (ls : List Line) (x : ℕ × Plan) (rest : List Line) → before_end ls ≡ read_one x rest
-    → (h : Head) × (d : Option (ℕ × Design)) × (b : Option ℤ) × (count : ℕ) × (nodes : List TreeNode) × AreParts h d b count nodes × ((count, plan_with h d b nodes) ≡ x) × (ls ≡ map whole (parts_lines h d b count nodes) ++ rest)
-unfolding before_end
-parts_take ls x rest e =
-    let (h, us, e1, f1) = taken head (λ h. draft1 h) ls x rest e in
-    let (d, vs, e2, f2) = taken (design h) (λ d. draft2 h d) us x rest f1 in
-    let (b, ws, e3, f3) = taken (bound h.status) (λ b. draft3 h d b) vs x rest f2 in
-    let (t, zs, e4, f4) = taken (tree h.nodes h.links) (λ t. done (draft_with h d b t)) ws x rest f3 in
-    let p = done_parts (draft_with h d b t) x zs rest f4 in
+abbrev pub front2 : Head → Option (ℕ × Design) → Reader Front
+front2 h d = bind (bound h.status) λ b. front3 h d b
+
+abbrev pub front1 : Head → Reader Front
+front1 h = bind (design h) λ d. front2 h d
+
+pub record IsFront (f : Front) : Type 0 where
+  pub head_is : IsHead f.0
+  pub design_is : IsDesignRead f.0 f.1
+  pub bound_is : IsBoundRead f.0.status f.2
+  pub count_is : IsListCount f.0.form f.3
+
+-- whole lines of the front, with lines behind
+abbrev pub front_text : Front → List Line → List Line
+front_text f rest = map whole (lines_of_head f.0) ++ (map whole (design_lines f.1) ++ (map whole (bound_lines f.0.status f.2) ++ (map whole (count_lines f.0.form f.3) ++ rest)))
+
+pub front_takes : (ls : List Line) (f : Front) (rest : List Line) → opening ls ≡ read_one f rest → IsFront f × (ls ≡ front_text f rest)
+unfolding opening
+front_takes ls f rest e =
+    let (h, us, e1, f1) = taken head (λ h. front1 h) ls f rest e in
+    let (d, vs, e2, f2) = taken (design h) (λ d. front2 h d) us f rest f1 in
+    let (b, ws, e3, f3) = taken (bound h.status) (λ b. front3 h d b) vs f rest f2 in
+    let (n, zs, e4, f4) = taken (list_count h.form) (λ stated. done (front_with h d b stated)) ws f rest f3 in
+    let p = done_parts (front_with h d b n) f zs rest f4 in
     let hh = head_takes ls h us e1 in
     let dd = design_takes h us d vs e2 in
     let bb = bound_read_takes h.status vs b ws e3 in
-    let tt' = tree_takes h ws t zs e4 in (
-      h,
-      d,
-      b,
-      t.0,
-      t.1,
-      record { head_is = hh.0; design_is = dd.0; bound_is = bb.0; tree_is = tt'.0 },
-      p.0,
-      hh.1 ∙ ap (λ us. map whole (lines_of_head h) ++ us) (dd.1 ∙ ap (λ vs. map whole (design_lines d) ++ vs) (bb.1 ∙ ap (λ ws. map whole (bound_lines h.status b) ++ ws) (tt'.1 ∙ ap (λ zs. map whole (tree_lines t.0 t.1) ++ zs) p.1)))
-          ∙ sym (four (lines_of_head h) (design_lines d) (bound_lines h.status b) (tree_lines t.0 t.1) rest),
+    let nn = list-count-takes h.form ws n zs e4 in
+    subst (λ (f : Front). IsFront f × (ls ≡ front_text f rest)) p.0 (
+      record { head_is = hh.0; design_is = dd.0; bound_is = bb.0; count_is = nn.0 },
+      hh.1 ∙ ap (λ us. map whole (lines_of_head h) ++ us) (dd.1 ∙ ap (λ vs. map whole (design_lines d) ++ vs) (bb.1 ∙ ap (λ ws. map whole (bound_lines h.status b) ++ ws) (nn.1 ∙ ap (λ zs. map whole (count_lines h.form n) ++ zs) p.1))),
     )
 
-pub parts_again : (h : Head) (d : Option (ℕ × Design)) (b : Option ℤ) (count : ℕ) (nodes : List TreeNode) (rest : List Line) → AreParts h d b count nodes
-    → before_end (map whole (parts_lines h d b count nodes) ++ rest) ≡ Ok ((count, plan_with h d b nodes), rest)
+pub front_again : (f : Front) (rest : List Line) → IsFront f → opening (front_text f rest) ≡ Ok (f, rest)
+unfolding opening
+front_again f rest g =
+    let h : Head = f.0 in
+    let o : Result (Front × List Line) (List Line) = Ok (f, rest) in
+    let ws : List Line = map whole (count_lines h.form f.3) ++ rest in
+    let vs : List Line = map whole (bound_lines h.status f.2) ++ ws in
+    let us : List Line = map whole (design_lines f.1) ++ vs in
+    and_then head (λ h. front1 h) (map whole (lines_of_head h) ++ us) h us o (head_again h us g.head_is)
+    (and_then (design h) (λ d. front2 h d) us f.1 vs o (design_again h f.1 vs g.design_is)
+    (and_then (bound h.status) (λ b. front3 h f.1 b) vs f.2 ws o (bound_read_again h.status f.2 ws g.bound_is)
+    (and_then (list_count h.form) (λ stated. done (front_with h f.1 f.2 stated)) ws f.3 rest o (list-count-again h.form f.3 rest g.count_is)
+    (done_is (front_with h f.1 f.2 f.3) rest))))
+
+-- ---- all lines before the last
+
+-- the count of places
+abbrev pub places_on : Front → ℕ
+places_on f = places_in f.0.both f.0.links
+
+abbrev pub ground_on : Front → List (List ℕ) → Ground
+ground_on f found = ground_with f.0 found
+
+-- the lines of price lists
+prices-split : (form : Form) (places n : ℕ) (found : List (List ℕ)) (rest : List Line) → AreListed form places n found → map whole (price_lines form n found) ++ rest ≡ map whole (count_lines form n) ++ (map whole (map price_line found) ++ rest)
+unfolding price_lines
+prices-split First places n found rest h = ap (λ ls. map whole (map price_line ls) ++ rest) (sym h.1)
+prices-split Second places n found rest h = refl
+
+-- the lines of a draft's front are those that are read
+pub front_same : (f : Front) (found : List (List ℕ)) (t : ℕ × List TreeNode) (rest : List Line) → IsListCount f.0.form f.3 → AreListed f.0.form (places_on f) f.3 found
+    → front_text f (map whole (map price_line found) ++ rest) ≡ front_of (stated_on f found t) ++ rest
+unfolding front_lines head_lines
+front_same f found t rest count listed =
+    sym (ap (λ ws. ws ++ rest) (five (lines_of_head f.0) (design_lines f.1) (bound_lines f.0.status f.2) (price_lines f.0.form f.3 found)) ∙ regroup (map whole (lines_of_head f.0)) (map whole (design_lines f.1)) (map whole (bound_lines f.0.status f.2)) (map whole (price_lines f.0.form f.3 found)) rest
+    ∙ ap (λ ws. map whole (lines_of_head f.0) ++ (map whole (design_lines f.1) ++ (map whole (bound_lines f.0.status f.2) ++ ws))) (prices-split f.0.form (places_on f) f.3 found rest listed))
+  where
+    five : (a b c d : List (List ℕ)) → map whole (a ++ (b ++ (c ++ d))) ≡ map whole a ++ (map whole b ++ (map whole c ++ map whole d))
+    five a b c d = map-append whole a (b ++ (c ++ d)) ∙ ap (λ ws. map whole a ++ ws) (map-append whole b (c ++ d) ∙ ap (λ ws. map whole b ++ ws) (map-append whole c d))
+
+    regroup : (a b c d rest : List Line) → (a ++ (b ++ (c ++ d))) ++ rest ≡ a ++ (b ++ (c ++ (d ++ rest)))
+    regroup a b c d rest = simp append_assoc
+
+-- the parts of a draft that states all its price lists
+pub record AreParts (f : Front) (found : List (List ℕ)) (t : ℕ × List TreeNode) : Type 0 where
+  pub front_is : IsFront f
+  pub listed : AreListed f.0.form (places_on f) f.3 found
+  pub tree_is : IsTreeRead (ground_on f found) t.0 t.1
+
+pub listed_from : (form : Form) (places n : ℕ) (found : List (List ℕ)) → IsListCount form n → length found ≡ n → AreNew places [] found → AreListed form places n found
+listed_from First places n [] count long new = (count, refl)
+listed_from First places n (list ∷ found) count long new = (let zero_is : n ≡ 0 = count in absurd (omega (arith, zero_is, long)))
+listed_from Second places n found count long new = (count, omega (arith, long), new)
+
+abbrev pub before2 : Front → List (List ℕ) → Reader Stated
+before2 f found = bind (tree (ground_on f found)) λ t. done (stated_on f found t)
+
+abbrev pub before1 : Front → Reader Stated
+before1 f = bind (lists (places_on f) f.3 []) λ found. before2 f found
+
+pub parts_take : (ls : List Line) (x : Stated) (rest : List Line) → before_end ls ≡ read_one x rest
+    → (f : Front) × (found : List (List ℕ)) × (t : ℕ × List TreeNode) × AreParts f found t × (length found ≡ f.3) × (stated_on f found t ≡ x) × (ls ≡ front_of (stated_on f found t) ++ (tree_of (stated_on f found t) ++ rest))
 unfolding before_end
-parts_again h d b count nodes rest g =
-    let o : Result ((ℕ × Plan) × List Line) (List Line) = Ok ((count, plan_with h d b nodes), rest) in
-    let ws : List Line = map whole (tree_lines count nodes) ++ rest in
-    let vs : List Line = map whole (bound_lines h.status b) ++ ws in
-    let us : List Line = map whole (design_lines d) ++ vs in
-    ap (bind head λ h. draft1 h) (four (lines_of_head h) (design_lines d) (bound_lines h.status b) (tree_lines count nodes) rest)
-    ∙ and_then head (λ h. draft1 h) (map whole (lines_of_head h) ++ us) h us o (head_again h us g.head_is)
-    (and_then (design h) (λ d. draft2 h d) us d vs o (design_again h d vs g.design_is)
-    (and_then (bound h.status) (λ b. draft3 h d b) vs b ws o (bound_read_again h.status b ws g.bound_is)
-    (and_then (tree h.nodes h.links) (λ t. done (draft_with h d b t)) ws (count, nodes) rest o (tree_again h g.head_is.sizes.nodes count nodes rest g.tree_is)
-    (done_is (draft_with h d b (tree_with count nodes)) rest))))
+parts_take ls x rest e =
+    let (f, us, e1, f1) = taken opening (λ f. before1 f) ls x rest e in
+    let (found, vs, e2, f2) = taken (lists (places_on f) f.3 []) (λ found. before2 f found) us x rest f1 in
+    let (t, ws, e3, f3) = taken (tree (ground_on f found)) (λ t. done (stated_on f found t)) vs x rest f2 in
+    let p = done_parts (stated_on f found t) x ws rest f3 in
+    let ff = front_takes ls f us e1 in
+    let l = lists_take (places_on f) f.3 [] us found vs e2 in
+    let long : length found ≡ f.3 = ap length l.all ∙ l.count in
+    let listed = listed_from f.0.form (places_on f) f.3 found ff.0.count_is long (subst (AreNew (places_on f) []) (sym l.all) l.new) in
+    let tt' = tree_takes (ground_on f found) (good_listed f.0.form (places_on f) f.3 found listed) vs t ws e3 in (
+      f,
+      found,
+      t,
+      record { front_is = ff.0; listed = listed; tree_is = tt'.0 },
+      long,
+      p.0,
+      ff.1 ∙ ap (front_text f) (l.lines ∙ ap (λ ls. map whole (map price_line ls) ++ vs) (sym l.all)) ∙ front_same f found t vs ff.0.count_is listed
+          ∙ ap (λ vs. front_of (stated_on f found t) ++ vs) (tt'.1 ∙ ap (λ ws. tree_of (stated_on f found t) ++ ws) p.1),
+    )
+
+new-from : (form : Form) (places n : ℕ) (found : List (List ℕ)) → AreListed form places n found → AreNew places [] found
+unfolding AreNew
+new-from First places n found h = subst (AreNew places []) (sym h.1) tt
+new-from Second places n found h = h.2
+
+pub parts_again : (f : Front) (found : List (List ℕ)) (t : ℕ × List TreeNode) (rest : List Line) → AreParts f found t → length found ≡ f.3
+    → before_end (front_of (stated_on f found t) ++ (tree_of (stated_on f found t) ++ rest)) ≡ Ok (stated_on f found t, rest)
+unfolding before_end
+parts_again f found t rest g long =
+    let o : Result (Stated × List Line) (List Line) = Ok (stated_on f found t, rest) in
+    let vs : List Line = tree_of (stated_on f found t) ++ rest in
+    let us : List Line = map whole (map price_line found) ++ vs in
+    ap (bind opening λ f. before1 f) (sym (front_same f found t vs g.front_is.count_is g.listed))
+    ∙ and_then opening (λ f. before1 f) (front_text f us) f us o (front_again f us g.front_is)
+    (and_then (lists (places_on f) f.3 []) (λ found. before2 f found) us found vs o
+    (ap (λ n. lists (places_on f) n [] us) (sym long) ∙ lists_again (places_on f) [] found vs (new-from f.0.form (places_on f) f.3 found g.listed))
+    (and_then (tree (ground_on f found)) (λ t. done (stated_on f found t)) vs t rest o (tree_again (ground_on f found) (good_listed f.0.form (places_on f) f.3 found g.listed) g.front_is.head_is.told.sizes.nodes t.0 t.1 rest g.tree_is)
+    (done_is (stated_on f found t) rest)))
+
+lists-stopped : (f : Front) (us : List Line) → lists (places_on f) f.3 [] us ≡ Err [] → before1 f us ≡ Err []
+unfolding bind
+lists-stopped f us e = ap (λ r. r >>= λ p. before2 f p.0 p.1) e
+
+-- where price lists lack, the text ends
+pub parts_short : (f : Front) (found : List (List ℕ)) (t : ℕ × List TreeNode) → IsFront f → AreListed f.0.form (places_on f) f.3 found → length found < f.3 → before_end (front_of (stated_on f found t)) ≡ Err []
+unfolding before_end
+parts_short f found t g listed short =
+    let us : List Line = map whole (map price_line found) in
+    let same : front_text f us ≡ front_of (stated_on f found t) = ap (front_text f) (sym (append-nil us)) ∙ front_same f found t [] g.count_is listed ∙ append-nil (front_of (stated_on f found t)) in
+    ap (bind opening λ f. before1 f) (sym same)
+    ∙ and_then opening (λ f. before1 f) (front_text f us) f us (Err []) (front_again f us g)
+    (lists-stopped f us (lists_short (places_on f) f.3 [] found (new-from f.0.form (places_on f) f.3 found listed) short))
 
 -- ---- parts and drafts
 
@@ -222,27 +337,34 @@ seconds : (nodes links : ℕ) (ns : List TreeNode) → AllByRecursion (FitsRecor
 seconds nodes links [] h k = tt
 seconds nodes links (n ∷ ns) h k = ((h.0, k.0), seconds nodes links ns h.1 k.1)
 
-pub draft_from : (h : Head) (d : Option (ℕ × Design)) (b : Option ℤ) (count : ℕ) (nodes : List TreeNode) → AreParts h d b count nodes → IsDraft count (plan_with h d b nodes)
-draft_from h d b count nodes g =
-    let f = firsts h.nodes h.links nodes g.tree_is.each in
+pub draft_from : (f : Front) (found : List (List ℕ)) (t : ℕ × List TreeNode) → AreParts f found t → IsDraft (stated_on f found t)
+draft_from f found t g =
+    let h : Head = f.0 in
+    let each = firsts h.nodes (places_on f) t.1 g.tree_is.each in
     record {
-      sizes = record { nodes = g.head_is.sizes.nodes; links = g.head_is.sizes.links; demands = g.head_is.sizes.demands; some_budget = g.head_is.some_budget; budget = g.head_is.budget; one_way = refl };
-      status = status-fits h.status d b g.design_is.cost.allowed g.bound_is;
-      design = design-fits h.demands h.links d g.design_is.design_in;
+      sizes = record { nodes = g.front_is.head_is.told.sizes.nodes; links = g.front_is.head_is.told.sizes.links; demands = g.front_is.head_is.told.sizes.demands; some_budget = g.front_is.head_is.some_budget; budget = g.front_is.head_is.budget };
+      told = g.front_is.head_is.told.told;
+      status = status-fits h.status f.1 f.2 g.front_is.design_is.cost.allowed g.front_is.bound_is;
+      design = design-fits h.demands h.links f.1 g.front_is.design_is.design_in;
       fields = record {
-        examined_within = g.head_is.examined;
-        design_fields = design-fields h.demands h.links d g.design_is.design_in g.design_is.cost.small;
-        bound_field = bound-field h.status b g.bound_is;
-        record_fields = f.1;
+        examined_within = g.front_is.head_is.examined;
+        design_fields = design-fields h.demands h.links f.1 g.front_is.design_is.design_in g.front_is.design_is.cost.small;
+        bound_field = bound-field h.status f.2 g.front_is.bound_is;
+        record_fields = each.1;
       };
+      listed = g.listed;
       some = g.tree_is.some;
       few = g.tree_is.few;
       grown = g.tree_is.grown;
-      records = f.0;
+      records = each.0;
+      named = g.tree_is.names;
     }
 
-abbrev pub head_of : Plan → Head
-head_of plan = record { nodes = plan.nodes; links = plan.links; demands = plan.demands; status = plan.status; budget = plan.budget; examined = plan.examined }
+abbrev pub head_of : Stated → Head
+head_of s = record { form = s.form; nodes = s.plan.nodes; links = s.plan.links; demands = s.plan.demands; both = s.plan.both; status = s.plan.status; budget = s.plan.budget; examined = s.plan.examined }
+
+abbrev pub front_parts : Stated → Front
+front_parts s = (head_of s, s.plan.design, s.plan.bound, s.stated)
 
 allowed-by : (s : PlanStatus) (d : Option (ℕ × Design)) (b : Option ℤ) → FitsStatus s d b → cost_allowed s (cost_in d) ≡ true
 allowed-by Optimal None b h = absurd (let bad = h.0 in cc)
@@ -265,49 +387,80 @@ design-in : (demands links : ℕ) (d : Option (ℕ × Design)) → IfSome d (λ 
 design-in demands links None h k = tt
 design-in demands links (Some x) h k = (h, k.arcs, k.counts_within)
 
-pub parts_from : (count : ℕ) (plan : Plan) → IsDraft count plan → AreParts (head_of plan) plan.design plan.bound count plan.tree
-parts_from count plan g = record {
-  head_is = record { sizes = record { nodes = g.sizes.nodes; links = g.sizes.links; demands = g.sizes.demands }; some_budget = g.sizes.some_budget; budget = g.sizes.budget; examined = g.fields.examined_within };
-  design_is = record { cost = record { allowed = allowed-by plan.status plan.design plan.bound g.status; small = cost-small plan.design g.fields.design_fields }; design_in = design-in plan.demands plan.links plan.design g.design g.fields.design_fields };
-  bound_is = bound-by plan.status plan.design plan.bound g.status g.fields.bound_field;
-  tree_is = record { some = g.some; few = g.few; grown = g.grown; each = seconds plan.nodes plan.links plan.tree g.records g.fields.record_fields };
-}
+count-by : (form : Form) (places n : ℕ) (found : List (List ℕ)) → AreListed form places n found → IsListCount form n
+count-by First places n found h = h.0
+count-by Second places n found h = h.0
 
-pub draft_takes : (ls : List Line) (x : ℕ × Plan) (rest : List Line) → before_end ls ≡ read_one x rest → IsDraft x.0 x.1 × (ls ≡ map whole (lines_before_end x.0 x.1) ++ rest)
-draft_takes ls x rest e =
-    let (h, d, b, count, nodes, g, is, lines) = parts_take ls x rest e in
-    subst (λ (x : ℕ × Plan). IsDraft x.0 x.1 × (ls ≡ map whole (lines_before_end x.0 x.1) ++ rest)) is
-    (draft_from h d b count nodes g, lines ∙ ap (λ bs. map whole bs ++ rest) (same-lines h d b count nodes))
+pub parts_from : (s : Stated) → IsDraft s → AreParts (front_parts s) s.lists (s.count, s.plan.tree)
+parts_from s g =
+    let plan : Plan = s.plan in
+    record {
+      front_is = record {
+        head_is = record { told = record { sizes = record { nodes = g.sizes.nodes; links = g.sizes.links; demands = g.sizes.demands }; told = g.told }; some_budget = g.sizes.some_budget; budget = g.sizes.budget; examined = g.fields.examined_within };
+        design_is = record { cost = record { allowed = allowed-by plan.status plan.design plan.bound g.status; small = cost-small plan.design g.fields.design_fields }; design_in = design-in plan.demands plan.links plan.design g.design g.fields.design_fields };
+        bound_is = bound-by plan.status plan.design plan.bound g.status g.fields.bound_field;
+        count_is = count-by s.form (places_in plan.both plan.links) s.stated s.lists g.listed;
+      };
+      listed = g.listed;
+      tree_is = record { some = g.some; few = g.few; grown = g.grown; each = seconds plan.nodes (places_in plan.both plan.links) plan.tree g.records g.fields.record_fields; names = g.named };
+    }
 
-pub draft_again : (count : ℕ) (plan : Plan) (rest : List Line) → IsDraft count plan → before_end (map whole (lines_before_end count plan) ++ rest) ≡ Ok ((count, plan), rest)
-draft_again count plan rest g =
-    let same : plan_with (head_of plan) plan.design plan.bound plan.tree ≡ plan = ap (λ (both : Bool). record plan { both = both }) (sym g.sizes.one_way) in
-    subst (λ (q : Plan). before_end (map whole (lines_before_end count q) ++ rest) ≡ Ok ((count, q), rest)) same
-    (ap (λ bs. before_end (map whole bs ++ rest)) (sym (same-lines (head_of plan) plan.design plan.bound count plan.tree))
-    ∙ parts_again (head_of plan) plan.design plan.bound count plan.tree rest (parts_from count plan g))
+pub draft_takes : (ls : List Line) (s : Stated) (rest : List Line) → before_end ls ≡ read_one s rest → IsDraft s × (length s.lists ≡ s.stated) × (ls ≡ front_of s ++ (tree_of s ++ rest))
+draft_takes ls s rest e =
+    let (f, found, t, g, long, is, lines) = parts_take ls s rest e in
+    subst (λ (s : Stated). IsDraft s × (length s.lists ≡ s.stated) × (ls ≡ front_of s ++ (tree_of s ++ rest))) is (draft_from f found t g, long, lines)
+
+pub draft_again : (s : Stated) (rest : List Line) → IsDraft s → length s.lists ≡ s.stated → before_end (front_of s ++ (tree_of s ++ rest)) ≡ Ok (s, rest)
+draft_again s rest g long = parts_again (front_parts s) s.lists (s.count, s.plan.tree) rest (parts_from s g) long
+
+pub draft_short : (s : Stated) → IsDraft s → length s.lists < s.stated → before_end (front_of s) ≡ Err []
+draft_short s g short = (let p = parts_from s g in parts_short (front_parts s) s.lists (s.count, s.plan.tree) p.front_is p.listed short)
 
 -- ---- a whole plan
 
-pub whole_takes : (ls : List Line) (plan : Plan) → whole_plan ls ≡ Ok plan → IsSpellable plan × HasFields plan × (ls ≡ map whole (plan_lines plan))
+-- a plan, and its lines in one of the versions
+pub record IsToldBy (ls : List Line) (plan : Plan) : Type 0 where
+  pub spellable : IsSpellable plan
+  pub fields : HasFields plan
+  pub form : Form
+  pub told : CanTell form plan.both
+  pub lines : ls ≡ map whole (plan_lines form plan)
+
+-- the lines of a whole text
+whole-lines : (s : Stated) → length s.lists ≡ s.stated → s.lists ≡ lists_in s.form s.plan.tree → length s.plan.tree ≡ s.count → front_of s ++ (tree_of s ++ whole end_line ∷ []) ≡ map whole (plan_lines s.form s.plan)
+whole-lines s long lists_are count =
+    let tree' : List (List ℕ) = tree_lines s.form s.lists s.count s.plan.tree in
+    ap (λ ws. front_of s ++ ws) (sym (map-append whole tree' (end_line ∷ []))) ∙ sym (map-append whole (front_lines s.form s.stated s.lists s.plan) (tree' ++ end_line ∷ []))
+    ∙ ap (λ n. map whole (front_lines s.form n s.lists s.plan ++ (tree_lines s.form s.lists s.count s.plan.tree ++ end_line ∷ []))) (sym long)
+    ∙ ap (λ n. map whole (front_lines s.form (length s.lists) s.lists s.plan ++ (tree_lines s.form s.lists n s.plan.tree ++ end_line ∷ []))) (sym count)
+    ∙ ap (λ ls. map whole (lines_with s.form ls s.plan)) lists_are
+
+pub whole_takes : (ls : List Line) (plan : Plan) → whole_plan ls ≡ Ok plan → IsToldBy ls plan
 unfolding whole_plan
 whole_takes ls plan e =
     let (d, first, later) = bind_ok (before_end ls) ending plan e in
-    let g = draft_takes ls d.0 d.1 first in
-    let (complete, last) = when_err (is_complete d.0.0 d.0.1) (last_line d.0.1 (one (fixed_of end_line) d.1)) d.1 plan later in
-    let (same, end) = last-takes d.0.1 d.1 plan last in
-    let parts = and_parts (are_trees 1 d.0.1.tree) (length d.0.1.tree == d.0.0) complete in
-    let count : d.0.0 ≡ length d.0.1.tree = sym (eqb-true (length d.0.1.tree) d.0.0 parts.1) in
-    subst (λ (p : Plan). IsSpellable p × HasFields p × (ls ≡ map whole (plan_lines p))) same (
-      record {
+    let s : Stated = d.0 in
+    let g = draft_takes ls s d.1 first in
+    let (complete, last) = when_err (is_complete s) (last_line s.plan (one (fixed_of end_line) d.1)) d.1 plan later in
+    let (same, end) = last-takes s.plan d.1 plan last in
+    let parts = and_parts (are_trees 1 s.plan.tree) (has_counts s) complete in
+    let counts = and_parts (length s.plan.tree == s.count) (named_from s.form s.lists 0 s.plan.tree == length s.lists) parts.1 in
+    let count : length s.plan.tree ≡ s.count = eqb-true (length s.plan.tree) s.count counts.0 in
+    let places : ℕ = places_in s.plan.both s.plan.links in
+    let lists_are : s.lists ≡ lists_in s.form s.plan.tree = lists_told s.form places s.stated s.lists s.plan.tree g.0.listed g.0.named (eqb-true (named_from s.form s.lists 0 s.plan.tree) (length s.lists) counts.1) in
+    subst (IsToldBy ls) same (record {
+      spellable = record {
         sizes = g.0.sizes;
         status = g.0.status;
         design = g.0.design;
         whole = subst IsTrue (sym parts.0) refl;
-        records = record { few = subst (λ k. k ≤ MAX_RECORDS) count g.0.few; each = All-from_recursion (FitsRecord d.0.1.nodes d.0.1.links) d.0.1.tree g.0.records };
-      },
-      g.0.fields,
-      g.1 ∙ ap (λ us. map whole (lines_before_end d.0.0 d.0.1) ++ us) end ∙ sym (map-append whole (lines_before_end d.0.0 d.0.1) (end_line ∷ [])) ∙ ap (λ k. map whole (lines_before_end k d.0.1 ++ end_line ∷ [])) count,
-    )
+        records = record { few = subst (λ k. k ≤ MAX_RECORDS) (sym count) g.0.few; each = All-from_recursion (FitsRecord s.plan.nodes places) s.plan.tree g.0.records };
+      };
+      fields = g.0.fields;
+      form = s.form;
+      told = g.0.told;
+      lines = g.2 ∙ ap (λ us. front_of s ++ (tree_of s ++ us)) end ∙ whole-lines s g.1 lists_are count;
+    })
   where
     when_err : (t : Bool) (r : Result Plan (List Line)) (us : List Line) (plan : Plan) → cond t r (Err us) ≡ Ok plan → (t ≡ true) × (r ≡ Ok plan)
     when_err true r us plan e = (refl, e)
@@ -321,17 +474,31 @@ whole_takes ls plan e =
     last-takes : (found : Plan) (ls : List Line) (plan : Plan) → last_line found (one (fixed_of end_line) ls) ≡ Ok plan → (found ≡ plan) × (ls ≡ whole end_line ∷ [])
     last-takes found ls plan e = last-by found ls plan (one (fixed_of end_line) ls) refl e
 
-pub spelled_draft : (plan : Plan) → IsSpellable plan → HasFields plan → IsDraft (length plan.tree) plan
-spelled_draft plan s f = record {
-  sizes = s.sizes;
-  status = s.status;
-  design = s.design;
-  fields = f;
-  some = some plan.tree s.whole;
-  few = s.records.few;
-  grown = grown_whole plan.tree 1 (true-is (are_trees 1 plan.tree) s.whole);
-  records = recursion_from_All (FitsRecord plan.nodes plan.links) plan.tree s.records.each;
-}
+-- what the text of a plan states
+abbrev pub stated_by : Form → Plan → Stated
+stated_by form plan = record { form = form; stated = length (lists_in form plan.tree); lists = lists_in form plan.tree; count = length plan.tree; plan = plan }
+
+pub plan_ready : (form : Form) (plan : Plan) → IsSpellable plan → HasFields plan → AreReady form (places_in plan.both plan.links) plan.tree
+plan_ready form plan s f =
+    lists_ready form plan.nodes (places_in plan.both plan.links) plan.tree s.whole s.records.few
+    (seconds plan.nodes (places_in plan.both plan.links) plan.tree (recursion_from_All (FitsRecord plan.nodes (places_in plan.both plan.links)) plan.tree s.records.each) f.record_fields)
+
+pub spelled_draft : (form : Form) (plan : Plan) → IsSpellable plan → HasFields plan → CanTell form plan.both → IsDraft (stated_by form plan)
+spelled_draft form plan s f told =
+    let r = plan_ready form plan s f in
+    record {
+      sizes = s.sizes;
+      told = told;
+      status = s.status;
+      design = s.design;
+      fields = f;
+      listed = r.listed;
+      some = some plan.tree s.whole;
+      few = s.records.few;
+      grown = grown_whole plan.tree 1 (true-is (are_trees 1 plan.tree) s.whole);
+      records = recursion_from_All (FitsRecord plan.nodes (places_in plan.both plan.links)) plan.tree s.records.each;
+      named = r.named;
+    }
   where
     true-is : (b : Bool) → IsTrue b → b ≡ true
     true-is b h = h
@@ -340,12 +507,28 @@ spelled_draft plan s f = record {
     some [] h = absurd (let bad : false ≡ true = h in cc)
     some (n ∷ ns) h = omega arith
 
-pub whole_again : (plan : Plan) → IsSpellable plan → HasFields plan → whole_plan (map whole (plan_lines plan)) ≡ Ok plan
+plan-complete : (form : Form) (plan : Plan) → IsSpellable plan → HasFields plan → is_complete (stated_by form plan) ≡ true
+plan-complete form plan s f =
+    let lists : List (List ℕ) = lists_in form plan.tree in
+    let r = plan_ready form plan s f in
+    and_from (are_trees 1 plan.tree) (has_counts (stated_by form plan)) s.whole
+    (and_from (length plan.tree == length plan.tree) (named_from form lists 0 plan.tree == length lists) (eq-eqb (length plan.tree) (length plan.tree) refl) (eq-eqb (named_from form lists 0 plan.tree) (length lists) r.ends))
+
+-- the lines of what the text of a plan states are those of the plan
+pub plan_drafted : (form : Form) (plan : Plan) → IsSpellable plan → HasFields plan → draft_lines (stated_by form plan) ≡ map whole (plan_lines form plan)
+plan_drafted form plan s f =
+    let x : Stated = stated_by form plan in
+    ap (λ b. front_of x ++ cond b (tree_of x ++ closing x) []) (eq-eqb (length x.lists) x.stated refl)
+    ∙ ap (λ b. front_of x ++ (tree_of x ++ cond b (whole end_line ∷ []) [])) (plan-complete form plan s f)
+    ∙ whole-lines x refl refl refl
+
+pub whole_again : (form : Form) (plan : Plan) → IsSpellable plan → HasFields plan → CanTell form plan.both → whole_plan (map whole (plan_lines form plan)) ≡ Ok plan
 unfolding whole_plan
-whole_again plan s f =
-    ap (λ ls. before_end ls >>= ending) (map-append whole (lines_before_end (length plan.tree) plan) (end_line ∷ []))
-    ∙ ap (λ r. r >>= ending) (draft_again (length plan.tree) plan (whole end_line ∷ []) (spelled_draft plan s f))
-    ∙ ap (λ t. cond t (last_line plan (one (fixed_of end_line) (whole end_line ∷ []))) (Err (whole end_line ∷ []))) (and_from (are_trees 1 plan.tree) (length plan.tree == length plan.tree) s.whole (eq-eqb (length plan.tree) (length plan.tree) refl))
+whole_again form plan s f told =
+    let x : Stated = stated_by form plan in
+    ap (λ ls. before_end ls >>= ending) (sym (whole-lines x refl refl refl))
+    ∙ ap (λ r. r >>= ending) (draft_again x (whole end_line ∷ []) (spelled_draft form plan s f told) refl)
+    ∙ ap (λ t. cond t (last_line plan (one (fixed_of end_line) (whole end_line ∷ []))) (Err (whole end_line ∷ []))) (plan-complete form plan s f)
     ∙ ap (last_line plan) (one_again (fixed_of end_line) end_line tt [] (fixed_again end_line))
 
 -- ---- texts
@@ -354,7 +537,7 @@ pub spells_takes : (text : List ℕ) (plan : Plan) → plan_of text ≡ Ok plan 
 unfolding plan_of plan_text
 spells_takes text plan e =
     let w = whole_takes (lines_of text) plan (read-ok (whole_plan (lines_of text)) plan e) in
-    record { spellable = w.0; fields = w.1; is_text = sym (text_of_lines text) ∙ ap text_of w.2 }
+    record { spellable = w.spellable; fields = w.fields; form = w.form; told = w.told; is_text = sym (text_of_lines text) ∙ ap text_of w.lines }
   where
     read-ok : (r : Result Plan (List Line)) (plan : Plan) → read_as (length text) r ≡ Ok plan → r ≡ Ok plan
     read-ok (Ok p) plan e = (let same : p ≡ plan = cc in ap (λ (p : Plan). Ok p) same)
@@ -364,13 +547,13 @@ nil-lines : (ls : List Line) → ls ++ lines_of [] ≡ ls
 unfolding lines_of
 nil-lines ls = append-nil ls
 
-pub plan_text_lines : (plan : Plan) → IsSpellable plan → HasFields plan → lines_of (plan_text plan) ≡ map whole (plan_lines plan)
+pub plan_text_lines : (form : Form) (plan : Plan) → IsSpellable plan → HasFields plan → lines_of (plan_text form plan) ≡ map whole (plan_lines form plan)
 unfolding plan_text
-plan_text_lines plan s f =
-    ap lines_of (sym (append-nil (text_of (map whole (plan_lines plan))))) ∙ lines_of_text (plan_lines plan) [] (plan_lacks plan s f) ∙ nil-lines (map whole (plan_lines plan))
+plan_text_lines form plan s f =
+    ap lines_of (sym (append-nil (text_of (map whole (plan_lines form plan))))) ∙ lines_of_text (plan_lines form plan) [] (plan_lacks form plan s f (plan_ready form plan s f)) ∙ nil-lines (map whole (plan_lines form plan))
 
 pub spells_again : (text : List ℕ) (plan : Plan) → SpellsPlan text plan → plan_of text ≡ Ok plan
 unfolding plan_of
 spells_again text plan s =
-    ap (λ ls. read_as (length text) (whole_plan ls)) (ap lines_of s.is_text ∙ plan_text_lines plan s.spellable s.fields)
-    ∙ ap (read_as (length text)) (whole_again plan s.spellable s.fields)
+    ap (λ ls. read_as (length text) (whole_plan ls)) (ap lines_of s.is_text ∙ plan_text_lines s.form plan s.spellable s.fields)
+    ∙ ap (read_as (length text)) (whole_again s.form plan s.spellable s.fields s.told)

@@ -1,8 +1,8 @@
 -- A text is read as a plan exactly where it spells the plan.
-use Rattle.std.proofs.Common.{◌≡◌, ℕ, zero, suc, ◌-◌, ◌^◌, ◌<◌, ◌≤◌, true, true≢false, List, [], ◌∷◌, ◌++◌, length, map, codes, Option, Some, None, refl, sym, ap, subst, ◌∙◌, append_assoc, arith}
+use Rattle.std.proofs.Common.{◌≡◌, ℕ, zero, suc, ◌-◌, ◌^◌, ◌<◌, ◌≤◌, Bool, true, true≢false, List, [], ◌∷◌, ◌++◌, length, map, codes, Option, Some, None, refl, sym, ap, subst, ◌∙◌, append_assoc, arith}
 use Rattle.std.specs.Prelude.{Result, Ok, Err, IfSome}
 use Rattle.std.specs.List.{AllByRecursion}
-use Rattle.std.proofs.lemmas.List.{map-append}
+use Rattle.std.proofs.lemmas.List.{map-append, append-nil}
 use Rattle.std.proofs.lemmas.List.Elements.{All-from_recursion, recursion_from_All}
 use Rattle.plan_base.specs.declared.ids.ArcId.{ArcId}
 use Rattle.plan_base.specs.declared.path.Design.{Design}
@@ -13,14 +13,19 @@ use Rattle.proof_tree.specs.declared.tree.TreeNode.TheVariants.{Split, Leaf}
 use Rattle.proof_tree.specs.declared.plan.PlanStatus.{PlanStatus}
 use Rattle.proof_tree.specs.Shapes.{are_trees}
 use Rattle.proof_tree.specs.Spellings.{FitsRecord, FitsDesign}
+use Rattle.cert_format.specs.declared.bodies.Sizes.{Sizes}
+use Rattle.cert_format.specs.declared.form.Form.{Form}
+use Rattle.cert_format.specs.declared.numbering.Ground.{Ground}
 use Rattle.cert_format.specs.declared.reading.Head.{Head}
 use Rattle.cert_format.specs.Lines.{Line, whole, unfinished}
-use Rattle.cert_format.specs.Grammar.{header_line, size_line, status_line, number_line, path_line, modules_line, record_line, AreArcs, HasRecordFields, HasDesignFields}
+use Rattle.cert_format.specs.Lists.{shown, named_behind, AreNamed, AreNew}
+use Rattle.cert_format.specs.Grammar.{header_line, size_line, status_line, number_line, path_line, modules_line, price_line, record_line, AreArcs, HasRecordFields, HasDesignFields}
 use Rattle.cert_format.specs.Drafts.{IsGrown, left_open}
-use Rattle.cert_format.specs.Bodies.{fixed_of, number_row, size_row, status_of, path_of, modules_of, record_of}
-use Rattle.cert_format.specs.Reading.{Reader, ◌>>=◌, bind, done, judged, one, many, head, design_of, design, records, head_with, design_with}
-use Rattle.cert_format.proofs.BodyLaws.{AreSizes, fixed_takes, fixed_again, number_row_takes, number_row_again, size_takes, size_again, status_takes, status_again, path_takes, path_again, modules_takes, modules_again}
-use Rattle.cert_format.proofs.RecordLaws.{record_takes, record_again}
+use Rattle.cert_format.specs.Bodies.{form_of, number_row, size_row, status_of, path_of, modules_of, list_row}
+use Rattle.cert_format.specs.Reading.{Reader, ◌>>=◌, bind, done, judged, one, many, head, design_of, lists, record_on, records, head_with, design_with}
+use Rattle.cert_format.proofs.BodyLaws.{AreTold, sizes_at, form_takes, form_again, number_row_takes, number_row_again, size_takes, size_again, status_takes, status_again, path_takes, path_again, modules_takes, modules_again, list_takes, list_again}
+use Rattle.cert_format.proofs.ListLaws.{AreGood}
+use Rattle.cert_format.proofs.ShownLaws.{record_in_takes, record_in_again}
 
 -- ---- answers
 
@@ -98,54 +103,55 @@ many_again f Good print law (x ∷ xs) rest h =
 -- ---- the five lines that begin each text
 
 pub record IsHead (h : Head) : Type 0 where
-  pub sizes : AreSizes (h.nodes, h.links, h.demands)
+  pub told : AreTold h.form (sizes_at h.nodes h.links h.demands h.both)
   pub some_budget : 1 ≤ h.budget
   pub budget : h.budget ≤ MAX_BUDGET
   pub examined : h.examined < 2 ^ 32
 
 abbrev pub lines_of_head : Head → List (List ℕ)
-lines_of_head h = header_line ∷ size_line h.nodes h.links h.demands ∷ status_line h.status ∷ number_line (codes "BUDGET") h.budget ∷ number_line (codes "EXAMINED") h.examined ∷ []
+lines_of_head h = header_line h.form ∷ size_line h.form h.nodes h.links h.demands h.both ∷ status_line h.status ∷ number_line (codes "BUDGET") h.budget ∷ number_line (codes "EXAMINED") h.examined ∷ []
 
 -- the readers that follow one another there
-abbrev pub head4 : ℕ × ℕ × ℕ → PlanStatus → ℕ → Reader Head
-head4 sizes status budget = bind (one (number_row (codes "EXAMINED") 0 (2 ^ 32 - 1))) λ examined.
-    done (head_with sizes status budget examined)
+abbrev pub head4 : Form → Sizes → PlanStatus → ℕ → Reader Head
+head4 form sizes status budget = bind (one (number_row (codes "EXAMINED") 0 (2 ^ 32 - 1))) λ examined.
+    done (head_with form sizes status budget examined)
 
-abbrev pub head3 : ℕ × ℕ × ℕ → PlanStatus → Reader Head
-head3 sizes status = bind (one (number_row (codes "BUDGET") 1 MAX_BUDGET)) λ budget. head4 sizes status budget
+abbrev pub head3 : Form → Sizes → PlanStatus → Reader Head
+head3 form sizes status = bind (one (number_row (codes "BUDGET") 1 MAX_BUDGET)) λ budget. head4 form sizes status budget
 
-abbrev pub head2 : ℕ × ℕ × ℕ → Reader Head
-head2 sizes = bind (one status_of) λ status. head3 sizes status
+abbrev pub head2 : Form → Sizes → Reader Head
+head2 form sizes = bind (one status_of) λ status. head3 form sizes status
 
-abbrev pub head1 : Reader Head
-head1 = bind (one size_row) λ sizes. head2 sizes
+abbrev pub head1 : Form → Reader Head
+head1 form = bind (one (size_row form)) λ sizes. head2 form sizes
 
 pub head_takes : (ls : List Line) (h : Head) (rest : List Line) → head ls ≡ read_one h rest → IsHead h × (ls ≡ map whole (lines_of_head h) ++ rest)
 unfolding head
 head_takes ls h rest e =
-    let (a, ls1, e1, f1) = taken (one (fixed_of header_line)) (λ _. head1) ls h rest e in
-    let (sizes, ls2, e2, f2) = taken (one size_row) (λ sizes. head2 sizes) ls1 h rest f1 in
-    let (status, ls3, e3, f3) = taken (one status_of) (λ status. head3 sizes status) ls2 h rest f2 in
-    let (budget, ls4, e4, f4) = taken (one (number_row (codes "BUDGET") 1 MAX_BUDGET)) (λ budget. head4 sizes status budget) ls3 h rest f3 in
-    let (examined, ls5, e5, f5) = taken (one (number_row (codes "EXAMINED") 0 (2 ^ 32 - 1))) (λ examined. done (head_with sizes status budget examined)) ls4 h rest f4 in
-    let p = done_parts (head_with sizes status budget examined) h ls5 rest f5 in
-    let (b1, l1, r1) = one_line (fixed_of header_line) ls a ls1 e1 in
-    let (b2, l2, r2) = one_line size_row ls1 sizes ls2 e2 in
+    let (form, ls1, e1, f1) = taken (one form_of) (λ form. head1 form) ls h rest e in
+    let (sizes, ls2, e2, f2) = taken (one (size_row form)) (λ sizes. head2 form sizes) ls1 h rest f1 in
+    let (status, ls3, e3, f3) = taken (one status_of) (λ status. head3 form sizes status) ls2 h rest f2 in
+    let (budget, ls4, e4, f4) = taken (one (number_row (codes "BUDGET") 1 MAX_BUDGET)) (λ budget. head4 form sizes status budget) ls3 h rest f3 in
+    let (examined, ls5, e5, f5) = taken (one (number_row (codes "EXAMINED") 0 (2 ^ 32 - 1))) (λ examined. done (head_with form sizes status budget examined)) ls4 h rest f4 in
+    let p = done_parts (head_with form sizes status budget examined) h ls5 rest f5 in
+    let (b1, l1, r1) = one_line form_of ls form ls1 e1 in
+    let (b2, l2, r2) = one_line (size_row form) ls1 sizes ls2 e2 in
     let (b3, l3, r3) = one_line status_of ls2 status ls3 e3 in
     let (b4, l4, r4) = one_line (number_row (codes "BUDGET") 1 MAX_BUDGET) ls3 budget ls4 e4 in
     let (b5, l5, r5) = one_line (number_row (codes "EXAMINED") 0 (2 ^ 32 - 1)) ls4 examined ls5 e5 in
-    let s = size_takes b2 sizes r2 in
+    let s = size_takes form b2 sizes r2 in
     let g = number_row_takes (codes "BUDGET") 1 MAX_BUDGET b4 budget r4 in
     let x = number_row_takes (codes "EXAMINED") 0 (2 ^ 32 - 1) b5 examined r5 in
-    let lines : ls ≡ whole header_line ∷ whole (size_line sizes.0 sizes.1 sizes.2) ∷ whole (status_line status) ∷ whole (number_line (codes "BUDGET") budget) ∷ whole (number_line (codes "EXAMINED") examined) ∷ rest =
-    (l1 ∙ ap (λ b. whole b ∷ ls1) (fixed_takes header_line b1 a r1)
-    ∙ ap (λ us. whole header_line ∷ us) (l2 ∙ ap (λ b. whole b ∷ ls2) s.1
-    ∙ ap (λ us. whole (size_line sizes.0 sizes.1 sizes.2) ∷ us) (l3 ∙ ap (λ b. whole b ∷ ls3) (status_takes b3 status r3)
+    let size : List ℕ = size_line form sizes.nodes sizes.links sizes.demands sizes.both in
+    let lines : ls ≡ whole (header_line form) ∷ whole size ∷ whole (status_line status) ∷ whole (number_line (codes "BUDGET") budget) ∷ whole (number_line (codes "EXAMINED") examined) ∷ rest =
+    (l1 ∙ ap (λ b. whole b ∷ ls1) (form_takes b1 form r1)
+    ∙ ap (λ us. whole (header_line form) ∷ us) (l2 ∙ ap (λ b. whole b ∷ ls2) s.1
+    ∙ ap (λ us. whole size ∷ us) (l3 ∙ ap (λ b. whole b ∷ ls3) (status_takes b3 status r3)
     ∙ ap (λ us. whole (status_line status) ∷ us) (l4 ∙ ap (λ b. whole b ∷ ls4) g.2
     ∙ ap (λ us. whole (number_line (codes "BUDGET") budget) ∷ us) (l5 ∙ ap (λ b. whole b ∷ ls5) x.2
     ∙ ap (λ us. whole (number_line (codes "EXAMINED") examined) ∷ us) p.1))))) in
     subst (λ (h : Head). IsHead h × (ls ≡ map whole (lines_of_head h) ++ rest)) p.0
-    (record { sizes = s.0; some_budget = g.0; budget = g.1; examined = omega (arith, x.1) }, lines)
+    (record { told = s.0; some_budget = g.0; budget = g.1; examined = omega (arith, x.1) }, lines)
 
 pub head_again : (h : Head) (rest : List Line) → IsHead h → head (map whole (lines_of_head h) ++ rest) ≡ Ok (h, rest)
 unfolding head
@@ -154,13 +160,13 @@ head_again h rest g =
     let ls4 : List Line = whole (number_line (codes "EXAMINED") h.examined) ∷ ls5 in
     let ls3 : List Line = whole (number_line (codes "BUDGET") h.budget) ∷ ls4 in
     let ls2 : List Line = whole (status_line h.status) ∷ ls3 in
-    let ls1 : List Line = whole (size_line h.nodes h.links h.demands) ∷ ls2 in
-    let sizes : ℕ × ℕ × ℕ = (h.nodes, h.links, h.demands) in
-    and_then (one (fixed_of header_line)) (λ _. head1) (whole header_line ∷ ls1) tt ls1 (Ok (h, rest)) (one_again (fixed_of header_line) header_line tt ls1 (fixed_again header_line))
-    (and_then (one size_row) (λ sizes. head2 sizes) ls1 sizes ls2 (Ok (h, rest)) (one_again size_row (size_line h.nodes h.links h.demands) sizes ls2 (size_again h.nodes h.links h.demands g.sizes))
-    (and_then (one status_of) (λ status. head3 sizes status) ls2 h.status ls3 (Ok (h, rest)) (one_again status_of (status_line h.status) h.status ls3 (status_again h.status))
-    (and_then (one (number_row (codes "BUDGET") 1 MAX_BUDGET)) (λ budget. head4 sizes h.status budget) ls3 h.budget ls4 (Ok (h, rest)) (one_again (number_row (codes "BUDGET") 1 MAX_BUDGET) (number_line (codes "BUDGET") h.budget) h.budget ls4 (number_row_again (codes "BUDGET") 1 MAX_BUDGET h.budget (omega arith) g.some_budget g.budget))
-    (and_then (one (number_row (codes "EXAMINED") 0 (2 ^ 32 - 1))) (λ examined. done (head_with sizes h.status h.budget examined)) ls4 h.examined ls5 (Ok (h, rest)) (one_again (number_row (codes "EXAMINED") 0 (2 ^ 32 - 1)) (number_line (codes "EXAMINED") h.examined) h.examined ls5 (number_row_again (codes "EXAMINED") 0 (2 ^ 32 - 1) h.examined (omega arith) (omega arith) (omega (arith, g.examined))))
+    let ls1 : List Line = whole (size_line h.form h.nodes h.links h.demands h.both) ∷ ls2 in
+    let sizes : Sizes = sizes_at h.nodes h.links h.demands h.both in
+    and_then (one form_of) (λ form. head1 form) (whole (header_line h.form) ∷ ls1) h.form ls1 (Ok (h, rest)) (one_again form_of (header_line h.form) h.form ls1 (form_again h.form))
+    (and_then (one (size_row h.form)) (λ sizes. head2 h.form sizes) ls1 sizes ls2 (Ok (h, rest)) (one_again (size_row h.form) (size_line h.form h.nodes h.links h.demands h.both) sizes ls2 (size_again h.form h.nodes h.links h.demands h.both g.told))
+    (and_then (one status_of) (λ status. head3 h.form sizes status) ls2 h.status ls3 (Ok (h, rest)) (one_again status_of (status_line h.status) h.status ls3 (status_again h.status))
+    (and_then (one (number_row (codes "BUDGET") 1 MAX_BUDGET)) (λ budget. head4 h.form sizes h.status budget) ls3 h.budget ls4 (Ok (h, rest)) (one_again (number_row (codes "BUDGET") 1 MAX_BUDGET) (number_line (codes "BUDGET") h.budget) h.budget ls4 (number_row_again (codes "BUDGET") 1 MAX_BUDGET h.budget (omega arith) g.some_budget g.budget))
+    (and_then (one (number_row (codes "EXAMINED") 0 (2 ^ 32 - 1))) (λ examined. done (head_with h.form sizes h.status h.budget examined)) ls4 h.examined ls5 (Ok (h, rest)) (one_again (number_row (codes "EXAMINED") 0 (2 ^ 32 - 1)) (number_line (codes "EXAMINED") h.examined) h.examined ls5 (number_row_again (codes "EXAMINED") 0 (2 ^ 32 - 1) h.examined (omega arith) (omega arith) (omega (arith, g.examined))))
     (done_is h rest)))))
 
 -- ---- the design
@@ -250,39 +256,110 @@ design_of_again demands links (Some design) rest h =
     (subst (λ n. many n modules_of (map whole (map modules_line d.counts) ++ rest) ≡ Ok (d.counts, rest)) fits.list_count (many_again modules_of GoodCounts modules_line (λ counts g. modules_again counts g.0 g.1) d.counts rest pb))
     (done_is (Some design) rest))
 
+-- ---- the price lists
+
+-- price lists that were read behind others
+pub record AreRead (places n : ℕ) (before found : List (List ℕ)) (ls rest : List Line) : Type 0 where
+  pub more : List (List ℕ)
+  pub all : found ≡ before ++ more
+  pub count : length more ≡ n
+  pub new : AreNew places before more
+  pub lines : ls ≡ map whole (map price_line more) ++ rest
+
+pub lists_take : (places n : ℕ) (before : List (List ℕ)) (ls : List Line) (found : List (List ℕ)) (rest : List Line) → lists places n before ls ≡ read_one found rest → AreRead places n before found ls rest
+unfolding lists AreNew
+lists_take places zero before ls found rest e = (let p = done_parts before found ls rest e in record { more = []; all = sym p.0 ∙ sym (append-nil before); count = refl; new = tt; lines = p.1 })
+lists_take places (suc n) before ls found rest e =
+    let (list, us, e1, f1) = taken (one (list_row places before)) (λ list. lists places n (before ++ list ∷ [])) ls found rest e in
+    let (body, line, read) = one_line (list_row places before) ls list us e1 in
+    let here = list_takes places before body list read in
+    let there = lists_take places n (before ++ list ∷ []) us found rest f1 in
+    record {
+      more = list ∷ there.more;
+      all = there.all ∙ append_assoc before (list ∷ []) there.more;
+      count = ap (λ k. suc k) there.count;
+      new = (here.0.count, here.0.small, here.0.fresh, there.new);
+      lines = line ∙ ap (λ bs. whole bs ∷ us) here.1 ∙ ap (λ us. whole (price_line list) ∷ us) there.lines;
+    }
+
+pub lists_again : (places : ℕ) (before more : List (List ℕ)) (rest : List Line) → AreNew places before more → lists places (length more) before (map whole (map price_line more) ++ rest) ≡ Ok (before ++ more, rest)
+unfolding lists AreNew
+lists_again places before [] rest new = done_is before rest ∙ ap (λ ls. read_one ls rest) (sym (append-nil before))
+lists_again places before (list ∷ more) rest new =
+    and_then (one (list_row places before)) (λ list. lists places (length more) (before ++ list ∷ [])) (whole (price_line list) ∷ (map whole (map price_line more) ++ rest)) list (map whole (map price_line more) ++ rest) (Ok (before ++ list ∷ more, rest))
+    (one_again (list_row places before) (price_line list) list (map whole (map price_line more) ++ rest) (list_again places before list (record { count = new.0; small = new.1; fresh = new.2 })))
+    (lists_again places (before ++ list ∷ []) more rest new.3 ∙ ap (λ ls. read_one ls rest) (append_assoc before (list ∷ []) more))
+
+nothing-read : {A : Type 0} (f : List ℕ → Option A) → one f [] ≡ Err []
+unfolding one
+nothing-read f = refl
+
+-- where price lists lack, the reader stops at the end
+pub lists_short : (places n : ℕ) (before more : List (List ℕ)) → AreNew places before more → length more < n → lists places n before (map whole (map price_line more)) ≡ Err []
+unfolding lists bind AreNew
+lists_short places zero before more new short = absurd (omega (arith, short))
+lists_short places (suc n) before [] new short = ap (λ r. r >>= λ p. lists places n (before ++ p.0 ∷ []) p.1) (nothing-read (list_row places before))
+lists_short places (suc n) before (list ∷ more) new short =
+    and_then (one (list_row places before)) (λ list. lists places n (before ++ list ∷ [])) (whole (price_line list) ∷ map whole (map price_line more)) list (map whole (map price_line more)) (Err [])
+    (one_again (list_row places before) (price_line list) list (map whole (map price_line more)) (list_again places before list (record { count = new.0; small = new.1; fresh = new.2 })))
+    (lists_short places n (before ++ list ∷ []) more new.3 (omega (arith, short)))
+
 -- ---- the records
 
-pub grown_takes : (nodes links left trees : ℕ) (ls : List Line) (ns : List TreeNode) (rest : List Line) → records nodes links left trees ls ≡ read_one ns rest
-    → IsGrown left trees ns × AllByRecursion (λ node. FitsRecord nodes links node × HasRecordFields node) ns × (ls ≡ map whole (map record_line ns) ++ rest)
-unfolding records IsGrown
-grown_takes nodes links zero trees ls ns rest e = (let p = done_parts {A = List TreeNode} [] ns ls rest e in subst (λ (ns : List TreeNode). (ns ≡ []) × AllByRecursion (λ node. FitsRecord nodes links node × HasRecordFields node) ns × (ls ≡ map whole (map record_line ns) ++ rest)) p.0 (refl, tt, p.1))
-grown_takes nodes links (suc left) zero ls ns rest e = (let p = done_parts {A = List TreeNode} [] ns ls rest e in subst (λ (ns : List TreeNode). (ns ≡ []) × AllByRecursion (λ node. FitsRecord nodes links node × HasRecordFields node) ns × (ls ≡ map whole (map record_line ns) ++ rest)) p.0 (refl, tt, p.1))
-grown_takes nodes links (suc left) (suc others) ls ns rest e =
-    let (node, us, e1, f1) = taken (one (record_of nodes links)) (λ node. bind (records nodes links left (left_open node others)) λ more. done (node ∷ more)) ls ns rest e in
-    let (more, vs, e2, f2) = taken (records nodes links left (left_open node others)) (λ more. done (node ∷ more)) us ns rest f1 in
-    let p = done_parts (node ∷ more) ns vs rest f2 in
-    let (body, line, read) = one_line (record_of nodes links) ls node us e1 in
-    let here = record_takes nodes links body node read in
-    let there = grown_takes nodes links left (left_open node others) us more vs e2 in
-    subst (λ (ns : List TreeNode). IsGrown (suc left) (suc others) ns × AllByRecursion (λ node. FitsRecord nodes links node × HasRecordFields node) ns × (ls ≡ map whole (map record_line ns) ++ rest)) p.0 (
-      there.0,
-      ((here.fits, here.fields), there.1),
-      line ∙ ap (λ bs. whole bs ∷ us) here.line ∙ ap (λ us. whole (record_line node) ∷ us) (there.2 ∙ ap (λ ws. map whole (map record_line more) ++ ws) p.1),
-    )
+-- what the lines of records depend on is as it should be
+abbrev pub IsGround : Ground → Type 0
+IsGround g = AreGood g.form g.places g.lists
 
-pub grown_again : (nodes links : ℕ) → nodes ≤ MAX_NODES → (left trees : ℕ) (ns : List TreeNode) (rest : List Line) → IsGrown left trees ns → AllByRecursion (λ node. FitsRecord nodes links node × HasRecordFields node) ns
-    → records nodes links left trees (map whole (map record_line ns) ++ rest) ≡ Ok (ns, rest)
-unfolding records IsGrown
-grown_again nodes links few zero trees [] rest g h = done_is {A = List TreeNode} [] rest
-grown_again nodes links few zero trees (node ∷ ns) rest g h = absurd (omega (arith, ap length g))
-grown_again nodes links few (suc left) zero [] rest g h = done_is {A = List TreeNode} [] rest
-grown_again nodes links few (suc left) zero (node ∷ ns) rest g h = absurd (omega (arith, ap length g))
-grown_again nodes links few (suc left) (suc others) [] rest g h = absurd g
-grown_again nodes links few (suc left) (suc others) (node ∷ ns) rest g h =
-    and_then (one (record_of nodes links)) (λ node. bind (records nodes links left (left_open node others)) λ more. done (node ∷ more)) (whole (record_line node) ∷ (map whole (map record_line ns) ++ rest)) node (map whole (map record_line ns) ++ rest) (Ok (node ∷ ns, rest))
-    (one_again (record_of nodes links) (record_line node) node (map whole (map record_line ns) ++ rest) (record_again nodes links node few h.0.0 h.0.1))
-    (and_then (records nodes links left (left_open node others)) (λ more. done (node ∷ more)) (map whole (map record_line ns) ++ rest) ns rest (Ok (node ∷ ns, rest))
-    (grown_again nodes links few left (left_open node others) ns rest g h.1) (done_is (node ∷ ns) rest))
+-- a record that fits the ground
+abbrev pub FitsGround : Ground → TreeNode → Type 0
+FitsGround g node = FitsRecord g.nodes g.places node × HasRecordFields node
+
+-- the line of a record
+abbrev pub line_on : Ground → TreeNode → List ℕ
+line_on g node = record_line (shown g.form g.lists node)
+
+-- how many lists are named behind a record
+abbrev pub named_on : Ground → ℕ → TreeNode → ℕ
+named_on g named node = named_behind g.form g.lists named node
+
+-- records that were read where so many lists are named before them
+pub record AreGrown (g : Ground) (named left trees : ℕ) (ns : List TreeNode) (ls rest : List Line) : Type 0 where
+  pub grown : IsGrown left trees ns
+  pub each : AllByRecursion (FitsGround g) ns
+  pub names : AreNamed g.form g.lists named ns
+  pub lines : ls ≡ map whole (map (line_on g) ns) ++ rest
+
+pub grown_takes : (g : Ground) → IsGround g → (named left trees : ℕ) (ls : List Line) (ns : List TreeNode) (rest : List Line) → records g named left trees ls ≡ read_one ns rest → AreGrown g named left trees ns ls rest
+unfolding records IsGrown AreNamed
+grown_takes g good named zero trees ls ns rest e = (let p = done_parts {A = List TreeNode} [] ns ls rest e in subst (λ (ns : List TreeNode). AreGrown g named 0 trees ns ls rest) p.0 (record { grown = refl; each = tt; names = tt; lines = p.1 }))
+grown_takes g good named (suc left) zero ls ns rest e = (let p = done_parts {A = List TreeNode} [] ns ls rest e in subst (λ (ns : List TreeNode). AreGrown g named (suc left) 0 ns ls rest) p.0 (record { grown = refl; each = tt; names = tt; lines = p.1 }))
+grown_takes g good named (suc left) (suc others) ls ns rest e =
+    let (node, us, e1, f1) = taken (one (record_on g named)) (λ node. bind (records g (named_on g named node) left (left_open node others)) λ more. done (node ∷ more)) ls ns rest e in
+    let (more, vs, e2, f2) = taken (records g (named_on g named node) left (left_open node others)) (λ more. done (node ∷ more)) us ns rest f1 in
+    let p = done_parts (node ∷ more) ns vs rest f2 in
+    let (body, line, read) = one_line (record_on g named) ls node us e1 in
+    let here = record_in_takes g.form g.lists named g.nodes g.places body node good read in
+    let there = grown_takes g good (named_on g named node) left (left_open node others) us more vs e2 in
+    subst (λ (ns : List TreeNode). AreGrown g named (suc left) (suc others) ns ls rest) p.0 (record {
+      grown = there.grown;
+      each = ((here.fits, here.fields), there.each);
+      names = (here.names, there.names);
+      lines = line ∙ ap (λ bs. whole bs ∷ us) here.line ∙ ap (λ us. whole (line_on g node) ∷ us) (there.lines ∙ ap (λ ws. map whole (map (line_on g) more) ++ ws) p.1);
+    })
+
+pub grown_again : (g : Ground) → IsGround g → g.nodes ≤ MAX_NODES → (named left trees : ℕ) (ns : List TreeNode) (rest : List Line) → IsGrown left trees ns → AllByRecursion (FitsGround g) ns → AreNamed g.form g.lists named ns
+    → records g named left trees (map whole (map (line_on g) ns) ++ rest) ≡ Ok (ns, rest)
+unfolding records IsGrown AreNamed
+grown_again g good few named zero trees [] rest grown h k = done_is {A = List TreeNode} [] rest
+grown_again g good few named zero trees (node ∷ ns) rest grown h k = absurd (omega (arith, ap length grown))
+grown_again g good few named (suc left) zero [] rest grown h k = done_is {A = List TreeNode} [] rest
+grown_again g good few named (suc left) zero (node ∷ ns) rest grown h k = absurd (omega (arith, ap length grown))
+grown_again g good few named (suc left) (suc others) [] rest grown h k = absurd grown
+grown_again g good few named (suc left) (suc others) (node ∷ ns) rest grown h k =
+    and_then (one (record_on g named)) (λ node. bind (records g (named_on g named node) left (left_open node others)) λ more. done (node ∷ more)) (whole (line_on g node) ∷ (map whole (map (line_on g) ns) ++ rest)) node (map whole (map (line_on g) ns) ++ rest) (Ok (node ∷ ns, rest))
+    (one_again (record_on g named) (line_on g node) node (map whole (map (line_on g) ns) ++ rest) (record_in_again g.form g.lists named g.nodes g.places node few good h.0.0 h.0.1 k.0))
+    (and_then (records g (named_on g named node) left (left_open node others)) (λ more. done (node ∷ more)) (map whole (map (line_on g) ns) ++ rest) ns rest (Ok (node ∷ ns, rest))
+    (grown_again g good few (named_on g named node) left (left_open node others) ns rest grown h.1 k.1) (done_is (node ∷ ns) rest))
 
 -- a whole tree is grown where as many records are stated
 pub grown_whole : (ns : List TreeNode) (trees : ℕ) → are_trees trees ns ≡ true → IsGrown (length ns) trees ns

@@ -184,11 +184,11 @@ flags_again at (false ∷ fs) =
     ap (λ o. choose o (λ rest. option_map (λ flags. true ∷ flags) (flags_of (suc at) (length fs) rest)) (option_map (λ flags. false ∷ flags) (flags_of (suc at) (length fs) (members (suc at) fs)))) (later-none at (suc at) fs (omega arith))
     ∙ ap (option_map (λ flags. false ∷ flags)) (flags_again (suc at) fs)
 
-members-few : (at : ℕ) (fs : List Bool) → length (members at fs) ≤ length fs
+pub members_few : (at : ℕ) (fs : List Bool) → length (members at fs) ≤ length fs
 unfolding members
-members-few at [] = omega arith
-members-few at (true ∷ fs) = omega (arith, members-few (suc at) fs)
-members-few at (false ∷ fs) = omega (arith, members-few (suc at) fs)
+members_few at [] = omega arith
+members_few at (true ∷ fs) = omega (arith, members_few (suc at) fs)
+members_few at (false ∷ fs) = omega (arith, members_few (suc at) fs)
 
 members-small : (at most : ℕ) (fs : List Bool) → at + length fs ≤ most → most ≤ 2 ^ 128 → AreSmall (members at fs)
 unfolding members
@@ -326,13 +326,13 @@ overfull-again n small = ap (λ o. o >>= overfull_in) (numbers_found (n ∷ []) 
 
 pub cut_small : (nodes d : ℕ) (fs : List Bool) → nodes ≤ MAX_NODES → d < 2 ^ 32 → length fs ≡ nodes → AreSmall (d ∷ counted (members 0 fs))
 cut_small nodes d fs small fits long =
-    let few : length (members 0 fs) ≤ nodes = omega (arith, members-few 0 fs, long) in
+    let few : length (members 0 fs) ≤ nodes = omega (arith, members_few 0 fs, long) in
     (omega (arith, fits), (omega (arith, few, small), members-small 0 nodes fs (omega (arith, long)) (omega (arith, small))))
 
 cut-again : (nodes d : ℕ) (fs : List Bool) → nodes ≤ MAX_NODES → d < 2 ^ 32 → length fs ≡ nodes → (numbers_of (numerals (d ∷ counted (members 0 fs))) >>= cut_in nodes) ≡ Some (cut_with d fs)
 unfolding cut_in
 cut-again nodes d fs small fits long =
-    let few : length (members 0 fs) ≤ nodes = omega (arith, members-few 0 fs, long) in
+    let few : length (members 0 fs) ≤ nodes = omega (arith, members_few 0 fs, long) in
     let below : AreSmall (d ∷ counted (members 0 fs)) = cut_small nodes d fs small fits long in
     ap (λ o. o >>= cut_in nodes) (numbers_found (d ∷ counted (members 0 fs)) below)
     ∙ ap (λ t. cond t (option_map (cut_with d) (uncounted nodes (counted (members 0 fs)) >>= flags_of 0 nodes)) None) (lt-ltb d (2 ^ 32) fits)

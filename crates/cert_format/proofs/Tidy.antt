@@ -1,21 +1,26 @@
 -- Readers that stop at the first line that cannot stand where it stands.
-use Rattle.std.proofs.Common.{◌≡◌, ℕ, zero, suc, ◌-◌, ◌^◌, ◌<◌, ◌≤◌, ◌⊎◌, inl, inr, List, [], ◌∷◌, ◌++◌, codes, Option, Some, None, refl, sym, ap, subst, ◌∙◌, append_assoc, arith}
+use Rattle.std.proofs.Common.{◌≡◌, ℕ, zero, suc, ◌-◌, ◌^◌, ◌<◌, ◌≤◌, ◌⊎◌, inl, inr, false, List, [], ◌∷◌, ◌++◌, length, map, codes, Option, Some, None, refl, sym, ap, subst, ◌∙◌, append_assoc, arith}
 use Rattle.std.specs.Prelude.{Result, Ok, Err}
 use Rattle.proof_tree.specs.declared.limits.TheConstants.{MAX_BUDGET, MAX_RECORDS}
 use Rattle.proof_tree.specs.declared.tree.Evidence.TheVariants.{Routed}
 use Rattle.proof_tree.specs.declared.tree.TreeNode.TheVariants.{Leaf}
 use Rattle.proof_tree.specs.declared.plan.PlanStatus.{PlanStatus}
 use Rattle.proof_tree.specs.declared.plan.PlanStatus.TheVariants.{Optimal, Infeasible, Undecided}
+use Rattle.cert_format.specs.declared.form.Form.{Form}
+use Rattle.cert_format.specs.declared.form.Form.TheVariants.{First, Second}
+use Rattle.cert_format.specs.declared.limits.TheConstants.{MAX_LISTS}
+use Rattle.cert_format.specs.declared.numbering.Ground.{Ground}
 use Rattle.cert_format.specs.declared.reading.Head.{Head}
 use Rattle.cert_format.specs.Lines.{Line, whole, unfinished}
-use Rattle.cert_format.specs.Grammar.{header_line, size_line, status_line, number_line, cost_line, bound_line, path_line, modules_line}
+use Rattle.cert_format.specs.Lists.{resolved, AreNew}
+use Rattle.cert_format.specs.Grammar.{header_line, size_line, status_line, number_line, cost_line, bound_line, path_line, modules_line, price_line, CanTell}
 use Rattle.cert_format.specs.Words.{behind}
-use Rattle.cert_format.specs.Bodies.{fixed_of, number_row, size_row, status_of, cost_of, bound_of, path_of, modules_of, leaf_of, record_of}
-use Rattle.cert_format.specs.Reading.{Reader, ◌>>=◌, bind, done, judged, one, many, head, design_of, design, bound, records, tree, head_with, design_with, tree_with, draft_with, before_end}
+use Rattle.cert_format.specs.Bodies.{fixed_of, form_of, number_row, size_row, status_of, cost_of, bound_of, path_of, modules_of, leaf_of, record_of, record_in, list_row}
+use Rattle.cert_format.specs.Reading.{Reader, ◌>>=◌, bind, done, judged, one, many, head, design_of, design, bound, list_count, front_with, opening, lists, record_on, records, tree, head_with, design_with, tree_with}
 use Rattle.cert_format.specs.Drafts.{left_open}
-use Rattle.cert_format.proofs.BodyLaws.{fixed_again, number_row_again, size_again, status_again, cost_again, bound_again, path_again, modules_again}
-use Rattle.cert_format.proofs.ReadingLaws.{read_one, taken, and_then, done_parts, done_is, one_line, one_again, head1, head2, head3, head4}
-use Rattle.cert_format.proofs.PlanLaws.{draft1, draft2, draft3}
+use Rattle.cert_format.proofs.BodyLaws.{AreTold, sizes_at, form_again, number_row_again, size_again, status_again, cost_again, bound_again, path_again, modules_again, list_takes, list_again}
+use Rattle.cert_format.proofs.ReadingLaws.{read_one, taken, and_then, done_parts, done_is, one_line, one_again, head1, head2, head3, head4, named_on}
+use Rattle.cert_format.proofs.PlanLaws.{front1, front2, front3}
 
 -- the lines behind play no part in where the reader stops
 abbrev pub Local : {A : Type 0} → Reader A → List Line → List Line → Type 0
@@ -101,13 +106,22 @@ stop-first : {A X : Type 0} (r : Reader A) (s : A → Reader X) (ls bad : List L
 unfolding bind
 stop-first r s ls bad e = ap (λ t. t >>= λ p. s p.0 p.1) e
 
-bind-stops : {A X : Type 0} (r : Reader A) (s : A → Reader X) (ls bad : List Line) → bind r s ls ≡ stopped_at bad → (r ls ≡ stopped_at bad) ⊎ ((x : A) × (us : List Line) × (r ls ≡ read_one x us) × (s x us ≡ stopped_at bad))
+pub bind_stops : {A X : Type 0} (r : Reader A) (s : A → Reader X) (ls bad : List Line) → bind r s ls ≡ stopped_at bad → (r ls ≡ stopped_at bad) ⊎ ((x : A) × (us : List Line) × (r ls ≡ read_one x us) × (s x us ≡ stopped_at bad))
 unfolding bind
-bind-stops {A} {X} r s ls bad e = by (r ls) refl e
+bind_stops {A} {X} r s ls bad e = by (r ls) refl e
   where
     by : (o : Result (A × List Line) (List Line)) → r ls ≡ o → (o >>= λ p. s p.0 p.1) ≡ stopped_at bad → (r ls ≡ stopped_at bad) ⊎ ((x : A) × (us : List Line) × (r ls ≡ read_one x us) × (s x us ≡ stopped_at bad))
     by (Ok p) h e = inr (p.0, p.1, h, e)
     by (Err us) h e = (let same : us ≡ bad = err-same X us bad e in inl (h ∙ ap (λ us. Err us) same))
+
+pub local_after : {A X : Type 0} (r : Reader A) (s : A → Reader X) (front : List Line) (x : A) (later bad : List Line) → Holds r front x → Local (s x) later bad → Local (bind r s) (front ++ later) bad
+local_after r s front x later [] h alone = and_then r s (front ++ later) x later (stopped_at []) (h.again later) alone
+local_after r s front x later (l ∷ us) h alone = λ others.
+    ap (bind r s) (append_assoc front later (l ∷ others)) ∙ and_then r s (front ++ (later ++ (l ∷ others))) x (later ++ (l ∷ others)) (stopped_at (l ∷ others)) (h.again (later ++ (l ∷ others))) (alone others)
+
+pub local_before : {A X : Type 0} (r : Reader A) (s : A → Reader X) (front bad : List Line) → Local r front bad → Local (bind r s) front bad
+local_before r s front [] alone = stop-first r s front [] alone
+local_before r s front (l ∷ us) alone = λ others. stop-first r s (front ++ (l ∷ others)) (l ∷ others) (alone others)
 
 pub tidy_bind : {A X : Type 0} (r : Reader A) (s : A → Reader X) → Tidy r → ((x : A) → Tidy (s x)) → Tidy (bind r s)
 tidy_bind {A} {X} r s first second = record {
@@ -128,15 +142,6 @@ tidy_bind {A} {X} r s first second = record {
         let b = (second x).takes us z rest e2 in
         record { front = a.front ++ b.front; parts = a.parts ∙ ap (λ us. a.front ++ us) b.parts ∙ sym (append_assoc a.front b.front rest); holds = both a.front x b.front z a.holds b.holds }
 
-    after : (front : List Line) (x : A) (front' bad : List Line) → Holds r front x → Local (s x) front' bad → Local (bind r s) (front ++ front') bad
-    after front x front' [] h alone = and_then r s (front ++ front') x front' (stopped_at []) (h.again front') alone
-    after front x front' (l ∷ us) h alone = λ others.
-        ap (bind r s) (append_assoc front front' (l ∷ others)) ∙ and_then r s (front ++ (front' ++ (l ∷ others))) x (front' ++ (l ∷ others)) (stopped_at (l ∷ others)) (h.again (front' ++ (l ∷ others))) (alone others)
-
-    before : (front bad : List Line) → Local r front bad → Local (bind r s) front bad
-    before front [] alone = stop-first r s front [] alone
-    before front (l ∷ us) alone = λ others. stop-first r s (front ++ (l ∷ others)) (l ∷ others) (alone others)
-
     early : (ls bad : List Line) → r ls ≡ stopped_at bad → Stuck (bind r s) ls bad
     early ls bad e =
         let a = first.stops ls bad e in
@@ -147,7 +152,7 @@ tidy_bind {A} {X} r s first second = record {
           more = a.more ++ g.some_lines;
           value = g.some_value;
           begun = subst (λ us. Holds (bind r s) us g.some_value) (append_assoc a.front a.more g.some_lines) (both (a.front ++ a.more) a.value g.some_lines g.some_value a.begun g.some);
-          alone = before a.front bad a.alone;
+          alone = local_before r s a.front bad a.alone;
         }
 
     late : (ls bad : List Line) (x : A) (us : List Line) → r ls ≡ read_one x us → s x us ≡ stopped_at bad → Stuck (bind r s) ls bad
@@ -160,11 +165,11 @@ tidy_bind {A} {X} r s first second = record {
           more = b.more;
           value = b.value;
           begun = subst (λ us. Holds (bind r s) us b.value) (sym (append_assoc a.front b.front b.more)) (both a.front x (b.front ++ b.more) b.value a.holds b.begun);
-          alone = after a.front x b.front bad a.holds b.alone;
+          alone = local_after r s a.front x b.front bad a.holds b.alone;
         }
 
     stops : (ls bad : List Line) → bind r s ls ≡ stopped_at bad → Stuck (bind r s) ls bad
-    stops ls bad e = elim (bind-stops r s ls bad e) [
+    stops ls bad e = elim (bind_stops r s ls bad e) [
       | inl h ↦ early ls bad h
       | inr (x, us, h, f) ↦ late ls bad x us h f
     ]
@@ -177,30 +182,41 @@ tidy_many f body v good zero = tidy_done []
 tidy_many f body v good (suc n) = tidy_bind (one f) (λ x. bind (many n f) (λ xs. done (x ∷ xs))) (tidy_one f body v good)
     (λ x. tidy_bind (many n f) (λ xs. done (x ∷ xs)) (tidy_many f body v good n) (λ xs. tidy_done (x ∷ xs)))
 
-routed : (nodes links : ℕ) → record_of nodes links (codes "ROUTED") ≡ Some (Leaf Routed)
-unfolding record_of leaf_of fixed_of behind
-routed nodes links = refl
+routed-by : (form : Form) (known : List (List ℕ)) (named nodes places : ℕ) → record_in form known named nodes places (codes "ROUTED") ≡ Some (Leaf Routed)
+unfolding record_in record_of leaf_of fixed_of behind resolved
+routed-by First known named nodes places = refl
+routed-by Second known named nodes places = refl
 
-pub tidy_records : (nodes links left trees : ℕ) → Tidy (records nodes links left trees)
+routed : (g : Ground) (named : ℕ) → record_on g named (codes "ROUTED") ≡ Some (Leaf Routed)
+routed g named = routed-by g.form g.lists named g.nodes g.places
+
+pub tidy_records : (g : Ground) (named left trees : ℕ) → Tidy (records g named left trees)
 unfolding records
-tidy_records nodes links zero trees = tidy_done []
-tidy_records nodes links (suc left) zero = tidy_done []
-tidy_records nodes links (suc left) (suc others) =
-    tidy_bind (one (record_of nodes links)) (λ node. bind (records nodes links left (left_open node others)) λ more. done (node ∷ more)) (tidy_one (record_of nodes links) (codes "ROUTED") (Leaf Routed) (routed nodes links))
-    (λ node. tidy_bind (records nodes links left (left_open node others)) (λ more. done (node ∷ more)) (tidy_records nodes links left (left_open node others)) (λ more. tidy_done (node ∷ more)))
+tidy_records g named zero trees = tidy_done []
+tidy_records g named (suc left) zero = tidy_done []
+tidy_records g named (suc left) (suc others) =
+    tidy_bind (one (record_on g named)) (λ node. bind (records g (named_on g named node) left (left_open node others)) λ more. done (node ∷ more)) (tidy_one (record_on g named) (codes "ROUTED") (Leaf Routed) (routed g named))
+    (λ node. tidy_bind (records g (named_on g named node) left (left_open node others)) (λ more. done (node ∷ more)) (tidy_records g (named_on g named node) left (left_open node others)) (λ more. tidy_done (node ∷ more)))
 
 tidy_number : (word : List ℕ) (low high : ℕ) → low ≤ high → high < 2 ^ 128 → Tidy (one (number_row word low high))
 tidy_number word low high le fits = tidy_one (number_row word low high) (number_line word low) low (number_row_again word low high low fits (omega arith) le)
 
+no-nodes : (form : Form) → AreTold form (sizes_at 0 0 0 false)
+no-nodes form = record { sizes = record { nodes = omega arith; links = omega arith; demands = omega arith }; told = by form }
+  where
+    by : (form : Form) → CanTell form false
+    by First = refl
+    by Second = tt
+
 pub tidy_head : Tidy head
 unfolding head
 tidy_head =
-    tidy_bind (one (fixed_of header_line)) (λ _. head1) (tidy_one (fixed_of header_line) header_line tt (fixed_again header_line)) λ _.
-    tidy_bind (one size_row) (λ sizes. head2 sizes) (tidy_one size_row (size_line 0 0 0) (0, 0, 0) (size_again 0 0 0 (record { nodes = omega arith; links = omega arith; demands = omega arith }))) λ sizes.
-    tidy_bind (one status_of) (λ status. head3 sizes status) (tidy_one status_of (status_line Optimal) Optimal (status_again Optimal)) λ status.
-    tidy_bind (one (number_row (codes "BUDGET") 1 MAX_BUDGET)) (λ budget. head4 sizes status budget) (tidy_number (codes "BUDGET") 1 MAX_BUDGET (omega arith) (omega arith)) λ budget.
-    tidy_bind (one (number_row (codes "EXAMINED") 0 (2 ^ 32 - 1))) (λ examined. done (head_with sizes status budget examined)) (tidy_number (codes "EXAMINED") 0 (2 ^ 32 - 1) (omega arith) (omega arith)) λ examined.
-    tidy_done (head_with sizes status budget examined)
+    tidy_bind (one form_of) (λ form. head1 form) (tidy_one form_of (header_line First) First (form_again First)) λ form.
+    tidy_bind (one (size_row form)) (λ sizes. head2 form sizes) (tidy_one (size_row form) (size_line form 0 0 0 false) (sizes_at 0 0 0 false) (size_again form 0 0 0 false (no-nodes form))) λ sizes.
+    tidy_bind (one status_of) (λ status. head3 form sizes status) (tidy_one status_of (status_line Optimal) Optimal (status_again Optimal)) λ status.
+    tidy_bind (one (number_row (codes "BUDGET") 1 MAX_BUDGET)) (λ budget. head4 form sizes status budget) (tidy_number (codes "BUDGET") 1 MAX_BUDGET (omega arith) (omega arith)) λ budget.
+    tidy_bind (one (number_row (codes "EXAMINED") 0 (2 ^ 32 - 1))) (λ examined. done (head_with form sizes status budget examined)) (tidy_number (codes "EXAMINED") 0 (2 ^ 32 - 1) (omega arith) (omega arith)) λ examined.
+    tidy_done (head_with form sizes status budget examined)
 
 tidy_cost : (s : PlanStatus) → Tidy (one (cost_of s))
 tidy_cost Optimal = tidy_one (cost_of Optimal) (cost_line (Some 0)) (Some 0) (cost_again Optimal (Some 0) (record { allowed = refl; small = omega arith }))
@@ -225,18 +241,60 @@ tidy_bound Optimal = tidy_done None
 tidy_bound Infeasible = tidy_done None
 tidy_bound Undecided = tidy_one bound_of (bound_line None) None (bound_again None tt)
 
-tidy_tree : (nodes links : ℕ) → Tidy (tree nodes links)
+pub tidy_tree : (g : Ground) → Tidy (tree g)
 unfolding tree
-tidy_tree nodes links =
-    tidy_bind (one (number_row (codes "TREE") 1 MAX_RECORDS)) (λ count. bind (records nodes links count 1) λ nodes. done (tree_with count nodes)) (tidy_number (codes "TREE") 1 MAX_RECORDS (omega arith) (omega arith)) λ count.
-    tidy_bind (records nodes links count 1) (λ nodes. done (tree_with count nodes)) (tidy_records nodes links count 1) λ nodes.
+tidy_tree g =
+    tidy_bind (one (number_row (codes "TREE") 1 MAX_RECORDS)) (λ count. bind (records g 0 count 1) λ nodes. done (tree_with count nodes)) (tidy_number (codes "TREE") 1 MAX_RECORDS (omega arith) (omega arith)) λ count.
+    tidy_bind (records g 0 count 1) (λ nodes. done (tree_with count nodes)) (tidy_records g 0 count 1) λ nodes.
     tidy_done (tree_with count nodes)
 
-pub tidy_before_end : Tidy before_end
-unfolding before_end
-tidy_before_end =
-    tidy_bind head (λ h. draft1 h) tidy_head λ h.
-    tidy_bind (design h) (λ d. draft2 h d) (tidy_design h) λ d.
-    tidy_bind (bound h.status) (λ b. draft3 h d b) (tidy_bound h.status) λ b.
-    tidy_bind (tree h.nodes h.links) (λ t. done (draft_with h d b t)) (tidy_tree h.nodes h.links) λ t.
-    tidy_done (draft_with h d b t)
+tidy_count : (form : Form) → Tidy (list_count form)
+unfolding list_count
+tidy_count First = tidy_done 0
+tidy_count Second = tidy_number (codes "PRICES") 0 MAX_LISTS (omega arith) (omega arith)
+
+pub tidy_opening : Tidy opening
+unfolding opening
+tidy_opening =
+    tidy_bind head (λ h. front1 h) tidy_head λ h.
+    tidy_bind (design h) (λ d. front2 h d) (tidy_design h) λ d.
+    tidy_bind (bound h.status) (λ b. front3 h d b) (tidy_bound h.status) λ b.
+    tidy_bind (list_count h.form) (λ stated. done (front_with h d b stated)) (tidy_count h.form) λ stated.
+    tidy_done (front_with h d b stated)
+
+-- ---- the price lists
+
+-- the lists before the stop can stand, and the line at the stop cannot
+pub record ListsStuck (places n : ℕ) (before : List (List ℕ)) (ls bad : List Line) : Type 0 where
+  pub more : List (List ℕ)
+  pub parts : ls ≡ map whole (map price_line more) ++ bad
+  pub new : AreNew places before more
+  pub few : length more < n
+  pub alone : Local (lists places n before) (map whole (map price_line more)) bad
+
+stuck-first : (places n : ℕ) (before : List (List ℕ)) (ls bad : List Line) → ls ≡ bad → Local (one (list_row places before)) [] bad → ListsStuck places (suc n) before ls bad
+unfolding lists AreNew
+stuck-first places n before ls bad is alone = record { more = []; parts = is; new = tt; few = omega arith; alone = local_before (one (list_row places before)) (λ list. lists places n (before ++ list ∷ [])) [] bad alone }
+
+stuck-later : (places n : ℕ) (before : List (List ℕ)) (ls bad : List Line) (list : List ℕ) (us : List Line) → one (list_row places before) ls ≡ read_one list us → ListsStuck places n (before ++ list ∷ []) us bad → ListsStuck places (suc n) before ls bad
+unfolding lists AreNew
+stuck-later places n before ls bad list us h s =
+    let (body, line, read) = one_line (list_row places before) ls list us h in
+    let here = list_takes places before body list read in
+    let holds : Holds (one (list_row places before)) (whole (price_line list) ∷ []) list = record { again = λ others. one_again (list_row places before) (price_line list) list others (list_again places before list here.0) } in
+    record {
+      more = list ∷ s.more;
+      parts = line ∙ ap (λ bs. whole bs ∷ us) here.1 ∙ ap (λ us. whole (price_line list) ∷ us) s.parts;
+      new = (here.0.count, here.0.small, here.0.fresh, s.new);
+      few = omega (arith, s.few);
+      alone = local_after (one (list_row places before)) (λ list. lists places n (before ++ list ∷ [])) (whole (price_line list) ∷ []) list (map whole (map price_line s.more)) bad holds s.alone;
+    }
+
+pub lists_stop : (places n : ℕ) (before : List (List ℕ)) (ls bad : List Line) → lists places n before ls ≡ Err bad → ListsStuck places n before ls bad
+unfolding lists
+lists_stop places zero before ls bad e = absurd (let both : read_one before ls ≡ Err bad = sym (done_is before ls) ∙ e in cc)
+lists_stop places (suc n) before ls bad e =
+    elim (bind_stops (one (list_row places before)) (λ list. lists places n (before ++ list ∷ [])) ls bad e) [
+      | inl h ↦ (let p = one-stops (list_row places before) ls bad h in stuck-first places n before ls bad p.0 p.1)
+      | inr (list, us, h, f) ↦ stuck-later places n before ls bad list us h (lists_stop places n (before ++ list ∷ []) us bad f)
+    ]

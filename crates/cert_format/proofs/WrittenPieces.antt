@@ -1,13 +1,18 @@
 -- What is appended piece by piece is the whole.
-use Rattle.std.proofs.Common.{◌≡◌, ℕ, suc, ◌+◌, ◌<◌, ◌≤◌, Bool, true, false, List, [], ◌∷◌, ◌++◌, length, get_or, take, drop, map, decimal, codes, Some, refl, sym, ap, ◌∙◌, append_assoc, arith}
+use Rattle.std.proofs.Common.{◌≡◌, ℕ, zero, suc, ◌+◌, ◌<◌, ◌≤◌, Bool, true, false, List, [], ◌∷◌, ◌++◌, length, get_or, take, drop, map, decimal, codes, Option, Some, None, refl, sym, ap, subst, ◌∙◌, append_assoc, arith}
 use Rattle.std.proofs.lemmas.List.{take_more, drop_more, drop_all, append-nil, map-append}
 use Rattle.std.proofs.lemmas.List.Concat.{flat_map-append}
 use Rattle.plan_base.specs.declared.path.Design.{Design}
 use Rattle.proof_tree.specs.declared.plan.Plan.{Plan}
+use Rattle.std.specs.Prelude.{slice_get}
+use Rattle.std.specs.List.{AllByRecursion}
+use Rattle.proof_tree.specs.declared.tree.TreeNode.{TreeNode}
+use Rattle.cert_format.specs.declared.form.Form.TheVariants.{Second}
 use Rattle.cert_format.specs.Lines.{whole, line_text, text_of}
+use Rattle.cert_format.specs.Lists.{lists_of, shown}
 use Rattle.cert_format.specs.Words.{numerals, row}
-use Rattle.cert_format.specs.Grammar.{header_line, status_line, cost_line, path_line, modules_line, number_line, members, record_line, design_lines, bound_lines, head_lines, lines_before_end, plan_text}
-use Rattle.cert_format.specs.Written.{lines_text}
+use Rattle.cert_format.specs.Grammar.{header_line, size_line, status_line, cost_line, path_line, modules_line, price_line, members, record_line, design_lines, bound_lines, head_lines, price_lines, front_lines, tree_lines, plan_text}
+use Rattle.cert_format.specs.Written.{lines_text, written_tree}
 
 numerals-append : (ns ms : List ℕ) → numerals (ns ++ ms) ≡ numerals ns ++ numerals ms
 numerals-append [] ms = refl
@@ -68,26 +73,78 @@ design_pieces old cost d =
 regroup-head : (o a b c d e : List ℕ) → ((((o ++ a) ++ b) ++ c) ++ d) ++ e ≡ o ++ (a ++ (b ++ (c ++ (d ++ (e ++ [])))))
 regroup-head o a b c d e = simp (append_assoc, append-nil)
 
-pub head_pieces : (old : List ℕ) (plan : Plan) → ((((old ++ line_text (whole header_line)) ++ line_text (whole (row (codes "SIZE") (plan.nodes ∷ plan.links ∷ plan.demands ∷ [])))) ++ line_text (whole (status_line plan.status)))
-    ++ line_text (whole (row (codes "BUDGET") (plan.budget ∷ [])))) ++ line_text (whole (row (codes "EXAMINED") (plan.examined ∷ []))) ≡ old ++ lines_text (head_lines plan)
+pub size_pieces : (old word tail : List ℕ) (ns : List ℕ) → ((old ++ word) ++ numerals ns) ++ line_text (whole tail) ≡ old ++ line_text (whole (row word ns ++ tail))
+size_pieces old word tail ns = simp append_assoc
+
+pub head_pieces : (old : List ℕ) (plan : Plan) → ((((old ++ line_text (whole (header_line Second))) ++ line_text (whole (size_line Second plan.nodes plan.links plan.demands plan.both))) ++ line_text (whole (status_line plan.status)))
+    ++ line_text (whole (row (codes "BUDGET") (plan.budget ∷ [])))) ++ line_text (whole (row (codes "EXAMINED") (plan.examined ∷ []))) ≡ old ++ lines_text (head_lines Second plan)
 unfolding head_lines
-head_pieces old plan = regroup-head old (line_text (whole header_line)) (line_text (whole (row (codes "SIZE") (plan.nodes ∷ plan.links ∷ plan.demands ∷ [])))) (line_text (whole (status_line plan.status)))
+head_pieces old plan = regroup-head old (line_text (whole (header_line Second))) (line_text (whole (size_line Second plan.nodes plan.links plan.demands plan.both))) (line_text (whole (status_line plan.status)))
     (line_text (whole (row (codes "BUDGET") (plan.budget ∷ [])))) (line_text (whole (row (codes "EXAMINED") (plan.examined ∷ []))))
 
-pub plan_pieces : (plan : Plan) (count : ℕ) → count ≡ length plan.tree
-    → ((((([] ++ lines_text (head_lines plan)) ++ lines_text (design_lines plan.design)) ++ lines_text (bound_lines plan.status plan.bound)) ++ line_text (whole (row (codes "TREE") (count ∷ [])))) ++ lines_text (map record_line plan.tree)) ++ line_text (whole (codes "END")) ≡ plan_text plan
-unfolding plan_text lines_before_end
-plan_pieces plan count is =
-    let h : List (List ℕ) = head_lines plan in
+-- ---- price lists and the tree
+
+take-next : {A : Type 0} (xs : List A) (n : ℕ) (x : A) → Some x ≡ slice_get xs n → take (n + 1) xs ≡ take n xs ++ x ∷ []
+take-next [] n x e = absurd cc
+take-next (y ∷ xs) zero x e = (let same : x ≡ y = cc in ap (λ z. z ∷ []) (sym same))
+take-next (y ∷ xs) (suc n) x e = (let next : suc n + 1 ≡ suc (n + 1) = omega arith in ap (λ k. take k (y ∷ xs)) next ∙ ap (λ zs. y ∷ zs) (take-next xs n x e))
+
+joined : {A : Type 0} (P : A → Type 0) (xs : List A) (x : A) → AllByRecursion P xs → P x → AllByRecursion P (xs ++ x ∷ [])
+joined P [] x all px = (px, tt)
+joined P (y ∷ xs) x all px = (all.0, joined P xs x all.1 px)
+
+pub lists_more : (old : List ℕ) (lists : List (List ℕ)) (n : ℕ) (list : List ℕ) → Some list ≡ slice_get lists n → (old ++ lines_text (map price_line (take n lists))) ++ line_text (whole (price_line list)) ≡ old ++ lines_text (map price_line (take (n + 1) lists))
+lists_more old lists n list e =
+    append_assoc old (lines_text (map price_line (take n lists))) (line_text (whole (price_line list)))
+    ∙ ap (λ bs. old ++ bs) (ap (λ bs. lines_text (map price_line (take n lists)) ++ bs) (sym (append-nil (line_text (whole (price_line list)))))
+    ∙ sym (lines-append (map price_line (take n lists)) (price_line list ∷ []))
+    ∙ ap lines_text (sym (ap (map price_line) (take-next lists n list e) ∙ map-append price_line (take n lists) (list ∷ []))))
+
+pub fields_listed : (P : List ℕ → Type 0) (lists : List (List ℕ)) (n : ℕ) (list : List ℕ) → Some list ≡ slice_get lists n → AllByRecursion P (take n lists) → P list → AllByRecursion P (take (n + 1) lists)
+fields_listed P lists n list e all p = subst (AllByRecursion P) (sym (take-next lists n list e)) (joined P (take n lists) list all p)
+
+pub taken_all : (lists : List (List ℕ)) (n : ℕ) → None ≡ slice_get lists n → take n lists ≡ lists
+taken_all [] n e = by n
+  where
+    by : (n : ℕ) → take {A = List ℕ} n [] ≡ []
+    by zero = refl
+    by (suc n) = refl
+taken_all (x ∷ lists) zero e = absurd cc
+taken_all (x ∷ lists) (suc n) e = ap (λ ls. x ∷ ls) (taken_all lists n e)
+
+pub fields_all : (P : List ℕ → Type 0) (lists : List (List ℕ)) (n : ℕ) → None ≡ slice_get lists n → AllByRecursion P (take n lists) → AllByRecursion P lists
+fields_all P lists n e all = subst (AllByRecursion P) (taken_all lists n e) all
+
+pub lists_all : (old : List ℕ) (lists : List (List ℕ)) (n : ℕ) → None ≡ slice_get lists n → (old ++ line_text (whole (row (codes "PRICES") (length lists ∷ [])))) ++ lines_text (map price_line (take n lists)) ≡ old ++ lines_text (price_lines Second (length lists) lists)
+unfolding price_lines
+lists_all old lists n e =
+    ap (λ ls. (old ++ line_text (whole (row (codes "PRICES") (length lists ∷ [])))) ++ lines_text (map price_line ls)) (taken_all lists n e)
+    ∙ append_assoc old (line_text (whole (row (codes "PRICES") (length lists ∷ [])))) (lines_text (map price_line lists))
+
+pub tree_pieces : (old : List ℕ) (nodes : List TreeNode) (lists : List (List ℕ)) (count : ℕ) → lists ≡ lists_of nodes → count ≡ length nodes
+    → ((old ++ lines_text (price_lines Second (length lists) lists)) ++ line_text (whole (row (codes "TREE") (count ∷ [])))) ++ lines_text (map (λ node. record_line (shown Second lists node)) nodes) ≡ old ++ lines_text (written_tree nodes)
+tree_pieces old nodes lists count same is =
+    let pieces : List (List ℕ) → ℕ → List ℕ = λ ls n. ((old ++ lines_text (price_lines Second (length ls) ls)) ++ line_text (whole (row (codes "TREE") (n ∷ [])))) ++ lines_text (map (λ node. record_line (shown Second ls node)) nodes) in
+    let all : List (List ℕ) = lists_of nodes in
+    ap (λ ls. pieces ls count) same ∙ ap (pieces all) is
+    ∙ append_assoc (old ++ lines_text (price_lines Second (length all) all)) (line_text (whole (row (codes "TREE") (length nodes ∷ [])))) (lines_text (map (λ node. record_line (shown Second all node)) nodes))
+    ∙ append_assoc old (lines_text (price_lines Second (length all) all)) (lines_text (tree_lines Second all (length nodes) nodes))
+    ∙ ap (λ bs. old ++ bs) (sym (lines-append (price_lines Second (length all) all) (tree_lines Second all (length nodes) nodes)))
+
+pub plan_pieces : (plan : Plan) → (((([] ++ lines_text (head_lines Second plan)) ++ lines_text (design_lines plan.design)) ++ lines_text (bound_lines plan.status plan.bound)) ++ lines_text (written_tree plan.tree)) ++ line_text (whole (codes "END")) ≡ plan_text Second plan
+unfolding plan_text front_lines
+plan_pieces plan =
+    let h : List (List ℕ) = head_lines Second plan in
     let d : List (List ℕ) = design_lines plan.design in
     let b : List (List ℕ) = bound_lines plan.status plan.bound in
-    let t : List ℕ = number_line (codes "TREE") (length plan.tree) in
-    let r : List (List ℕ) = map record_line plan.tree in
+    let p : List (List ℕ) = price_lines Second (length (lists_of plan.tree)) (lists_of plan.tree) in
+    let t : List (List ℕ) = tree_lines Second (lists_of plan.tree) (length plan.tree) plan.tree in
     let e : List ℕ = codes "END" in
-    ap (λ n. ((((lines_text h ++ lines_text d) ++ lines_text b) ++ line_text (whole (row (codes "TREE") (n ∷ [])))) ++ lines_text r) ++ line_text (whole e)) is
-    ∙ sym (lines-append (h ++ (d ++ (b ++ (t ∷ r)))) (e ∷ [])
-    ∙ ap (λ bs. bs ++ (line_text (whole e) ++ [])) (lines-append h (d ++ (b ++ (t ∷ r))) ∙ ap (λ bs. lines_text h ++ bs) (lines-append d (b ++ (t ∷ r)) ∙ ap (λ bs. lines_text d ++ bs) (lines-append b (t ∷ r))))
-    ∙ regroup (lines_text h) (lines_text d) (lines_text b) (line_text (whole t)) (lines_text r) (line_text (whole e)))
+    ap (λ bs. (((lines_text h ++ lines_text d) ++ lines_text b) ++ bs) ++ line_text (whole e)) (lines-append p t)
+    ∙ sym (lines-append (h ++ (d ++ (b ++ p))) (t ++ e ∷ [])
+    ∙ ap (λ bs. bs ++ lines_text (t ++ e ∷ [])) (lines-append h (d ++ (b ++ p)) ∙ ap (λ bs. lines_text h ++ bs) (lines-append d (b ++ p) ∙ ap (λ bs. lines_text d ++ bs) (lines-append b p)))
+    ∙ ap (λ bs. (lines_text h ++ (lines_text d ++ (lines_text b ++ lines_text p))) ++ bs) (lines-append t (e ∷ []))
+    ∙ regroup (lines_text h) (lines_text d) (lines_text b) (lines_text p) (lines_text t) (line_text (whole e)))
   where
-    regroup : (h d b t r e : List ℕ) → (h ++ (d ++ (b ++ (t ++ r)))) ++ (e ++ []) ≡ ((((h ++ d) ++ b) ++ t) ++ r) ++ e
-    regroup h d b t r e = simp (append_assoc, append-nil)
+    regroup : (h d b p t e : List ℕ) → (h ++ (d ++ (b ++ p))) ++ (t ++ (e ++ [])) ≡ (((h ++ d) ++ b) ++ (p ++ t)) ++ e
+    regroup h d b p t e = simp (append_assoc, append-nil)

@@ -12,7 +12,10 @@ use Rattle.cert_format.specs.declared.reading.Draft.{Draft}
 use Rattle.cert_format.specs.declared.stop.Stop.{Stop}
 use Rattle.cert_format.specs.declared.stop.Stop.TheVariants.{Memory, At}
 use Rattle.cert_format.specs.Lines.{Line, whole, unfinished, lines_of}
-use Rattle.cert_format.specs.Reading.{plan_with}
+use Rattle.proof_tree.specs.declared.limits.TheConstants.{MAX_RECORDS}
+use Rattle.cert_format.specs.Lists.{named_from}
+use Rattle.cert_format.specs.Drafts.{Stated}
+use Rattle.cert_format.specs.Reading.{stated_with}
 
 -- reading stops at these bytes, of which so many are left
 pub record StopsAt {Y : Type 0} (left : ℕ) (read : Result Y (List Line)) : Type 0 where
@@ -68,15 +71,25 @@ abbrev pub seen_items : {A Z : Type 0} → Vec A Z × Bor (List ℕ) → List A 
 seen_items x = (x.0.items, lines_of x.1.now)
 
 -- a stated count, records, and the lines of the text behind them
-abbrev pub seen_tree : {Z : Type 0} → ℕ × Vec TreeNode Z × Bor (List ℕ) → (ℕ × List TreeNode) × List Line
-seen_tree x = ((x.0, x.1.items), lines_of x.2.now)
+abbrev pub seen_tree : {Z : Type 0} → ℕ × Vec TreeNode Z × ℕ × Bor (List ℕ) → (ℕ × List TreeNode) × List Line
+seen_tree x = ((x.0, x.1.items), lines_of x.3.now)
 
--- the stated count of records and the plan of a draft
-abbrev pub drafted : Draft → ℕ × Plan
-drafted d = (d.count, plan_with d.head d.design d.bound d.records.items)
+-- records, and the lines of the text behind them
+abbrev pub seen_records : {Z : Type 0} → Vec TreeNode Z × ℕ × Bor (List ℕ) → List TreeNode × List Line
+seen_records x = (x.0.items, lines_of x.2.now)
+
+-- what a draft states
+abbrev pub drafted : Draft → Stated
+drafted d = stated_with d.head d.design d.bound d.stated d.ground.lists (d.count, d.records.items)
+
+-- a draft has few enough records, and its count of named price lists is that of its records
+pub record IsCounted (d : Draft) : Type 0 where
+  pub few : length d.records.items ≤ MAX_RECORDS
+  pub named : d.named ≡ named_from d.ground.form d.ground.lists 0 d.records.items
+  pub form : d.ground.form ≡ d.head.form
 
 -- a draft, and the lines of the text behind it
-abbrev pub seen_draft : Draft × Bor (List ℕ) → (ℕ × Plan) × List Line
+abbrev pub seen_draft : Draft × Bor (List ℕ) → Stated × List Line
 seen_draft x = (drafted x.0, lines_of x.1.now)
 
 -- ---- cutting a text

@@ -1,5 +1,5 @@
 -- What a line is read as, without its line end. No public clause cites this module.
-use Rattle.std.specs.Prelude.{ℕ, zero, suc, ◌-◌, ◌^◌, Bool, true, false, if◌then◌else◌, ◌==◌, ◌&&◌, nat_lt, nat_le, List, [], ◌∷◌, length, take, drop, codes, Option, Some, None, ℤ, pos, negsuc}
+use Rattle.std.specs.Prelude.{ℕ, zero, suc, ◌-◌, ◌^◌, Bool, true, false, not, if◌then◌else◌, ◌==◌, ◌&&◌, nat_lt, nat_le, List, [], ◌∷◌, length, take, drop, codes, Option, Some, None, ℤ, pos, negsuc}
 use Rattle.std.specs.Option.{option_map}
 use Rattle.std.specs.Str.{bytes_eq}
 use Rattle.plan_base.specs.declared.ids.ArcId.{ArcId}
@@ -11,7 +11,11 @@ use Rattle.proof_tree.specs.declared.tree.TreeNode.{TreeNode}
 use Rattle.proof_tree.specs.declared.tree.TreeNode.TheVariants.{Split, Leaf}
 use Rattle.proof_tree.specs.declared.plan.PlanStatus.{PlanStatus}
 use Rattle.proof_tree.specs.declared.plan.PlanStatus.TheVariants.{Optimal, Infeasible, Undecided}
-use Rattle.cert_format.specs.Words.{◌>>=◌, behind, each, numbers_of, grains_of, row_of}
+use Rattle.cert_format.specs.declared.bodies.Sizes.{Sizes}
+use Rattle.cert_format.specs.declared.form.Form.{Form}
+use Rattle.cert_format.specs.declared.form.Form.TheVariants.{First, Second}
+use Rattle.cert_format.specs.Lists.{is_among, width, resolved}
+use Rattle.cert_format.specs.Words.{◌>>=◌, behind, before, each, numbers_of, grains_of, row_of}
 
 -- the value, where the test holds
 abbrev pub only_if : {A : Type 0} → Bool → A → Option A
@@ -45,9 +49,26 @@ unfoldable pub sizes_in : List ℕ → Option (ℕ × ℕ × ℕ)
 sizes_in (nodes ∷ links ∷ demands ∷ []) = only_if (nat_le nodes MAX_NODES && nat_le links MAX_LINKS && nat_le demands MAX_DEMANDS) (sizes_with nodes links demands)
 sizes_in _ = None
 
+-- the counts of nodes, links and demands
+unfoldable pub count_row : List ℕ → Option (ℕ × ℕ × ℕ)
+count_row body = row_of (codes "SIZE") body >>= sizes_in
+
+-- the counts, and whether each direction of a link has a price of its own
+abbrev pub with_both : Bool → ℕ × ℕ × ℕ → Sizes
+with_both both counts = record { nodes = counts.0; links = counts.1; demands = counts.2; both = both }
+
 -- the sizes
-unfoldable pub size_row : List ℕ → Option (ℕ × ℕ × ℕ)
-size_row body = row_of (codes "SIZE") body >>= sizes_in
+unfoldable pub size_row : Form → List ℕ → Option Sizes
+size_row First body = option_map (with_both false) (count_row body)
+size_row Second body =
+    choose (before (codes " ONE") body) (λ rest. option_map (with_both false) (count_row rest))
+    (choose (before (codes " BOTH") body) (λ rest. option_map (with_both true) (count_row rest)) None)
+
+-- the version
+unfoldable pub form_of : List ℕ → Option Form
+form_of body =
+    if bytes_eq body (codes "SNDPLAN 1") then Some First else
+    if bytes_eq body (codes "SNDPLAN 2") then Some Second else None
 
 -- the status
 unfoldable pub status_of : List ℕ → Option PlanStatus
@@ -190,27 +211,35 @@ cut_in nodes (demand ∷ ns) = if nat_lt demand (2 ^ 32)
 unfoldable pub overfull_in : List ℕ → Option Evidence
 overfull_in ns = option_map overfull_with (one_in 0 (2 ^ 32 - 1) ns)
 
--- one price for each link
+-- so many numbers
 unfoldable pub prices_of : ℕ → List ℕ → Option (List ℕ)
-prices_of links bytes = numbers_of bytes >>= λ ns. only_if (length ns == links) ns
+prices_of count bytes = numbers_of bytes >>= λ ns. only_if (length ns == count) ns
 
--- a leaf that is closed or open by prices
+-- a leaf that is closed or open by so many prices
 unfoldable pub priced_of : ℕ → List ℕ → Option Evidence
-priced_of links body =
-    choose (behind (codes "PRICED") body) (λ rest. option_map (λ prices. Bound prices) (prices_of links rest))
-    (choose (behind (codes "CROWD") body) (λ rest. option_map (λ prices. Crowd prices) (prices_of links rest))
-    (choose (behind (codes "OPEN") body) (λ rest. option_map (λ prices. Open prices) (prices_of links rest)) None))
+priced_of count body =
+    choose (behind (codes "PRICED") body) (λ rest. option_map (λ prices. Bound prices) (prices_of count rest))
+    (choose (behind (codes "CROWD") body) (λ rest. option_map (λ prices. Crowd prices) (prices_of count rest))
+    (choose (behind (codes "OPEN") body) (λ rest. option_map (λ prices. Open prices) (prices_of count rest)) None))
 
--- the evidence of a leaf
+-- a leaf, where so many numbers stand for prices
 unfoldable pub leaf_of : ℕ → ℕ → List ℕ → Option Evidence
-leaf_of nodes links body =
+leaf_of nodes count body =
     choose (fixed_of (codes "ROUTED") body) (λ _. Some Routed)
     (choose (behind (codes "OVERFULL") body) (λ rest. numbers_of rest >>= overfull_in)
     (choose (behind (codes "CUT") body) (λ rest. numbers_of rest >>= cut_in nodes)
-    (priced_of links body)))
+    (priced_of count body)))
 
--- a record
+-- a record, where so many numbers stand for prices
 unfoldable pub record_of : ℕ → ℕ → List ℕ → Option TreeNode
-record_of nodes links body =
+record_of nodes count body =
     choose (behind (codes "SPLIT") body) (λ rest. numbers_of rest >>= split_in)
-    (option_map (λ evidence. Leaf evidence) (leaf_of nodes links body))
+    (option_map (λ evidence. Leaf evidence) (leaf_of nodes count body))
+
+-- a record that names no list which is not there, and leaves none out
+unfoldable pub record_in : Form → List (List ℕ) → ℕ → ℕ → ℕ → List ℕ → Option TreeNode
+record_in form lists named nodes places body = record_of nodes (width form places) body >>= resolved form lists named
+
+-- a price list that is none of those before it
+unfoldable pub list_row : ℕ → List (List ℕ) → List ℕ → Option (List ℕ)
+list_row places lists body = row_of (codes "P") body >>= λ ns. only_if (length ns == places && not (is_among lists ns)) ns

@@ -6,9 +6,13 @@ use Rattle.proof_tree.specs.declared.tree.TreeNode.{TreeNode}
 use Rattle.proof_tree.specs.declared.tree.TreeNode.TheVariants.{Split, Leaf}
 use Rattle.proof_tree.specs.declared.plan.Plan.{Plan}
 use Rattle.proof_tree.specs.Shapes.{are_trees}
-use Rattle.proof_tree.specs.Spellings.{FitsRecord, FitsDesign, FitsStatus, FitsSizes}
+use Rattle.proof_tree.specs.Spellings.{places_in, FitsRecord, FitsDesign, FitsStatus, FitsSizes}
+use Rattle.cert_format.specs.declared.form.Form.{Form}
+use Rattle.cert_format.specs.declared.form.Form.TheVariants.{First, Second}
+use Rattle.cert_format.specs.declared.limits.TheConstants.{MAX_LISTS}
 use Rattle.cert_format.specs.Lines.{Line, whole, text_of, lines_of}
-use Rattle.cert_format.specs.Grammar.{lines_before_end, end_line, HasFields, SpellsPlan}
+use Rattle.cert_format.specs.Lists.{named_from, AreNamed, AreNew}
+use Rattle.cert_format.specs.Grammar.{front_lines, tree_lines, end_line, CanTell, HasFields, SpellsPlan}
 
 -- how many trees are left to come behind a record, where so many others were to come behind the one that it begins
 unfoldable pub left_open : TreeNode → ℕ → ℕ
@@ -22,32 +26,63 @@ IsGrown (suc left) zero nodes = nodes ≡ []
 IsGrown (suc left) (suc others) [] = ⊥
 IsGrown (suc left) (suc others) (node ∷ nodes) = IsGrown left (left_open node others) nodes
 
--- a plan that a text can spell, but that its tree may be cut off or shorter than the count that is stated
-pub record IsDraft (count : ℕ) (plan : Plan) : Type 0 where
-  pub sizes : FitsSizes plan
-  pub status : FitsStatus plan.status plan.design plan.bound
-  pub design : IfSome plan.design (λ design. FitsDesign plan.demands plan.links design.1)
-  pub fields : HasFields plan
-  pub some : 1 ≤ count
-  pub few : count ≤ MAX_RECORDS
-  pub grown : IsGrown count 1 plan.tree
-  pub records : AllByRecursion (FitsRecord plan.nodes plan.links) plan.tree
+-- what the beginning of a text states: its version, how many price lists, those that are there, how many records, and a plan
+pub record Stated : Type 0 where
+  pub form : Form
+  pub stated : ℕ
+  pub lists : List (List ℕ)
+  pub count : ℕ
+  pub plan : Plan
 
--- the tree is whole, and has as many records as stated
-abbrev pub is_complete : ℕ → Plan → Bool
-is_complete count plan = are_trees 1 plan.tree && length plan.tree == count
+-- price lists as the version has them: none, or different ones with a price for each place, and no more than stated
+abbrev pub AreListed : Form → ℕ → ℕ → List (List ℕ) → Type 0
+AreListed First places stated lists = (stated ≡ 0) × (lists ≡ [])
+AreListed Second places stated lists = (stated ≤ MAX_LISTS) × (length lists ≤ stated) × AreNew places [] lists
 
--- the lines of a draft: the last one stands only where the tree is whole and as long as stated
-abbrev pub draft_lines : ℕ → Plan → List Line
-draft_lines count plan = map whole (lines_before_end count plan) ++ (if is_complete count plan then whole end_line ∷ [] else [])
+-- a plan that a text can spell, but that its tree may be cut off or shorter than the count that is stated, and price lists may lack
+pub record IsDraft (s : Stated) : Type 0 where
+  pub sizes : FitsSizes s.plan
+  pub told : CanTell s.form s.plan.both
+  pub status : FitsStatus s.plan.status s.plan.design s.plan.bound
+  pub design : IfSome s.plan.design (λ design. FitsDesign s.plan.demands s.plan.links design.1)
+  pub fields : HasFields s.plan
+  pub listed : AreListed s.form (places_in s.plan.both s.plan.links) s.stated s.lists
+  pub some : 1 ≤ s.count
+  pub few : s.count ≤ MAX_RECORDS
+  pub grown : IsGrown s.count 1 s.plan.tree
+  pub records : AllByRecursion (FitsRecord s.plan.nodes (places_in s.plan.both s.plan.links)) s.plan.tree
+  pub named : AreNamed s.form s.lists 0 s.plan.tree
+
+-- there are as many records as stated, and each price list is named
+abbrev pub has_counts : Stated → Bool
+has_counts s = length s.plan.tree == s.count && named_from s.form s.lists 0 s.plan.tree == length s.lists
+
+-- the tree is whole and has as many records as stated, and each price list is named
+abbrev pub is_complete : Stated → Bool
+is_complete s = are_trees 1 s.plan.tree && has_counts s
+
+-- the lines before the tree
+abbrev pub front_of : Stated → List Line
+front_of s = map whole (front_lines s.form s.stated s.lists s.plan)
+
+-- the lines of the tree
+abbrev pub tree_of : Stated → List Line
+tree_of s = map whole (tree_lines s.form s.lists s.count s.plan.tree)
+
+-- the last line, which stands only where the tree is whole and as long as stated, and each price list is named
+abbrev pub closing : Stated → List Line
+closing s = if is_complete s then whole end_line ∷ [] else []
+
+-- the lines of a draft: where price lists lack it breaks off behind those that are there
+abbrev pub draft_lines : Stated → List Line
+draft_lines s = front_of s ++ (if length s.lists == s.stated then tree_of s ++ closing s else [])
 
 -- these lines begin the lines of a draft
 pub record IsBegun (lines : List Line) : Type 0 where
-  pub count : ℕ
-  pub plan : Plan
+  pub states : Stated
   pub more : List Line
-  pub draft : IsDraft count plan
-  pub begins : draft_lines count plan ≡ lines ++ more
+  pub draft : IsDraft states
+  pub begins : draft_lines states ≡ lines ++ more
 
 -- the line that begins at this byte cannot stand there, and all lines before it can
 pub record IsMisplaced (text : List ℕ) (at : ℕ) : Type 0 where

@@ -12,16 +12,30 @@ use Rattle.proof_tree.specs.declared.plan.PlanStatus.TheVariants.{Optimal, Infea
 use Rattle.proof_tree.specs.declared.plan.Plan.{Plan}
 use Rattle.proof_tree.specs.Spellings.{IsSpellable}
 use Rattle.scaled_numbers.specs.Canonical.{grains_text}
+use Rattle.cert_format.specs.declared.form.Form.{Form}
+use Rattle.cert_format.specs.declared.form.Form.TheVariants.{First, Second}
 use Rattle.cert_format.specs.Lines.{whole, text_of}
 use Rattle.cert_format.specs.Words.{row}
+use Rattle.cert_format.specs.Lists.{lists_in, shown}
 
 -- the first line
-abbrev pub header_line : List ℕ
-header_line = codes "SNDPLAN 1"
+abbrev pub header_line : Form → List ℕ
+header_line First = codes "SNDPLAN 1"
+header_line Second = codes "SNDPLAN 2"
+
+-- whether each direction of a link has a price of its own, which the first version does not tell
+abbrev pub both_text : Form → Bool → List ℕ
+both_text First both = []
+both_text Second true = codes " BOTH"
+both_text Second false = codes " ONE"
 
 -- the counts of nodes, links and demands
-abbrev pub size_line : ℕ → ℕ → ℕ → List ℕ
-size_line nodes links demands = row (codes "SIZE") (nodes ∷ links ∷ demands ∷ [])
+abbrev pub count_line : ℕ → ℕ → ℕ → List ℕ
+count_line nodes links demands = row (codes "SIZE") (nodes ∷ links ∷ demands ∷ [])
+
+-- the sizes
+abbrev pub size_line : Form → ℕ → ℕ → ℕ → Bool → List ℕ
+size_line form nodes links demands both = count_line nodes links demands ++ both_text form both
 
 -- the status
 abbrev pub status_line : PlanStatus → List ℕ
@@ -95,27 +109,48 @@ bound_lines Optimal bound = []
 bound_lines Infeasible bound = []
 bound_lines Undecided bound = bound_line bound ∷ []
 
+-- a price list
+abbrev pub price_line : List ℕ → List ℕ
+price_line prices = row (codes "P") prices
+
+-- the price lists, where so many are stated
+unfoldable pub price_lines : Form → ℕ → List (List ℕ) → List (List ℕ)
+price_lines First stated lists = []
+price_lines Second stated lists = number_line (codes "PRICES") stated ∷ map price_line lists
+
 -- the five lines that begin each text
-unfoldable pub head_lines : Plan → List (List ℕ)
-head_lines plan = header_line ∷ size_line plan.nodes plan.links plan.demands ∷ status_line plan.status
+unfoldable pub head_lines : Form → Plan → List (List ℕ)
+head_lines form plan = header_line form ∷ size_line form plan.nodes plan.links plan.demands plan.both ∷ status_line plan.status
     ∷ number_line (codes "BUDGET") plan.budget ∷ number_line (codes "EXAMINED") plan.examined ∷ []
 
--- the lines before the last, where so many records are stated
-unfoldable pub lines_before_end : ℕ → Plan → List (List ℕ)
-lines_before_end count plan = head_lines plan ++ (design_lines plan.design ++ (bound_lines plan.status plan.bound
-    ++ (number_line (codes "TREE") count ∷ map record_line plan.tree)))
+-- the lines before the tree, where so many price lists are stated
+unfoldable pub front_lines : Form → ℕ → List (List ℕ) → Plan → List (List ℕ)
+front_lines form stated lists plan = head_lines form plan ++ (design_lines plan.design ++ (bound_lines plan.status plan.bound ++ price_lines form stated lists))
+
+-- the lines of a tree, where so many records are stated
+abbrev pub tree_lines : Form → List (List ℕ) → ℕ → List TreeNode → List (List ℕ)
+tree_lines form lists count nodes = number_line (codes "TREE") count ∷ map (λ node. record_line (shown form lists node)) nodes
 
 -- the last line
 abbrev pub end_line : List ℕ
 end_line = codes "END"
 
--- the lines of a plan
-abbrev pub plan_lines : Plan → List (List ℕ)
-plan_lines plan = lines_before_end (length plan.tree) plan ++ end_line ∷ []
+-- the lines of a plan with these price lists
+abbrev pub lines_with : Form → List (List ℕ) → Plan → List (List ℕ)
+lines_with form lists plan = front_lines form (length lists) lists plan ++ (tree_lines form lists (length plan.tree) plan.tree ++ end_line ∷ [])
 
--- the text of a plan: its lines, each with its line end
-unfoldable pub plan_text : Plan → List ℕ
-plan_text plan = text_of (map whole (plan_lines plan))
+-- the lines of a plan
+abbrev pub plan_lines : Form → Plan → List (List ℕ)
+plan_lines form plan = lines_with form (lists_in form plan.tree) plan
+
+-- the text of a plan in this version: its lines, each with its line end
+unfoldable pub plan_text : Form → Plan → List ℕ
+plan_text form plan = text_of (map whole (plan_lines form plan))
+
+-- the version can tell whether each direction of a link has a price of its own: in the first one it has not
+abbrev pub CanTell : Form → Bool → Type 0
+CanTell First both = both ≡ false
+CanTell Second both = ⊤
 
 -- ---- the numbers of a plan, within their fields
 
@@ -163,4 +198,6 @@ pub record HasFields (plan : Plan) : Type 0 where
 pub record SpellsPlan (text : List ℕ) (plan : Plan) : Type 0 where
   pub spellable : IsSpellable plan
   pub fields : HasFields plan
-  pub is_text : text ≡ plan_text plan
+  pub form : Form
+  pub told : CanTell form plan.both
+  pub is_text : text ≡ plan_text form plan

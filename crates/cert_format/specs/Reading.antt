@@ -1,5 +1,5 @@
 -- Reading a plan line by line: the first line that cannot stand where it stands stops it. No public clause cites this module.
-use Rattle.std.specs.Prelude.{ℕ, zero, suc, ◌-◌, ◌^◌, false, if◌then◌else◌, List, [], ◌∷◌, length, codes, Option, Some, None, Result, Ok, Err, ℤ}
+use Rattle.std.specs.Prelude.{ℕ, zero, suc, ◌-◌, ◌^◌, Bool, if◌then◌else◌, List, [], ◌∷◌, ◌++◌, length, codes, Option, Some, None, Result, Ok, Err, ℤ}
 use Rattle.plan_base.specs.declared.path.Design.{Design}
 use Rattle.plan_base.specs.declared.ids.ArcId.{ArcId}
 use Rattle.proof_tree.specs.declared.limits.TheConstants.{MAX_BUDGET, MAX_RECORDS}
@@ -9,11 +9,18 @@ use Rattle.proof_tree.specs.declared.plan.PlanStatus.TheVariants.{Optimal, Infea
 use Rattle.proof_tree.specs.declared.plan.Plan.{Plan}
 use Rattle.cert_format.specs.declared.fault.PlanFault.{PlanFault}
 use Rattle.cert_format.specs.declared.fault.PlanFault.TheVariants as faults
+use Rattle.proof_tree.specs.Spellings.{places_in}
+use Rattle.cert_format.specs.declared.bodies.Sizes.{Sizes}
+use Rattle.cert_format.specs.declared.form.Form.{Form}
+use Rattle.cert_format.specs.declared.form.Form.TheVariants.{First, Second}
+use Rattle.cert_format.specs.declared.limits.TheConstants.{MAX_LISTS}
 use Rattle.cert_format.specs.declared.reading.Head.{Head}
+use Rattle.cert_format.specs.declared.numbering.Ground.{Ground}
 use Rattle.cert_format.specs.Lines.{Line, whole, unfinished, text_of, lines_of}
-use Rattle.cert_format.specs.Grammar.{header_line, end_line}
-use Rattle.cert_format.specs.Drafts.{left_open, is_complete}
-use Rattle.cert_format.specs.Bodies.{fixed_of, number_row, size_row, status_of, cost_of, bound_of, path_of, modules_of, record_of}
+use Rattle.cert_format.specs.Lists.{named_behind}
+use Rattle.cert_format.specs.Grammar.{end_line}
+use Rattle.cert_format.specs.Drafts.{left_open, Stated, is_complete}
+use Rattle.cert_format.specs.Bodies.{fixed_of, form_of, number_row, size_row, status_of, cost_of, bound_of, path_of, modules_of, record_in, list_row}
 
 -- a value and the lines behind it, or the lines from the first one on that cannot stand there
 abbrev pub Reader : Type 0 → Type 0
@@ -50,17 +57,18 @@ many zero f = done []
 many (suc n) f = bind (one f) (λ x. bind (many n f) (λ xs. done (x ∷ xs)))
 
 -- the parts of these lines
-abbrev pub head_with : ℕ × ℕ × ℕ → PlanStatus → ℕ → ℕ → Head
-head_with sizes status budget examined = record { nodes = sizes.0; links = sizes.1; demands = sizes.2; status = status; budget = budget; examined = examined }
+abbrev pub head_with : Form → Sizes → PlanStatus → ℕ → ℕ → Head
+head_with form sizes status budget examined =
+    record { form = form; nodes = sizes.nodes; links = sizes.links; demands = sizes.demands; both = sizes.both; status = status; budget = budget; examined = examined }
 
 -- the five lines that begin each text
 unfoldable pub head : Reader Head
-head = bind (one (fixed_of header_line)) λ _.
-    bind (one size_row) λ sizes.
+head = bind (one form_of) λ form.
+    bind (one (size_row form)) λ sizes.
     bind (one status_of) λ status.
     bind (one (number_row (codes "BUDGET") 1 MAX_BUDGET)) λ budget.
     bind (one (number_row (codes "EXAMINED") 0 (2 ^ 32 - 1))) λ examined.
-    done (head_with sizes status budget examined)
+    done (head_with form sizes status budget examined)
 
 -- a design of this cost
 abbrev pub design_with : ℕ → List (List ArcId) → List (List ℕ) → Option (ℕ × Design)
@@ -83,12 +91,34 @@ bound Optimal = done None
 bound Infeasible = done None
 bound Undecided = one bound_of
 
+-- how many price lists are stated
+unfoldable pub list_count : Form → Reader ℕ
+list_count First = done 0
+list_count Second = one (number_row (codes "PRICES") 0 MAX_LISTS)
+
+-- what stands before the price lists
+abbrev pub front_with : Head → Option (ℕ × Design) → Option ℤ → ℕ → Head × Option (ℕ × Design) × Option ℤ × ℕ
+front_with h d b stated = (h, d, b, stated)
+
+-- all lines before the price lists
+unfoldable pub opening : Reader (Head × Option (ℕ × Design) × Option ℤ × ℕ)
+opening = bind head λ h. bind (design h) λ d. bind (bound h.status) λ b. bind (list_count h.form) λ stated. done (front_with h d b stated)
+
+-- reads so many price lists, each different from those before it
+unfoldable pub lists : ℕ → ℕ → List (List ℕ) → Reader (List (List ℕ))
+lists places zero before = done before
+lists places (suc n) before = bind (one (list_row places before)) λ list. lists places n (before ++ list ∷ [])
+
+-- one record, where so many lists are named before it
+abbrev pub record_on : Ground → ℕ → List ℕ → Option TreeNode
+record_on g named body = record_in g.form g.lists named g.nodes g.places body
+
 -- reads records until the tree is whole, but no more than so many
-unfoldable pub records : ℕ → ℕ → ℕ → ℕ → Reader (List TreeNode)
-records nodes links zero trees = done []
-records nodes links (suc count) zero = done []
-records nodes links (suc count) (suc others) = bind (one (record_of nodes links)) λ node.
-    bind (records nodes links count (left_open node others)) λ more.
+unfoldable pub records : Ground → ℕ → ℕ → ℕ → Reader (List TreeNode)
+records g named zero trees = done []
+records g named (suc count) zero = done []
+records g named (suc count) (suc others) = bind (one (record_on g named)) λ node.
+    bind (records g (named_behind g.form g.lists named node) count (left_open node others)) λ more.
     done (node ∷ more)
 
 -- a stated count, and records
@@ -96,18 +126,18 @@ abbrev pub tree_with : ℕ → List TreeNode → ℕ × List TreeNode
 tree_with count nodes = (count, nodes)
 
 -- how many records are stated, and those that were read
-unfoldable pub tree : ℕ → ℕ → Reader (ℕ × List TreeNode)
-tree nodes links = bind (one (number_row (codes "TREE") 1 MAX_RECORDS)) λ count.
-    bind (records nodes links count 1) λ nodes.
+unfoldable pub tree : Ground → Reader (ℕ × List TreeNode)
+tree g = bind (one (number_row (codes "TREE") 1 MAX_RECORDS)) λ count.
+    bind (records g 0 count 1) λ nodes.
     done (tree_with count nodes)
 
--- the plan of these parts, for an instance whose links have one place each
+-- the plan of these parts
 abbrev pub plan_with : Head → Option (ℕ × Design) → Option ℤ → List TreeNode → Plan
 plan_with h d b nodes = record {
   nodes = h.nodes;
   links = h.links;
   demands = h.demands;
-  both = false;
+  both = h.both;
   status = h.status;
   budget = h.budget;
   examined = h.examined;
@@ -116,14 +146,22 @@ plan_with h d b nodes = record {
   tree = nodes;
 }
 
--- the stated count, and the plan of these parts
-abbrev pub draft_with : Head → Option (ℕ × Design) → Option ℤ → ℕ × List TreeNode → ℕ × Plan
-draft_with h d b t = (t.0, plan_with h d b t.1)
+-- what is stated by these parts
+abbrev pub stated_with : Head → Option (ℕ × Design) → Option ℤ → ℕ → List (List ℕ) → ℕ × List TreeNode → Stated
+stated_with h d b stated lists t = record { form = h.form; stated = stated; lists = lists; count = t.0; plan = plan_with h d b t.1 }
 
--- all lines before the last: the stated count of records, and a plan whose tree need not be whole
-unfoldable pub before_end : Reader (ℕ × Plan)
-before_end = bind head λ h. bind (design h) λ d. bind (bound h.status) λ b.
-    bind (tree h.nodes h.links) λ t. done (draft_with h d b t)
+-- what the lines of a tree depend on
+abbrev pub ground_with : Head → List (List ℕ) → Ground
+ground_with h lists = record { form = h.form; lists = lists; nodes = h.nodes; places = places_in h.both h.links }
+
+-- what is stated by all lines before the tree, and a tree
+abbrev pub stated_on : Head × Option (ℕ × Design) × Option ℤ × ℕ → List (List ℕ) → ℕ × List TreeNode → Stated
+stated_on f lists t = stated_with f.0 f.1 f.2 f.3 lists t
+
+-- all lines before the last: what they state, the tree of which need not be whole
+unfoldable pub before_end : Reader Stated
+before_end = bind opening λ f. bind (lists (places_in f.0.both f.0.links) f.3 []) λ found.
+    bind (tree (ground_with f.0 found)) λ t. done (stated_on f found t)
 
 -- nothing stands behind the last line
 abbrev pub nothing_behind : Plan → List Line → Result Plan (List Line)
@@ -135,9 +173,9 @@ abbrev pub last_line : Plan → Result ((Unit {0}) × List Line) (List Line) →
 last_line plan (Ok p) = nothing_behind plan p.1
 last_line plan (Err ls) = Err ls
 
--- the end of the text, which only a whole tree may have
-abbrev pub ending : (ℕ × Plan) × List Line → Result Plan (List Line)
-ending d = if is_complete d.0.0 d.0.1 then last_line d.0.1 (one (fixed_of end_line) d.1) else Err d.1
+-- the end of the text, which only a whole tree may have that names each price list
+abbrev pub ending : Stated × List Line → Result Plan (List Line)
+ending d = if is_complete d.0 then last_line d.0.plan (one (fixed_of end_line) d.1) else Err d.1
 
 -- the plan of all lines
 unfoldable pub whole_plan : List Line → Result Plan (List Line)

@@ -1,5 +1,5 @@
 -- Words and numbers of a line.
-use Rattle.std.specs.Prelude.{ℕ, ◌+◌, ◌-◌, ◌*◌, ◌^◌, if◌then◌else◌, ◌==◌, ◌&&◌, nat_lt, List, [], ◌∷◌, ◌++◌, length, decimal, Option, Some, None, option_and_then}
+use Rattle.std.specs.Prelude.{ℕ, ◌+◌, ◌-◌, ◌*◌, ◌^◌, if◌then◌else◌, ◌==◌, ◌&&◌, nat_lt, List, [], ◌∷◌, ◌++◌, length, take, drop, decimal, Option, Some, None, option_and_then}
 use Rattle.std.specs.Option.{option_map}
 use Rattle.std.specs.Str.{bytes_eq}
 use Rattle.std.specs.Str.Parse.{digits_value}
@@ -26,6 +26,10 @@ unfoldable pub behind : List ℕ → List ℕ → Option (List ℕ)
 behind [] bytes = Some bytes
 behind (w ∷ word) [] = None
 behind (w ∷ word) (b ∷ bytes) = if b == w then behind word bytes else None
+
+-- the bytes before this word, where the bytes end with it
+unfoldable pub before : List ℕ → List ℕ → Option (List ℕ)
+before word bytes = if bytes_eq (drop (length bytes - length word) bytes) word then Some (take (length bytes - length word) bytes) else None
 
 -- one byte more in front: a blank begins a word
 abbrev pub onto_words : ℕ → List ℕ × List (List ℕ) → List ℕ × List (List ℕ)

@@ -1,16 +1,28 @@
 //! What a line is read as, without its line end.
 
 ghost use Rattle.std.specs.Prelude.{◌≡◌, ◌<◌, Some, None, IfOk};
+ghost use Rattle.std.specs.Option.{option_map};
 ghost use Rattle.cert_format.specs.Words.{each, grains_of};
-ghost use Rattle.cert_format.specs.Bodies.{fixed_of, one_in, number_row, sizes_in, size_row, status_of, none_or, cost_allowed, cost_of, positive, negative, signed_of, bound_of, arc_of, count_of, uncounted, path_of, modules_of};
+ghost use Rattle.cert_format.specs.Bodies.{fixed_of, one_in, number_row, sizes_in, count_row, with_both, size_row, form_of, status_of, none_or, cost_allowed, cost_of, positive, negative, signed_of, bound_of, arc_of, count_of, uncounted, path_of, modules_of, list_row};
 ghost use Rattle.cert_format.specs.Answers.{found_now, items_of};
 
-use crate::words::{are_same, behind, grains, row};
+use crate::form::Form;
+use crate::lists::Lists;
+use crate::words::{are_same, before, behind, grains, row};
 use plan_base::limits::{MAX_DEMANDS, MAX_LINKS, MAX_MODULES, MAX_NODES};
-use plan_base::{ArcId, Items, Path};
+use plan_base::{ArcId, Items, Path, Prices};
 use proof_tree::PlanStatus;
 use proof_tree::limits::MAX_PATH_ARCS;
 use std::alloc::{AllocError, Global};
+
+/// The counts of nodes, links and demands, and whether each direction of a link has a price of its own.
+#[derive(Clone, Copy)]
+pub(crate) struct Sizes {
+    pub(crate) nodes: u32,
+    pub(crate) links: u32,
+    pub(crate) demands: u32,
+    pub(crate) both: bool,
+}
 
 /// Nothing but these bytes.
 #[tactic(auto, unfolding(crate::specs::Bodies::fixed_of))]
@@ -68,14 +80,62 @@ fn sizes_in(numbers: &[u128]) -> Option<(u32, u32, u32)>
     }
 }
 
+/// The version.
+#[tactic(auto, unfolding(crate::specs::Bodies::form_of))]
+pub(crate) fn form(body: &[u8]) -> Option<Form>
+    ensures { result ≡ form_of body.now }
+{
+    if are_same(body, b"SNDPLAN 1") {
+        return Some(Form::First);
+    }
+    if are_same(body, b"SNDPLAN 2") {
+        return Some(Form::Second);
+    }
+    None
+}
+
 /// The counts of nodes, links and demands.
-#[tactic(auto, unfolding(crate::specs::Bodies::size_row))]
-pub(crate) fn sizes(alloc: Global, body: &[u8]) -> Result<Option<(u32, u32, u32)>, AllocError>
-    ensures { IfOk result (λ found. found ≡ size_row body.now) }
+#[tactic(auto, unfolding(crate::specs::Bodies::count_row))]
+fn size_counts(alloc: Global, body: &[u8]) -> Result<Option<(u32, u32, u32)>, AllocError>
+    ensures { IfOk result (λ found. found ≡ count_row body.now) }
 {
     match row(alloc, b"SIZE", body)? {
         Some(numbers) => Ok(sizes_in(numbers.as_slice())),
         None => Ok(None),
+    }
+}
+
+/// The counts, and whether each direction of a link has a price of its own.
+fn counts_with(alloc: Global, both: bool, bytes: &[u8]) -> Result<Option<Sizes>, AllocError>
+    ensures { IfOk result (λ found. found ≡ option_map (with_both both) (count_row bytes.now)) }
+{
+    match size_counts(alloc, bytes)? {
+        Some((nodes, links, demands)) => Ok(Some(Sizes {
+            nodes,
+            links,
+            demands,
+            both,
+        })),
+        None => Ok(None),
+    }
+}
+
+/// The sizes: the counts, and whether each direction of a link has a price of its own.
+#[tactic(auto, unfolding(crate::specs::Bodies::size_row))]
+pub(crate) fn size_row(alloc: Global, form: Form, body: &[u8]) -> Result<Option<Sizes>, AllocError>
+    ensures { IfOk result (λ found. found ≡ size_row form body.now) }
+{
+    match form {
+        Form::First => counts_with(alloc, false, body),
+        Form::Second => {
+            if let Some(bytes) = before(b" ONE", body) {
+                return counts_with(alloc, false, bytes);
+            }
+            match before(b" BOTH", body) {
+                Some(bytes) => counts_with(alloc, true, bytes),
+                None => Ok(None),
+            }
+        }
     }
 }
 
@@ -280,5 +340,23 @@ pub(crate) fn modules(alloc: Global, body: &[u8]) -> Result<Option<Items<u64>>, 
     match counts(alloc, numbers)? {
         Some(counts) => Ok(Some(Items::from_vec(counts))),
         None => Ok(None),
+    }
+}
+
+/// A price list that is none of those before it.
+#[tactic(auto, unfolding(crate::specs::Bodies::list_row))]
+pub(crate) fn list(
+    alloc: Global,
+    places: usize,
+    lists: &Lists,
+    body: &[u8],
+) -> Result<Option<Prices>, AllocError>
+    ensures { IfOk result (λ found. found ≡ list_row places lists.now body.now) }
+{
+    match row(alloc, b"P", body)? {
+        Some(prices) if prices.len() == places && !lists.has(prices.as_slice()) => {
+            Ok(Some(Prices::from_vec(prices)))
+        }
+        _ => Ok(None),
     }
 }

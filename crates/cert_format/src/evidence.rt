@@ -74,30 +74,30 @@ fn cut_in(alloc: Global, nodes: u32, numbers: &[u128]) -> Result<Option<Evidence
     }
 }
 
-/// One price for each link.
+/// So many numbers.
 #[tactic(auto, unfolding(crate::specs::Bodies::prices_of))]
-fn prices(alloc: Global, links: u32, bytes: &[u8]) -> Result<Option<Prices>, AllocError>
-    ensures { IfOk result (λ found. found ≡ prices_of links bytes.now) }
+fn prices(alloc: Global, count: usize, bytes: &[u8]) -> Result<Option<Prices>, AllocError>
+    ensures { IfOk result (λ found. found ≡ prices_of count bytes.now) }
 {
     match numbers(alloc, bytes)? {
-        Some(prices) if prices.len() == links as usize => Ok(Some(Prices::from_vec(prices))),
+        Some(prices) if prices.len() == count => Ok(Some(Prices::from_vec(prices))),
         _ => Ok(None),
     }
 }
 
-/// A leaf that is closed or open by prices.
+/// A leaf that is closed or open by so many prices.
 #[tactic(auto, unfolding(crate::specs::Bodies::priced_of))]
-fn priced(alloc: Global, links: u32, body: &[u8]) -> Result<Option<Evidence>, AllocError>
-    ensures { IfOk result (λ found. found ≡ priced_of links body.now) }
+fn priced(alloc: Global, count: usize, body: &[u8]) -> Result<Option<Evidence>, AllocError>
+    ensures { IfOk result (λ found. found ≡ priced_of count body.now) }
 {
     if let Some(rest) = behind(b"PRICED", body) {
-        return Ok(prices(alloc, links, rest)?.map(Evidence::Bound));
+        return Ok(prices(alloc, count, rest)?.map(Evidence::Bound));
     }
     if let Some(rest) = behind(b"CROWD", body) {
-        return Ok(prices(alloc, links, rest)?.map(Evidence::Crowd));
+        return Ok(prices(alloc, count, rest)?.map(Evidence::Crowd));
     }
     if let Some(rest) = behind(b"OPEN", body) {
-        return Ok(prices(alloc, links, rest)?.map(Evidence::Open));
+        return Ok(prices(alloc, count, rest)?.map(Evidence::Open));
     }
     Ok(None)
 }
@@ -126,15 +126,15 @@ fn overfull(alloc: Global, bytes: &[u8]) -> Result<Option<Evidence>, AllocError>
     }
 }
 
-/// The evidence of a leaf.
+/// The evidence of a leaf, where so many numbers stand for prices.
 #[tactic(auto, unfolding(crate::specs::Bodies::leaf_of))]
 pub(crate) fn leaf(
     alloc: Global,
     nodes: u32,
-    links: u32,
+    count: usize,
     body: &[u8],
 ) -> Result<Option<Evidence>, AllocError>
-    ensures { IfOk result (λ found. found ≡ leaf_of nodes links body.now) }
+    ensures { IfOk result (λ found. found ≡ leaf_of nodes count body.now) }
 {
     if fixed(b"ROUTED", body).is_some() {
         return Ok(Some(Evidence::Routed));
@@ -145,5 +145,5 @@ pub(crate) fn leaf(
     if let Some(rest) = behind(b"CUT", body) {
         return cut(alloc, nodes, rest);
     }
-    priced(alloc, links, body)
+    priced(alloc, count, body)
 }

@@ -1,10 +1,13 @@
 //! Laws of plan texts. The contract of each function is its law; the functions do nothing.
 
-ghost use Rattle.std.specs.Prelude.{◌≡◌, ◌⊎◌, ℕ, List};
+ghost use Rattle.std.specs.Prelude.{◌≡◌, ◌≤◌, ◌⊎◌, ℕ, false, length, List};
 ghost use Rattle.proof_tree.specs.declared.plan.Plan.{Plan as AnyPlan};
 ghost use Rattle.cert_format.specs.declared.fault.PlanFault.{PlanFault};
 ghost use Rattle.cert_format.specs.declared.fault.PlanFault.TheVariants.{OutOfMemory};
-ghost use Rattle.cert_format.specs.Grammar.{SpellsPlan};
+ghost use Rattle.cert_format.specs.declared.limits.TheConstants.{MAX_PLAN_BYTES};
+ghost use Rattle.cert_format.specs.declared.form.Form.TheVariants.{First, Second};
+ghost use Rattle.proof_tree.specs.Spellings.{IsSpellable};
+ghost use Rattle.cert_format.specs.Grammar.{plan_text, HasFields, SpellsPlan};
 ghost use Rattle.cert_format.specs.Faults.{IsFault};
 
 /// No text spells two plans.
@@ -12,9 +15,15 @@ pub fn one_plan_for_a_text()
     ensures { (text : List ℕ) (one other : AnyPlan) → SpellsPlan text one → SpellsPlan text other → one ≡ other }
 {}
 
-/// No plan has two texts.
+/// No plan has two texts of one version.
 pub fn one_text_for_a_plan()
-    ensures { (one other : List ℕ) (plan : AnyPlan) → SpellsPlan one plan → SpellsPlan other plan → one ≡ other }
+    ensures { (one other : List ℕ) (plan : AnyPlan) (s : SpellsPlan one plan) (t : SpellsPlan other plan) → s.form ≡ t.form → one ≡ other }
+{}
+
+/// A plan that fits has a text of the second version, and one of the first where no link has two prices.
+pub fn a_text_for_a_plan()
+    ensures second { (plan : AnyPlan) → IsSpellable plan → HasFields plan → SpellsPlan (plan_text Second plan) plan }
+    ensures first { (plan : AnyPlan) → IsSpellable plan → HasFields plan → plan.both ≡ false → SpellsPlan (plan_text First plan) plan }
 {}
 
 /// A text that spells a plan has no fault; want of memory may be told of any text.
@@ -25,4 +34,9 @@ pub fn no_fault_where_spelt()
 /// No text has two faults; want of memory may be told of any text.
 pub fn one_fault_for_a_text()
     ensures { (text : List ℕ) (one other : PlanFault) → IsFault text one → IsFault text other → (one ≡ OutOfMemory) ⊎ ((other ≡ OutOfMemory) ⊎ (one ≡ other)) }
+{}
+
+/// The text that is written of a plan that fits is within the limit of bytes.
+pub fn text_within_limit()
+    ensures { (plan : AnyPlan) → IsSpellable plan → HasFields plan → length (plan_text Second plan) ≤ MAX_PLAN_BYTES }
 {}

@@ -1,18 +1,21 @@
-//! Plan texts: one spelling for each plan, written and read.
+//! Plan texts: one spelling for each plan and version, written and read.
 //!
-//! Promises that `write_plan` writes the one text of a plan, and that `read_plan` answers a plan exactly
-//! where the text spells it, and else the first line that cannot stand where it stands. Begin at
-//! `read_plan`; the text of a plan is in `specs/Grammar.antt`, and what the first line that cannot stand is in
-//! `specs/Drafts.antt`. Stands on `proof_tree`, `plan_base` and `scaled_numbers`. Whether a plan is
-//! valid is left to the crates above.
+//! Promises that `write_plan` writes the one text of a plan in the second version, and that `read_plan` answers a
+//! plan exactly where the text spells it in either version, and else the first line that cannot stand where it
+//! stands. Begin at `read_plan`. `specs/Grammar.antt` has the text of a plan, `specs/Lists.antt` its price lists and
+//! their numbers, `specs/Drafts.antt` which lines can stand. Stands on `proof_tree`, `plan_base` and
+//! `scaled_numbers`. Whether a plan is valid is left to the crates above.
 #![tactic(auto)]
 
 mod bodies;
 mod evidence;
 mod fault;
+mod form;
 pub mod laws;
 pub mod limits;
 mod lines;
+mod lists;
+mod numbering;
 mod reading;
 mod records;
 mod stop;
@@ -20,5 +23,6 @@ mod words;
 mod writing;
 
 pub use fault::PlanFault;
+pub use form::Form;
 pub use reading::read_plan;
 pub use writing::write_plan;

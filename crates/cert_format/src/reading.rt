@@ -1,45 +1,58 @@
 //! Reading a plan text line by line.
 
-ghost use Rattle.std.specs.Prelude.{◌≡◌, ◌≤◌, ◌<◌, ◌+◌, ◌^◌, ℕ, List, length, IfOk, IfErr};
+ghost use Rattle.std.specs.Prelude.{◌≡◌, ◌≤◌, ◌<◌, ◌+◌, ◌^◌, ℕ, List, [], length, IfOk, IfErr};
 ghost use Rattle.proof_tree.specs.declared.plan.Plan.{Plan as AnyPlan};
 ghost use Rattle.cert_format.specs.Lines.{lines_of};
-ghost use Rattle.cert_format.specs.Grammar.{SpellsPlan};
+ghost use Rattle.cert_format.specs.Grammar.{end_line, SpellsPlan};
 ghost use Rattle.cert_format.specs.Faults.{IsFault, OnlyPlan, OnlyFault};
-ghost use Rattle.cert_format.specs.Bodies.{fixed_of, number_row, size_row, status_of, cost_of, bound_of, path_of, modules_of, record_of};
-ghost use Rattle.cert_format.specs.Reading.{one, many, head, design_of, design, bound, records, tree, before_end, ending, whole_plan, place_of, plan_of};
+ghost use Rattle.cert_format.specs.Lists.{named_from};
+ghost use Rattle.cert_format.specs.Bodies.{fixed_of, form_of, number_row, size_row, status_of, cost_of, bound_of, path_of, modules_of, list_row};
+ghost use Rattle.cert_format.specs.Reading.{one, many, head, design_of, design, bound, list_count, opening, lists, record_on, records, tree, before_end, last_line, ending, whole_plan, place_of, plan_of};
 ghost use Rattle.cert_format.specs.Drafts.{left_open};
-ghost use Rattle.cert_format.specs.Answers.{Reads, Gives, seen, seen_items, seen_tree, seen_draft, drafted};
+ghost use Rattle.cert_format.specs.Answers.{Reads, Gives, seen, seen_items, seen_records, seen_tree, seen_draft, drafted, IsCounted};
+ghost use Rattle.proof_tree.specs.Spellings.{places_in};
+ghost use Rattle.proof_tree.specs.declared.limits.TheConstants.{MAX_RECORDS};
 ghost use Rattle.cert_format.specs.declared.limits.TheConstants.{MAX_PLAN_BYTES};
 
+use crate::bodies::Sizes;
 use crate::fault::PlanFault;
-use crate::limits::MAX_PLAN_BYTES;
+use crate::form::Form;
+use crate::limits::{MAX_LISTS, MAX_PLAN_BYTES};
 use crate::lines::{accept, first_line};
+use crate::lists::Lists;
+use crate::numbering::{Ground, named_behind};
 use crate::stop::Stop;
 use crate::{bodies, records};
-use plan_base::{Design, Items, Path};
+use plan_base::{Design, Items, Path, Prices};
 use proof_tree::limits::{MAX_BUDGET, MAX_RECORDS};
 use proof_tree::{Plan, PlanStatus, Tree, TreeNode};
 use std::alloc::Global;
 
-/// The sizes, the status, the budget and the count of examined nodes.
+/// The version, the sizes, the status, the budget and the count of examined nodes.
 #[derive(Clone, Copy)]
 pub(crate) struct Head {
+    pub(crate) form: Form,
     pub(crate) nodes: u32,
     pub(crate) links: u32,
     pub(crate) demands: u32,
+    pub(crate) both: bool,
     pub(crate) status: PlanStatus,
     pub(crate) budget: u32,
     pub(crate) examined: u32,
 }
 
-/// All that stands before the last line: the records need not be a whole tree.
+/// All that stands before the last line: the records need not be a whole tree, nor name each price list.
 #[derive(Drop)]
 struct Draft {
     head: Head,
     design: Option<(u128, Design)>,
     bound: Option<i128>,
+    stated: u32,
+    ground: Ground,
     count: u32,
     records: Vec<TreeNode>,
+    /// How many price lists the records name.
+    named: u32,
 }
 
 /// A line of nothing but these bytes.
@@ -70,13 +83,22 @@ fn number_line<'a>(
     )
 }
 
-/// The line of the sizes.
+/// The line of the version.
 #[tactic(auto, using(crate::proofs::Accepting::no_first_line, crate::proofs::Accepting::stops_memory))]
-fn size_line(alloc: Global, text: &[u8]) -> Result<((u32, u32, u32), &[u8]), Stop>
-    ensures { Reads seen result (one size_row (lines_of text.now)) }
+fn form_line(text: &[u8]) -> Result<(Form, &[u8]), Stop>
+    ensures { Reads seen result (one form_of (lines_of text.now)) }
 {
     let (body, rest) = first_line(text)?;
-    accept(bodies::sizes(alloc, body)?, text, rest)
+    accept(bodies::form(body), text, rest)
+}
+
+/// The line of the sizes.
+#[tactic(auto, using(crate::proofs::Accepting::no_first_line, crate::proofs::Accepting::stops_memory))]
+fn size_line(alloc: Global, form: Form, text: &[u8]) -> Result<(Sizes, &[u8]), Stop>
+    ensures { Reads seen result (one (size_row form) (lines_of text.now)) }
+{
+    let (body, rest) = first_line(text)?;
+    accept(bodies::size_row(alloc, form, body)?, text, rest)
 }
 
 /// The line of the status.
@@ -124,18 +146,32 @@ fn modules_line(alloc: Global, text: &[u8]) -> Result<(Items<u64>, &[u8]), Stop>
     accept(bodies::modules(alloc, body)?, text, rest)
 }
 
-/// The line of a record.
+/// The line of a price list, which is none of those before it.
 #[tactic(auto, using(crate::proofs::Accepting::no_first_line, crate::proofs::Accepting::stops_memory))]
-fn record_line(
+fn list_line<'a>(
     alloc: Global,
-    nodes: u32,
-    links: u32,
-    text: &[u8],
-) -> Result<(TreeNode, &[u8]), Stop>
-    ensures { Reads seen result (one (record_of nodes links) (lines_of text.now)) }
+    places: usize,
+    lists: &Lists,
+    text: &'a [u8],
+) -> Result<(Prices, &'a [u8]), Stop>
+    ensures { Reads seen result (one (list_row places lists.now) (lines_of text.now)) }
 {
     let (body, rest) = first_line(text)?;
-    accept(records::record(alloc, nodes, links, body)?, text, rest)
+    accept(bodies::list(alloc, places, lists, body)?, text, rest)
+}
+
+/// The line of a record, where so many price lists are named before it.
+#[tactic(auto, using(crate::proofs::Accepting::no_first_line, crate::proofs::Accepting::stops_memory))]
+fn record_line<'a>(
+    alloc: Global,
+    ground: &Ground,
+    named: u32,
+    text: &'a [u8],
+) -> Result<(TreeNode, &'a [u8]), Stop>
+    ensures { Reads seen result (one (record_on ground.now named) (lines_of text.now)) }
+{
+    let (body, rest) = first_line(text)?;
+    accept(records::record_in(alloc, ground, named, body)?, text, rest)
 }
 
 /// The five lines that begin each text.
@@ -143,15 +179,17 @@ fn record_line(
 fn read_head(alloc: Global, text: &[u8]) -> Result<(Head, &[u8]), Stop>
     ensures { Reads seen result (head (lines_of text.now)) }
 {
-    let (_, text) = fixed_line(b"SNDPLAN 1", text)?;
-    let ((nodes, links, demands), text) = size_line(alloc, text)?;
+    let (form, text) = form_line(text)?;
+    let (sizes, text) = size_line(alloc, form, text)?;
     let (status, text) = status_line(text)?;
     let (budget, text) = number_line(alloc, b"BUDGET", 1, MAX_BUDGET, text)?;
     let (examined, text) = number_line(alloc, b"EXAMINED", 0, u32::MAX, text)?;
     let head = Head {
-        nodes,
-        links,
-        demands,
+        form,
+        nodes: sizes.nodes,
+        links: sizes.links,
+        demands: sizes.demands,
+        both: sizes.both,
         status,
         budget,
         examined,
@@ -253,81 +291,159 @@ fn left_open(node: &TreeNode, others: u32) -> u32
     }
 }
 
-/// The records of a tree, but no more than so many.
-#[tactic(auto, using(crate::proofs::Accepting::records_more, crate::proofs::Accepting::records_stop, crate::proofs::Accepting::records_end, crate::proofs::Accepting::front_none, crate::proofs::Accepting::stops_memory))]
-fn read_records(
+/// How many price lists are stated.
+#[tactic(auto, unfolding(crate::specs::Reading::list_count, crate::specs::Reading::done))]
+fn read_list_count(alloc: Global, form: Form, text: &[u8]) -> Result<(u32, &[u8]), Stop>
+    ensures { Reads seen result (list_count form (lines_of text.now)) }
+{
+    match form {
+        Form::First => Ok((0, text)),
+        Form::Second => number_line(alloc, b"PRICES", 0, MAX_LISTS as u32, text),
+    }
+}
+
+/// All lines before the price lists.
+#[tactic(auto, using(crate::proofs::Accepting::through, crate::proofs::Accepting::stops_memory), unfolding(crate::specs::Reading::opening, crate::specs::Reading::bind, crate::specs::Reading::done))]
+fn read_opening(
     alloc: Global,
-    nodes: u32,
-    links: u32,
-    count: u32,
     text: &[u8],
-) -> Result<(Vec<TreeNode>, &[u8]), Stop>
-    requires { count ≤ 8193 }
-    ensures reads { Reads seen_items result (records nodes links count 1 (lines_of text.now)) }
+) -> Result<((Head, Option<(u128, Design)>, Option<i128>, u32), &[u8]), Stop>
+    ensures { Reads seen result (opening (lines_of text.now)) }
+{
+    let (head, text) = read_head(alloc, text)?;
+    let (design, text) = read_design(alloc, head, text)?;
+    let (bound, text) = read_bound(alloc, head.status, text)?;
+    let (stated, text) = read_list_count(alloc, head.form, text)?;
+    Ok(((head, design, bound, stated), text))
+}
+
+/// So many price lists.
+#[tactic(auto, using(crate::proofs::Accepting::lists_more, crate::proofs::Accepting::lists_stop, crate::proofs::Accepting::lists_end, crate::proofs::Accepting::list_fresh, crate::proofs::Accepting::stops_memory))]
+fn read_lists(
+    alloc: Global,
+    places: usize,
+    stated: u32,
+    text: &[u8],
+) -> Result<(Lists, &[u8]), Stop>
+    ensures { Reads seen result (lists places stated [] (lines_of text.now)) }
+{
+    let mut lists = Lists::new(alloc);
+    let mut rest = text;
+    let mut left = stated;
+    while left > 0 {
+        let (list, behind) = list_line(alloc, places, &lists, rest)?;
+        lists.push(list.into_vec())?;
+        rest = behind;
+        left -= 1;
+    }
+    Ok((lists, rest))
+}
+
+/// The records of a tree, but no more than so many, and how many price lists they name.
+#[tactic(auto, using(crate::proofs::Accepting::records_more, crate::proofs::Accepting::records_stop, crate::proofs::Accepting::records_end, crate::proofs::Accepting::front_none, crate::proofs::Accepting::stops_memory, crate::proofs::ListLaws::named_more))]
+fn read_records<'a>(
+    alloc: Global,
+    ground: &Ground,
+    count: u32,
+    text: &'a [u8],
+) -> Result<(Vec<TreeNode>, u32, &'a [u8]), Stop>
+    requires { count ≤ MAX_RECORDS }
+    ensures reads { Reads seen_records result (records ground.now 0 count 1 (lines_of text.now)) }
     ensures few { IfOk result (λ x. length x.0.items ≤ count) }
+    ensures named { IfOk result (λ x. x.1 ≡ named_from ground.now.form ground.now.lists 0 x.0.items) }
 {
     let mut records = Vec::new(alloc);
     let mut rest = text;
     let mut left = count;
     let mut trees: u32 = 1;
+    let mut named: u32 = 0;
     while left > 0 && trees > 0 {
-        let (node, behind) = record_line(alloc, nodes, links, rest)?;
+        let (node, behind) = record_line(alloc, ground, named, rest)?;
         trees = left_open(&node, trees - 1);
+        named = named_behind(ground, named, &node);
         records.push(node)?;
         rest = behind;
         left -= 1;
     }
-    Ok((records, rest))
+    Ok((records, named, rest))
 }
 
-/// How many records are stated, and those that were read.
+/// How many records are stated, those that were read, and how many price lists they name.
 #[tactic(auto, using(crate::proofs::Accepting::through, crate::proofs::Accepting::stops_memory, crate::proofs::Accepting::row_most), unfolding(crate::specs::Reading::tree, crate::specs::Reading::bind, crate::specs::Reading::done))]
-fn read_tree(
+fn read_tree<'a>(
     alloc: Global,
-    nodes: u32,
-    links: u32,
-    text: &[u8],
-) -> Result<(u32, Vec<TreeNode>, &[u8]), Stop>
-    ensures reads { Reads seen_tree result (tree nodes links (lines_of text.now)) }
-    ensures few { IfOk result (λ x. length x.1.items ≤ 8193) }
+    ground: &Ground,
+    text: &'a [u8],
+) -> Result<(u32, Vec<TreeNode>, u32, &'a [u8]), Stop>
+    ensures reads { Reads seen_tree result (tree ground.now (lines_of text.now)) }
+    ensures few { IfOk result (λ x. length x.1.items ≤ MAX_RECORDS) }
+    ensures named { IfOk result (λ x. x.2 ≡ named_from ground.now.form ground.now.lists 0 x.1.items) }
 {
     let (count, text) = number_line(alloc, b"TREE", 1, MAX_RECORDS as u32, text)?;
-    let (records, text) = read_records(alloc, nodes, links, count, text)?;
-    Ok((count, records, text))
+    let (records, named, text) = read_records(alloc, ground, count, text)?;
+    Ok((count, records, named, text))
+}
+
+/// How many places the links have.
+fn places_of(head: Head) -> usize
+    ensures { result ≡ places_in head.both head.links }
+{
+    if head.both {
+        2 * head.links as usize
+    } else {
+        head.links as usize
+    }
 }
 
 /// All lines before the last.
 #[tactic(auto, using(crate::proofs::Accepting::through, crate::proofs::Accepting::stops_memory), unfolding(crate::specs::Reading::before_end, crate::specs::Reading::bind, crate::specs::Reading::done))]
 fn read_before_end(alloc: Global, text: &[u8]) -> Result<(Draft, &[u8]), Stop>
     ensures reads { Reads seen_draft result (before_end (lines_of text.now)) }
-    ensures few { IfOk result (λ x. length x.0.records.items ≤ 8193) }
+    ensures counted { IfOk result (λ x. IsCounted x.0) }
 {
-    let (head, text) = read_head(alloc, text)?;
-    let (design, text) = read_design(alloc, head, text)?;
-    let (bound, text) = read_bound(alloc, head.status, text)?;
-    let (count, records, text) = read_tree(alloc, head.nodes, head.links, text)?;
+    let ((head, design, bound, stated), text) = read_opening(alloc, text)?;
+    let places = places_of(head);
+    let (lists, text) = read_lists(alloc, places, stated, text)?;
+    let ground = Ground {
+        form: head.form,
+        lists,
+        nodes: head.nodes,
+        places,
+    };
+    let (count, records, named, text) = read_tree(alloc, &ground, text)?;
     let draft = Draft {
         head,
         design,
         bound,
+        stated,
+        ground,
         count,
         records,
+        named,
     };
     Ok((draft, text))
 }
 
 impl Draft {
-    ghost use Rattle.std.specs.Prelude.{◌≡◌, ◌≤◌, ◌<◌, ◌^◌, length, IfOk};
+    ghost use Rattle.std.specs.Prelude.{◌≡◌};
     ghost use Rattle.cert_format.specs.Bodies.{only_if};
-    ghost use Rattle.cert_format.specs.Drafts.{is_complete};
-    ghost use Rattle.cert_format.specs.Answers.{drafted};
+    ghost use Rattle.cert_format.specs.Drafts.{has_counts, is_complete};
+    ghost use Rattle.cert_format.specs.Answers.{drafted, IsCounted};
 
-    /// The plan, of links with one place each, where the tree is whole and has as many records as stated.
-    fn into_plan(self) -> Option<Plan>
-        requires { length self.records.items ≤ 8193 }
-        ensures { result ≡ only_if (is_complete (drafted self).0 (drafted self).1) (drafted self).1 }
+    /// Whether there are as many records as stated, and each price list is named.
+    fn has_counts(&self) -> bool
+        requires counted { IsCounted self.now }
+        ensures { result ≡ has_counts (drafted self.now) }
     {
-        if self.records.len() != self.count as usize {
+        self.records.len() == self.count as usize && self.named as usize == self.ground.lists.len()
+    }
+
+    /// The plan, where the tree is whole, has as many records as stated and names each price list.
+    fn into_plan(self) -> Option<Plan>
+        requires counted { IsCounted self }
+        ensures { result ≡ only_if (is_complete (drafted self)) (drafted self).plan }
+    {
+        if !self.has_counts() {
             return None;
         }
         match Tree::from_nodes(self.records) {
@@ -335,7 +451,7 @@ impl Draft {
                 nodes: self.head.nodes,
                 links: self.head.links,
                 demands: self.head.demands,
-                both: false,
+                both: self.head.both,
                 status: self.head.status,
                 budget: self.head.budget,
                 examined: self.head.examined,
@@ -348,19 +464,27 @@ impl Draft {
     }
 }
 
-/// The last line, which only a whole tree may have, and nothing behind it.
-fn read_ending(draft: Draft, text: &[u8]) -> Result<Plan, Stop>
-    requires { length draft.records.items ≤ 8193 }
-    ensures { Reads (λ plan. plan) result (ending (drafted draft, lines_of text.now)) }
+/// The last line, and nothing behind it.
+#[tactic(auto, using(crate::proofs::Accepting::end_read, crate::proofs::Accepting::end_refused, crate::proofs::Accepting::end_stop))]
+fn read_end(plan: Plan, text: &[u8]) -> Result<Plan, Stop>
+    ensures { Reads (λ plan. plan) result (last_line plan (one (fixed_of end_line) (lines_of text.now))) }
 {
-    let Some(plan) = draft.into_plan() else {
-        return Err(Stop::At(text.len()));
-    };
     let (_, rest) = fixed_line(b"END", text)?;
     if rest.is_empty() {
         Ok(plan)
     } else {
         Err(Stop::At(rest.len()))
+    }
+}
+
+/// The last line, which only a whole tree may have that names each price list, and nothing behind it.
+fn read_ending(draft: Draft, text: &[u8]) -> Result<Plan, Stop>
+    requires counted { IsCounted draft }
+    ensures { Reads (λ plan. plan) result (ending (drafted draft, lines_of text.now)) }
+{
+    match draft.into_plan() {
+        Some(plan) => read_end(plan, text),
+        None => Err(Stop::At(text.len())),
     }
 }
 
@@ -376,7 +500,7 @@ fn whole_plan(alloc: Global, text: &[u8]) -> Result<Plan, Stop>
 /// Reads the plan that a text spells.
 ///
 /// - Takes: a text of at most `MAX_PLAN_BYTES` bytes.
-/// - Gives: the plan; whether it is valid is not asked.
+/// - Gives: the plan, from a text of either version; whether it is valid is not asked.
 /// - Errors: `Line`, exactly where a line cannot stand where it stands, at the first such line, a last
 ///   line without its end too; `Ended`, exactly where all lines can stand and a further one must
 ///   follow; `OutOfMemory` may stand in place of any answer.

@@ -2,11 +2,14 @@
 
 ghost use Rattle.std.specs.Prelude.{◌≡◌, Some, None, IfOk, option_and_then};
 ghost use Rattle.cert_format.specs.Words.{numbers_of};
-ghost use Rattle.cert_format.specs.Bodies.{ascends, side_of, sides_of, split_in, record_of};
+ghost use Rattle.cert_format.specs.Bodies.{ascends, side_of, sides_of, split_in, record_of, record_in};
+ghost use Rattle.cert_format.specs.Lists.{width};
 ghost use Rattle.cert_format.specs.Answers.{side_view, sides_view};
 
 use crate::bodies::arcs;
 use crate::evidence::leaf;
+use crate::form::Form;
+use crate::numbering::{Ground, resolve};
 use crate::words::{behind, numbers};
 use plan_base::{ArcId, DemandId, Items, NodeId};
 use proof_tree::TreeNode;
@@ -93,21 +96,47 @@ fn split(alloc: Global, bytes: &[u8]) -> Result<Option<TreeNode>, AllocError>
     }
 }
 
-/// A record.
+/// A record, where so many numbers stand for prices.
 #[tactic(auto, unfolding(crate::specs::Bodies::record_of))]
-pub(crate) fn record(
+fn record(
     alloc: Global,
     nodes: u32,
-    links: u32,
+    count: usize,
     body: &[u8],
 ) -> Result<Option<TreeNode>, AllocError>
-    ensures { IfOk result (λ found. found ≡ record_of nodes links body.now) }
+    ensures { IfOk result (λ found. found ≡ record_of nodes count body.now) }
 {
     if let Some(rest) = behind(b"SPLIT", body) {
         return split(alloc, rest);
     }
-    match leaf(alloc, nodes, links, body)? {
+    match leaf(alloc, nodes, count, body)? {
         Some(evidence) => Ok(Some(TreeNode::Leaf(evidence))),
+        None => Ok(None),
+    }
+}
+
+/// How many numbers stand for the prices of a record.
+fn width(form: Form, places: usize) -> usize
+    ensures { result ≡ width form places }
+{
+    match form {
+        Form::First => places,
+        Form::Second => 1,
+    }
+}
+
+/// A record that names no list which is not there, and leaves none out, where so many are named before it.
+#[tactic(auto, unfolding(crate::specs::Bodies::record_in))]
+pub(crate) fn record_in(
+    alloc: Global,
+    ground: &Ground,
+    named: u32,
+    body: &[u8],
+) -> Result<Option<TreeNode>, AllocError>
+    ensures { IfOk result (λ found. found ≡ record_in ground.now.form ground.now.lists named ground.now.nodes ground.now.places body.now) }
+{
+    match record(alloc, ground.nodes, width(ground.form, ground.places), body)? {
+        Some(node) => resolve(alloc, ground, named, node),
         None => Ok(None),
     }
 }

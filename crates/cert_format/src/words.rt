@@ -4,7 +4,7 @@ ghost use Rattle.std.specs.Prelude.{decimal, drop, ◌≡◌, ◌<◌, ◌≤◌
 ghost use Rattle.std.specs.Str.{bytes_eq};
 ghost use Rattle.std.specs.Str.Parse.{AllDigits, digits_value};
 ghost use Rattle.scaled_numbers.specs.Canonical.{grains_text};
-ghost use Rattle.cert_format.specs.Words.{behind, number_of, numbers_of, grains_of, row_of};
+ghost use Rattle.cert_format.specs.Words.{behind, before, number_of, numbers_of, grains_of, row_of};
 ghost use Rattle.cert_format.specs.Answers.{found_now, items_of, IsScaledParts};
 
 use crate::lines::cut;
@@ -25,6 +25,14 @@ pub(crate) fn behind<'a>(word: &[u8], bytes: &'a [u8]) -> Option<&'a [u8]>
     ensures { found_now result ≡ behind word.now bytes.now }
 {
     bytes.strip_prefix(word)
+}
+
+/// The bytes before this word, where the bytes end with it.
+#[tactic(auto, using(crate::proofs::Cutting::strips_end))]
+pub(crate) fn before<'a>(word: &[u8], bytes: &'a [u8]) -> Option<&'a [u8]>
+    ensures { found_now result ≡ before word.now bytes.now }
+{
+    bytes.strip_suffix(word)
 }
 
 /// The number that the digits write.

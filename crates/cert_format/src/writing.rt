@@ -1,13 +1,18 @@
 //! Writing the text of a plan.
 
-ghost use Rattle.std.specs.Prelude.{◌≡◌, ◌<◌, ◌^◌, ◌++◌, ◌∷◌, [], map, decimal, codes, IfOk, OnOk, IfSome, Some};
+ghost use Rattle.std.specs.Prelude.{◌≡◌, ◌<◌, ◌≤◌, ◌^◌, ◌++◌, ◌∷◌, [], map, decimal, codes, length, IfOk, OnOk, IfSome, Some};
 ghost use Rattle.std.specs.List.{AllByRecursion};
 ghost use Rattle.proof_tree.specs.Spellings.{IsSpellable, FitsStatus};
+ghost use Rattle.cert_format.specs.declared.limits.TheConstants.{MAX_PLAN_BYTES};
+ghost use Rattle.cert_format.specs.declared.form.Form.TheVariants.{Second};
+ghost use Rattle.cert_format.specs.Lists.{number_in, numbered, shown};
 ghost use Rattle.cert_format.specs.Lines.{whole, line_text};
 ghost use Rattle.cert_format.specs.Words.{numerals, row};
-ghost use Rattle.cert_format.specs.Grammar.{arc_numbers, counted, status_line, cost_line, signed_text, bound_line, path_line, modules_line, members, leaf_line, record_line, design_lines, bound_lines, head_lines, AreWithin, AreArcs, HasLeafFields, HasRecordFields, HasDesignFields, IsBoundField, HasFields, SpellsPlan, plan_text};
-ghost use Rattle.cert_format.specs.Written.{lines_text, Appends};
+ghost use Rattle.cert_format.specs.Grammar.{arc_numbers, counted, both_text, size_line, status_line, cost_line, signed_text, bound_line, path_line, modules_line, members, leaf_line, record_line, design_lines, bound_lines, head_lines, price_line, price_lines, AreWithin, AreArcs, HasRecordFields, HasDesignFields, IsBoundField, HasFields, SpellsPlan, plan_text};
+ghost use Rattle.cert_format.specs.Written.{lines_text, written_tree, HasOtherFields, HasFieldsBesides, Appends};
 
+use crate::lists::Lists;
+use crate::numbering::lists_of;
 use itoa::Buffer;
 use plan_base::{ArcId, Design, Items, Path};
 use proof_tree::{Evidence, Plan, PlanStatus, TreeNode};
@@ -150,19 +155,37 @@ fn push_bound_line(bound: Option<i128>, out: &mut Vec<u8>) -> Result<(), AllocEr
     Ok(())
 }
 
-/// Appends the five lines that begin each text.
-#[tactic(auto, using(crate::proofs::WrittenPieces::head_pieces))]
-fn push_head(plan: &Plan, out: &mut Vec<u8>) -> Result<(), AllocError>
-    ensures text { Appends result out.old.items out.new.items (lines_text (head_lines plan.now)) }
-    ensures fields { OnOk result (plan.now.examined < 2 ^ 32) }
+/// Whether each direction of a link has a price of its own.
+fn both_text(both: bool) -> &'static [u8]
+    ensures { result.now ≡ both_text Second both }
+{
+    if both { b" BOTH" } else { b" ONE" }
+}
+
+/// Appends the line of the sizes.
+#[tactic(auto, using(crate::proofs::WrittenPieces::size_pieces))]
+fn push_sizes(plan: &Plan, out: &mut Vec<u8>) -> Result<(), AllocError>
+    ensures { Appends result out.old.items out.new.items
+        (line_text (whole (size_line Second plan.now.nodes plan.now.links plan.now.demands plan.now.both))) }
 {
     let sizes = [
         u128::from(plan.nodes),
         u128::from(plan.links),
         u128::from(plan.demands),
     ];
-    push_fixed(b"SNDPLAN 1", out)?;
-    push_row(b"SIZE", &sizes, out)?;
+    out.extend_from_slice(b"SIZE")?;
+    push_numbers(&sizes, out)?;
+    push_fixed(both_text(plan.both), out)
+}
+
+/// Appends the five lines that begin each text.
+#[tactic(auto, using(crate::proofs::WrittenPieces::head_pieces))]
+fn push_head(plan: &Plan, out: &mut Vec<u8>) -> Result<(), AllocError>
+    ensures text { Appends result out.old.items out.new.items (lines_text (head_lines Second plan.now)) }
+    ensures fields { OnOk result (plan.now.examined < 2 ^ 32) }
+{
+    push_fixed(b"SNDPLAN 2", out)?;
+    push_sizes(plan, out)?;
     push_status(plan.status, out)?;
     push_number_row(b"BUDGET", plan.budget, out)?;
     push_number_row(b"EXAMINED", plan.examined, out)
@@ -275,19 +298,61 @@ fn push_cut(
     push_row(b"CUT", numbers.as_slice(), out)
 }
 
+/// Appends the line of a price list.
+fn push_list(list: &[u128], out: &mut Vec<u8>) -> Result<(), AllocError>
+    ensures text { Appends result out.old.items out.new.items (line_text (whole (price_line list.now))) }
+    ensures fields { OnOk result (AreWithin 128 list.now) }
+{
+    push_row(b"P", list, out)
+}
+
+/// Appends how many price lists there are, and their lines.
+#[tactic(auto, using(crate::proofs::WrittenPieces::lists_more, crate::proofs::WrittenPieces::lists_all, crate::proofs::WrittenPieces::fields_all))]
+fn push_lists(lists: &Lists, out: &mut Vec<u8>) -> Result<(), AllocError>
+    ensures text { Appends result out.old.items out.new.items
+        (lines_text (price_lines Second (length lists.now) lists.now)) }
+    ensures fields { OnOk result (AllByRecursion (AreWithin 128) lists.now) }
+{
+    push_row(b"PRICES", &[lists.len() as u128], out)?;
+    let mut number: usize = 0;
+    while let Some(list) = lists.get(number) {
+        push_list(list, out)?;
+        number += 1;
+    }
+    Ok(())
+}
+
+/// Appends the line of a word and the number of a price list.
+fn push_number_of(
+    word: &[u8],
+    lists: &Lists,
+    prices: &[u128],
+    out: &mut Vec<u8>,
+) -> Result<(), AllocError>
+    ensures { Appends result out.old.items out.new.items
+        (line_text (whole (row word.now (number_in lists.now prices.now ∷ [])))) }
+{
+    push_row(word, &[lists.number_of(prices) as u128], out)
+}
+
 /// Appends the line of a leaf.
 #[tactic(auto, unfolding(crate::specs::Grammar::leaf_line))]
-fn push_leaf(alloc: Global, evidence: &Evidence, out: &mut Vec<u8>) -> Result<(), AllocError>
-    ensures text { Appends result out.old.items out.new.items (line_text (whole (leaf_line evidence.now))) }
-    ensures fields { OnOk result (HasLeafFields evidence.now) }
+fn push_leaf(
+    alloc: Global,
+    lists: &Lists,
+    evidence: &Evidence,
+    out: &mut Vec<u8>,
+) -> Result<(), AllocError>
+    ensures text { Appends result out.old.items out.new.items (line_text (whole (leaf_line (numbered lists.now evidence.now)))) }
+    ensures fields { OnOk result (HasOtherFields evidence.now) }
 {
     match evidence {
-        Evidence::Bound(prices) => push_row(b"PRICED", prices.as_slice(), out),
+        Evidence::Bound(prices) => push_number_of(b"PRICED", lists, prices.as_slice(), out),
         Evidence::Routed => push_fixed(b"ROUTED", out),
         Evidence::Overfull { link } => push_number_row(b"OVERFULL", link.0, out),
         Evidence::Cut { demand, reached } => push_cut(alloc, demand.0, reached.as_slice(), out),
-        Evidence::Crowd(prices) => push_row(b"CROWD", prices.as_slice(), out),
-        Evidence::Open(prices) => push_row(b"OPEN", prices.as_slice(), out),
+        Evidence::Crowd(prices) => push_number_of(b"CROWD", lists, prices.as_slice(), out),
+        Evidence::Open(prices) => push_number_of(b"OPEN", lists, prices.as_slice(), out),
     }
 }
 
@@ -314,9 +379,14 @@ fn push_split(
 
 /// Appends the line of a record.
 #[tactic(auto, unfolding(crate::specs::Grammar::record_line))]
-fn push_record(alloc: Global, node: &TreeNode, out: &mut Vec<u8>) -> Result<(), AllocError>
-    ensures text { Appends result out.old.items out.new.items (line_text (whole (record_line node.now))) }
-    ensures fields { OnOk result (HasRecordFields node.now) }
+fn push_record(
+    alloc: Global,
+    lists: &Lists,
+    node: &TreeNode,
+    out: &mut Vec<u8>,
+) -> Result<(), AllocError>
+    ensures text { Appends result out.old.items out.new.items (line_text (whole (record_line (shown Second lists.now node.now)))) }
+    ensures fields { OnOk result (HasFieldsBesides node.now) }
 {
     match node {
         TreeNode::Split {
@@ -331,34 +401,54 @@ fn push_record(alloc: Global, node: &TreeNode, out: &mut Vec<u8>) -> Result<(), 
             right.as_slice(),
             out,
         ),
-        TreeNode::Leaf(evidence) => push_leaf(alloc, evidence, out),
+        TreeNode::Leaf(evidence) => push_leaf(alloc, lists, evidence, out),
     }
 }
 
 /// Appends the lines of the records.
 #[tactic(auto, using(crate::proofs::WrittenPieces::lines_more, crate::proofs::FieldsSoFar::fields_more))]
-fn push_records(alloc: Global, nodes: &[TreeNode], out: &mut Vec<u8>) -> Result<(), AllocError>
-    ensures text { Appends result out.old.items out.new.items (lines_text (map record_line nodes.now)) }
-    ensures fields { OnOk result (AllByRecursion HasRecordFields nodes.now) }
+fn push_records(
+    alloc: Global,
+    lists: &Lists,
+    nodes: &[TreeNode],
+    out: &mut Vec<u8>,
+) -> Result<(), AllocError>
+    ensures text { Appends result out.old.items out.new.items (lines_text (map (λ node. record_line (shown Second lists.now node)) nodes.now)) }
+    ensures fields { OnOk result (AllByRecursion HasFieldsBesides nodes.now) }
 {
     for node in nodes {
-        push_record(alloc, node, out)?;
+        push_record(alloc, lists, node, out)?;
     }
     Ok(())
 }
 
-/// Writes the one text of a plan.
+/// Appends the price lists of a tree, and the tree.
+#[tactic(auto, using(crate::proofs::WrittenPieces::tree_pieces, crate::proofs::ListFields::all_fields))]
+fn push_tree(alloc: Global, nodes: &[TreeNode], out: &mut Vec<u8>) -> Result<(), AllocError>
+    ensures text { Appends result out.old.items out.new.items (lines_text (written_tree nodes.now)) }
+    ensures fields { OnOk result (AllByRecursion HasRecordFields nodes.now) }
+{
+    let lists = lists_of(alloc, nodes)?;
+    push_lists(&lists, out)?;
+    push_row(b"TREE", &[nodes.len() as u128], out)?;
+    push_records(alloc, &lists, nodes, out)
+}
+
+/// Writes the text of a plan, in the second version.
 ///
 /// - Takes: a plan whose `fits` holds.
 /// - Gives: the lines of the plan, each with its line end; `read_plan` answers this plan for them.
 /// - Errors: want of memory alone.
 /// - Rule: docs/FORMATS.md, "Plan texts".
-/// - Time: linear in the text.
+/// - Time: linear in the text and in the prices of the plan.
+#[tactic(auto, using(crate::proofs::TextBound::text_within))]
 pub fn write_plan(alloc: Global, plan: &Plan) -> Result<Vec<u8>, AllocError>
     requires fits { IsSpellable plan.now }
-    ensures text { IfOk result (λ text. text.items ≡ plan_text plan.now) }
+    ensures text { IfOk result (λ text. text.items ≡ plan_text Second plan.now) }
     // It spells the plan.
     ensures spelt { IfOk result (λ text. SpellsPlan text.items plan.now) }
+    // It is within the limit.
+    ensures within { IfOk result (λ text. length text.items ≤ MAX_PLAN_BYTES) }
 {
     whole_text(alloc, plan)
 }
@@ -367,16 +457,14 @@ pub fn write_plan(alloc: Global, plan: &Plan) -> Result<Vec<u8>, AllocError>
 #[tactic(auto, using(crate::proofs::WrittenPieces::plan_pieces))]
 fn whole_text(alloc: Global, plan: &Plan) -> Result<Vec<u8>, AllocError>
     requires fits { IsSpellable plan.now }
-    ensures text { IfOk result (λ text. text.items ≡ plan_text plan.now) }
+    ensures text { IfOk result (λ text. text.items ≡ plan_text Second plan.now) }
     ensures fields { IfOk result (λ text. HasFields plan.now) }
 {
     let mut out = Vec::new(alloc);
-    let nodes = plan.tree.nodes();
     push_head(plan, &mut out)?;
     push_design_lines(alloc, plan, &mut out)?;
     push_bound(plan, &mut out)?;
-    push_row(b"TREE", &[nodes.len() as u128], &mut out)?;
-    push_records(alloc, nodes, &mut out)?;
+    push_tree(alloc, plan.tree.nodes(), &mut out)?;
     push_fixed(b"END", &mut out)?;
     Ok(out)
 }

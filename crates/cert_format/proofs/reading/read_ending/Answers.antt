@@ -1,17 +1,16 @@
-use Rattle.std.proofs.Common.{rules, ◌≡◌, ◌<◌, length}
+use Rattle.std.proofs.Common.{rules}
 use Rattle.cert_format.specs.Lines.{lines_of}
+use Rattle.cert_format.specs.Bodies.{fixed_of}
+use Rattle.cert_format.specs.Grammar.{end_line}
+use Rattle.cert_format.specs.Reading.{one, last_line, ending}
 use Rattle.cert_format.specs.Answers.{drafted}
-use Rattle.cert_format.proofs.Accepting.{ending_read, ending_refused}
+use Rattle.cert_format.proofs.Accepting.{ending_whole, ending_stop, reads_same}
 use Rattle.cert_format.proofs.reading.read_ending.Goals as goal
 
--- src/reading.rt:353:1
-pub returns-then-is_empty : goal.returns-then-is_empty
-returns-then-is_empty c =
-    let none : 0 ≡ length c.in_ok-rest.rest.now = search rules in
-    ending_read (drafted c.args.draft) c.in-Some.plan (lines_of c.args.text.now) c.in_ok-rest.rest.now c.in_ok-rest.field-0-0 c.in-Some.ensures c.in_ok-rest.ensures none
+pub returns-in-Some : goal.returns-in-Some
+returns-in-Some c =
+    let ls = lines_of c.args.text.now in
+    reads_same c.read_end.result (last_line c.in-Some.plan (one (fixed_of end_line) ls)) (ending (drafted c.args.draft, ls)) (ending_whole (drafted c.args.draft) c.in-Some.plan ls c.in-Some.ensures) c.read_end.ensures
 
--- src/reading.rt:353:1
-pub returns-else-is_empty : goal.returns-else-is_empty
-returns-else-is_empty c =
-    let some : 0 < length c.in_ok-rest.rest.now = search rules in
-    ending_refused (drafted c.args.draft) c.in-Some.plan (lines_of c.args.text.now) c.in_ok-rest.rest.now c.in_ok-rest.field-0-0 c.in-Some.ensures c.in_ok-rest.ensures some
+pub returns-in-None : goal.returns-in-None
+returns-in-None c = ending_stop (drafted c.args.draft) c.args.text.now c.in-None.ensures

@@ -1,9 +1,11 @@
 use Rattle.std.proofs.Common.{◌≡◌, ◌++◌, take, map}
 use Rattle.std.specs.List.{AllByRecursion}
-use Rattle.cert_format.specs.Grammar.{record_line, HasRecordFields}
-use Rattle.cert_format.specs.Written.{lines_text}
+use Rattle.cert_format.specs.declared.form.Form.TheVariants.{Second}
+use Rattle.cert_format.specs.Lists.{shown}
+use Rattle.cert_format.specs.Grammar.{record_line}
+use Rattle.cert_format.specs.Written.{lines_text, HasFieldsBesides}
 use Rattle.cert_format.proofs.writing.push_records.Given as goal
 
 abbrev pub invariant-loop-node : goal.invariant-loop-node
-invariant-loop-node l = (l.out.items ≡ l.fn.out.items ++ lines_text (map record_line (take l.node-index l.nodes)))
-    × AllByRecursion HasRecordFields (take l.node-index l.nodes)
+invariant-loop-node l = (l.out.items ≡ l.fn.out.items ++ lines_text (map (λ node. record_line (shown Second l.lists node)) (take l.node-index l.nodes)))
+    × AllByRecursion HasFieldsBesides (take l.node-index l.nodes)

@@ -1,0 +1,140 @@
+-- Records with numbers of price lists, read and shown.
+use Rattle.std.proofs.Common.{◌≡◌, ℕ, zero, suc, ◌+◌, ◌^◌, ◌<◌, ◌≤◌, nat_le, Bool, true, false, cond, List, [], ◌∷◌, length, Option, Some, None, refl, sym, ap, subst, ◌∙◌, arith}
+use Rattle.std.specs.Prelude.{IfSome, slice_get}
+use Rattle.std.specs.Option.{option_map}
+use Rattle.std.specs.List.{AllByRecursion}
+use Rattle.std.proofs.lemmas.Bool.{leb-true, le-leb}
+use Rattle.plan_base.specs.declared.limits.TheConstants.{MAX_NODES}
+use Rattle.proof_tree.specs.declared.tree.Evidence.{Evidence}
+use Rattle.proof_tree.specs.declared.tree.Evidence.TheVariants.{Bound, Routed, Overfull, Cut, Crowd, Open}
+use Rattle.proof_tree.specs.declared.tree.TreeNode.{TreeNode}
+use Rattle.proof_tree.specs.declared.tree.TreeNode.TheVariants.{Split, Leaf}
+use Rattle.proof_tree.specs.Spellings.{FitsEvidence, FitsRecord}
+use Rattle.cert_format.specs.declared.limits.TheConstants.{MAX_LISTS}
+use Rattle.cert_format.specs.declared.form.Form.{Form}
+use Rattle.cert_format.specs.declared.form.Form.TheVariants.{First, Second}
+use Rattle.cert_format.specs.Lists.{number_in, prices_in, prices_at, numbered, shown, width, named_behind, IsNext, Names, AreNamed, AreNew, listed, priced, resolved}
+use Rattle.cert_format.specs.Words.{◌>>=◌}
+use Rattle.cert_format.specs.Grammar.{record_line, HasLeafFields, HasRecordFields}
+use Rattle.cert_format.specs.Bodies.{record_of, record_in}
+use Rattle.cert_format.proofs.NumberWords.{then-some, map-some}
+use Rattle.cert_format.proofs.BodyLaws.{AreSmall}
+use Rattle.cert_format.proofs.RecordLaws.{when_some, IsRecordLine, record_takes, record_again}
+use Rattle.cert_format.proofs.ListLaws.{list_numbered, number_at, list_good, AreGood}
+
+within-at : (lists : List (List ℕ)) (n : ℕ) (list : List ℕ) → slice_get lists n ≡ Some list → n < length lists
+within-at [] n list e = absurd cc
+within-at (x ∷ lists) zero list e = omega arith
+within-at (x ∷ lists) (suc n) list e = omega (arith, within-at lists n list e)
+
+-- the prices that numbers stand for
+record AreListedPrices (w : ℕ) (lists : List (List ℕ)) (named : ℕ) (ns ps : List ℕ) : Type 0 where
+  numbers : ns ≡ number_in lists ps ∷ []
+  next : IsNext lists named ps
+  count : length ps ≡ w
+  small : AreSmall ps
+
+listed-takes : (w : ℕ) (lists : List (List ℕ)) (named : ℕ) (ns ps : List ℕ) → AreNew w [] lists → listed lists named ns ≡ Some ps → AreListedPrices w lists named ns ps
+listed-takes w lists named [] ps new e = absurd cc
+listed-takes w lists named (n ∷ m ∷ ns) ps new e = absurd cc
+listed-takes w lists named (n ∷ []) ps new e =
+    let (test, there) = when_some (nat_le n named) (slice_get lists n) ps e in
+    let number : number_in lists ps ≡ 0 + n = number_at w [] lists n ps new there in
+    let same : number_in lists ps ≡ n = omega (arith, number) in
+    let good = list_good w [] lists n ps new there in
+    record {
+      numbers = ap (λ k. k ∷ []) (sym same);
+      next = record { listed = omega (arith, same, within-at lists n ps there); in_order = omega (arith, same, leb-true n named test) };
+      count = good.0;
+      small = good.1;
+    }
+
+listed-again : (lists : List (List ℕ)) (named : ℕ) (ps : List ℕ) → IsNext lists named ps → listed lists named (number_in lists ps ∷ []) ≡ Some ps
+listed-again lists named ps next =
+    ap (λ t. cond t (slice_get lists (number_in lists ps)) None) (le-leb (number_in lists ps) named next.in_order) ∙ list_numbered lists ps next.listed
+
+-- a record, and what stands for it
+pub record IsShownAs (form : Form) (lists : List (List ℕ)) (named nodes places : ℕ) (node raw : TreeNode) : Type 0 where
+  pub fits : FitsRecord nodes places node
+  pub fields : HasRecordFields node
+  pub names : Names form lists named node
+  pub is_shown : raw ≡ shown form lists node
+
+leaf-takes : (lists : List (List ℕ)) (named nodes places : ℕ) (raw e : Evidence) → AreNew places [] lists → priced lists named raw ≡ Some e → FitsEvidence nodes 1 raw → HasLeafFields raw → IsShownAs Second lists named nodes places (Leaf e) (Leaf raw)
+leaf-takes lists named nodes places (Bound ns) e new h fits fields =
+    let (ps, found, is) = map-some (listed lists named ns) (λ prices. Bound prices) e h in
+    let p = listed-takes places lists named ns ps new found in
+    subst (λ (x : Evidence). IsShownAs Second lists named nodes places (Leaf x) (Leaf (Bound ns))) is (record { fits = p.count; fields = p.small; names = p.next; is_shown = ap (λ ks. Leaf (Bound ks)) p.numbers })
+leaf-takes lists named nodes places Routed e new h fits fields = (let is : Routed ≡ e = cc in subst (λ (x : Evidence). IsShownAs Second lists named nodes places (Leaf x) (Leaf Routed)) is (record { fits = tt; fields = tt; names = tt; is_shown = refl }))
+leaf-takes lists named nodes places (Overfull link) e new h fits fields = (let is : Overfull link ≡ e = cc in subst (λ (x : Evidence). IsShownAs Second lists named nodes places (Leaf x) (Leaf (Overfull link))) is (record { fits = tt; fields = fields; names = tt; is_shown = refl }))
+leaf-takes lists named nodes places (Cut demand reached) e new h fits fields = (let is : Cut demand reached ≡ e = cc in subst (λ (x : Evidence). IsShownAs Second lists named nodes places (Leaf x) (Leaf (Cut demand reached))) is (record { fits = fits; fields = fields; names = tt; is_shown = refl }))
+leaf-takes lists named nodes places (Crowd ns) e new h fits fields =
+    let (ps, found, is) = map-some (listed lists named ns) (λ prices. Crowd prices) e h in
+    let p = listed-takes places lists named ns ps new found in
+    subst (λ (x : Evidence). IsShownAs Second lists named nodes places (Leaf x) (Leaf (Crowd ns))) is (record { fits = p.count; fields = p.small; names = p.next; is_shown = ap (λ ks. Leaf (Crowd ks)) p.numbers })
+leaf-takes lists named nodes places (Open ns) e new h fits fields =
+    let (ps, found, is) = map-some (listed lists named ns) (λ prices. Open prices) e h in
+    let p = listed-takes places lists named ns ps new found in
+    subst (λ (x : Evidence). IsShownAs Second lists named nodes places (Leaf x) (Leaf (Open ns))) is (record { fits = p.count; fields = p.small; names = p.next; is_shown = ap (λ ks. Leaf (Open ks)) p.numbers })
+
+shown-takes : (form : Form) (lists : List (List ℕ)) (named nodes places : ℕ) (raw node : TreeNode) → AreGood form places lists → resolved form lists named raw ≡ Some node → FitsRecord nodes (width form places) raw → HasRecordFields raw → IsShownAs form lists named nodes places node raw
+unfolding resolved
+shown-takes First lists named nodes places raw node good e fits fields =
+    let is : raw ≡ node = cc in
+    subst (λ (x : TreeNode). IsShownAs First lists named nodes places x raw) is (record { fits = fits; fields = fields; names = tt; is_shown = refl })
+shown-takes Second lists named nodes places (Split demand at left right) node good e fits fields =
+    let is : Split demand at left right ≡ node = cc in
+    subst (λ (x : TreeNode). IsShownAs Second lists named nodes places x (Split demand at left right)) is (record { fits = fits; fields = fields; names = tt; is_shown = refl })
+shown-takes Second lists named nodes places (Leaf raw) node good e fits fields =
+    let (found, first, is) = map-some (priced lists named raw) (λ (x : Evidence). Leaf x) node e in
+    subst (λ (x : TreeNode). IsShownAs Second lists named nodes places x (Leaf raw)) is (leaf-takes lists named nodes places raw found good.1 first fits fields)
+
+-- the line of a record in a text of this version
+pub record IsLineOf (form : Form) (lists : List (List ℕ)) (named nodes places : ℕ) (node : TreeNode) (body : List ℕ) : Type 0 where
+  pub fits : FitsRecord nodes places node
+  pub fields : HasRecordFields node
+  pub names : Names form lists named node
+  pub line : body ≡ record_line (shown form lists node)
+
+pub record_in_takes : (form : Form) (lists : List (List ℕ)) (named nodes places : ℕ) (body : List ℕ) (node : TreeNode) → AreGood form places lists → record_in form lists named nodes places body ≡ Some node → IsLineOf form lists named nodes places node body
+unfolding record_in
+record_in_takes form lists named nodes places body node good e =
+    let (raw, first, later) = then-some (record_of nodes (width form places) body) (resolved form lists named) node e in
+    let r = record_takes nodes (width form places) body raw first in
+    let s = shown-takes form lists named nodes places raw node good later r.fits r.fields in
+    record { fits = s.fits; fields = s.fields; names = s.names; line = r.line ∙ ap record_line s.is_shown }
+
+-- what stands for a record can stand in a line, and is read as the record
+pub record IsShownWell (form : Form) (lists : List (List ℕ)) (named nodes places : ℕ) (node : TreeNode) : Type 0 where
+  pub fits : FitsRecord nodes (width form places) (shown form lists node)
+  pub fields : HasRecordFields (shown form lists node)
+  pub is_read : resolved form lists named (shown form lists node) ≡ Some node
+
+number-small : (lists : List (List ℕ)) (named : ℕ) (ps : List ℕ) → length lists ≤ MAX_LISTS → IsNext lists named ps → AreSmall (number_in lists ps ∷ [])
+number-small lists named ps few next = (omega (arith, few, next.listed), tt)
+
+pub shown_well : (form : Form) (lists : List (List ℕ)) (named nodes places : ℕ) (node : TreeNode) → AreGood form places lists → FitsRecord nodes places node → HasRecordFields node → Names form lists named node → IsShownWell form lists named nodes places node
+unfolding resolved
+shown_well First lists named nodes places node good fits fields names = record { fits = fits; fields = fields; is_read = refl }
+shown_well Second lists named nodes places (Split demand at left right) good fits fields names = record { fits = fits; fields = fields; is_read = refl }
+shown_well Second lists named nodes places (Leaf (Bound ps)) good fits fields names = record { fits = refl; fields = number-small lists named ps good.0 names; is_read = ap (λ o. option_map (λ (x : Evidence). Leaf x) (option_map (λ prices. Bound prices) o)) (listed-again lists named ps names) }
+shown_well Second lists named nodes places (Leaf Routed) good fits fields names = record { fits = tt; fields = tt; is_read = refl }
+shown_well Second lists named nodes places (Leaf (Overfull link)) good fits fields names = record { fits = tt; fields = fields; is_read = refl }
+shown_well Second lists named nodes places (Leaf (Cut demand reached)) good fits fields names = record { fits = fits; fields = fields; is_read = refl }
+shown_well Second lists named nodes places (Leaf (Crowd ps)) good fits fields names = record { fits = refl; fields = number-small lists named ps good.0 names; is_read = ap (λ o. option_map (λ (x : Evidence). Leaf x) (option_map (λ prices. Crowd prices) o)) (listed-again lists named ps names) }
+shown_well Second lists named nodes places (Leaf (Open ps)) good fits fields names = record { fits = refl; fields = number-small lists named ps good.0 names; is_read = ap (λ o. option_map (λ (x : Evidence). Leaf x) (option_map (λ prices. Open prices) o)) (listed-again lists named ps names) }
+
+pub record_in_again : (form : Form) (lists : List (List ℕ)) (named nodes places : ℕ) (node : TreeNode) → nodes ≤ MAX_NODES → AreGood form places lists → FitsRecord nodes places node → HasRecordFields node → Names form lists named node
+    → record_in form lists named nodes places (record_line (shown form lists node)) ≡ Some node
+unfolding record_in
+record_in_again form lists named nodes places node few good fits fields names =
+    let w = shown_well form lists named nodes places node good fits fields names in
+    ap (λ o. o >>= resolved form lists named) (record_again nodes (width form places) (shown form lists node) few w.fits w.fields) ∙ w.is_read
+
+pub shown_all : (form : Form) (lists : List (List ℕ)) (named nodes places : ℕ) (ns : List TreeNode) → AreGood form places lists → AllByRecursion (λ node. FitsRecord nodes places node × HasRecordFields node) ns → AreNamed form lists named ns
+    → AllByRecursion (λ node. FitsRecord nodes (width form places) (shown form lists node) × HasRecordFields (shown form lists node)) ns
+unfolding AreNamed
+shown_all form lists named nodes places [] good h k = tt
+shown_all form lists named nodes places (n ∷ ns) good h k =
+    let w = shown_well form lists named nodes places n good h.0.0 h.0.1 k.0 in
+    ((w.fits, w.fields), shown_all form lists (named_behind form lists named n) nodes places ns good h.1 k.1)

@@ -1,0 +1,147 @@
+-- Price lists of a plan text: the lists of a tree, their numbers, and records that name lists by number.
+use Rattle.std.specs.Prelude.{ℕ, suc, ◌≡◌, ◌<◌, ◌≤◌, ◌^◌, nat_le, nat_eq, Bool, false, if◌then◌else◌, List, [], ◌∷◌, ◌++◌, length, ⊤, Option, Some, None, IfSome, slice_get, position}
+use Rattle.std.specs.List.{list_any, position_or_len, AllByRecursion}
+use Rattle.std.specs.Option.{option_map}
+use Rattle.std.specs.Cmp.Lexicographic.{pointwise}
+use Rattle.proof_tree.specs.declared.tree.Evidence.{Evidence}
+use Rattle.proof_tree.specs.declared.tree.Evidence.TheVariants.{Bound, Routed, Overfull, Cut, Crowd, Open}
+use Rattle.proof_tree.specs.declared.tree.TreeNode.{TreeNode}
+use Rattle.proof_tree.specs.declared.tree.TreeNode.TheVariants.{Split, Leaf}
+use Rattle.cert_format.specs.declared.form.Form.{Form}
+use Rattle.cert_format.specs.declared.form.Form.TheVariants.{First, Second}
+
+-- it is one of these lists
+abbrev pub is_among : List (List ℕ) → List ℕ → Bool
+is_among lists prices = list_any (λ list. pointwise nat_eq prices list) lists
+
+-- its number among these lists, from 0 on, or their count where it is none of them
+abbrev pub number_in : List (List ℕ) → List ℕ → ℕ
+number_in lists prices = position_or_len (λ list. pointwise nat_eq prices list) lists
+
+-- its number among these lists, where it is one of them
+unfoldable pub place_in : List (List ℕ) → List ℕ → Option ℕ
+place_in lists prices = position (λ list. pointwise nat_eq prices list) lists
+
+-- the lists with one more, where it is none of them
+abbrev pub with_list : List (List ℕ) → List ℕ → List (List ℕ)
+with_list lists prices = if is_among lists prices then lists else lists ++ prices ∷ []
+
+-- ---- the lists of a tree
+
+-- the prices of a leaf that is closed or open by prices
+abbrev pub prices_in : Evidence → Option (List ℕ)
+prices_in (Bound prices) = Some prices
+prices_in Routed = None
+prices_in (Overfull link) = None
+prices_in (Cut demand reached) = None
+prices_in (Crowd prices) = Some prices
+prices_in (Open prices) = Some prices
+
+-- the prices of a record
+abbrev pub prices_at : TreeNode → Option (List ℕ)
+prices_at (Split demand at left right) = None
+prices_at (Leaf evidence) = prices_in evidence
+
+-- the lists with these prices, where there are some
+abbrev pub with_some : List (List ℕ) → Option (List ℕ) → List (List ℕ)
+with_some lists None = lists
+with_some lists (Some prices) = with_list lists prices
+
+-- the lists with those of records
+unfoldable pub gathered : List (List ℕ) → List TreeNode → List (List ℕ)
+gathered lists [] = lists
+gathered lists (node ∷ nodes) = gathered (with_some lists (prices_at node)) nodes
+
+-- the price lists of a tree, each once, in preorder of their first use
+abbrev pub lists_of : List TreeNode → List (List ℕ)
+lists_of nodes = gathered [] nodes
+
+-- the price lists that a text of this version tells apart from the records
+abbrev pub lists_in : Form → List TreeNode → List (List ℕ)
+lists_in First nodes = []
+lists_in Second nodes = lists_of nodes
+
+-- ---- records with numbers of lists
+
+-- the leaf with the number of its list in place of the prices
+abbrev pub numbered : List (List ℕ) → Evidence → Evidence
+numbered lists (Bound prices) = Bound (number_in lists prices ∷ [])
+numbered lists Routed = Routed
+numbered lists (Overfull link) = Overfull link
+numbered lists (Cut demand reached) = Cut demand reached
+numbered lists (Crowd prices) = Crowd (number_in lists prices ∷ [])
+numbered lists (Open prices) = Open (number_in lists prices ∷ [])
+
+-- the record as its line shows it: with its prices, or with the number of their list
+abbrev pub shown : Form → List (List ℕ) → TreeNode → TreeNode
+shown First lists node = node
+shown Second lists (Split demand at left right) = Split demand at left right
+shown Second lists (Leaf evidence) = Leaf (numbered lists evidence)
+
+-- how many numbers stand for the prices of a record
+abbrev pub width : Form → ℕ → ℕ
+width First places = places
+width Second places = 1
+
+-- there is a list, and it is this one
+abbrev pub is_list : List ℕ → Option (List ℕ) → Bool
+is_list prices None = false
+is_list prices (Some list) = pointwise nat_eq prices list
+
+-- how many lists are named where so many were named before, and then this one is
+abbrev pub named_by : List (List ℕ) → ℕ → Option (List ℕ) → ℕ
+named_by lists named None = named
+named_by lists named (Some prices) = if is_list prices (slice_get lists named) then suc named else named
+
+-- how many lists are named behind a record, where so many were named before it
+abbrev pub named_behind : Form → List (List ℕ) → ℕ → TreeNode → ℕ
+named_behind First lists named node = named
+named_behind Second lists named node = named_by lists named (prices_at node)
+
+-- how many lists are named behind records, where so many were named before them
+unfoldable pub named_from : Form → List (List ℕ) → ℕ → List TreeNode → ℕ
+named_from form lists named [] = named
+named_from form lists named (node ∷ nodes) = named_from form lists (named_behind form lists named node) nodes
+
+-- the prices are a list that is named already, or the next one
+pub record IsNext (lists : List (List ℕ)) (named : ℕ) (prices : List ℕ) : Type 0 where
+  pub listed : number_in lists prices < length lists
+  pub in_order : number_in lists prices ≤ named
+
+-- the record can stand where so many lists are named before it
+abbrev pub Names : Form → List (List ℕ) → ℕ → TreeNode → Type 0
+Names First lists named node = ⊤
+Names Second lists named node = IfSome (prices_at node) (IsNext lists named)
+
+-- each record names a list that is named already, or the next one, where so many are named before them
+unfoldable pub AreNamed : Form → List (List ℕ) → ℕ → List TreeNode → Type 0
+AreNamed form lists named [] = ⊤
+AreNamed form lists named (node ∷ nodes) = Names form lists named node × AreNamed form lists (named_behind form lists named node) nodes
+
+-- lists of so many numbers below 2^128, each different from those before it
+unfoldable pub AreNew : ℕ → List (List ℕ) → List (List ℕ) → Type 0
+AreNew places before [] = ⊤
+AreNew places before (list ∷ lists) = (length list ≡ places) × AllByRecursion (λ n. n < 2 ^ 128) list × (is_among before list ≡ false) × AreNew places (before ++ list ∷ []) lists
+
+-- ---- reading them
+
+-- the list of this number, where it is one of the lists and no list before it is left out
+abbrev pub listed : List (List ℕ) → ℕ → List ℕ → Option (List ℕ)
+listed lists named [] = None
+listed lists named (n ∷ []) = if nat_le n named then slice_get lists n else None
+listed lists named (n ∷ m ∷ ns) = None
+
+-- the leaf with the prices that these numbers stand for
+abbrev pub priced : List (List ℕ) → ℕ → Evidence → Option Evidence
+priced lists named (Bound ns) = option_map (λ prices. Bound prices) (listed lists named ns)
+priced lists named Routed = Some Routed
+priced lists named (Overfull link) = Some (Overfull link)
+priced lists named (Cut demand reached) = Some (Cut demand reached)
+priced lists named (Crowd ns) = option_map (λ prices. Crowd prices) (listed lists named ns)
+priced lists named (Open ns) = option_map (λ prices. Open prices) (listed lists named ns)
+
+-- the record that is shown so
+unfoldable pub resolved : Form → List (List ℕ) → ℕ → TreeNode → Option TreeNode
+resolved First lists named node = Some node
+resolved Second lists named (Split demand at left right) = Some (Split demand at left right)
+resolved Second lists named (Leaf evidence) = option_map (λ found. Leaf found) (priced lists named evidence)
