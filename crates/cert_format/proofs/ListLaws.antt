@@ -1,5 +1,5 @@
 -- Price lists, their numbers, and the lists of a tree.
-use Rattle.std.proofs.Common.{◌≡◌, ℕ, zero, suc, ◌+◌, ◌*◌, ◌^◌, ◌<◌, ◌≤◌, ◌||◌, nat_eq, nat_lt, inl, inr, Bool, true, false, true≢false, cond, not, List, [], ◌∷◌, ◌++◌, length, take, Option, Some, None, refl, sym, ap, subst, ◌∙◌, append_assoc, length-append, arith}
+use Rattle.std.proofs.Common.{◌≡◌, ℕ, zero, suc, ◌+◌, ◌*◌, ◌<◌, ◌≤◌, ◌||◌, nat_eq, nat_lt, inl, inr, Bool, true, false, true≢false, cond, not, List, [], ◌∷◌, ◌++◌, length, take, Option, Some, None, refl, sym, ap, subst, ◌∙◌, append_assoc, length-append, arith}
 use Rattle.std.specs.Prelude.{⊤, IfSome, IsTrue, slice_get}
 use Rattle.std.specs.List.{AllByRecursion}
 use Rattle.std.specs.Cmp.Lexicographic.{pointwise}
@@ -7,7 +7,6 @@ use Rattle.std.proofs.lemmas.Bool.{cases_Bool, ltb-true, ltb-false}
 use Rattle.std.proofs.lemmas.List.{append-nil, take_all}
 use Rattle.std.proofs.lemmas.Slice.Eq.{bytes_eq-Decides}
 use Rattle.proof_tree.specs.declared.limits.TheConstants.{MAX_RECORDS}
-use Rattle.proof_tree.specs.declared.tree.Evidence.{Evidence}
 use Rattle.proof_tree.specs.declared.tree.Evidence.TheVariants.{Bound, Routed, Overfull, Cut, Crowd, Open}
 use Rattle.proof_tree.specs.declared.tree.TreeNode.{TreeNode}
 use Rattle.proof_tree.specs.declared.tree.TreeNode.TheVariants.{Split, Leaf}
@@ -16,7 +15,7 @@ use Rattle.proof_tree.specs.Spellings.{FitsRecord}
 use Rattle.cert_format.specs.declared.limits.TheConstants.{MAX_LISTS}
 use Rattle.cert_format.specs.declared.form.Form.{Form}
 use Rattle.cert_format.specs.declared.form.Form.TheVariants.{First, Second}
-use Rattle.cert_format.specs.Lists.{is_among, number_in, with_list, prices_at, with_some, gathered, lists_of, lists_in, is_list, named_by, named_behind, named_from, IsNext, Names, AreNamed, AreNew}
+use Rattle.cert_format.specs.Lists.{is_among, number_in, with_list, prices_at, with_some, gathered, lists_of, lists_in, is_list, named_by, named_behind, named_from, IsNext, AreNamed, AreNew}
 use Rattle.cert_format.specs.Grammar.{HasRecordFields}
 use Rattle.cert_format.specs.Drafts.{AreListed}
 use Rattle.cert_format.proofs.BodyLaws.{AreSmall}

@@ -1,6 +1,6 @@
 -- Records with numbers of price lists, read and shown.
-use Rattle.std.proofs.Common.{◌≡◌, ℕ, zero, suc, ◌+◌, ◌^◌, ◌<◌, ◌≤◌, nat_le, Bool, true, false, cond, List, [], ◌∷◌, length, Option, Some, None, refl, sym, ap, subst, ◌∙◌, arith}
-use Rattle.std.specs.Prelude.{IfSome, slice_get}
+use Rattle.std.proofs.Common.{◌≡◌, ℕ, zero, suc, ◌+◌, ◌<◌, ◌≤◌, nat_le, cond, List, [], ◌∷◌, length, Some, None, refl, sym, ap, subst, ◌∙◌, arith}
+use Rattle.std.specs.Prelude.{slice_get}
 use Rattle.std.specs.Option.{option_map}
 use Rattle.std.specs.List.{AllByRecursion}
 use Rattle.std.proofs.lemmas.Bool.{leb-true, le-leb}
@@ -13,13 +13,13 @@ use Rattle.proof_tree.specs.Spellings.{FitsEvidence, FitsRecord}
 use Rattle.cert_format.specs.declared.limits.TheConstants.{MAX_LISTS}
 use Rattle.cert_format.specs.declared.form.Form.{Form}
 use Rattle.cert_format.specs.declared.form.Form.TheVariants.{First, Second}
-use Rattle.cert_format.specs.Lists.{number_in, prices_in, prices_at, numbered, shown, width, named_behind, IsNext, Names, AreNamed, AreNew, listed, priced, resolved}
+use Rattle.cert_format.specs.Lists.{number_in, shown, width, named_behind, IsNext, Names, AreNamed, AreNew, listed, priced, resolved}
 use Rattle.cert_format.specs.Words.{◌>>=◌}
 use Rattle.cert_format.specs.Grammar.{record_line, HasLeafFields, HasRecordFields}
 use Rattle.cert_format.specs.Bodies.{record_of, record_in}
 use Rattle.cert_format.proofs.NumberWords.{then-some, map-some}
 use Rattle.cert_format.proofs.BodyLaws.{AreSmall}
-use Rattle.cert_format.proofs.RecordLaws.{when_some, IsRecordLine, record_takes, record_again}
+use Rattle.cert_format.proofs.RecordLaws.{when_some, record_takes, record_again}
 use Rattle.cert_format.proofs.ListLaws.{list_numbered, number_at, list_good, AreGood}
 
 within-at : (lists : List (List ℕ)) (n : ℕ) (list : List ℕ) → slice_get lists n ≡ Some list → n < length lists

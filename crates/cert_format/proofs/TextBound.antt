@@ -1,6 +1,6 @@
 -- The text of a plan is within its limit of bytes.
-use Rattle.std.proofs.Common.{◌≡◌, ℕ, zero, suc, ◌+◌, ◌*◌, ◌^◌, ◌/◌, ◌%◌, ◌<◌, ◌≤◌, Bool, true, false, true≢false, List, [], ◌∷◌, ◌++◌, length, map, codes, decimal, Option, Some, None, refl, sym, ap, ◌∙◌, length-append, arith, ℤ, pos, negsuc}
-use Rattle.std.specs.Prelude.{IfSome, IsTrue}
+use Rattle.std.proofs.Common.{◌≡◌, ℕ, suc, ◌+◌, ◌*◌, ◌^◌, ◌/◌, ◌%◌, ◌<◌, ◌≤◌, Bool, true, false, List, [], ◌∷◌, ◌++◌, length, map, codes, decimal, Option, Some, None, refl, sym, ◌∙◌, length-append, arith, ℤ, pos, negsuc}
+use Rattle.std.specs.Prelude.{IfSome}
 use Rattle.std.specs.List.{AllByRecursion, sum_by}
 use Rattle.std.proofs.lemmas.Fmt.{length-decimal-le_wide}
 use Rattle.std.proofs.lemmas.List.{length-map}
@@ -22,10 +22,10 @@ use Rattle.proof_tree.specs.Shapes.{are_trees}
 use Rattle.proof_tree.specs.Spellings.{places_in, FitsRecord, FitsDesign, IsWrittenSide, IsSpellable}
 use Rattle.cert_format.specs.declared.limits.TheConstants.{MAX_PLAN_BYTES, MAX_LISTS}
 use Rattle.cert_format.specs.declared.form.Form.TheVariants.{Second}
-use Rattle.cert_format.specs.Lines.{whole, line_text, text_of}
+use Rattle.cert_format.specs.Lines.{whole, text_of}
 use Rattle.cert_format.specs.Lists.{lists_of, numbered, shown, AreNew}
 use Rattle.cert_format.specs.Words.{numerals, row}
-use Rattle.cert_format.specs.Grammar.{header_line, both_text, count_line, size_line, status_line, number_line, cost_line, signed_text, bound_line, arc_numbers, counted, path_line, modules_line, members, leaf_line, record_line, design_lines, bound_lines, price_line, price_lines, head_lines, front_lines, tree_lines, end_line, plan_text, AreArcs, HasLeafFields, HasRecordFields, HasDesignFields, IsBoundField, HasFields}
+use Rattle.cert_format.specs.Grammar.{both_text, count_line, status_line, number_line, cost_line, signed_text, arc_numbers, counted, path_line, modules_line, members, leaf_line, record_line, design_lines, bound_lines, price_line, price_lines, head_lines, front_lines, end_line, plan_text, AreArcs, HasLeafFields, HasRecordFields, HasDesignFields, IsBoundField, HasFields}
 use Rattle.cert_format.proofs.BodyLaws.{AreSmall}
 use Rattle.cert_format.proofs.Digits.{grains_scaled}
 use Rattle.cert_format.proofs.RecordLaws.{members_few}

@@ -505,7 +505,7 @@ fn whole_plan(alloc: Global, text: &[u8]) -> Result<Plan, Stop>
 ///   line without its end too; `Ended`, exactly where all lines can stand and a further one must
 ///   follow; `OutOfMemory` may stand in place of any answer.
 /// - Rule: docs/FORMATS.md, "Plan texts".
-/// - Time: linear in the text.
+/// - Time: linear in the text and in the prices of the plan, unless many price lists have one hash.
 #[tactic(auto, using(crate::proofs::OneFault::answers_plan, crate::proofs::OneFault::answers_fault, crate::proofs::OneFault::answers_only_plan, crate::proofs::OneFault::answers_only_fault))]
 pub fn read_plan(alloc: Global, text: &[u8]) -> Result<Plan, PlanFault>
     requires length { length text.now ≤ MAX_PLAN_BYTES }

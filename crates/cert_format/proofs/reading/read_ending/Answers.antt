@@ -1,4 +1,3 @@
-use Rattle.std.proofs.Common.{rules}
 use Rattle.cert_format.specs.Lines.{lines_of}
 use Rattle.cert_format.specs.Bodies.{fixed_of}
 use Rattle.cert_format.specs.Grammar.{end_line}
