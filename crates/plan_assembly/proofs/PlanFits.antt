@@ -1,6 +1,6 @@
 -- The plan of a state can be spelled: its sizes, its sides and its evidence fit.
-use Rattle.std.proofs.Common.{◌≡◌, ℕ, zero, suc, ◌/◌, ◌%◌, ◌<◌, ◌≤◌, ◌⊎◌, inl, inr, Bool, true, false, List, [], ◌∷◌, ◌++◌, length, get_or, Option, Some, None, slice_get, All, refl, sym, ap, subst, ◌∙◌, arith, sum_by}
-use Rattle.std.specs.Prelude.{◌*◌, IfSome, nat_lt, if◌then◌else◌}
+use Rattle.std.proofs.Common.{◌≡◌, ℕ, zero, suc, ◌/◌, ◌%◌, ◌<◌, ◌≤◌, ◌⊎◌, inl, inr, Bool, true, false, List, [], ◌∷◌, ◌++◌, length, get_or, Option, Some, None, slice_get, All, refl, sym, ap, ap₂, subst, ◌∙◌, arith, sum_by}
+use Rattle.std.specs.Prelude.{IfSome, nat_lt}
 use Rattle.std.proofs.lemmas.Bool.{ltb-true, eq-eqb, ne_eqb}
 use Rattle.std.proofs.lemmas.List.{get_or_default}
 use Rattle.std.proofs.lemmas.List.Elements.{All-cons, All-nil, All-append}
@@ -12,7 +12,7 @@ use Rattle.plan_base.specs.declared.parts.Parts.{Parts}
 use Rattle.plan_base.specs.declared.path.Design.{Design}
 use Rattle.plan_base.specs.Facts.{IsInstance}
 use Rattle.plan_base.specs.Arcs.{is_back, link_of, link_at, tail_of, demand_at, no_arc, no_link, no_demand}
-use Rattle.plan_base.specs.Places.{is_two_way, places}
+use Rattle.plan_base.specs.Places.{places}
 use Rattle.plan_base.specs.Paths.{arc_at}
 use Rattle.plan_base.specs.Designs.{path_at, counts_at}
 use Rattle.plan_base.proofs.Bools.{and-first}
@@ -28,7 +28,7 @@ use Rattle.proof_tree.specs.Shapes.{are_trees}
 use Rattle.proof_tree.specs.Splits.{IsSide}
 use Rattle.proof_tree.specs.Trees.{AreValidTrees}
 use Rattle.proof_tree.specs.Plans.{IsStatedDesign}
-use Rattle.proof_tree.specs.Spellings.{IsAscending, IsWrittenSide, FitsRecord, FitsDesign, FitsStatus, IsSpellable}
+use Rattle.proof_tree.specs.Spellings.{IsAscending, IsWrittenSide, places_in, FitsRecord, FitsDesign, FitsStatus, IsSpellable}
 use Rattle.branch_tree.specs.declared.node.Fate.{Fate}
 use Rattle.pool_machine.specs.declared.tree.Incumbent.{Incumbent}
 use Rattle.branch_tree.specs.declared.node.Fate.TheVariants.{Undone, ClosedBy, DividedBy}
@@ -160,11 +160,11 @@ status-fits p plan true held is bound = tt
 status-fits p plan false (Some held) is bound = (rw is refl, rw bound refl)
 status-fits p plan false None is bound = (rw is refl, rw bound refl)
 
-pub plan_spellable : (s : State) (plan : Plan) → IsReachable s → 0 < s.budget → s.budget ≤ MAX_BUDGET → IsPlanOf s plan → is_two_way s.problem.orient ≡ false → IsSpellable plan
-plan_spellable s plan reachable some most is one_way =
+pub plan_spellable : (s : State) (plan : Plan) → IsReachable s → 0 < s.budget → s.budget ≤ MAX_BUDGET → IsPlanOf s plan → IsSpellable plan
+plan_spellable s plan reachable some most is =
     let h = IsReachable-sound s reachable in
     let p = s.problem in
-    let one : places p ≡ length p.links = ap (λ (b : Bool). if b then 2 * length p.links else length p.links) one_way in
+    let count : places p ≡ places_in plan.both plan.links = sym (ap₂ places_in is.both is.links) in
     let whole : are_trees 1 (tree_of s) ≡ true = valid-whole p (cutoff_of s) (none_forbidden ∷ []) (tree_of s) (tree_of-valid s h) in
     let status : HasBoundOf p plan (status_of s) = subst (HasBoundOf p plan) is.status is.bound in
     record {
@@ -174,7 +174,6 @@ plan_spellable s plan reachable some most is one_way =
         demands = (let a = h.lawful.demand_count in let e = is.demands in omega arith);
         some_budget = (let e = is.budget in omega arith);
         budget = (let e = is.budget in omega arith);
-        one_way = is.both ∙ one_way;
       };
       status = subst (λ (st : PlanStatus). FitsStatus st plan.design plan.bound) (sym is.status)
           (status-fits p plan (nat_lt 0 (open_count s)) s.incumbent is.design status);
@@ -184,8 +183,8 @@ plan_spellable s plan reachable some most is one_way =
       whole = ap (are_trees 1) is.tree ∙ whole;
       records = record {
         few = (let size = tree-length s reachable in let most_nodes = IsSound-nodes s h in let e : length plan.tree ≡ length (tree_of s) = ap length is.tree in omega arith);
-        each = subst (All (FitsRecord plan.nodes plan.links)) (sym is.tree)
-            (subst (λ (n : ℕ). All (FitsRecord n plan.links) (tree_of s)) (sym is.nodes)
-            (subst (λ (n : ℕ). All (FitsRecord p.nodes n) (tree_of s)) (one ∙ sym is.links) (records_at-fit s h (length s.nodes) 0)));
+        each = subst (All (FitsRecord plan.nodes (places_in plan.both plan.links))) (sym is.tree)
+            (subst (λ (n : ℕ). All (FitsRecord n (places_in plan.both plan.links)) (tree_of s)) (sym is.nodes)
+            (subst (λ (n : ℕ). All (FitsRecord p.nodes n) (tree_of s)) count (records_at-fit s h (length s.nodes) 0)));
       };
     }

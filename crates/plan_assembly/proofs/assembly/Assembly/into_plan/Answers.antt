@@ -1,4 +1,4 @@
-use Rattle.std.proofs.Common.{◌≡◌, true, false, length, refl, sym, ap, subst, ◌∙◌}
+use Rattle.std.proofs.Common.{◌≡◌, true, length, refl, sym, ap, subst, ◌∙◌}
 use Rattle.plan_base.specs.declared.parts.Parts.{Parts}
 use Rattle.plan_base.specs.Places.{is_two_way}
 use Rattle.proof_tree.specs.declared.plan.Plan.{Plan}
@@ -57,7 +57,7 @@ returns c =
     record {
       plan = subst (λ (x : State). IsPlanOf x plan) c.self.view_is is;
       valid = subst (λ (x : State). IsValidPlan x.problem plan) c.self.view_is (plan_valid s plan reach is (subst (λ (x : State). is_done x ≡ true) (sym c.self.view_is) c.requires.done));
-      fits = λ one_way. plan_spellable s plan reach c.self.invariant.some_budget c.self.invariant.budget is (subst (λ (x : State). is_two_way x.problem.orient ≡ false) (sym c.self.view_is) one_way);
+      fits = plan_spellable s plan reach c.self.invariant.some_budget c.self.invariant.budget is;
       bound = subst (λ (x : State). HasOpeningBound x.problem plan) c.self.view_is (plan_opening s plan reach is);
       splits = subst (λ (x : State). PartsPaths x.problem plan.tree) c.self.view_is (plan_parts s plan reach is);
     }
