@@ -13,8 +13,8 @@ use Rattle.plan_base.specs.Paths.{arc_at}
 use Rattle.least_path.specs.declared.label.Label.{Label}
 use Rattle.least_path.specs.declared.label.Stop.{Stop}
 use Rattle.least_path.specs.declared.limits.TheConstants.{MAX_WEIGHT}
-use Rattle.least_path.specs.Paths.{Weights, weight_at, AreWeights, IsUsable}
-use Rattle.least_path.specs.Labels.{Labels, label_at, is_better, offered, open_one, open_count, IsReached, IsLabel, AreLabels, HasAtMost, IsRelaxed, IsSpread}
+use Rattle.least_path.specs.Paths.{Weights, weight_at, IsUsable}
+use Rattle.least_path.specs.Labels.{Labels, label_at, is_better, offered, open_one, open_count, GoesOn, IsSettledAt, IsReached, IsLabel, AreLabels, HasAtMost, IsRelaxed, IsSpread}
 use Rattle.least_path.proofs.NearestLaws.{decide, lt_or_le, same_or_not, below_cases, some_same}
 
 offered-better : (ls : Labels) (v : ℕ) (l : Label) → is_better l (label_at ls v) ≡ true → offered ls v l ≡ set ls v (Some l)
@@ -55,13 +55,6 @@ open_one-unsettled (Some m) h = rw (h m refl) refl
 pub open_one-settled : (l : Label) → l.settled ≡ true → open_one (Some l) ≡ 0
 open_one-settled l h = rw h refl
 
--- no weight is above the limit
-weight-small : (p : Parts) (ws : Weights) → AreWeights p ws → (a : ArcId) → weight_at ws a ≤ MAX_WEIGHT
-weight-small p ws h a = elim (lt_or_le a.0 (length ws)) [
-  | inl within ↦ h.small a.0 None within
-  | inr past ↦ let none : weight_at ws a ≡ 0 = ap (λ (x : Option ℕ). unwrap_or x 0) (get_or_past ws a.0 None past) in omega (arith, none)
-]
-
 -- where one label is replaced, each label is the new one or an old one
 pub record IsOld (ls : Labels) (v w : ℕ) (m : Label) : Type 0 where
   pub other : w ≢ v
@@ -95,16 +88,6 @@ reached-kept p ws ls v l w m open_ r = record {
   length_is = r.length_is;
 }
 
--- a label that goes on from the last settled node along an arc
-pub record GoesOn (p : Parts) (ws : Weights) (ls : Labels) (stop : Stop) (a : ArcId) (l : Label) : Type 0 where
-  pub usable : IsUsable p ws a
-  pub tail : (tail_of p a).0 ≡ stop.node.0
-  pub head : (head_of p a).0 < length ls
-  pub length_is : l.length ≡ stop.label.length + weight_at ws a
-  pub steps : l.steps ≡ stop.label.steps + 1
-  pub via : l.via ≡ a
-  pub settled : l.settled ≡ false
-
 -- the head of the arc is open where the label is better
 open-head : (p : Parts) (ws : Weights) (s t : NodeId) (ls : Labels) (stop : Stop) (arcs : List ArcId) (i : ℕ) (a : ArcId) (l : Label) → IsSpread p ws s t ls stop arcs i → GoesOn p ws ls stop a l → is_better l (label_at ls (head_of p a).0) ≡ true → (m : Label) → label_at ls (head_of p a).0 ≡ Some m → m.settled ≡ false
 open-head p ws s t ls stop arcs i a l h g better m at = elim (decide m.settled) [
@@ -112,12 +95,12 @@ open-head p ws s t ls stop arcs i a l h g better m at = elim (decide m.settled) 
   | inr open_ ↦ open_
 ]
 
-new-label : (p : Parts) (ws : Weights) (s t : NodeId) (ls : Labels) (stop : Stop) (arcs : List ArcId) (i : ℕ) (a : ArcId) (l : Label) → AreWeights p ws → IsSpread p ws s t ls stop arcs i → GoesOn p ws ls stop a l → ((k : Label) → label_at ls (head_of p a).0 ≡ Some k → k.settled ≡ false) → open_count (set ls (head_of p a).0 (Some l)) ≡ open_count ls → IsLabel p ws s (set ls (head_of p a).0 (Some l)) (head_of p a).0 l
-new-label p ws s t ls stop arcs i a l weights h g open_ same = record {
+new-label : (p : Parts) (ws : Weights) (s t : NodeId) (ls : Labels) (stop : Stop) (arcs : List ArcId) (i : ℕ) (a : ArcId) (l : Label) → IsSpread p ws s t ls stop arcs i → GoesOn p ws ls stop a l → ((k : Label) → label_at ls (head_of p a).0 ≡ Some k → k.settled ≡ false) → open_count (set ls (head_of p a).0 (Some l)) ≡ open_count ls → IsLabel p ws s (set ls (head_of p a).0 (Some l)) (head_of p a).0 l
+new-label p ws s t ls stop arcs i a l h g open_ same = record {
   steps_within = omega (arith, h.steps, g.steps, same);
   length_within =
       let old = (h.labels.each stop.node.0 stop.label h.here).length_within in
-      let last = weight-small p ws weights a in
+      let last = g.small in
       let steps : l.steps ≡ stop.label.steps + 1 = g.steps in
       let total : l.length ≡ stop.label.length + weight_at ws a = g.length_is in
       rw steps (omega (arith, old, last, total));
@@ -207,14 +190,14 @@ done-more p ws ls arcs i before now j below = elim (below_cases j i below) [
 ]
 
 -- a better label is taken
-spread-taken : (p : Parts) (ws : Weights) (s t : NodeId) (ls : Labels) (stop : Stop) (arcs : List ArcId) (i : ℕ) (a : ArcId) (l : Label) → AreWeights p ws → arc_at arcs i ≡ a → IsSpread p ws s t ls stop arcs i → GoesOn p ws ls stop a l → is_better l (label_at ls (head_of p a).0) ≡ true → IsSpread p ws s t (set ls (head_of p a).0 (Some l)) stop arcs (suc i)
-spread-taken p ws s t ls stop arcs i a l weights number h g better =
+spread-taken : (p : Parts) (ws : Weights) (s t : NodeId) (ls : Labels) (stop : Stop) (arcs : List ArcId) (i : ℕ) (a : ArcId) (l : Label) → arc_at arcs i ≡ a → IsSpread p ws s t ls stop arcs i → GoesOn p ws ls stop a l → is_better l (label_at ls (head_of p a).0) ≡ true → IsSpread p ws s t (set ls (head_of p a).0 (Some l)) stop arcs (suc i)
+spread-taken p ws s t ls stop arcs i a l number h g better =
     let v = (head_of p a).0 in
     let open_ = open-head p ws s t ls stop arcs i a l h g better in
     let same = open_count-offered ls v l g.head g.settled open_ in
     let here = kept ls v l stop.node.0 stop.label (settled-other ls v stop.node.0 stop.label open_ h.here h.settled) h.here in
     record {
-      labels = replaced-labels p ws s t ls v l g.head h.labels open_ better g.settled (λ w m at settled. omega (arith, h.latest w m at settled, g.length_is)) same (new-label p ws s t ls stop arcs i a l weights h g open_ same);
+      labels = replaced-labels p ws s t ls v l g.head h.labels open_ better g.settled (λ w m at settled. omega (arith, h.latest w m at settled, g.length_is)) same (new-label p ws s t ls stop arcs i a l h g open_ same);
       here = here;
       settled = h.settled;
       latest = λ w m at settled. elim (new_or_old ls v l w m g.head at) [
@@ -244,9 +227,9 @@ spread-left p ws s t ls stop arcs i a l number h g worse = spread-same p ws s t 
     let known = no_longer l (label_at ls (head_of p a).0) worse in
     subst (IsRelaxed p ws ls) (sym number) (relaxed-now p ws ls stop a l.length g.tail h.here g.length_is (record { label = known.label; is = known.is; within = known.within })))
 
-pub spread-offered : (p : Parts) (ws : Weights) (s t : NodeId) (ls : Labels) (stop : Stop) (arcs : List ArcId) (i : ℕ) (a : ArcId) (l : Label) → AreWeights p ws → arc_at arcs i ≡ a → IsSpread p ws s t ls stop arcs i → GoesOn p ws ls stop a l → IsSpread p ws s t (offered ls (head_of p a).0 l) stop arcs (suc i)
-spread-offered p ws s t ls stop arcs i a l weights number h g = elim (decide (is_better l (label_at ls (head_of p a).0))) [
-  | inl better ↦ subst (λ (x : Labels). IsSpread p ws s t x stop arcs (suc i)) (sym (offered-better ls (head_of p a).0 l better)) (spread-taken p ws s t ls stop arcs i a l weights number h g better)
+pub spread-offered : (p : Parts) (ws : Weights) (s t : NodeId) (ls : Labels) (stop : Stop) (arcs : List ArcId) (i : ℕ) (a : ArcId) (l : Label) → arc_at arcs i ≡ a → IsSpread p ws s t ls stop arcs i → GoesOn p ws ls stop a l → IsSpread p ws s t (offered ls (head_of p a).0 l) stop arcs (suc i)
+spread-offered p ws s t ls stop arcs i a l number h g = elim (decide (is_better l (label_at ls (head_of p a).0))) [
+  | inl better ↦ subst (λ (x : Labels). IsSpread p ws s t x stop arcs (suc i)) (sym (offered-better ls (head_of p a).0 l better)) (spread-taken p ws s t ls stop arcs i a l number h g better)
   | inr worse ↦ subst (λ (x : Labels). IsSpread p ws s t x stop arcs (suc i)) (sym (offered-worse ls (head_of p a).0 l worse)) (spread-left p ws s t ls stop arcs i a l number h g worse)
 ]
 
@@ -256,10 +239,11 @@ count-offered p ws s t ls stop arcs i a l h g = elim (decide (is_better l (label
   | inr worse ↦ ap open_count (offered-worse ls (head_of p a).0 l worse)
 ]
 
--- the way along an arc is short enough
-pub length-fits : (p : Parts) (ws : Weights) (s t : NodeId) (ls : Labels) (stop : Stop) (arcs : List ArcId) (i : ℕ) (a : ArcId) → p.nodes ≤ 512 → AreWeights p ws → IsSpread p ws s t ls stop arcs i → stop.label.length + weight_at ws a < 340282366920938463463374607431768211456
-length-fits p ws s t ls stop arcs i a few weights h =
-    omega (arith, (h.labels.each stop.node.0 stop.label h.here).length_within, weight-small p ws weights a, h.steps, few)
+-- the head of an arc that is settled asks for no change
+pub relaxed-settled : (p : Parts) (ws : Weights) (s t : NodeId) (ls : Labels) (stop : Stop) (arcs : List ArcId) (i : ℕ) (a : ArcId) → IsSpread p ws s t ls stop arcs i → (tail_of p a).0 ≡ stop.node.0 → IsSettledAt ls (head_of p a).0 → IsRelaxed p ws ls a
+relaxed-settled p ws s t ls stop arcs i a h tail is =
+    let early = h.latest (head_of p a).0 is.label is.is is.settled in
+    relaxed-now p ws ls stop a (stop.label.length + weight_at ws a) tail h.here refl (record { label = is.label; is = is.is; within = omega (arith, early) })
 
 pub spread-next : (p : Parts) (ws : Weights) (s t : NodeId) (ls : Labels) (stop : Stop) (arcs : List ArcId) (i : ℕ) → IsSpread p ws s t ls stop arcs (suc i) → IsSpread p ws s t ls stop arcs (i + 1)
 spread-next p ws s t ls stop arcs i h =

@@ -28,6 +28,11 @@ is_better l (Some old) = nat_lt l.length old.length
 unfoldable pub offered : Labels → ℕ → Label → Labels
 offered ls v l = if is_better l (label_at ls v) then slice_set ls v (Some l) else ls
 
+-- the node has a label that is settled
+abbrev pub is_settled_label : Option Label → Bool
+is_settled_label None = false
+is_settled_label (Some l) = l.settled
+
 -- the label is not settled, and nearer than what was found
 abbrev pub is_nearer_than : Label → Option Stop → Bool
 is_nearer_than l None = not l.settled
@@ -104,6 +109,23 @@ pub record HasAtMost (ls : Labels) (v : ℕ) (bound : ℕ) : Type 0 where
   pub label : Label
   pub is : label_at ls v ≡ Some label
   pub within : label.length ≤ bound
+
+-- the node is settled
+pub record IsSettledAt (ls : Labels) (v : ℕ) : Type 0 where
+  pub label : Label
+  pub is : label_at ls v ≡ Some label
+  pub settled : label.settled ≡ true
+
+-- a label that goes on from a node along a usable arc that leaves it
+pub record GoesOn (p : Parts) (ws : Weights) (ls : Labels) (stop : Stop) (a : ArcId) (l : Label) : Type 0 where
+  pub usable : IsUsable p ws a
+  pub tail : (tail_of p a).0 ≡ stop.node.0
+  pub head : (head_of p a).0 < length ls
+  pub small : weight_at ws a ≤ MAX_WEIGHT
+  pub length_is : l.length ≡ stop.label.length + weight_at ws a
+  pub steps : l.steps ≡ stop.label.steps + 1
+  pub via : l.via ≡ a
+  pub settled : l.settled ≡ false
 
 -- where the arc's tail is settled, its head has a label that is no longer than the way along the arc
 abbrev pub IsRelaxed : Parts → Weights → Labels → ArcId → Type 0

@@ -15,6 +15,7 @@ mod spread;
 mod tree;
 mod walk;
 mod way;
+mod weigher;
 mod weights;
 
 pub use answer::Search;
@@ -22,4 +23,5 @@ pub use room::Room;
 pub use spread::search;
 pub use tree::Tree;
 pub use walk::search_slow;
+pub use weigher::{Listed, Weigher};
 pub use weights::are_weights;

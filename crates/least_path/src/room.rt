@@ -1,11 +1,12 @@
 //! Searches that take no memory.
 
-ghost use Rattle.std.specs.Prelude.{◌≡◌, ◌<◌, [], IfOk, IfSome, IfNone};
+ghost use Rattle.std.specs.Prelude.{◌≡◌, ◌<◌, ◌*◌, [], length, IfOk, IfSome, IfNone};
 ghost use Rattle.least_path.specs.Paths.{AreWeights, IsLeastPath, HasNoUsablePath};
 
 use crate::label::Label;
 use crate::queue::Queue;
 use crate::spread::{Query, begin, most_waits};
+use crate::weigher::{Listed, Weigher};
 use plan_base::{Instance, NodeId, Path};
 use std::alloc::{AllocError, Global};
 use std::marker::Model;
@@ -46,9 +47,48 @@ impl Room {
     /// Puts a path of least weight from the source to the target into the room, and gives its weight; None where there
     /// is no path of usable arcs.
     ///
-    /// - Takes: weights as `search` does.
+    /// - Takes: what the arcs weigh.
     /// - Errors: want of memory alone. None where the room was made for the instance, and the path that was in it has
     ///   memory for as many arcs as there are nodes.
+    /// - Rule: docs/METHOD.md, "Least paths".
+    /// - Time: as `search`, without potentials.
+    pub fn search_by<W: Weigher>(
+        &mut self,
+        inst: &Instance,
+        weigher: &W,
+        source: NodeId,
+        target: NodeId,
+    ) -> Result<Option<u128>, AllocError>
+        requires fits { W.fits weigher.now }
+        requires count { length (W.weights weigher.now) ≡ 2 * length inst.now.links }
+        requires source { source.0 < inst.now.nodes }
+        requires target { target.0 < inst.now.nodes }
+        ensures path { IfOk result (λ found. IfSome found (IsLeastPath inst.now (W.weights weigher.now) source target self.new)) }
+        ensures none { IfOk result (λ found. IfNone found (HasNoUsablePath inst.now (W.weights weigher.now) source target)) }
+        ensures kept { IfOk result (λ found. IfNone found (self.new ≡ self.old)) }
+    {
+        inst.lawful();
+        let query = Query {
+            inst,
+            weigher,
+            source,
+            target,
+        };
+        begin(&mut self.labels, &mut self.queue, inst.nodes(), source)?;
+        let found = query.go_out(&mut self.labels, &mut self.queue)?;
+        let Some(last) = found else {
+            return Ok(None);
+        };
+        let empty = Path::from_vec(Vec::new(*self.labels.allocator()));
+        let memory = mem::replace(&mut self.path, empty).into_vec();
+        self.path = query.way_to(&self.labels, &last, memory)?;
+        Ok(Some(last.label.length))
+    }
+
+    /// The same as `search_by`, of weights that stand in a list.
+    ///
+    /// - Takes: weights as `search` does.
+    /// - Errors: as `search_by`.
     /// - Rule: docs/METHOD.md, "Least paths".
     /// - Time: as `search`, without potentials.
     pub fn search(
@@ -65,22 +105,7 @@ impl Room {
         ensures none { IfOk result (λ found. IfNone found (HasNoUsablePath inst.now weights.now source target)) }
         ensures kept { IfOk result (λ found. IfNone found (self.new ≡ self.old)) }
     {
-        prove!(weights.len() == inst.arcs() as usize);
-        let query = Query {
-            inst,
-            weights,
-            source,
-            target,
-        };
-        begin(&mut self.labels, &mut self.queue, inst.nodes(), source)?;
-        let found = query.go_out(&mut self.labels, &mut self.queue)?;
-        let Some(last) = found else {
-            return Ok(None);
-        };
-        let empty = Path::from_vec(Vec::new(*self.labels.allocator()));
-        let memory = mem::replace(&mut self.path, empty).into_vec();
-        self.path = query.way_to(&self.labels, &last, memory)?;
-        Ok(Some(last.label.length))
+        self.search_by(inst, &Listed { weights }, source, target)
     }
 
     /// Changes the path in the room for another one, each with its memory.

@@ -1,29 +1,57 @@
 //! The search: nodes are settled in the order of their lengths, which a heap of those that wait tells.
 
-ghost use Rattle.std.specs.Prelude.{◌≡◌, ◌≢◌, ◌<◌, [], length, IfOk, OnOk, IfNone, IfSome, Option};
+ghost use Rattle.std.specs.Prelude.{◌≡◌, ◌≢◌, ◌<◌, ◌≤◌, ◌*◌, [], length, IfOk, OnOk, IfNone, IfSome, IsTrue, Option};
 ghost use Rattle.plan_base.specs.Facts.{IsInstance};
-ghost use Rattle.least_path.specs.Paths.{AreWeights, IsFound};
-ghost use Rattle.least_path.specs.Labels.{IsSearch, IsNearest, IsSpread, HasNoOpen, open_count, first_label_of, first_labels_of};
+ghost use Rattle.plan_base.specs.Arcs.{is_arc, tail_of, head_of};
+ghost use Rattle.least_path.specs.Paths.{AreWeights, IsUsable, IsFound};
+ghost use Rattle.least_path.specs.Labels.{GoesOn, IsSettledAt, IsSearch, IsNearest, IsSpread, HasNoOpen, open_count, first_label_of, first_labels_of};
 ghost use Rattle.least_path.specs.Waits.{AllWait, OthersWait};
 
 use crate::answer::Search;
-use crate::label::{Label, Stop};
+use crate::label::{Label, Stop, is_settled};
+use crate::limits::MAX_WEIGHT;
 use crate::queue::{Queue, next, offer};
 use crate::way::reached_nodes;
+use crate::weigher::{Listed, Weigher};
 use plan_base::{ArcId, Instance, NodeId};
 use std::alloc::{AllocError, Global};
 
 /// Which path is asked for.
 #[derive(Clone, Copy)]
-pub struct Query<'a> {
+pub struct Query<'a, W> {
     pub inst: &'a Instance,
-    /// One weight for each arc number; none where the arc may not be used.
-    pub weights: &'a [Option<u128>],
+    pub weigher: &'a W,
     pub source: NodeId,
     pub target: NodeId,
 }
 
-impl Query<'_> {
+impl<W: Weigher> Query<'_, W> {
+    /// The label of the way that goes on from a node along an arc that leaves it; None where the arc may not be used, or
+    /// where its head is settled, so that no shorter way to it is to come.
+    pub fn way_along(&self, labels: &[Option<Label>], here: &Stop, arc: ArcId) -> Option<Label>
+        requires lawful { IsInstance self.now.inst.now }
+        requires fits { W.fits self.now.weigher.now }
+        requires count { length (W.weights self.now.weigher.now) ≡ 2 * length self.now.inst.now.links }
+        requires labels { length labels.now ≡ self.now.inst.now.nodes }
+        requires steps { here.now.label.steps < self.now.inst.now.nodes }
+        requires short { here.now.label.length ≤ here.now.label.steps * MAX_WEIGHT }
+        requires arc { IsTrue (is_arc self.now.inst.now arc) }
+        requires tail { (tail_of self.now.inst.now arc).0 ≡ here.now.node.0 }
+        ensures on { IfSome result (GoesOn self.now.inst.now (W.weights self.now.weigher.now) labels.now here.now arc) }
+        ensures none { IfNone result (IsUsable self.now.inst.now (W.weights self.now.weigher.now) arc → IsSettledAt labels.now (head_of self.now.inst.now arc).0) }
+    {
+        if is_settled(labels, self.inst.head(arc)) {
+            return None;
+        }
+        let weight = self.weigher.weight(arc)?;
+        Some(Label {
+            length: here.label.length + weight,
+            steps: here.label.steps + 1,
+            via: arc,
+            settled: false,
+        })
+    }
+
     /// Offers the way through a settled node to each node that a usable arc leads to.
     fn relax(
         &self,
@@ -32,21 +60,16 @@ impl Query<'_> {
         here: &Stop,
     ) -> Result<(), AllocError>
         requires lawful { IsInstance self.now.inst.now }
-        requires weights { AreWeights self.now.inst.now self.now.weights.now }
-        requires start { IsSpread self.now.inst.now self.now.weights.now self.now.source self.now.target labels.old.items here.now [] 0 }
+        requires fits { W.fits self.now.weigher.now }
+        requires count { length (W.weights self.now.weigher.now) ≡ 2 * length self.now.inst.now.links }
+        requires start { IsSpread self.now.inst.now (W.weights self.now.weigher.now) self.now.source self.now.target labels.old.items here.now [] 0 }
         requires waits { AllWait labels.old.items queue.old }
-        ensures search { OnOk result (IsSearch self.now.inst.now self.now.weights.now self.now.source self.now.target labels.new.items) }
+        ensures search { OnOk result (IsSearch self.now.inst.now (W.weights self.now.weigher.now) self.now.source self.now.target labels.new.items) }
         ensures open { OnOk result (open_count labels.new.items ≡ open_count labels.old.items) }
         ensures waits { OnOk result (AllWait labels.new.items queue.new) }
     {
         for arc in self.inst.leaving(here.node) {
-            if let Some(weight) = self.weights[arc.0 as usize] {
-                let label = Label {
-                    length: here.label.length + weight,
-                    steps: here.label.steps + 1,
-                    via: *arc,
-                    settled: false,
-                };
+            if let Some(label) = self.way_along(labels, here, *arc) {
                 offer(labels, queue, self.inst.head(*arc), label)?;
             }
         }
@@ -61,12 +84,13 @@ impl Query<'_> {
         here: &Stop,
     ) -> Result<(), AllocError>
         requires lawful { IsInstance self.now.inst.now }
-        requires weights { AreWeights self.now.inst.now self.now.weights.now }
-        requires search { IsSearch self.now.inst.now self.now.weights.now self.now.source self.now.target labels.old.items }
+        requires fits { W.fits self.now.weigher.now }
+        requires count { length (W.weights self.now.weigher.now) ≡ 2 * length self.now.inst.now.links }
+        requires search { IsSearch self.now.inst.now (W.weights self.now.weigher.now) self.now.source self.now.target labels.old.items }
         requires nearest { IsNearest labels.old.items here.now }
         requires other { here.now.node.0 ≢ self.now.target.0 }
         requires wait { OthersWait labels.old.items queue.old here.now.node.0 }
-        ensures search { OnOk result (IsSearch self.now.inst.now self.now.weights.now self.now.source self.now.target labels.new.items) }
+        ensures search { OnOk result (IsSearch self.now.inst.now (W.weights self.now.weigher.now) self.now.source self.now.target labels.new.items) }
         ensures fewer { OnOk result (open_count labels.new.items < open_count labels.old.items) }
         ensures waits { OnOk result (AllWait labels.new.items queue.new) }
     {
@@ -89,10 +113,11 @@ impl Query<'_> {
         queue: &mut Queue,
     ) -> Result<Option<Stop>, AllocError>
         requires lawful { IsInstance self.now.inst.now }
-        requires weights { AreWeights self.now.inst.now self.now.weights.now }
-        requires search { IsSearch self.now.inst.now self.now.weights.now self.now.source self.now.target labels.old.items }
+        requires fits { W.fits self.now.weigher.now }
+        requires count { length (W.weights self.now.weigher.now) ≡ 2 * length self.now.inst.now.links }
+        requires search { IsSearch self.now.inst.now (W.weights self.now.weigher.now) self.now.source self.now.target labels.old.items }
         requires waits { AllWait labels.old.items queue.old }
-        ensures search { OnOk result (IsSearch self.now.inst.now self.now.weights.now self.now.source self.now.target labels.new.items) }
+        ensures search { OnOk result (IsSearch self.now.inst.now (W.weights self.now.weigher.now) self.now.source self.now.target labels.new.items) }
         ensures nearest { IfOk result (λ found. IfSome found (IsNearest labels.new.items)) }
         ensures at_target { IfOk result (λ found. IfSome found (λ last. last.node.0 ≡ self.now.target.0)) }
         ensures none { IfOk result (λ found. IfNone found (HasNoOpen labels.new.items)) }
@@ -109,10 +134,11 @@ impl Query<'_> {
     /// The labels of a search that went on until the target was the nearest node, and that node; or until no node was
     /// left, and None.
     pub fn reach(&self, alloc: Global) -> Result<(Vec<Option<Label>>, Option<Stop>), AllocError>
-        requires weights { AreWeights self.now.inst.now self.now.weights.now }
+        requires fits { W.fits self.now.weigher.now }
+        requires count { length (W.weights self.now.weigher.now) ≡ 2 * length self.now.inst.now.links }
         requires lawful { IsInstance self.now.inst.now }
         requires source { self.now.source.0 < self.now.inst.now.nodes }
-        ensures search { IfOk result (λ out. IsSearch self.now.inst.now self.now.weights.now self.now.source self.now.target out.0.items) }
+        ensures search { IfOk result (λ out. IsSearch self.now.inst.now (W.weights self.now.weigher.now) self.now.source self.now.target out.0.items) }
         ensures nearest { IfOk result (λ out. IfSome out.1 (IsNearest out.0.items)) }
         ensures at_target { IfOk result (λ out. IfSome out.1 (λ last. last.node.0 ≡ self.now.target.0)) }
         ensures none { IfOk result (λ out. IfNone out.1 (HasNoOpen out.0.items)) }
@@ -133,11 +159,11 @@ impl Query<'_> {
     ) -> Result<Search, AllocError>
         requires lawful { IsInstance self.now.inst.now }
         requires target { self.now.target.0 < self.now.inst.now.nodes }
-        requires search { IsSearch self.now.inst.now self.now.weights.now self.now.source self.now.target labels.now }
+        requires search { IsSearch self.now.inst.now (W.weights self.now.weigher.now) self.now.source self.now.target labels.now }
         requires nearest { IfSome found (IsNearest labels.now) }
         requires at_target { IfSome found (λ last. last.node.0 ≡ self.now.target.0) }
         requires none { IfNone found (HasNoOpen labels.now) }
-        ensures { IfOk result (IsFound self.now.inst.now self.now.weights.now self.now.source self.now.target) }
+        ensures { IfOk result (IsFound self.now.inst.now (W.weights self.now.weigher.now) self.now.source self.now.target) }
     {
         match found {
             Some(last) => self.path_found(alloc, labels, &last),
@@ -149,11 +175,12 @@ impl Query<'_> {
 
     /// The answer.
     fn answer(&self, alloc: Global) -> Result<Search, AllocError>
-        requires weights { AreWeights self.now.inst.now self.now.weights.now }
+        requires fits { W.fits self.now.weigher.now }
+        requires count { length (W.weights self.now.weigher.now) ≡ 2 * length self.now.inst.now.links }
         requires lawful { IsInstance self.now.inst.now }
         requires source { self.now.source.0 < self.now.inst.now.nodes }
         requires target { self.now.target.0 < self.now.inst.now.nodes }
-        ensures { IfOk result (IsFound self.now.inst.now self.now.weights.now self.now.source self.now.target) }
+        ensures { IfOk result (IsFound self.now.inst.now (W.weights self.now.weigher.now) self.now.source self.now.target) }
     {
         let (labels, found) = self.reach(alloc)?;
         self.told(alloc, &labels, found)
@@ -247,7 +274,7 @@ pub fn search(
     prove!(weights.len() == inst.arcs() as usize);
     let query = Query {
         inst,
-        weights,
+        weigher: &Listed { weights },
         source,
         target,
     };

@@ -12,6 +12,7 @@ ghost use Rattle.least_path.specs.Trees.{IsTree, length_of_label, length_at, lab
 use crate::label::Label;
 use crate::spread::Query;
 use crate::way::potentials;
+use crate::weigher::Listed;
 use plan_base::{Instance, Items, NodeId, Path};
 use std::alloc::{AllocError, Global};
 use std::marker::Model;
@@ -77,7 +78,7 @@ impl Tree {
         let outside = NodeId(inst.nodes());
         let query = Query {
             inst,
-            weights,
+            weigher: &Listed { weights },
             source,
             target: outside,
         };

@@ -8,6 +8,7 @@ ghost use Rattle.least_path.specs.Labels.{IsSearch, IsNearest, label_at, way, is
 use crate::answer::Search;
 use crate::label::{Label, Stop};
 use crate::spread::Query;
+use crate::weigher::Weigher;
 use plan_base::{ArcId, Items, NodeId, Path};
 use std::alloc::{AllocError, Global};
 
@@ -62,7 +63,7 @@ pub fn reached_nodes(alloc: Global, labels: &[Option<Label>]) -> Result<Items<bo
     Ok(Items::from_vec(reached))
 }
 
-impl Query<'_> {
+impl<W: Weigher> Query<'_, W> {
     /// The way of the label, in the memory of these arcs.
     pub fn way_to(
         &self,
@@ -70,7 +71,7 @@ impl Query<'_> {
         last: &Stop,
         memory: Vec<ArcId>,
     ) -> Result<Path, AllocError>
-        requires search { IsSearch self.now.inst.now self.now.weights.now self.now.source self.now.target labels.now }
+        requires search { IsSearch self.now.inst.now (W.weights self.now.weigher.now) self.now.source self.now.target labels.now }
         requires last { label_at labels.now last.now.node.0 ≡ Some last.now.label }
         ensures { IfOk result (λ path. path ≡ way self.now.inst.now labels.now last.now.label.steps last.now.label) }
     {
@@ -93,10 +94,10 @@ impl Query<'_> {
         last: &Stop,
     ) -> Result<Search, AllocError>
         requires lawful { IsInstance self.now.inst.now }
-        requires search { IsSearch self.now.inst.now self.now.weights.now self.now.source self.now.target labels.now }
+        requires search { IsSearch self.now.inst.now (W.weights self.now.weigher.now) self.now.source self.now.target labels.now }
         requires nearest { IsNearest labels.now last.now }
         requires at_target { last.now.node.0 ≡ self.now.target.0 }
-        ensures { IfOk result (IsFound self.now.inst.now self.now.weights.now self.now.source self.now.target) }
+        ensures { IfOk result (IsFound self.now.inst.now (W.weights self.now.weigher.now) self.now.source self.now.target) }
     {
         Ok(Search::Path {
             path: self.way_to(labels, last, Vec::new(alloc))?,

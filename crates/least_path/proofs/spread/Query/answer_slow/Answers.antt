@@ -4,8 +4,8 @@ use Rattle.least_path.proofs.SettleLaws.{first-search}
 use Rattle.least_path.proofs.spread.Query.answer_slow.Goals as goal
 
 pub go_out_slow-last-requires-clause-search : goal.go_out_slow-last-requires-clause-search
-go_out_slow-last-requires-clause-search c =
+go_out_slow-last-requires-clause-search g c =
     let p = c.args.self.now.inst.now in
-    subst (λ (x : Labels). IsSearch p c.args.self.now.weights.now c.args.self.now.source c.args.self.now.target x)
+    subst (λ (x : Labels). IsSearch p (g.W.Weigher.weights c.args.self.now.weigher.now) c.args.self.now.source c.args.self.now.target x)
     (sym (c.in_ok-labels.ensures ∙ ap (λ (n : ℕ). first_labels_of n c.args.self.now.source.0) c.nodes.ensures.value))
-    (first-search p c.args.self.now.weights.now c.args.self.now.source c.args.self.now.target c.requires.source)
+    (first-search p (g.W.Weigher.weights c.args.self.now.weigher.now) c.args.self.now.source c.args.self.now.target c.requires.source)

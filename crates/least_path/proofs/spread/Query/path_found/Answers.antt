@@ -5,9 +5,9 @@ use Rattle.least_path.proofs.FoundLaws.{found-path, potentials-right}
 use Rattle.least_path.proofs.spread.Query.path_found.Goals as goal
 
 pub returns : goal.returns
-returns c =
+returns g c =
     let p = c.args.self.now.inst.now in
-    let ws = c.args.self.now.weights.now in
+    let ws = (g.W.Weigher.weights c.args.self.now.weigher.now) in
     let s = c.args.self.now.source in
     let t = c.args.self.now.target in
     let stop = c.args.last.now in (

@@ -1,27 +1,29 @@
-use Rattle.std.proofs.Common.{arith, refl, subst, sym, ap, ◌≡◌, ◌+◌, ◌∙◌, ◌<◌, Option, IsSome, get_or, length, Vec, Global, true, false, ℕ}
-use Rattle.std.specs.Option.{unwrap_or}
+use Rattle.std.proofs.Common.{arith, refl, subst, sym, ap, ◌≡◌, ◌+◌, ◌∙◌, ◌<◌, Option, IfSome, IfNone, get_or, length, Vec, Global}
 use Rattle.plan_base.specs.Arcs.{no_arc, head_of}
 use Rattle.plan_base.specs.declared.ids.NodeId.{NodeId}
 use Rattle.least_path.specs.declared.label.Label.{Label}
-use Rattle.least_path.specs.Paths.{weight_at}
-use Rattle.least_path.specs.Labels.{Labels, IsSpread, open_count, offered}
-use Rattle.least_path.proofs.OfferLaws.{GoesOn, spread-offered, count-offered, spread-same, spread-next, length-fits}
+use Rattle.least_path.specs.Paths.{IsUsable}
+use Rattle.least_path.specs.Labels.{Labels, GoesOn, IsSettledAt, IsSpread, open_count, offered}
+use Rattle.least_path.proofs.OfferLaws.{spread-offered, count-offered, spread-same, spread-next, relaxed-settled}
 use Rattle.least_path.proofs.spread.Query.relax.Goals as goal
 use Rattle.least_path.proofs.spread.Query.relax.Goals.{in-Some+in_ok-offer, in_default}
 
-pub overflow_add-label : goal.overflow_add-label
-overflow_add-label c =
-    let a = get_or c.leaving-arc-items.result.now c.loop-arc.arc-index no_arc in
-    let weight : weight_at c.args.self.now.weights.now a ≡ c.in-Some.weight = ap (λ (x : Option ℕ). unwrap_or x 0) c.in-Some.is in
-    omega (arith, weight, length-fits c.args.self.now.inst.now c.args.self.now.weights.now c.args.self.now.source c.args.self.now.target c.loop-arc.labels.items c.args.here.now c.leaving-arc-items.result.now c.loop-arc.arc-index a c.requires.lawful.nodes c.requires.weights c.loop-arc.invariant.spread)
+pub way_along-requires-clause-arc : goal.way_along-requires-clause-arc
+way_along-requires-clause-arc g c = c.leaving-arc-items.ensures.value.are_arcs c.loop-arc.arc-index (omega arith)
 
-pub overflow_add-label-in-Some : goal.overflow_add-label-in-Some
-overflow_add-label-in-Some c = omega (arith, c.loop-arc.invariant.spread.steps, c.requires.lawful.nodes)
+pub way_along-requires-clause-tail : goal.way_along-requires-clause-tail
+way_along-requires-clause-tail g c = c.leaving-arc-items.ensures.value.leave c.loop-arc.arc-index (omega arith)
+
+pub way_along-requires-clause-short : goal.way_along-requires-clause-short
+way_along-requires-clause-short g c = (c.loop-arc.invariant.spread.labels.each c.args.here.now.node.0 c.args.here.now.label c.loop-arc.invariant.spread.here).length_within
+
+pub way_along-requires-clause-steps : goal.way_along-requires-clause-steps
+way_along-requires-clause-steps g c = omega (arith, c.loop-arc.invariant.spread.steps)
 
 pub loop-arc-preserved : goal.loop-arc-preserved
-loop-arc-preserved c =
+loop-arc-preserved g c =
     let p = c.args.self.now.inst.now in
-    let ws = c.args.self.now.weights.now in
+    let ws = g.W.Weigher.weights c.args.self.now.weigher.now in
     let s = c.args.self.now.source in
     let t = c.args.self.now.target in
     let stop = c.args.here.now in
@@ -29,32 +31,23 @@ loop-arc-preserved c =
     let i = c.loop-arc.arc-index in
     let a = get_or arcs i no_arc in
     let ls = c.loop-arc.labels.items in
-    let leaving = c.leaving-arc-items.ensures.value in
-    let within : i < length arcs = omega arith in
-    elim c.match-self-arc.branch [
+    let spread = c.loop-arc.invariant.spread in
+    elim c.match-way_along.branch [
       | in-Some+in_ok-offer w ↦
-          let weight : weight_at ws a ≡ w.in-Some.weight = ap (λ (x : Option ℕ). unwrap_or x 0) w.in-Some.is in
-          let l : Label = record { length = stop.label.length + w.in-Some.weight; steps = stop.label.steps + 1; via = a; settled = false } in
-          let head : w.head.result ≡ head_of p a = w.head.ensures.value in
-          let on : GoesOn p ws ls stop a l = record {
-            usable = record { is_an_arc = leaving.are_arcs i within; weighted = subst (λ (x : Option ℕ). IsSome x) (sym w.in-Some.is) refl };
-            tail = leaving.leave i within;
-            head = subst (λ (v : NodeId). v.0 < length ls) head (omega (arith, w.head.ensures.within, c.loop-arc.invariant.spread.labels.count));
-            length_is = ap (λ (k : ℕ). stop.label.length + k) (sym weight);
-            steps = refl;
-            via = refl;
-            settled = refl;
-          } in
-          let items : c.match-self-arc.labels.items ≡ offered ls (head_of p a).0 l = ap (λ (v : Vec (Option Label) Global). v.items) w.labels-is ∙ w.in_ok-offer.ensures.labels ∙ ap (λ (v : NodeId). offered ls v.0 l) head in
+          let l = w.in-Some.label in
+          let on : GoesOn p ws ls stop a l = subst (λ (x : Option Label). IfSome x (GoesOn p ws ls stop a)) w.in-Some.is (subst (λ (xs : Labels). IfSome c.way_along.result (GoesOn p ws xs stop a)) c.deref.ensures.value c.way_along.ensures.on) in
+          let items : c.match-way_along.labels.items ≡ offered ls (head_of p a).0 l = ap (λ (v : Vec (Option Label) Global). v.items) w.labels-is ∙ w.in_ok-offer.ensures.labels ∙ ap (λ (v : NodeId). offered ls v.0 l) w.head.ensures.value in
           record {
-            spread = subst (λ (x : Labels). IsSpread p ws s t x stop arcs (i + 1)) (sym items) (spread-next p ws s t (offered ls (head_of p a).0 l) stop arcs i (spread-offered p ws s t ls stop arcs i a l c.requires.weights refl c.loop-arc.invariant.spread on));
-            open_same = ap open_count items ∙ count-offered p ws s t ls stop arcs i a l c.loop-arc.invariant.spread on ∙ c.loop-arc.invariant.open_same;
+            spread = subst (λ (x : Labels). IsSpread p ws s t x stop arcs (i + 1)) (sym items) (spread-next p ws s t (offered ls (head_of p a).0 l) stop arcs i (spread-offered p ws s t ls stop arcs i a l refl spread on));
+            open_same = ap open_count items ∙ count-offered p ws s t ls stop arcs i a l spread on ∙ c.loop-arc.invariant.open_same;
             waits = rw (w.labels-is, w.queue-is) w.in_ok-offer.ensures.waits;
           }
       | in_default w ↦
-          let items : c.match-self-arc.labels.items ≡ ls = ap (λ (v : Vec (Option Label) Global). v.items) w.labels-is in
+          let items : c.match-way_along.labels.items ≡ ls = ap (λ (v : Vec (Option Label) Global). v.items) w.labels-is in
+          let none : IsUsable p ws a → IsSettledAt ls (head_of p a).0 = subst (λ (x : Option Label). IfNone x (IsUsable p ws a → IsSettledAt ls (head_of p a).0)) w.in_default.is (subst (λ (xs : Labels). IfNone c.way_along.result (IsUsable p ws a → IsSettledAt xs (head_of p a).0)) c.deref.ensures.value c.way_along.ensures.none) in
+          let tail = c.leaving-arc-items.ensures.value.leave i (omega arith) in
           record {
-            spread = subst (λ (x : Labels). IsSpread p ws s t x stop arcs (i + 1)) (sym items) (spread-next p ws s t ls stop arcs i (spread-same p ws s t ls stop arcs i c.loop-arc.invariant.spread (λ usable. absurd (let bad : false ≡ true = subst (λ (x : Option ℕ). IsSome x) w.in_default.is usable.weighted in cc))));
+            spread = subst (λ (x : Labels). IsSpread p ws s t x stop arcs (i + 1)) (sym items) (spread-next p ws s t ls stop arcs i (spread-same p ws s t ls stop arcs i spread (λ usable. relaxed-settled p ws s t ls stop arcs i a spread tail (none usable))));
             open_same = ap open_count items ∙ c.loop-arc.invariant.open_same;
             waits = rw (w.labels-is, w.queue-is) c.loop-arc.invariant.waits;
           }

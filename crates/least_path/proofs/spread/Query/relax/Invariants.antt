@@ -4,8 +4,8 @@ use Rattle.least_path.specs.Waits.{AllWait}
 use Rattle.least_path.proofs.spread.Query.relax.Given as goal
 
 abbrev pub invariant-loop-arc : goal.invariant-loop-arc
-invariant-loop-arc l = record {
-  spread : IsSpread l.self.inst.now l.self.weights.now l.self.source l.self.target l.labels.items l.here l.arc-items l.arc-index;
+invariant-loop-arc g l = record {
+  spread : IsSpread l.self.inst.now (g.W.Weigher.weights l.self.weigher.now) l.self.source l.self.target l.labels.items l.here l.arc-items l.arc-index;
   open_same : open_count l.labels.items ≡ open_count l.initial.labels.items;
   waits : AllWait l.labels.items l.queue;
 }

@@ -6,9 +6,9 @@ use Rattle.least_path.proofs.FoundLaws.{reached-closed, closed-no_path}
 use Rattle.least_path.proofs.spread.Query.told.Goals as goal
 
 pub returns-in_ok-reached_nodes-in-None : goal.returns-in_ok-reached_nodes-in-None
-returns-in_ok-reached_nodes-in-None c =
+returns-in_ok-reached_nodes-in-None g c =
     let p = c.args.self.now.inst.now in
-    let ws = c.args.self.now.weights.now in
+    let ws = (g.W.Weigher.weights c.args.self.now.weigher.now) in
     let s = c.args.self.now.source in
     let t = c.args.self.now.target in
     let ls = c.args.labels.now in

@@ -5,41 +5,41 @@ use Rattle.least_path.specs.declared.label.Stop.{Stop}
 use Rattle.least_path.specs.Labels.{Labels, IsSearch, IsNearest, HasNoOpen, is_labelled, way, first_labels_of}
 use Rattle.least_path.proofs.SettleLaws.{first-search}
 use Rattle.least_path.proofs.FoundLaws.{reached-closed, closed-no_path, found-path}
-use Rattle.least_path.proofs.room.Room.search.Goals as goal
+use Rattle.least_path.proofs.room.Room.search_by.Goals as goal
 
 pub go_out-requires-clause-search : goal.go_out-requires-clause-search
-go_out-requires-clause-search c =
+go_out-requires-clause-search g c =
     let p = c.args.inst.now in
-    subst (λ (x : Labels). IsSearch p c.args.weights.now c.args.source c.args.target x)
+    subst (λ (x : Labels). IsSearch p (g.W.Weigher.weights c.args.weigher.now) c.args.source c.args.target x)
     (sym (c.in_ok-begin.ensures.labels ∙ ap (λ (n : ℕ). first_labels_of n c.args.source.0) c.nodes.ensures.value))
-    (first-search p c.args.weights.now c.args.source c.args.target c.requires.source)
+    (first-search p (g.W.Weigher.weights c.args.weigher.now) c.args.source c.args.target c.requires.source)
 
 pub begin-requires : goal.begin-requires
-begin-requires c = rw c.nodes.ensures.value c.requires.source
+begin-requires g c = rw c.nodes.ensures.value c.requires.source
 
 pub go_out-requires-clause-waits : goal.go_out-requires-clause-waits
-go_out-requires-clause-waits c = c.in_ok-begin.ensures.waits
+go_out-requires-clause-waits g c = c.in_ok-begin.ensures.waits
 
 pub way_to-requires-clause-search : goal.way_to-requires-clause-search
-way_to-requires-clause-search c = rw c.deref.ensures.value c.in_ok-found.ensures.search
+way_to-requires-clause-search g c = rw c.deref.ensures.value c.in_ok-found.ensures.search
 
 pub way_to-requires-clause-last : goal.way_to-requires-clause-last
-way_to-requires-clause-last c =
+way_to-requires-clause-last g c =
     let near = subst (λ (found : Option Stop). IfSome found (IsNearest c.go_out.new.labels.items)) c.in-Some.is c.in_ok-found.ensures.nearest in
     rw c.deref.ensures.value near.is
 
 pub returns-in_default-clause-none : goal.returns-in_default-clause-none
-returns-in_default-clause-none c =
+returns-in_default-clause-none g c =
     let p = c.args.inst.now in
-    let ws = c.args.weights.now in
+    let ws = (g.W.Weigher.weights c.args.weigher.now) in
     let ls = c.go_out.new.labels.items in
     let none : HasNoOpen ls = subst (λ (found : Option Stop). IfNone found (HasNoOpen ls)) c.in_default.is c.in_ok-found.ensures.none in
     closed-no_path p ws c.args.source c.args.target (map is_labelled ls) (reached-closed p ws c.args.source c.args.target ls c.requires.target c.in_ok-found.ensures.search none)
 
 pub returns-clause-path : goal.returns-clause-path
-returns-clause-path c =
+returns-clause-path g c =
     let p = c.args.inst.now in
-    let ws = c.args.weights.now in
+    let ws = (g.W.Weigher.weights c.args.weigher.now) in
     let s = c.args.source in
     let t = c.args.target in
     let stop = c.in-Some.last in
@@ -47,4 +47,4 @@ returns-clause-path c =
     let near = subst (λ (found : Option Stop). IfSome found (IsNearest ls)) c.in-Some.is c.in_ok-found.ensures.nearest in
     let at_target = subst (λ (found : Option Stop). IfSome found (λ last. last.node.0 ≡ t.0)) c.in-Some.is c.in_ok-found.ensures.at_target in
     subst (λ (arcs : List ArcId). IsLeastPath p ws s t arcs stop.label.length) (sym (c.in_ok-self-inside.ensures ∙ ap (λ (x : Labels). way p x stop.label.steps stop.label) c.deref.ensures.value))
-    (found-path p ws s t ls stop c.arcs.ensures.lawful c.in_ok-found.ensures.search near at_target)
+    (found-path p ws s t ls stop c.lawful.ensures c.in_ok-found.ensures.search near at_target)
