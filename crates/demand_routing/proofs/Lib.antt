@@ -2,3 +2,5 @@ pub mod Rises
 pub mod ReroutingLaws
 pub mod TrafficLaws
 pub mod RoutingLaws
+pub mod AddedCosts
+pub mod WeighedLaws

@@ -21,7 +21,7 @@ back-le p f q load e = by_cases (is_two_way p.orient)
     by_cases true = more-le f q load (2 * e + 1)
     by_cases false = omega arith
 
-larger-le : (p : Parts) (f : ℕ → ℕ) (q load e : ℕ) → larger_of p f e ≤ larger_of p (with_more f q load) e
+pub larger-le : (p : Parts) (f : ℕ → ℕ) (q load e : ℕ) → larger_of p f e ≤ larger_of p (with_more f q load) e
 larger-le p f q load e =
     let there : there_of p f e ≤ there_of p (with_more f q load) e = more-le f q load _ in
     let back = back-le p f q load e in

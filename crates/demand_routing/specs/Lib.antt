@@ -1,2 +1,3 @@
 pub mod Routings
 pub mod Traffic
+pub mod Weighed

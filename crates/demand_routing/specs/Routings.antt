@@ -8,7 +8,7 @@ use Rattle.plan_base.specs.Arcs.{demand_at}
 use Rattle.plan_base.specs.Places.{places}
 use Rattle.plan_base.specs.Sums.{sum_below}
 use Rattle.plan_base.specs.Designs.{load_from}
-use Rattle.least_path.specs.Paths.{Weights, AreWeights, IsLeastPath, HasNoUsablePath}
+use Rattle.least_path.specs.Paths.{Weights, IsLeastPath, HasNoUsablePath}
 use Rattle.completions.specs.Completions.{with_paths, ArePaths}
 use Rattle.demand_routing.specs.declared.routing.Routing.{Routing}
 use Rattle.demand_routing.specs.Traffic.{AreAddedCosts, AreFarCosts}
@@ -25,12 +25,11 @@ laid_on p paths laid q k = if is_marked laid k then load_from p (with_paths path
 abbrev pub AreLoads : Parts → List (List ArcId) → List Bool → List ℕ → Type 0
 AreLoads p paths laid loads = (q : ℕ) → q < MAX_PLACES → slice_index loads q ≡ sum_below (laid_on p paths laid q) (length p.demands)
 
--- a simple path and a mark for each demand, the loads of those that are marked as laid, and room for weights
+-- a simple path and a mark for each demand, and the loads of those that are marked as laid
 pub record IsRouting (p : Parts) (r : Routing) : Type 0 where
   pub paths : ArePaths p r.paths.items
   pub marks : length r.laid.items ≡ length p.demands
   pub loads : AreLoads p r.paths.items r.laid.items r.loads.value
-  pub weights : AreWeights p r.weights.items
 
 -- the paths, the marks and the loads are the same
 pub record HasSameRoutes (r s : Routing) : Type 0 where

@@ -55,12 +55,13 @@ span_of p carried load far = min (carried + load + far) (total_load p) - carried
 abbrev pub halved : ℕ → ℕ → ℕ → ℕ → ℕ
 halved rise beyond load span = rise / 2 + beyond / 131072 * (load * 65536 / span)
 
--- half of what the load adds, and half of its share of what the span adds
+-- half of what the load adds, and half of its share of what the span adds, which is not nothing
 pub record IsShared (p : Parts) (loads : ℕ → ℕ) (q load span weight : ℕ) : Type 0 where
   pub rise : ℕ
   pub beyond : ℕ
   pub is_rise : IsRise p loads q load rise
   pub is_beyond : IsRise p loads q span beyond
+  pub positive : 0 < span
   pub is_weight : weight ≡ halved rise beyond load span
 
 -- what the load adds alone, where the span is nothing or too much for the link

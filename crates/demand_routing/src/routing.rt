@@ -11,7 +11,7 @@ ghost use Rattle.demand_routing.specs.Traffic.{AreRises, HasTooMuch};
 
 use crate::copies::set_path;
 use crate::loads::{add_load, remove_load};
-use crate::weights::{no_weights, rise_along, weigh, weigh_far};
+use crate::weights::{FarRises, Rises, rise_along};
 use least_path::Room;
 use link_steps::StepTable;
 use plan_base::limits::MAX_PLACES;
@@ -32,7 +32,6 @@ pub struct Routing {
     pub searches: u32,
     /// For each place where among its link's steps that of its link's need is looked for first.
     nears: Box<[u32; MAX_PLACES]>,
-    weights: Vec<Option<u128>>,
     room: Room,
 }
 
@@ -50,7 +49,6 @@ impl Routing {
             cost: 0,
             searches: 0,
             nears: Box::new(alloc, [0; MAX_PLACES])?,
-            weights: no_weights(alloc, inst)?,
             room: Room::new(alloc, inst)?,
         })
     }
@@ -74,7 +72,7 @@ impl Routing {
         }
         let load = inst.demand(demand).load;
         let arcs = self.paths[place].as_slice();
-        let rise = rise_along(inst, table, &self.loads, arcs, load);
+        let rise = rise_along(inst, table, &self.loads, &mut self.nears, arcs, load, true);
         add_load(inst, &mut self.loads, arcs, load);
         self.cost = self.cost.saturating_add(rise.unwrap_or(u128::MAX));
         self.laid[place] = true;
@@ -102,13 +100,14 @@ impl Routing {
         let load = inst.demand(demand).load;
         let arcs = self.paths[place].as_slice();
         remove_load(inst, &mut self.loads, arcs, load);
-        let fall = rise_along(inst, table, &self.loads, arcs, load);
+        let fall = rise_along(inst, table, &self.loads, &mut self.nears, arcs, load, false);
         self.cost = self.cost.saturating_sub(fall.unwrap_or(0));
         self.laid[place] = false;
         fall
     }
 
     /// Searches for a path that raises the step costs least, puts it into the room, and gives the rise in cost grains.
+    #[tactic(auto, using(crate::proofs::WeighedLaws::added_count, crate::proofs::WeighedLaws::cheapest_way, crate::proofs::WeighedLaws::no_way))]
     fn search(
         &mut self,
         inst: &Instance,
@@ -127,20 +126,20 @@ impl Routing {
         ensures none { IfOk result (λ found. IfNone found (HasNoWay inst.now self.new.loads.value (demand_at inst.now demand.0))) }
     {
         let demand = inst.demand(demand);
-        weigh(
+        self.searches = self.searches.saturating_add(1);
+        let rises = Rises {
             inst,
             table,
-            &self.loads,
-            demand.load,
-            &mut self.nears,
-            &mut self.weights,
-        );
-        self.searches = self.searches.saturating_add(1);
+            loads: &self.loads,
+            nears: &self.nears,
+            load: demand.load,
+        };
         self.room
-            .search(inst, &self.weights, demand.source, demand.target)
+            .search_by(inst, &rises, demand.source, demand.target)
     }
 
     /// Searches for a path of least weight, where far more load is looked at too, and puts it into the room.
+    #[tactic(auto, using(crate::proofs::WeighedLaws::far_count, crate::proofs::WeighedLaws::least_way, crate::proofs::WeighedLaws::no_far_way))]
     fn search_far(
         &mut self,
         inst: &Instance,
@@ -159,18 +158,17 @@ impl Routing {
         ensures none { IfOk result (λ found. IfNone found (HasNoFarWay inst.now self.new.loads.value (demand_at inst.now demand.0) far)) }
     {
         let demand = inst.demand(demand);
-        weigh_far(
+        self.searches = self.searches.saturating_add(1);
+        let rises = Rises {
             inst,
             table,
-            &self.loads,
-            demand.load,
-            far,
-            &mut self.nears,
-            &mut self.weights,
-        );
-        self.searches = self.searches.saturating_add(1);
+            loads: &self.loads,
+            nears: &self.nears,
+            load: demand.load,
+        };
+        let far_rises = FarRises { rises, far };
         self.room
-            .search(inst, &self.weights, demand.source, demand.target)
+            .search_by(inst, &far_rises, demand.source, demand.target)
     }
 
     /// Gives a demand that is off the path in the room.

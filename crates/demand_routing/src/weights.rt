@@ -1,19 +1,17 @@
 //! What arcs weigh while demands are laid.
 
-ghost use Rattle.std.specs.Prelude.{ℕ, ◌≡◌, ◌≢◌, ◌<◌, ◌≤◌, ◌+◌, ◌*◌, ◌-◌, ◌/◌, min, max, length, slice_index, slice_index_or, None, IfOk, IfSome, IfNone};
+ghost use Rattle.std.specs.Prelude.{◌≡◌, ◌<◌, ◌≤◌, ◌+◌, ◌*◌, ◌/◌, min, max, length, slice_index, IfSome, IfNone};
 ghost use Rattle.std.specs.Option.{unwrap_or};
 ghost use Rattle.plan_base.specs.Facts.{IsInstance, total_load};
 ghost use Rattle.plan_base.specs.Places.{places, link_of_place, there_of, back_of};
 ghost use Rattle.link_steps.specs.Costs.{CannotCarry, IsStepCost};
-ghost use Rattle.least_path.specs.Paths.{AreWeights};
-ghost use Rattle.demand_routing.specs.Traffic.{with_more, IsTooMuch, IsCostOf, IsRise, IsAddedCost, place_at, AreAddedCosts, span_of, IsFarCost, AreFarCosts, AreRises, HasTooMuch};
+ghost use Rattle.demand_routing.specs.Traffic.{with_more, IsTooMuch, IsCostOf, IsRise, IsAddedCost, span_of, IsFarCost, AreRises, HasTooMuch};
 
 use completions::{LINK_COST_BOUND, routing_cost};
-use least_path::limits::MAX_WEIGHT;
+use least_path::Weigher;
 use link_steps::{PlacedCost, StepTable};
 use plan_base::limits::{MAX_PLACES, MAX_TOTAL_LOAD};
 use plan_base::{ArcId, Instance, LinkId, LinkLoads};
-use std::alloc::{AllocError, Global};
 
 /// The step cost of the loads of a link's places, in cost grains, and the place of its step, which is found at once where
 /// it lies near this one; None where the larger load is above the total load or no counts carry it.
@@ -44,13 +42,13 @@ fn step_cost(
 }
 
 /// The step cost of a link for what its places carry, in cost grains; None where the link cannot carry that. Its step is
-/// looked for near a place, which becomes its own.
+/// looked for near a place.
 fn held_cost(
     inst: &Instance,
     table: &StepTable,
     loads: &[u128; MAX_PLACES],
     link: LinkId,
-    near: &mut u32,
+    near: u32,
 ) -> Option<PlacedCost>
     requires lawful { IsInstance inst.now }
     requires table { table.now ≡ inst.now }
@@ -59,9 +57,7 @@ fn held_cost(
     ensures none { IfNone result (IsTooMuch inst.now (slice_index loads.now) link.0) }
 {
     let held = LinkLoads::of_link(inst, loads, link);
-    let found = step_cost(inst, table, link, held, *near)?;
-    *near = found.place;
-    Some(found)
+    step_cost(inst, table, link, held, near)
 }
 
 /// The loads of a place's link with a load more on that place, up to the greatest number.
@@ -87,7 +83,33 @@ fn loads_with(inst: &Instance, loads: &[u128; MAX_PLACES], place: u32, load: u12
 }
 
 /// What the step cost of a place's link rises by where a load is added to the place, above what it costs now, in cost
-/// grains; None where the link cannot carry that.
+/// grains, and the place of its step then; None where the link cannot carry that.
+fn placed_rise(
+    inst: &Instance,
+    table: &StepTable,
+    loads: &[u128; MAX_PLACES],
+    place: u32,
+    before: PlacedCost,
+    load: u128,
+) -> Option<PlacedCost>
+    requires lawful { IsInstance inst.now }
+    requires table { table.now ≡ inst.now }
+    requires place { place < places inst.now }
+    requires before { IsCostOf inst.now (slice_index loads.now) (link_of_place inst.now place) before.cost }
+    ensures some { IfSome result (λ rise. IsRise inst.now (slice_index loads.now) place load rise.cost) }
+    ensures none { IfNone result (IsTooMuch inst.now (with_more (slice_index loads.now) place load) (link_of_place inst.now place)) }
+    ensures within { IfSome result (λ rise. rise.cost ≤ LINK_COST_BOUND) }
+{
+    let link = inst.link_of_place(place);
+    let more = loads_with(inst, loads, place, load);
+    let after = step_cost(inst, table, link, more, before.place)?;
+    Some(PlacedCost {
+        cost: after.cost.saturating_sub(before.cost),
+        place: after.place,
+    })
+}
+
+/// What `placed_rise` tells of costs.
 fn rise_above(
     inst: &Instance,
     table: &StepTable,
@@ -103,21 +125,19 @@ fn rise_above(
     ensures value { IsAddedCost inst.now (slice_index loads.now) place load result }
     ensures within { unwrap_or result 0 ≤ LINK_COST_BOUND }
 {
-    let link = inst.link_of_place(place);
-    let more = loads_with(inst, loads, place, load);
-    let after = step_cost(inst, table, link, more, before.place)?;
-    Some(after.cost.saturating_sub(before.cost))
+    let rise = placed_rise(inst, table, loads, place, before, load)?;
+    Some(rise.cost)
 }
 
 /// What the step cost of a place's link rises by where a load is added to the place, in cost grains; None where the link
-/// cannot carry that. The step of what it carries is looked for near a place, which becomes its own.
+/// cannot carry that. The step of what it carries is looked for near a place.
 fn added_cost(
     inst: &Instance,
     table: &StepTable,
     loads: &[u128; MAX_PLACES],
     place: u32,
     load: u128,
-    near: &mut u32,
+    near: u32,
 ) -> Option<u128>
     requires lawful { IsInstance inst.now }
     requires table { table.now ≡ inst.now }
@@ -163,7 +183,7 @@ fn far_cost(
     place: u32,
     load: u128,
     far: u128,
-    near: &mut u32,
+    near: u32,
 ) -> Option<u128>
     requires lawful { IsInstance inst.now }
     requires table { table.now ≡ inst.now }
@@ -184,107 +204,140 @@ fn far_cost(
     Some(rise / 2 + half_share(beyond, load, span))
 }
 
-/// No weight for any arc.
-#[tactic(auto, using(crate::proofs::ReroutingLaws::unweighted))]
-pub fn no_weights(alloc: Global, inst: &Instance) -> Result<Vec<Option<u128>>, AllocError>
-    ensures { IfOk result (λ weights. AreWeights inst.now weights.items) }
-{
-    vec![in alloc; None; inst.arcs() as usize]
-}
-
-/// Sets the weight of the arcs of a place.
-#[tactic(auto, using(crate::proofs::ReroutingLaws::weights_set))]
-fn put_weight(inst: &Instance, weights: &mut Vec<Option<u128>>, place: u32, weight: Option<u128>)
-    requires place { place < places inst.now }
-    requires weights { AreWeights inst.now weights.old.items }
-    requires weight { unwrap_or weight 0 ≤ MAX_WEIGHT }
-    ensures weights { AreWeights inst.now weights.new.items }
-    ensures here { (n : ℕ) → n < 2 * length inst.now.links → place_at inst.now n ≡ place → slice_index_or weights.new.items n None ≡ weight }
-    ensures others { (n : ℕ) → n < 2 * length inst.now.links → place_at inst.now n ≢ place → slice_index_or weights.new.items n None ≡ slice_index_or weights.old.items n None }
-{
-    inst.lawful();
-    let number = place as usize;
-    if inst.orient().is_two_way() {
-        weights[number] = weight;
+/// The place where the step of what a place carries is looked for first.
+fn near_of(nears: &[u32; MAX_PLACES], place: u32) -> u32 {
+    if (place as usize) < MAX_PLACES {
+        nears[place as usize]
     } else {
-        weights[2 * number] = weight;
-        weights[2 * number + 1] = weight;
+        0
     }
 }
 
-/// Sets the weight of each arc to what its link's step cost rises by where this load is added to the arc's place. For each
-/// place is kept where among its link's steps that of what it carries was found, near which it is looked for the next time.
-pub fn weigh(
-    inst: &Instance,
-    table: &StepTable,
-    loads: &[u128; MAX_PLACES],
-    load: u128,
-    nears: &mut [u32; MAX_PLACES],
-    weights: &mut Vec<Option<u128>>,
-)
-    requires table { table.now ≡ inst.now }
-    requires weights { AreWeights inst.now weights.old.items }
-    ensures weights { AreWeights inst.now weights.new.items }
-    ensures added { AreAddedCosts inst.now loads.now load (places inst.now) weights.new.items }
-{
-    for place in 0..inst.places() {
-        let near = &mut nears[place as usize];
-        let cost = added_cost(inst, table, loads, place, load, near);
-        put_weight(inst, weights, place, cost);
+/// Changes that place.
+fn set_near(nears: &mut [u32; MAX_PLACES], place: u32, near: u32) {
+    if (place as usize) < MAX_PLACES {
+        nears[place as usize] = near;
     }
 }
 
-/// Sets the weight of each arc by what its link's step cost rises by where this load is added to the arc's place, and where
-/// far more is.
-pub fn weigh_far(
-    inst: &Instance,
-    table: &StepTable,
-    loads: &[u128; MAX_PLACES],
-    load: u128,
-    far: u128,
-    nears: &mut [u32; MAX_PLACES],
-    weights: &mut Vec<Option<u128>>,
-)
-    requires table { table.now ≡ inst.now }
-    requires weights { AreWeights inst.now weights.old.items }
-    ensures weights { AreWeights inst.now weights.new.items }
-    ensures far { AreFarCosts inst.now loads.now load far (places inst.now) weights.new.items }
-{
-    for place in 0..inst.places() {
-        let near = &mut nears[place as usize];
-        let cost = far_cost(inst, table, loads, place, load, far, near);
-        put_weight(inst, weights, place, cost);
+/// What arcs weigh where a load is laid: what the step cost of an arc's link rises by where it is added to the arc's place.
+#[derive(Drop)]
+pub struct Rises<'a> {
+    pub inst: &'a Instance,
+    pub table: &'a StepTable,
+    /// For each place, in load grains.
+    pub loads: &'a [u128; MAX_PLACES],
+    /// For each place where among its link's steps that of what it carries is looked for first.
+    pub nears: &'a [u32; MAX_PLACES],
+    /// In load grains.
+    pub load: u128,
+}
+
+impl Weigher for Rises<'_> {
+    ghost use Rattle.std.specs.Prelude.{◌≡◌};
+    ghost use Rattle.demand_routing.specs.Weighed.{added_costs};
+
+    ghost weights = { λ a. added_costs a.inst.now a.loads.now a.load };
+
+    ghost fits = { λ a. a.table.now ≡ a.inst.now };
+
+    fn weight(&self, arc: ArcId) -> Option<u128> {
+        self.inst.lawful();
+        let place = self.inst.place(arc);
+        let near = near_of(self.nears, place);
+        added_cost(self.inst, self.table, self.loads, place, self.load, near)
+    }
+}
+
+/// What arcs weigh where far more load is looked at too: by what the step cost of an arc's link rises by where a load is
+/// added to the arc's place, and where far more is.
+#[derive(Drop)]
+pub struct FarRises<'a> {
+    pub rises: Rises<'a>,
+    /// In load grains.
+    pub far: u128,
+}
+
+impl Weigher for FarRises<'_> {
+    ghost use Rattle.std.specs.Prelude.{◌≡◌, ◌≤◌};
+    ghost use Rattle.demand_routing.specs.Weighed.{far_costs};
+
+    ghost weights = { λ a. far_costs a.rises.inst.now a.rises.loads.now a.rises.load a.far };
+
+    ghost fits = { λ a. a.rises.table.now ≡ a.rises.inst.now };
+
+    fn weight(&self, arc: ArcId) -> Option<u128> {
+        let rises = &self.rises;
+        rises.inst.lawful();
+        let place = rises.inst.place(arc);
+        let near = near_of(rises.nears, place);
+        far_cost(
+            rises.inst,
+            rises.table,
+            rises.loads,
+            place,
+            rises.load,
+            self.far,
+            near,
+        )
+    }
+}
+
+/// What the step cost of a place's link rises by where a load is added to the place, in cost grains, and the places of the
+/// step of what the link carries without the load and with it.
+#[derive(Clone, Copy, Debug)]
+struct Rise {
+    cost: u128,
+    before: u32,
+    after: u32,
+}
+
+impl Rise {
+    /// The place of the step once the load is laid, or once it is taken off.
+    fn near(self, laid: bool) -> u32 {
+        if laid { self.after } else { self.before }
     }
 }
 
 /// What the step cost of a place's link rises by where a load is added to the place; None also where there is no such
-/// place.
+/// place. The step of what it carries is looked for near a place.
 fn rise_at(
     inst: &Instance,
     table: &StepTable,
     loads: &[u128; MAX_PLACES],
     place: u32,
     load: u128,
-) -> Option<u128>
+    near: u32,
+) -> Option<Rise>
     requires table { table.now ≡ inst.now }
-    ensures value { IfSome result (IsRise inst.now (slice_index loads.now) place load) }
+    ensures value { IfSome result (λ rise. IsRise inst.now (slice_index loads.now) place load rise.cost) }
     ensures within { IfSome result (λ _. place < places inst.now) }
     ensures none { IfNone result (place < places inst.now → IsTooMuch inst.now (with_more (slice_index loads.now) place load) (link_of_place inst.now place)) }
 {
     if place >= inst.places() {
         return None;
     }
-    added_cost(inst, table, loads, place, load, &mut 0)
+    let link = inst.link_of_place(place);
+    let before = held_cost(inst, table, loads, link, near)?;
+    let after = placed_rise(inst, table, loads, place, before, load)?;
+    Some(Rise {
+        cost: after.cost,
+        before: before.place,
+        after: after.place,
+    })
 }
 
 /// What the step costs of a path's links rise by where this load is added to what its places carry, in cost grains, up to
-/// the greatest number; None where one of the links cannot carry that.
+/// the greatest number; None where one of the links cannot carry that. The steps are looked for near a place for each of
+/// the path's places, which becomes that of the step once the load is laid, or once it is taken off.
 pub fn rise_along(
     inst: &Instance,
     table: &StepTable,
     loads: &[u128; MAX_PLACES],
+    nears: &mut [u32; MAX_PLACES],
     arcs: &[ArcId],
     load: u128,
+    laid: bool,
 ) -> Option<u128>
     requires table { table.now ≡ inst.now }
     ensures sum { IfSome result (AreRises inst.now loads.now load arcs.now u128.MAX) }
@@ -292,8 +345,10 @@ pub fn rise_along(
 {
     let mut sum = 0u128;
     for arc in arcs {
-        let rise = rise_at(inst, table, loads, inst.place(*arc), load)?;
-        sum = sum.saturating_add(rise);
+        let place = inst.place(*arc);
+        let rise = rise_at(inst, table, loads, place, load, near_of(nears, place))?;
+        set_near(nears, place, rise.near(laid));
+        sum = sum.saturating_add(rise.cost);
     }
     Some(sum)
 }

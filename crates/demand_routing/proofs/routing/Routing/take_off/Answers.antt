@@ -26,5 +26,4 @@ returns-clause-routing c =
       paths = are.paths;
       marks = length-set laid k false ∙ are.marks;
       loads = loads-off p paths laid c.deref_mut.result.now c.remove_load.new.loads k c.demand.result.now.load c.as_slice-arcs.result.now c.lawful.ensures are.paths c.requires.demand are.marks load path loads on c.remove_load.ensures;
-      weights = are.weights;
     }

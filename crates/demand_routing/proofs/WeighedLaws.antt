@@ -1,0 +1,44 @@
+-- The weights of all arcs are what loads add.
+use Rattle.std.proofs.Common.{◌≡◌, ℕ, ◌*◌, ◌<◌, List, length, slice_index, slice_index_or, Option, None, sym, subst}
+use Rattle.plan_base.specs.declared.ids.ArcId.{ArcId}
+use Rattle.plan_base.specs.declared.parts.Demand.{Demand}
+use Rattle.plan_base.specs.declared.parts.Parts.{Parts}
+use Rattle.least_path.specs.Paths.{IsLeastPath, HasNoUsablePath}
+use Rattle.demand_routing.specs.Traffic.{place_at, IsAddedCost, IsFarCost}
+use Rattle.demand_routing.specs.Weighed.{added_cost, far_cost, added_costs, far_costs}
+use Rattle.demand_routing.specs.Routings.{IsCheapestWay, HasNoWay, IsLeastWay, HasNoFarWay}
+use Rattle.demand_routing.proofs.AddedCosts.{added-is, far-is, listed-at, listed-length}
+
+pub added_count : (p : Parts) (loads : List ℕ) (load : ℕ) → length (added_costs p loads load) ≡ 2 * length p.links
+unfolding added_costs
+added_count p loads load = listed-length (λ (n : ℕ). added_cost p (slice_index loads) (place_at p n) load) (2 * length p.links)
+
+pub added-at : (p : Parts) (loads : List ℕ) (load n : ℕ) → n < 2 * length p.links → IsAddedCost p (slice_index loads) (place_at p n) load (slice_index_or (added_costs p loads load) n None)
+unfolding added_costs
+added-at p loads load n below =
+    subst (λ (w : Option ℕ). IsAddedCost p (slice_index loads) (place_at p n) load w)
+    (sym (listed-at (λ (k : ℕ). added_cost p (slice_index loads) (place_at p k) load) (2 * length p.links) n below))
+    (added-is p (slice_index loads) (place_at p n) load)
+
+pub far_count : (p : Parts) (loads : List ℕ) (load far : ℕ) → length (far_costs p loads load far) ≡ 2 * length p.links
+unfolding far_costs
+far_count p loads load far = listed-length (λ (n : ℕ). far_cost p (slice_index loads) (place_at p n) load far) (2 * length p.links)
+
+pub far-at : (p : Parts) (loads : List ℕ) (load far n : ℕ) → n < 2 * length p.links → IsFarCost p (slice_index loads) (place_at p n) load far (slice_index_or (far_costs p loads load far) n None)
+unfolding far_costs
+far-at p loads load far n below =
+    subst (λ (w : Option ℕ). IsFarCost p (slice_index loads) (place_at p n) load far w)
+    (sym (listed-at (λ (k : ℕ). far_cost p (slice_index loads) (place_at p k) load far) (2 * length p.links) n below))
+    (far-is p (slice_index loads) (place_at p n) load far)
+
+pub cheapest_way : (p : Parts) (loads : List ℕ) (k : Demand) (arcs : List ArcId) (rise : ℕ) → IsLeastPath p (added_costs p loads k.load) k.source k.target arcs rise → IsCheapestWay p loads k arcs rise
+cheapest_way p loads k arcs rise least = record { weights = added_costs p loads k.load; added = λ n within below. added-at p loads k.load n within; least = least }
+
+pub no_way : (p : Parts) (loads : List ℕ) (k : Demand) → HasNoUsablePath p (added_costs p loads k.load) k.source k.target → HasNoWay p loads k
+no_way p loads k none = record { weights = added_costs p loads k.load; added = λ n within below. added-at p loads k.load n within; none = none }
+
+pub least_way : (p : Parts) (loads : List ℕ) (k : Demand) (far : ℕ) (arcs : List ArcId) (weight : ℕ) → IsLeastPath p (far_costs p loads k.load far) k.source k.target arcs weight → IsLeastWay p loads k far arcs weight
+least_way p loads k far arcs weight least = record { weights = far_costs p loads k.load far; far_costs = λ n within below. far-at p loads k.load far n within; least = least }
+
+pub no_far_way : (p : Parts) (loads : List ℕ) (k : Demand) (far : ℕ) → HasNoUsablePath p (far_costs p loads k.load far) k.source k.target → HasNoFarWay p loads k far
+no_far_way p loads k far none = record { weights = far_costs p loads k.load far; far_costs = λ n within below. far-at p loads k.load far n within; none = none }
