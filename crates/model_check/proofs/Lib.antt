@@ -2,4 +2,3 @@ mod Lists
 mod Values
 mod Possible
 mod Only
-mod OnePlace

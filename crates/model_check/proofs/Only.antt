@@ -53,7 +53,7 @@ built_is_read net model p h lawful =
 
 unsupported_not : (m : ModelFile) (key : Key) (value : ℕ) → IsUnsupported m key value → IsSupported m → ⊥
 unsupported_not m key value h supported =
-    elim h.cause [ inl first ↦ false≢true (sym first.outside ∙ supported.values key) | inr pair ↦ supported.pair pair.demand pair.link ]
+    elim h.cause [ inl first ↦ false≢true (sym first.outside ∙ supported.values key) | inr pair ↦ pair.link (supported.pair pair.demand) ]
 
 pub not_refused : (net : NetworkFile) (model : ModelFile) (p : Parts) (fault : CheckFault) → ReadsAs net model p → IsInstance p → IsCheckFault net model fault → fault ≡ OutOfMemory
 not_refused net model p (Unsupported key value) h lawful is = absurd (unsupported_not model key value is h.supported)

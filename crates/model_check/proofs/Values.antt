@@ -133,15 +133,15 @@ value_fault_told m e is =
 pub not_supported : (m : ModelFile) (e : CheckFault) → value_fault m ≡ Some e → IsSupported m → ⊥
 not_supported m e is supported = let bad : Some e ≡ None = sym is ∙ all_planned m supported.values in cc
 
--- undirected demands on directed links
-pub pair_told : (m : ModelFile) (value : ℕ) → value_fault m ≡ None → m.demand ≡ demands.Undirected → m.link ≡ links.Directed → value ≡ number_of (Demand m.demand) → IsUnsupported m keys.Demand value
+-- undirected demands on links that are not
+pub pair_told : (m : ModelFile) (value : ℕ) → value_fault m ≡ None → m.demand ≡ demands.Undirected → m.link ≢ links.Undirected → value ≡ number_of (Demand m.demand) → IsUnsupported m keys.Demand value
 pair_told m value none demand link is = record {
   cause = inr (record { values = planned_all m none; demand = demand; link = link; told = refl });
   number = is;
 }
 
 -- each other pair
-pub supported : (m : ModelFile) → value_fault m ≡ None → (m.demand ≡ demands.Undirected → m.link ≢ links.Directed) → IsSupported m
+pub supported : (m : ModelFile) → value_fault m ≡ None → (m.demand ≡ demands.Undirected → m.link ≡ links.Undirected) → IsSupported m
 supported m none pair = record { values = planned_all m none; pair = pair }
 
 pub ruleset model_faults = (value_fault_told, not_supported, pair_told, supported)

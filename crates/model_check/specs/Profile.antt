@@ -1,5 +1,5 @@
 -- Which values of a model are planned.
-use Rattle.std.specs.Prelude.{◌≡◌, ◌≢◌, Bool, true, false}
+use Rattle.std.specs.Prelude.{◌≡◌, Bool, true, false}
 use Rattle.snd_model.specs.declared.keys.Key.{Key}
 use Rattle.snd_model.specs.declared.setting.Setting.{Setting}
 use Rattle.snd_model.specs.declared.setting.Setting.TheVariants.{Demand, Link, Capacity, FixedCharge, Routing, Path, Hop, Survivability}
@@ -20,7 +20,7 @@ is_planned (Demand demands.Undirected) = true
 is_planned (Demand demands.Directed) = true
 is_planned (Link links.Undirected) = true
 is_planned (Link links.Directed) = true
-is_planned (Link links.Bidirected) = false
+is_planned (Link links.Bidirected) = true
 is_planned (Capacity capacities.Modular) = true
 is_planned (Capacity capacities.Linear) = false
 is_planned (Capacity capacities.SingleModular) = false
@@ -44,7 +44,7 @@ is_planned (Survivability survivals.Unrestricted) = false
 abbrev pub AreAllPlanned : ModelFile → Type 0
 AreAllPlanned m = (key : Key) → is_planned (setting_of m key) ≡ true
 
--- every value is in the profile, and demands on directed links are directed
+-- every value is in the profile, and undirected demands are asked for on undirected links alone
 pub record IsSupported (m : ModelFile) : Type 0 where
   pub values : AreAllPlanned m
-  pub pair : m.demand ≡ demands.Undirected → m.link ≢ links.Directed
+  pub pair : m.demand ≡ demands.Undirected → m.link ≡ links.Undirected

@@ -1,7 +1,7 @@
 -- The instance that a network file and a model file stand for. Numbers of the file are in millionths.
 use Rattle.std.specs.Prelude.{ℕ, ◌≡◌, ◌*◌, ◌^◌, length, map}
 use Rattle.plan_base.specs.declared.parts.Orient.{Orient}
-use Rattle.plan_base.specs.declared.parts.Orient.TheVariants.{Directed, Undirected}
+use Rattle.plan_base.specs.declared.parts.Orient.TheVariants.{Directed, Undirected, Bidirected}
 use Rattle.plan_base.specs.declared.parts.Module.{Module}
 use Rattle.plan_base.specs.declared.parts.Link.{Link}
 use Rattle.plan_base.specs.declared.parts.Demand.{Demand}
@@ -14,11 +14,11 @@ use Rattle.snd_model.specs.declared.values.LinkModel.TheVariants as links
 use Rattle.snd_model.specs.declared.file.ModelFile.{ModelFile}
 use Rattle.model_check.specs.Profile.{IsSupported}
 
--- directed links are used from source to target alone, others both ways; bidirected links are refused before, and what stands for them is never read
+-- directed links are used from source to target alone, others both ways; of bidirected ones each way has a capacity of its own
 abbrev pub orient_of : LinkModel → Orient
 orient_of links.Undirected = Undirected
 orient_of links.Directed = Directed
-orient_of links.Bidirected = Undirected
+orient_of links.Bidirected = Bidirected
 
 -- a module: a millionth of a unit of capacity is a load grain, a millionth of a unit of cost 10^6 cost grains
 abbrev pub module_of : ℕ × ℕ → Module

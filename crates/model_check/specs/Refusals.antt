@@ -1,5 +1,5 @@
 -- Why two files are refused: the first refusal in a stated order.
-use Rattle.std.specs.Prelude.{ℕ, ◌≡◌, ◌≤◌, ◌⊎◌, true, false, List, ◌++◌, ◌∷◌, length, map, All, Some}
+use Rattle.std.specs.Prelude.{ℕ, ◌≡◌, ◌≢◌, ◌≤◌, ◌⊎◌, true, false, List, ◌++◌, ◌∷◌, length, map, All, Some}
 use Rattle.plan_base.specs.declared.parts.Parts.{Parts}
 use Rattle.plan_base.specs.declared.build_fault.BuildFault.{BuildFault}
 use Rattle.plan_base.specs.declared.build_fault.BuildFault.TheVariants as build_faults
@@ -25,11 +25,11 @@ pub record IsFirstOutside (m : ModelFile) (key : Key) : Type 0 where
   pub planned : All (λ earlier. is_planned (setting_of m earlier) ≡ true) before
   pub outside : is_planned (setting_of m key) ≡ false
 
--- every value is in the profile, but undirected demands are asked for on directed links; the key is that of demands
+-- every value is in the profile, but undirected demands are asked for on links that are not; the key is that of demands
 pub record IsBadPair (m : ModelFile) (key : Key) : Type 0 where
   pub values : AreAllPlanned m
   pub demand : m.demand ≡ demands.Undirected
-  pub link : m.link ≡ links.Directed
+  pub link : m.link ≢ links.Undirected
   pub told : key ≡ keys.Demand
 
 -- what is told of a model that is not planned: the key, and the number of its value in the key's row

@@ -11,8 +11,8 @@ use thiserror::Error;
 /// The first refusal of two files, or want of memory.
 #[derive(Clone, Copy, Debug, PartialEq, Eq, Error)]
 pub enum CheckFault {
-    /// A value of the model is outside the profile, or undirected demands are asked for on directed
-    /// links. `value` is the number of the value in the key's row, from 0 on.
+    /// A value of the model is outside the profile, or undirected demands are asked for on links that
+    /// are not. `value` is the number of the value in the key's row, from 0 on.
     #[error("a value of the model is outside the profile")]
     Unsupported { key: Key, value: u8 },
     /// The first fault of the parts that the files stand for, other than want of memory.

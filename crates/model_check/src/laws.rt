@@ -1,9 +1,8 @@
 //! Laws of the definitions. Each is the contract of a function that does nothing.
 
-ghost use Rattle.std.specs.Prelude.{◌≡◌, ◌⊎◌, false};
+ghost use Rattle.std.specs.Prelude.{◌≡◌, ◌⊎◌};
 ghost use Rattle.plan_base.specs.declared.parts.Parts.{Parts as AnyParts};
 ghost use Rattle.plan_base.specs.Facts.{IsInstance};
-ghost use Rattle.plan_base.specs.Places.{is_two_way};
 ghost use Rattle.snd_network.specs.declared.file.NetworkFile.{NetworkFile as AnyNetwork};
 ghost use Rattle.snd_model.specs.declared.file.ModelFile.{ModelFile as AnyModel};
 ghost use Rattle.model_check.specs.declared.fault.CheckFault.{CheckFault as AnyFault};
@@ -15,13 +14,6 @@ ghost use Rattle.model_check.specs.Refusals.{IsCheckFault};
 pub fn one_instance()
     ensures { (net : AnyNetwork) (model : AnyModel) (a b : AnyParts) →
         ReadsAs net model a → ReadsAs net model b → a ≡ b }
-{}
-
-/// An instance that two files stand for has one place for each link.
-#[tactic(auto, using(crate::proofs::OnePlace::one_way))]
-pub fn one_place_each()
-    ensures { (net : AnyNetwork) (model : AnyModel) (parts : AnyParts) →
-        ReadsAs net model parts → is_two_way parts.orient ≡ false }
 {}
 
 /// Two files that stand for an instance are not refused, unless memory runs out.

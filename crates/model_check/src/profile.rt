@@ -19,7 +19,7 @@ fn is_planned(setting: Setting) -> bool
     matches!(
         setting,
         Setting::Demand(DemandModel::Undirected | DemandModel::Directed)
-            | Setting::Link(LinkModel::Undirected | LinkModel::Directed)
+            | Setting::Link(LinkModel::Undirected | LinkModel::Directed | LinkModel::Bidirected)
             | Setting::Capacity(CapacityModel::Modular)
             | Setting::FixedCharge(FixedChargeModel::No)
             | Setting::Routing(RoutingModel::SinglePath)
@@ -61,7 +61,7 @@ pub(crate) fn check_model(model: &ModelFile) -> Result<(), CheckFault>
     ensures fault { IfErr result (IsModelFault model.now) }
 {
     check_keys(model)?;
-    if model.demand == DemandModel::Undirected && model.link == LinkModel::Directed {
+    if model.demand == DemandModel::Undirected && model.link != LinkModel::Undirected {
         return Err(CheckFault::Unsupported {
             key: Key::Demand,
             value: model.setting(Key::Demand).number(),

@@ -20,14 +20,14 @@ fn told(count: usize) -> u32
     u32::try_from(count).unwrap_or(u32::MAX)
 }
 
-/// The orientation of the links. Bidirected ones are outside the profile, so their arm is never reached: it gives
-/// them one place as the others, and that an instance has no second one is shown without the profile.
+/// The orientation of the links.
 fn orient_of(link: LinkModel) -> Orient
     ensures { result ≡ orient_of link }
 {
     match link {
+        LinkModel::Undirected => Orient::Undirected,
         LinkModel::Directed => Orient::Directed,
-        LinkModel::Undirected | LinkModel::Bidirected => Orient::Undirected,
+        LinkModel::Bidirected => Orient::Bidirected,
     }
 }
 
