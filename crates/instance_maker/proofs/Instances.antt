@@ -156,7 +156,7 @@ module _ (number nodes demands : ℕ) (some : 4 ≤ nodes) (few : nodes ≤ 64) 
 
   pub reads : ReadsAs (sample_network number nodes demands) trial_model (sample_parts number nodes demands)
   reads = record {
-    supported = record { values = planned; pair = λ _ e. cc };
+    supported = record { values = planned; pair = λ _. refl };
     orient = refl;
     nodes = sym (length-map-range_with_len sample_node 0 nodes);
     links = refl;
