@@ -71,8 +71,8 @@ const FAULTS: [RunFault; 18] = [
         demand: DemandId(3),
     },
     RunFault::Unsupported {
-        key: Key::Link,
-        value: 2,
+        key: Key::Routing,
+        value: 1,
     },
     RunFault::TooLong {
         file: FileKind::Network,
