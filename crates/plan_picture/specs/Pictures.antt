@@ -27,7 +27,7 @@ encoding utf8 = if utf8 then codes "UTF-8" else codes "ISO-8859-1"
 unfoldable pub head : Bool → List ℕ
 head utf8 =
     codes "<?xml version='1.0' encoding='" ++ encoding utf8
-    ++ codes "'?>\n<svg xmlns='http://www.w3.org/2000/svg' width='1200' height='900' viewBox='0 0 1200 900'>\n<style>\ntext{font-family:sans-serif;fill:#222}\n.place,.name{text-anchor:middle;paint-order:stroke;stroke:#fff;stroke-width:3px}\n.place{font-size:13px;font-weight:bold}\n.name{font-size:10px;fill:#555}\n.legend{font-size:15px}\n.node{fill:#fff;stroke:#222;stroke-width:2px}\n.link,.key{fill:none}\n.directed .link{marker-end:url(#arrow)}\n.unused{stroke:#999;stroke-dasharray:5 5}\n.low{stroke:#2b9348}\n.middle{stroke:#a3a000}\n.high{stroke:#e07a00}\n.full{stroke:#c1121f}\n.dim{opacity:.2}\n</style>\n<defs><marker id='arrow' markerUnits='userSpaceOnUse' markerWidth='14' markerHeight='10' refX='20' refY='5' orient='auto'><path d='M0 0L14 5L0 10z' fill='#444'/></marker></defs>\n<rect width='1200' height='900' fill='#fff'/>\n"
+    ++ codes "'?>\n<svg xmlns='http://www.w3.org/2000/svg' width='1200' height='900' viewBox='0 0 1200 900'>\n<style>\ntext{font-family:sans-serif;fill:#222}\n.place,.name{text-anchor:middle;paint-order:stroke;stroke:#fff;stroke-width:3px}\n.place{font-size:13px;font-weight:bold}\n.name{font-size:10px;fill:#555}\n.legend{font-size:15px}\n.node{fill:#fff;stroke:#222;stroke-width:2px}\n.link,.key{fill:none}\n.directed .link,.bidirected .link{marker-end:url(#arrow)}\n.bidirected .link{marker-start:url(#arrow-back)}\n.unused{stroke:#999;stroke-dasharray:5 5}\n.low{stroke:#2b9348}\n.middle{stroke:#a3a000}\n.high{stroke:#e07a00}\n.full{stroke:#c1121f}\n.dim{opacity:.2}\n</style>\n<defs><marker id='arrow' markerUnits='userSpaceOnUse' markerWidth='14' markerHeight='10' refX='20' refY='5' orient='auto'><path d='M0 0L14 5L0 10z' fill='#444'/></marker><marker id='arrow-back' markerUnits='userSpaceOnUse' markerWidth='14' markerHeight='10' refX='-6' refY='5' orient='auto'><path d='M14 0L0 5L14 10z' fill='#444'/></marker></defs>\n<rect width='1200' height='900' fill='#fff'/>\n"
 
 -- the group that has all marks
 abbrev pub group : Orient → List ℕ

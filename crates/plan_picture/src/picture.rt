@@ -29,7 +29,8 @@ const STYLE: &[u8] =
     .legend{font-size:15px}\n\
     .node{fill:#fff;stroke:#222;stroke-width:2px}\n\
     .link,.key{fill:none}\n\
-    .directed .link{marker-end:url(#arrow)}\n\
+    .directed .link,.bidirected .link{marker-end:url(#arrow)}\n\
+    .bidirected .link{marker-start:url(#arrow-back)}\n\
     .unused{stroke:#999;stroke-dasharray:5 5}\n\
     .low{stroke:#2b9348}\n\
     .middle{stroke:#a3a000}\n\
@@ -37,7 +38,7 @@ const STYLE: &[u8] =
     .full{stroke:#c1121f}\n\
     .dim{opacity:.2}\n\
     </style>\n\
-    <defs><marker id='arrow' markerUnits='userSpaceOnUse' markerWidth='14' markerHeight='10' refX='20' refY='5' orient='auto'><path d='M0 0L14 5L0 10z' fill='#444'/></marker></defs>\n\
+    <defs><marker id='arrow' markerUnits='userSpaceOnUse' markerWidth='14' markerHeight='10' refX='20' refY='5' orient='auto'><path d='M0 0L14 5L0 10z' fill='#444'/></marker><marker id='arrow-back' markerUnits='userSpaceOnUse' markerWidth='14' markerHeight='10' refX='-6' refY='5' orient='auto'><path d='M14 0L0 5L14 10z' fill='#444'/></marker></defs>\n\
     <rect width='1200' height='900' fill='#fff'/>\n";
 
 /// The colours of links with what they say, and the end.

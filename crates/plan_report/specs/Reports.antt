@@ -1,11 +1,11 @@
 -- The text of a report on a plan, by the names of the network, and the line of a trial. Each line ends with a line feed; its words are parted by one blank, which is 32.
-use Rattle.std.specs.Prelude.{ℕ, ◌≡◌, List, [], ◌∷◌, ◌++◌, length, codes, slice_index_or, flat_map, Option, Some, None, ℤ}
+use Rattle.std.specs.Prelude.{ℕ, ◌≡◌, List, [], ◌∷◌, ◌++◌, length, codes, slice_index_or, flat_map, if◌then◌else◌, Option, Some, None, ℤ}
 use Rattle.std.specs.List.{range_with_len}
 use Rattle.plan_base.specs.declared.ids.ArcId.{ArcId}
 use Rattle.plan_base.specs.declared.parts.Parts.{Parts}
 use Rattle.plan_base.specs.declared.path.Design.{Design}
 use Rattle.plan_base.specs.Arcs.{link_at, link_of}
-use Rattle.plan_base.specs.Places.{there_of}
+use Rattle.plan_base.specs.Places.{is_two_way, there_of, back_of}
 use Rattle.plan_base.specs.Designs.{path_at, counts_at, load_at, capacity_with, link_cost}
 use Rattle.snd_network.specs.declared.file.NetworkFile.{NetworkFile}
 use Rattle.snd_network.specs.WellFormed.{link_names, demand_names}
@@ -41,10 +41,14 @@ link_name net e = slice_index_or (link_names net.links) e []
 abbrev pub demand_name : NetworkFile → ℕ → List ℕ
 demand_name net k = slice_index_or (demand_names net.demands) k []
 
--- the load of a link's place, of both directions together where they share it, and the link's capacity, with what is installed before
+-- the load of a link's other place, of its direction from target to source, where it has one
+unfoldable pub back_text : Parts → ℕ → List ℕ
+back_text p load = if is_two_way p.orient then codes " back " ++ load_text load else []
+
+-- the load of a link's place, of both directions together where they share it, that of its other place, and the link's capacity, with what is installed before
 abbrev pub traffic_text : Parts → Design → ℕ → List ℕ
 traffic_text p d e =
-    codes " load " ++ load_text (there_of p (load_at p d) e)
+    codes " load " ++ load_text (there_of p (load_at p d) e) ++ back_text p (back_of p (load_at p d) e)
     ++ codes " capacity " ++ load_text (capacity_with (link_at p e) (counts_at d e))
 
 -- how often each module of a link is installed, and what its routing and its modules cost

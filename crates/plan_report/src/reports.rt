@@ -6,7 +6,7 @@ ghost use Rattle.plan_base.specs.Arcs.{link_of};
 ghost use Rattle.plan_base.specs.Places.{there_of, back_of};
 ghost use Rattle.plan_base.specs.Designs.{load_at, link_cost, IsGoodDesign};
 ghost use Rattle.proof_tree.specs.Plans.{IsValidPlan};
-ghost use Rattle.plan_report.specs.Reports.{IsReadFrom, HasNames, traffic_text, installed_text, link_line, way_text, demand_line, link_lines, demand_lines, design_text, report_text};
+ghost use Rattle.plan_report.specs.Reports.{IsReadFrom, HasNames, back_text, traffic_text, installed_text, link_line, way_text, demand_line, link_lines, demand_lines, design_text, report_text};
 
 use crate::check_lines::LOAD_SCALE;
 use crate::numbers::push_numbers;
@@ -20,22 +20,37 @@ use scaled_numbers::write_grains;
 use snd_network::NetworkFile;
 use std::alloc::{AllocError, Global};
 
-/// Writes the load of a link's place, which is this one, and the capacity of the link.
+/// Writes the load of a link's other place, which is this one, where it has one.
+#[tactic(auto, unfolding(crate::specs::Reports::back_text))]
+fn push_back(text: &mut Vec<u8>, inst: &Instance, load: u128) -> Result<(), AllocError>
+    ensures { OnOk result (text.new.items ≡ text.old.items ++ back_text inst.now load) }
+{
+    if inst.orient().is_two_way() {
+        text.extend_from_slice(b" back ")?;
+        write_grains(load, LOAD_SCALE, text)
+    } else {
+        Ok(())
+    }
+}
+
+/// Writes the loads of a link's places, which are these, and the capacity of the link.
 fn push_traffic(
     text: &mut Vec<u8>,
     inst: &Instance,
     design: &Design,
     id: LinkId,
-    load: u128,
+    loads: LinkLoads,
 ) -> Result<(), AllocError>
     requires link { id.0 < length inst.now.links }
     requires good { IsGoodDesign inst.now design.now }
-    requires load { load ≡ there_of inst.now (load_at inst.now design.now) id.0 }
+    requires there { loads.there ≡ there_of inst.now (load_at inst.now design.now) id.0 }
+    requires back { loads.back ≡ back_of inst.now (load_at inst.now design.now) id.0 }
     ensures { OnOk result (text.new.items ≡ text.old.items ++ traffic_text inst.now design.now id.0) }
 {
     let counts = design.counts.as_slice()[id.0 as usize].as_slice();
     text.extend_from_slice(b" load ")?;
-    write_grains(load, LOAD_SCALE, text)?;
+    write_grains(loads.there, LOAD_SCALE, text)?;
+    push_back(text, inst, loads.back)?;
     text.extend_from_slice(b" capacity ")?;
     write_grains(capacity_with(inst.link(id), counts), LOAD_SCALE, text)
 }
@@ -96,7 +111,7 @@ fn push_link(
 {
     text.extend_from_slice(b"LINK ")?;
     text.extend_from_slice(net.links.as_slice()[id.0 as usize].name.as_slice())?;
-    push_traffic(text, inst, design, id, loads.there)?;
+    push_traffic(text, inst, design, id, loads)?;
     push_installed(text, inst, design, id, loads)?;
     text.push(b'\n')?;
     Ok(())
@@ -200,8 +215,8 @@ fn push_design(
 }
 
 /// The text of a report on a valid plan: what it claims, its cost, and, where it has a design, for each link
-/// its load, its capacity, how often each module is installed and what it costs, and for each demand the
-/// links of its path.
+/// its load or its two loads, its capacity, how often each module is installed and what it costs, and for each
+/// demand the links of its path.
 ///
 /// - Takes: the network, the instance that it stands for, and a valid plan of the instance.
 /// - Errors: want of memory alone.
