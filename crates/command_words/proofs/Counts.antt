@@ -5,9 +5,14 @@ use Rattle.std.specs.Str.{bytes_eq}
 use Rattle.given_words.specs.Given.{Word, are_different, told}
 use Rattle.given_words.proofs.Counts.{no_fewer_words}
 use Rattle.command_words.specs.declared.command.Command.{Command}
-use Rattle.command_words.specs.declared.command.Command.TheVariants.{Plan}
+use Rattle.command_words.specs.declared.command.Command.TheVariants.{OfNetwork}
+use Rattle.command_words.specs.declared.command.NetworkWork.TheVariants.{Plan}
+use Rattle.command_words.specs.declared.command.PlanWork.{PlanWork}
+use Rattle.command_words.specs.declared.command.PlanWork.TheVariants.{Verify, Report}
+use Rattle.command_words.specs.declared.command.SampleWork.{SampleWork}
+use Rattle.command_words.specs.declared.command.SampleWork.TheVariants.{Sample, Trial}
 use Rattle.command_words.specs.declared.command.SampleKey.{SampleKey}
-use Rattle.command_words.specs.Words.{plan_said, check_said, verify_said, report_said, key_said, sample_said, sample_of, trial_said, trial_of, plan_of, budget_of, workers_of, plan_options, network_names, plan_names, sample_names, command_by, command_in, name_count}
+use Rattle.command_words.specs.Words.{plan_said, check_said, of_plan_said, upgrade_said, key_said, of_sample_said, sample_of, plan_of, budget_of, workers_of, plan_options, network_names, plan_names, alone_names, sample_names, command_by, command_in, name_count}
 
 -- how many texts a command names, if there is one
 abbrev counted : Option (Command Word) → ℕ
@@ -23,7 +28,7 @@ choose false x y most one two = two
 plan_few : (network model : Word) (workers budget : Option Word) → counted (plan_of network model workers budget) ≤ 2
 plan_few network model workers budget = go (workers_of workers) (budget_of budget)
   where
-    go : (seats number : Option ℕ) → counted (option_and_then (λ (s : ℕ). option_map (λ (n : ℕ). Plan network model s n) number) seats) ≤ 2
+    go : (seats number : Option ℕ) → counted (option_and_then (λ (s : ℕ). option_map (λ (n : ℕ). OfNetwork (Plan s n) network model) number) seats) ≤ 2
     go None number = omega arith
     go (Some s) None = omega arith
     go (Some s) (Some n) = omega arith
@@ -38,29 +43,21 @@ unfolding check_said
 check_counted (Some network ∷ Some model ∷ []) = omega arith
 check_counted _ = omega arith
 
-verify_counted : (given : List (Option Word)) → counted (verify_said given) ≤ 3
-unfolding verify_said
-verify_counted (Some network ∷ Some model ∷ Some plan ∷ []) = omega arith
-verify_counted _ = omega arith
+of_plan_counted : (work : PlanWork) (given : List (Option Word)) → counted (of_plan_said work given) ≤ 3
+unfolding of_plan_said
+of_plan_counted work (Some network ∷ Some model ∷ Some plan ∷ []) = omega arith
+of_plan_counted work _ = omega arith
 
-report_counted : (given : List (Option Word)) → counted (report_said given) ≤ 3
-unfolding report_said
-report_counted (Some network ∷ Some model ∷ Some plan ∷ []) = omega arith
-report_counted _ = omega arith
+upgrade_counted : (given : List (Option Word)) → counted (upgrade_said given) ≤ 1
+unfolding upgrade_said
+upgrade_counted (Some plan ∷ []) = omega arith
+upgrade_counted _ = omega arith
 
-sample_counted : (given : List (Option Word)) → counted (sample_said given) ≤ 3
-unfolding sample_said
-sample_counted given = go (key_said given)
+of_sample_counted : (work : SampleWork) (given : List (Option Word)) → counted (of_sample_said work given) ≤ 3
+unfolding of_sample_said
+of_sample_counted work given = go (key_said given)
   where
-    go : (key : Option SampleKey) → counted (option_map sample_of key) ≤ 3
-    go None = omega arith
-    go (Some key) = omega arith
-
-trial_counted : (given : List (Option Word)) → counted (trial_said given) ≤ 3
-unfolding trial_said
-trial_counted given = go (key_said given)
-  where
-    go : (key : Option SampleKey) → counted (option_map trial_of key) ≤ 3
+    go : (key : Option SampleKey) → counted (option_map (sample_of work) key) ≤ 3
     go None = omega arith
     go (Some key) = omega arith
 
@@ -79,11 +76,12 @@ by_few : (word : Word) (rest : List Word) → counted (command_by word rest) ≤
 by_few word rest =
     choose (bytes_eq word (codes "plan")) _ _ (length rest) (one_line network_names plan_options rest plan_said refl plan_counted)
     (choose (bytes_eq word (codes "check")) _ _ (length rest) (one_line network_names [] rest check_said refl check_counted)
-    (choose (bytes_eq word (codes "verify")) _ _ (length rest) (one_line plan_names [] rest verify_said refl verify_counted)
-    (choose (bytes_eq word (codes "report")) _ _ (length rest) (one_line plan_names [] rest report_said refl report_counted)
-    (choose (bytes_eq word (codes "sample")) _ _ (length rest) (one_line sample_names [] rest sample_said refl sample_counted)
-    (choose (bytes_eq word (codes "trial")) _ _ (length rest) (one_line sample_names [] rest trial_said refl trial_counted)
-    (omega arith))))))
+    (choose (bytes_eq word (codes "verify")) _ _ (length rest) (one_line plan_names [] rest (of_plan_said Verify) refl (of_plan_counted Verify))
+    (choose (bytes_eq word (codes "report")) _ _ (length rest) (one_line plan_names [] rest (of_plan_said Report) refl (of_plan_counted Report))
+    (choose (bytes_eq word (codes "upgrade")) _ _ (length rest) (one_line alone_names [] rest upgrade_said refl upgrade_counted)
+    (choose (bytes_eq word (codes "sample")) _ _ (length rest) (one_line sample_names [] rest (of_sample_said Sample) refl (of_sample_counted Sample))
+    (choose (bytes_eq word (codes "trial")) _ _ (length rest) (one_line sample_names [] rest (of_sample_said Trial) refl (of_sample_counted Trial))
+    (omega arith)))))))
 
 -- the words that are read are more than the texts that they name
 pub word_count : (words : List Word) (command : Command Word) → command_in words ≡ Some command → name_count command + 1 ≤ length words

@@ -10,7 +10,13 @@ use Rattle.proof_tree.specs.declared.limits.TheConstants.{MAX_BUDGET}
 use Rattle.instance_maker.specs.declared.limits.TheConstants.{MAX_NUMBER, MIN_NODES, MAX_NODES, MAX_DEMANDS}
 use Rattle.command_words.specs.declared.command.Command.{Command}
 use Rattle.command_words.specs.declared.command.SampleKey.{SampleKey}
-use Rattle.command_words.specs.declared.command.Command.TheVariants.{Plan, Check, Verify, Report, Sample, Trial}
+use Rattle.command_words.specs.declared.command.Command.TheVariants.{OfNetwork, OfPlan, Upgrade, OfSample}
+use Rattle.command_words.specs.declared.command.NetworkWork.{NetworkWork}
+use Rattle.command_words.specs.declared.command.NetworkWork.TheVariants.{Plan, Check}
+use Rattle.command_words.specs.declared.command.PlanWork.{PlanWork}
+use Rattle.command_words.specs.declared.command.PlanWork.TheVariants.{Verify, Report}
+use Rattle.command_words.specs.declared.command.SampleWork.{SampleWork}
+use Rattle.command_words.specs.declared.command.SampleWork.TheVariants.{Sample, Trial}
 use Rattle.command_words.specs.declared.command.TheConstants.{DEFAULT_WORKERS, DEFAULT_BUDGET}
 
 -- ---- numbers
@@ -41,7 +47,7 @@ workers_of (Some word) = number_within 1 MAX_WORKERS word
 -- the command `plan` of two texts
 abbrev pub plan_of : Word → Word → Option Word → Option Word → Option (Command Word)
 plan_of network model workers budget =
-    option_and_then (λ seats. option_map (λ number. Plan network model seats number) (budget_of budget)) (workers_of workers)
+    option_and_then (λ seats. option_map (λ number. OfNetwork (Plan seats number) network model) (budget_of budget)) (workers_of workers)
 
 -- the sample of this number with so many nodes and demands
 abbrev pub key_of : ℕ → ℕ → ℕ → SampleKey
@@ -62,39 +68,31 @@ plan_said _ = None
 
 -- the command `check` of what is given to its names
 unfoldable pub check_said : List (Option Word) → Option (Command Word)
-check_said (Some network ∷ Some model ∷ []) = Some (Check network model)
+check_said (Some network ∷ Some model ∷ []) = Some (OfNetwork Check network model)
 check_said _ = None
 
--- the command `verify` of what is given to its names
-unfoldable pub verify_said : List (Option Word) → Option (Command Word)
-verify_said (Some network ∷ Some model ∷ Some plan ∷ []) = Some (Verify network model plan)
-verify_said _ = None
+-- the command that does this with the plan of what is given to its names
+unfoldable pub of_plan_said : PlanWork → List (Option Word) → Option (Command Word)
+of_plan_said work (Some network ∷ Some model ∷ Some plan ∷ []) = Some (OfPlan work network model plan)
+of_plan_said work _ = None
 
--- the command `report` of what is given to its names
-unfoldable pub report_said : List (Option Word) → Option (Command Word)
-report_said (Some network ∷ Some model ∷ Some plan ∷ []) = Some (Report network model plan)
-report_said _ = None
+-- the command `upgrade` of what is given to its name
+unfoldable pub upgrade_said : List (Option Word) → Option (Command Word)
+upgrade_said (Some plan ∷ []) = Some (Upgrade plan)
+upgrade_said _ = None
 
 -- the sample of what is given to the names of a command about it
 unfoldable pub key_said : List (Option Word) → Option SampleKey
 key_said (Some number ∷ Some nodes ∷ Some demands ∷ []) = sample_key number nodes demands
 key_said _ = None
 
--- the command that writes this sample
-abbrev pub sample_of : SampleKey → Command Word
-sample_of key = Sample key
+-- the command that does this with this sample
+abbrev pub sample_of : SampleWork → SampleKey → Command Word
+sample_of work key = OfSample work key
 
--- the command that plans this sample
-abbrev pub trial_of : SampleKey → Command Word
-trial_of key = Trial key
-
--- the command `sample` of what is given to its names
-unfoldable pub sample_said : List (Option Word) → Option (Command Word)
-sample_said given = option_map sample_of (key_said given)
-
--- the command `trial` of what is given to its names
-unfoldable pub trial_said : List (Option Word) → Option (Command Word)
-trial_said given = option_map trial_of (key_said given)
+-- the command that does this with the sample of what is given to its names
+unfoldable pub of_sample_said : SampleWork → List (Option Word) → Option (Command Word)
+of_sample_said work given = option_map (sample_of work) (key_said given)
 
 -- ---- the command words
 
@@ -110,6 +108,10 @@ network_names = codes "network" ∷ codes "model" ∷ []
 abbrev pub plan_names : List Word
 plan_names = codes "network" ∷ codes "model" ∷ codes "plan" ∷ []
 
+-- the name of a command about a plan by itself
+abbrev pub alone_names : List Word
+alone_names = codes "plan" ∷ []
+
 -- the names of a command about a sample
 abbrev pub sample_names : List Word
 sample_names = codes "number" ∷ codes "nodes" ∷ codes "demands" ∷ []
@@ -119,10 +121,11 @@ abbrev pub command_by : Word → List Word → Option (Command Word)
 command_by word rest =
     if bytes_eq word (codes "plan") then option_and_then plan_said (told network_names plan_options rest)
     else if bytes_eq word (codes "check") then option_and_then check_said (told network_names [] rest)
-    else if bytes_eq word (codes "verify") then option_and_then verify_said (told plan_names [] rest)
-    else if bytes_eq word (codes "report") then option_and_then report_said (told plan_names [] rest)
-    else if bytes_eq word (codes "sample") then option_and_then sample_said (told sample_names [] rest)
-    else if bytes_eq word (codes "trial") then option_and_then trial_said (told sample_names [] rest)
+    else if bytes_eq word (codes "verify") then option_and_then (of_plan_said Verify) (told plan_names [] rest)
+    else if bytes_eq word (codes "report") then option_and_then (of_plan_said Report) (told plan_names [] rest)
+    else if bytes_eq word (codes "upgrade") then option_and_then upgrade_said (told alone_names [] rest)
+    else if bytes_eq word (codes "sample") then option_and_then (of_sample_said Sample) (told sample_names [] rest)
+    else if bytes_eq word (codes "trial") then option_and_then (of_sample_said Trial) (told sample_names [] rest)
     else None
 
 -- the command that the words ask for, where they are read
@@ -134,21 +137,17 @@ command_in (word ∷ rest) = command_by word rest
 
 -- the command with what is behind its references
 abbrev pub command_now : {N : Type 0} → Command (Bor N) → Command N
-command_now (Plan network model workers budget) = Plan network.now model.now workers budget
-command_now (Check network model) = Check network.now model.now
-command_now (Verify network model plan) = Verify network.now model.now plan.now
-command_now (Report network model plan) = Report network.now model.now plan.now
-command_now (Sample key) = Sample key
-command_now (Trial key) = Trial key
+command_now (OfNetwork work network model) = OfNetwork work network.now model.now
+command_now (OfPlan work network model plan) = OfPlan work network.now model.now plan.now
+command_now (Upgrade plan) = Upgrade plan.now
+command_now (OfSample work key) = OfSample work key
 
 -- how many texts the command names
 abbrev pub name_count : {N : Type 0} → Command N → ℕ
-name_count (Plan network model workers budget) = 2
-name_count (Check network model) = 2
-name_count (Verify network model plan) = 3
-name_count (Report network model plan) = 3
-name_count (Sample key) = 0
-name_count (Trial key) = 0
+name_count (OfNetwork work network model) = 2
+name_count (OfPlan work network model plan) = 3
+name_count (Upgrade plan) = 1
+name_count (OfSample work key) = 0
 
 -- so many nodes may be examined
 pub record IsBudget (budget : ℕ) : Type 0 where
@@ -167,11 +166,14 @@ pub record IsSampleKey (key : SampleKey) : Type 0 where
   pub few : key.nodes ≤ MAX_NODES
   pub demands : key.demands ≤ MAX_DEMANDS
 
+-- the numbers of what is done with a network, where it has some, are within their ranges
+abbrev pub AreInRange : NetworkWork → Type 0
+AreInRange (Plan workers budget) = AreWorkers workers × IsBudget budget
+AreInRange Check = Unit {0}
+
 -- the numbers of a command, where it has some, are within their ranges
 abbrev pub IsInRange : {N : Type 0} → Command N → Type 0
-IsInRange (Plan network model workers budget) = AreWorkers workers × IsBudget budget
-IsInRange (Check network model) = Unit {0}
-IsInRange (Verify network model plan) = Unit {0}
-IsInRange (Report network model plan) = Unit {0}
-IsInRange (Sample key) = IsSampleKey key
-IsInRange (Trial key) = IsSampleKey key
+IsInRange (OfNetwork work network model) = AreInRange work
+IsInRange (OfPlan work network model plan) = Unit {0}
+IsInRange (Upgrade plan) = Unit {0}
+IsInRange (OfSample work key) = IsSampleKey key

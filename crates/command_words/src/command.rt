@@ -2,7 +2,7 @@
 
 ghost use Rattle.std.specs.Prelude.{◌≡◌, ◌≤◌, ◌<◌, map, string_bytes, option_map, option_and_then, IfOk, IfSome};
 ghost use Rattle.given_words.specs.Given.{given_now};
-ghost use Rattle.command_words.specs.Words.{number_within, budget_of, workers_of, plan_of, sample_key, plan_said, check_said, verify_said, report_said, key_said, sample_said, trial_said, command_by, command_now, command_in, IsBudget, AreWorkers, IsSampleKey, IsInRange};
+ghost use Rattle.command_words.specs.Words.{number_within, budget_of, workers_of, plan_of, sample_key, plan_said, check_said, of_plan_said, upgrade_said, key_said, of_sample_said, command_by, command_now, command_in, IsBudget, AreWorkers, IsSampleKey, IsInRange};
 
 use given_words::given_in;
 use instance_maker::limits::{MAX_DEMANDS, MAX_NODES, MAX_NUMBER, MIN_NODES};
@@ -27,39 +27,63 @@ pub struct SampleKey {
     pub demands: u32,
 }
 
-/// What a run is to do. A text is named by an `N`: by its name, or by the bytes of its name.
-#[derive(Debug, Drop)]
-pub enum Command<N> {
+/// What is done with a network and a model.
+#[derive(Clone, Copy, Debug, PartialEq, Eq)]
+pub enum NetworkWork {
     /// Plans the network, and writes the plan.
     Plan {
-        network: N,
-        model: N,
         /// How many workers search at once.
         workers: u32,
         /// How many nodes of the search tree may be examined.
         budget: u32,
     },
     /// Tells the sizes of the network.
-    Check {
-        network: N,
-        model: N,
-    },
+    Check,
+}
+
+/// What is done with a plan for a network.
+#[derive(Clone, Copy, Debug, PartialEq, Eq)]
+pub enum PlanWork {
     /// Tells whether the plan is a valid one of the network.
-    Verify {
-        network: N,
-        model: N,
-        plan: N,
-    },
+    Verify,
     /// Tells the plan by the names of the network, where it is a valid one of it.
-    Report {
+    Report,
+}
+
+/// What is done with a sample.
+#[derive(Clone, Copy, Debug, PartialEq, Eq)]
+pub enum SampleWork {
+    /// Writes the network of the sample.
+    Sample,
+    /// Plans that network, and tells what its plan claims.
+    Trial,
+}
+
+/// What a run is to do, by what it reads. A text is named by an `N`: by its name, or by the bytes of its name.
+#[derive(Debug, Drop)]
+pub enum Command<N> {
+    /// Works with a network and a model.
+    OfNetwork {
+        work: NetworkWork,
+        network: N,
+        model: N,
+    },
+    /// Works with a network, a model and a plan.
+    OfPlan {
+        work: PlanWork,
         network: N,
         model: N,
         plan: N,
     },
-    /// Writes the network of a sample.
-    Sample(SampleKey),
-    /// Plans the network of a sample, and tells what its plan claims.
-    Trial(SampleKey),
+    /// Writes a plan's text anew. No network is asked for.
+    Upgrade {
+        plan: N,
+    },
+    /// Works with a sample, and reads no text.
+    OfSample {
+        work: SampleWork,
+        key: SampleKey,
+    },
 }
 
 /// The number of a word that is an optional plus and digits, where it lies in this range.
@@ -115,11 +139,10 @@ fn plan_of<'a>(
 {
     let workers = workers_of(workers)?;
     let budget = budget_of(budget)?;
-    Some(Command::Plan {
+    Some(Command::OfNetwork {
+        work: NetworkWork::Plan { workers, budget },
         network,
         model,
-        workers,
-        budget,
     })
 }
 
@@ -159,20 +182,25 @@ fn check_said(given: Option<Vec<Option<&str>>>) -> Option<Command<&str>>
 {
     let given = given?;
     match *given.as_slice() {
-        [Some(network), Some(model)] => Some(Command::Check { network, model }),
+        [Some(network), Some(model)] => Some(Command::OfNetwork {
+            work: NetworkWork::Check,
+            network,
+            model,
+        }),
         _ => None,
     }
 }
 
-/// The command `verify` of what its words give.
-#[tactic(auto, unfolding(crate::specs::Words::verify_said))]
-fn verify_said(given: Option<Vec<Option<&str>>>) -> Option<Command<&str>>
-    ensures value { option_map command_now result ≡ option_and_then verify_said (given_now given.entry) }
+/// The command that does this with the plan that its words give.
+#[tactic(auto, unfolding(crate::specs::Words::of_plan_said))]
+fn of_plan_said(work: PlanWork, given: Option<Vec<Option<&str>>>) -> Option<Command<&str>>
+    ensures value { option_map command_now result ≡ option_and_then (of_plan_said work) (given_now given.entry) }
     ensures range { IfSome result (λ command. IsInRange (command_now command)) }
 {
     let given = given?;
     match *given.as_slice() {
-        [Some(network), Some(model), Some(plan)] => Some(Command::Verify {
+        [Some(network), Some(model), Some(plan)] => Some(Command::OfPlan {
+            work,
             network,
             model,
             plan,
@@ -181,19 +209,15 @@ fn verify_said(given: Option<Vec<Option<&str>>>) -> Option<Command<&str>>
     }
 }
 
-/// The command `report` of what its words give.
-#[tactic(auto, unfolding(crate::specs::Words::report_said))]
-fn report_said(given: Option<Vec<Option<&str>>>) -> Option<Command<&str>>
-    ensures value { option_map command_now result ≡ option_and_then report_said (given_now given.entry) }
+/// The command `upgrade` of what its words give.
+#[tactic(auto, unfolding(crate::specs::Words::upgrade_said))]
+fn upgrade_said(given: Option<Vec<Option<&str>>>) -> Option<Command<&str>>
+    ensures value { option_map command_now result ≡ option_and_then upgrade_said (given_now given.entry) }
     ensures range { IfSome result (λ command. IsInRange (command_now command)) }
 {
     let given = given?;
     match *given.as_slice() {
-        [Some(network), Some(model), Some(plan)] => Some(Command::Report {
-            network,
-            model,
-            plan,
-        }),
+        [Some(plan)] => Some(Command::Upgrade { plan }),
         _ => None,
     }
 }
@@ -211,22 +235,17 @@ fn key_said(given: Option<Vec<Option<&str>>>) -> Option<SampleKey>
     }
 }
 
-/// The command `sample` of what its words give.
-#[tactic(auto, unfolding(crate::specs::Words::sample_said))]
-fn sample_said<'a>(given: Option<Vec<Option<&'a str>>>) -> Option<Command<&'a str>>
-    ensures value { option_map command_now result ≡ option_and_then sample_said (given_now given.entry) }
+/// The command that does this with the sample that its words give.
+#[tactic(auto, unfolding(crate::specs::Words::of_sample_said))]
+fn of_sample_said<'a>(
+    work: SampleWork,
+    given: Option<Vec<Option<&'a str>>>,
+) -> Option<Command<&'a str>>
+    ensures value { option_map command_now result ≡ option_and_then (of_sample_said work) (given_now given.entry) }
     ensures range { IfSome result (λ command. IsInRange (command_now command)) }
 {
-    Some(Command::Sample(key_said(given)?))
-}
-
-/// The command `trial` of what its words give.
-#[tactic(auto, unfolding(crate::specs::Words::trial_said))]
-fn trial_said<'a>(given: Option<Vec<Option<&'a str>>>) -> Option<Command<&'a str>>
-    ensures value { option_map command_now result ≡ option_and_then trial_said (given_now given.entry) }
-    ensures range { IfSome result (λ command. IsInRange (command_now command)) }
-{
-    Some(Command::Trial(key_said(given)?))
+    let key = key_said(given)?;
+    Some(Command::OfSample { work, key })
 }
 
 /// The command of a word and those behind it: for each command word its names, its options, and what they mean.
@@ -246,10 +265,23 @@ fn command_by<'a>(
             rest,
         )?)),
         "check" => Ok(check_said(given_in(alloc, &["network", "model"], &[], rest)?)),
-        "verify" => Ok(verify_said(given_in(alloc, &["network", "model", "plan"], &[], rest)?)),
-        "report" => Ok(report_said(given_in(alloc, &["network", "model", "plan"], &[], rest)?)),
-        "sample" => Ok(sample_said(given_in(alloc, &["number", "nodes", "demands"], &[], rest)?)),
-        "trial" => Ok(trial_said(given_in(alloc, &["number", "nodes", "demands"], &[], rest)?)),
+        "verify" => Ok(of_plan_said(
+            PlanWork::Verify,
+            given_in(alloc, &["network", "model", "plan"], &[], rest)?,
+        )),
+        "report" => Ok(of_plan_said(
+            PlanWork::Report,
+            given_in(alloc, &["network", "model", "plan"], &[], rest)?,
+        )),
+        "upgrade" => Ok(upgrade_said(given_in(alloc, &["plan"], &[], rest)?)),
+        "sample" => Ok(of_sample_said(
+            SampleWork::Sample,
+            given_in(alloc, &["number", "nodes", "demands"], &[], rest)?,
+        )),
+        "trial" => Ok(of_sample_said(
+            SampleWork::Trial,
+            given_in(alloc, &["number", "nodes", "demands"], &[], rest)?,
+        )),
         _ => Ok(None),
     }
 }

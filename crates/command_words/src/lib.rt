@@ -8,4 +8,4 @@
 mod command;
 pub mod laws;
 
-pub use command::{Command, SampleKey, command_in};
+pub use command::{Command, NetworkWork, PlanWork, SampleKey, SampleWork, command_in};

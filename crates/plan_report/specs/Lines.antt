@@ -29,7 +29,7 @@ line words ns = words ++ numbers ns ++ codes "\n"
 
 -- how the program is called
 abbrev pub usage_line : List ℕ
-usage_line = codes "usage: sndplan plan NET MODEL [--workers N] [--nodes B] | verify NET MODEL PLAN | report NET MODEL PLAN | check NET MODEL | sample NUMBER NODES DEMANDS | trial NUMBER NODES DEMANDS\n"
+usage_line = codes "usage: sndplan plan NET MODEL [--workers N] [--nodes B] | verify NET MODEL PLAN | report NET MODEL PLAN | check NET MODEL | sample NUMBER NODES DEMANDS | trial NUMBER NODES DEMANDS | upgrade PLAN\n"
 
 -- ---- faults
 

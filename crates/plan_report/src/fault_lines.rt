@@ -13,7 +13,7 @@ use std::alloc::{AllocError, Global};
 /// How the program is called.
 const USAGE_LINE: &[u8] = b"usage: sndplan plan NET MODEL [--workers N] [--nodes B] \
     | verify NET MODEL PLAN | report NET MODEL PLAN | check NET MODEL \
-    | sample NUMBER NODES DEMANDS | trial NUMBER NODES DEMANDS\n";
+    | sample NUMBER NODES DEMANDS | trial NUMBER NODES DEMANDS | upgrade PLAN\n";
 
 /// The words that a refused text's line begins with.
 fn bad_text(file: FileKind) -> &'static [u8]

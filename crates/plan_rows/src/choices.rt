@@ -3,7 +3,7 @@
 //! Loads are in tenths of a unit and costs in thousandths.
 
 use crate::claims::NO_DESIGN;
-use crate::network::{Demand, Link, Network};
+use crate::network::{Demand, Kind, Link, Network};
 use std::alloc::{AllocError, Global};
 use std::fmt;
 
@@ -26,13 +26,23 @@ pub(crate) enum Tried {
     },
 }
 
-/// A simple path, or the front of one. Nodes and links are sets, by their numbers.
+/// The links of a path, as sets of their numbers.
+#[derive(Clone, Copy)]
+struct Way {
+    /// Those that it goes along from their source to their target.
+    there: u64,
+    /// Those that it goes along the other way.
+    back: u64,
+}
+
+/// A simple path, or the front of one.
 #[derive(Clone, Copy)]
 struct Walk {
     /// Where it leads.
     at: u32,
+    /// The nodes that it met, as a set of their numbers.
     nodes: u64,
-    links: u64,
+    way: Way,
 }
 
 /// The least cost of the modules of a link for each load, or None where it cannot carry the load.
@@ -57,13 +67,16 @@ fn has(set: u64, number: usize) -> bool {
     set & only(number) != 0
 }
 
-/// Where the link leads from this node, if it does.
-fn end_from(directed: bool, link: &Link, node: u32) -> Option<u32> {
-    if link.source == node {
-        return Some(link.target);
+/// Where the link of this number leads from the end of the walk, if it does, and the way up to there.
+fn along(kind: Kind, link: &Link, number: usize, walk: Walk) -> Option<(u32, Way)> {
+    let Way { there, back } = walk.way;
+    if link.source == walk.at {
+        let there = there | only(number);
+        return Some((link.target, Way { there, back }));
     }
-    if !directed && link.target == node {
-        return Some(link.source);
+    if kind != Kind::Directed && link.target == walk.at {
+        let back = back | only(number);
+        return Some((link.source, Way { there, back }));
     }
     None
 }
@@ -71,34 +84,31 @@ fn end_from(directed: bool, link: &Link, node: u32) -> Option<u32> {
 /// Adds the walks that are longer than this one by one link.
 fn extend(network: &Network, walk: Walk, longer: &mut Vec<Walk>) -> Result<(), AllocError> {
     for (number, link) in network.links.iter().enumerate() {
-        let Some(at) = end_from(network.directed, link, walk.at) else {
+        let Some((at, way)) = along(network.kind, link, number, walk) else {
             continue;
         };
         if !has(walk.nodes, at as usize) {
-            longer.push(Walk {
-                at,
-                nodes: walk.nodes | only(at as usize),
-                links: walk.links | only(number),
-            })?;
+            let nodes = walk.nodes | only(at as usize);
+            longer.push(Walk { at, nodes, way })?;
         }
     }
     Ok(())
 }
 
-/// The simple paths of a demand, each as the set of its links.
-fn paths_of(alloc: Global, network: &Network, demand: Demand) -> Result<Vec<u64>, AllocError> {
+/// The simple paths of a demand.
+fn paths_of(alloc: Global, network: &Network, demand: Demand) -> Result<Vec<Way>, AllocError> {
     let mut paths = Vec::new(alloc);
     let mut walks = Vec::new(alloc);
     walks.push(Walk {
         at: demand.source,
         nodes: only(demand.source as usize),
-        links: 0,
+        way: Way { there: 0, back: 0 },
     })?;
     for _ in 0..network.nodes {
         let mut longer = Vec::new(alloc);
         for walk in walks.iter() {
             if walk.at == demand.target {
-                paths.push(walk.links)?;
+                paths.push(walk.way)?;
             } else {
                 extend(network, *walk, &mut longer)?;
             }
@@ -137,44 +147,53 @@ fn table_of(alloc: Global, link: &Link, most: usize) -> Result<CostTable, AllocE
     Ok(table)
 }
 
-/// What the link costs where these demands go along these paths, or None where it cannot carry them.
-fn link_cost(
-    link: &Link,
-    number: usize,
-    table: &[Option<u64>],
-    demands: &[Demand],
-    chosen: &[u64],
-) -> Option<u64> {
-    let mut load = 0u64;
-    for (demand, path) in demands.iter().zip(chosen.iter()) {
-        if has(*path, number) {
-            load = load.saturating_add(demand.load());
+/// What the link carries there and back where these demands go along these ways.
+fn loads_on(number: usize, demands: &[Demand], chosen: &[Way]) -> (u64, u64) {
+    let mut there = 0u64;
+    let mut back = 0u64;
+    for (demand, way) in demands.iter().zip(chosen.iter()) {
+        if has(way.there, number) {
+            there = there.saturating_add(demand.load());
+        }
+        if has(way.back, number) {
+            back = back.saturating_add(demand.load());
         }
     }
-    let modules = table.get(load as usize).copied().flatten()?;
-    Some(modules.saturating_add(load.saturating_mul(u64::from(link.routing))))
+    (there, back)
 }
 
-/// What a design costs where the demands go along these paths, or None where some link cannot carry them.
-fn cost_of(network: &Network, tables: &[CostTable], chosen: &[u64]) -> Option<u64> {
+/// What the link costs where it carries these loads there and back, or None where it cannot carry them.
+fn link_cost(kind: Kind, link: &Link, table: &[Option<u64>], loads: (u64, u64)) -> Option<u64> {
+    let together = loads.0.saturating_add(loads.1);
+    let need = match kind {
+        Kind::Directed | Kind::Undirected => together,
+        Kind::Bidirected => loads.0.max(loads.1),
+    };
+    let modules = table.get(need as usize).copied().flatten()?;
+    Some(modules.saturating_add(together.saturating_mul(u64::from(link.routing))))
+}
+
+/// What a design costs where the demands go along these ways, or None where some link cannot carry them.
+fn cost_of(network: &Network, tables: &[CostTable], chosen: &[Way]) -> Option<u64> {
     let mut cost = 0u64;
     for (number, (link, table)) in network.links.iter().zip(tables.iter()).enumerate() {
-        let demands = network.demands.as_slice();
-        let more = link_cost(link, number, table.as_slice(), demands, chosen)?;
+        let loads = loads_on(number, network.demands.as_slice(), chosen);
+        let more = link_cost(network.kind, link, table.as_slice(), loads)?;
         cost = cost.saturating_add(more);
     }
     Some(cost)
 }
 
 /// The path for each demand, in the choice of this number.
-fn choose(paths: &[Vec<u64>], number: u64, chosen: &mut Vec<u64>) -> Result<(), AllocError> {
+fn choose(paths: &[Vec<Way>], number: u64, chosen: &mut Vec<Way>) -> Result<(), AllocError> {
     let mut rest = number;
     chosen.clear();
     for of_demand in paths.iter() {
         let count = (of_demand.len() as u64).max(1);
         let place = (rest % count) as usize;
         rest /= count;
-        chosen.push(of_demand.get(place).copied().unwrap_or(0))?;
+        let none = Way { there: 0, back: 0 };
+        chosen.push(of_demand.get(place).copied().unwrap_or(none))?;
     }
     Ok(())
 }
@@ -183,7 +202,7 @@ fn choose(paths: &[Vec<u64>], number: u64, chosen: &mut Vec<u64>) -> Result<(), 
 fn least_of(
     alloc: Global,
     network: &Network,
-    paths: &[Vec<u64>],
+    paths: &[Vec<Way>],
     choices: u64,
 ) -> Result<i128, AllocError> {
     let total = network

@@ -2,7 +2,7 @@
 
 ghost use Rattle.std.specs.Prelude.{◌≤◌};
 
-use crate::network::{Demand, Link, Module, Network};
+use crate::network::{Demand, Kind, Link, Module, Network};
 use row_draws::Draws;
 use std::alloc::{AllocError, Global};
 
@@ -154,17 +154,25 @@ fn made_demands(
     Ok(demands)
 }
 
-/// The network of this number.
-pub(crate) fn made_network(alloc: Global, number: u32) -> Result<Network, AllocError> {
+/// The network of this number, whose links are bidirected, or not.
+pub(crate) fn made_network(
+    alloc: Global,
+    number: u32,
+    bidirected: bool,
+) -> Result<Network, AllocError> {
     let mut draws = Draws::begin(number);
     let nodes = 4 + number % 9;
-    let directed = draws.one_of(3);
+    let kind = match (bidirected, draws.one_of(3)) {
+        (true, _) => Kind::Bidirected,
+        (false, true) => Kind::Directed,
+        (false, false) => Kind::Undirected,
+    };
     let style = Style {
         decimals: draws.one_of(2),
         tight: draws.one_of(5),
     };
     Ok(Network {
-        directed,
+        kind,
         nodes,
         links: made_links(alloc, &mut draws, style, nodes)?,
         demands: made_demands(alloc, &mut draws, style, nodes, 12)?,

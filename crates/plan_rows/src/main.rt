@@ -1,8 +1,9 @@
 //! Plans made networks through the top call, each with several budgets, and looks over what comes out.
 //!
-//! The networks have 4 to 12 nodes and come from a small generator (`made`), the same ones in each run: with directed
-//! and undirected links, none to three modules on a link, whole and decimal numbers, and some that have no design.
-//! Each plan must be accepted by `verify`, and state its status and its budget. The plans of one network must agree:
+//! The networks have 4 to 12 nodes and come from a small generator (`made`), the same ones in each run: with directed,
+//! undirected and bidirected links, none to three modules on a link, whole and decimal numbers, and some that have no
+//! design. Each plan must be accepted by `verify`, and state its status and its budget; `upgrade` must give its text
+//! again, and read the same plan in version 1, which `versions` writes where links are not bidirected. The plans of one network must agree:
 //! a greater budget never knows less, and what several workers find contradicts nothing. Where few paths can be chosen
 //! from, the least cost of all choices, which `choices` finds by trying them, must lie where each plan says. The
 //! program writes a line for each network, and ends with an error at the first plan that is not as it must be; the
@@ -16,6 +17,7 @@ mod made;
 mod network;
 mod texts;
 mod trials;
+mod versions;
 
 use anyhow::{Context, Result, ensure};
 use choices::{Tried, least_cost};
@@ -29,8 +31,11 @@ use std::thread::Threads;
 use texts::Texts;
 use trials::plan_within;
 
-/// How many networks are planned.
+/// How many networks of directed or undirected links are planned.
 const NETWORKS: u32 = 100;
+
+/// How many of bidirected links, with the numbers behind these.
+const BIDIRECTED: u32 = 40;
 
 /// With how many nodes of the search tree each network is planned, in turn, until its best design is known.
 const BUDGETS: [u32; 6] = [1, 2, 3, 10, 100, 1_000];
@@ -135,7 +140,7 @@ fn write_network<R: Threads + Wait + Sync, W: Write>(
     number: u32,
     out: &mut W,
 ) -> Result<()> {
-    let network = made_network(alloc, number)?;
+    let network = made_network(alloc, number, number >= NETWORKS)?;
     let texts = Texts::of(alloc, &network)?;
     let tried = least_cost(alloc, &network)?;
     let known = plan_network(rt, alloc, number, &texts, tried).context(format_args!(
@@ -147,7 +152,7 @@ fn write_network<R: Threads + Wait + Sync, W: Write>(
 
 fn main(rt: HostRuntime) -> Result<()> {
     let mut out = io::writer(&rt);
-    for number in 0..NETWORKS {
+    for number in 0..NETWORKS + BIDIRECTED {
         write_network(&rt, rt.alloc(), number, &mut out)?;
     }
     Ok(())

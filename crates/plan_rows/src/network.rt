@@ -32,10 +32,20 @@ pub(crate) struct Demand {
     pub(crate) value: u32,
 }
 
+/// Which ways links and demands go.
+#[derive(Clone, Copy, PartialEq, Eq)]
+pub(crate) enum Kind {
+    /// From their source to their target alone.
+    Directed,
+    /// Both ways, which share a link's capacity.
+    Undirected,
+    /// Links go both ways, and each way has the link's capacity for itself.
+    Bidirected,
+}
+
 #[derive(Drop)]
 pub(crate) struct Network {
-    /// Whether links and demands lead from their source to their target alone.
-    pub(crate) directed: bool,
+    pub(crate) kind: Kind,
     pub(crate) nodes: u32,
     pub(crate) links: Vec<Link>,
     pub(crate) demands: Vec<Demand>,
@@ -53,10 +63,10 @@ impl fmt::Display for Network {
         let nodes = self.nodes;
         let links = self.links.len();
         let demands = self.demands.len();
-        let kind = if self.directed {
-            "directed"
-        } else {
-            "undirected"
+        let kind = match self.kind {
+            Kind::Directed => "directed",
+            Kind::Undirected => "undirected",
+            Kind::Bidirected => "bidirected",
         };
         write!(f, "nodes {nodes}, {kind} links {links}, demands {demands}")
     }

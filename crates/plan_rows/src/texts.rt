@@ -1,6 +1,6 @@
 //! The texts of a network and of its model.
 
-use crate::network::{Demand, Link, Network};
+use crate::network::{Demand, Kind, Link, Network};
 use std::alloc::{AllocError, Global};
 use std::fmt;
 
@@ -49,6 +49,8 @@ impl fmt::Display for Hundredths {
 pub(crate) struct Texts {
     pub(crate) network: String,
     pub(crate) model: String,
+    /// Whether both ways of a link share its capacity, so that plans have a text of version 1.
+    pub(crate) one_way: bool,
 }
 
 impl Texts {
@@ -56,7 +58,8 @@ impl Texts {
     pub(crate) fn of(alloc: Global, network: &Network) -> Result<Texts, AllocError> {
         Ok(Texts {
             network: network_text(alloc, network)?,
-            model: model_text(alloc, network.directed)?,
+            model: model_text(alloc, network.kind)?,
+            one_way: network.kind != Kind::Bidirected,
         })
     }
 }
@@ -110,8 +113,12 @@ fn network_text(alloc: Global, network: &Network) -> Result<String, AllocError> 
     Ok(text)
 }
 
-/// The text of the model of networks whose links and demands are directed, or not.
-fn model_text(alloc: Global, directed: bool) -> Result<String, AllocError> {
-    let kind = if directed { "DIRECTED" } else { "UNDIRECTED" };
-    format!(in alloc; "{MODEL_HEADER}DEMAND_MODEL = {kind}\nLINK_MODEL = {kind}\n{MODEL_ROWS}")
+/// The text of the model of networks of this kind.
+fn model_text(alloc: Global, kind: Kind) -> Result<String, AllocError> {
+    let (demands, links) = match kind {
+        Kind::Directed => ("DIRECTED", "DIRECTED"),
+        Kind::Undirected => ("UNDIRECTED", "UNDIRECTED"),
+        Kind::Bidirected => ("DIRECTED", "BIDIRECTED"),
+    };
+    format!(in alloc; "{MODEL_HEADER}DEMAND_MODEL = {demands}\nLINK_MODEL = {links}\n{MODEL_ROWS}")
 }

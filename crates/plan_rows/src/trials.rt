@@ -1,8 +1,9 @@
-//! Runs of `plan`, each with a run of `verify` on what it wrote.
+//! Runs of `plan`, each with runs of `verify` and `upgrade` on what it wrote.
 
 use crate::claims::{Claim, Range, claim_of};
 use crate::texts::Texts;
-use anyhow::{Result, ensure};
+use crate::versions::first_text;
+use anyhow::{Context, Result, ensure};
 use plan_io::{MemSink, NoGate, SureShelf};
 use plan_run::{Status, run};
 use std::alloc::{AllocError, Global};
@@ -69,6 +70,38 @@ fn verify_plan<R: Threads + Wait + Sync>(
     Ok(())
 }
 
+/// Has `upgrade` write this text of a plan anew: it must write that one.
+fn upgrade_plan<R: Threads + Wait + Sync>(
+    rt: &R,
+    alloc: Global,
+    plan: &str,
+    wanted: &str,
+) -> Result<()> {
+    let named = [("plan", plan.as_bytes())];
+    let (status, out) = ends(rt, alloc, "upgrade plan", &named, PLAN_ROOM)?;
+    ensure!(status == Status::Good, "upgrade: {}", status as u8);
+    ensure!(out.bytes() == wanted.as_bytes(), "upgrade: another text");
+    Ok(())
+}
+
+/// Has `verify` and `upgrade` look at the text of this plan, and at its text of version 1 where it has one.
+fn read_plan_again<R: Threads + Wait + Sync>(
+    rt: &R,
+    alloc: Global,
+    texts: &Texts,
+    plan: &str,
+    claim: &Claim<'_>,
+) -> Result<()> {
+    verify_plan(rt, alloc, texts, plan, claim)?;
+    upgrade_plan(rt, alloc, plan, plan)?;
+    if texts.one_way {
+        let first = first_text(alloc, plan)?;
+        verify_plan(rt, alloc, texts, first.as_str(), claim).context("version 1")?;
+        upgrade_plan(rt, alloc, first.as_str(), plan).context("version 1")?;
+    }
+    Ok(())
+}
+
 /// Plans a network with so many workers and this budget, and has the plan verified. Gives what it claims of the cost of
 /// the best design.
 pub(crate) fn plan_within<R: Threads + Wait + Sync>(
@@ -89,6 +122,6 @@ pub(crate) fn plan_within<R: Threads + Wait + Sync>(
     ensure!(status == claim.ends_with()?, "another status");
     ensure!(claim.budget == budget, "another budget");
     ensure!(claim.keeps_budget(), "examined: {}", claim.examined);
-    verify_plan(rt, alloc, texts, plan, &claim)?;
+    read_plan_again(rt, alloc, texts, plan, &claim)?;
     Ok(claim.range)
 }

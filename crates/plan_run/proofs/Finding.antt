@@ -1,71 +1,49 @@
 -- What a run found, from what its commands ensure.
-use Rattle.std.proofs.Common.{◌≡◌, ◌≤◌, ℕ, List, Option, Some, None, Result, Ok, Err, refl, sym, ap, subst, ◌∙◌, arith}
+use Rattle.std.proofs.Common.{◌≡◌, ◌≤◌, ℕ, List, Some, None, Result, Ok, Err, refl, sym, arith}
 use Rattle.std.specs.Prelude.{IfOk, IfErr}
 use Rattle.plan_report.specs.declared.run_fault.RunFault.{RunFault}
 use Rattle.plan_report.specs.declared.run_fault.RunFault.TheVariants as faults
 use Rattle.command_words.specs.declared.command.Command.{Command}
-use Rattle.command_words.specs.declared.command.Command.TheVariants.{Plan, Check, Verify, Report, Sample, Trial}
+use Rattle.command_words.specs.declared.command.Command.TheVariants.{OfNetwork, OfPlan, Upgrade, OfSample}
 use Rattle.command_words.specs.declared.command.SampleKey.{SampleKey}
+use Rattle.command_words.specs.declared.command.SampleWork.{SampleWork}
 use Rattle.command_words.specs.Words.{Word, command_in, name_count}
 use Rattle.command_words.proofs.Counts.{word_count}
 use Rattle.plan_texts.specs.declared.answer.Answer.{Answer}
 use Rattle.plan_texts.specs.declared.stop.Stop.{Stop}
 use Rattle.plan_texts.specs.declared.stop.Stop.TheVariants as stops
-use Rattle.plan_texts.specs.Texts.{Told, Texts, Begun, text_count}
+use Rattle.plan_texts.specs.Texts.{Told, Begun, nothing, text_count, AreRead}
 use Rattle.plan_texts.specs.Stops.{Stops}
-use Rattle.plan_run.specs.Runs.{names_of, IsDoneBy, IsRefusedFor, IsRefusedBy, IsRefusal}
-use Rattle.plan_run.specs.Samples.{IsSampled, IsTried}
+use Rattle.plan_texts.proofs.Begins.{few-texts}
+use Rattle.plan_run.specs.Runs.{names_of, IsDoneBy, IsRefusedBy, IsRefusal}
+use Rattle.plan_run.specs.Samples.{IsMade}
 use Rattle.plan_run.specs.Found.{IsFoundBy, IsFound, IsResultOf, IsResult}
 
--- how many texts these names are of
-abbrev named : Option Texts → ℕ
-named None = 0
-named (Some names) = text_count names
+counts : (command : Command Word) → text_count (names_of command) ≡ name_count command
+counts (OfNetwork work network model) = refl
+counts (OfPlan work network model plan) = refl
+counts (Upgrade plan) = refl
+counts (OfSample work key) = refl
 
-counts : (command : Command Word) → named (names_of command) ≡ name_count command
-counts (Plan network model workers budget) = refl
-counts (Check network model) = refl
-counts (Verify network model plan) = refl
-counts (Report network model plan) = refl
-counts (Sample key) = refl
-counts (Trial key) = refl
-
-few-names : (command : Command Word) → name_count command ≤ 3
-few-names (Plan network model workers budget) = omega arith
-few-names (Check network model) = omega arith
-few-names (Verify network model plan) = omega arith
-few-names (Report network model plan) = omega arith
-few-names (Sample key) = omega arith
-few-names (Trial key) = omega arith
-
--- a command about texts of these names, if any, stops so
-abbrev StopsFor : Option Texts → Told → ℕ → ℕ → Stop → Type 0
-StopsFor None = λ shelf before now stop. ⊥
-StopsFor (Some names) = Stops names
-
-of-names : (command : Command Word) (names : Texts) → names_of command ≡ Some names → text_count names ≡ name_count command
-of-names command names is = let same : named (names_of command) ≡ text_count names = ap named is in sym same ∙ counts command
-
-stopped : (command : Command Word) (names : Option Texts) (shelf : Told) (before now : ℕ) (stop : Stop) → names_of command ≡ names → StopsFor names shelf before now stop → IsFoundBy command shelf before now (Err stop)
-stopped command None shelf before now stop is h = absurd h
-stopped command (Some names) shelf before now (stops.Refused fault) is h = record { begun = h.begun; rises = h.rises; few = omega (arith, h.few, of-names command names is); is = subst (λ (o : Option Texts). IsRefusedFor o shelf h.begun fault) (sym is) h.is }
-stopped command (Some names) shelf before now stops.OutOfMemory is h = record { begun = h.begun; rises = h.rises; few = omega (arith, h.few, of-names command names is); is = tt }
+stopped : (command : Command Word) (shelf : Told) (before now : ℕ) (stop : Stop) → Stops (names_of command) shelf before now stop → IsFoundBy command shelf before now (Err stop)
+stopped command shelf before now (stops.Refused fault) h = record { begun = h.begun; rises = h.rises; few = omega (arith, h.few, counts command); is = h.is }
+stopped command shelf before now stops.OutOfMemory h = record { begun = h.begun; rises = h.rises; few = omega (arith, h.few, counts command); is = tt }
 
 -- what a command about texts ensures is what was found
-pub found : (command : Command Word) (shelf : Told) (before now : ℕ) (result : Result Answer Stop) → IfOk result (λ answer. IsDoneBy command shelf (name_count command) answer.status answer.text.items) → IfOk result (λ answer. Begun (name_count command) before now) → IfErr result (StopsFor (names_of command) shelf before now) → IsFoundBy command shelf before now result
+pub found : (command : Command Word) (shelf : Told) (before now : ℕ) (result : Result Answer Stop) → IfOk result (λ answer. IsDoneBy command shelf (name_count command) answer.status answer.text.items) → IfOk result (λ answer. Begun (name_count command) before now) → IfErr result (Stops (names_of command) shelf before now) → IsFoundBy command shelf before now result
 found command shelf before now (Ok answer) done begun stop = record { begun = name_count command; rises = begun; few = omega arith; is = done }
-found command shelf before now (Err stop) done begun stops = stopped command (names_of command) shelf before now stop refl stops
+found command shelf before now (Err stop) done begun stops = stopped command shelf before now stop stops
 
 nothing-begun : (before : ℕ) → Begun 0 before before
 nothing-begun before = record { exact = λ room. omega arith; later = omega arith; few = omega arith }
 
--- a sample was written
-pub found_sample : (key : SampleKey) (shelf : Told) (before : ℕ) (answer : Answer) → IsSampled key answer.status answer.text.items → IsFoundBy (Sample key) shelf before before (Ok answer)
-found_sample key shelf before answer is = record { begun = 0; rises = nothing-begun before; few = omega arith; is = (refl, is) }
+-- no text was read
+none-read : (shelf : Told) → AreRead shelf nothing 0 nothing
+none-read shelf = record { all = refl; network_read = tt; model_read = tt; plan_read = tt }
 
--- a sample was planned
-pub found_trial : (key : SampleKey) (shelf : Told) (before : ℕ) (answer : Answer) → IsTried key answer.status answer.text.items → IsFoundBy (Trial key) shelf before before (Ok answer)
-found_trial key shelf before answer is = record { begun = 0; rises = nothing-begun before; few = omega arith; is = (refl, is) }
+-- something was done with a sample
+pub found_made : (work : SampleWork) (key : SampleKey) (shelf : Told) (before : ℕ) (answer : Answer) → IsMade work key answer.status answer.text.items → IsFoundBy (OfSample work key) shelf before before (Ok answer)
+found_made work key shelf before answer is = record { begun = 0; rises = nothing-begun before; few = omega arith; is = record { texts = nothing; read = none-read shelf; holds = (refl, is) } }
 
 -- memory was wanting before any text was begun
 pub found_short : (command : Command Word) (shelf : Told) (before : ℕ) → IsFoundBy command shelf before before (Err stops.OutOfMemory)
@@ -73,13 +51,8 @@ found_short command shelf before = record { begun = 0; rises = nothing-begun bef
 
 -- ---- words that are read
 
--- no texts are refused for the words
-no-usage : (names : Option Texts) (shelf : Told) (begun : ℕ) → IsRefusedFor names shelf begun faults.Usage → ⊥
-no-usage None shelf begun refused = refused
-no-usage (Some names) shelf begun refused = refused.holds
-
 refusal : (words : List Word) (shelf : Told) (begun : ℕ) (command : Command Word) (fault : RunFault) → command_in words ≡ Some command → IsRefusedBy command shelf begun fault → IsRefusal words shelf begun fault
-refusal words shelf begun command faults.Usage is refused = absurd (no-usage (names_of command) shelf begun refused)
+refusal words shelf begun command faults.Usage is refused = absurd refused.holds
 refusal words shelf begun command (faults.Read file) is refused = rw is refused
 refusal words shelf begun command (faults.TooLong file) is refused = rw is refused
 refusal words shelf begun command (faults.Text file fault) is refused = rw is refused
@@ -99,7 +72,7 @@ found_read words shelf before now command result is h = record {
   begun = h.begun;
   rises = h.rises;
   few = omega (arith, h.few, word_count words command (sym is));
-  short = omega (arith, h.few, few-names command);
+  short = omega (arith, h.few, counts command, few-texts (names_of command));
   is = result-of words shelf h.begun command result (sym is) h.is;
 }
 

@@ -4,25 +4,31 @@ use Rattle.plan_base.specs.declared.parts.Parts.{Parts}
 use Rattle.snd_network.specs.declared.file.NetworkFile.{NetworkFile}
 use Rattle.plan_report.specs.declared.run_fault.RunFault.{RunFault}
 use Rattle.command_words.specs.declared.command.Command.{Command}
-use Rattle.command_words.specs.declared.command.Command.TheVariants.{Plan, Check, Verify, Report, Sample, Trial}
+use Rattle.command_words.specs.declared.command.Command.TheVariants.{OfNetwork, OfPlan, Upgrade, OfSample}
+use Rattle.command_words.specs.declared.command.NetworkWork.TheVariants.{Plan, Check}
+use Rattle.command_words.specs.declared.command.PlanWork.TheVariants.{Verify, Report}
 use Rattle.command_words.specs.Words.{Word}
 use Rattle.plan_texts.specs.declared.status.Status.{Status}
 use Rattle.plan_texts.specs.declared.status.Status.TheVariants.{Good}
 use Rattle.plan_texts.specs.Texts.{Text, Texts, two, three}
-use Rattle.plan_texts.specs.Refusals.{Reads, AreRefused}
+use Rattle.plan_texts.specs.Refusals.{Reads, AreRefused, AreGood, a_problem, a_plan, no_texts}
 use Rattle.plan_texts.specs.Answers.{IsVerified}
 use Rattle.plan_texts.specs.OneAnswer.{Below}
 use Rattle.plan_texts.proofs.OneRefusal.{refused_or_read, verdict-of, good-if}
 use Rattle.plan_run.specs.Plans.{IsPlanDone}
 use Rattle.plan_run.specs.Runs.{IsDone}
 
+-- texts for which a command does its work spell what it works on
+done-good : (command : Command Word) (texts : Texts) (status : Status) (bytes : List ℕ) → IsDone command texts status bytes → AreGood texts
+done-good (OfNetwork (Plan workers budget) network model) texts status bytes done = a_problem done.net done.parts done.plan done.problem
+done-good (OfNetwork Check network model) texts status bytes done = a_problem done.net done.parts done.plan done.problem
+done-good (OfPlan Verify network model plan) texts status bytes done = a_problem done.net done.parts done.plan done.problem
+done-good (OfPlan Report network model plan) texts status bytes done = a_problem done.net done.parts done.plan done.problem
+done-good (Upgrade plan) texts status bytes done = a_plan done.plan done.read
+done-good (OfSample work key) texts status bytes done = no_texts done.0
+
 pub refused_or_done : Below → (command : Command Word) (texts : Texts) (fault : RunFault) (status : Status) (bytes : List ℕ) → AreRefused texts fault → IsDone command texts status bytes → ⊥
-refused_or_done below (Plan network model workers budget) texts fault status bytes refused done = refused_or_read below texts done.net done.parts done.plan fault refused done.problem
-refused_or_done below (Check network model) texts fault status bytes refused done = refused_or_read below texts done.net done.parts done.plan fault refused done.problem
-refused_or_done below (Verify network model plan) texts fault status bytes refused done = refused_or_read below texts done.net done.parts done.plan fault refused done.problem
-refused_or_done below (Report network model plan) texts fault status bytes refused done = refused_or_read below texts done.net done.parts done.plan fault refused done.problem
-refused_or_done below (Sample key) texts fault status bytes refused done = done
-refused_or_done below (Trial key) texts fault status bytes refused done = done
+refused_or_done below command texts fault status bytes refused done = refused_or_read below texts fault refused (done-good command texts status bytes done)
 
 -- what network and model read as does not depend on a plan
 reads-with : (network model text : Text) (net : NetworkFile) (parts : Parts) → Reads (two network model) net parts → Reads (three network model text) net parts
@@ -30,11 +36,11 @@ reads-with network model text net parts reads = record { options = reads.options
 
 pub spelt_where_planned : Below → (budget : ℕ) (network model text : Text) (status : Status) (fault : RunFault) → IsPlanDone budget (two network model) status text → AreRefused (three network model text) fault → ⊥
 spelt_where_planned below budget network model text status fault done refused =
-    refused_or_read below (three network model text) done.net done.parts (Some done.holds.plan) fault refused record {
+    refused_or_read below (three network model text) fault refused (a_problem done.net done.parts (Some done.holds.plan) record {
       reads = reads-with network model text done.net done.parts done.problem.reads;
       plan_text = done.holds.text;
       few_steps = done.problem.few_steps;
-    }
+    })
 
 pub good_where_planned : Below → (budget : ℕ) (network model text : Text) (status other : Status) (bytes : List ℕ) → IsPlanDone budget (two network model) status text → IsVerified (three network model text) other bytes → other ≡ Good
 good_where_planned below budget network model text status other bytes done verified =

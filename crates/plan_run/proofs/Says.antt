@@ -7,7 +7,10 @@ use Rattle.proof_tree.specs.declared.plan.PlanStatus.TheVariants as claims
 use Rattle.plan_report.specs.declared.run_fault.RunFault.{RunFault}
 use Rattle.plan_report.specs.declared.run_fault.RunFault.TheVariants as faults
 use Rattle.command_words.specs.declared.command.Command.{Command}
-use Rattle.command_words.specs.declared.command.Command.TheVariants.{Plan, Check, Verify, Report, Sample, Trial}
+use Rattle.command_words.specs.declared.command.Command.TheVariants.{OfNetwork, OfPlan, Upgrade, OfSample}
+use Rattle.command_words.specs.declared.command.NetworkWork.TheVariants.{Plan, Check}
+use Rattle.command_words.specs.declared.command.PlanWork.TheVariants.{Verify, Report}
+use Rattle.command_words.specs.declared.command.SampleWork.TheVariants.{Sample, Trial}
 use Rattle.command_words.specs.Words.{Word, command_in}
 use Rattle.plan_base.specs.declared.parts.Parts.{Parts}
 use Rattle.snd_network.specs.declared.file.NetworkFile.{NetworkFile}
@@ -45,30 +48,30 @@ report-ends net parts (Some plan) status bytes (reported good is) = inl good
 report-ends net parts (Some plan) status bytes (unreported bad is) = inr bad
 
 pub done-ends : (command : Command Word) (shelf : Told) (begun : ℕ) (status : Status) (bytes : List ℕ) → IsDoneBy command shelf begun status bytes → EndsWith command status
-done-ends (Plan network model workers budget) shelf begun status bytes done = planned-ends done.holds.holds.plan.status status done.holds.holds.is_status
-done-ends (Check network model) shelf begun status bytes done = done.holds.holds.good
-done-ends (Verify network model plan) shelf begun status bytes done = verdict-ends done.holds.parts done.holds.plan status bytes done.holds.holds
-done-ends (Report network model plan) shelf begun status bytes done = report-ends done.holds.net done.holds.parts done.holds.plan status bytes done.holds.holds
-done-ends (Sample key) shelf begun status bytes done = done.1.good
-done-ends (Trial key) shelf begun status bytes done = planned-ends done.1.plan.status status done.1.is_status
+done-ends (OfNetwork (Plan workers budget) network model) shelf begun status bytes done = planned-ends done.holds.holds.plan.status status done.holds.holds.is_status
+done-ends (OfNetwork Check network model) shelf begun status bytes done = done.holds.holds.good
+done-ends (OfPlan Verify network model plan) shelf begun status bytes done = verdict-ends done.holds.parts done.holds.plan status bytes done.holds.holds
+done-ends (OfPlan Report network model plan) shelf begun status bytes done = report-ends done.holds.net done.holds.parts done.holds.plan status bytes done.holds.holds
+done-ends (Upgrade plan) shelf begun status bytes done = done.holds.written.good
+done-ends (OfSample Sample key) shelf begun status bytes done = done.holds.1.good
+done-ends (OfSample Trial key) shelf begun status bytes done = planned-ends done.holds.1.plan.status status done.holds.1.is_status
 
 -- the statuses of work that was done
 abbrev IsOfWork : Status → Type 0
 IsOfWork status = (status ≡ Good) ⊎ (status ≡ Infeasible) ⊎ (status ≡ Undecided) ⊎ (status ≡ Rejected)
 
 of-work : (command : Command Word) (status : Status) → EndsWith command status → IsOfWork status
-of-work (Plan network model workers budget) status (inl is) = inl is
-of-work (Plan network model workers budget) status (inr (inl is)) = inr (inl is)
-of-work (Plan network model workers budget) status (inr (inr is)) = inr (inr (inl is))
-of-work (Check network model) status is = inl is
-of-work (Verify network model plan) status (inl is) = inl is
-of-work (Verify network model plan) status (inr is) = inr (inr (inr is))
-of-work (Report network model plan) status (inl is) = inl is
-of-work (Report network model plan) status (inr is) = inr (inr (inr is))
-of-work (Sample key) status is = inl is
-of-work (Trial key) status (inl is) = inl is
-of-work (Trial key) status (inr (inl is)) = inr (inl is)
-of-work (Trial key) status (inr (inr is)) = inr (inr (inl is))
+of-work (OfNetwork (Plan workers budget) network model) status (inl is) = inl is
+of-work (OfNetwork (Plan workers budget) network model) status (inr (inl is)) = inr (inl is)
+of-work (OfNetwork (Plan workers budget) network model) status (inr (inr is)) = inr (inr (inl is))
+of-work (OfNetwork Check network model) status is = inl is
+of-work (OfPlan work network model plan) status (inl is) = inl is
+of-work (OfPlan work network model plan) status (inr is) = inr (inr (inr is))
+of-work (Upgrade plan) status is = inl is
+of-work (OfSample Sample key) status is = inl is
+of-work (OfSample Trial key) status (inl is) = inl is
+of-work (OfSample Trial key) status (inr (inl is)) = inr (inl is)
+of-work (OfSample Trial key) status (inr (inr is)) = inr (inr (inl is))
 
 of-some : (command : Option (Command Word)) (shelf : Told) (begun : ℕ) (status : Status) (bytes : List ℕ) → IsSomeAnd command (λ command. IsDoneBy command shelf begun status bytes) → IsOfWork status
 of-some None shelf begun status bytes done = absurd done

@@ -10,25 +10,25 @@ use Rattle.command_words.specs.Words.{Word, command_in}
 use Rattle.plan_texts.specs.declared.status.Status.{Status}
 use Rattle.plan_texts.specs.declared.status.Status.TheVariants.{Good, Usage, BadText, Unsupported, OverLimit, ReadFault, WriteFault, OutOfMemory, Infeasible, Undecided, Rejected}
 use Rattle.plan_texts.specs.Statuses.{status_of}
-use Rattle.plan_texts.specs.Texts.{Text, Name, Told, Texts, most_bytes, IsPlanRead, HoldsOfTexts}
+use Rattle.plan_texts.specs.Texts.{Text, Name, Told, Texts, most_bytes, IsKindRead, HoldsOfTexts}
 use Rattle.plan_texts.specs.Refusals.{AreRefused, IsTooLong, IsRefusalOf, Counts}
 use Rattle.plan_texts.specs.OneAnswer.{Below}
 use Rattle.plan_texts.proofs.OneRefusal.{refused_or_read}
-use Rattle.plan_run.specs.Runs.{names_of, IsDoneBy, IsRefusedFor, IsRefusedBy, IsRefusal, IsAnswer, Says}
-use Rattle.plan_run.specs.Supports.{IsPlanTold, AreToldWell, AreAllTold, AreSupported, EndsWith}
+use Rattle.plan_run.specs.Runs.{names_of, IsDoneBy, IsRefusedBy, IsRefusal, IsAnswer, Says}
+use Rattle.plan_run.specs.Supports.{IsKindTold, AreToldWell, AreSupported, EndsWith}
 use Rattle.plan_run.proofs.Says.{done-ends}
 
 -- a text that was read is the one that is told
 one-text : (told : Option Text) (text other : Text) → told ≡ Some other → IfSome told (λ t. text ≡ t) → text ≡ other
 one-text told text other is h = subst (λ (o : Option Text). IfSome o (λ t. text ≡ t)) is h
 
-one-plan : (shelf : Told) (name : Option Name) (text other : Option Text) → IsPlanTold shelf name other → IsPlanRead shelf name text → text ≡ other
-one-plan shelf None None None told read = refl
-one-plan shelf None None (Some other) told read = absurd told
-one-plan shelf None (Some text) other told read = absurd read
-one-plan shelf (Some name) None other told read = absurd read
-one-plan shelf (Some name) (Some text) None told read = absurd told
-one-plan shelf (Some name) (Some text) (Some other) told read = rw (one-text (shelf name) text other told.told read.told) refl
+one-kind : (shelf : Told) (file : FileKind) (name : Option Name) (text other : Option Text) → IsKindTold shelf file name other → IsKindRead shelf file name text → text ≡ other
+one-kind shelf file None None None told read = refl
+one-kind shelf file None None (Some other) told read = absurd told
+one-kind shelf file None (Some text) other told read = absurd read
+one-kind shelf file (Some name) None other told read = absurd read
+one-kind shelf file (Some name) (Some text) None told read = absurd told
+one-kind shelf file (Some name) (Some text) (Some other) told read = rw (one-text (shelf name) text other told.told read.told) refl
 
 same-texts : (a b : Texts) → a.network ≡ b.network → a.model ≡ b.model → a.plan ≡ b.plan → a ≡ b
 same-texts a b one two three =
@@ -39,27 +39,24 @@ short : (told : Option Text) (text : Text) (most : ℕ) → told ≡ Some text �
 short told text most is within longer =
     let more : most < length text = subst (λ (o : Option Text). IfSome o (λ t. most < length t)) is longer in omega arith
 
-short-plan : (shelf : Told) (name : Name) (text : Option Text) → IsPlanTold shelf (Some name) text → IfSome (shelf name) (λ told. most_bytes files.Plan < length told) → ⊥
-short-plan shelf name None told longer = told
-short-plan shelf name (Some text) told longer = short (shelf name) text (most_bytes files.Plan) told.told told.within longer
+short-kind : (shelf : Told) (file : FileKind) (name : Name) (text : Option Text) → IsKindTold shelf file (Some name) text → IfSome (shelf name) (λ told. most_bytes file < length told) → ⊥
+short-kind shelf file name None told longer = told
+short-kind shelf file name (Some text) told longer = short (shelf name) text (most_bytes file) told.told told.within longer
 
 not-long : (shelf : Told) (names : Texts) (begun : ℕ) (file : FileKind) → (s : AreToldWell shelf names) → IsTooLong shelf names begun file → ⊥
-not-long shelf names begun files.Network s long =
-    short (shelf long.name) s.texts.network (most_bytes files.Network) (subst (λ (n : Name). shelf n ≡ Some s.texts.network) (sym long.named) s.network_told.told) s.network_told.within long.longer
-not-long shelf names begun files.Model s long =
-    short (shelf long.name) s.texts.model (most_bytes files.Model) (subst (λ (n : Name). shelf n ≡ Some s.texts.model) (sym long.named) s.model_told.told) s.model_told.within long.longer
-not-long shelf names begun files.Plan s long =
-    short-plan shelf long.name s.texts.plan (subst (λ (n : Option Name). IsPlanTold shelf n s.texts.plan) long.named s.plan_told) long.longer
+not-long shelf names begun files.Network s long = short-kind shelf files.Network long.name s.texts.network (subst (λ (n : Option Name). IsKindTold shelf files.Network n s.texts.network) long.named s.network_told) long.longer
+not-long shelf names begun files.Model s long = short-kind shelf files.Model long.name s.texts.model (subst (λ (n : Option Name). IsKindTold shelf files.Model n s.texts.model) long.named s.model_told) long.longer
+not-long shelf names begun files.Plan s long = short-kind shelf files.Plan long.name s.texts.plan (subst (λ (n : Option Name). IsKindTold shelf files.Plan n s.texts.plan) long.named s.plan_told) long.longer
 
 -- ---- nothing is refused
 
 not-refused : Below → (shelf : Told) (names : Texts) (begun : ℕ) (fault : RunFault) → (s : AreToldWell shelf names) → HoldsOfTexts shelf names begun (λ texts. AreRefused texts fault) → ⊥
 not-refused below shelf names begun fault s h =
     let same : h.texts ≡ s.texts = same-texts h.texts s.texts
-    (one-text (shelf names.network) h.texts.network s.texts.network s.network_told.told h.read.network_read.told)
-    (one-text (shelf names.model) h.texts.model s.texts.model s.model_told.told h.read.model_read.told)
-    (one-plan shelf names.plan h.texts.plan s.texts.plan s.plan_told h.read.plan_read) in
-    refused_or_read below s.texts s.net s.parts s.plan fault (subst (λ (t : Texts). AreRefused t fault) same h.holds) s.problem
+    (one-kind shelf files.Network names.network h.texts.network s.texts.network s.network_told h.read.network_read)
+    (one-kind shelf files.Model names.model h.texts.model s.texts.model s.model_told h.read.model_read)
+    (one-kind shelf files.Plan names.plan h.texts.plan s.texts.plan s.plan_told h.read.plan_read) in
+    refused_or_read below s.texts fault (subst (λ (t : Texts). AreRefused t fault) same h.holds) s.good
 
 -- the texts are refused for a read fault alone
 only-read : Below → (shelf : Told) (names : Texts) (begun : ℕ) (fault : RunFault) → AreToldWell shelf names → IsRefusalOf names shelf begun fault → status_of fault ≡ ReadFault
@@ -72,11 +69,6 @@ only-read below shelf names begun (faults.LoopLink link) s refusal = absurd (not
 only-read below shelf names begun (faults.LoopDemand demand) s refusal = absurd (not-refused below shelf names begun (faults.LoopDemand demand) s refusal)
 only-read below shelf names begun (faults.Unsupported key value) s refusal = absurd (not-refused below shelf names begun (faults.Unsupported key value) s refusal)
 only-read below shelf names begun (faults.OverLimit limit at) s refusal = absurd (not-refused below shelf names begun (faults.OverLimit limit at) s refusal)
-
--- the same of a command, which may be about no texts
-only-read-for : Below → (shelf : Told) (names : Option Texts) (begun : ℕ) (fault : RunFault) → AreAllTold shelf names → IsRefusedFor names shelf begun fault → status_of fault ≡ ReadFault
-only-read-for below shelf None begun fault s refusal = absurd refusal
-only-read-for below shelf (Some names) begun fault s refusal = only-read below shelf names begun fault s refusal
 
 -- what holds of the words' command holds of this one
 of-words : (words : List Word) (command : Command Word) (Holds : Command Word → Type 0) → command_in words ≡ Some command → IsSomeAnd (command_in words) Holds → Holds command
@@ -98,7 +90,7 @@ by-command words shelf begun command (faults.OverLimit limit at) is refusal = of
 
 answer-ends : Below → (words : List Word) (shelf : Told) (counts : Counts) (begun : ℕ) (command : Command Word) (status : Status) (bytes : List ℕ) → AreSupported words shelf command → IsAnswer words shelf counts begun status bytes → EndsWith command status ⊎ (status ≡ ReadFault) ⊎ (status ≡ WriteFault) ⊎ (status ≡ OutOfMemory)
 answer-ends below words shelf counts begun command status bytes s (inl refused) =
-    inr (inl (refused.is_status ∙ only-read-for below shelf (names_of command) begun refused.fault s.texts (by-command words shelf begun command refused.fault s.asked refused.refusal)))
+    inr (inl (refused.is_status ∙ only-read below shelf (names_of command) begun refused.fault s.texts (by-command words shelf begun command refused.fault s.asked refused.refusal)))
 answer-ends below words shelf counts begun command status bytes s (inr done) =
     let did : IsDoneBy command shelf begun status bytes = of-words words command (λ command. IsDoneBy command shelf begun status bytes) s.asked done in
     inl (done-ends command shelf begun status bytes did)

@@ -5,60 +5,45 @@ use Rattle.plan_report.specs.declared.run_fault.RunFault.{RunFault}
 use Rattle.plan_report.specs.declared.run_fault.RunFault.TheVariants as faults
 use Rattle.plan_report.specs.Lines.{fault_line}
 use Rattle.command_words.specs.declared.command.Command.{Command}
-use Rattle.command_words.specs.declared.command.Command.TheVariants.{Plan, Check, Verify, Report, Sample, Trial}
+use Rattle.command_words.specs.declared.command.Command.TheVariants.{OfNetwork, OfPlan, Upgrade, OfSample}
+use Rattle.command_words.specs.declared.command.NetworkWork.TheVariants.{Plan, Check}
+use Rattle.command_words.specs.declared.command.PlanWork.TheVariants.{Verify, Report}
+use Rattle.command_words.specs.declared.command.SampleWork.TheVariants.{Sample, Trial}
 use Rattle.command_words.specs.Words.{Word, command_in}
 use Rattle.plan_texts.specs.declared.status.Status.{Status}
 use Rattle.plan_texts.specs.declared.status.Status.TheVariants.{Good, BadText, Unsupported, OverLimit, WriteFault, OutOfMemory, Infeasible, Undecided, Rejected}
 use Rattle.plan_texts.specs.Statuses.{status_of}
-use Rattle.plan_texts.specs.Texts.{Told, Texts, two, three, HoldsOfTexts}
+use Rattle.plan_texts.specs.Texts.{Told, Texts, nothing, alone, two, three, HoldsOfTexts}
 use Rattle.plan_texts.specs.Refusals.{IsRefusalOf, Counts, IsShownBy}
-use Rattle.plan_texts.specs.Answers.{IsChecked, IsVerified, IsReported}
+use Rattle.plan_texts.specs.Answers.{IsChecked, IsVerified, IsReported, IsUpgraded}
 use Rattle.plan_run.specs.Plans.{IsPlanDone}
-use Rattle.plan_run.specs.Samples.{IsSampled, IsTried}
+use Rattle.plan_run.specs.Samples.{IsMade}
 
 -- ---- commands
 
--- the names of the texts that a command is about, where it is about texts
-abbrev pub names_of : Command Word → Option Texts
-names_of (Plan network model workers budget) = Some (two network model)
-names_of (Check network model) = Some (two network model)
-names_of (Verify network model plan) = Some (three network model plan)
-names_of (Report network model plan) = Some (three network model plan)
-names_of (Sample key) = None
-names_of (Trial key) = None
+-- the names of the texts that a command reads
+abbrev pub names_of : Command Word → Texts
+names_of (OfNetwork work network model) = two network model
+names_of (OfPlan work network model plan) = three network model plan
+names_of (Upgrade plan) = alone plan
+names_of (OfSample work key) = nothing
 
 -- the texts spell what the command works on, and it does its work with this status and this text
 abbrev pub IsDone : Command Word → Texts → Status → List ℕ → Type 0
-IsDone (Plan network model workers budget) texts status bytes = IsPlanDone budget texts status bytes
-IsDone (Check network model) texts status bytes = IsChecked texts status bytes
-IsDone (Verify network model plan) texts status bytes = IsVerified texts status bytes
-IsDone (Report network model plan) texts status bytes = IsReported texts status bytes
-IsDone (Sample key) texts status bytes = ⊥
-IsDone (Trial key) texts status bytes = ⊥
+IsDone (OfNetwork (Plan workers budget) network model) texts status bytes = IsPlanDone budget texts status bytes
+IsDone (OfNetwork Check network model) texts status bytes = IsChecked texts status bytes
+IsDone (OfPlan Verify network model plan) texts status bytes = IsVerified texts status bytes
+IsDone (OfPlan Report network model plan) texts status bytes = IsReported texts status bytes
+IsDone (Upgrade plan) texts status bytes = IsUpgraded texts status bytes
+IsDone (OfSample work key) texts status bytes = (texts ≡ nothing) × IsMade work key status bytes
 
--- the command, which is about no texts, does its work with this status and this text
-abbrev pub IsMade : Command Word → Status → List ℕ → Type 0
-IsMade (Sample key) status bytes = IsSampled key status bytes
-IsMade (Trial key) status bytes = IsTried key status bytes
-IsMade command status bytes = ⊥
-
--- the command did its work for texts of these names, where it has names, and so many texts were begun
-abbrev pub IsDoneFor : Option Texts → Command Word → Told → ℕ → Status → List ℕ → Type 0
-IsDoneFor (Some names) command shelf begun status bytes = HoldsOfTexts shelf names begun (λ texts. IsDone command texts status bytes)
-IsDoneFor None command shelf begun status bytes = (begun ≡ 0) × IsMade command status bytes
-
--- the command did its work, and so many texts were begun
+-- the command did its work for texts of the names that it has, and so many texts were begun
 abbrev pub IsDoneBy : Command Word → Told → ℕ → Status → List ℕ → Type 0
-IsDoneBy command shelf begun status bytes = IsDoneFor (names_of command) command shelf begun status bytes
-
--- texts of these names, where there are names, are refused so, and so many were begun
-abbrev pub IsRefusedFor : Option Texts → Told → ℕ → RunFault → Type 0
-IsRefusedFor (Some names) shelf begun fault = IsRefusalOf names shelf begun fault
-IsRefusedFor None shelf begun fault = ⊥
+IsDoneBy command shelf begun status bytes = HoldsOfTexts shelf (names_of command) begun (λ texts. IsDone command texts status bytes)
 
 -- the texts of the command are refused so, and so many were begun
 abbrev pub IsRefusedBy : Command Word → Told → ℕ → RunFault → Type 0
-IsRefusedBy command shelf begun fault = IsRefusedFor (names_of command) shelf begun fault
+IsRefusedBy command shelf begun fault = IsRefusalOf (names_of command) shelf begun fault
 
 -- ---- the answers
 

@@ -11,6 +11,8 @@ use Rattle.instance_maker.specs.declared.trials.TheConstants.{TRIAL_BUDGET}
 use Rattle.instance_maker.specs.Samples.{sample_network}
 use Rattle.instance_maker.specs.Trials.{trial_model, sample_parts}
 use Rattle.command_words.specs.declared.command.SampleKey.{SampleKey}
+use Rattle.command_words.specs.declared.command.SampleWork.{SampleWork}
+use Rattle.command_words.specs.declared.command.SampleWork.TheVariants.{Sample, Trial}
 use Rattle.plan_texts.specs.declared.status.Status.{Status}
 use Rattle.plan_texts.specs.declared.status.Status.TheVariants.{Good}
 use Rattle.plan_texts.specs.Statuses.{status_of_plan}
@@ -37,3 +39,8 @@ pub record IsTried (key : SampleKey) (status : Status) (bytes : List ℕ) : Type
   pub searched : IsSearched (parts_of key) TRIAL_BUDGET plan
   pub line : bytes ≡ trial_line (parts_of key) plan
   pub is_status : status ≡ status_of_plan plan.status
+
+-- this is done with a sample, with this status and this text
+abbrev pub IsMade : SampleWork → SampleKey → Status → List ℕ → Type 0
+IsMade Sample key status bytes = IsSampled key status bytes
+IsMade Trial key status bytes = IsTried key status bytes

@@ -7,17 +7,17 @@ ghost use Rattle.plan_texts.specs.Stops.{IsReadStop, TookMore};
 ghost use Rattle.plan_run.specs.Found.{IsFoundBy, IsFound};
 
 use crate::planning::plan;
-use crate::samples::{try_sample, write_sample};
-use command_words::{Command, command_in};
+use crate::samples::make;
+use command_words::{Command, NetworkWork, PlanWork, command_in};
 use plan_io::{Gate, Shelf};
 use plan_report::RunFault;
-use plan_texts::{Answer, Stop, check, report, verify_plan};
+use plan_texts::{Answer, Stop, check, report, upgrade, verify_plan};
 use std::alloc::{AllocError, Global};
 use std::sync::Wait;
 use std::thread::Threads;
 
 /// What a command has to say.
-#[tactic(auto, using(crate::proofs::Finding::found, crate::proofs::Finding::found_sample, crate::proofs::Finding::found_trial, crate::proofs::Finding::found_short))]
+#[tactic(auto, using(crate::proofs::Finding::found, crate::proofs::Finding::found_made, crate::proofs::Finding::found_short))]
 fn do_command<R: Threads + Wait + Sync, S: Shelf, G: Gate>(
     rt: &R,
     alloc: Global,
@@ -32,28 +32,27 @@ fn do_command<R: Threads + Wait + Sync, S: Shelf, G: Gate>(
     ensures later { S.faults shelf.old ≤ S.faults shelf.new }
 {
     match command {
-        Command::Plan {
+        Command::OfNetwork {
+            work,
             network,
             model,
-            workers,
-            budget,
-        } => plan(rt, alloc, network, model, workers, budget, shelf, gate),
-        Command::Check { network, model } => check(alloc, network, model, shelf),
-        Command::Verify {
-            network,
-            model,
-            plan,
-        } => verify_plan(alloc, network, model, plan, shelf),
-        Command::Report {
-            network,
-            model,
-            plan,
-        } => report(alloc, network, model, plan, shelf),
-        Command::Sample(key) => match write_sample(alloc, key) {
-            Ok(answer) => Ok(answer),
-            Err(AllocError) => Err(Stop::OutOfMemory),
+        } => match work {
+            NetworkWork::Plan { workers, budget } => {
+                plan(rt, alloc, network, model, workers, budget, shelf, gate)
+            }
+            NetworkWork::Check => check(alloc, network, model, shelf),
         },
-        Command::Trial(key) => match try_sample(alloc, key) {
+        Command::OfPlan {
+            work,
+            network,
+            model,
+            plan,
+        } => match work {
+            PlanWork::Verify => verify_plan(alloc, network, model, plan, shelf),
+            PlanWork::Report => report(alloc, network, model, plan, shelf),
+        },
+        Command::Upgrade { plan } => upgrade(alloc, plan, shelf),
+        Command::OfSample { work, key } => match make(alloc, work, key) {
             Ok(answer) => Ok(answer),
             Err(AllocError) => Err(Stop::OutOfMemory),
         },

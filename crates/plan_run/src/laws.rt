@@ -22,7 +22,9 @@ use crate::top_call::run;
 use plan_io::{Gate, SureShelf, SureSink};
 use plan_texts::Status;
 use plan_texts::laws::one_answer_below;
-pub use plan_texts::laws::{accepted_where_valid, one_refusal, one_verdict, refused_or_read};
+pub use plan_texts::laws::{
+    accepted_where_valid, one_refusal, one_upgrade, one_verdict, refused_or_read,
+};
 use pool_machine::laws::enough_budget;
 use std::alloc::Global;
 use std::sync::Wait;
@@ -80,8 +82,9 @@ pub fn decided_where_covered()
 }
 
 /// Where the texts of a command are supported, it does its work, unless something outside fails or memory is
-/// wanting. So `plan` ends with a plan, `check` with its line, `verify` with a verdict and `report` with a report or a
-/// rejection; `sample` and `trial`, which name no text, end with a network and with the line of a plan.
+/// wanting. So `plan` ends with a plan, `check` with its line, `verify` with a verdict, `report` with a report or a
+/// rejection and `upgrade` with a plan's text; `sample` and `trial`, which name no text, end with a network and with the line
+/// of a plan.
 pub fn done_where_supported()
     ensures { (words : List Word) (shelf : Told) (counts : Counts) (begun : ℕ) (command : AnyCommand Word)
         (status : AnyStatus) (bytes : List ℕ) → AreSupported words shelf command → Says words shelf counts begun status bytes

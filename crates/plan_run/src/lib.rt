@@ -1,6 +1,6 @@
 //! The top call: the words of a command and the texts that they name, to a status and one text.
 //!
-//! Promises that a plan that is written is a valid one of the instance that the texts spell, with the budget
+//! Promises that what `plan` writes is the text of a valid plan of the instance that the texts spell, with the budget
 //! that the words give, so that what it claims is so; that exactly the valid plans are accepted; that each
 //! other answer has its cause; and that the sink holds exactly the text of the answer. Begin at `run`, whose
 //! words are in `specs/Runs.antt`. Stands on `command_words`, which reads the words, on `plan_texts`, which reads,

@@ -1,7 +1,6 @@
 //! The command that plans.
 
-ghost use Rattle.std.specs.Prelude.{◌≡◌, ◌≤◌, false, IfOk, IfErr};
-ghost use Rattle.plan_base.specs.Places.{is_two_way};
+ghost use Rattle.std.specs.Prelude.{◌≡◌, ◌≤◌, IfOk, IfErr};
 ghost use Rattle.plan_io.specs.Causes.{Rose};
 ghost use Rattle.command_words.specs.Words.{AreWorkers, IsBudget};
 ghost use Rattle.plan_texts.specs.Texts.{Begun, two, HoldsOfTexts};
@@ -26,7 +25,6 @@ fn planned<R: Threads + Wait + Sync, G: Gate>(
     gate: &G,
 ) -> Result<Answer, AllocError>
     requires table { problem.table ≡ problem.inst }
-    requires one_way { is_two_way problem.inst.orient ≡ false }
     requires workers { AreWorkers workers }
     requires budget { IsBudget budget }
     ensures { IfOk result (λ answer. IsPlanned problem.inst budget answer.status answer.text.items) }

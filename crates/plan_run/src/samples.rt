@@ -2,10 +2,10 @@
 
 ghost use Rattle.std.specs.Prelude.{IfOk};
 ghost use Rattle.command_words.specs.Words.{IsSampleKey};
-ghost use Rattle.plan_run.specs.Samples.{IsSampled, IsTried};
+ghost use Rattle.plan_run.specs.Samples.{IsSampled, IsTried, IsMade};
 
 use crate::searching::search_alone;
-use command_words::SampleKey;
+use command_words::{SampleKey, SampleWork};
 use instance_maker::laws::samples_are_instances;
 use instance_maker::{TRIAL_BUDGET, sample, sample_problem};
 use plan_report::trial_line;
@@ -15,7 +15,7 @@ use std::alloc::{AllocError, Global};
 use std::sync::Arc;
 
 /// Writes the network of a sample.
-pub fn write_sample(alloc: Global, key: SampleKey) -> Result<Answer, AllocError>
+fn write_sample(alloc: Global, key: SampleKey) -> Result<Answer, AllocError>
     requires { IsSampleKey key }
     ensures { IfOk result (λ answer. IsSampled key answer.status answer.text.items) }
 {
@@ -28,7 +28,7 @@ pub fn write_sample(alloc: Global, key: SampleKey) -> Result<Answer, AllocError>
 }
 
 /// Plans the network of a sample, and tells what its plan claims.
-pub fn try_sample(alloc: Global, key: SampleKey) -> Result<Answer, AllocError>
+fn try_sample(alloc: Global, key: SampleKey) -> Result<Answer, AllocError>
     requires { IsSampleKey key }
     ensures { IfOk result (λ answer. IsTried key answer.status answer.text.items) }
 {
@@ -42,4 +42,15 @@ pub fn try_sample(alloc: Global, key: SampleKey) -> Result<Answer, AllocError>
         status: Status::of_plan(plan.status),
         text,
     })
+}
+
+/// Does this with a sample.
+pub fn make(alloc: Global, work: SampleWork, key: SampleKey) -> Result<Answer, AllocError>
+    requires { IsSampleKey key }
+    ensures { IfOk result (λ answer. IsMade work key answer.status answer.text.items) }
+{
+    match work {
+        SampleWork::Sample => write_sample(alloc, key),
+        SampleWork::Trial => try_sample(alloc, key),
+    }
 }

@@ -1,8 +1,7 @@
 //! The search, by several workers or alone.
 
-ghost use Rattle.std.specs.Prelude.{◌≡◌, false, IfOk};
+ghost use Rattle.std.specs.Prelude.{◌≡◌, IfOk};
 ghost use Rattle.std.specs.Arc.{arc_value};
-ghost use Rattle.plan_base.specs.Places.{is_two_way};
 ghost use Rattle.proof_tree.specs.Spellings.{IsSpellable};
 ghost use Rattle.command_words.specs.Words.{AreWorkers, IsBudget};
 ghost use Rattle.plan_run.specs.Searches.{IsSearched};
@@ -19,7 +18,7 @@ use std::thread::Threads;
 /// The plan of a pool, once nothing is left to do.
 fn finished_plan(mut pool: Pool) -> Result<Plan, AllocError>
     ensures searched { IfOk result (IsSearched pool.problem pool.budget) }
-    ensures fits { is_two_way pool.problem.orient ≡ false → IfOk result IsSpellable }
+    ensures fits { IfOk result IsSpellable }
 {
     proof_tree::laws::claim();
     pool.finish()?;
@@ -45,7 +44,7 @@ pub fn search_alone(
     requires budget { IsBudget budget }
     requires table { arc_value table ≡ arc_value inst }
     ensures searched { IfOk result (IsSearched (arc_value inst) budget) }
-    ensures fits { is_two_way (arc_value inst).orient ≡ false → IfOk result IsSpellable }
+    ensures fits { IfOk result IsSpellable }
 {
     let pool = Pool::new(alloc, inst, table, budget)?;
     finished_plan(pool)
@@ -55,9 +54,9 @@ pub fn search_alone(
 ///
 /// - Takes: what starts threads; an instance and its step table; 1 to 64 workers; a budget of 1 to 4,096 nodes; a gate
 ///   that each worker passes with each task.
-/// - Gives: a valid plan with this budget, which a plan text can hold where links have one place each, and each split of
-///   which parts two paths; the bound of an undecided plan is at least the bound of the root at the start prices. The plan of one worker is the
-///   same at each run; that of several may be another one each time.
+/// - Gives: a valid plan with this budget, which a plan text can hold, and each split of which parts two paths; the bound
+///   of an undecided plan is at least the bound of the root at the start prices. The plan of one worker is the same at
+///   each run; that of several may be another one each time.
 /// - Errors: want of memory alone. What a worker leaves that stops for want of memory is finished by one thread.
 /// - Rule: docs/DEFINITIONS.md, "Runs".
 /// - Time: a worker goes through the same steps as one thread; it may wait for another one, or do what that one did.
@@ -74,7 +73,7 @@ pub fn search<R: Threads + Wait + Sync, G: Gate>(
     requires budget { IsBudget budget }
     requires table { arc_value table ≡ arc_value inst }
     ensures searched { IfOk result (IsSearched (arc_value inst) budget) }
-    ensures fits { is_two_way (arc_value inst).orient ≡ false → IfOk result IsSpellable }
+    ensures fits { IfOk result IsSpellable }
 {
     let opened = Pool::new(alloc, inst, table, budget)?;
     let pool = pool_hub::search(rt, alloc, opened, workers, gate)?;

@@ -13,10 +13,10 @@ use Rattle.plan_texts.specs.declared.stop.Stop.{Stop}
 use Rattle.plan_texts.specs.declared.stop.Stop.TheVariants as stops
 use Rattle.plan_texts.specs.declared.status.Status.{Status}
 use Rattle.plan_texts.specs.declared.status.Status.TheVariants.{WriteFault}
-use Rattle.plan_texts.specs.Texts.{Told, Texts, HoldsOfTexts}
-use Rattle.plan_texts.specs.Refusals.{IsProblem, HoldsOfProblem, Counts, IsShownBy}
+use Rattle.plan_texts.specs.Texts.{Told, Texts, AreRead, HoldsOfTexts}
+use Rattle.plan_texts.specs.Refusals.{IsProblem, HoldsOfProblem, IsPlanAlone, Counts, IsShownBy}
 use Rattle.plan_texts.specs.Stops.{IsReadStop, TookMore}
-use Rattle.plan_texts.specs.Answers.{IsCheck, IsVerdict, IsReport, IsChecked, IsVerified, IsReported, IsWhole, IsWritten, whole, cut}
+use Rattle.plan_texts.specs.Answers.{IsCheck, IsVerdict, IsReport, IsChecked, IsVerified, IsReported, IsRewritten, IsUpgraded, IsWhole, IsWritten, whole, cut}
 
 -- what holds of what the texts spell holds of a problem of the texts
 pub of_problem : (names : Texts) (shelf : Told) (begun : ℕ) (net : NetworkFile) (parts : Parts) (plan : Option Plan) (Holds : NetworkFile → Parts → Option Plan → Type 0) → HoldsOfTexts shelf names begun (λ texts. IsProblem texts net parts plan) → Holds net parts plan → HoldsOfTexts shelf names begun (λ texts. HoldsOfProblem texts Holds)
@@ -30,6 +30,10 @@ verified_texts names shelf begun net parts plan status bytes h is = record { tex
 
 pub reported_texts : (names : Texts) (shelf : Told) (begun : ℕ) (net : NetworkFile) (parts : Parts) (plan : Plan) (status : Status) (bytes : List ℕ) → HoldsOfTexts shelf names begun (λ texts. IsProblem texts net parts (Some plan)) → IsReport net parts plan status bytes → HoldsOfTexts shelf names begun (λ texts. IsReported texts status bytes)
 reported_texts names shelf begun net parts plan status bytes h is = record { texts = h.texts; read = h.read; holds = record { net = net; parts = parts; plan = Some plan; problem = h.holds; holds = is } }
+
+-- what is written of a plan is what is written of the text that spells it
+pub upgraded_texts : (names : Texts) (shelf : Told) (begun : ℕ) (texts : Texts) (plan : Plan) (status : Status) (bytes : List ℕ) → AreRead shelf names begun texts → IsPlanAlone texts plan → IsRewritten plan status bytes → HoldsOfTexts shelf names begun (λ texts. IsUpgraded texts status bytes)
+upgraded_texts names shelf begun texts plan status bytes read spelt is = record { texts = texts; read = read; holds = record { plan = plan; read = spelt; written = is } }
 
 -- the instance of a problem of texts is read from its network
 pub read_from : (names : Texts) (shelf : Told) (begun : ℕ) (net : NetworkFile) (parts : Parts) (plan : Option Plan) → HoldsOfTexts shelf names begun (λ texts. IsProblem texts net parts plan) → IsReadFrom net parts

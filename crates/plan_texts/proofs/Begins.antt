@@ -1,5 +1,5 @@
 -- How many texts were begun, and why a command about texts stops there.
-use Rattle.std.proofs.Common.{ℕ, ◌≡◌, ◌+◌, ◌≤◌, ◌<◌, ◌⊎◌, ◌^◌, List, refl, subst, arith, inl, inr}
+use Rattle.std.proofs.Common.{ℕ, ◌≡◌, ◌+◌, ◌≤◌, ◌<◌, ◌⊎◌, ◌^◌, List, Option, Some, None, refl, subst, arith, inl, inr}
 use Rattle.std.proofs.lemmas.Bool.{cases_lt}
 use Rattle.plan_io.specs.Causes.{CountsUp}
 use Rattle.plan_io.specs.declared.reading.ReadWhole.{ReadWhole}
@@ -10,8 +10,8 @@ use Rattle.plan_report.specs.declared.run_fault.RunFault.{RunFault}
 use Rattle.plan_report.specs.declared.run_fault.RunFault.TheVariants as faults
 use Rattle.plan_texts.specs.declared.stop.Stop.{Stop}
 use Rattle.plan_texts.specs.declared.stop.Stop.TheVariants as stops
-use Rattle.plan_texts.specs.Texts.{Told, Texts, Begun, most_bytes, text_count, two, three, IsRead, AreRead}
-use Rattle.plan_texts.specs.Refusals.{AreRefused, IsRefusalOf}
+use Rattle.plan_texts.specs.Texts.{Name, Told, Texts, Begun, most_bytes, count_of, text_count, alone, two, three, AreRead}
+use Rattle.plan_texts.specs.Refusals.{AreRefused, IsRefusalOf, IsAt, WasRead, name_of}
 use Rattle.plan_texts.specs.Stops.{stop_of_reading, IsUnread, IsTextStop, TookMore, IsStop, Stops}
 
 one-more : (before now : ℕ) → CountsUp before now → (before < 2 ^ 63) ⊎ (2 ^ 63 ≤ before) → Begun 1 before now
@@ -30,22 +30,37 @@ more-begun number other first second third one two = record {
   few = omega (arith, one.few, two.few);
 }
 
+-- texts are three at most
+pub few-texts : (texts : Texts) → text_count texts ≤ 3
+few-texts texts = omega (arith, few-of texts.network, few-of texts.model, few-of texts.plan) where
+  few-of : (text : Option (List ℕ)) → count_of text ≤ 1
+  few-of None = omega arith
+  few-of (Some text) = omega arith
+
 -- ---- a text that does not come in
 
-pub network_unread : (names : Texts) (shelf : Told) (before now : ℕ) (stop : Stop) → Begun 1 before now → 1 ≤ text_count names → IsUnread shelf names.network files.Network stop → Stops names shelf before now stop
-network_unread names shelf before now (stops.Refused fault) begun few (inl read) = record { begun = 1; rises = begun; few = few; is = rw read record { name = names.network; named = refl; place = refl } }
-network_unread names shelf before now (stops.Refused fault) begun few (inr long) = record { begun = 1; rises = begun; few = few; is = rw long.0 record { name = names.network; named = refl; place = refl; longer = long.1 } }
-network_unread names shelf before now stops.OutOfMemory begun few unread = record { begun = 1; rises = begun; few = few; is = few }
+-- a text of this kind and name does not come in
+unread : (names : Texts) (file : FileKind) (name : Name) (shelf : Told) (number before now : ℕ) (stop : Stop) → Begun number before now → number ≤ text_count names → name_of names file ≡ Some name → IsAt shelf names number file → IsUnread shelf name file stop → Stops names shelf before now stop
+unread names file name shelf number before now (stops.Refused fault) begun few named place (inl read) = record { begun = number; rises = begun; few = few; is = rw read record { name = name; named = named; place = place } }
+unread names file name shelf number before now (stops.Refused fault) begun few named place (inr long) = record { begun = number; rises = begun; few = few; is = rw long.0 record { name = name; named = named; place = place; longer = long.1 } }
+unread names file name shelf number before now stops.OutOfMemory begun few named place why = record { begun = number; rises = begun; few = few; is = few }
 
-pub model-unread : (names : Texts) (shelf : Told) (network : List ℕ) (before now : ℕ) (stop : Stop) → Begun 2 before now → 2 ≤ text_count names → IsRead shelf files.Network names.network network → IsUnread shelf names.model files.Model stop → Stops names shelf before now stop
-model-unread names shelf network before now (stops.Refused fault) begun few first (inl read) = record { begun = 2; rises = begun; few = few; is = rw read record { name = names.model; named = refl; place = (refl, (network, first)) } }
-model-unread names shelf network before now (stops.Refused fault) begun few first (inr long) = record { begun = 2; rises = begun; few = few; is = rw long.0 record { name = names.model; named = refl; place = (refl, (network, first)); longer = long.1 } }
-model-unread names shelf network before now stops.OutOfMemory begun few first unread = record { begun = 2; rises = begun; few = few; is = few }
+-- these names
+abbrev these : Option Name → Option Name → Option Name → Texts
+these network model plan = record { network = network; model = model; plan = plan }
 
-pub plan-unread : (first second third : List ℕ) (shelf : Told) (network model : List ℕ) (before now : ℕ) (stop : Stop) → Begun 3 before now → IsRead shelf files.Network first network → IsRead shelf files.Model second model → IsUnread shelf third files.Plan stop → Stops (three first second third) shelf before now stop
-plan-unread first second third shelf network model before now (stops.Refused fault) begun one other (inl read) = record { begun = 3; rises = begun; few = omega arith; is = rw read record { name = third; named = refl; place = (refl, (network, one), (model, other)) } }
-plan-unread first second third shelf network model before now (stops.Refused fault) begun one other (inr long) = record { begun = 3; rises = begun; few = omega arith; is = rw long.0 record { name = third; named = refl; place = (refl, (network, one), (model, other)); longer = long.1 } }
-plan-unread first second third shelf network model before now stops.OutOfMemory begun one other unread = record { begun = 3; rises = begun; few = omega arith; is = omega arith }
+pub network_unread : (network : Name) (model plan : Option Name) (shelf : Told) (before now : ℕ) (stop : Stop) → Begun 1 before now → IsUnread shelf network files.Network stop → Stops (record { network = Some network; model = model; plan = plan }) shelf before now stop
+network_unread network model plan shelf before now stop begun why = unread (these (Some network) model plan) files.Network network shelf 1 before now stop begun (omega arith) refl refl why
+
+pub model-unread : (network : Option Name) (model : Name) (plan : Option Name) (shelf : Told) (before now : ℕ) (stop : Stop) → Begun (count_of network + 1) before now → WasRead shelf files.Network network → IsUnread shelf model files.Model stop → Stops (record { network = network; model = Some model; plan = plan }) shelf before now stop
+model-unread network model plan shelf before now stop begun first why = unread (these network (Some model) plan) files.Model model shelf (count_of network + 1) before now stop begun (omega arith) refl (refl, first) why
+
+pub plan-unread : (network model : Option Name) (plan : Name) (shelf : Told) (before now : ℕ) (stop : Stop) → Begun (count_of network + count_of model + 1) before now → WasRead shelf files.Network network → WasRead shelf files.Model model → IsUnread shelf plan files.Plan stop → Stops (record { network = network; model = model; plan = Some plan }) shelf before now stop
+plan-unread network model plan shelf before now stop begun first second why = unread (these network model (Some plan)) files.Plan plan shelf (count_of network + count_of model + 1) before now stop begun (omega arith) refl (refl, first, second) why
+
+-- a plan by itself does not come in
+pub alone_unread : (plan : Name) (shelf : Told) (before now : ℕ) (stop : Stop) → Begun 1 before now → IsUnread shelf plan files.Plan stop → Stops (alone plan) shelf before now stop
+alone_unread plan shelf before now stop begun why = plan-unread None None plan shelf before now stop begun tt tt why
 
 -- where a text is answered to be too long, more bytes than its limit were taken
 pub long_stop : (file : FileKind) (fault : ReadWhole) (taken : ℕ) → (fault ≡ read_faults.TooLong → most_bytes file < taken) → TookMore taken (stop_of_reading file fault)
@@ -74,6 +89,9 @@ pub texts_stop : (names : Texts) (shelf : Told) (number before now : ℕ) (texts
 texts_stop names shelf number before now texts stop read begun is = record { begun = number; rises = begun; few = omega (arith, read.all); is = read-stop names shelf number texts stop read is }
 
 -- memory is wanting for the work
+pub memory_after_one : (plan : List ℕ) (shelf : Told) (before now : ℕ) → Begun 1 before now → Stops (alone plan) shelf before now stops.OutOfMemory
+memory_after_one plan shelf before now begun = record { begun = 1; rises = begun; few = omega arith; is = omega arith }
+
 pub memory_after_two : (network model : List ℕ) (shelf : Told) (before now : ℕ) → Begun 2 before now → Stops (two network model) shelf before now stops.OutOfMemory
 memory_after_two network model shelf before now begun = record { begun = 2; rises = begun; few = omega arith; is = omega arith }
 

@@ -1,17 +1,19 @@
--- Three texts get one report, and exactly the valid plans are told.
-use Rattle.std.proofs.Common.{◌≡◌, ◌↔◌, ℕ, List, Option, Some, sym, subst, ◌∙◌}
+-- Three texts get one report, and exactly the valid plans are told; a plan has one text of its own.
+use Rattle.std.proofs.Common.{◌≡◌, ◌↔◌, ℕ, List, Option, Some, sym, ap, subst, ◌∙◌}
 use Rattle.std.specs.Prelude.{IsSomeAnd, None}
 use Rattle.plan_base.specs.declared.parts.Parts.{Parts}
 use Rattle.snd_network.specs.declared.file.NetworkFile.{NetworkFile}
 use Rattle.proof_tree.specs.declared.plan.Plan.{Plan}
 use Rattle.proof_tree.specs.Plans.{IsValidPlan}
+use Rattle.cert_format.specs.declared.form.Form.TheVariants.{Second}
+use Rattle.cert_format.specs.Grammar.{plan_text}
 use Rattle.plan_texts.specs.declared.status.Status.{Status}
 use Rattle.plan_texts.specs.declared.status.Status.TheVariants.{Good, Rejected}
-use Rattle.plan_texts.specs.Texts.{Texts}
+use Rattle.plan_texts.specs.Texts.{Texts, alone}
 use Rattle.plan_texts.specs.Refusals.{Reads, SpellsItsPlan, IsProblem}
-use Rattle.plan_texts.specs.Answers.{IsReport, reported, unreported, IsReported}
+use Rattle.plan_texts.specs.Answers.{IsReport, reported, unreported, IsReported, IsUpgraded}
 use Rattle.plan_texts.specs.OneAnswer.{Below}
-use Rattle.plan_texts.proofs.OneRefusal.{same-parts, same-line}
+use Rattle.plan_texts.proofs.OneRefusal.{one-network, same-parts, same-line}
 
 -- a report on what the texts spell is one on their one network, their one instance and their one plan
 of-plan : Below → (texts : Texts) (one_net other_net : NetworkFile) (one other : Parts) (found : Option Plan) (plan : Plan) (status : Status) (bytes : List ℕ) (text : Option (List ℕ)) → Reads texts one_net one → Reads texts other_net other → SpellsItsPlan text found → SpellsItsPlan text (Some plan) → IsSomeAnd found (λ made. IsReport one_net one made status bytes) → IsReport other_net other plan status bytes
@@ -20,7 +22,7 @@ of-plan below texts one_net other_net one other None plan status bytes (Some tex
 of-plan below texts one_net other_net one other (Some made) plan status bytes (Some text) reads again spelt its report =
     let plans : made ≡ plan = below.one_plan text made plan spelt its in
     let instances : one ≡ other = same-parts below texts one_net other_net one other reads again in
-    let nets : one_net ≡ other_net = below.one_network texts.network one_net other_net reads.network_text again.network_text in
+    let nets : one_net ≡ other_net = one-network below texts.network one_net other_net reads.network_text again.network_text in
     subst (λ (n : NetworkFile). IsReport n other plan status bytes) nets
     (subst (λ (q : Plan). IsReport one_net other q status bytes) plans
     (subst (λ (p : Parts). IsReport one_net p made status bytes) instances report))
@@ -54,3 +56,19 @@ reports-of below texts net parts (Some plan) status other bytes more problem rep
 
 pub one_report : Below → (texts : Texts) (status other : Status) (bytes more : List ℕ) → IsReported texts status bytes → IsReported texts other more → (status ≡ other) × (bytes ≡ more)
 one_report below texts status other bytes more one two = reports-of below texts one.net one.parts one.plan status other bytes more one.problem one.holds two
+
+-- ---- a plan by itself
+
+alone-plan : Below → (text : Option (List ℕ)) (one other : Plan) → SpellsItsPlan text (Some one) → SpellsItsPlan text (Some other) → one ≡ other
+alone-plan below None one other spelt its = absurd spelt
+alone-plan below (Some text) one other spelt its = below.one_plan text one other spelt its
+
+pub one_upgrade : Below → (texts : Texts) (status other : Status) (bytes more : List ℕ) → IsUpgraded texts status bytes → IsUpgraded texts other more → (status ≡ other) × (bytes ≡ more)
+one_upgrade below texts status other bytes more one two =
+    let same : one.plan ≡ two.plan = alone-plan below texts.plan one.plan two.plan one.read.plan_text two.read.plan_text in
+    (one.written.good ∙ sym two.written.good, one.written.text ∙ ap (plan_text Second) same ∙ sym two.written.text)
+
+pub upgraded_again : Below → (texts : Texts) (status other : Status) (bytes more : List ℕ) → IsUpgraded texts status bytes → IsUpgraded (alone bytes) other more → bytes ≡ more
+upgraded_again below texts status other bytes more one two =
+    let same : one.plan ≡ two.plan = below.one_plan bytes one.plan two.plan one.written.spelt two.read.plan_text in
+    one.written.text ∙ ap (plan_text Second) same ∙ sym two.written.text

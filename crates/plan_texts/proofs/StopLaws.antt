@@ -27,8 +27,8 @@ use Rattle.proof_tree.specs.declared.plan.Plan.{Plan}
 use Rattle.plan_report.specs.declared.run_fault.FileKind.TheVariants as files
 use Rattle.plan_texts.specs.declared.stop.Stop.{Stop}
 use Rattle.plan_texts.specs.declared.stop.Stop.TheVariants as stops
-use Rattle.plan_texts.specs.Texts.{Texts, two, three}
-use Rattle.plan_texts.specs.Refusals.{Reads, HasItsPlan, SpellsItsPlan, HasFewSteps, IsProblem, misplaced, ended}
+use Rattle.plan_texts.specs.Texts.{Texts, alone, two, three}
+use Rattle.plan_texts.specs.Refusals.{SpellsItsNetwork, SpellsItsModel, Reads, HasItsPlan, SpellsItsPlan, HasFewSteps, IsProblem, IsPlanAlone, misplaced, ended}
 use Rattle.plan_texts.specs.Stops.{stop_of_text, stop_of_plan, stop_of_check, stop_of_steps, IsTextStop, IsNetworkStop, IsModelStop, IsPlanTextStop, IsFileStop, IsProblemStop}
 
 pub network_stop : (text : List ℕ) (fault : TextFault) → IsNetworkFault text fault → IsNetworkStop text (stop_of_text files.Network fault)
@@ -59,21 +59,30 @@ plan_stop text (plan_faults.Ended at) is = (2, at, refl, ended refl is)
 plan_stop text plan_faults.OutOfMemory is = tt
 
 -- a refused network text refuses the texts
-pub network_refused : (texts : Texts) (stop : Stop) → IsNetworkStop texts.network stop → IsTextStop texts stop
-network_refused texts (stops.Refused fault) (text_fault, is, holds, some) = rw is (holds, some)
-network_refused texts stops.OutOfMemory is = tt
+pub network_refused : (network : List ℕ) (model plan : Option (List ℕ)) (stop : Stop) → IsNetworkStop network stop → IsTextStop (record { network = Some network; model = model; plan = plan }) stop
+network_refused network model plan (stops.Refused fault) (text_fault, is, holds, some) = rw is (holds, some)
+network_refused network model plan stops.OutOfMemory is = tt
 
 -- a refused model text refuses the texts, where the network text is spelt
-pub model_refused : (texts : Texts) (net : NetworkFile) (stop : Stop) → SpellsNetwork texts.network net → IsModelStop texts.model stop → IsTextStop texts stop
-model_refused texts net (stops.Refused fault) spelt (text_fault, is, holds, some) = rw is ((net, spelt), holds, some)
-model_refused texts net stops.OutOfMemory spelt is = tt
+pub model_refused : (network model : List ℕ) (plan : Option (List ℕ)) (net : NetworkFile) (stop : Stop) → SpellsNetwork network net → IsModelStop model stop → IsTextStop (record { network = Some network; model = Some model; plan = plan }) stop
+model_refused network model plan net (stops.Refused fault) spelt (text_fault, is, holds, some) = rw is ((net, spelt), (holds, some))
+model_refused network model plan net stops.OutOfMemory spelt is = tt
 
 -- a refused plan text refuses the texts, where the others are spelt
 pub plan_refused : (network model plan : List ℕ) (net : NetworkFile) (options : ModelFile) (stop : Stop) → SpellsNetwork network net → SpellsModel model options → IsPlanTextStop plan stop → IsTextStop (three network model plan) stop
-plan_refused network model plan net options (stops.Refused fault) first second (rule, at, is, bad) = rw is (record { net = net; options = options; network_text = first; model_text = second }, bad)
+plan_refused network model plan net options (stops.Refused fault) first second (rule, at, is, bad) = rw is ((net, first), (options, second), bad)
 plan_refused network model plan net options stops.OutOfMemory first second is = tt
 
-check-refused : (texts : Texts) (net : NetworkFile) (options : ModelFile) (fault : CheckFault) → SpellsNetwork texts.network net → SpellsModel texts.model options → HasItsPlan texts.plan → CanCome fault → IsCheckFault net options fault → IsTextStop texts (stop_of_check fault)
+-- a refused plan by itself refuses the texts
+pub alone_refused : (plan : List ℕ) (stop : Stop) → IsPlanTextStop plan stop → IsTextStop (alone plan) stop
+alone_refused plan (stops.Refused fault) (rule, at, is, bad) = rw is (tt, tt, bad)
+alone_refused plan stops.OutOfMemory is = tt
+
+-- a plan text by itself spells its plan
+pub alone_spelt : (text : List ℕ) (plan : Plan) → SpellsPlan text plan → IsPlanAlone (alone text) plan
+alone_spelt text plan spelt = record { no_network = refl; no_model = refl; plan_text = spelt }
+
+check-refused : (texts : Texts) (net : NetworkFile) (options : ModelFile) (fault : CheckFault) → SpellsItsNetwork texts.network net → SpellsItsModel texts.model options → HasItsPlan texts.plan → CanCome fault → IsCheckFault net options fault → IsTextStop texts (stop_of_check fault)
 check-refused texts net options (check_faults.Unsupported key value) first second plan can is = record { net = net; options = options; network_text = first; model_text = second; plan_text = plan; is = is }
 check-refused texts net options (check_faults.Build (build.LoopLink link)) first second plan can is = record { net = net; options = options; network_text = first; model_text = second; plan_text = plan; is = is }
 check-refused texts net options (check_faults.Build (build.LoopDemand demand)) first second plan can is = record { net = net; options = options; network_text = first; model_text = second; plan_text = plan; is = is }
@@ -87,20 +96,20 @@ steps-refused texts net parts (step_faults.TooManySteps link) reads plan first =
 steps-refused texts net parts step_faults.OutOfMemory reads plan is = tt
 
 -- files of which no problem comes refuse the texts that spell them
-refused : (texts : Texts) (net : NetworkFile) (options : ModelFile) (stop : Stop) → SpellsNetwork texts.network net → SpellsModel texts.model options → HasItsPlan texts.plan → IsProblemStop net options stop → IsTextStop texts stop
+refused : (texts : Texts) (net : NetworkFile) (options : ModelFile) (stop : Stop) → SpellsItsNetwork texts.network net → SpellsItsModel texts.model options → HasItsPlan texts.plan → IsProblemStop net options stop → IsTextStop texts stop
 refused texts net options stop first second plan (inl (fault, is, can, holds)) = rw is (check-refused texts net options fault first second plan can holds)
 refused texts net options stop first second plan (inr (parts, stands, lawful, (fault, is, holds))) =
     rw is (steps-refused texts net parts fault record { options = options; network_text = first; model_text = second; stands = stands; lawful = lawful } plan holds)
 
 pub problem_refused : (network model : List ℕ) (net : NetworkFile) (options : ModelFile) (stop : Stop) → SpellsNetwork network net → SpellsModel model options → IsProblemStop net options stop → IsTextStop (two network model) stop
-problem_refused network model net options stop first second is = refused (two network model) net options stop first second (None, tt) is
+problem_refused network model net options stop first second is = refused (two network model) net options stop first second tt is
 
 pub planned_refused : (network model text : List ℕ) (net : NetworkFile) (options : ModelFile) (plan : Plan) (stop : Stop) → SpellsNetwork network net → SpellsModel model options → SpellsPlan text plan → IsProblemStop net options stop → IsTextStop (three network model text) stop
-planned_refused network model text net options plan stop first second spelt is = refused (three network model text) net options stop first second (Some plan, spelt) is
+planned_refused network model text net options plan stop first second spelt is = refused (three network model text) net options stop first second (plan, spelt) is
 
 -- ---- what texts spell
 
-problem : (texts : Texts) (net : NetworkFile) (options : ModelFile) (parts : Parts) (plan : Option Plan) → SpellsNetwork texts.network net → SpellsModel texts.model options → SpellsItsPlan texts.plan plan → ReadsAs net options parts → IsInstance parts → HasFewSteps parts → IsProblem texts net parts plan
+problem : (texts : Texts) (net : NetworkFile) (options : ModelFile) (parts : Parts) (plan : Option Plan) → SpellsItsNetwork texts.network net → SpellsItsModel texts.model options → SpellsItsPlan texts.plan plan → ReadsAs net options parts → IsInstance parts → HasFewSteps parts → IsProblem texts net parts plan
 problem texts net options parts plan first second spelt stands lawful few = record {
   reads = record { options = options; network_text = first; model_text = second; stands = stands; lawful = lawful };
   plan_text = spelt;

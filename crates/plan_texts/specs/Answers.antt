@@ -1,10 +1,12 @@
--- What is written of texts without a search: the line of a check, that of a verdict and the text of a report, and what becomes of an answer.
+-- What is written of texts without a search: the line of a check, that of a verdict, the text of a report and that of a plan, and what becomes of an answer.
 use Rattle.std.specs.Prelude.{ℕ, ◌≡◌, ◌≢◌, ◌<◌, List, [], length, take, Option, Some, Result, Ok, Err, IsSomeAnd}
 use Rattle.std.specs.Io.KnownBytes.{Appends}
 use Rattle.plan_base.specs.declared.parts.Parts.{Parts}
 use Rattle.snd_network.specs.declared.file.NetworkFile.{NetworkFile}
 use Rattle.proof_tree.specs.declared.plan.Plan.{Plan}
 use Rattle.proof_tree.specs.Plans.{IsValidPlan, HasItsClaim}
+use Rattle.cert_format.specs.declared.form.Form.TheVariants.{Second}
+use Rattle.cert_format.specs.Grammar.{plan_text, SpellsPlan}
 use Rattle.cert_verifier.specs.declared.rejected.Rejected.{Rejected as Rejection}
 use Rattle.cert_verifier.specs.declared.rejected.Rejected.TheVariants as rejections
 use Rattle.cert_verifier.specs.PlanRules.{PlanFinds}
@@ -16,7 +18,7 @@ use Rattle.plan_texts.specs.declared.status.Status.{Status}
 use Rattle.plan_texts.specs.declared.status.Status.TheVariants.{Good, WriteFault, OutOfMemory, Rejected}
 use Rattle.plan_texts.specs.declared.stop.Stop.{Stop}
 use Rattle.plan_texts.specs.declared.stop.Stop.TheVariants as stops
-use Rattle.plan_texts.specs.Refusals.{HoldsOfProblem}
+use Rattle.plan_texts.specs.Refusals.{HoldsOfProblem, IsPlanAlone}
 use Rattle.plan_texts.specs.Statuses.{status_of}
 use Rattle.plan_texts.specs.Texts.{Texts}
 
@@ -57,6 +59,12 @@ pub data IsReport (net : NetworkFile) (parts : Parts) (plan : Plan) (status : St
   reported : status ≡ Good → IsReportOf net parts plan bytes → IsReport net parts plan status bytes
   unreported : status ≡ Rejected → IsRejection parts plan bytes → IsReport net parts plan status bytes
 
+-- the plan's text of version 2, with the status that goes with it
+pub record IsRewritten (plan : Plan) (status : Status) (bytes : List ℕ) : Type 0 where
+  pub good : status ≡ Good
+  pub text : bytes ≡ plan_text Second plan
+  pub spelt : SpellsPlan bytes plan
+
 -- ---- what is written of texts
 
 -- the texts spell an instance within its limits, and this is its line
@@ -70,6 +78,12 @@ IsVerified texts status bytes = HoldsOfProblem texts (λ net parts plan. IsSomeA
 -- the texts spell an instance within its limits and a plan, and this is the report on it
 abbrev pub IsReported : Texts → Status → List ℕ → Type 0
 IsReported texts status bytes = HoldsOfProblem texts (λ net parts plan. IsSomeAnd plan (λ made. IsReport net parts made status bytes))
+
+-- the texts are a plan by itself, and this is the text that is written of it anew
+pub record IsUpgraded (texts : Texts) (status : Status) (bytes : List ℕ) : Type 0 where
+  pub plan : Plan
+  pub read : IsPlanAlone texts plan
+  pub written : IsRewritten plan status bytes
 
 -- ---- what becomes of an answer
 

@@ -1,10 +1,11 @@
 -- Why the texts of a command are refused: the first cause in the order in which they are looked at.
-use Rattle.std.specs.Prelude.{ℕ, ◌≡◌, ◌≢◌, ◌<◌, ◌⊎◌, length, Option, None, Some, IfSome}
+use Rattle.std.specs.Prelude.{ℕ, ◌≡◌, ◌≢◌, ◌+◌, ◌<◌, ◌⊎◌, length, Option, None, Some, IfSome, IsSomeAnd}
 use Rattle.plan_io.specs.Causes.{Rose}
 use Rattle.plan_base.specs.declared.parts.Parts.{Parts}
 use Rattle.plan_base.specs.declared.build_fault.BuildFault.TheVariants as build
 use Rattle.plan_base.specs.Facts.{IsInstance, total_load}
 use Rattle.plan_base.specs.Arcs.{link_at}
+use Rattle.snd_reader.specs.declared.fault.TextFault.{TextFault}
 use Rattle.snd_reader.specs.declared.fault.TextFault.TheVariants as text_faults
 use Rattle.snd_network.specs.declared.file.NetworkFile.{NetworkFile}
 use Rattle.snd_network.specs.Spelling.{SpellsNetwork}
@@ -26,15 +27,23 @@ use Rattle.plan_report.specs.declared.run_fault.FileKind.{FileKind}
 use Rattle.plan_report.specs.declared.run_fault.FileKind.TheVariants as files
 use Rattle.plan_report.specs.declared.run_fault.RunFault.{RunFault}
 use Rattle.plan_report.specs.declared.run_fault.RunFault.TheVariants as faults
-use Rattle.plan_texts.specs.Texts.{Text, Name, Told, Texts, most_bytes, IsRead, HoldsOfTexts}
+use Rattle.plan_texts.specs.Texts.{Text, Name, Told, Texts, nothing, count_of, most_bytes, IsRead, HoldsOfTexts}
 
 -- ---- what texts stand for
+
+-- the network text is there, and spells this network
+abbrev pub SpellsItsNetwork : Option Text → NetworkFile → Type 0
+SpellsItsNetwork text net = IsSomeAnd text (λ text. SpellsNetwork text net)
+
+-- the model text is there, and spells this model
+abbrev pub SpellsItsModel : Option Text → ModelFile → Type 0
+SpellsItsModel text options = IsSomeAnd text (λ text. SpellsModel text options)
 
 -- the texts spell this network, and a model that is planned, and these are the parts that they stand for, which are an instance
 pub record Reads (texts : Texts) (net : NetworkFile) (parts : Parts) : Type 0 where
   pub options : ModelFile
-  pub network_text : SpellsNetwork texts.network net
-  pub model_text : SpellsModel texts.model options
+  pub network_text : SpellsItsNetwork texts.network net
+  pub model_text : SpellsItsModel texts.model options
   pub stands : ReadsAs net options parts
   pub lawful : IsInstance parts
 
@@ -44,9 +53,17 @@ SpellsItsPlan None None = Unit {0}
 SpellsItsPlan (Some text) (Some plan) = SpellsPlan text plan
 SpellsItsPlan text plan = ⊥
 
+-- the network text, where there is one, spells a network
+abbrev pub HasItsNetwork : Option Text → Type 0
+HasItsNetwork text = IfSome text (λ text. (net : NetworkFile) × SpellsNetwork text net)
+
+-- the model text, where there is one, spells a model
+abbrev pub HasItsModel : Option Text → Type 0
+HasItsModel text = IfSome text (λ text. (options : ModelFile) × SpellsModel text options)
+
 -- the plan text, where there is one, spells a plan
 abbrev pub HasItsPlan : Option Text → Type 0
-HasItsPlan text = (plan : Option Plan) × SpellsItsPlan text plan
+HasItsPlan text = IfSome text (λ text. (plan : Plan) × SpellsPlan text plan)
 
 -- the least module cost of each link takes at most the lawful number of values
 abbrev pub HasFewSteps : Parts → Type 0
@@ -66,7 +83,27 @@ pub record HoldsOfProblem (texts : Texts) (Holds : NetworkFile → Parts → Opt
   pub problem : IsProblem texts net parts plan
   pub holds : Holds net parts plan
 
+-- the texts are a plan by itself, and it is spelt so
+pub record IsPlanAlone (texts : Texts) (plan : Plan) : Type 0 where
+  pub no_network : texts.network ≡ None
+  pub no_model : texts.model ≡ None
+  pub plan_text : SpellsItsPlan texts.plan (Some plan)
+
+-- the texts spell what a command works on: an instance within its limits, with a plan where one is named; or a plan by itself; or they are none
+pub data AreGood (texts : Texts) : Type 0 where
+  a_problem : (net : NetworkFile) (parts : Parts) (plan : Option Plan) → IsProblem texts net parts plan → AreGood texts
+  a_plan : (plan : Plan) → IsPlanAlone texts plan → AreGood texts
+  no_texts : texts ≡ nothing → AreGood texts
+
 -- ---- why texts are refused
+
+-- the network text is there, and is refused so
+abbrev pub IsNetworkRefused : Option Text → TextFault → Type 0
+IsNetworkRefused text fault = IsSomeAnd text (λ text. IsNetworkFault text fault) × (fault ≢ text_faults.OutOfMemory)
+
+-- the model text is there, and is refused so
+abbrev pub IsModelRefused : Option Text → TextFault → Type 0
+IsModelRefused text fault = IsSomeAnd text (λ text. IsModelFault text fault) × (fault ≢ text_faults.OutOfMemory)
 
 -- rule 1: the line that begins at this byte cannot stand there, and those before it can; rule 2: the text ends there, and a further line must follow
 pub data IsPlanFault (text : Text) (rule at : ℕ) : Type 0 where
@@ -75,22 +112,14 @@ pub data IsPlanFault (text : Text) (rule at : ℕ) : Type 0 where
 
 -- the plan text is there, and is refused so
 abbrev pub IsPlanRefused : Option Text → ℕ → ℕ → Type 0
-IsPlanRefused (Some text) rule at = IsPlanFault text rule at
-IsPlanRefused None rule at = ⊥
-
--- network and model are spelt by their grammars
-pub record AreSpelt (texts : Texts) : Type 0 where
-  pub net : NetworkFile
-  pub options : ModelFile
-  pub network_text : SpellsNetwork texts.network net
-  pub model_text : SpellsModel texts.model options
+IsPlanRefused text rule at = IsSomeAnd text (λ text. IsPlanFault text rule at)
 
 -- all texts are spelt by their grammars, and network and model stand for no instance because of this
 pub record IsMisfit (texts : Texts) (fault : CheckFault) : Type 0 where
   pub net : NetworkFile
   pub options : ModelFile
-  pub network_text : SpellsNetwork texts.network net
-  pub model_text : SpellsModel texts.model options
+  pub network_text : SpellsItsNetwork texts.network net
+  pub model_text : SpellsItsModel texts.model options
   pub plan_text : HasItsPlan texts.plan
   pub is : IsCheckFault net options fault
 
@@ -103,11 +132,11 @@ pub record IsPastSteps (texts : Texts) (limit at : ℕ) : Type 0 where
   pub plan_text : HasItsPlan texts.plan
   pub first : IsFirstPastSteps parts at
 
--- the texts are refused so
+-- the texts are refused so: where one is not spelt by its grammar, those of the kinds before it are
 abbrev pub AreRefused : Texts → RunFault → Type 0
-AreRefused texts (faults.Text files.Network fault) = IsNetworkFault texts.network fault × (fault ≢ text_faults.OutOfMemory)
-AreRefused texts (faults.Text files.Model fault) = ((net : NetworkFile) × SpellsNetwork texts.network net) × IsModelFault texts.model fault × (fault ≢ text_faults.OutOfMemory)
-AreRefused texts (faults.PlanText rule at) = AreSpelt texts × IsPlanRefused texts.plan rule at
+AreRefused texts (faults.Text files.Network fault) = IsNetworkRefused texts.network fault
+AreRefused texts (faults.Text files.Model fault) = HasItsNetwork texts.network × IsModelRefused texts.model fault
+AreRefused texts (faults.PlanText rule at) = HasItsNetwork texts.network × HasItsModel texts.model × IsPlanRefused texts.plan rule at
 AreRefused texts (faults.LoopLink link) = IsMisfit texts (check_faults.Build (build.LoopLink link))
 AreRefused texts (faults.LoopDemand demand) = IsMisfit texts (check_faults.Build (build.LoopDemand demand))
 AreRefused texts (faults.Unsupported key value) = IsMisfit texts (check_faults.Unsupported key value)
@@ -116,32 +145,32 @@ AreRefused texts fault = ⊥
 
 -- ---- why texts do not come in
 
--- a text of this name was read
-abbrev pub WasRead : Told → FileKind → Name → Type 0
-WasRead shelf file name = (text : Text) × IsRead shelf file name text
+-- the text of this kind, where one is named, was read
+abbrev pub WasRead : Told → FileKind → Option Name → Type 0
+WasRead shelf file named = IfSome named (λ name. (text : Text) × IsRead shelf file name text)
 
 -- the text begun last is this one, and those before it were read
 abbrev pub IsAt : Told → Texts → ℕ → FileKind → Type 0
 IsAt shelf names begun files.Network = begun ≡ 1
-IsAt shelf names begun files.Model = (begun ≡ 2) × WasRead shelf files.Network names.network
-IsAt shelf names begun files.Plan = (begun ≡ 3) × WasRead shelf files.Network names.network × WasRead shelf files.Model names.model
+IsAt shelf names begun files.Model = (begun ≡ count_of names.network + 1) × WasRead shelf files.Network names.network
+IsAt shelf names begun files.Plan = (begun ≡ count_of names.network + count_of names.model + 1) × WasRead shelf files.Network names.network × WasRead shelf files.Model names.model
 
--- the text of this kind has this name
-abbrev pub IsNamed : Texts → FileKind → Name → Type 0
-IsNamed names files.Network name = name ≡ names.network
-IsNamed names files.Model name = name ≡ names.model
-IsNamed names files.Plan name = names.plan ≡ Some name
+-- the name of the text of this kind, where one is named
+abbrev pub name_of : Texts → FileKind → Option Name
+name_of names files.Network = names.network
+name_of names files.Model = names.model
+name_of names files.Plan = names.plan
 
 -- the text begun last is this one, which could not be read
 pub record IsUnreadable (shelf : Told) (names : Texts) (begun : ℕ) (file : FileKind) : Type 0 where
   pub name : Name
-  pub named : IsNamed names file name
+  pub named : name_of names file ≡ Some name
   pub place : IsAt shelf names begun file
 
 -- the text begun last is this one, and it is longer than its limit
 pub record IsTooLong (shelf : Told) (names : Texts) (begun : ℕ) (file : FileKind) : Type 0 where
   pub name : Name
-  pub named : IsNamed names file name
+  pub named : name_of names file ≡ Some name
   pub place : IsAt shelf names begun file
   pub longer : IfSome (shelf name) (λ told. most_bytes file < length told)
 

@@ -17,28 +17,36 @@ Name = List ℕ
 abbrev pub Told : Type 0
 Told = Name → Option Text
 
--- the names of the texts that a command is about, or their bytes; a plan's where there is one
+-- the names of the texts that a command reads, or their bytes: of each kind of file one or none
 pub record Texts : Type 0 where
-  pub network : List ℕ
-  pub model : List ℕ
+  pub network : Option (List ℕ)
+  pub model : Option (List ℕ)
   pub plan : Option (List ℕ)
+
+-- nothing
+abbrev pub nothing : Texts
+nothing = record { network = None; model = None; plan = None }
+
+-- a plan by itself
+abbrev pub alone : List ℕ → Texts
+alone plan = record { network = None; model = None; plan = Some plan }
 
 -- a network and a model
 abbrev pub two : List ℕ → List ℕ → Texts
-two network model = record { network = network; model = model; plan = None }
+two network model = record { network = Some network; model = Some model; plan = None }
 
 -- a network, a model and a plan
 abbrev pub three : List ℕ → List ℕ → List ℕ → Texts
-three network model plan = record { network = network; model = model; plan = Some plan }
+three network model plan = record { network = Some network; model = Some model; plan = Some plan }
 
--- how many texts are read where the plan's is this one
-abbrev pub count_with : Option (List ℕ) → ℕ
-count_with None = 2
-count_with (Some plan) = 3
+-- how many texts of one kind they are
+abbrev pub count_of : Option (List ℕ) → ℕ
+count_of None = 0
+count_of (Some text) = 1
 
 -- how many texts they are
 abbrev pub text_count : Texts → ℕ
-text_count texts = count_with texts.plan
+text_count texts = count_of texts.network + count_of texts.model + count_of texts.plan
 
 -- the most bytes of a text
 abbrev pub most_bytes : FileKind → ℕ
@@ -51,18 +59,18 @@ pub record IsRead (shelf : Told) (file : FileKind) (name : Name) (text : Text) :
   pub told : IfSome (shelf name) (λ told. text ≡ told)
   pub within : length text ≤ most_bytes file
 
--- the plan text was read, where one is named
-abbrev pub IsPlanRead : Told → Option Name → Option Text → Type 0
-IsPlanRead shelf None None = Unit {0}
-IsPlanRead shelf (Some name) (Some text) = IsRead shelf files.Plan name text
-IsPlanRead shelf named read = ⊥
+-- the text of this kind was read, where one is named
+abbrev pub IsKindRead : Told → FileKind → Option Name → Option Text → Type 0
+IsKindRead shelf file None None = Unit {0}
+IsKindRead shelf file (Some name) (Some text) = IsRead shelf file name text
+IsKindRead shelf file named read = ⊥
 
--- all texts were begun and read, in the order of the words
+-- all texts that are named were begun and read, the network before the model and the model before the plan
 pub record AreRead (shelf : Told) (names : Texts) (begun : ℕ) (texts : Texts) : Type 0 where
   pub all : begun ≡ text_count names
-  pub network_read : IsRead shelf files.Network names.network texts.network
-  pub model_read : IsRead shelf files.Model names.model texts.model
-  pub plan_read : IsPlanRead shelf names.plan texts.plan
+  pub network_read : IsKindRead shelf files.Network names.network texts.network
+  pub model_read : IsKindRead shelf files.Model names.model texts.model
+  pub plan_read : IsKindRead shelf files.Plan names.plan texts.plan
 
 -- all texts were read, and this holds of them
 pub record HoldsOfTexts (shelf : Told) (names : Texts) (begun : ℕ) (Holds : Texts → Type 0) : Type 0 where

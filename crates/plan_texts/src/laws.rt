@@ -1,6 +1,6 @@
 //! What follows for the texts of a command.
 
-ghost use Rattle.std.specs.Prelude.{List, ℕ, ◌≡◌, ◌↔◌, Option, Some};
+ghost use Rattle.std.specs.Prelude.{List, ℕ, ◌≡◌, ◌↔◌, Some};
 ghost use Rattle.plan_base.specs.declared.parts.Parts.{Parts as AnyParts};
 ghost use Rattle.snd_network.specs.declared.file.NetworkFile.{NetworkFile as AnyNetwork};
 ghost use Rattle.proof_tree.specs.declared.plan.Plan.{Plan as AnyPlan};
@@ -8,9 +8,9 @@ ghost use Rattle.proof_tree.specs.Plans.{IsValidPlan};
 ghost use Rattle.plan_report.specs.declared.run_fault.RunFault.{RunFault as AnyFault};
 ghost use Rattle.plan_texts.specs.declared.status.Status.{Status as AnyStatus};
 ghost use Rattle.plan_texts.specs.declared.status.Status.TheVariants as statuses;
-ghost use Rattle.plan_texts.specs.Texts.{Texts};
-ghost use Rattle.plan_texts.specs.Refusals.{Reads, SpellsItsPlan, IsProblem, AreRefused};
-ghost use Rattle.plan_texts.specs.Answers.{IsVerified, IsReported};
+ghost use Rattle.plan_texts.specs.Texts.{Texts, alone};
+ghost use Rattle.plan_texts.specs.Refusals.{Reads, SpellsItsPlan, AreGood, AreRefused};
+ghost use Rattle.plan_texts.specs.Answers.{IsVerified, IsReported, IsUpgraded};
 ghost use Rattle.plan_texts.specs.OneAnswer.{Below};
 
 /// What the crates below say: a text, two files, a link and a plan have one answer each.
@@ -40,10 +40,10 @@ pub fn one_refusal()
     one_answer_below();
 }
 
-/// Where texts are refused, they do not spell an instance within its limits, with a plan where one is named.
+/// Where texts are refused, they do not spell what a command works on: an instance within its limits, with a plan where
+/// one is named, or a plan by itself.
 pub fn refused_or_read()
-    ensures { (texts : Texts) (net : AnyNetwork) (parts : AnyParts) (plan : Option AnyPlan) (fault : AnyFault) →
-        AreRefused texts fault → IsProblem texts net parts plan → ⊥ }
+    ensures { (texts : Texts) (fault : AnyFault) → AreRefused texts fault → AreGood texts → ⊥ }
 {
     one_answer_below();
 }
@@ -78,6 +78,16 @@ pub fn told_where_valid()
 pub fn one_report()
     ensures { (texts : Texts) (status other : AnyStatus) (bytes more : List ℕ) →
         IsReported texts status bytes → IsReported texts other more → (status ≡ other) × (bytes ≡ more) }
+{
+    one_answer_below();
+}
+
+/// A plan text is upgraded to one text, and that text to itself.
+pub fn one_upgrade()
+    ensures one { (texts : Texts) (status other : AnyStatus) (bytes more : List ℕ) →
+        IsUpgraded texts status bytes → IsUpgraded texts other more → (status ≡ other) × (bytes ≡ more) }
+    ensures again { (texts : Texts) (status other : AnyStatus) (bytes more : List ℕ) →
+        IsUpgraded texts status bytes → IsUpgraded (alone bytes) other more → bytes ≡ more }
 {
     one_answer_below();
 }

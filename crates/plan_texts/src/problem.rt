@@ -1,14 +1,13 @@
-//! From texts on a shelf to the instance that is planned.
+//! From texts on a shelf to the instance that is planned, and to a plan.
 
-ghost use Rattle.std.specs.Prelude.{◌≡◌, ◌≤◌, false, length, None, Some, IfOk, IfErr};
+ghost use Rattle.std.specs.Prelude.{◌≡◌, ◌≤◌, length, None, Some, IfOk, IfErr};
 ghost use Rattle.plan_io.specs.Causes.{Rose};
 ghost use Rattle.plan_base.specs.Facts.{IsInstance};
-ghost use Rattle.plan_base.specs.Places.{is_two_way};
 ghost use Rattle.snd_network.specs.WellFormed.{IsWellFormed};
 ghost use Rattle.model_check.specs.Reading.{ReadsAs};
 ghost use Rattle.proof_tree.specs.Spellings.{IsSpellable};
-ghost use Rattle.plan_texts.specs.Texts.{Begun, two, three, HoldsOfTexts};
-ghost use Rattle.plan_texts.specs.Refusals.{IsProblem, HasFewSteps};
+ghost use Rattle.plan_texts.specs.Texts.{Begun, alone, two, three, HoldsOfTexts};
+ghost use Rattle.plan_texts.specs.Refusals.{IsProblem, IsPlanAlone, HasFewSteps};
 ghost use Rattle.plan_texts.specs.Stops.{IsFileStop, IsProblemStop, IsTextStop, IsReadStop, TookMore, Stops};
 
 use crate::files::{model_of, network_of, plan_of};
@@ -40,7 +39,6 @@ fn instance_of(alloc: Global, network: &NetworkFile, model: &ModelFile) -> Resul
     requires { IsWellFormed network.now }
     ensures read { IfOk result (ReadsAs network.now model.now) }
     ensures lawful { IfOk result IsInstance }
-    ensures one_way { IfOk result (λ inst. is_two_way inst.orient ≡ false) }
     ensures stop { IfErr result (IsFileStop network.now model.now) }
 {
     match to_instance(alloc, network, model) {
@@ -58,7 +56,6 @@ fn problem_of(alloc: Global, network: NetworkFile, model: &ModelFile) -> Result<
     ensures lawful { IfOk result (λ problem. IsInstance problem.inst) }
     ensures few { IfOk result (λ problem. HasFewSteps problem.inst) }
     ensures table { IfOk result (λ problem. problem.table ≡ problem.inst) }
-    ensures one_way { IfOk result (λ problem. is_two_way problem.inst.orient ≡ false) }
     ensures stop { IfErr result (IsProblemStop network model.now) }
 {
     let inst = instance_of(alloc, &network, model)?;
@@ -77,7 +74,6 @@ fn spelt_problem(alloc: Global, network: &[u8], model: &[u8]) -> Result<Problem,
     requires model { length model.now ≤ MAX_TEXT_BYTES }
     ensures spelt { IfOk result (λ problem. IsProblem (two network.now model.now) problem.network problem.inst None) }
     ensures table { IfOk result (λ problem. problem.table ≡ problem.inst) }
-    ensures one_way { IfOk result (λ problem. is_two_way problem.inst.orient ≡ false) }
     ensures stop { IfErr result (IsTextStop (two network.now model.now)) }
 {
     let network = network_of(alloc, network)?;
@@ -126,7 +122,6 @@ pub fn read_problem<S: Shelf>(
     ensures spelt { IfOk result (λ problem. HoldsOfTexts (S.text shelf.old) (two network.now model.now) 2
         (λ texts. IsProblem texts problem.network problem.inst None)) }
     ensures table { IfOk result (λ problem. problem.table ≡ problem.inst) }
-    ensures one_way { IfOk result (λ problem. is_two_way problem.inst.orient ≡ false) }
     ensures begun { IfOk result (λ _. Begun 2 (S.begins shelf.old) (S.begins shelf.new)) }
     ensures stop { IfErr result (Stops (two network.now model.now) (S.text shelf.old)
         (S.begins shelf.old) (S.begins shelf.new)) }
@@ -176,4 +171,18 @@ pub fn read_planned<S: Shelf>(
         texts.model.as_slice(),
         texts.plan.as_slice(),
     )
+}
+
+/// The plan that a text spells which is read by itself.
+#[tactic(auto, using(crate::proofs::StopLaws::alone_spelt, crate::proofs::StopLaws::alone_refused))]
+pub fn spelt_alone(alloc: Global, text: &[u8]) -> Result<Plan, Stop>
+    requires { length text.now ≤ MAX_PLAN_BYTES }
+    ensures spelt { IfOk result (IsPlanAlone (alone text.now)) }
+    ensures fits { IfOk result IsSpellable }
+    ensures stop { IfErr result (IsTextStop (alone text.now)) }
+{
+    match plan_of(alloc, text) {
+        Ok(plan) => Ok(plan),
+        Err(stop) => Err(stop),
+    }
 }

@@ -3,7 +3,7 @@
 ghost use Rattle.std.specs.Prelude.{◌≡◌, ◌≤◌, ◌<◌, ◌^◌, IfOk, IfErr};
 ghost use Rattle.plan_io.specs.Causes.{Rose};
 ghost use Rattle.plan_report.specs.declared.run_fault.FileKind.TheVariants as files;
-ghost use Rattle.plan_texts.specs.Texts.{Begun, most_bytes, two, three, IsRead, AreRead};
+ghost use Rattle.plan_texts.specs.Texts.{Begun, most_bytes, alone, two, three, IsRead, AreRead};
 ghost use Rattle.plan_texts.specs.Stops.{IsUnread, IsReadStop, TookMore, Stops};
 
 use crate::stop::{Stop, stop_of_reading};
@@ -45,6 +45,22 @@ fn read_text<S: Shelf>(
     match read_whole(alloc, shelf, name, most_bytes(file)) {
         Ok(text) => Ok(text),
         Err(fault) => Err(stop_of_reading(file, fault)),
+    }
+}
+
+/// The plan text of this name, which is read by itself.
+#[tactic(auto, using(crate::proofs::Begins::alone_unread))]
+pub fn read_alone<S: Shelf>(alloc: Global, shelf: &mut S, plan: &str) -> Result<Vec<u8>, Stop>
+    ensures read { IfOk result (λ text. AreRead (S.text shelf.old) (alone plan.now) 1 (alone text.items)) }
+    ensures begun { IfOk result (λ _. Begun 1 (S.begins shelf.old) (S.begins shelf.new)) }
+    ensures stop { IfErr result (Stops (alone plan.now) (S.text shelf.old) (S.begins shelf.old) (S.begins shelf.new)) }
+    ensures read_fault { IfErr result (λ stop. IsReadStop stop → Rose (S.faults shelf.old) (S.faults shelf.new)) }
+    ensures too_long { IfErr result (TookMore (S.taken shelf.new)) }
+    ensures later { S.faults shelf.old ≤ S.faults shelf.new }
+{
+    match read_text(alloc, shelf, plan, FileKind::Plan) {
+        Ok(text) => Ok(text),
+        Err(stop) => Err(stop),
     }
 }
 

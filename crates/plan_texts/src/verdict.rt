@@ -4,14 +4,16 @@ ghost use Rattle.std.specs.Prelude.{◌≡◌, ◌≤◌, IfOk, IfErr};
 ghost use Rattle.plan_io.specs.Causes.{Rose};
 ghost use Rattle.proof_tree.specs.Spellings.{IsSpellable};
 ghost use Rattle.plan_report.specs.Reports.{IsReadFrom};
-ghost use Rattle.plan_texts.specs.Texts.{Begun, two, three, HoldsOfTexts};
-ghost use Rattle.plan_texts.specs.Answers.{IsCheck, IsVerdict, IsReport, IsChecked, IsVerified, IsReported};
+ghost use Rattle.plan_texts.specs.Texts.{Begun, alone, two, three, HoldsOfTexts};
+ghost use Rattle.plan_texts.specs.Answers.{IsCheck, IsVerdict, IsReport, IsRewritten, IsChecked, IsVerified, IsReported, IsUpgraded};
 ghost use Rattle.plan_texts.specs.Stops.{IsReadStop, TookMore, Stops};
 
 use crate::answer::Answer;
-use crate::problem::{Problem, read_planned, read_problem};
+use crate::problem::{Problem, read_planned, read_problem, spelt_alone};
 use crate::status::Status;
 use crate::stop::Stop;
+use crate::texts::read_alone;
+use cert_format::write_plan;
 use cert_verifier::{Rejected, verify};
 use plan_io::Shelf;
 use plan_report::{check_line, report_text, verdict_line};
@@ -67,6 +69,17 @@ fn report_on(alloc: Global, problem: &Problem, plan: &Plan) -> Result<Answer, Al
             text: verdict_line(alloc, plan, &Err(fault))?,
         }),
     }
+}
+
+/// What is written of a plan by itself.
+fn rewritten(alloc: Global, plan: &Plan) -> Result<Answer, AllocError>
+    requires { IsSpellable plan.now }
+    ensures { IfOk result (λ answer. IsRewritten plan.now answer.status answer.text.items) }
+{
+    Ok(Answer {
+        status: Status::Good,
+        text: write_plan(alloc, plan)?,
+    })
 }
 
 /// Reads a network text and a model text, and tells the sizes of the network.
@@ -163,6 +176,37 @@ pub fn report<S: Shelf>(
         Err(stop) => return Err(stop),
     };
     match report_on(alloc, &planned.problem, &planned.plan) {
+        Ok(answer) => Ok(answer),
+        Err(AllocError) => Err(Stop::OutOfMemory),
+    }
+}
+
+/// Reads a plan text, and writes the text of its plan as `plan` writes it. Whether it is a valid plan of a network is not
+/// asked.
+///
+/// - Takes: the name of the text.
+/// - Errors: the first refusal of the text, a fault of the shelf, or want of memory.
+/// - Rule: docs/DEFINITIONS.md, "Runs"; docs/FORMATS.md, "Plan texts".
+/// - Time: linear in the bytes of both texts.
+#[tactic(auto, using(crate::proofs::Begins::memory_after_one, crate::proofs::Begins::texts_stop, crate::proofs::Answering::upgraded_texts))]
+pub fn upgrade<S: Shelf>(alloc: Global, plan: &str, shelf: &mut S) -> Result<Answer, Stop>
+    ensures done { IfOk result (λ answer. HoldsOfTexts (S.text shelf.old) (alone plan.now) 1
+        (λ texts. IsUpgraded texts answer.status answer.text.items)) }
+    ensures begun { IfOk result (λ _. Begun 1 (S.begins shelf.old) (S.begins shelf.new)) }
+    ensures stop { IfErr result (Stops (alone plan.now) (S.text shelf.old) (S.begins shelf.old) (S.begins shelf.new)) }
+    ensures read_fault { IfErr result (λ stop. IsReadStop stop → Rose (S.faults shelf.old) (S.faults shelf.new)) }
+    ensures too_long { IfErr result (TookMore (S.taken shelf.new)) }
+    ensures later { S.faults shelf.old ≤ S.faults shelf.new }
+{
+    let text = match read_alone(alloc, shelf, plan) {
+        Ok(text) => text,
+        Err(stop) => return Err(stop),
+    };
+    let made = match spelt_alone(alloc, text.as_slice()) {
+        Ok(made) => made,
+        Err(stop) => return Err(stop),
+    };
+    match rewritten(alloc, &made) {
         Ok(answer) => Ok(answer),
         Err(AllocError) => Err(Stop::OutOfMemory),
     }

@@ -50,3 +50,38 @@ pub(crate) fn plan_row<R: Threads + Wait + Sync>(
     let line = str::from_utf8(sink.bytes()).ok()?;
     write!(text, "{name} {status} {line}").ok()
 }
+
+/// Verifies a plan of a network and a model that is like the text of a base: of each two lines the second one stands in the
+/// place of the first. None where the row is not in form, and as of `plan_row`.
+pub(crate) fn changed_row<R: Threads + Wait + Sync>(
+    rt: &R,
+    alloc: Global,
+    texts: &Texts,
+    rest: &str,
+    changes: &str,
+    text: &mut String,
+) -> Option<()> {
+    let (rest, base) = rest.rsplit_once(' ')?;
+    let mut plan = String::from_str(alloc, texts.find(base)?).ok()?;
+    let mut lines = changes.lines();
+    while let Some(part) = lines.next() {
+        plan = with_line(alloc, plan.as_str(), part, lines.next()?)?;
+    }
+    plan_row(rt, alloc, texts, rest, plan.as_str(), text)
+}
+
+/// The text with this line in the place of that one. None where it has no such line.
+fn with_line(alloc: Global, text: &str, line: &str, other: &str) -> Option<String> {
+    let mut changed = String::new(alloc);
+    let mut is_found = false;
+    for old in text.lines() {
+        let new = if !is_found && old == line {
+            is_found = true;
+            other
+        } else {
+            old
+        };
+        write!(changed, "{new}\n").ok()?;
+    }
+    if is_found { Some(changed) } else { None }
+}

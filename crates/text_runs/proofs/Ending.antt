@@ -13,10 +13,11 @@ use Rattle.plan_texts.specs.declared.status.Status.TheVariants.{Good, Usage, Bad
 use Rattle.plan_texts.specs.declared.stop.Stop.{Stop}
 use Rattle.plan_texts.specs.declared.stop.Stop.TheVariants as stops
 use Rattle.plan_texts.specs.Statuses.{status_of}
-use Rattle.plan_texts.specs.Texts.{Name, Told, Texts, Begun, text_count, count_with, three, HoldsOfTexts}
+use Rattle.plan_texts.specs.Texts.{Name, Told, Texts, Begun, text_count, three, HoldsOfTexts}
 use Rattle.plan_texts.specs.Answers.{IsVerdict, IsVerified, accepted, rejected, IsWhole, IsWritten, whole, cut, wanting}
 use Rattle.plan_texts.specs.Stops.{IsReadStop, TookMore, Stops}
 use Rattle.plan_texts.specs.Refusals.{Counts, IsShownBy}
+use Rattle.plan_texts.proofs.Begins.{few-texts}
 use Rattle.plan_texts.proofs.Answering.{shown}
 use Rattle.text_runs.specs.Endings.{IsUsage, IsAnswer, Says, IsTextRun, IsOwnEnd, IsEndOfWork, name_count}
 use Rattle.text_runs.specs.VerifyRuns.{names_in, usage_line}
@@ -142,10 +143,7 @@ answer-of usage_line Done names shelf counts begun (Err stops.OutOfMemory) statu
 
 few-named : (names : Option Texts) → name_count names ≤ 3
 few-named None = omega arith
-few-named (Some names) = few-with names.plan where
-  few-with : (plan : Option (List ℕ)) → count_with plan ≤ 3
-  few-with None = omega arith
-  few-with (Some plan) = omega arith
+few-named (Some names) = few-texts names
 
 rise : (begun before now : ℕ) → begun ≤ 3 → Begun begun before now → before < 2 ^ 62 → now ≡ before + begun
 rise begun before now short rises below = rises.exact (omega arith)

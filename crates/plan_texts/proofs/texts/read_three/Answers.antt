@@ -1,20 +1,19 @@
-use Rattle.std.proofs.Common.{arith}
-use Rattle.plan_texts.specs.Texts.{three}
+use Rattle.std.proofs.Common.{Some}
 use Rattle.plan_texts.proofs.Begins.{model-unread, plan-unread, more-begun}
 use Rattle.plan_texts.proofs.texts.read_three.Goals as goal
 
 pub returns-in-Err-read_text-clause-stop : goal.returns-in-Err-read_text-clause-stop
 returns-in-Err-read_text-clause-stop g c =
-    model-unread (three c.args.network.now c.args.model.now c.args.plan.now) (g.S.Shelf.text c.args.shelf.now) c.in-Ok.text.items
+    model-unread (Some c.args.network.now) c.args.model.now (Some c.args.plan.now) (g.S.Shelf.text c.args.shelf.now)
     (g.S.Shelf.begins c.args.shelf.now) (g.S.Shelf.begins c.read_text-2.new.shelf) c.in-Err-read_text.stop
     (more-begun 1 1 (g.S.Shelf.begins c.args.shelf.now) (g.S.Shelf.begins c.read_text.new.shelf) (g.S.Shelf.begins c.read_text-2.new.shelf) c.read_text.ensures.begun c.read_text-2.ensures.begun)
-    (omega arith) c.in-Ok.ensures.read (rw c.in-Ok.ensures.texts at c.in-Err-read_text.ensures.stop)
+    (c.in-Ok.text.items, c.in-Ok.ensures.read) (rw c.in-Ok.ensures.texts at c.in-Err-read_text.ensures.stop)
 
 pub returns-in-Err-read_text-2-clause-stop : goal.returns-in-Err-read_text-2-clause-stop
 returns-in-Err-read_text-2-clause-stop g c =
-    plan-unread c.args.network.now c.args.model.now c.args.plan.now (g.S.Shelf.text c.args.shelf.now) c.in-Ok.text.items c.in-Ok-read_text.text.items
+    plan-unread (Some c.args.network.now) (Some c.args.model.now) c.args.plan.now (g.S.Shelf.text c.args.shelf.now)
     (g.S.Shelf.begins c.args.shelf.now) (g.S.Shelf.begins c.read_text-3.new.shelf) c.in-Err-read_text-2.stop
     (more-begun 2 1 (g.S.Shelf.begins c.args.shelf.now) (g.S.Shelf.begins c.read_text-2.new.shelf) (g.S.Shelf.begins c.read_text-3.new.shelf)
     (more-begun 1 1 (g.S.Shelf.begins c.args.shelf.now) (g.S.Shelf.begins c.read_text.new.shelf) (g.S.Shelf.begins c.read_text-2.new.shelf) c.read_text.ensures.begun c.read_text-2.ensures.begun) c.read_text-3.ensures.begun)
-    c.in-Ok.ensures.read (rw c.in-Ok.ensures.texts at c.in-Ok-read_text.ensures.read)
+    (c.in-Ok.text.items, c.in-Ok.ensures.read) (c.in-Ok-read_text.text.items, rw c.in-Ok.ensures.texts at c.in-Ok-read_text.ensures.read)
     (rw (c.in-Ok-read_text.ensures.texts, c.in-Ok.ensures.texts) at c.in-Err-read_text-2.ensures.stop)
