@@ -1,6 +1,7 @@
 # Builds a proved program where it is not built or a source below it is newer, and runs it. For the scripts beside it:
 #     . "$bin/program.sh"
-#     run_program NAME LASTS TRIAL -- WORD..
+#     make_ready NAME LASTS TRIAL                 builds it where it has to be, and sets `program` to its file
+#     run_program NAME LASTS TRIAL -- WORD..      the same, and runs it
 # LASTS says how long a build takes where nothing was proved before. TRIAL is words, parted by blanks, that stand before
 # texts with no name, so that the program ends with 6, a read fault, which no failed build ends with.
 
@@ -66,11 +67,10 @@ build() {
     mv -f "$started" "$stamp"
 }
 
-run_program() {
+make_ready() {
     name=$1
     lasts=$2
     trial=$3
-    shift 4
     crate=$top/crates/$name
     program=$crate/out/$name
     stamp=$crate/out/$name.built
@@ -79,5 +79,10 @@ run_program() {
         echo "$name: the program was not built" >&2
         exit 1
     fi
+}
+
+run_program() {
+    make_ready "$1" "$2" "$3"
+    shift 4
     exec "$program" "$@"
 }
