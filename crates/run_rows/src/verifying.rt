@@ -1,4 +1,4 @@
-//! Plans that are verified.
+//! Plans that are verified, each in the version of its row and in that of `upgrade`.
 
 use crate::runs::{ROOM, status_of, words_of};
 use crate::texts::Texts;
@@ -17,8 +17,17 @@ fn ends_so(alloc: Global, texts: &[(&str, &[u8])], status: u8, line: &[u8]) -> O
     Some(ended as u8 == status && alone.bytes() == line)
 }
 
+/// The text that `upgrade` writes of this plan, None where it ends otherwise.
+fn upgraded<R: Threads + Wait + Sync>(rt: &R, alloc: Global, plan: &[u8]) -> Option<MemSink> {
+    let mut shelf = SureShelf::new(alloc, &[("plan", plan)]).ok()?;
+    let mut sink = MemSink::new(alloc, ROOM, &[]).ok()?;
+    let status = status_of(rt, alloc, "upgrade plan", &mut shelf, &mut sink, &NoGate)?;
+    if status == 0 { Some(sink) } else { None }
+}
+
 /// Verifies a plan of a network and a model through the top call, and adds the name of the row, the status and the line.
-/// None where the verifier alone ends otherwise, or a text is not there.
+/// None where the verifier alone ends otherwise, of this text or of the one that `upgrade` writes of a plan that is
+/// accepted or rejected, or a text is not there.
 pub(crate) fn plan_row<R: Threads + Wait + Sync>(
     rt: &R,
     alloc: Global,
@@ -46,6 +55,13 @@ pub(crate) fn plan_row<R: Threads + Wait + Sync>(
     )?;
     if !ends_so(alloc, &named, status, sink.bytes())? {
         return None;
+    }
+    if status == 0 || status == 12 {
+        let second = upgraded(rt, alloc, plan.as_bytes())?;
+        let again = [named[0], named[1], ("plan", second.bytes())];
+        if !ends_so(alloc, &again, status, sink.bytes())? {
+            return None;
+        }
     }
     let line = str::from_utf8(sink.bytes()).ok()?;
     write!(text, "{name} {status} {line}").ok()
