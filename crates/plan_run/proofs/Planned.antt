@@ -1,7 +1,12 @@
 -- What is done is not refused, and the plan that is written is accepted.
-use Rattle.std.proofs.Common.{◌≡◌, ℕ, List, Some}
+use Rattle.std.proofs.Common.{◌≡◌, ◌≤◌, ℕ, List, length, Some}
 use Rattle.plan_base.specs.declared.parts.Parts.{Parts}
 use Rattle.snd_network.specs.declared.file.NetworkFile.{NetworkFile}
+use Rattle.proof_tree.specs.declared.plan.Plan.{Plan as AnyPlan}
+use Rattle.proof_tree.specs.Spellings.{IsSpellable}
+use Rattle.cert_format.specs.declared.limits.TheConstants.{MAX_PLAN_BYTES}
+use Rattle.cert_format.specs.declared.form.Form.TheVariants.{Second}
+use Rattle.cert_format.specs.Grammar.{plan_text, HasFields}
 use Rattle.plan_report.specs.declared.run_fault.RunFault.{RunFault}
 use Rattle.command_words.specs.declared.command.Command.{Command}
 use Rattle.command_words.specs.declared.command.Command.TheVariants.{OfNetwork, OfPlan, Upgrade, OfSample}
@@ -47,3 +52,8 @@ good_where_planned below budget network model text status other bytes done verif
     good-if done.parts done.holds.plan other bytes
     (verdict-of below (three network model text) done.net done.parts done.holds.plan other bytes (reads-with network model text done.net done.parts done.problem.reads) done.holds.text verified)
     done.holds.searched.valid
+
+pub short_where_planned : ((plan : AnyPlan) → IsSpellable plan → HasFields plan → length (plan_text Second plan) ≤ MAX_PLAN_BYTES)
+    → (budget : ℕ) (network model text : Text) (status : Status) → IsPlanDone budget (two network model) status text → length text ≤ MAX_PLAN_BYTES
+short_where_planned within budget network model text status done =
+    rw done.holds.second (within done.holds.plan done.holds.text.spellable done.holds.text.fields)

@@ -1,6 +1,7 @@
 //! What follows from the contract of the top call.
 
-ghost use Rattle.std.specs.Prelude.{ℕ, List, ◌≡◌, ◌⊎◌, map, string_bytes, None, Some, IsSome};
+ghost use Rattle.std.specs.Prelude.{ℕ, List, ◌≡◌, ◌≤◌, ◌⊎◌, length, map, string_bytes, None, Some, IsSome};
+ghost use Rattle.cert_format.specs.declared.limits.TheConstants.{MAX_PLAN_BYTES};
 ghost use Rattle.plan_io.specs.SureShelf.{text_of, begin_count, taken_count};
 ghost use Rattle.plan_report.specs.declared.run_fault.RunFault.{RunFault as AnyFault};
 ghost use Rattle.command_words.specs.declared.command.Command.{Command as AnyCommand};
@@ -19,6 +20,7 @@ ghost use Rattle.plan_run.specs.Supports.{AreSupported, EndsWith};
 ghost use Rattle.plan_run.specs.Runs.{IsRun, IsDone, IsOwnAnswer, Says};
 
 use crate::top_call::run;
+use cert_format::laws::text_within_limit;
 use plan_io::{Gate, SureShelf, SureSink};
 use plan_texts::Status;
 use plan_texts::laws::one_answer_below;
@@ -58,16 +60,19 @@ pub fn refused_or_done()
     one_answer_below();
 }
 
-/// The plan that `plan` writes is accepted: with its text, `verify` is not refused, and ends with nothing but
-/// the line of an accepted plan.
+/// The plan that `plan` writes is accepted: its text is within the limit of bytes of a plan text, with it `verify` is not
+/// refused, and ends with nothing but the line of an accepted plan.
 pub fn accepted_where_planned()
     ensures spelt { (budget : ℕ) (network model text : Text) (status : AnyStatus) (fault : AnyFault) →
         IsPlanDone budget (two network model) status text → AreRefused (three network model text) fault → ⊥ }
     ensures good { (budget : ℕ) (network model text : Text) (status other : AnyStatus) (bytes : List ℕ) →
         IsPlanDone budget (two network model) status text → IsVerified (three network model text) other bytes
         → other ≡ statuses.Good }
+    ensures short { (budget : ℕ) (network model text : Text) (status : AnyStatus) →
+        IsPlanDone budget (two network model) status text → length text ≤ MAX_PLAN_BYTES }
 {
     one_answer_below();
+    text_within_limit();
 }
 
 /// Where the budget has a node for each place down to the branching depth of the instance, `plan` does not end undecided,
