@@ -1,5 +1,5 @@
 -- The main statement: what the status of a run says of its words, its texts and the bytes written. run of src/top_call.rt has it as its contract.
-use Rattle.std.specs.Prelude.{ℕ, ◌≡◌, ◌+◌, ◌-◌, ◌^◌, ◌<◌, ◌≤◌, ◌⊎◌, List, [], length, take, Option, Some, None, IsSomeAnd}
+use Rattle.std.specs.Prelude.{ℕ, ◌≡◌, ◌+◌, ◌-◌, ◌^◌, ◌<◌, ◌≤◌, ◌⊎◌, List, [], length, take, Option, None, IsSomeAnd}
 use Rattle.std.specs.Io.KnownBytes.{Appends}
 use Rattle.plan_report.specs.declared.run_fault.RunFault.{RunFault}
 use Rattle.plan_report.specs.declared.run_fault.RunFault.TheVariants as faults
@@ -8,7 +8,6 @@ use Rattle.command_words.specs.declared.command.Command.{Command}
 use Rattle.command_words.specs.declared.command.Command.TheVariants.{OfNetwork, OfPlan, Upgrade, OfSample}
 use Rattle.command_words.specs.declared.command.NetworkWork.TheVariants.{Plan, Check}
 use Rattle.command_words.specs.declared.command.PlanWork.TheVariants.{Verify, Report}
-use Rattle.command_words.specs.declared.command.SampleWork.TheVariants.{Sample, Trial}
 use Rattle.command_words.specs.Words.{Word, command_in}
 use Rattle.plan_texts.specs.declared.status.Status.{Status}
 use Rattle.plan_texts.specs.declared.status.Status.TheVariants.{Good, BadText, Unsupported, OverLimit, WriteFault, OutOfMemory, Infeasible, Undecided, Rejected}
