@@ -2,13 +2,13 @@
 //!
 //! The networks have 4 to 12 nodes and come from a small generator (`made`), the same ones in each run: with directed,
 //! undirected and bidirected links, none to three modules on a link, whole and decimal numbers, and some that have no
-//! design. Each plan must be accepted by `verify`, and state its status and its budget; `upgrade` must give its text
-//! again, and read the same plan in version 1, which `versions` writes where links are not bidirected. The plans of one network must agree:
-//! a greater budget never knows less, and what several workers find contradicts nothing. Where few paths can be chosen
-//! from, the least cost of all choices, which `choices` finds by trying them, must lie where each plan says. The
-//! program writes a line for each network, and ends with an error at the first plan that is not as it must be; the
-//! error names the network and the budget. Begin at `plan_network`. Stands on `plan_run` and promises nothing of its
-//! own.
+//! design. Each plan must be accepted by `verify`, and state its status and its budget. `upgrade` must give its text
+//! again, and read the same plan in version 1, which `versions` writes where links are not bidirected. The plans of one
+//! network must agree: a greater budget never knows less, and what several workers find contradicts nothing. Where few
+//! paths can be chosen from, the least cost of all choices, which `choices` finds by trying them, must lie where each
+//! plan says. The program writes a line for each network, and ends with an error at the first plan that is not as it
+//! must be; the error names the network and the budget. Begin at `plan_network`. Stands on `plan_run` and promises
+//! nothing of its own.
 #![tactic(auto)]
 
 mod choices;

@@ -50,7 +50,7 @@ pub(crate) struct Texts {
     pub(crate) network: String,
     pub(crate) model: String,
     /// Whether both ways of a link share its capacity, so that plans have a text of version 1.
-    pub(crate) one_way: bool,
+    pub(crate) has_first_text: bool,
 }
 
 impl Texts {
@@ -59,7 +59,7 @@ impl Texts {
         Ok(Texts {
             network: network_text(alloc, network)?,
             model: model_text(alloc, network.kind)?,
-            one_way: network.kind != Kind::Bidirected,
+            has_first_text: network.kind != Kind::Bidirected,
         })
     }
 }

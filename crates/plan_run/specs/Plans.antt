@@ -10,7 +10,7 @@ use Rattle.plan_texts.specs.Texts.{Texts}
 use Rattle.plan_texts.specs.Refusals.{HoldsOfProblem}
 use Rattle.plan_run.specs.Searches.{IsSearched}
 
--- the text of the second version of a plan that a search gives for the instance and the budget, with the status of that plan
+-- the version 2 text of a plan that a search gives for the instance and the budget, with the status of that plan
 pub record IsPlanned (parts : Parts) (budget : ℕ) (status : Status) (bytes : List ℕ) : Type 0 where
   pub plan : Plan
   pub text : SpellsPlan bytes plan
