@@ -8,10 +8,18 @@ use std::sync::Wait;
 use std::thread::Threads;
 use text_runs::verify_run;
 
-/// Whether the verifier alone ends with this status and writes this line of three texts.
-fn ends_so(alloc: Global, texts: &[(&str, &[u8])], status: u8, line: &[u8]) -> Option<bool> {
+/// Whether the verifier alone ends with this status and writes this line of a network, a model and a plan.
+fn ends_so<'a>(
+    alloc: Global,
+    network: &'a [u8],
+    model: &'a [u8],
+    plan: &'a [u8],
+    status: u8,
+    line: &[u8],
+) -> Option<bool> {
+    let named = [("net", network), ("model", model), ("plan", plan)];
     let words = words_of(alloc, "net model plan").ok()?;
-    let mut shelf = SureShelf::new(alloc, texts).ok()?;
+    let mut shelf = SureShelf::new(alloc, &named).ok()?;
     let mut alone = MemSink::new(alloc, ROOM, &[]).ok()?;
     let ended = verify_run(alloc, words.as_slice(), &mut shelf, &mut alone);
     Some(ended as u8 == status && alone.bytes() == line)
@@ -38,9 +46,11 @@ pub(crate) fn plan_row<R: Threads + Wait + Sync>(
 ) -> Option<()> {
     let (name, rest) = rest.split_once(' ')?;
     let (network, model) = rest.split_once(' ')?;
+    let network = texts.find(network)?.as_bytes();
+    let model = texts.find(model)?.as_bytes();
     let named = [
-        ("net", texts.find(network)?.as_bytes()),
-        ("model", texts.find(model)?.as_bytes()),
+        ("net", network),
+        ("model", model),
         ("plan", plan.as_bytes()),
     ];
     let mut shelf = SureShelf::new(alloc, &named).ok()?;
@@ -53,13 +63,12 @@ pub(crate) fn plan_row<R: Threads + Wait + Sync>(
         &mut sink,
         &NoGate,
     )?;
-    if !ends_so(alloc, &named, status, sink.bytes())? {
+    if !ends_so(alloc, network, model, plan.as_bytes(), status, sink.bytes())? {
         return None;
     }
     if status == 0 || status == 12 {
         let second = upgraded(rt, alloc, plan.as_bytes())?;
-        let again = [named[0], named[1], ("plan", second.bytes())];
-        if !ends_so(alloc, &again, status, sink.bytes())? {
+        if !ends_so(alloc, network, model, second.bytes(), status, sink.bytes())? {
             return None;
         }
     }
@@ -79,9 +88,15 @@ pub(crate) fn changed_row<R: Threads + Wait + Sync>(
 ) -> Option<()> {
     let (rest, base) = rest.rsplit_once(' ')?;
     let mut plan = String::from_str(alloc, texts.find(base)?).ok()?;
-    let mut lines = changes.lines();
-    while let Some(part) = lines.next() {
-        plan = with_line(alloc, plan.as_str(), part, lines.next()?)?;
+    let mut part = None;
+    for line in changes.lines() {
+        part = match part {
+            None => Some(line),
+            Some(part) => {
+                plan = with_line(alloc, plan.as_str(), part, line)?;
+                None
+            }
+        };
     }
     plan_row(rt, alloc, texts, rest, plan.as_str(), text)
 }
