@@ -3,11 +3,11 @@ use Rattle.std.proofs.Common.{◌≡◌, ℕ, zero, suc, ◌-◌, ◌<◌, ◌�
 use Rattle.std.specs.Prelude.{Result, Ok, Err}
 use Rattle.std.proofs.lemmas.List.{append-nil}
 use Rattle.proof_tree.specs.declared.tree.TreeNode.{TreeNode}
-use Rattle.cert_format.specs.declared.stop.Stop.{Stop}
-use Rattle.cert_format.specs.declared.stop.Stop.TheVariants.{Memory, At}
+use Rattle.plan_words.specs.declared.stop.Stop.{Stop}
+use Rattle.plan_words.specs.declared.stop.Stop.TheVariants.{Memory, At}
 use Rattle.cert_format.specs.declared.fault.PlanFault.TheVariants as faults
-use Rattle.cert_format.specs.Lines.{Line, whole, unfinished, onto, text_of, lines_of}
-use Rattle.cert_format.proofs.Cutting.{text_of_lines}
+use Rattle.plan_words.specs.Lines.{Line, whole, unfinished, onto, text_of, lines_of}
+use Rattle.plan_words.proofs.Cutting.{text_of_lines}
 use Rattle.std.proofs.lemmas.Bool.{cases_Bool}
 use Rattle.proof_tree.specs.declared.plan.Plan.{Plan}
 use Rattle.cert_format.specs.Grammar.{end_line}
@@ -18,7 +18,8 @@ use Rattle.cert_format.proofs.BodyLaws.{number_row_takes, list_takes}
 use Rattle.cert_format.proofs.ReadingLaws.{one_line}
 use Rattle.cert_format.specs.Reading.{◌>>=◌, bind, done, judged, one, many, lists, record_on, records, place_of, nothing_behind, last_line, ending}
 use Rattle.cert_format.specs.Drafts.{left_open, Stated, is_complete}
-use Rattle.cert_format.specs.Answers.{StopsAt, Stops, Reads, HasNoLine, IsNoLine}
+use Rattle.plan_words.specs.Cuts.{HasNoLine, IsNoLine}
+use Rattle.cert_format.specs.Answers.{StopsAt, Stops, Reads}
 
 -- ---- one line
 

@@ -18,11 +18,11 @@ use Rattle.cert_format.specs.declared.bodies.Sizes.{Sizes}
 use Rattle.cert_format.specs.declared.form.Form.{Form}
 use Rattle.cert_format.specs.declared.form.Form.TheVariants.{First, Second}
 use Rattle.cert_format.specs.Lists.{is_among}
-use Rattle.cert_format.specs.Words.{◌>>=◌, numerals, row, behind, before, each, numbers_of, grains_of, row_of}
+use Rattle.plan_words.specs.Words.{◌>>=◌, numerals, row, behind, before, each, numbers_of, grains_of, row_of}
 use Rattle.cert_format.specs.Grammar.{header_line, both_text, count_line, size_line, status_line, number_line, cost_line, signed_text, bound_line, arc_numbers, counted, path_line, modules_line, price_line, CanTell, AreArcs, IsBoundField}
 use Rattle.cert_format.specs.Bodies.{only_if, choose, fixed_of, one_in, number_row, sizes_with, sizes_in, count_row, with_both, size_row, form_of, status_of, none_or, cost_allowed, cost_of, positive, negative, signed_of, bound_of, numbered_arc, arc_of, count_of, uncounted, path_of, modules_of, list_row}
-use Rattle.cert_format.proofs.NumberWords.{then-some, map-some, behind_found, behind_takes, numbers_found, numbers_takes, each_takes, each_found}
-use Rattle.cert_format.proofs.Digits.{grains_found, grains_takes, grains_first}
+use Rattle.plan_words.proofs.NumberWords.{then-some, map-some, behind_found, behind_takes, numbers_found, numbers_takes, each_takes, each_found}
+use Rattle.plan_words.proofs.Digits.{grains_found, grains_takes, grains_first}
 
 -- numbers that a row can have
 abbrev pub AreSmall : List ℕ → Type 0

@@ -4,7 +4,7 @@ use Rattle.std.specs.Option.{option_map}
 use Rattle.std.proofs.lemmas.Bool.{lt-ltb, le-ltb}
 use Rattle.std.proofs.lemmas.List.{append-nil, drop_more, length-drop}
 use Rattle.cert_format.specs.Bodies.{only_if, choose, behind_number, flags_of, ascends}
-use Rattle.cert_format.proofs.NumberWords.{with_front, fronts}
+use Rattle.plan_words.proofs.NumberWords.{with_front, fronts}
 
 step-in : (front : List Bool) (at left less : ℕ) (ns rest : List ℕ) → Some rest ≡ behind_number at ns → left ≡ suc less → with_front front (flags_of at left ns) ≡ with_front (front ++ true ∷ []) (flags_of (at + 1) less rest)
 unfolding flags_of

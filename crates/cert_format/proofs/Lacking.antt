@@ -25,12 +25,12 @@ use Rattle.cert_format.specs.declared.form.Form.TheVariants.{First, Second}
 use Rattle.cert_format.specs.declared.limits.TheConstants.{MAX_LISTS}
 use Rattle.cert_format.specs.Lists.{lists_in, shown, width}
 use Rattle.cert_format.specs.Drafts.{AreListed}
-use Rattle.cert_format.specs.Words.{numerals, row}
+use Rattle.plan_words.specs.Words.{numerals, row}
 use Rattle.cert_format.specs.Grammar.{header_line, both_text, count_line, status_line, signed_text, path_line, modules_line, leaf_line, record_line, end_line, head_lines, design_lines, bound_lines, price_line, price_lines, front_lines, tree_lines, plan_lines, arc_numbers, counted, members, AreArcs, HasLeafFields, HasRecordFields, HasDesignFields, IsBoundField, HasFields}
-use Rattle.cert_format.specs.Answers.{Lacks}
-use Rattle.cert_format.proofs.Cutting.{lacks-append}
-use Rattle.cert_format.proofs.NumberWords.{digits-lack, decimal_digits}
-use Rattle.cert_format.proofs.Digits.{grains_scaled}
+use Rattle.plan_words.specs.Cuts.{Lacks}
+use Rattle.plan_words.proofs.Cutting.{lacks-append}
+use Rattle.plan_words.proofs.NumberWords.{digits-lack, decimal_digits}
+use Rattle.plan_words.proofs.Digits.{grains_scaled}
 use Rattle.cert_format.proofs.BodyLaws.{AreSmall, arcs_small, counts_small}
 use Rattle.cert_format.proofs.RecordLaws.{cut_small, side_small, small_append}
 use Rattle.cert_format.proofs.ListLaws.{AreReady, good_listed, lists_small}

@@ -1,6 +1,3 @@
-pub mod Cutting
-pub mod NumberWords
-pub mod Digits
 pub mod Accepting
 pub mod Flags
 pub mod WrittenPieces

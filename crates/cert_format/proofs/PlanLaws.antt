@@ -19,13 +19,13 @@ use Rattle.cert_format.specs.declared.form.Form.TheVariants.{First, Second}
 use Rattle.cert_format.specs.declared.limits.TheConstants.{MAX_LISTS}
 use Rattle.cert_format.specs.declared.numbering.Ground.{Ground}
 use Rattle.cert_format.specs.declared.reading.Head.{Head}
-use Rattle.cert_format.specs.Lines.{Line, whole, text_of, lines_of}
+use Rattle.plan_words.specs.Lines.{Line, whole, text_of, lines_of}
 use Rattle.cert_format.specs.Lists.{lists_in, named_from, AreNamed, AreNew}
 use Rattle.cert_format.specs.Grammar.{number_line, cost_line, bound_line, price_line, end_line, head_lines, design_lines, bound_lines, price_lines, front_lines, tree_lines, lines_with, plan_lines, plan_text, CanTell, HasRecordFields, HasDesignFields, IsBoundField, HasFields, SpellsPlan}
 use Rattle.cert_format.specs.Drafts.{IsGrown, Stated, AreListed, IsDraft, has_counts, is_complete, front_of, tree_of, closing, draft_lines}
 use Rattle.cert_format.specs.Bodies.{fixed_of, number_row, cost_allowed, cost_of, bound_of}
 use Rattle.cert_format.specs.Reading.{Reader, ◌>>=◌, bind, done, one, head, design_of, design, bound, list_count, front_with, opening, lists, records, tree, tree_with, ground_with, stated_on, before_end, last_line, ending, whole_plan, read_as, plan_of}
-use Rattle.cert_format.proofs.Cutting.{text_of_lines, lines_of_text}
+use Rattle.plan_words.proofs.Cutting.{text_of_lines, lines_of_text}
 use Rattle.cert_format.proofs.BodyLaws.{IsCost, fixed_takes, fixed_again, number_row_takes, number_row_again, cost_takes, cost_again, bound_takes, bound_again}
 use Rattle.cert_format.proofs.ListLaws.{AreReady, good_listed, lists_ready, lists_told}
 use Rattle.cert_format.proofs.ReadingLaws.{read_one, bind_ok, taken, and_then, done_parts, done_is, one_line, one_again, IsHead, lines_of_head, head_takes, head_again, after_cost, cost_in, IsDesignIn, design_of_takes, design_of_again, lists_take, lists_again, lists_short, IsGround, FitsGround, line_on, grown_takes, grown_again, grown_whole}

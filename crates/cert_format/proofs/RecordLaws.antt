@@ -13,10 +13,10 @@ use Rattle.proof_tree.specs.declared.tree.Evidence.TheVariants.{Bound, Routed, O
 use Rattle.proof_tree.specs.declared.tree.TreeNode.{TreeNode}
 use Rattle.proof_tree.specs.declared.tree.TreeNode.TheVariants.{Split, Leaf}
 use Rattle.proof_tree.specs.Spellings.{IsAscending, IsWrittenSide, FitsEvidence, FitsRecord}
-use Rattle.cert_format.specs.Words.{◌>>=◌, numerals, row, behind, each, numbers_of}
+use Rattle.plan_words.specs.Words.{◌>>=◌, numerals, row, behind, each, numbers_of}
 use Rattle.cert_format.specs.Grammar.{arc_numbers, counted, members, leaf_line, record_line, AreArcs, HasLeafFields, HasRecordFields}
 use Rattle.cert_format.specs.Bodies.{only_if, choose, fixed_of, one_in, arc_of, uncounted, ascends, side_arcs, with_rest, side_of, two_sides, right_side, behind_left, sides_of, split_with, split_in, cut_with, overfull_with, behind_number, flags_of, cut_in, overfull_in, prices_of, priced_of, leaf_of, record_of}
-use Rattle.cert_format.proofs.NumberWords.{then-some, map-some, behind_found, behind_takes, numbers_found, numbers_takes, each_takes, each_found, no-length}
+use Rattle.plan_words.proofs.NumberWords.{then-some, map-some, behind_found, behind_takes, numbers_found, numbers_takes, each_takes, each_found, no-length}
 use Rattle.cert_format.proofs.BodyLaws.{AreSmall, only_true, chosen, fixed_takes, one_takes, one_again, uncounted_takes, uncounted_again, arc_takes, arc_again, arcs_small}
 
 pub when_some : {A : Type 0} (t : Bool) (o : Option A) (y : A) → cond t o None ≡ Some y → (t ≡ true) × (o ≡ Some y)

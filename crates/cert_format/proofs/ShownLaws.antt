@@ -14,10 +14,10 @@ use Rattle.cert_format.specs.declared.limits.TheConstants.{MAX_LISTS}
 use Rattle.cert_format.specs.declared.form.Form.{Form}
 use Rattle.cert_format.specs.declared.form.Form.TheVariants.{First, Second}
 use Rattle.cert_format.specs.Lists.{number_in, shown, width, named_behind, IsNext, Names, AreNamed, AreNew, listed, priced, resolved}
-use Rattle.cert_format.specs.Words.{◌>>=◌}
+use Rattle.plan_words.specs.Words.{◌>>=◌}
 use Rattle.cert_format.specs.Grammar.{record_line, HasLeafFields, HasRecordFields}
 use Rattle.cert_format.specs.Bodies.{record_of, record_in}
-use Rattle.cert_format.proofs.NumberWords.{then-some, map-some}
+use Rattle.plan_words.proofs.NumberWords.{then-some, map-some}
 use Rattle.cert_format.proofs.BodyLaws.{AreSmall}
 use Rattle.cert_format.proofs.RecordLaws.{when_some, record_takes, record_again}
 use Rattle.cert_format.proofs.ListLaws.{list_numbered, number_at, list_good, AreGood}

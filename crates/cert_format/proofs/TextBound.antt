@@ -22,12 +22,12 @@ use Rattle.proof_tree.specs.Shapes.{are_trees}
 use Rattle.proof_tree.specs.Spellings.{places_in, FitsRecord, FitsDesign, IsWrittenSide, IsSpellable}
 use Rattle.cert_format.specs.declared.limits.TheConstants.{MAX_PLAN_BYTES, MAX_LISTS}
 use Rattle.cert_format.specs.declared.form.Form.TheVariants.{Second}
-use Rattle.cert_format.specs.Lines.{whole, text_of}
+use Rattle.plan_words.specs.Lines.{whole, text_of}
 use Rattle.cert_format.specs.Lists.{lists_of, numbered, shown, AreNew}
-use Rattle.cert_format.specs.Words.{numerals, row}
+use Rattle.plan_words.specs.Words.{numerals, row}
 use Rattle.cert_format.specs.Grammar.{both_text, count_line, status_line, number_line, cost_line, signed_text, arc_numbers, counted, path_line, modules_line, members, leaf_line, record_line, design_lines, bound_lines, price_line, price_lines, head_lines, front_lines, end_line, plan_text, AreArcs, HasLeafFields, HasRecordFields, HasDesignFields, IsBoundField, HasFields}
 use Rattle.cert_format.proofs.BodyLaws.{AreSmall}
-use Rattle.cert_format.proofs.Digits.{grains_scaled}
+use Rattle.plan_words.proofs.Digits.{grains_scaled}
 use Rattle.cert_format.proofs.RecordLaws.{members_few}
 use Rattle.cert_format.proofs.ListLaws.{leaves, half_leaves}
 use Rattle.cert_format.proofs.ReadingLaws.{GoodPath, GoodCounts, pair_of}

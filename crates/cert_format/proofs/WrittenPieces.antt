@@ -8,9 +8,9 @@ use Rattle.std.specs.Prelude.{slice_get}
 use Rattle.std.specs.List.{AllByRecursion}
 use Rattle.proof_tree.specs.declared.tree.TreeNode.{TreeNode}
 use Rattle.cert_format.specs.declared.form.Form.TheVariants.{Second}
-use Rattle.cert_format.specs.Lines.{whole, line_text, text_of}
+use Rattle.plan_words.specs.Lines.{whole, line_text, text_of}
 use Rattle.cert_format.specs.Lists.{lists_of, shown}
-use Rattle.cert_format.specs.Words.{numerals, row}
+use Rattle.plan_words.specs.Words.{numerals, row}
 use Rattle.cert_format.specs.Grammar.{header_line, size_line, status_line, cost_line, path_line, modules_line, price_line, members, record_line, design_lines, bound_lines, head_lines, price_lines, front_lines, tree_lines, plan_text}
 use Rattle.cert_format.specs.Written.{lines_text, written_tree}
 

@@ -15,7 +15,7 @@ use Rattle.cert_format.specs.declared.bodies.Sizes.{Sizes}
 use Rattle.cert_format.specs.declared.form.Form.{Form}
 use Rattle.cert_format.specs.declared.form.Form.TheVariants.{First, Second}
 use Rattle.cert_format.specs.Lists.{is_among, width, resolved}
-use Rattle.cert_format.specs.Words.{◌>>=◌, behind, before, each, numbers_of, grains_of, row_of}
+use Rattle.plan_words.specs.Words.{◌>>=◌, behind, before, each, numbers_of, grains_of, row_of}
 
 -- the value, where the test holds
 abbrev pub only_if : {A : Type 0} → Bool → A → Option A

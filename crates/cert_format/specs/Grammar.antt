@@ -14,8 +14,8 @@ use Rattle.proof_tree.specs.Spellings.{IsSpellable}
 use Rattle.scaled_numbers.specs.Canonical.{grains_text}
 use Rattle.cert_format.specs.declared.form.Form.{Form}
 use Rattle.cert_format.specs.declared.form.Form.TheVariants.{First, Second}
-use Rattle.cert_format.specs.Lines.{whole, text_of}
-use Rattle.cert_format.specs.Words.{row}
+use Rattle.plan_words.specs.Lines.{whole, text_of}
+use Rattle.plan_words.specs.Words.{row}
 use Rattle.cert_format.specs.Lists.{lists_in, shown}
 
 -- the first line

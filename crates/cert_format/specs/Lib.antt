@@ -1,5 +1,3 @@
-pub mod Lines
-pub mod Words
 pub mod Lists
 pub mod Grammar
 pub mod Bodies

@@ -5,7 +5,7 @@ use Rattle.proof_tree.specs.declared.tree.Evidence.TheVariants.{Bound, Routed, O
 use Rattle.proof_tree.specs.declared.tree.TreeNode.{TreeNode}
 use Rattle.proof_tree.specs.declared.tree.TreeNode.TheVariants.{Split, Leaf}
 use Rattle.cert_format.specs.declared.form.Form.TheVariants.{Second}
-use Rattle.cert_format.specs.Lines.{whole, text_of}
+use Rattle.plan_words.specs.Lines.{whole, text_of}
 use Rattle.cert_format.specs.Lists.{lists_of}
 use Rattle.cert_format.specs.Grammar.{price_lines, tree_lines, AreArcs}
 

@@ -1,13 +1,13 @@
 //! What the line of a leaf is read as, without its line end.
 
 ghost use Rattle.std.specs.Prelude.{◌≡◌, Some, None, IfOk, option_and_then};
-ghost use Rattle.cert_format.specs.Words.{numbers_of};
+ghost use Rattle.plan_words.specs.Words.{numbers_of};
 ghost use Rattle.cert_format.specs.Bodies.{behind_number, flags_of, cut_in, prices_of, priced_of, overfull_in, leaf_of};
-ghost use Rattle.cert_format.specs.Answers.{found_now, items_of};
+ghost use Rattle.plan_words.specs.Cuts.{found_now, items_of};
 
 use crate::bodies::{fixed, one_in, uncounted};
-use crate::words::{behind, numbers};
 use plan_base::{DemandId, Items, LinkId, Prices};
+use plan_words::{behind, numbers};
 use proof_tree::Evidence;
 use std::alloc::{AllocError, Global};
 
@@ -29,7 +29,7 @@ fn behind_number(numbers: &[u128], at: u32) -> Option<&[u128]>
 }
 
 /// For each of so many nodes whether it is in the ascending list, where the list is one.
-#[tactic(auto, using(crate::proofs::NumberWords::with_nothing, crate::proofs::Flags::flags_in, crate::proofs::Flags::flags_out, crate::proofs::Flags::flags_end))]
+#[tactic(auto, using(plan_words::proofs::NumberWords::with_nothing, crate::proofs::Flags::flags_in, crate::proofs::Flags::flags_out, crate::proofs::Flags::flags_end))]
 fn flags(alloc: Global, nodes: u32, numbers: &[u128]) -> Result<Option<Vec<bool>>, AllocError>
     ensures { IfOk result (λ found. items_of found ≡ flags_of 0 nodes numbers.now) }
 {

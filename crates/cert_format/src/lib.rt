@@ -3,7 +3,7 @@
 //! Promises that `write_plan` writes the one text of a plan in the second version, and that `read_plan` answers a
 //! plan exactly where the text spells it in either version, and else the first line that cannot stand where it
 //! stands. Begin at `read_plan`. `specs/Grammar.antt` has the text of a plan, `specs/Lists.antt` its price lists and
-//! their numbers, `specs/Drafts.antt` which lines can stand. Stands on `proof_tree`, `plan_base` and
+//! their numbers, `specs/Drafts.antt` which lines can stand. Stands on `plan_words`, `proof_tree`, `plan_base` and
 //! `scaled_numbers`. Whether a plan is valid is left to the crates above.
 #![tactic(auto)]
 
@@ -18,8 +18,6 @@ mod lists;
 mod numbering;
 mod reading;
 mod records;
-mod stop;
-mod words;
 mod writing;
 
 pub use fault::PlanFault;

@@ -2,7 +2,7 @@
 
 ghost use Rattle.std.specs.Prelude.{◌≡◌, ◌≤◌, ◌<◌, ◌+◌, ◌^◌, ℕ, List, [], length, IfOk, IfErr};
 ghost use Rattle.proof_tree.specs.declared.plan.Plan.{Plan as AnyPlan};
-ghost use Rattle.cert_format.specs.Lines.{lines_of};
+ghost use Rattle.plan_words.specs.Lines.{lines_of};
 ghost use Rattle.cert_format.specs.Grammar.{end_line, SpellsPlan};
 ghost use Rattle.cert_format.specs.Faults.{IsFault, OnlyPlan, OnlyFault};
 ghost use Rattle.cert_format.specs.Lists.{named_from};
@@ -18,12 +18,12 @@ use crate::bodies::Sizes;
 use crate::fault::PlanFault;
 use crate::form::Form;
 use crate::limits::{MAX_LISTS, MAX_PLAN_BYTES};
-use crate::lines::{accept, first_line};
+use crate::lines::accept;
 use crate::lists::Lists;
 use crate::numbering::{Ground, named_behind};
-use crate::stop::Stop;
 use crate::{bodies, records};
 use plan_base::{Design, Items, Path, Prices};
+use plan_words::{Stop, first_line};
 use proof_tree::limits::{MAX_BUDGET, MAX_RECORDS};
 use proof_tree::{Plan, PlanStatus, Tree, TreeNode};
 use std::alloc::Global;

@@ -6,8 +6,8 @@ ghost use Rattle.proof_tree.specs.Spellings.{IsSpellable, FitsStatus};
 ghost use Rattle.cert_format.specs.declared.limits.TheConstants.{MAX_PLAN_BYTES};
 ghost use Rattle.cert_format.specs.declared.form.Form.TheVariants.{Second};
 ghost use Rattle.cert_format.specs.Lists.{number_in, numbered, shown};
-ghost use Rattle.cert_format.specs.Lines.{whole, line_text};
-ghost use Rattle.cert_format.specs.Words.{numerals, row};
+ghost use Rattle.plan_words.specs.Lines.{whole, line_text};
+ghost use Rattle.plan_words.specs.Words.{numerals, row};
 ghost use Rattle.cert_format.specs.Grammar.{arc_numbers, counted, both_text, size_line, status_line, cost_line, signed_text, bound_line, path_line, modules_line, members, leaf_line, record_line, design_lines, bound_lines, head_lines, price_line, price_lines, AreWithin, AreArcs, HasRecordFields, HasDesignFields, IsBoundField, HasFields, SpellsPlan, plan_text};
 ghost use Rattle.cert_format.specs.Written.{lines_text, written_tree, HasOtherFields, HasFieldsBesides, Appends};
 

@@ -1,6 +1,6 @@
 use Rattle.std.proofs.Common.{◌≡◌, ◌-◌}
 use Rattle.cert_format.specs.Bodies.{flags_of}
-use Rattle.cert_format.proofs.NumberWords.{with_front}
+use Rattle.plan_words.proofs.NumberWords.{with_front}
 use Rattle.cert_format.proofs.evidence.flags.Given as goal
 
 abbrev pub invariant-loop-node : goal.invariant-loop-node

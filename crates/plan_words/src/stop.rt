@@ -4,7 +4,7 @@ use std::alloc::{AllocError, AllocFailed};
 
 /// Why reading stops.
 #[derive(Clone, Copy, Debug)]
-pub(crate) enum Stop {
+pub enum Stop {
     /// Want of memory.
     Memory,
     /// A line cannot stand there, or the text ends: so many bytes are left from there on.
@@ -13,7 +13,7 @@ pub(crate) enum Stop {
 
 impl From<AllocError> for Stop {
     ghost use Rattle.std.specs.Prelude.{◌≡◌};
-    ghost use Rattle.cert_format.specs.declared.stop.Stop.TheVariants.{Memory};
+    ghost use Rattle.plan_words.specs.declared.stop.Stop.TheVariants.{Memory};
 
     ghost from_gives = { λ _ e. e ≡ Memory };
 
@@ -24,7 +24,7 @@ impl From<AllocError> for Stop {
 
 impl<T: Drop> From<AllocFailed<T>> for Stop {
     ghost use Rattle.std.specs.Prelude.{◌≡◌};
-    ghost use Rattle.cert_format.specs.declared.stop.Stop.TheVariants.{Memory};
+    ghost use Rattle.plan_words.specs.declared.stop.Stop.TheVariants.{Memory};
 
     ghost from_gives = { λ _ e. e ≡ Memory };
 

@@ -1,7 +1,7 @@
 use Rattle.std.proofs.Common.{◌≡◌, length}
-use Rattle.cert_format.specs.Words.{numbers_of}
-use Rattle.cert_format.proofs.NumberWords.{with_front}
-use Rattle.cert_format.proofs.words.numbers.Given as goal
+use Rattle.plan_words.specs.Words.{numbers_of}
+use Rattle.plan_words.proofs.NumberWords.{with_front}
+use Rattle.plan_words.proofs.words.numbers.Given as goal
 
 -- the numbers so far, and those of the rest, are those of all bytes
 abbrev pub invariant-loop-rest : goal.invariant-loop-rest

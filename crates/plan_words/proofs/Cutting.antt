@@ -9,9 +9,9 @@ use Rattle.std.proofs.lemmas.Bool.Decides.{Decides-eqb}
 use Rattle.std.specs.List.{AllByRecursion}
 use Rattle.std.proofs.lemmas.Bool.{ne_eqb, eqb-true, cases_Bool}
 use Rattle.std.proofs.lemmas.List.{take_more, drop_more, drop_all, take-append-drop, take_all, append-nil}
-use Rattle.cert_format.specs.Lines.{Line, whole, unfinished, text_of, onto, lines_of}
-use Rattle.cert_format.specs.Words.{before}
-use Rattle.cert_format.specs.Answers.{found_now, Lacks, StartsWith, IsCutAt, HasNoLine}
+use Rattle.plan_words.specs.Lines.{Line, whole, unfinished, text_of, onto, lines_of}
+use Rattle.plan_words.specs.Words.{before}
+use Rattle.plan_words.specs.Cuts.{found_now, Lacks, StartsWith, IsCutAt, HasNoLine}
 
 pub lacks-append : (at : ℕ) (xs ys : List ℕ) → Lacks at xs → Lacks at ys → Lacks at (xs ++ ys)
 lacks-append at [] ys h k = k

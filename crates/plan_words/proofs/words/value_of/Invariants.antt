@@ -1,6 +1,6 @@
 use Rattle.std.proofs.Common.{◌≡◌, take}
 use Rattle.std.specs.Str.Parse.{digits_value}
-use Rattle.cert_format.proofs.words.value_of.Given as goal
+use Rattle.plan_words.proofs.words.value_of.Given as goal
 
 -- the value of the digits before this place
 abbrev pub invariant-loop-digit : goal.invariant-loop-digit

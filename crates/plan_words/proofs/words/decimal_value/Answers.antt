@@ -1,5 +1,5 @@
-use Rattle.cert_format.proofs.Digits.{cut_scaled}
-use Rattle.cert_format.proofs.words.decimal_value.Goals as goal
+use Rattle.plan_words.proofs.Digits.{cut_scaled}
+use Rattle.plan_words.proofs.words.decimal_value.Goals as goal
 
 -- src/words.rt:140:1
 pub returns : goal.returns

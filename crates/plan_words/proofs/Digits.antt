@@ -15,9 +15,9 @@ use Rattle.std.proofs.lemmas.Fmt.{decimal_is_IsNumeral_wide}
 use Rattle.scaled_numbers.specs.Canonical.{padded, fraction_digits, behind_point, grains_text}
 use Rattle.scaled_numbers.proofs.Fractions.{wide, few_digits, length-padded}
 use Rattle.scaled_numbers.proofs.DigitLists.{zeros-all, zeros-value}
-use Rattle.cert_format.specs.Words.{onto_parts, parts_of, scaled_parts, grains_of}
-use Rattle.cert_format.specs.Answers.{Lacks, StartsWith, IsCutAt, IsScaledParts}
-use Rattle.cert_format.proofs.NumberWords.{decimal_digits, decimal_value, digits-lack, read_takes, read_found, read_none}
+use Rattle.plan_words.specs.Words.{onto_parts, parts_of, scaled_parts, grains_of}
+use Rattle.plan_words.specs.Cuts.{Lacks, StartsWith, IsCutAt, IsScaledParts}
+use Rattle.plan_words.proofs.NumberWords.{decimal_digits, decimal_value, digits-lack, read_takes, read_found, read_none}
 
 -- ---- the loop over digits
 

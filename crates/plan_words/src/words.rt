@@ -4,8 +4,8 @@ ghost use Rattle.std.specs.Prelude.{decimal, drop, ◌≡◌, ◌<◌, ◌≤◌
 ghost use Rattle.std.specs.Str.{bytes_eq};
 ghost use Rattle.std.specs.Str.Parse.{AllDigits, digits_value};
 ghost use Rattle.scaled_numbers.specs.Canonical.{grains_text};
-ghost use Rattle.cert_format.specs.Words.{behind, before, number_of, numbers_of, grains_of, row_of};
-ghost use Rattle.cert_format.specs.Answers.{found_now, items_of, IsScaledParts};
+ghost use Rattle.plan_words.specs.Words.{behind, before, number_of, numbers_of, grains_of, row_of};
+ghost use Rattle.plan_words.specs.Cuts.{found_now, items_of, IsScaledParts};
 
 use crate::lines::cut;
 use itoa::Buffer;
@@ -13,7 +13,7 @@ use scaled_numbers::write_grains;
 use std::alloc::{AllocError, Global};
 
 /// Whether the bytes are the same.
-pub(crate) fn are_same(bytes: &[u8], others: &[u8]) -> bool
+pub fn are_same(bytes: &[u8], others: &[u8]) -> bool
     ensures { result ≡ bytes_eq bytes.now others.now }
 {
     bytes == others
@@ -21,7 +21,7 @@ pub(crate) fn are_same(bytes: &[u8], others: &[u8]) -> bool
 
 /// The bytes behind this word, where the bytes begin with it.
 #[tactic(auto, using(crate::proofs::NumberWords::behind_is, crate::proofs::Cutting::strips))]
-pub(crate) fn behind<'a>(word: &[u8], bytes: &'a [u8]) -> Option<&'a [u8]>
+pub fn behind<'a>(word: &[u8], bytes: &'a [u8]) -> Option<&'a [u8]>
     ensures { found_now result ≡ behind word.now bytes.now }
 {
     bytes.strip_prefix(word)
@@ -29,7 +29,7 @@ pub(crate) fn behind<'a>(word: &[u8], bytes: &'a [u8]) -> Option<&'a [u8]>
 
 /// The bytes before this word, where the bytes end with it.
 #[tactic(auto, using(crate::proofs::Cutting::strips_end))]
-pub(crate) fn before<'a>(word: &[u8], bytes: &'a [u8]) -> Option<&'a [u8]>
+pub fn before<'a>(word: &[u8], bytes: &'a [u8]) -> Option<&'a [u8]>
     ensures { found_now result ≡ before word.now bytes.now }
 {
     bytes.strip_suffix(word)
@@ -63,7 +63,7 @@ fn is_decimal(bytes: &[u8], value: u128) -> bool
 
 /// The number whose decimal the bytes are.
 #[tactic(auto, using(crate::proofs::NumberWords::number_yes, crate::proofs::NumberWords::number_no, crate::proofs::NumberWords::number_lost))]
-pub(crate) fn number(bytes: &[u8]) -> Option<u128>
+fn number(bytes: &[u8]) -> Option<u128>
     ensures { result ≡ number_of bytes.now }
 {
     let value = value_of(bytes)?;
@@ -74,9 +74,11 @@ pub(crate) fn number(bytes: &[u8]) -> Option<u128>
     }
 }
 
-/// The numbers that are written so, a blank in front of each.
+/// The numbers that are written so, a blank in front of each, or none where the bytes are no such numbers.
+///
+/// - Errors: want of memory alone.
 #[tactic(auto, using(crate::proofs::NumberWords::blank_more, crate::proofs::NumberWords::blank_stop, crate::proofs::NumberWords::numbers_none, crate::proofs::NumberWords::blank_shorter, crate::proofs::NumberWords::numbers_end, crate::proofs::NumberWords::with_nothing))]
-pub(crate) fn numbers(alloc: Global, bytes: &[u8]) -> Result<Option<Vec<u128>>, AllocError>
+pub fn numbers(alloc: Global, bytes: &[u8]) -> Result<Option<Vec<u128>>, AllocError>
     ensures { IfOk result (λ found. items_of found ≡ numbers_of bytes.now) }
 {
     let mut numbers = Vec::new(alloc);
@@ -95,9 +97,11 @@ pub(crate) fn numbers(alloc: Global, bytes: &[u8]) -> Result<Option<Vec<u128>>, 
     Ok(Some(numbers))
 }
 
-/// The numbers behind the word in a line.
+/// The numbers behind the word in a line, or none where the line is no such row.
+///
+/// - Errors: want of memory alone.
 #[tactic(auto, unfolding(crate::specs::Words::numbers_of))]
-pub(crate) fn row(alloc: Global, word: &[u8], body: &[u8]) -> Result<Option<Vec<u128>>, AllocError>
+pub fn row(alloc: Global, word: &[u8], body: &[u8]) -> Result<Option<Vec<u128>>, AllocError>
     ensures { IfOk result (λ found. items_of found ≡ row_of word.now body.now) }
 {
     match behind(word, body) {
@@ -158,9 +162,11 @@ fn is_grains_text(alloc: Global, bytes: &[u8], value: u128) -> Result<bool, Allo
     Ok(are_same(bytes, text.as_slice()))
 }
 
-/// The cost grains whose canonical decimal the bytes are.
+/// The cost grains, in units of `10^-12`, whose canonical decimal the bytes are.
+///
+/// - Errors: want of memory alone.
 #[tactic(auto, using(crate::proofs::Digits::grains_yes, crate::proofs::Digits::grains_no, crate::proofs::Digits::grains_lost))]
-pub(crate) fn grains(alloc: Global, bytes: &[u8]) -> Result<Option<u128>, AllocError>
+pub fn grains(alloc: Global, bytes: &[u8]) -> Result<Option<u128>, AllocError>
     ensures { IfOk result (λ found. found ≡ grains_of bytes.now) }
 {
     let Some(value) = decimal_value(bytes) else {

@@ -1,6 +1,6 @@
 use Rattle.std.proofs.Common.{take}
-use Rattle.cert_format.specs.Answers.{Lacks}
-use Rattle.cert_format.proofs.lines.cut.Given as goal
+use Rattle.plan_words.specs.Cuts.{Lacks}
+use Rattle.plan_words.proofs.lines.cut.Given as goal
 
 -- the byte has not stood there yet
 abbrev pub invariant-loop-place : goal.invariant-loop-place

@@ -12,8 +12,8 @@ use Rattle.std.proofs.lemmas.List.{append-nil, drop_more, drop_all}
 use Rattle.std.proofs.lemmas.Slice.Eq.{bytes_eq-Decides}
 use Rattle.std.proofs.lemmas.Fmt.{decimal_is_IsNumeral_wide}
 use Rattle.std.proofs.lemmas.Str.Parse.{digit_from_value}
-use Rattle.cert_format.specs.Words.{◌>>=◌, numerals, behind, onto_words, words_of, each, read_by, number_of, numbers_behind, numbers_in, numbers_of}
-use Rattle.cert_format.specs.Answers.{Lacks, StartsWith, IsCutAt}
+use Rattle.plan_words.specs.Words.{◌>>=◌, numerals, behind, onto_words, words_of, each, read_by, number_of, numbers_behind, numbers_in, numbers_of}
+use Rattle.plan_words.specs.Cuts.{Lacks, StartsWith, IsCutAt}
 
 -- ---- options
 
