@@ -8,7 +8,7 @@ use Rattle.proof_tree.specs.declared.tree.TreeNode.{TreeNode}
 use Rattle.proof_tree.specs.declared.tree.TreeNode.TheVariants.{Split, Leaf}
 use Rattle.cert_format.specs.Lists.{is_among, with_list, with_some, prices_at, gathered, lists_of}
 use Rattle.cert_format.specs.Grammar.{AreWithin, HasRecordFields}
-use Rattle.cert_format.specs.Written.{HasFieldsBesides}
+use Rattle.cert_format.specs.Written.{HasShownFields}
 
 abbrev AreInFields : List (List ℕ) → Type 0
 AreInFields lists = AllByRecursion (AreWithin 128) lists
@@ -49,22 +49,22 @@ unfolding gathered
 all-kept lists [] h = h
 all-kept lists (node ∷ nodes) h = kept lists (prices_at node) (all-kept (with_some lists (prices_at node)) nodes h)
 
-record-fields : (lists : List (List ℕ)) (node : TreeNode) → HasFieldsBesides node → AreInFields (with_some lists (prices_at node)) → HasRecordFields node
-record-fields lists (Split demand at left right) h k = h
-record-fields lists (Leaf (Bound ps)) h k = in-by lists ps k
-record-fields lists (Leaf Routed) h k = tt
-record-fields lists (Leaf (Overfull link)) h k = h
-record-fields lists (Leaf (Cut demand reached)) h k = h
-record-fields lists (Leaf (Crowd ps)) h k = in-by lists ps k
-record-fields lists (Leaf (Open ps)) h k = in-by lists ps k
+record-fields : (all lists : List (List ℕ)) (node : TreeNode) → HasShownFields all node → AreInFields (with_some lists (prices_at node)) → HasRecordFields node
+record-fields all lists (Split demand at left right) h k = h
+record-fields all lists (Leaf (Bound ps)) h k = in-by lists ps k
+record-fields all lists (Leaf Routed) h k = tt
+record-fields all lists (Leaf (Overfull link)) h k = h
+record-fields all lists (Leaf (Cut demand reached)) h k = h
+record-fields all lists (Leaf (Crowd ps)) h k = in-by lists ps k
+record-fields all lists (Leaf (Open ps)) h k = in-by lists ps k
 
-fields-from : (lists : List (List ℕ)) (nodes : List TreeNode) → AllByRecursion HasFieldsBesides nodes → AreInFields (gathered lists nodes) → AllByRecursion HasRecordFields nodes
+fields-from : (all lists : List (List ℕ)) (nodes : List TreeNode) → AllByRecursion (HasShownFields all) nodes → AreInFields (gathered lists nodes) → AllByRecursion HasRecordFields nodes
 unfolding gathered
-fields-from lists [] h k = tt
-fields-from lists (node ∷ nodes) h k = (
-  record-fields lists node h.0 (all-kept (with_some lists (prices_at node)) nodes k),
-  fields-from (with_some lists (prices_at node)) nodes h.1 k,
+fields-from all lists [] h k = tt
+fields-from all lists (node ∷ nodes) h k = (
+  record-fields all lists node h.0 (all-kept (with_some lists (prices_at node)) nodes k),
+  fields-from all (with_some lists (prices_at node)) nodes h.1 k,
 )
 
-pub all_fields : (nodes : List TreeNode) (lists : List (List ℕ)) → lists ≡ lists_of nodes → AllByRecursion (AreWithin 128) lists → AllByRecursion HasFieldsBesides nodes → AllByRecursion HasRecordFields nodes
-all_fields nodes lists same h k = fields-from [] nodes k (subst AreInFields same h)
+pub all_fields : (nodes : List TreeNode) (lists : List (List ℕ)) → lists ≡ lists_of nodes → AllByRecursion (AreWithin 128) lists → AllByRecursion (HasShownFields lists) nodes → AllByRecursion HasRecordFields nodes
+all_fields nodes lists same h k = fields-from lists [] nodes k (subst AreInFields same h)

@@ -8,8 +8,8 @@ ghost use Rattle.cert_format.specs.declared.form.Form.TheVariants.{Second};
 ghost use Rattle.cert_format.specs.Lists.{number_in, numbered, shown};
 ghost use Rattle.plan_words.specs.Lines.{whole, line_text};
 ghost use Rattle.plan_words.specs.Words.{numerals, row};
-ghost use Rattle.cert_format.specs.Grammar.{arc_numbers, counted, both_text, size_line, status_line, cost_line, signed_text, bound_line, path_line, modules_line, members, leaf_line, record_line, design_lines, bound_lines, head_lines, price_line, price_lines, AreWithin, AreArcs, HasRecordFields, HasDesignFields, IsBoundField, HasFields, SpellsPlan, plan_text};
-ghost use Rattle.cert_format.specs.Written.{lines_text, written_tree, HasOtherFields, HasFieldsBesides, Appends};
+ghost use Rattle.cert_format.specs.Grammar.{arc_numbers, counted, both_text, size_line, status_line, cost_line, signed_text, bound_line, path_line, modules_line, members, leaf_line, record_line, design_lines, bound_lines, head_lines, price_line, price_lines, AreWithin, AreArcs, HasLeafFields, HasRecordFields, HasDesignFields, IsBoundField, HasFields, SpellsPlan, plan_text};
+ghost use Rattle.cert_format.specs.Written.{lines_text, written_tree, HasShownFields, Appends};
 
 use crate::lists::Lists;
 use crate::numbering::lists_of;
@@ -329,8 +329,9 @@ fn push_number_of(
     prices: &[u128],
     out: &mut Vec<u8>,
 ) -> Result<(), AllocError>
-    ensures { Appends result out.old.items out.new.items
+    ensures text { Appends result out.old.items out.new.items
         (line_text (whole (row word.now (number_in lists.now prices.now ∷ [])))) }
+    ensures fields { OnOk result (AreWithin 128 (number_in lists.now prices.now ∷ [])) }
 {
     push_row(word, &[lists.number_of(prices) as u128], out)
 }
@@ -344,7 +345,7 @@ fn push_leaf(
     out: &mut Vec<u8>,
 ) -> Result<(), AllocError>
     ensures text { Appends result out.old.items out.new.items (line_text (whole (leaf_line (numbered lists.now evidence.now)))) }
-    ensures fields { OnOk result (HasOtherFields evidence.now) }
+    ensures fields { OnOk result (HasLeafFields (numbered lists.now evidence.now)) }
 {
     match evidence {
         Evidence::Bound(prices) => push_number_of(b"PRICED", lists, prices.as_slice(), out),
@@ -386,7 +387,7 @@ fn push_record(
     out: &mut Vec<u8>,
 ) -> Result<(), AllocError>
     ensures text { Appends result out.old.items out.new.items (line_text (whole (record_line (shown Second lists.now node.now)))) }
-    ensures fields { OnOk result (HasFieldsBesides node.now) }
+    ensures fields { OnOk result (HasShownFields lists.now node.now) }
 {
     match node {
         TreeNode::Split {
@@ -414,7 +415,7 @@ fn push_records(
     out: &mut Vec<u8>,
 ) -> Result<(), AllocError>
     ensures text { Appends result out.old.items out.new.items (lines_text (map (λ node. record_line (shown Second lists.now node)) nodes.now)) }
-    ensures fields { OnOk result (AllByRecursion HasFieldsBesides nodes.now) }
+    ensures fields { OnOk result (AllByRecursion (HasShownFields lists.now) nodes.now) }
 {
     for node in nodes {
         push_record(alloc, lists, node, out)?;
