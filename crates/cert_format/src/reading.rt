@@ -505,7 +505,9 @@ fn whole_plan(alloc: Global, text: &[u8]) -> Result<Plan, Stop>
 ///   line without its end too; `Ended`, exactly where all lines can stand and a further one must
 ///   follow; `OutOfMemory` may stand in place of any answer.
 /// - Rule: docs/FORMATS.md, "Plan texts".
-/// - Time: linear in the text and in the prices of the plan, unless many price lists have one hash.
+/// - Time: linear in the text and in the prices of all records, each with a copy of its list, at most 134 MB in all.
+///   Each clash of two price lists in their hash adds a comparison of them; the hash has a fixed seed, so a text can
+///   be made for clashes.
 #[tactic(auto, using(crate::proofs::OneFault::answers_plan, crate::proofs::OneFault::answers_fault, crate::proofs::OneFault::answers_only_plan, crate::proofs::OneFault::answers_only_fault))]
 pub fn read_plan(alloc: Global, text: &[u8]) -> Result<Plan, PlanFault>
     requires length { length text.now ≤ MAX_PLAN_BYTES }

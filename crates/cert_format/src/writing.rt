@@ -441,7 +441,8 @@ fn push_tree(alloc: Global, nodes: &[TreeNode], out: &mut Vec<u8>) -> Result<(),
 /// - Gives: the lines of the plan, each with its line end; `read_plan` answers this plan for them.
 /// - Errors: want of memory alone.
 /// - Rule: docs/FORMATS.md, "Plan texts".
-/// - Time: linear in the text and in the prices of the plan.
+/// - Time: linear in the text and in the prices of all records. Each clash of two price lists in their hash adds a
+///   comparison of them; the hash has a fixed seed, so a plan can be made for clashes.
 #[tactic(auto, using(crate::proofs::TextBound::text_within))]
 pub fn write_plan(alloc: Global, plan: &Plan) -> Result<Vec<u8>, AllocError>
     requires fits { IsSpellable plan.now }
