@@ -1,5 +1,5 @@
 -- The main statement of the program that draws plans: picture_run of src/running.rt has it as its contract.
-use Rattle.std.specs.Prelude.{ℕ, ◌≡◌, ◌≢◌, ◌<◌, List, [], ◌∷◌, length, codes, if◌then◌else◌, Option, Some, None, IsSomeAnd}
+use Rattle.std.specs.Prelude.{ℕ, ◌≡◌, ◌≢◌, ◌<◌, ◌⊎◌, List, [], ◌∷◌, length, codes, if◌then◌else◌, Option, Some, None, IsSomeAnd}
 use Rattle.std.specs.Str.{bytes_eq}
 use Rattle.plan_base.specs.declared.parts.Parts.{Parts}
 use Rattle.snd_network.specs.declared.file.NetworkFile.{NetworkFile}
@@ -11,7 +11,7 @@ use Rattle.plan_texts.specs.declared.status.Status.TheVariants.{Good, Usage, Rej
 use Rattle.plan_texts.specs.Answers.{IsRejection}
 use Rattle.plan_texts.specs.Refusals.{HoldsOfProblem, Counts}
 use Rattle.plan_texts.specs.Texts.{Name, Told, Texts, three}
-use Rattle.text_runs.specs.Endings.{IsTextRun}
+use Rattle.run_ends.specs.Ends.{IsTextRun}
 use Rattle.plan_picture.specs.Pictures.{IsPicture}
 
 -- how the program is called
@@ -66,3 +66,7 @@ IsDrawn name texts status bytes = HoldsOfProblem texts (λ net p plan. IsSomeAnd
 -- a run of these words ends with the picture that they ask for, with a refusal of words, texts or plan, with a front of such an answer, or with nothing
 abbrev pub IsPictureRun : List Name → Told → Counts → ℕ → ℕ → Option (List ℕ) → Option (List ℕ) → Status → Type 0
 IsPictureRun words shelf counts begins_before begins_now before now status = IsTextRun usage_line (IsDrawn (lit_in words)) (names_in words) shelf counts begins_before begins_now before now status
+
+-- the statuses of a drawing
+abbrev pub IsEndOfDrawing : Status → Type 0
+IsEndOfDrawing status = (status ≡ Good) ⊎ (status ≡ Rejected) ⊎ (status ≡ Usage)

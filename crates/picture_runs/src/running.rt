@@ -8,10 +8,10 @@ ghost use Rattle.plan_report.specs.Reports.{IsReadFrom, HasNames, demand_name};
 ghost use Rattle.plan_texts.specs.Texts.{Begun, three, HoldsOfTexts};
 ghost use Rattle.plan_texts.specs.Refusals.{counts_of};
 ghost use Rattle.plan_texts.specs.Stops.{IsReadStop, TookMore, Stops};
-ghost use Rattle.text_runs.specs.Endings.{IsOwnEnd, IsUsage};
-ghost use Rattle.text_runs.specs.Found.{IsFound};
+ghost use Rattle.run_ends.specs.Ends.{IsOwnEnd};
+ghost use Rattle.run_ends.specs.Found.{IsFound};
 ghost use Rattle.plan_picture.specs.Pictures.{IsPicture};
-ghost use Rattle.picture_runs.specs.PictureRuns.{usage_line, names_in, lit_in, IsMissing, IsDrawnSo, IsDrawn, IsPictureRun};
+ghost use Rattle.picture_runs.specs.PictureRuns.{usage_line, names_in, lit_in, IsMissing, IsDrawnSo, IsDrawn, IsPictureRun, IsEndOfDrawing};
 
 use cert_verifier::{Rejected, verify};
 use plan_base::{DemandId, Instance};
@@ -20,21 +20,12 @@ use plan_picture::picture_text;
 use plan_report::verdict_line;
 use plan_texts::{Answer, Problem, Status, Stop, read_planned, write_answer};
 use proof_tree::Plan;
+use run_ends::{misread, usage};
 use snd_network::NetworkFile;
 use std::alloc::{AllocError, Global};
 
 /// How the program is called.
 const USAGE_LINE: &[u8] = b"usage: sndpicture NET MODEL PLAN [--demand NAME]\n";
-
-/// The answer to words that are not read, or name no demand.
-fn usage(alloc: Global) -> Result<Answer, AllocError>
-    ensures { IfOk result (λ answer. IsUsage usage_line 0 answer.status answer.text.items) }
-{
-    Ok(Answer {
-        status: Status::Usage,
-        text: Vec::from_slice(alloc, USAGE_LINE)?,
-    })
-}
 
 /// The name of a demand.
 fn name_of(net: &NetworkFile, demand: DemandId) -> &[u8]
@@ -96,7 +87,7 @@ fn drawn(
         None => drawing(alloc, problem, plan, None),
         Some(name) => match demand_named(&problem.network, &problem.inst, name) {
             Some(demand) => drawing(alloc, problem, plan, Some(demand)),
-            None => usage(alloc),
+            None => usage(alloc, USAGE_LINE),
         },
     }
 }
@@ -153,24 +144,13 @@ fn draw_plan<S: Shelf>(
     }
 }
 
-/// The answer to words that are not read.
-fn misread(alloc: Global) -> Result<Answer, Stop>
-    ensures usage { IfOk result (λ answer. IsUsage usage_line 0 answer.status answer.text.items) }
-    ensures wanting { IfErr result (λ stop. stop ≡ Stop.OutOfMemory) }
-{
-    match usage(alloc) {
-        Ok(answer) => Ok(answer),
-        Err(AllocError) => Err(Stop::OutOfMemory),
-    }
-}
-
 /// What a run of these words has to say.
 #[tactic(auto, using(crate::proofs::Drawing::found_other_count))]
 fn answer_to<S: Shelf>(alloc: Global, words: &[String], shelf: &mut S) -> Result<Answer, Stop>
     ensures found { IsFound usage_line (IsDrawn (lit_in (map string_bytes words.now)))
-        (names_in (map string_bytes words.now)) (S.text shelf.old) (S.begins shelf.old) (S.begins shelf.new) result }
-    ensures read_fault { IfErr result (λ stop. IsReadStop stop → Rose (S.faults shelf.old) (S.faults shelf.new)) }
-    ensures too_long { IfErr result (TookMore (S.taken shelf.new)) }
+        (names_in (map string_bytes words.now)) (S.text shelf.old)
+        (counts_of (S.faults shelf.old) (S.faults shelf.new) (S.taken shelf.new))
+        (S.begins shelf.old) (S.begins shelf.new) result }
     ensures later { S.faults shelf.old ≤ S.faults shelf.new }
 {
     match words {
@@ -186,7 +166,7 @@ fn answer_to<S: Shelf>(alloc: Global, words: &[String], shelf: &mut S) -> Result
         }
         [network, model, plan, option, name] => {
             if option.as_str() != "--demand" {
-                return misread(alloc);
+                return misread(alloc, USAGE_LINE);
             }
             draw_plan(
                 alloc,
@@ -197,7 +177,7 @@ fn answer_to<S: Shelf>(alloc: Global, words: &[String], shelf: &mut S) -> Result
                 shelf,
             )
         }
-        _ => misread(alloc),
+        _ => misread(alloc, USAGE_LINE),
     }
 }
 
@@ -208,8 +188,8 @@ fn answer_to<S: Shelf>(alloc: Global, words: &[String], shelf: &mut S) -> Result
 ///   to.
 /// - Gives: how the run ended.
 /// - Rule: docs/FORMATS.md, "Pictures".
-/// - Time: linear in the texts' bytes, that of verifying the plan, and that of drawing it.
-#[tactic(auto, using(text_runs::proofs::Ending::own_end, text_runs::proofs::Ending::read_rose, text_runs::proofs::Ending::no_write_fault, crate::proofs::Drawing::drawn_ends))]
+/// - Time: that of `plan_texts::verify_plan`, and that of drawing the plan.
+#[tactic(auto, using(run_ends::proofs::Ending::read_rose, run_ends::proofs::Ending::no_write_fault, crate::proofs::Drawing::drawn_ends))]
 pub fn picture_run<S: Shelf, W: Sink>(
     alloc: Global,
     words: &[String],
@@ -223,7 +203,7 @@ pub fn picture_run<S: Shelf, W: Sink>(
     ensures write_fault { result ≡ Status.WriteFault → Rose (W.faults out.old) (W.faults out.new) }
 
     // There is no other answer, unless something outside failed.
-    ensures complete { IsOwnEnd result
+    ensures complete { IsOwnEnd IsEndOfDrawing (names_in (map string_bytes words.now)) result
         ⊎ Rose (S.faults shelf.old) (S.faults shelf.new) ⊎ Rose (W.faults out.old) (W.faults out.new) }
     ensures shelf_later { S.faults shelf.old ≤ S.faults shelf.new }
     ensures sink_later { W.faults out.old ≤ W.faults out.new }

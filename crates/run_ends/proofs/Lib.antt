@@ -1,0 +1,3 @@
+pub mod Items
+pub mod Finding
+pub mod Ending

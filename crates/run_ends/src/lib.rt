@@ -1,0 +1,13 @@
+//! How a run of a program about named texts ends, whatever the program does with them.
+//!
+//! A program is its usage line and its work. Promises, of any: that its status says what was begun and written, that each
+//! answer has its cause, and that it has no other ends unless something outside fails. Begin at `specs/Ends.antt`;
+//! `proofs/Ending.antt` has the lemmas for the top call of a program, `proofs/Finding.antt` those for what it finds.
+//! Stands on `plan_texts`; what the program does is left to the crates above.
+#![tactic(auto)]
+
+mod unread;
+mod words;
+
+pub use unread::{misread, usage};
+pub use words::words_given;
