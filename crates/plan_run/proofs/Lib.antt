@@ -1,7 +1,7 @@
 mod SearchLaws
 mod PlannedTexts
 mod Finding
-mod Says
+mod WorkEnds
 mod Planned
 mod Supported
 mod Covered

@@ -1,10 +1,11 @@
 -- Where the texts of a command are supported, nothing refuses them.
-use Rattle.std.proofs.Common.{◌≡◌, ◌<◌, ◌≤◌, ◌⊎◌, ℕ, List, length, Option, Some, None, refl, sym, subst, ◌∙◌, arith, inl, inr}
+use Rattle.std.proofs.Common.{◌≡◌, ◌<◌, ◌≤◌, ◌⊎◌, ℕ, List, length, Option, Some, None, option_map, refl, sym, subst, ◌∙◌, arith, inl, inr}
 use Rattle.std.specs.Prelude.{IfSome, IsSomeAnd}
 use Rattle.plan_report.specs.declared.run_fault.FileKind.{FileKind}
 use Rattle.plan_report.specs.declared.run_fault.FileKind.TheVariants as files
 use Rattle.plan_report.specs.declared.run_fault.RunFault.{RunFault}
 use Rattle.plan_report.specs.declared.run_fault.RunFault.TheVariants as faults
+use Rattle.plan_report.specs.Lines.{fault_line}
 use Rattle.command_words.specs.declared.command.Command.{Command}
 use Rattle.command_words.specs.Words.{Word, command_in}
 use Rattle.plan_texts.specs.declared.status.Status.{Status}
@@ -14,9 +15,10 @@ use Rattle.plan_texts.specs.Texts.{Text, Name, Told, Texts, most_bytes, IsKindRe
 use Rattle.plan_texts.specs.Refusals.{AreRefused, IsTooLong, IsRefusalOf, Counts}
 use Rattle.plan_texts.specs.OneAnswer.{Below}
 use Rattle.plan_texts.proofs.OneRefusal.{refused_or_read}
-use Rattle.plan_run.specs.Runs.{names_of, IsDoneBy, IsRefusedBy, IsRefusal, IsAnswer, Says}
-use Rattle.plan_run.specs.Supports.{IsKindTold, AreToldWell, AreSupported, EndsWith}
-use Rattle.plan_run.proofs.Says.{done-ends}
+use Rattle.run_ends.specs.Ends.{IsAnswer, Says}
+use Rattle.plan_run.specs.Runs.{names_of, IsDone}
+use Rattle.plan_run.specs.Supports.{IsKindTold, AreToldWell, AreSupported, EndsWith, SaysOf}
+use Rattle.plan_run.proofs.WorkEnds.{done-ends}
 
 -- a text that was read is the one that is told
 one-text : (told : Option Text) (text other : Text) → told ≡ Some other → IfSome told (λ t. text ≡ t) → text ≡ other
@@ -70,40 +72,34 @@ only-read below shelf names begun (faults.LoopDemand demand) s refusal = absurd 
 only-read below shelf names begun (faults.Unsupported key value) s refusal = absurd (not-refused below shelf names begun (faults.Unsupported key value) s refusal)
 only-read below shelf names begun (faults.OverLimit limit at) s refusal = absurd (not-refused below shelf names begun (faults.OverLimit limit at) s refusal)
 
--- what holds of the words' command holds of this one
-of-words : (words : List Word) (command : Command Word) (Holds : Command Word → Type 0) → command_in words ≡ Some command → IsSomeAnd (command_in words) Holds → Holds command
-of-words words command Holds is h = subst (λ (o : Option (Command Word)). IsSomeAnd o Holds) is h
-
--- words that are read are refused for their texts
-by-command : (words : List Word) (shelf : Told) (begun : ℕ) (command : Command Word) (fault : RunFault) → command_in words ≡ Some command → IsRefusal words shelf begun fault → IsRefusedBy command shelf begun fault
-by-command words shelf begun command faults.Usage is (none, nothing) = let no : ◌≡◌ {A = Option (Command Word)} None (Some command) = sym none ∙ is in absurd cc
-by-command words shelf begun command (faults.Read file) is refusal = of-words words command (λ command. IsRefusedBy command shelf begun (faults.Read file)) is refusal
-by-command words shelf begun command (faults.TooLong file) is refusal = of-words words command (λ command. IsRefusedBy command shelf begun (faults.TooLong file)) is refusal
-by-command words shelf begun command (faults.Text file fault) is refusal = of-words words command (λ command. IsRefusedBy command shelf begun (faults.Text file fault)) is refusal
-by-command words shelf begun command (faults.PlanText rule at) is refusal = of-words words command (λ command. IsRefusedBy command shelf begun (faults.PlanText rule at)) is refusal
-by-command words shelf begun command (faults.LoopLink link) is refusal = of-words words command (λ command. IsRefusedBy command shelf begun (faults.LoopLink link)) is refusal
-by-command words shelf begun command (faults.LoopDemand demand) is refusal = of-words words command (λ command. IsRefusedBy command shelf begun (faults.LoopDemand demand)) is refusal
-by-command words shelf begun command (faults.Unsupported key value) is refusal = of-words words command (λ command. IsRefusedBy command shelf begun (faults.Unsupported key value)) is refusal
-by-command words shelf begun command (faults.OverLimit limit at) is refusal = of-words words command (λ command. IsRefusedBy command shelf begun (faults.OverLimit limit at)) is refusal
-
 -- ---- an answer to supported texts
 
-answer-ends : Below → (words : List Word) (shelf : Told) (counts : Counts) (begun : ℕ) (command : Command Word) (status : Status) (bytes : List ℕ) → AreSupported words shelf command → IsAnswer words shelf counts begun status bytes → EndsWith command status ⊎ (status ≡ ReadFault) ⊎ (status ≡ WriteFault) ⊎ (status ≡ OutOfMemory)
-answer-ends below words shelf counts begun command status bytes s (inl refused) =
-    inr (inl (refused.is_status ∙ only-read below shelf (names_of command) begun refused.fault s.texts (by-command words shelf begun command refused.fault s.asked refused.refusal)))
-answer-ends below words shelf counts begun command status bytes s (inr done) =
-    let did : IsDoneBy command shelf begun status bytes = of-words words command (λ command. IsDoneBy command shelf begun status bytes) s.asked done in
-    inl (done-ends command shelf begun status bytes did)
+-- how supported texts may end
+abbrev EndsFor : Command Word → Status → Type 0
+EndsFor command status = EndsWith command status ⊎ (status ≡ ReadFault) ⊎ (status ≡ WriteFault) ⊎ (status ≡ OutOfMemory)
 
-pub done_where_supported : Below → (words : List Word) (shelf : Told) (counts : Counts) (begun : ℕ) (command : Command Word) (status : Status) (bytes : List ℕ) → AreSupported words shelf command → Says words shelf counts begun status bytes → EndsWith command status ⊎ (status ≡ ReadFault) ⊎ (status ≡ WriteFault) ⊎ (status ≡ OutOfMemory)
-done_where_supported below words shelf counts begun command WriteFault bytes s says = inr (inr (inl refl))
-done_where_supported below words shelf counts begun command OutOfMemory bytes s says = inr (inr (inr refl))
-done_where_supported below words shelf counts begun command Good bytes s says = answer-ends below words shelf counts begun command Good bytes s says
-done_where_supported below words shelf counts begun command Usage bytes s says = answer-ends below words shelf counts begun command Usage bytes s says
-done_where_supported below words shelf counts begun command BadText bytes s says = answer-ends below words shelf counts begun command BadText bytes s says
-done_where_supported below words shelf counts begun command Unsupported bytes s says = answer-ends below words shelf counts begun command Unsupported bytes s says
-done_where_supported below words shelf counts begun command OverLimit bytes s says = answer-ends below words shelf counts begun command OverLimit bytes s says
-done_where_supported below words shelf counts begun command ReadFault bytes s says = inr (inl refl)
-done_where_supported below words shelf counts begun command Infeasible bytes s says = answer-ends below words shelf counts begun command Infeasible bytes s says
-done_where_supported below words shelf counts begun command Undecided bytes s says = answer-ends below words shelf counts begun command Undecided bytes s says
-done_where_supported below words shelf counts begun command Rejected bytes s says = answer-ends below words shelf counts begun command Rejected bytes s says
+answer-ends : Below → (shelf : Told) (counts : Counts) (begun : ℕ) (command : Command Word) (status : Status) (bytes : List ℕ) → AreToldWell shelf (names_of command)
+    → IsAnswer (fault_line faults.Usage) (IsDone command) (Some (names_of command)) shelf counts begun status bytes → EndsFor command status
+answer-ends below shelf counts begun command status bytes s (inl refused) =
+    inr (inl (refused.is_status ∙ only-read below shelf (names_of command) begun refused.fault s refused.refusal))
+answer-ends below shelf counts begun command status bytes s (inr done) = inl (done-ends command done.texts status bytes done.holds)
+
+says-ends : Below → (shelf : Told) (counts : Counts) (begun : ℕ) (command : Command Word) (status : Status) (bytes : List ℕ) → AreToldWell shelf (names_of command)
+    → Says (fault_line faults.Usage) (IsDone command) (Some (names_of command)) shelf counts begun status bytes → EndsFor command status
+says-ends below shelf counts begun command WriteFault bytes s says = inr (inr (inl refl))
+says-ends below shelf counts begun command OutOfMemory bytes s says = inr (inr (inr refl))
+says-ends below shelf counts begun command ReadFault bytes s says = inr (inl refl)
+says-ends below shelf counts begun command Good bytes s says = answer-ends below shelf counts begun command Good bytes s says
+says-ends below shelf counts begun command Usage bytes s says = answer-ends below shelf counts begun command Usage bytes s says
+says-ends below shelf counts begun command BadText bytes s says = answer-ends below shelf counts begun command BadText bytes s says
+says-ends below shelf counts begun command Unsupported bytes s says = answer-ends below shelf counts begun command Unsupported bytes s says
+says-ends below shelf counts begun command OverLimit bytes s says = answer-ends below shelf counts begun command OverLimit bytes s says
+says-ends below shelf counts begun command Infeasible bytes s says = answer-ends below shelf counts begun command Infeasible bytes s says
+says-ends below shelf counts begun command Undecided bytes s says = answer-ends below shelf counts begun command Undecided bytes s says
+says-ends below shelf counts begun command Rejected bytes s says = answer-ends below shelf counts begun command Rejected bytes s says
+
+pub done_where_supported : Below → (words : List Word) (shelf : Told) (counts : Counts) (begun : ℕ) (command : Command Word) (status : Status) (bytes : List ℕ) → AreSupported words shelf command
+    → SaysOf words shelf counts begun status bytes → EndsFor command status
+done_where_supported below words shelf counts begun command status bytes s says =
+    says-ends below shelf counts begun command status bytes s.texts
+    (subst (λ (o : Option (Command Word)). Says (fault_line faults.Usage) (λ texts status bytes. IsSomeAnd o (λ c. IsDone c texts status bytes)) (option_map names_of o) shelf counts begun status bytes) s.asked says)

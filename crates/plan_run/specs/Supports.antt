@@ -1,7 +1,9 @@
 -- Texts that are supported: what a command ends with where it does its work for them.
-use Rattle.std.specs.Prelude.{◌≡◌, ◌≤◌, ◌⊎◌, List, length, Option, Some, None}
+use Rattle.std.specs.Prelude.{ℕ, ◌≡◌, ◌≤◌, ◌⊎◌, List, length, Option, Some, None, IsSomeAnd}
 use Rattle.plan_report.specs.declared.run_fault.FileKind.{FileKind}
 use Rattle.plan_report.specs.declared.run_fault.FileKind.TheVariants as files
+use Rattle.plan_report.specs.declared.run_fault.RunFault.TheVariants as faults
+use Rattle.plan_report.specs.Lines.{fault_line}
 use Rattle.command_words.specs.declared.command.Command.{Command}
 use Rattle.command_words.specs.declared.command.Command.TheVariants.{OfNetwork, OfPlan, Upgrade, OfSample}
 use Rattle.command_words.specs.declared.command.NetworkWork.TheVariants.{Plan, Check}
@@ -10,8 +12,9 @@ use Rattle.command_words.specs.Words.{Word, command_in}
 use Rattle.plan_texts.specs.declared.status.Status.{Status}
 use Rattle.plan_texts.specs.declared.status.Status.TheVariants.{Good, Rejected, Infeasible, Undecided}
 use Rattle.plan_texts.specs.Texts.{Text, Name, Told, Texts, most_bytes}
-use Rattle.plan_texts.specs.Refusals.{AreGood}
-use Rattle.plan_run.specs.Runs.{names_of}
+use Rattle.plan_texts.specs.Refusals.{AreGood, Counts}
+use Rattle.run_ends.specs.Ends.{Says}
+use Rattle.plan_run.specs.Runs.{names_of, names_in, IsDoneSo}
 
 -- the shelf tells this text of this name, and it is within the limit of its kind
 pub record IsTold (shelf : Told) (file : FileKind) (name : Name) (text : Text) : Type 0 where
@@ -45,3 +48,11 @@ EndsWith (OfPlan work network model plan) status = (status ≡ Good) ⊎ (status
 EndsWith (Upgrade plan) status = status ≡ Good
 EndsWith (OfSample Sample key) status = status ≡ Good
 EndsWith (OfSample Trial key) status = (status ≡ Good) ⊎ (status ≡ Infeasible) ⊎ (status ≡ Undecided)
+
+-- how a run of these words ends that does what they ask for
+abbrev pub IsEndOfWork : List Word → Status → Type 0
+IsEndOfWork words status = IsSomeAnd (command_in words) (λ command. EndsWith command status)
+
+-- what each status says of the texts begun and of the bytes written, in a run of these words
+abbrev pub SaysOf : List Word → Told → Counts → ℕ → Status → List ℕ → Type 0
+SaysOf words shelf counts begun status bytes = Says (fault_line faults.Usage) (IsDoneSo words) (names_in words) shelf counts begun status bytes

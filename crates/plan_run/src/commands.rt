@@ -1,10 +1,9 @@
 //! The commands, each a call of its own.
 
-ghost use Rattle.std.specs.Prelude.{◌≤◌, map, string_bytes, IfErr};
-ghost use Rattle.plan_io.specs.Causes.{Rose};
+ghost use Rattle.std.specs.Prelude.{◌≤◌, map, string_bytes};
 ghost use Rattle.command_words.specs.Words.{command_now, IsInRange};
-ghost use Rattle.plan_texts.specs.Stops.{IsReadStop, TookMore};
-ghost use Rattle.plan_run.specs.Found.{IsFoundBy, IsFound};
+ghost use Rattle.plan_texts.specs.Refusals.{counts_of};
+ghost use Rattle.plan_run.specs.Found.{IsFoundBy, IsFoundFor};
 
 use crate::planning::plan;
 use crate::samples::make;
@@ -26,9 +25,9 @@ fn do_command<R: Threads + Wait + Sync, S: Shelf, G: Gate>(
     gate: &G,
 ) -> Result<Answer, Stop>
     requires { IsInRange (command_now command) }
-    ensures found { IsFoundBy (command_now command.entry) (S.text shelf.old) (S.begins shelf.old) (S.begins shelf.new) result }
-    ensures read_fault { IfErr result (λ stop. IsReadStop stop → Rose (S.faults shelf.old) (S.faults shelf.new)) }
-    ensures too_long { IfErr result (TookMore (S.taken shelf.new)) }
+    ensures found { IsFoundBy (command_now command.entry) (S.text shelf.old)
+        (counts_of (S.faults shelf.old) (S.faults shelf.new) (S.taken shelf.new))
+        (S.begins shelf.old) (S.begins shelf.new) result }
     ensures later { S.faults shelf.old ≤ S.faults shelf.new }
 {
     match command {
@@ -68,10 +67,9 @@ pub fn answer_to<R: Threads + Wait + Sync, S: Shelf, G: Gate>(
     shelf: &mut S,
     gate: &G,
 ) -> Result<Answer, Stop>
-    ensures found { IsFound (map string_bytes words.now) (S.text shelf.old)
+    ensures found { IsFoundFor (map string_bytes words.now) (S.text shelf.old)
+        (counts_of (S.faults shelf.old) (S.faults shelf.new) (S.taken shelf.new))
         (S.begins shelf.old) (S.begins shelf.new) result }
-    ensures read_fault { IfErr result (λ stop. IsReadStop stop → Rose (S.faults shelf.old) (S.faults shelf.new)) }
-    ensures too_long { IfErr result (TookMore (S.taken shelf.new)) }
     ensures later { S.faults shelf.old ≤ S.faults shelf.new }
 {
     let asked = match command_in(alloc, words) {

@@ -1,11 +1,11 @@
 //! What follows from the contract of the top call.
 
-ghost use Rattle.std.specs.Prelude.{ℕ, List, ◌≡◌, ◌≤◌, ◌⊎◌, length, map, string_bytes, None, Some, IsSome};
+ghost use Rattle.std.specs.Prelude.{ℕ, List, ◌≡◌, ◌≤◌, ◌⊎◌, length, map, string_bytes, None, Some};
 ghost use Rattle.cert_format.specs.declared.limits.TheConstants.{MAX_PLAN_BYTES};
 ghost use Rattle.plan_io.specs.SureShelf.{text_of, begin_count, taken_count};
 ghost use Rattle.plan_report.specs.declared.run_fault.RunFault.{RunFault as AnyFault};
 ghost use Rattle.command_words.specs.declared.command.Command.{Command as AnyCommand};
-ghost use Rattle.command_words.specs.Words.{Word, command_in};
+ghost use Rattle.command_words.specs.Words.{Word};
 ghost use Rattle.plan_texts.specs.declared.status.Status.{Status as AnyStatus};
 ghost use Rattle.plan_texts.specs.declared.status.Status.TheVariants as statuses;
 ghost use Rattle.plan_texts.specs.Texts.{Told, Text, Texts, two, three};
@@ -16,8 +16,9 @@ ghost use Rattle.command_words.specs.declared.command.SampleKey.{SampleKey as An
 ghost use Rattle.plan_run.specs.Budgets.{CoversSplits};
 ghost use Rattle.plan_run.specs.Plans.{IsPlanDone};
 ghost use Rattle.plan_run.specs.Samples.{parts_of, IsTried};
-ghost use Rattle.plan_run.specs.Supports.{AreSupported, EndsWith};
-ghost use Rattle.plan_run.specs.Runs.{IsRun, IsDone, IsOwnAnswer, Says};
+ghost use Rattle.run_ends.specs.Ends.{IsOwnEnd};
+ghost use Rattle.plan_run.specs.Supports.{AreSupported, EndsWith, IsEndOfWork, SaysOf};
+ghost use Rattle.plan_run.specs.Runs.{names_in, IsRun, IsDone};
 
 use crate::top_call::run;
 use cert_format::laws::text_within_limit;
@@ -32,8 +33,8 @@ use std::alloc::Global;
 use std::sync::Wait;
 use std::thread::Threads;
 
-/// Over a shelf and a sink that never fail, a run whose words are read ends with the work done, with a
-/// refusal of its texts, or with want of memory.
+/// Over a shelf and a sink that never fail, a run ends with the work done, with a refusal of its words or texts, or with
+/// want of memory.
 pub fn run_surely<R: Threads + Wait + Sync, G: Gate>(
     rt: &R,
     alloc: Global,
@@ -45,7 +46,7 @@ pub fn run_surely<R: Threads + Wait + Sync, G: Gate>(
     // Over a sink that tells nothing the bytes are free, but the begins and the cause are not.
     ensures answer { IsRun (map string_bytes words.now) (λ name. Some (text_of shelf.old name))
         (counts_of 0 0 (taken_count shelf.new)) (begin_count shelf.old) (begin_count shelf.new) None None result }
-    ensures complete { IsSome (command_in (map string_bytes words.now)) → IsOwnAnswer result }
+    ensures complete { IsOwnEnd (IsEndOfWork (map string_bytes words.now)) (names_in (map string_bytes words.now)) result }
     ensures no_read_fault { result ≡ Status.ReadFault → ⊥ }
     ensures no_write_fault { result ≡ Status.WriteFault → ⊥ }
 {
@@ -92,7 +93,7 @@ pub fn decided_where_covered()
 /// of a plan.
 pub fn done_where_supported()
     ensures { (words : List Word) (shelf : Told) (counts : Counts) (begun : ℕ) (command : AnyCommand Word)
-        (status : AnyStatus) (bytes : List ℕ) → AreSupported words shelf command → Says words shelf counts begun status bytes
+        (status : AnyStatus) (bytes : List ℕ) → AreSupported words shelf command → SaysOf words shelf counts begun status bytes
         → EndsWith command status ⊎ (status ≡ statuses.ReadFault) ⊎ (status ≡ statuses.WriteFault) ⊎ (status ≡ statuses.OutOfMemory) }
 {
     one_answer_below();

@@ -1,10 +1,11 @@
 //! The top call.
 
-ghost use Rattle.std.specs.Prelude.{◌≡◌, ◌≤◌, ◌⊎◌, map, string_bytes, IsSome};
+ghost use Rattle.std.specs.Prelude.{◌≡◌, ◌≤◌, ◌⊎◌, map, string_bytes};
 ghost use Rattle.plan_io.specs.Causes.{Rose};
-ghost use Rattle.command_words.specs.Words.{command_in};
 ghost use Rattle.plan_texts.specs.Refusals.{counts_of};
-ghost use Rattle.plan_run.specs.Runs.{IsRun, IsOwnAnswer};
+ghost use Rattle.run_ends.specs.Ends.{IsOwnEnd};
+ghost use Rattle.plan_run.specs.Runs.{names_in, IsRun};
+ghost use Rattle.plan_run.specs.Supports.{IsEndOfWork};
 
 use crate::commands::answer_to;
 use plan_io::{Gate, Shelf, Sink};
@@ -20,8 +21,8 @@ use std::thread::Threads;
 ///   sink that the answer goes to; a gate that each worker of a `plan` passes with each task.
 /// - Gives: how the run ended.
 /// - Rule: docs/DEFINITIONS.md, "Runs"; docs/FORMATS.md.
-/// - Time: linear in the texts' bytes, and that of the search or of verifying the plan.
-#[tactic(auto, using(crate::proofs::Says::run_says, crate::proofs::Says::own_answer, crate::proofs::Says::read_rose, crate::proofs::Says::no_write_fault))]
+/// - Time: that of reading the texts (`plan_texts::read_planned`), and that of the search or of verifying the plan.
+#[tactic(auto, using(run_ends::proofs::Ending::read_rose, run_ends::proofs::Ending::no_write_fault, crate::proofs::WorkEnds::work_ends))]
 pub fn run<R: Threads + Wait + Sync, S: Shelf, W: Sink, G: Gate>(
     rt: &R,
     alloc: Global,
@@ -36,8 +37,8 @@ pub fn run<R: Threads + Wait + Sync, S: Shelf, W: Sink, G: Gate>(
     ensures read_fault { result ≡ Status.ReadFault → Rose (S.faults shelf.old) (S.faults shelf.new) }
     ensures write_fault { result ≡ Status.WriteFault → Rose (W.faults out.old) (W.faults out.new) }
 
-    // Words that are read have no other answer, unless something outside failed.
-    ensures complete { IsSome (command_in (map string_bytes words.now)) → IsOwnAnswer result
+    // There is no other answer, unless something outside failed.
+    ensures complete { IsOwnEnd (IsEndOfWork (map string_bytes words.now)) (names_in (map string_bytes words.now)) result
         ⊎ Rose (S.faults shelf.old) (S.faults shelf.new) ⊎ Rose (W.faults out.old) (W.faults out.new) }
     ensures shelf_later { S.faults shelf.old ≤ S.faults shelf.new }
     ensures sink_later { W.faults out.old ≤ W.faults out.new }
