@@ -3,23 +3,13 @@
 
 use picture_runs::{Status, picture_run};
 use plan_io::{FileShelf, OutSink};
+use run_ends::words_given;
+use std::io;
 use std::process::ExitCode;
-use std::{env, io};
-
-/// The words after the program's name.
-fn words_given(rt: &HostRuntime) -> io::Result<Vec<String>> {
-    let words = env::args(rt)?.skip(1).collect(rt.alloc())?;
-    Ok(words)
-}
 
 fn main(rt: HostRuntime) -> ExitCode {
-    let words = match words_given(&rt) {
-        Ok(words) => words,
-        Err(error) if error.kind() == io::ErrorKind::OutOfMemory => {
-            return ExitCode::from(Status::OutOfMemory.number());
-        }
-        // A word that is not UTF-8 is none that is read.
-        Err(_) => Vec::new(rt.alloc()),
+    let Ok(words) = words_given(&rt) else {
+        return ExitCode::from(Status::OutOfMemory.number());
     };
     let mut shelf = FileShelf::new(&rt);
     let mut out = OutSink::new(io::writer(&rt));

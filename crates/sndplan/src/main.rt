@@ -3,25 +3,14 @@
 
 use plan_io::{FileShelf, OutSink};
 use plan_run::{Status, run};
+use run_ends::words_given;
 use run_progress::Progress;
-use std::io::IsTerminal;
+use std::io::{self, IsTerminal};
 use std::process::ExitCode;
-use std::{env, io};
-
-/// The words after the program's name.
-fn words_given(rt: &HostRuntime) -> io::Result<Vec<String>> {
-    let words = env::args(rt)?.skip(1).collect(rt.alloc())?;
-    Ok(words)
-}
 
 fn main(rt: HostRuntime) -> ExitCode {
-    let words = match words_given(&rt) {
-        Ok(words) => words,
-        Err(error) if error.kind() == io::ErrorKind::OutOfMemory => {
-            return ExitCode::from(Status::OutOfMemory.number());
-        }
-        // A word that is not UTF-8 is none that is read.
-        Err(_) => Vec::new(rt.alloc()),
+    let Ok(words) = words_given(&rt) else {
+        return ExitCode::from(Status::OutOfMemory.number());
     };
     let is_terminal = rt.stderr().is_terminal();
     let progress = Progress::new(rt.alloc(), &rt, rt.stderr(), is_terminal);
