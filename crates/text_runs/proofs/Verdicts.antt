@@ -1,5 +1,5 @@
 -- From the words of the verifier and a verdict to how a run ends.
-use Rattle.std.proofs.Common.{map, ◌≡◌, ◌≤◌, ◌<◌, ◌⊎◌, ℕ, List, [], ◌∷◌, length, get_or, Option, Some, None, Result, Ok, Err, refl, arith, inl, inr}
+use Rattle.std.proofs.Common.{map, ◌≡◌, ◌≤◌, ◌<◌, ℕ, List, [], ◌∷◌, length, get_or, Some, None, Result, refl, arith}
 use Rattle.std.specs.Prelude.{IfOk, IfErr}
 use Rattle.plan_texts.specs.declared.answer.Answer.{Answer}
 use Rattle.plan_texts.specs.declared.stop.Stop.{Stop}
