@@ -24,7 +24,8 @@ second true true h = absurd (let bad : false ≡ true = h in cc)
 second true false h = refl
 second false b h = absurd (let bad : false ≡ true = h in cc)
 
-IsPermittedPath-usable : (p : Parts) (prices : List ℕ) (k : ℕ) (r : Forbidden) (arcs : List ArcId) → least.IsUsablePath p (weights_below p prices k r (2 * length p.links)) (demand_at p k).source (demand_at p k).target arcs → IsPermittedPath p r k arcs
+-- a usable path is a permitted path of the demand
+pub IsPermittedPath-usable : (p : Parts) (prices : List ℕ) (k : ℕ) (r : Forbidden) (arcs : List ArcId) → least.IsUsablePath p (weights_below p prices k r (2 * length p.links)) (demand_at p k).source (demand_at p k).target arcs → IsPermittedPath p r k arcs
 IsPermittedPath-usable p prices k r arcs h = record {
   simple = record {
     are_arcs = h.simple.are_arcs;
@@ -35,7 +36,8 @@ IsPermittedPath-usable p prices k r arcs h = record {
   permitted = All-from_get_or (λ a. r k a ≡ false) arcs no_arc (λ i within. second (is_arc p (arc_at arcs i)) (r k (arc_at arcs i)) (open-IsUsable p prices k r (arc_at arcs i) (h.usable i within)));
 }
 
-price_of-usable : (p : Parts) (prices : List ℕ) (k : ℕ) (r : Forbidden) (arcs : List ArcId) → least.IsUsablePath p (weights_below p prices k r (2 * length p.links)) (demand_at p k).source (demand_at p k).target arcs → price_of p prices arcs ≡ least.weight_of (weights_below p prices k r (2 * length p.links)) arcs
+-- its weight is its price
+pub price_of-usable : (p : Parts) (prices : List ℕ) (k : ℕ) (r : Forbidden) (arcs : List ArcId) → least.IsUsablePath p (weights_below p prices k r (2 * length p.links)) (demand_at p k).source (demand_at p k).target arcs → price_of p prices arcs ≡ least.weight_of (weights_below p prices k r (2 * length p.links)) arcs
 price_of-usable p prices k r arcs h =
     let ws = weights_below p prices k r (2 * length p.links) in
     sum_by-same (price_at p prices) (least.weight_at ws) arcs (λ i within. sym (weight_at-open p prices k r (arc_at arcs i) (open-IsUsable p prices k r (arc_at arcs i) (h.usable i within))))

@@ -4,7 +4,7 @@ mod WalkLaws
 mod WalkEnds
 mod ShownLaws
 pub mod FaultLaws
-mod WeightLaws
-mod FoundLaws
+pub mod WeightLaws
+pub mod FoundLaws
 mod PriceSums
 mod ArcPrices
