@@ -2,6 +2,7 @@
 
 mod columns;
 mod comparing;
+mod limits;
 mod links;
 mod listing;
 mod networks;

@@ -1,15 +1,16 @@
 //! Calls the layers below the search over small networks, and writes what they answer.
 //!
 //! The file of rows, whose name is the program's one word, has networks and questions about them: what loads cost on a
-//! link, what prices are worth, ways of least weight, least paths, columns, what a restriction allows and leaves, and
-//! splits of a tree. To add one, write it there in the form that the head of the file explains, and the answer, worked
+//! link, what prices are worth, ways of least weight, least paths with and without a limit on arcs, columns, what a
+//! restriction allows and leaves, and splits of a tree. To add one, write it there in the form that the head of the file explains, and the answer, worked
 //! out by hand, at the same place of the file `stdout`. Three rows compare the answers for made links, networks and
 //! columns with plain twins (`made`). Begin at `tell_about`. Stands on `link_steps`, `least_path`, `arc_restrict`,
-//! `path_pricing`, `second_path`, `column_pool` and `branch_tree`, and promises nothing of its own.
+//! `path_pricing`, `hop_pricing`, `second_path`, `column_pool` and `branch_tree`, and promises nothing of its own.
 #![tactic(auto)]
 
 mod asking;
 mod columns;
+mod limits;
 mod made;
 mod paths;
 mod restricting;
@@ -37,6 +38,8 @@ fn tell_about(question: Question<'_>, text: &mut String) -> Option<()> {
         "price" => paths::tell_price(question, Body::Heap, text),
         "slow" => paths::tell_price(question, Body::Walk, text),
         "least" => paths::tell_least(question, text),
+        "within" => limits::tell_within(question, text),
+        "fewest" => limits::tell_fewest(question, text),
         "columns" => columns::tell_columns(question, text),
         "allowed" => paths::tell_allowed(question, text),
         "left" => paths::tell_left(question, text),

@@ -1,6 +1,7 @@
-//! Least paths by both searches.
+//! Least paths by both searches, and those within a limit.
 
 use arc_restrict::Restriction;
+use hop_pricing::{Within, least_within};
 use path_pricing::{Priced, check_priced, price, price_slow};
 use plan_base::{DemandId, Instance, Prices};
 use std::alloc::Global;
@@ -34,6 +35,16 @@ pub(crate) fn searched(asked: Asked<'_>, demand: DemandId, body: Body) -> Option
     };
     check_priced(inst, prices, demand, asked.restriction, &found).ok()?;
     Some(found)
+}
+
+/// A least path of the demand within a limit on arcs. None where the demand or the prices are not the network's, and where
+/// memory is wanting.
+pub(crate) fn found_within(asked: Asked<'_>, demand: DemandId, hops: u64) -> Option<Within> {
+    let (inst, prices) = (asked.inst, asked.prices);
+    if demand.0 >= inst.demands() || !prices.fits(inst) {
+        return None;
+    }
+    least_within(asked.alloc, inst, prices, demand, asked.restriction, hops).ok()
 }
 
 /// The price of what is found, where it is a path.

@@ -1,11 +1,12 @@
-//! Whether least paths, those of trees, and what a restriction leaves are as the lists of all paths tell. Where memory is
-//! wanting nothing is as it should be.
+//! Whether least paths, those within limits, those of trees, and what a restriction leaves are as the lists of all paths
+//! tell. Where memory is wanting nothing is as it should be.
 
 ghost use Rattle.std.specs.Prelude.{◌<◌, length};
 ghost use Rattle.arc_restrict.specs.Rows.{forbids};
 ghost use Rattle.arc_restrict.specs.Restrictions.{IsPermittedPath};
 ghost use Rattle.second_path.specs.Others.{AreOnlyPaths, IsDetermined};
 
+use super::limits::limits_agree;
 use super::listing::{Walk, arcs_of, listed};
 use crate::searching::{Asked, Body, length_of, searched};
 use arc_restrict::Restriction;
@@ -15,7 +16,7 @@ use second_path::{Determined, determine, second};
 use std::alloc::AllocError;
 
 /// The least price of these paths.
-fn least_of(paths: &[Walk]) -> Option<u128> {
+pub(crate) fn least_of(paths: &[Walk]) -> Option<u128> {
     let mut least: Option<u128> = None;
     for path in paths {
         if least.is_none_or(|other| path.price < other) {
@@ -26,7 +27,7 @@ fn least_of(paths: &[Walk]) -> Option<u128> {
 }
 
 /// Whether the path is among these.
-fn has(paths: &[Walk], path: &Path) -> bool {
+pub(crate) fn has(paths: &[Walk], path: &Path) -> bool {
     let arcs = arcs_of(path);
     paths.iter().any(|listed| listed.arcs == arcs)
 }
@@ -187,7 +188,8 @@ fn left_agrees(asked: Asked<'_>) -> bool {
     }
 }
 
-/// Whether least paths, trees and what is left are as the lists tell, where the restriction beside forbids nothing.
+/// Whether least paths, those within limits, trees and what is left are as the lists tell, where the restriction beside
+/// forbids nothing.
 pub(crate) fn all_agree(asked: Asked<'_>, free: &Restriction) -> bool {
-    least_agree(asked, free) && left_agrees(asked)
+    least_agree(asked, free) && limits_agree(asked) && left_agrees(asked)
 }

@@ -14,6 +14,8 @@ pub(crate) struct Walk {
     met: u64,
     /// Its arcs, as the digits of a number.
     pub(crate) arcs: u64,
+    /// How many arcs it has.
+    pub(crate) steps: u32,
     /// In thousandths of a cost grain per load grain.
     pub(crate) price: u128,
 }
@@ -59,6 +61,7 @@ fn longer(asked: Asked<'_>, demand: DemandId, walk: Walk, arc: ArcId) -> Option<
         here: head,
         met: walk.met | bit(head),
         arcs: with_arc(walk.arcs, arc),
+        steps: walk.steps.wrapping_add(1),
         price: walk.price.wrapping_add(price),
     })
 }
@@ -96,6 +99,7 @@ pub(crate) fn listed(asked: Asked<'_>, demand: DemandId) -> Result<Vec<Walk>, Al
         here: source,
         met: bit(source),
         arcs: 0,
+        steps: 0,
         price: 0,
     };
     let mut walks = vec![in asked.alloc; begin]?;
