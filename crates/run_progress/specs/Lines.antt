@@ -13,8 +13,17 @@ cost_text (Some cost) = codes "best cost " ++ grains_text cost COST_SCALE
 abbrev pub time_text : ℕ → List ℕ
 time_text seconds = decimal (seconds / 60) ++ codes ":" ++ decimal (seconds % 60 / 10) ++ decimal (seconds % 60 % 10)
 
--- nodes examined and to be examined at most, the cost of the best design, how many workers there are, and the time
-abbrev pub line_text : Standing → ℕ → ℕ → List ℕ
-line_text standing workers seconds =
+-- what is told of a search: nodes examined and to be examined at most, the cost of the best design, and how many workers there are
+abbrev pub search_text : Standing → ℕ → List ℕ
+search_text standing workers =
     codes "nodes " ++ decimal standing.examined ++ codes " of " ++ decimal standing.budget ++ codes ", " ++ cost_text standing.cost
-    ++ codes ", workers " ++ decimal workers ++ codes ", " ++ time_text seconds
+    ++ codes ", workers " ++ decimal workers
+
+-- what is told of a run whose search was told of or not
+abbrev pub standing_text : Option Standing → ℕ → List ℕ
+standing_text None workers = codes "working"
+standing_text (Some standing) workers = search_text standing workers
+
+-- the time, and how far the run is
+abbrev pub line_text : Option Standing → ℕ → ℕ → List ℕ
+line_text standing workers seconds = time_text seconds ++ codes ", " ++ standing_text standing workers

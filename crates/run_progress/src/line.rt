@@ -1,7 +1,7 @@
 //! The words of the line.
 
 ghost use Rattle.std.specs.Prelude.{◌≡◌, ◌++◌, decimal, OnOk, IfOk};
-ghost use Rattle.run_progress.specs.Lines.{cost_text, time_text, line_text};
+ghost use Rattle.run_progress.specs.Lines.{cost_text, time_text, search_text, standing_text, line_text};
 
 use itoa::Buffer;
 use plan_io::Standing;
@@ -41,28 +41,51 @@ fn push_time(text: &mut Vec<u8>, seconds: u64) -> Result<(), AllocError>
     push_number(text, seconds % 60 % 10)
 }
 
-/// How far a run is: the nodes that are examined and may be, the cost of the best design, how many workers there are, and
-/// the time.
+/// Writes how far a search is: the nodes that are examined and may be, the cost of the best design, and how many workers
+/// there are.
+fn push_search(text: &mut Vec<u8>, standing: Standing, workers: u32) -> Result<(), AllocError>
+    ensures { OnOk result (text.new.items ≡ text.old.items ++ search_text standing workers) }
+{
+    text.extend_from_slice(b"nodes ")?;
+    push_number(text, u64::from(standing.examined))?;
+    text.extend_from_slice(b" of ")?;
+    push_number(text, u64::from(standing.budget))?;
+    text.extend_from_slice(b", ")?;
+    push_cost(text, standing.cost)?;
+    text.extend_from_slice(b", workers ")?;
+    push_number(text, u64::from(workers))
+}
+
+/// Writes how far a run is.
+fn push_standing(
+    text: &mut Vec<u8>,
+    standing: Option<Standing>,
+    workers: u32,
+) -> Result<(), AllocError>
+    ensures { OnOk result (text.new.items ≡ text.old.items ++ standing_text standing workers) }
+{
+    match standing {
+        Some(standing) => push_search(text, standing, workers),
+        None => text.extend_from_slice(b"working"),
+    }
+}
+
+/// How long a run has taken, and how far it is.
 ///
-/// - Takes: the seconds since the run began.
+/// - Takes: how far its search is, None where nothing was told of one; how many workers there are; the seconds since the
+///   run began.
 /// - Errors: want of memory alone.
 pub fn line_of(
     alloc: Global,
-    standing: Standing,
+    standing: Option<Standing>,
     workers: u32,
     seconds: u64,
 ) -> Result<Vec<u8>, AllocError>
     ensures { IfOk result (λ text. text.items ≡ line_text standing workers seconds) }
 {
-    let mut text = Vec::from_slice(alloc, b"nodes ")?;
-    push_number(&mut text, u64::from(standing.examined))?;
-    text.extend_from_slice(b" of ")?;
-    push_number(&mut text, u64::from(standing.budget))?;
-    text.extend_from_slice(b", ")?;
-    push_cost(&mut text, standing.cost)?;
-    text.extend_from_slice(b", workers ")?;
-    push_number(&mut text, u64::from(workers))?;
-    text.extend_from_slice(b", ")?;
+    let mut text = Vec::new(alloc);
     push_time(&mut text, seconds)?;
+    text.extend_from_slice(b", ")?;
+    push_standing(&mut text, standing, workers)?;
     Ok(text)
 }

@@ -2,17 +2,22 @@
 
 use crate::answering::Answering;
 use crate::line::line_of;
+use crate::told::Told;
 use plan_io::{Gate, Standing};
 use std::alloc::{AllocError, Global};
 use std::io::{Print, Write};
 use std::sync::atomic::{AtomicBool, AtomicU64, Ordering};
-use std::time::{Clock, Instant};
+use std::sync::{Condvar, CondvarTimeouts, Mutex, Wait};
+use std::time::{Clock, Duration, Instant};
 
 /// After how many milliseconds of a run its line is shown first.
 const FIRST: u64 = 1_000;
 
 /// How many milliseconds pass from one line to the next.
 const PAUSE: u64 = 250;
+
+/// How many lines are shown at most where no worker comes: those of more than a hundred years.
+const MOST: u64 = 20_000_000_000;
 
 /// Begins the line of a terminal anew: a carriage return, and the code that wipes what stands there.
 const ANEW: &[u8] = b"\r\x1b[K";
@@ -25,7 +30,7 @@ const UNCUT: &[u8] = b"\x1b[?7h";
 
 /// A gate that shows how far a run is, in one line that is written anew again and again.
 ///
-/// Nobody waits for it: whoever passes when the line is due writes it.
+/// No worker waits for it: who passes when the line is due writes it, and `keep_showing` does while nobody passes.
 #[derive(Drop)]
 pub struct Progress<C: Clock, P: Print> {
     alloc: Global,
@@ -39,6 +44,12 @@ pub struct Progress<C: Clock, P: Print> {
     due: AtomicU64,
     /// Whether a line stands at the screen.
     is_shown: AtomicBool,
+    /// How far the search was when that was told last.
+    told: Told,
+    /// Whether the run has ended.
+    has_ended: Mutex<bool>,
+    /// Rings when it has.
+    bell: Condvar,
 }
 
 impl<C: Clock, P: Print> Progress<C, P> {
@@ -59,6 +70,9 @@ impl<C: Clock, P: Print> Progress<C, P> {
             workers: AtomicU64::new(0),
             due: AtomicU64::new(FIRST),
             is_shown: AtomicBool::new(false),
+            told: Told::new(),
+            has_ended: Mutex::new(false),
+            bell: Condvar::new(),
         }
     }
 
@@ -80,7 +94,7 @@ impl<C: Clock, P: Print> Progress<C, P> {
     }
 
     /// The line, with what puts it in the place of the one before.
-    fn shown(&self, millis: u64, standing: Standing) -> Result<Vec<u8>, AllocError> {
+    fn shown(&self, millis: u64, standing: Option<Standing>) -> Result<Vec<u8>, AllocError> {
         let workers = self.workers.load(Ordering::SeqCst).count_ones();
         let line = line_of(self.alloc, standing, workers, millis / 1_000)?;
         let mut text = Vec::from_slice(self.alloc, ANEW)?;
@@ -91,11 +105,46 @@ impl<C: Clock, P: Print> Progress<C, P> {
     }
 
     /// Writes the line. Where that fails, or memory is wanting, the run goes on without it.
-    fn show(&self, millis: u64, standing: Standing) {
+    fn show(&self, millis: u64, standing: Option<Standing>) {
         if let Ok(text) = self.shown(millis, standing) {
             self.is_shown.store(true, Ordering::SeqCst);
             let _ = self.screen.write_all(text.as_slice());
         }
+    }
+
+    /// Writes the line where it is due, with what was told last.
+    fn show_if_due(&self) {
+        if let Some(millis) = self.millis()
+            && self.is_due(millis)
+        {
+            self.show(millis, self.told.read());
+        }
+    }
+
+    /// Waits until the next line may be due, or the run has ended. Gives whether it has.
+    fn waits_for_end<R: Wait + Clock>(&self, rt: &R) -> bool {
+        let pause = Duration::from_millis(PAUSE);
+        let guard = self.has_ended.lock(rt);
+        let (guard, _) = self
+            .bell
+            .wait_timeout_while(rt, guard, pause, |has_ended| !*has_ended);
+        *guard
+    }
+
+    /// Shows the line again and again, also while no worker passes, until the run has ended.
+    pub fn keep_showing<R: Wait + Clock>(&self, rt: &R) {
+        for _ in 0..MOST {
+            if self.waits_for_end(rt) {
+                return;
+            }
+            self.show_if_due();
+        }
+    }
+
+    /// Tells `keep_showing` that the run has ended.
+    pub fn end<R: Wait>(&self, rt: &R) {
+        *self.has_ended.lock(rt) = true;
+        self.bell.notify_all();
     }
 
     /// Wipes the line, where one stands there.
@@ -117,10 +166,11 @@ impl<C: Clock + Sync, P: Print + Sync> Gate for Progress<C, P> {
     }
 
     fn stand(&self, standing: Standing) {
+        self.told.write(standing);
         if let Some(millis) = self.millis()
             && self.is_due(millis)
         {
-            self.show(millis, standing);
+            self.show(millis, Some(standing));
         }
     }
 }

@@ -101,7 +101,7 @@ pub(crate) fn tell_line(alloc: Global, rest: &str, text: &mut String) -> Option<
     let (standing, rest) = standing_of(rest)?;
     let (workers, seconds) = first_number(rest)?;
     let seconds = seconds.parse::<u64>().ok()?;
-    let line = line_of(alloc, standing, workers, seconds).ok()?;
+    let line = line_of(alloc, Some(standing), workers, seconds).ok()?;
     tell_quoted(line.as_slice(), text)
 }
 
