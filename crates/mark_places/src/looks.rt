@@ -22,11 +22,12 @@ pub struct Site {
     pub at: Option<Coordinates>,
 }
 
-/// A link that is to be placed: how many bytes its name has, the numbers of its ends, and how wide it is drawn, in
-/// picture units.
+/// A link that is to be placed: how many bytes its name and its figures have, the numbers of its ends, and how wide it is
+/// drawn, in picture units.
 #[derive(Clone, Copy, Debug, PartialEq, Eq)]
 pub struct Span {
     pub name: usize,
+    pub figures: usize,
     pub source: usize,
     pub target: usize,
     pub width: u32,
@@ -46,11 +47,13 @@ pub struct NodeLook {
     pub label: Spot,
 }
 
-/// Where a link bends between its ends, the middle of its name, and how wide it is drawn, in picture units.
+/// Where a link bends between its ends, the middle of its name and, where there is room for them, that of its figures, and
+/// how wide it is drawn, in picture units.
 #[derive(Clone, Copy, Debug, PartialEq, Eq)]
 pub struct LinkLook {
     pub bend: Spot,
     pub label: Spot,
+    pub figures: Option<Spot>,
     pub width: u32,
 }
 

@@ -68,11 +68,12 @@ fn point_on(source: Spot, bend: Spot, target: Spot, part: u32) -> Spot {
     }
 }
 
-/// How far a link bends to its right at its middle, in picture units, where so many links before it have its ends.
-fn bend_of(orient: Orient, before: u32) -> i64 {
+/// How far a link of this length bends to its right at its middle, in picture units, where so many links before it have
+/// its ends. A long directed link bends further, so that its arrow stands apart from that of a link back.
+fn bend_of(orient: Orient, before: u32, length: i64) -> i64 {
     let before = i64::from(before.min(20));
     match orient {
-        Orient::Directed => 26 + 36 * before,
+        Orient::Directed => length.max(130).min(500) / 5 + 36 * before,
         Orient::Undirected | Orient::Bidirected if before % 2 == 0 => 0 - 22 * before,
         Orient::Undirected | Orient::Bidirected => 22 * (before + 1),
     }
@@ -158,7 +159,8 @@ fn bends_of(
     for (place, link) in links.iter().enumerate() {
         let twins = twins_among(&links[..place], link, orient);
         let (source, target) = ends_of(link, spots);
-        bends.push(bend_spot(source, target, bend_of(orient, twins)))?;
+        let bend = bend_of(orient, twins, length_of(source, target));
+        bends.push(bend_spot(source, target, bend))?;
     }
     Ok(bends)
 }
@@ -195,8 +197,8 @@ fn cover_nodes(canvas: &mut Canvas, spots: &[Spot]) {
     }
 }
 
-/// The place of the first of the candidates whose name covers least, and covers the canvas there.
-fn best_spot(canvas: &mut Canvas, candidates: &[Spot], bytes: usize, half_letter: u32) -> Spot {
+/// The place of the first of the candidates whose words cover least, and how much that is.
+fn least_spot(canvas: &Canvas, candidates: &[Spot], bytes: usize, half_letter: u32) -> (Spot, u32) {
     let mut best = spot_at(candidates, 0);
     let mut least = u32::MAX;
     for spot in candidates {
@@ -206,8 +208,25 @@ fn best_spot(canvas: &mut Canvas, candidates: &[Spot], bytes: usize, half_letter
             best = *spot;
         }
     }
+    (best, least)
+}
+
+/// The place of the first of the candidates whose name covers least, and covers the canvas there.
+fn best_spot(canvas: &mut Canvas, candidates: &[Spot], bytes: usize, half_letter: u32) -> Spot {
+    let (best, _) = least_spot(canvas, candidates, bytes, half_letter);
     canvas.cover(name_patch(best, bytes, half_letter), SOLID);
     best
+}
+
+/// The place of the first of the candidates whose figures cover least, and covers the canvas there; None where they would
+/// cover a name, a node or other figures.
+fn free_spot(canvas: &mut Canvas, candidates: &[Spot], bytes: usize) -> Option<Spot> {
+    let (best, least) = least_spot(canvas, candidates, bytes, 3);
+    if bytes == 0 || least >= SOLID {
+        return None;
+    }
+    canvas.cover(name_patch(best, bytes, 3), SOLID);
+    Some(best)
 }
 
 /// The places about a node where its name may stand.
@@ -287,8 +306,18 @@ impl Course {
     }
 }
 
+/// Where this link runs, between these places.
+fn course_of(link: &Span, spots: &[Spot], bend: Spot) -> Course {
+    let (source, target) = ends_of(link, spots);
+    Course {
+        source,
+        bend,
+        target,
+    }
+}
+
 /// How links bend, the places of their names, and how wide they are drawn.
-fn link_looks(
+fn named_looks(
     alloc: Global,
     links: &[Span],
     spots: &[Spot],
@@ -299,26 +328,72 @@ fn link_looks(
 {
     let mut looks = Vec::new(alloc);
     for (place, link) in links.iter().enumerate() {
-        let (source, target) = ends_of(link, spots);
         let bend = spot_at(bends, place);
-        let candidates = Course {
-            source,
-            bend,
-            target,
-        }
-        .places(link.name);
+        let candidates = course_of(link, spots, bend).places(link.name);
         let label = best_spot(canvas, &candidates, link.name, 3);
         looks.push(LinkLook {
             bend,
             label,
+            figures: None,
             width: link.width,
         })?;
     }
     Ok(looks)
 }
 
+/// The places about a name of so many bytes where figures may stand: below and above it, and beside it.
+fn about_name(label: Spot, name: usize, figures: usize) -> [Spot; 4] {
+    let half = i64::from(name_patch(label, name, 3).half_width);
+    let beside = half + i64::from(name_patch(label, figures, 3).half_width);
+    [
+        moved(label, 0, 13),
+        moved(label, 0, -13),
+        moved(label, beside, 0),
+        moved(label, 0 - beside, 0),
+    ]
+}
+
+/// Where the figures of a link with this look may stand: about its name, else along its course.
+fn figures_spot(canvas: &mut Canvas, link: &Span, look: LinkLook, spots: &[Spot]) -> Option<Spot> {
+    let near = about_name(look.label, link.name, link.figures);
+    match free_spot(canvas, &near, link.figures) {
+        Some(spot) => Some(spot),
+        None => {
+            let along = course_of(link, spots, look.bend).places(link.figures);
+            free_spot(canvas, &along, link.figures)
+        }
+    }
+}
+
+/// Adds the places of figures, where there is room for them.
+fn add_figures(looks: &mut [LinkLook], links: &[Span], spots: &[Spot], canvas: &mut Canvas)
+    ensures { length looks.new ≡ length looks.old }
+{
+    for (place, link) in links.iter().enumerate() {
+        if let Some(look) = looks.get_mut(place) {
+            look.figures = figures_spot(canvas, link, *look, spots);
+        }
+    }
+}
+
+/// How links bend, the places of their names and figures, and how wide they are drawn.
+fn link_looks(
+    alloc: Global,
+    links: &[Span],
+    spots: &[Spot],
+    bends: &[Spot],
+    canvas: &mut Canvas,
+) -> Result<Vec<LinkLook>, AllocError>
+    ensures { IfOk result (λ looks. length looks.items ≡ length links.now) }
+{
+    let mut looks = named_looks(alloc, links, spots, bends, canvas)?;
+    add_figures(looks.as_mut_slice(), links, spots, canvas);
+    Ok(looks)
+}
+
 /// Where the marks of a network stand: nodes at their coordinates, or on a circle where one has none or all stand on one
-/// line from west to east or from south to north; names where they cover least of what is drawn before them.
+/// line from west to east or from south to north; names where they cover least of what is drawn before them; figures
+/// where they cover no name and no node.
 ///
 /// - Takes: the nodes and the links, and whether links are directed.
 /// - Gives: a look for each node and each link, in their order.

@@ -1,6 +1,7 @@
 //! Places of nodes: at their coordinates, or on a circle.
 
 ghost use Rattle.std.specs.Prelude.{◌≤◌};
+ghost use Rattle.mark_places.specs.declared.ring.TheConstants.{ROOM_ACROSS, ROOM_DOWN};
 
 use crate::looks::{Coordinates, HEIGHT, Site, Spot, WIDTH};
 use std::alloc::{AllocError, Global};
@@ -10,6 +11,18 @@ const MARGIN: u32 = 90;
 
 /// The radius of the circle, in picture units.
 const RADIUS: u64 = 300;
+
+/// What nodes take at most from west to east, in picture units.
+const ROOM_ACROSS: u32 = WIDTH - 2 * MARGIN;
+
+/// What nodes take at most from north to south, in picture units.
+const ROOM_DOWN: u32 = HEIGHT - 2 * MARGIN;
+
+/// The greatest longitude and the greatest latitude, in millionths of a degree.
+const GREATEST: Coordinates = Coordinates {
+    x: 180_000_000,
+    y: 90_000_000,
+};
 
 /// The least rectangle that has all coordinates.
 #[derive(Clone, Copy)]
@@ -57,15 +70,82 @@ impl Frame {
         width > 0 && height > 0
     }
 
-    /// The place of these coordinates: the frame fills the room between the margins, north above.
-    fn spot(&self, both: Coordinates) -> Spot {
+    /// Whether all its coordinates are longitudes and latitudes in degrees.
+    fn is_on_earth(&self) -> bool {
+        let (x, y) = (GREATEST.x, GREATEST.y);
+        self.least.x >= 0 - x && self.most.x <= x && self.least.y >= 0 - y && self.most.y <= y
+    }
+
+    /// How long a degree to the east is at its middle, in thousandths of one to the north.
+    fn shortening(&self) -> u128 {
+        let middle = self.least.y.saturating_add(self.most.y) / 2;
+        let north = u64::try_from(middle.unsigned_abs())
+            .unwrap_or(0)
+            .min(90_000_000);
+        u128::from(half_sine((90_000_000 - north) / 180_000).max(50))
+    }
+
+    /// How its coordinates are drawn: on earth in their proportions, as far as neither side becomes less than a third of its
+    /// room, and elsewhere so that they fill the room.
+    fn scale(&self) -> Scale {
+        let (width, height) = self.extents();
+        if !self.is_on_earth() {
+            return Scale {
+                shortening: 1000,
+                width,
+                height,
+            };
+        }
+        let shortening = self.shortening();
+        let across = width.saturating_mul(shortening) / 1000;
+        let (right, down) = (u128::from(ROOM_ACROSS), u128::from(ROOM_DOWN));
+        Scale {
+            shortening,
+            width: across.max((height.saturating_mul(right) / down).min(across.saturating_mul(3))),
+            height: height.max((across.saturating_mul(down) / right).min(height.saturating_mul(3))),
+        }
+    }
+
+    /// The place of these coordinates in the middle of the room between the margins, north above.
+    fn spot(&self, scale: &Scale, both: Coordinates) -> Spot {
         let (width, height) = self.extents();
         let east = both.x.abs_diff(self.least.x);
         let south = self.most.y.abs_diff(both.y);
         Spot {
-            x: MARGIN + drawn(east, width, WIDTH - 2 * MARGIN),
-            y: MARGIN + drawn(south, height, HEIGHT - 2 * MARGIN),
+            x: MARGIN + scale.across(east) + (ROOM_ACROSS - scale.across(width)) / 2,
+            y: MARGIN + scale.down(south) + (ROOM_DOWN - scale.down(height)) / 2,
         }
+    }
+}
+
+/// How coordinates become places of a picture.
+#[derive(Clone, Copy)]
+struct Scale {
+    /// How long a step to the east is, in thousandths of one to the north.
+    shortening: u128,
+    /// What fills the room from west to east.
+    width: u128,
+    /// What fills the room from north to south.
+    height: u128,
+}
+
+impl Scale {
+    /// How many picture units a distance to the east takes.
+    fn across(&self, distance: u128) -> u32
+        ensures { result ≤ ROOM_ACROSS }
+    {
+        drawn(
+            distance.saturating_mul(self.shortening) / 1000,
+            self.width,
+            ROOM_ACROSS,
+        )
+    }
+
+    /// How many picture units a distance to the south takes.
+    fn down(&self, distance: u128) -> u32
+        ensures { result ≤ ROOM_DOWN }
+    {
+        drawn(distance, self.height, ROOM_DOWN)
     }
 }
 
@@ -112,8 +192,9 @@ fn ring_spots(alloc: Global, count: usize) -> Result<Vec<Spot>, AllocError> {
 /// Places at these coordinates in a frame.
 fn framed_spots(alloc: Global, frame: Frame, all: &[Coordinates]) -> Result<Vec<Spot>, AllocError> {
     let mut spots = Vec::new(alloc);
+    let scale = frame.scale();
     for both in all {
-        spots.push(frame.spot(*both))?;
+        spots.push(frame.spot(&scale, *both))?;
     }
     Ok(spots)
 }

@@ -1,5 +1,5 @@
 -- The marks of a picture. Where they stand and how wide they are is told by their looks.
-use Rattle.std.specs.Prelude.{ℕ, ◌-◌, ◌/◌, List, [], ◌∷◌, ◌++◌, codes, decimal, if◌then◌else◌, nat_eq, nat_le, slice_index_or, Option, Some, None}
+use Rattle.std.specs.Prelude.{ℕ, ◌-◌, ◌/◌, Bool, List, [], ◌∷◌, ◌++◌, codes, decimal, if◌then◌else◌, nat_eq, nat_le, slice_index_or, Option, Some, None}
 use Rattle.plan_base.specs.declared.parts.Parts.{Parts}
 use Rattle.plan_base.specs.declared.path.Design.{Design}
 use Rattle.plan_base.specs.Arcs.{link_at}
@@ -29,7 +29,7 @@ node_look looks n = slice_index_or looks.nodes n record { at = corner; label = c
 
 -- the look of the link of this number
 abbrev pub link_look : Looks → ℕ → LinkLook
-link_look looks e = slice_index_or looks.links e record { bend = corner; label = corner; width = 0 }
+link_look looks e = slice_index_or looks.links e record { bend = corner; label = corner; figures = None; width = 0 }
 
 -- two numbers, each behind a blank
 unfoldable pub spot_text : Spot → List ℕ
@@ -42,25 +42,30 @@ label_text class spot name =
 
 -- ---- nodes
 
--- the circle of a node of this name at a place
-unfoldable pub circle_text : List ℕ → Spot → List ℕ
-circle_text name at =
-    codes "<circle class='node' r='7' transform='translate(" ++ spot_text at ++ codes ")'><title>" ++ escaped name ++ codes "</title></circle>\n"
+-- the class of a node that is an end of a demand, behind a blank
+abbrev pub end_word : Bool → List ℕ
+end_word is_end = if is_end then codes " end" else []
+
+-- the circle of a node of this name at a place, which is an end of a demand or not
+unfoldable pub circle_text : List ℕ → Bool → Spot → List ℕ
+circle_text name is_end at =
+    codes "<circle class='node" ++ end_word is_end ++ codes "' r='7' transform='translate(" ++ spot_text at ++ codes ")'><title>" ++ escaped name ++ codes "</title></circle>\n"
 
 -- the mark of a node of this name, and its name
-abbrev pub node_text : List ℕ → NodeLook → List ℕ
-node_text name look = circle_text name look.at ++ label_text (codes "place") look.label name
+abbrev pub node_text : List ℕ → Bool → NodeLook → List ℕ
+node_text name is_end look = circle_text name is_end look.at ++ label_text (codes "place") look.label name
 
 -- ---- links
 
--- how full a link is that needs so much: without a load, up to a half, at its capacity, with a fifth of it, rounded down, left, or with less
+-- how full a link is that needs so much: without a load, up to a half, at its capacity, with a fifth or a tenth of it, each rounded down, left, or with less
 abbrev pub shade : ℕ → ℕ → List ℕ
 shade needed capacity =
     if nat_eq needed 0 then codes "unused"
     else if nat_le needed (capacity / 2) then codes "low"
     else if nat_le capacity needed then codes "full"
     else if nat_le needed (capacity - capacity / 5) then codes "middle"
-    else codes "high"
+    else if nat_le needed (capacity - capacity / 10) then codes "high"
+    else codes "brim"
 
 -- the class that goes with a light, behind a blank
 abbrev pub light_word : Light → List ℕ
@@ -77,20 +82,25 @@ light_on d (Some k) e = if uses e (path_at d k) then lights.Lit else lights.Dim
 abbrev pub back_load : Parts → Design → ℕ → Option ℕ
 back_load p d e = if is_two_way p.orient then Some (back_of p (load_at p d) e) else None
 
--- the loads of a link's places, the capacity that it needs and the one that it has, and the light on it
+-- the loads of a link's places, the capacity that it needs, the one that it has and how much of it is new, and the light on it
 abbrev pub traffic_on : Parts → Design → Option ℕ → ℕ → Traffic
 traffic_on p d lit e = record {
   load = there_of p (load_at p d) e;
   back = back_load p d e;
   need = need p d e;
   capacity = capacity_with (link_at p e) (counts_at d e);
+  new = capacity_with (link_at p e) (counts_at d e) - (link_at p e).pre;
   light = light_on d lit e;
 }
+
+-- the class of a link on which something is installed anew, behind a blank
+abbrev pub new_word : ℕ → List ℕ
+new_word new = if nat_eq new 0 then [] else codes " new"
 
 -- the classes of a link
 unfoldable pub classes : Option Traffic → List ℕ
 classes None = codes "unused"
-classes (Some on) = shade on.need on.capacity ++ light_word on.light
+classes (Some on) = shade on.need on.capacity ++ new_word on.new ++ light_word on.light
 
 -- the load of a link's other place, behind its word, where it has one
 unfoldable pub back_text : Option ℕ → List ℕ
@@ -101,7 +111,18 @@ back_text (Some back) = codes " back " ++ grains_text back LOAD_SCALE
 unfoldable pub title : List ℕ → Option Traffic → List ℕ
 title name None = escaped name
 title name (Some on) =
-    escaped name ++ codes " load " ++ grains_text on.load LOAD_SCALE ++ back_text on.back ++ codes " capacity " ++ grains_text on.capacity LOAD_SCALE
+    escaped name ++ codes " load " ++ grains_text on.load LOAD_SCALE ++ back_text on.back
+    ++ codes " capacity " ++ grains_text on.capacity LOAD_SCALE ++ codes " new " ++ grains_text on.new LOAD_SCALE
+
+-- the load of a link's other place behind a plus, where it has one
+unfoldable pub back_figure : Option ℕ → List ℕ
+back_figure None = []
+back_figure (Some back) = 43 ∷ grains_text back LOAD_SCALE
+
+-- the figures of a link: its load or its two loads, and its capacity; nothing where there is no design
+unfoldable pub figures : Option Traffic → List ℕ
+figures None = []
+figures (Some on) = grains_text on.load LOAD_SCALE ++ back_figure on.back ++ 47 ∷ grains_text on.capacity LOAD_SCALE
 
 -- how a link of this width is drawn
 unfoldable pub stroke_text : Option Traffic → ℕ → List ℕ

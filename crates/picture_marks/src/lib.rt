@@ -9,4 +9,4 @@ mod escapes;
 mod marks;
 
 pub use escapes::push_escaped;
-pub use marks::{Light, Traffic, push_label, push_link, push_node, traffic_on};
+pub use marks::{Light, Traffic, push_figures, push_label, push_link, push_node, traffic_on};

@@ -5,7 +5,7 @@ ghost use Rattle.plan_base.specs.Facts.{IsInstance};
 ghost use Rattle.plan_base.specs.Places.{is_two_way, there_of, back_of};
 ghost use Rattle.plan_base.specs.Designs.{load_at, IsGoodDesign};
 ghost use Rattle.mark_places.specs.Places.{HasLooks};
-ghost use Rattle.picture_marks.specs.Marks.{spot_text, label_text, circle_text, node_text, shade, light_word, light_on, traffic_on, classes, back_text, title, stroke_text, curve_text, hover_text, link_text};
+ghost use Rattle.picture_marks.specs.Marks.{spot_text, label_text, end_word, circle_text, node_text, shade, light_word, light_on, traffic_on, new_word, classes, back_text, title, back_figure, figures, stroke_text, curve_text, hover_text, link_text};
 
 use crate::escapes::push_escaped;
 use itoa::Buffer;
@@ -58,11 +58,20 @@ pub fn push_label(
     text.extend_from_slice(b"</text>\n")
 }
 
-/// Writes the circle of a node of this name.
-fn push_circle(text: &mut Vec<u8>, name: &[u8], at: Spot) -> Result<(), AllocError>
-    ensures { OnOk result (text.new.items ≡ text.old.items ++ circle_text name.now at) }
+/// The class of a node that is an end of a demand or not, behind a blank.
+fn end_word(is_end: bool) -> &'static [u8]
+    ensures { result.now ≡ end_word is_end }
 {
-    text.extend_from_slice(b"<circle class='node' r='7' transform='translate(")?;
+    if is_end { b" end" } else { b"" }
+}
+
+/// Writes the circle of a node of this name, which is an end of a demand or not.
+fn push_circle(text: &mut Vec<u8>, name: &[u8], is_end: bool, at: Spot) -> Result<(), AllocError>
+    ensures { OnOk result (text.new.items ≡ text.old.items ++ circle_text name.now is_end at) }
+{
+    text.extend_from_slice(b"<circle class='node")?;
+    text.extend_from_slice(end_word(is_end))?;
+    text.extend_from_slice(b"' r='7' transform='translate(")?;
     push_spot(text, at)?;
     text.extend_from_slice(b")'><title>")?;
     push_escaped(text, name)?;
@@ -72,12 +81,18 @@ fn push_circle(text: &mut Vec<u8>, name: &[u8], at: Spot) -> Result<(), AllocErr
 
 /// Writes the mark of a node of this name, and its name.
 ///
+/// - Takes: whether the node is an end of a demand.
 /// - Errors: want of memory alone.
 /// - Rule: docs/DEFINITIONS.md, "Pictures".
-pub fn push_node(text: &mut Vec<u8>, name: &[u8], look: NodeLook) -> Result<(), AllocError>
-    ensures { OnOk result (text.new.items ≡ text.old.items ++ node_text name.now look) }
+pub fn push_node(
+    text: &mut Vec<u8>,
+    name: &[u8],
+    is_end: bool,
+    look: NodeLook,
+) -> Result<(), AllocError>
+    ensures { OnOk result (text.new.items ≡ text.old.items ++ node_text name.now is_end look) }
 {
-    push_circle(text, name, look.at)?;
+    push_circle(text, name, is_end, look.at)?;
     push_label(text, b"place", look.label, name)
 }
 
@@ -93,8 +108,10 @@ fn shade(needed: u128, capacity: u128) -> &'static [u8]
         b"full"
     } else if needed <= capacity - capacity / 5 {
         b"middle"
-    } else {
+    } else if needed <= capacity - capacity / 10 {
         b"high"
+    } else {
+        b"brim"
     }
 }
 
@@ -150,6 +167,8 @@ pub struct Traffic {
     pub need: u128,
     /// The capacity that it has.
     pub capacity: u128,
+    /// How much of that is installed anew.
+    pub new: u128,
     pub light: Light,
 }
 
@@ -183,14 +202,23 @@ pub fn traffic_on(
     requires lit { IfSome lit (λ k. k.0 < length inst.now.demands) }
     ensures { result ≡ traffic_on inst.now design.now (option_map (λ k. k.0) lit) id.0 }
 {
-    let counts = design.counts.as_slice()[id.0 as usize].as_slice();
+    let link = inst.link(id);
+    let capacity = capacity_with(link, design.counts.as_slice()[id.0 as usize].as_slice());
     Traffic {
         load: loads.there,
         back: back_load(inst, loads),
         need: loads.need(),
-        capacity: capacity_with(inst.link(id), counts),
+        capacity,
+        new: capacity - u128::from(link.pre),
         light: light_on(design, lit, id),
     }
+}
+
+/// The class of a link on which so much is installed anew, behind a blank.
+fn new_word(new: u128) -> &'static [u8]
+    ensures { result.now ≡ new_word new }
+{
+    if new == 0 { b"" } else { b" new" }
 }
 
 /// Writes the classes of a link.
@@ -201,6 +229,7 @@ fn push_classes(text: &mut Vec<u8>, traffic: Option<Traffic>) -> Result<(), Allo
     match traffic {
         Some(traffic) => {
             text.extend_from_slice(shade(traffic.need, traffic.capacity))?;
+            text.extend_from_slice(new_word(traffic.new))?;
             text.extend_from_slice(traffic.light.word())
         }
         None => text.extend_from_slice(b"unused"),
@@ -233,6 +262,42 @@ fn push_title(text: &mut Vec<u8>, name: &[u8], traffic: Option<Traffic>) -> Resu
             write_grains(traffic.load, LOAD_SCALE, text)?;
             push_back(text, traffic.back)?;
             text.extend_from_slice(b" capacity ")?;
+            write_grains(traffic.capacity, LOAD_SCALE, text)?;
+            text.extend_from_slice(b" new ")?;
+            write_grains(traffic.new, LOAD_SCALE, text)
+        }
+        None => Ok(()),
+    }
+}
+
+/// Writes the load of a link's other place behind a plus, where it has one.
+#[tactic(auto, unfolding(crate::specs::Marks::back_figure))]
+fn push_back_figure(text: &mut Vec<u8>, back: Option<u128>) -> Result<(), AllocError>
+    ensures { OnOk result (text.new.items ≡ text.old.items ++ back_figure back) }
+{
+    match back {
+        Some(load) => {
+            text.push(b'+')?;
+            write_grains(load, LOAD_SCALE, text)
+        }
+        None => Ok(()),
+    }
+}
+
+/// Writes the figures of a link: its load or its two loads, and its capacity, in units.
+///
+/// - Takes: the traffic on the link, none where the plan has no design.
+/// - Errors: want of memory alone.
+/// - Rule: docs/DEFINITIONS.md, "Pictures".
+#[tactic(auto, unfolding(crate::specs::Marks::figures))]
+pub fn push_figures(text: &mut Vec<u8>, traffic: Option<Traffic>) -> Result<(), AllocError>
+    ensures { OnOk result (text.new.items ≡ text.old.items ++ figures traffic) }
+{
+    match traffic {
+        Some(traffic) => {
+            write_grains(traffic.load, LOAD_SCALE, text)?;
+            push_back_figure(text, traffic.back)?;
+            text.push(b'/')?;
             write_grains(traffic.capacity, LOAD_SCALE, text)
         }
         None => Ok(()),

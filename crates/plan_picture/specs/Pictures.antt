@@ -1,21 +1,22 @@
 -- The picture of a valid plan.
-use Rattle.std.specs.Prelude.{ℕ, ◌≡◌, ◌<◌, List, [], ◌++◌, length, codes, drop, slice_index, slice_index_or, flat_map, Bool, if◌then◌else◌, Option, Some, None, IfSome}
+use Rattle.std.specs.Prelude.{ℕ, zero, suc, ◌≡◌, ◌<◌, List, [], ◌++◌, length, codes, drop, slice_index, slice_index_or, flat_map, Bool, false, ◌||◌, ◌==◌, if◌then◌else◌, Option, Some, None, IfSome}
 use Rattle.std.specs.List.{range_with_len}
 use Rattle.plan_base.specs.declared.limits.TheConstants.{MAX_PLACES}
 use Rattle.plan_base.specs.declared.parts.Orient.{Orient}
 use Rattle.plan_base.specs.declared.parts.Orient.TheVariants.{Directed, Undirected, Bidirected}
 use Rattle.plan_base.specs.declared.parts.Parts.{Parts}
 use Rattle.plan_base.specs.declared.path.Design.{Design}
+use Rattle.plan_base.specs.Arcs.{demand_at}
 use Rattle.plan_base.specs.Designs.{load_at}
 use Rattle.snd_network.specs.declared.file.NetworkFile.{NetworkFile}
-use Rattle.snd_network.specs.WellFormed.{node_names}
 use Rattle.proof_tree.specs.declared.plan.Plan.{Plan}
-use Rattle.plan_report.specs.Reports.{link_name, demand_name, trial_line}
+use Rattle.plan_report.specs.Reports.{node_name, link_name, demand_name, trial_line}
+use Rattle.mark_places.specs.declared.looks.Spot.{Spot}
 use Rattle.mark_places.specs.declared.looks.Looks.{Looks}
 use Rattle.mark_places.specs.Places.{HasLooks}
 use Rattle.picture_marks.specs.declared.marks.Traffic.{Traffic}
 use Rattle.picture_marks.specs.Escapes.{escaped}
-use Rattle.picture_marks.specs.Marks.{node_look, link_look, label_text, node_text, link_text, traffic_on}
+use Rattle.picture_marks.specs.Marks.{node_look, link_look, label_text, node_text, link_text, traffic_on, figures}
 
 -- ---- pictures
 
@@ -27,7 +28,7 @@ encoding utf8 = if utf8 then codes "UTF-8" else codes "ISO-8859-1"
 unfoldable pub head : Bool → List ℕ
 head utf8 =
     codes "<?xml version='1.0' encoding='" ++ encoding utf8
-    ++ codes "'?>\n<svg xmlns='http://www.w3.org/2000/svg' width='1200' height='900' viewBox='0 0 1200 900'>\n<style>\ntext{font-family:sans-serif;fill:#222}\n.place,.name{text-anchor:middle;paint-order:stroke;stroke:#fff;stroke-width:3px}\n.place{font-size:13px;font-weight:bold}\n.name{font-size:10px;fill:#555}\n.legend{font-size:15px}\n.node{fill:#fff;stroke:#222;stroke-width:2px}\n.link,.key{fill:none}\n.directed .link,.bidirected .link{marker-end:url(#arrow)}\n.bidirected .link{marker-start:url(#arrow-back)}\n.unused{stroke:#999;stroke-dasharray:5 5}\n.low{stroke:#2b9348}\n.middle{stroke:#a3a000}\n.high{stroke:#e07a00}\n.full{stroke:#c1121f}\n.dim{opacity:.2}\n</style>\n<defs><marker id='arrow' markerUnits='userSpaceOnUse' markerWidth='14' markerHeight='10' refX='20' refY='5' orient='auto'><path d='M0 0L14 5L0 10z' fill='#444'/></marker><marker id='arrow-back' markerUnits='userSpaceOnUse' markerWidth='14' markerHeight='10' refX='-6' refY='5' orient='auto'><path d='M14 0L0 5L14 10z' fill='#444'/></marker></defs>\n<rect width='1200' height='900' fill='#fff'/>\n"
+    ++ codes "'?>\n<svg xmlns='http://www.w3.org/2000/svg' width='1200' height='900' viewBox='0 0 1200 900'>\n<style>\ntext{font-family:sans-serif;fill:#222}\n.place,.name,.figures{text-anchor:middle;paint-order:stroke;stroke:#fff;stroke-width:3px}\n.place{font-size:13px;font-weight:bold}\n.name{font-size:10px;fill:#555}\n.figures{font-size:10px;font-weight:bold}\n.legend{font-size:15px}\n.node{fill:#fff;stroke:#222;stroke-width:2px}\n.end{fill:#9ecae1}\n.link,.key{fill:none}\n.directed .link,.bidirected .link{marker-end:url(#arrow)}\n.bidirected .link{marker-start:url(#arrow-back)}\n.link,.key.old{stroke-dasharray:14 4}\n.link.new{stroke-dasharray:none}\n.link.unused,.key.unused{stroke:#999;stroke-dasharray:5 5}\n.low{stroke:#2b9348}\n.middle{stroke:#a3a000}\n.high{stroke:#e6a100}\n.brim{stroke:#e05d00}\n.full{stroke:#a3002b}\n.old{stroke:#555}\n.dim{opacity:.2}\n</style>\n<defs><marker id='arrow' markerUnits='userSpaceOnUse' markerWidth='14' markerHeight='10' refX='20' refY='5' orient='auto'><path d='M0 0L14 5L0 10z' fill='#444'/></marker><marker id='arrow-back' markerUnits='userSpaceOnUse' markerWidth='14' markerHeight='10' refX='-6' refY='5' orient='auto'><path d='M14 0L0 5L14 10z' fill='#444'/></marker></defs>\n<rect width='1200' height='900' fill='#fff'/>\n"
 
 -- the group that has all marks
 abbrev pub group : Orient → List ℕ
@@ -60,17 +61,40 @@ link_label net looks e = label_text (codes "name") (link_look looks e).label (li
 abbrev pub link_labels : NetworkFile → Looks → ℕ → List ℕ
 link_labels net looks count = flat_map (link_label net looks) (range_with_len 0 count)
 
--- the name of the node of this number
-abbrev pub node_name : NetworkFile → ℕ → List ℕ
-node_name net n = slice_index_or (node_names net.nodes) n []
+-- figures at their place, where there is one
+unfoldable pub figures_at : Option Spot → List ℕ → List ℕ
+figures_at None text = []
+figures_at (Some spot) text = label_text (codes "figures") spot text
+
+-- the figures of the link of this number, where it has a place for them
+unfoldable pub link_figures : Parts → Option (ℕ × Design) → Option ℕ → Looks → ℕ → List ℕ
+link_figures p design lit looks e = figures_at (link_look looks e).figures (figures (traffic_of p design lit e))
+
+-- the figures of so many links
+abbrev pub all_figures : Parts → Option (ℕ × Design) → Option ℕ → Looks → ℕ → List ℕ
+all_figures p design lit looks count = flat_map (link_figures p design lit looks) (range_with_len 0 count)
+
+-- the demand of this number ends at the node
+unfoldable pub ends_at : Parts → ℕ → ℕ → Bool
+ends_at p n k = (demand_at p k).source.0 == n || (demand_at p k).target.0 == n
+
+-- one of so many demands ends at the node
+abbrev pub any_ends_at : Parts → ℕ → ℕ → Bool
+any_ends_at p n zero = false
+any_ends_at p n (suc k) = any_ends_at p n k || ends_at p n k
+
+-- the demand that is to be lit ends at the node, or where none is to be lit any demand does
+abbrev pub is_end : Parts → Option ℕ → ℕ → Bool
+is_end p None n = any_ends_at p n (length p.demands)
+is_end p (Some k) n = ends_at p n k
 
 -- the mark of the node of this number, with its name
-unfoldable pub node_mark : NetworkFile → Looks → ℕ → List ℕ
-node_mark net looks n = node_text (node_name net n) (node_look looks n)
+unfoldable pub node_mark : NetworkFile → Parts → Option ℕ → Looks → ℕ → List ℕ
+node_mark net p lit looks n = node_text (node_name net n) (is_end p lit n) (node_look looks n)
 
 -- the marks of so many nodes
-abbrev pub node_marks : NetworkFile → Looks → ℕ → List ℕ
-node_marks net looks count = flat_map (node_mark net looks) (range_with_len 0 count)
+abbrev pub node_marks : NetworkFile → Parts → Option ℕ → Looks → ℕ → List ℕ
+node_marks net p lit looks count = flat_map (node_mark net p lit looks) (range_with_len 0 count)
 
 -- what stands before the name of the demand that is to be lit: whether the plan has a path of it
 abbrev pub path_words : Option (ℕ × Design) → List ℕ
@@ -90,20 +114,21 @@ lit_text net design (Some k) = path_text design (demand_name net k)
 unfoldable pub claim_text : Parts → Plan → List ℕ
 claim_text p plan = codes "<text class='legend' x='60' y='845'>" ++ drop 6 (trial_line p plan) ++ codes "</text>\n"
 
--- the colours of links with what they say, and the end
+-- the colours, dashes and widths of links, the marks of nodes and the figures, with what they say, and the end
 abbrev pub keys : List ℕ
-keys = codes "<path class='key unused' stroke-width='1' d='M60 870H100'/><text class='legend' x='110' y='875'>no load</text>\n<path class='key low' stroke-width='6' d='M220 870H260'/><text class='legend' x='270' y='875'>up to a half full</text>\n<path class='key middle' stroke-width='6' d='M430 870H470'/><text class='legend' x='480' y='875'>up to four fifths</text>\n<path class='key high' stroke-width='6' d='M640 870H680'/><text class='legend' x='690' y='875'>less than full</text>\n<path class='key full' stroke-width='6' d='M830 870H870'/><text class='legend' x='880' y='875'>full</text>\n</g>\n</svg>\n"
+keys = codes "<path class='key unused' stroke-width='1' d='M60 866H95'/><text class='legend' x='103' y='871'>no load</text>\n<path class='key low' stroke-width='6' d='M190 866H225'/><text class='legend' x='233' y='871'>up to a half full</text>\n<path class='key middle' stroke-width='6' d='M380 866H415'/><text class='legend' x='423' y='871'>up to four fifths</text>\n<path class='key high' stroke-width='6' d='M570 866H605'/><text class='legend' x='613' y='871'>up to nine tenths</text>\n<path class='key brim' stroke-width='6' d='M770 866H805'/><text class='legend' x='813' y='871'>less than full</text>\n<path class='key full' stroke-width='6' d='M940 866H975'/><text class='legend' x='983' y='871'>full</text>\n<path class='key old' stroke-width='6' d='M60 888H95'/><text class='legend' x='103' y='893'>nothing new is installed</text>\n<path class='key old' style='stroke-dasharray:none' stroke-width='2' d='M310 888H345'/><path class='key old' style='stroke-dasharray:none' stroke-width='10' d='M350 888H385'/><text class='legend' x='393' y='893'>the wider, the more capacity</text>\n<circle class='end node' r='7' cx='640' cy='888'/><text class='legend' x='655' y='893'>a demand ends here</text>\n<text class='legend' x='830' y='893'>6/10: a load of 6, a capacity of 10</text>\n</g>\n</svg>\n"
 
--- the marks of a picture with these looks: the links, their names, the nodes with theirs, and what is told below them
+-- the marks of a picture with these looks: the links, their names and figures, the nodes with their names, and what is told below them
 abbrev pub body_text : NetworkFile → Parts → Plan → Option ℕ → Looks → List ℕ
 body_text net p plan lit looks =
     group p.orient
     ++ link_marks net p plan.design lit looks (length p.links)
     ++ link_labels net looks (length p.links)
-    ++ node_marks net looks p.nodes
+    ++ all_figures p plan.design lit looks (length p.links)
+    ++ node_marks net p lit looks p.nodes
     ++ lit_text net plan.design lit ++ claim_text p plan ++ keys
 
--- a picture of the plan: each node and each link has its mark and its name, wherever they stand and however wide they are
+-- a picture of the plan: each node and each link has its mark and its name, wherever they stand and however wide they are; figures are those of their links
 pub record IsPicture (net : NetworkFile) (p : Parts) (plan : Plan) (lit : Option ℕ) (bytes : List ℕ) : Type 0 where
   pub utf8 : Bool
   pub looks : Looks

@@ -1,16 +1,16 @@
 //! The text of a picture.
 
-ghost use Rattle.std.specs.Prelude.{◌≡◌, ◌<◌, ◌++◌, length, option_map, OnOk, IfOk, IfSome};
+ghost use Rattle.std.specs.Prelude.{◌≡◌, ◌<◌, ◌++◌, length, option_map, OnOk, IfOk, IfSome, None};
 ghost use Rattle.proof_tree.specs.Plans.{IsValidPlan};
 ghost use Rattle.plan_report.specs.Reports.{IsReadFrom, HasNames};
 ghost use Rattle.mark_places.specs.Places.{HasLooks};
-ghost use Rattle.plan_picture.specs.Pictures.{HasLoads, node_mark, node_marks, link_mark, link_marks, link_label, link_labels, encoding, head, group, path_words, path_text, lit_text, claim_text, body_text, IsPicture};
+ghost use Rattle.plan_picture.specs.Pictures.{HasLoads, ends_at, is_end, node_mark, node_marks, link_mark, link_marks, link_label, link_labels, figures_at, link_figures, all_figures, encoding, head, group, path_words, path_text, lit_text, claim_text, body_text, IsPicture};
 
 use crate::names::are_utf8;
 use crate::sites::looks_of_plan;
 use crate::traffic::{loads_of_plan, traffic_of};
-use mark_places::Looks;
-use picture_marks::{push_escaped, push_label, push_link, push_node};
+use mark_places::{Looks, Spot};
+use picture_marks::{push_escaped, push_figures, push_label, push_link, push_node};
 use plan_base::limits::MAX_PLACES;
 use plan_base::{DemandId, Instance, LinkId, Orient};
 use plan_report::trial_line;
@@ -23,31 +23,42 @@ const STYLE: &[u8] =
     b"'?>\n<svg xmlns='http://www.w3.org/2000/svg' width='1200' height='900' viewBox='0 0 1200 900'>\n\
     <style>\n\
     text{font-family:sans-serif;fill:#222}\n\
-    .place,.name{text-anchor:middle;paint-order:stroke;stroke:#fff;stroke-width:3px}\n\
+    .place,.name,.figures{text-anchor:middle;paint-order:stroke;stroke:#fff;stroke-width:3px}\n\
     .place{font-size:13px;font-weight:bold}\n\
     .name{font-size:10px;fill:#555}\n\
+    .figures{font-size:10px;font-weight:bold}\n\
     .legend{font-size:15px}\n\
     .node{fill:#fff;stroke:#222;stroke-width:2px}\n\
+    .end{fill:#9ecae1}\n\
     .link,.key{fill:none}\n\
     .directed .link,.bidirected .link{marker-end:url(#arrow)}\n\
     .bidirected .link{marker-start:url(#arrow-back)}\n\
-    .unused{stroke:#999;stroke-dasharray:5 5}\n\
+    .link,.key.old{stroke-dasharray:14 4}\n\
+    .link.new{stroke-dasharray:none}\n\
+    .link.unused,.key.unused{stroke:#999;stroke-dasharray:5 5}\n\
     .low{stroke:#2b9348}\n\
     .middle{stroke:#a3a000}\n\
-    .high{stroke:#e07a00}\n\
-    .full{stroke:#c1121f}\n\
+    .high{stroke:#e6a100}\n\
+    .brim{stroke:#e05d00}\n\
+    .full{stroke:#a3002b}\n\
+    .old{stroke:#555}\n\
     .dim{opacity:.2}\n\
     </style>\n\
     <defs><marker id='arrow' markerUnits='userSpaceOnUse' markerWidth='14' markerHeight='10' refX='20' refY='5' orient='auto'><path d='M0 0L14 5L0 10z' fill='#444'/></marker><marker id='arrow-back' markerUnits='userSpaceOnUse' markerWidth='14' markerHeight='10' refX='-6' refY='5' orient='auto'><path d='M14 0L0 5L14 10z' fill='#444'/></marker></defs>\n\
     <rect width='1200' height='900' fill='#fff'/>\n";
 
-/// The colours of links with what they say, and the end.
+/// The colours, dashes and widths of links, the marks of nodes and the figures, with what they say, and the end.
 const KEYS: &[u8] =
-    b"<path class='key unused' stroke-width='1' d='M60 870H100'/><text class='legend' x='110' y='875'>no load</text>\n\
-    <path class='key low' stroke-width='6' d='M220 870H260'/><text class='legend' x='270' y='875'>up to a half full</text>\n\
-    <path class='key middle' stroke-width='6' d='M430 870H470'/><text class='legend' x='480' y='875'>up to four fifths</text>\n\
-    <path class='key high' stroke-width='6' d='M640 870H680'/><text class='legend' x='690' y='875'>less than full</text>\n\
-    <path class='key full' stroke-width='6' d='M830 870H870'/><text class='legend' x='880' y='875'>full</text>\n\
+    b"<path class='key unused' stroke-width='1' d='M60 866H95'/><text class='legend' x='103' y='871'>no load</text>\n\
+    <path class='key low' stroke-width='6' d='M190 866H225'/><text class='legend' x='233' y='871'>up to a half full</text>\n\
+    <path class='key middle' stroke-width='6' d='M380 866H415'/><text class='legend' x='423' y='871'>up to four fifths</text>\n\
+    <path class='key high' stroke-width='6' d='M570 866H605'/><text class='legend' x='613' y='871'>up to nine tenths</text>\n\
+    <path class='key brim' stroke-width='6' d='M770 866H805'/><text class='legend' x='813' y='871'>less than full</text>\n\
+    <path class='key full' stroke-width='6' d='M940 866H975'/><text class='legend' x='983' y='871'>full</text>\n\
+    <path class='key old' stroke-width='6' d='M60 888H95'/><text class='legend' x='103' y='893'>nothing new is installed</text>\n\
+    <path class='key old' style='stroke-dasharray:none' stroke-width='2' d='M310 888H345'/><path class='key old' style='stroke-dasharray:none' stroke-width='10' d='M350 888H385'/><text class='legend' x='393' y='893'>the wider, the more capacity</text>\n\
+    <circle class='end node' r='7' cx='640' cy='888'/><text class='legend' x='655' y='893'>a demand ends here</text>\n\
+    <text class='legend' x='830' y='893'>6/10: a load of 6, a capacity of 10</text>\n\
     </g>\n</svg>\n";
 
 /// The bytes of the first word of a trial's line and of the blank behind it.
@@ -81,30 +92,83 @@ fn push_group(text: &mut Vec<u8>, orient: Orient) -> Result<(), AllocError>
     }
 }
 
+/// Whether a demand ends at the node.
+#[tactic(auto, unfolding(crate::specs::Pictures::ends_at))]
+fn ends_at(inst: &Instance, node: u32, demand: DemandId) -> bool
+    requires { demand.0 < length inst.now.demands }
+    ensures { result ≡ ends_at inst.now node demand.0 }
+{
+    let demand = inst.demand(demand);
+    demand.source.0 == node || demand.target.0 == node
+}
+
+/// Whether any demand ends at the node.
+#[tactic(auto, using(crate::proofs::NodeEnds::none_more))]
+fn is_any_end(inst: &Instance, node: u32) -> bool
+    ensures { result ≡ is_end inst.now None node }
+{
+    for place in 0..inst.demands() {
+        if ends_at(inst, node, DemandId(place)) {
+            return true;
+        }
+    }
+    false
+}
+
+/// Whether the demand that is to be lit ends at the node, or where none is to be lit any demand does.
+fn is_end(inst: &Instance, lit: Option<DemandId>, node: u32) -> bool
+    requires { IfSome lit (λ k. k.0 < length inst.now.demands) }
+    ensures { result ≡ is_end inst.now (option_map (λ k. k.0) lit) node }
+{
+    match lit {
+        Some(demand) => ends_at(inst, node, demand),
+        None => is_any_end(inst, node),
+    }
+}
+
 /// Writes the mark of the node of this number.
 #[tactic(auto, unfolding(crate::specs::Pictures::node_mark))]
 fn push_node_at(
     text: &mut Vec<u8>,
     net: &NetworkFile,
+    inst: &Instance,
+    lit: Option<DemandId>,
     looks: &Looks,
-    place: usize,
+    node: u32,
 ) -> Result<(), AllocError>
-    requires node { place < length net.now.nodes }
+    requires node { node < length net.now.nodes }
+    requires lit { IfSome lit (λ k. k.0 < length inst.now.demands) }
     requires looks { length looks.now.nodes ≡ length net.now.nodes }
-    ensures { OnOk result (text.new.items ≡ text.old.items ++ node_mark net.now looks.now place) }
+    ensures { OnOk result (text.new.items ≡ text.old.items
+        ++ node_mark net.now inst.now (option_map (λ k. k.0) lit) looks.now node) }
 {
+    let place = node as usize;
     let name = net.nodes.as_slice()[place].name.as_slice();
-    push_node(text, name, looks.nodes.as_slice()[place])
+    push_node(
+        text,
+        name,
+        is_end(inst, lit, node),
+        looks.nodes.as_slice()[place],
+    )
 }
 
 /// Writes the marks of the nodes.
 #[tactic(auto, using(plan_report::proofs::Counted::counted_more))]
-fn push_nodes(text: &mut Vec<u8>, net: &NetworkFile, looks: &Looks) -> Result<(), AllocError>
-    requires { length looks.now.nodes ≡ length net.now.nodes }
-    ensures { OnOk result (text.new.items ≡ text.old.items ++ node_marks net.now looks.now (length net.now.nodes)) }
+fn push_nodes(
+    text: &mut Vec<u8>,
+    net: &NetworkFile,
+    inst: &Instance,
+    lit: Option<DemandId>,
+    looks: &Looks,
+) -> Result<(), AllocError>
+    requires nodes { length net.now.nodes ≡ inst.now.nodes }
+    requires lit { IfSome lit (λ k. k.0 < length inst.now.demands) }
+    requires looks { length looks.now.nodes ≡ inst.now.nodes }
+    ensures { OnOk result (text.new.items ≡ text.old.items
+        ++ node_marks net.now inst.now (option_map (λ k. k.0) lit) looks.now inst.now.nodes) }
 {
-    for place in 0..net.nodes.len() {
-        push_node_at(text, net, looks, place)?;
+    for node in 0..inst.nodes() {
+        push_node_at(text, net, inst, lit, looks, node)?;
     }
     Ok(())
 }
@@ -189,6 +253,77 @@ fn push_link_labels(text: &mut Vec<u8>, net: &NetworkFile, looks: &Looks) -> Res
     Ok(())
 }
 
+/// Writes figures at their place, where there is one.
+#[tactic(auto, unfolding(crate::specs::Pictures::figures_at))]
+fn push_figures_at(text: &mut Vec<u8>, spot: Option<Spot>, figures: &[u8]) -> Result<(), AllocError>
+    ensures { OnOk result (text.new.items ≡ text.old.items ++ figures_at spot figures.now) }
+{
+    match spot {
+        Some(spot) => push_label(text, b"figures", spot, figures),
+        None => Ok(()),
+    }
+}
+
+/// Writes the figures of the link of this number, where it has a place for them. The room for them is written over.
+#[tactic(auto, unfolding(crate::specs::Pictures::link_figures))]
+fn push_link_figures(
+    text: &mut Vec<u8>,
+    room: &mut Vec<u8>,
+    inst: &Instance,
+    plan: &Plan,
+    lit: Option<DemandId>,
+    looks: &Looks,
+    loads: &[u128; MAX_PLACES],
+    id: LinkId,
+) -> Result<(), AllocError>
+    requires valid { IsValidPlan inst.now plan.now }
+    requires lit { IfSome lit (λ k. k.0 < length inst.now.demands) }
+    requires looks { HasLooks looks.now inst.now.nodes (length inst.now.links) }
+    requires loads { HasLoads inst.now plan.now.design loads.now }
+    requires link { id.0 < length inst.now.links }
+    ensures { OnOk result (text.new.items ≡ text.old.items
+        ++ link_figures inst.now plan.now.design (option_map (λ k. k.0) lit) looks.now id.0) }
+{
+    room.clear();
+    push_figures(room, traffic_of(inst, plan, lit, id, loads))?;
+    let spot = looks.links.as_slice()[id.0 as usize].figures;
+    push_figures_at(text, spot, room.as_slice())
+}
+
+/// Writes the figures of the links.
+#[tactic(auto, using(plan_report::proofs::Counted::counted_more))]
+fn push_all_figures(
+    alloc: Global,
+    text: &mut Vec<u8>,
+    inst: &Instance,
+    plan: &Plan,
+    lit: Option<DemandId>,
+    looks: &Looks,
+    loads: &[u128; MAX_PLACES],
+) -> Result<(), AllocError>
+    requires valid { IsValidPlan inst.now plan.now }
+    requires lit { IfSome lit (λ k. k.0 < length inst.now.demands) }
+    requires looks { HasLooks looks.now inst.now.nodes (length inst.now.links) }
+    requires loads { HasLoads inst.now plan.now.design loads.now }
+    ensures { OnOk result (text.new.items ≡ text.old.items
+        ++ all_figures inst.now plan.now.design (option_map (λ k. k.0) lit) looks.now (length inst.now.links)) }
+{
+    let mut room = Vec::new(alloc);
+    for place in 0..inst.links() {
+        push_link_figures(
+            text,
+            &mut room,
+            inst,
+            plan,
+            lit,
+            looks,
+            loads,
+            LinkId(place),
+        )?;
+    }
+    Ok(())
+}
+
 /// What stands before the name of the demand that is to be lit: whether the plan has a path of it.
 fn path_words(plan: &Plan) -> &'static [u8]
     ensures { result.now ≡ path_words plan.now.design }
@@ -268,7 +403,8 @@ fn push_body(
     push_group(text, inst.orient())?;
     push_links(text, net, inst, plan, lit, looks, &loads)?;
     push_link_labels(text, net, looks)?;
-    push_nodes(text, net, looks)?;
+    push_all_figures(alloc, text, inst, plan, lit, looks, &loads)?;
+    push_nodes(text, net, inst, lit, looks)?;
     push_lit(text, net, plan, lit)?;
     push_claim(alloc, text, inst, plan)?;
     text.extend_from_slice(KEYS)?;

@@ -8,22 +8,52 @@ ghost use Rattle.mark_places.specs.Places.{HasLooks};
 use crate::coordinates::coordinates_of;
 use crate::traffic::{loads_of_plan, traffic_of};
 use mark_places::{Looks, Site, Span, looks_of};
+use picture_marks::{Traffic, push_figures};
 use plan_base::{Instance, LinkId};
 use proof_tree::Plan;
 use snd_network::NetworkFile;
 use std::alloc::{AllocError, Global};
 
-/// The capacity of each link that has a load, and 0 for each other, in load grains.
-fn capacities_of(alloc: Global, inst: &Instance, plan: &Plan) -> Result<Vec<u128>, AllocError>
+/// What is drawn of the traffic on a link.
+#[derive(Clone, Copy)]
+struct Drawn {
+    /// The capacity of a link that has a load, and 0 of each other, in load grains.
+    capacity: u128,
+    /// How many bytes the figures have; 0 where none are shown.
+    figures: usize,
+}
+
+/// What is drawn of a link without a capacity.
+const NOTHING: Drawn = Drawn {
+    capacity: 0,
+    figures: 0,
+};
+
+/// What is drawn of a link with this traffic. The room for figures is written over.
+fn drawn_of(room: &mut Vec<u8>, traffic: Option<Traffic>) -> Result<Drawn, AllocError> {
+    room.clear();
+    match traffic {
+        Some(on) if on.capacity > 0 => {
+            push_figures(room, traffic)?;
+            Ok(Drawn {
+                capacity: if on.need > 0 { on.capacity } else { 0 },
+                figures: room.len(),
+            })
+        }
+        _ => Ok(NOTHING),
+    }
+}
+
+/// What is drawn of each link.
+fn all_drawn(alloc: Global, inst: &Instance, plan: &Plan) -> Result<Vec<Drawn>, AllocError>
     requires { IsValidPlan inst.now plan.now }
 {
     let loads = loads_of_plan(inst, plan);
+    let mut room = Vec::new(alloc);
     let mut all = Vec::new(alloc);
     for place in 0..inst.links() {
-        match traffic_of(inst, plan, None, LinkId(place), &loads) {
-            Some(traffic) if traffic.need > 0 => all.push(traffic.capacity)?,
-            _ => all.push(0)?,
-        }
+        let traffic = traffic_of(inst, plan, None, LinkId(place), &loads);
+        all.push(drawn_of(&mut room, traffic)?)?;
     }
     Ok(all)
 }
@@ -38,11 +68,11 @@ fn width_of(capacity: u128, greatest: u128) -> u32 {
     2 + eighths as u32
 }
 
-/// The greatest of these capacities.
-fn greatest_of(capacities: &[u128]) -> u128 {
+/// The greatest capacity that is drawn.
+fn greatest_of(all: &[Drawn]) -> u128 {
     let mut greatest: u128 = 0;
-    for capacity in capacities {
-        greatest = greatest.max(*capacity);
+    for drawn in all {
+        greatest = greatest.max(drawn.capacity);
     }
     greatest
 }
@@ -61,19 +91,20 @@ fn sites_of(alloc: Global, net: &NetworkFile) -> Result<Vec<Site>, AllocError>
     Ok(sites)
 }
 
-/// The links that are to be placed, of these capacities.
-fn spans_of(alloc: Global, net: &NetworkFile, capacities: &[u128]) -> Result<Vec<Span>, AllocError>
+/// The links that are to be placed, of which this is drawn.
+fn spans_of(alloc: Global, net: &NetworkFile, all: &[Drawn]) -> Result<Vec<Span>, AllocError>
     ensures { IfOk result (λ spans. length spans.items ≡ length net.now.links) }
 {
-    let greatest = greatest_of(capacities);
+    let greatest = greatest_of(all);
     let mut spans = Vec::new(alloc);
     for (place, link) in net.links.as_slice().iter().enumerate() {
-        let capacity = capacities.get(place).copied().unwrap_or(0);
+        let drawn = all.get(place).copied().unwrap_or(NOTHING);
         spans.push(Span {
             name: link.name.as_slice().len(),
+            figures: drawn.figures,
             source: link.source.0 as usize,
             target: link.target.0 as usize,
-            width: width_of(capacity, greatest),
+            width: width_of(drawn.capacity, greatest),
         })?;
     }
     Ok(spans)
@@ -90,8 +121,8 @@ pub fn looks_of_plan(
     requires valid { IsValidPlan inst.now plan.now }
     ensures { IfOk result (λ looks. HasLooks looks inst.now.nodes (length inst.now.links)) }
 {
-    let capacities = capacities_of(alloc, inst, plan)?;
+    let drawn = all_drawn(alloc, inst, plan)?;
     let sites = sites_of(alloc, net)?;
-    let spans = spans_of(alloc, net, capacities.as_slice())?;
+    let spans = spans_of(alloc, net, drawn.as_slice())?;
     looks_of(alloc, sites.as_slice(), spans.as_slice(), inst.orient())
 }

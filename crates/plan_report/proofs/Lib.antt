@@ -1,4 +1,4 @@
 pub mod Counted
-mod Lists
+pub mod Lists
 pub mod PlaceLoads
 mod Steps

@@ -8,7 +8,7 @@ use Rattle.plan_base.specs.Arcs.{link_at, link_of}
 use Rattle.plan_base.specs.Places.{is_two_way, there_of, back_of}
 use Rattle.plan_base.specs.Designs.{path_at, counts_at, load_at, capacity_with, link_cost}
 use Rattle.snd_network.specs.declared.file.NetworkFile.{NetworkFile}
-use Rattle.snd_network.specs.WellFormed.{link_names, demand_names}
+use Rattle.snd_network.specs.WellFormed.{node_names, link_names, demand_names}
 use Rattle.snd_model.specs.declared.file.ModelFile.{ModelFile}
 use Rattle.model_check.specs.Reading.{ReadsAs}
 use Rattle.scaled_numbers.specs.Canonical.{grains_text}
@@ -32,6 +32,10 @@ pub record HasNames (net : NetworkFile) (p : Parts) : Type 0 where
 -- a load or a capacity, in units
 abbrev pub load_text : ℕ → List ℕ
 load_text load = grains_text load LOAD_SCALE
+
+-- the name of the node of this number
+abbrev pub node_name : NetworkFile → ℕ → List ℕ
+node_name net n = slice_index_or (node_names net.nodes) n []
 
 -- the name of the link of this number
 abbrev pub link_name : NetworkFile → ℕ → List ℕ

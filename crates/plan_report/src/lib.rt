@@ -16,10 +16,10 @@ mod run_fault;
 mod trial_lines;
 mod verdict_lines;
 
-pub use check_lines::check_line;
+pub use check_lines::{LOAD_SCALE, check_line};
 pub use fault_lines::fault_line;
-pub use numbers::push_number;
-pub use reports::report_text;
+pub use numbers::{push_number, push_numbers};
+pub use reports::{link_cost, push_way, report_text};
 pub use run_fault::{FileKind, RunFault};
 pub use trial_lines::trial_line;
-pub use verdict_lines::verdict_line;
+pub use verdict_lines::{COST_SCALE, push_signed, status_word, verdict_line};

@@ -15,6 +15,8 @@ pub fn push_number(text: &mut Vec<u8>, number: u64) -> Result<(), AllocError>
 }
 
 /// Writes each number behind a blank.
+///
+/// - Errors: want of memory alone.
 #[tactic(auto, using(crate::proofs::Lists::lists))]
 pub fn push_numbers(text: &mut Vec<u8>, all: &[u64]) -> Result<(), AllocError>
     ensures { OnOk result (text.new.items ≡ text.old.items ++ numbers all.now) }

@@ -55,9 +55,13 @@ fn push_traffic(
     write_grains(capacity_with(inst.link(id), counts), LOAD_SCALE, text)
 }
 
-/// What a link costs with the loads of its places, which are these.
+/// What a link costs with the loads of its places, which are these, in cost grains.
+///
+/// - Takes: a good design of the instance, a link of it, and the loads of the link's places in that design.
+/// - Rule: docs/DEFINITIONS.md, "Designs".
+/// - Time: linear in the link's modules. Takes no memory.
 #[tactic(auto, using(plan_base::proofs::LoadLaws::load_laws))]
-fn link_cost(inst: &Instance, design: &Design, id: LinkId, loads: LinkLoads) -> u128
+pub fn link_cost(inst: &Instance, design: &Design, id: LinkId, loads: LinkLoads) -> u128
     requires lawful { IsInstance inst.now }
     requires link { id.0 < length inst.now.links }
     requires good { IsGoodDesign inst.now design.now }
@@ -139,9 +143,12 @@ fn push_links(
     Ok(())
 }
 
-/// Writes the names of the links of a path.
+/// Writes the names of the links of a path, each behind a blank.
+///
+/// - Errors: want of memory alone.
+/// - Time: linear in the bytes that it writes.
 #[tactic(auto, using(crate::proofs::Lists::lists))]
-fn push_way(text: &mut Vec<u8>, net: &NetworkFile, arcs: &[ArcId]) -> Result<(), AllocError>
+pub fn push_way(text: &mut Vec<u8>, net: &NetworkFile, arcs: &[ArcId]) -> Result<(), AllocError>
     requires { All (λ a. link_of a < length net.now.links) arcs.now }
     ensures { OnOk result (text.new.items ≡ text.old.items ++ way_text net.now arcs.now) }
 {

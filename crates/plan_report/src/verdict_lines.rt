@@ -25,7 +25,10 @@ fn push_cost(text: &mut Vec<u8>, cost: u128) -> Result<(), AllocError>
 }
 
 /// Writes a bound, with a minus where it is negative.
-fn push_signed(text: &mut Vec<u8>, bound: i128) -> Result<(), AllocError>
+///
+/// - Takes: a bound in cost grains.
+/// - Errors: want of memory alone.
+pub fn push_signed(text: &mut Vec<u8>, bound: i128) -> Result<(), AllocError>
     ensures { OnOk result (text.new.items ≡ text.old.items ++ signed_text bound) }
 {
     if bound < 0 {

@@ -1,5 +1,5 @@
 use Rattle.std.proofs.Common.{◌≡◌, length}
-use Rattle.mark_places.proofs.placing.link_looks.Given as goal
+use Rattle.mark_places.proofs.placing.named_looks.Given as goal
 
 -- each link before this one has its look
 abbrev pub invariant-loop-place : goal.invariant-loop-place
