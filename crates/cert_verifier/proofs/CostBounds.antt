@@ -1,4 +1,4 @@
--- A good design costs less than 2^127 cost grains.
+-- What a good design costs at most, in cost grains.
 use Rattle.std.proofs.Common.{◌≡◌, ℕ, zero, suc, ◌*◌, ◌^◌, ◌<◌, ◌≤◌, length, slice_index, Option, Some, None, subst, arith}
 use Rattle.std.specs.Prelude.{IfSome}
 use Rattle.std.specs.Option.{option_map}
@@ -39,7 +39,7 @@ link-most p d e inst good within =
     let modules = modules-most p d e good within in
     omega arith
 
-pub good-cost : (p : Parts) (d : Design) → IsInstance p → IsGoodDesign p d → cost_of p d < 2 ^ 127
+pub good-cost : (p : Parts) (d : Design) → IsInstance p → IsGoodDesign p d → cost_of p d < 2 ^ 115
 good-cost p d inst good =
     let sum = sum-most (link_cost p d) (34 * 10 ^ 30) (length p.links) (λ e within. link-most p d e inst good within) in
     let few : length p.links ≤ MAX_LINKS = inst.link_count in
@@ -50,4 +50,5 @@ pub stated-small : (p : Parts) (design : Option (ℕ × Design)) → IsInstance 
 stated-small p None inst h = tt
 stated-small p (Some (cost, d)) inst h =
     let stated = stated_found_none p (Some (cost, d)) h in
-    subst (λ n. n < 2 ^ 127) stated.cost_is (good-cost p d inst stated.good)
+    let small : cost < 2 ^ 115 = subst (λ n. n < 2 ^ 115) stated.cost_is (good-cost p d inst stated.good) in
+    omega (arith, small)

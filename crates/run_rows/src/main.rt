@@ -1,5 +1,5 @@
-//! Runs the top call, the verifier alone and the drawing of pictures over small texts, and writes for each run its name,
-//! the status and what was written.
+//! Runs the top call, the verifier alone, the drawing of pictures and the writing of tables over small texts, and writes for
+//! each run its name, the status and what was written.
 //!
 //! The files of rows, which the program's words name, have texts by name and runs over them, each as its head explains:
 //! - `runs.txt`: each key and spelling of a model, each status, the order in which texts are looked at, shelves and sinks
@@ -10,12 +10,13 @@
 //! - `pictures.txt`: the marks and names of nodes and links, links by how full they are, names that are escaped.
 //!
 //! To add a row, write it there, and what it writes, worked out by hand, at the same place of the file `stdout`. Begin at
-//! `take_block`. Stands on `plan_run`, `text_runs` and `picture_runs` and promises nothing of its own.
+//! `take_block`. Stands on `plan_run`, `text_runs`, `picture_runs` and `table_runs` and promises nothing of its own.
 #![tactic(auto)]
 
 mod blocks;
 mod pictures;
 mod runs;
+mod tables;
 mod texts;
 mod verifying;
 
@@ -66,6 +67,7 @@ fn take_block<R: Files + Threads + Wait + Sync>(
         "plan" => verifying::plan_row(rt, alloc, texts, rest, lines, text),
         "changed" => verifying::changed_row(rt, alloc, texts, rest, lines, text),
         "draw" => pictures::draw_row(alloc, texts, rest, text),
+        "tables" => tables::table_row(alloc, texts, rest, text),
         _ => None,
     }
 }

@@ -1,1 +1,2 @@
+pub mod ThreeNames
 mod Verdicts

@@ -17,7 +17,7 @@ use std::alloc::Global;
 const USAGE_LINE: &[u8] = b"usage: sndverify NET MODEL PLAN\n";
 
 /// What a run of these words has to say.
-#[tactic(auto, using(crate::proofs::Verdicts::found_other))]
+#[tactic(auto, using(crate::proofs::ThreeNames::found_other))]
 fn answer_to<S: Shelf>(alloc: Global, words: &[String], shelf: &mut S) -> Result<Answer, Stop>
     ensures found { IsFound usage_line IsVerified (names_in (map string_bytes words.now)) (S.text shelf.old)
         (counts_of (S.faults shelf.old) (S.faults shelf.new) (S.taken shelf.new))

@@ -1,0 +1,7 @@
+use Rattle.std.proofs.Common.{◌≡◌, ◌++◌}
+use Rattle.plan_table.specs.Tables.{demand_rows}
+use Rattle.plan_table.proofs.demands.push_demands.Given as goal
+
+-- the lines of the demands before this one are written
+abbrev pub invariant-loop-place : goal.invariant-loop-place
+invariant-loop-place l = l.text.items ≡ l.initial.text.items ++ demand_rows l.net l.inst l.design l.place

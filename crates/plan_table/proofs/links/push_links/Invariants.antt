@@ -1,0 +1,7 @@
+use Rattle.std.proofs.Common.{◌≡◌, ◌++◌}
+use Rattle.plan_table.specs.Tables.{link_rows}
+use Rattle.plan_table.proofs.links.push_links.Given as goal
+
+-- the lines of the links before this one are written
+abbrev pub invariant-loop-place : goal.invariant-loop-place
+invariant-loop-place l = l.text.items ≡ l.initial.text.items ++ link_rows l.net l.inst l.design l.place

@@ -1,0 +1,37 @@
+-- The main statement of the program that writes tables: table_run of src/running.rt has it as its contract.
+use Rattle.std.specs.Prelude.{ℕ, ◌≡◌, List, codes, Option, IsSomeAnd}
+use Rattle.plan_base.specs.declared.parts.Parts.{Parts}
+use Rattle.snd_network.specs.declared.file.NetworkFile.{NetworkFile}
+use Rattle.proof_tree.specs.declared.plan.Plan.{Plan}
+use Rattle.proof_tree.specs.Plans.{IsValidPlan, HasItsClaim}
+use Rattle.plan_texts.specs.declared.status.Status.{Status}
+use Rattle.plan_texts.specs.declared.status.Status.TheVariants.{Good, Rejected}
+use Rattle.plan_texts.specs.Answers.{IsRejection}
+use Rattle.plan_texts.specs.Refusals.{HoldsOfProblem, Counts}
+use Rattle.plan_texts.specs.Texts.{Name, Told, Texts}
+use Rattle.run_ends.specs.Ends.{IsTextRun}
+use Rattle.text_runs.specs.VerifyRuns.{names_in}
+use Rattle.plan_table.specs.Tables.{table_text}
+
+-- how the program is called
+abbrev pub usage_line : List ℕ
+usage_line = codes "usage: sndtable NET MODEL PLAN\n"
+
+-- the plan is a valid one of the instance, so what it claims is so, and these are its tables
+pub record IsTableOf (net : NetworkFile) (p : Parts) (plan : Plan) (bytes : List ℕ) : Type 0 where
+  pub valid : IsValidPlan p plan
+  pub claim : HasItsClaim p plan
+  pub text : bytes ≡ table_text net p plan
+
+-- a valid plan is told, and any other is rejected, with the status that goes with it
+pub data IsTable (net : NetworkFile) (p : Parts) (plan : Plan) (status : Status) (bytes : List ℕ) : Type 0 where
+  tabled : status ≡ Good → IsTableOf net p plan bytes → IsTable net p plan status bytes
+  untabled : status ≡ Rejected → IsRejection p plan bytes → IsTable net p plan status bytes
+
+-- the texts spell an instance within its limits and a plan, and this is told of it
+abbrev pub IsTabled : Texts → Status → List ℕ → Type 0
+IsTabled texts status bytes = HoldsOfProblem texts (λ net p plan. IsSomeAnd plan (λ made. IsTable net p made status bytes))
+
+-- a run of these words ends with the tables of the plan that they name, with a refusal of words, texts or plan, with a front of such an answer, or with nothing
+abbrev pub IsTableRun : List Name → Told → Counts → ℕ → ℕ → Option (List ℕ) → Option (List ℕ) → Status → Type 0
+IsTableRun words shelf counts begins_before begins_now before now status = IsTextRun usage_line IsTabled (names_in words) shelf counts begins_before begins_now before now status
