@@ -1,5 +1,5 @@
 -- Arcs: link e gives arc 2e from source to target and, where links may be used against their direction, arc 2e + 1 back.
-use Rattle.std.specs.Prelude.{ℕ, ◌/◌, ◌%◌, Bool, true, false, ◌&&◌, ◌||◌, length, [], slice_index_or, if◌then◌else◌, nat_lt, ◌==◌}
+use Rattle.std.specs.Prelude.{ℕ, ◌/◌, ◌%◌, Bool, true, false, ◌&&◌, ◌||◌, length, [], None, slice_index_or, if◌then◌else◌, nat_lt, ◌==◌}
 use Rattle.plan_base.specs.declared.ids.NodeId.{NodeId}
 use Rattle.plan_base.specs.declared.ids.ArcId.{ArcId}
 use Rattle.plan_base.specs.declared.parts.Orient.{Orient}
@@ -24,7 +24,7 @@ no_link = record { source = no_node; target = no_node; pre = 0; routing = 0; mod
 
 -- the demand that is read past the end of the list
 abbrev pub no_demand : Demand
-no_demand = record { source = no_node; target = no_node; load = 0 }
+no_demand = record { source = no_node; target = no_node; load = 0; hops = None }
 
 -- the arc that is read past the end of a list
 abbrev pub no_arc : ArcId

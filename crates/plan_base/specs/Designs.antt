@@ -1,6 +1,8 @@
 -- Designs: what they carry, what they install and what they cost.
-use Rattle.std.specs.Prelude.{ℕ, ◌≡◌, ◌<◌, ◌≤◌, ◌+◌, ◌*◌, max, List, [], length, slice_index, slice_index_or, if◌then◌else◌}
+use Rattle.std.specs.Prelude.{ℕ, ◌≡◌, ◌<◌, ◌≤◌, ◌+◌, ◌*◌, max, List, [], length, slice_index, slice_index_or, sum, Option, IfSome, ⊤, if◌then◌else◌}
 use Rattle.plan_base.specs.declared.ids.ArcId.{ArcId}
+use Rattle.plan_base.specs.declared.parts.CountLaw.{CountLaw}
+use Rattle.plan_base.specs.declared.parts.CountLaw.TheVariants.{Any, AtMostOne}
 use Rattle.plan_base.specs.declared.parts.Module.{Module}
 use Rattle.plan_base.specs.declared.parts.Link.{Link}
 use Rattle.plan_base.specs.declared.parts.Parts.{Parts}
@@ -59,20 +61,35 @@ link_cost p d e = (link_at p e).routing * carried p d e + module_cost_with (link
 abbrev pub cost_of : Parts → Design → ℕ
 cost_of p d = sum_below (link_cost p d) (length p.links)
 
--- one simple path for each demand, and for each link one count for each module
+-- counts that the law allows: any, or such as add to at most one
+abbrev pub AreLawful : CountLaw → List ℕ → Type 0
+AreLawful Any counts = ⊤
+AreLawful AtMostOne counts = sum counts ≤ 1
+
+-- one simple path for each demand, and for each link one count for each module, which the law allows
 pub record IsDesign (p : Parts) (d : Design) : Type 0 where
   pub path_count : length d.paths ≡ length p.demands
   pub list_count : length d.counts ≡ length p.links
   pub paths : (k : ℕ) → k < length p.demands → IsSimplePath p (demand_at p k) (path_at d k)
   pub counts : (e : ℕ) → e < length p.links → length (counts_at d e) ≡ length (link_at p e).modules
+  pub lawful : (e : ℕ) → e < length p.links → AreLawful p.law (counts_at d e)
 
 -- no link needs more than its capacity
 abbrev pub CarriesLoads : Parts → Design → Type 0
 CarriesLoads p d = (e : ℕ) → e < length p.links → need p d e ≤ capacity_with (link_at p e) (counts_at d e)
 
--- its links carry what its paths put on them
+-- a path of so many arcs is within the limit, if there is one
+abbrev pub KeepsLimit : Option ℕ → ℕ → Type 0
+KeepsLimit hops arcs = IfSome hops (λ limit. arcs ≤ limit)
+
+-- no path has more arcs than its demand's limit
+abbrev pub KeepsLimits : Parts → Design → Type 0
+KeepsLimits p d = (k : ℕ) → k < length p.demands → KeepsLimit (demand_at p k).hops (length (path_at d k))
+
+-- its links carry what its paths put on them, and its paths keep the limits of their demands
 pub record IsFeasible (p : Parts) (d : Design) : Type 0 where
   pub carried : CarriesLoads p d
+  pub limits : KeepsLimits p d
 
 -- the count, and its cost in cost grains, is small enough
 pub record IsCountInShape (count cost : ℕ) : Type 0 where

@@ -1,6 +1,8 @@
 -- What an instance is: an orientation, a count of nodes, links and demands, each within its limits.
-use Rattle.std.specs.Prelude.{ℕ, ◌<◌, ◌≤◌, ◌≢◌, ◌*◌, ◌/◌, ◌^◌, max, min, Bool, length, sum_by, All, if◌then◌else◌, nat_lt}
+use Rattle.std.specs.Prelude.{ℕ, ◌<◌, ◌≤◌, ◌≢◌, ◌*◌, ◌/◌, ◌^◌, max, min, Bool, List, length, sum_by, fold, ◌+◌, All, if◌then◌else◌, nat_lt}
 use Rattle.std.specs.List.{list_any}
+use Rattle.plan_base.specs.declared.parts.CountLaw.{CountLaw}
+use Rattle.plan_base.specs.declared.parts.CountLaw.TheVariants.{Any, AtMostOne}
 use Rattle.plan_base.specs.declared.parts.Module.{Module}
 use Rattle.plan_base.specs.declared.parts.Link.{Link}
 use Rattle.plan_base.specs.declared.parts.Demand.{Demand}
@@ -15,9 +17,18 @@ total_load p = sum_by (λ k. k.load) p.demands
 abbrev pub is_useful : Link → Bool
 is_useful l = list_any (λ m. nat_lt 0 m.capacity) l.modules
 
+-- the greatest capacity of some modules, 0 where there is none
+abbrev pub greatest_capacity : List Module → ℕ
+greatest_capacity modules = fold (λ most m. max most m.capacity) 0 modules
+
+-- the most load that counts of a useful link may carry, where the total load is not less: any load, or what one module carries
+abbrev pub useful_load : CountLaw → Link → ℕ → ℕ
+useful_load Any l total = total
+useful_load AtMostOne l total = min total (l.pre + greatest_capacity l.modules)
+
 -- the most load that a link may ever carry
 abbrev pub top_load : Parts → Link → ℕ
-top_load p l = if is_useful l then total_load p else min (total_load p) l.pre
+top_load p l = if is_useful l then useful_load p.law l (total_load p) else min (total_load p) l.pre
 
 -- the greatest price
 abbrev pub price_limit : Parts → ℕ

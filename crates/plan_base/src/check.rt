@@ -1,18 +1,18 @@
 //! Whether a design serves an instance, and what it costs.
 
-ghost use Rattle.std.specs.Prelude.{ℕ, ◌≡◌, ◌<◌, ◌≤◌, ◌+◌, ◌*◌, max, ◌^◌, ◌↔◌, ◌&&◌, ◌==◌, length, IfOk, IsOk, All, slice_index};
+ghost use Rattle.std.specs.Prelude.{ℕ, ◌≡◌, ◌<◌, ◌≤◌, ◌+◌, ◌*◌, max, ◌^◌, ◌↔◌, ◌&&◌, ◌==◌, length, sum, nat_lt, IfOk, IsOk, All, slice_index};
 ghost use Rattle.std.specs.Result.{result_err};
 ghost use Rattle.plan_base.specs.First.{first_fault};
 ghost use Rattle.plan_base.specs.Facts.{total_load, IsInstance};
 ghost use Rattle.plan_base.specs.Designs.{load_at, capacity_with, module_cost_with, need, carried, link_cost, cost_of, AreCountsInShape, IsGoodDesign};
-ghost use Rattle.plan_base.specs.DesignFaults.{is_past_shape, counts_fault, carries_fault, design_fault};
+ghost use Rattle.plan_base.specs.DesignFaults.{is_past_shape, is_unlawful, counts_fault, carries_fault, design_fault};
 
 use crate::design_fault::DesignFault;
 use crate::ids::LinkId;
 use crate::instance::Instance;
 use crate::limits::{CAPACITY_BOUND, MAX_COUNT, MAX_COUNT_COST, MAX_PLACES};
 use crate::loads::{LinkLoads, loads_of};
-use crate::parts::Link;
+use crate::parts::{CountLaw, Link};
 use crate::path::Design;
 use crate::walks::check_paths;
 
@@ -56,10 +56,31 @@ fn is_past_shape(count: u64, cost: u128) -> bool
         }
 }
 
-/// Whether there is one count for each module, and none, nor its cost, is too large.
+/// Whether the law does not allow these counts.
+fn is_unlawful(law: CountLaw, counts: &[u64]) -> bool
+    ensures { result ≡ is_unlawful law counts.now }
+{
+    match law {
+        CountLaw::Any => false,
+        CountLaw::AtMostOne => is_more_than_one(counts),
+    }
+}
+
+/// Whether the counts add to more than one.
+fn is_more_than_one(counts: &[u64]) -> bool
+    ensures { result ≡ nat_lt 1 (sum counts.now) }
+{
+    let mut sum: u64 = 0;
+    for count in counts {
+        sum = sum.saturating_add(*count);
+    }
+    sum > 1
+}
+
+/// Whether there is one count for each module, none, nor its cost, is too large, and the law allows them.
 #[tactic(auto, using(crate::proofs::FirstFault::first_faults), unfolding(crate::specs::DesignFaults::counts_fault))]
-fn check_counts(id: LinkId, link: &Link, counts: &[u64]) -> Result<(), DesignFault>
-    ensures { result_err result ≡ counts_fault id link.now counts.now }
+fn check_counts(law: CountLaw, id: LinkId, link: &Link, counts: &[u64]) -> Result<(), DesignFault>
+    ensures { result_err result ≡ counts_fault law id link.now counts.now }
 {
     let modules = link.modules.as_slice();
     if counts.len() != modules.len() {
@@ -69,6 +90,9 @@ fn check_counts(id: LinkId, link: &Link, counts: &[u64]) -> Result<(), DesignFau
         if is_past_shape(counts[place], module.cost) {
             return Err(DesignFault::CountShape { link: id });
         }
+    }
+    if is_unlawful(law, counts) {
+        return Err(DesignFault::CountShape { link: id });
     }
     Ok(())
 }
@@ -135,7 +159,7 @@ fn check_link(
 {
     let link = inst.link(id);
     let counts = design.counts.as_slice()[id.0 as usize].as_slice();
-    check_counts(id, link, counts)?;
+    check_counts(inst.law(), id, link, counts)?;
     let capacity = capacity_with(link, counts);
     let load = loads.need();
     if load > capacity {

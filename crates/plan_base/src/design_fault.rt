@@ -17,7 +17,7 @@ pub enum DesignFault {
         demand: DemandId,
         place: u32,
     },
-    /// There is not one count for each module, or a count or its cost is too large.
+    /// There is not one count for each module, a count or its cost is too large, or the counts are not lawful.
     CountShape {
         link: LinkId,
     },
@@ -26,5 +26,11 @@ pub enum DesignFault {
         link: LinkId,
         load: u128,
         capacity: u128,
+    },
+    /// The path has more arcs than its demand's limit.
+    TooLong {
+        demand: DemandId,
+        arcs: u32,
+        limit: u64,
     },
 }

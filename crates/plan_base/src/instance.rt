@@ -4,7 +4,7 @@ ghost use Rattle.std.specs.Prelude.{◌≡◌, ◌<◌, ◌≤◌, ◌*◌, leng
 ghost use Rattle.std.specs.Result.{result_err};
 ghost use Rattle.std.specs.List.{list_any};
 ghost use Rattle.plan_base.specs.First.{first_in};
-ghost use Rattle.plan_base.specs.Facts.{total_load, total_load as total_load_of_parts, is_useful, top_load, price_limit, IsLink, IsDemand, IsInstance};
+ghost use Rattle.plan_base.specs.Facts.{total_load, total_load as total_load_of_parts, is_useful, greatest_capacity, useful_load, top_load, price_limit, IsLink, IsDemand, IsInstance};
 ghost use Rattle.plan_base.specs.Arcs.{link_of, is_arc, link_at, demand_at, tail_of, head_of};
 ghost use Rattle.plan_base.specs.Places.{places, place_of, link_of_place};
 ghost use Rattle.plan_base.specs.Leaving.{AreLeaving};
@@ -17,7 +17,7 @@ use crate::limits::{
     CAPACITY_BOUND, MAX_DEMANDS, MAX_LINKS, MAX_MODULES, MAX_NODES, MAX_PRICED_LOAD,
     MAX_ROUTING_COST, MAX_TOTAL_LOAD, MODULE_COST_BOUND,
 };
-use crate::parts::{Demand, Link, Module, Orient, Parts};
+use crate::parts::{CountLaw, Demand, Link, Module, Orient, Parts};
 use std::alloc::{AllocError, Global};
 use std::marker::Model;
 
@@ -118,6 +118,30 @@ fn check_demand(nodes: u32, id: DemandId, demand: &Demand) -> Result<(), BuildFa
         return Err(BuildFault::LoopDemand { demand: id });
     }
     Ok(())
+}
+
+/// The greatest capacity of some modules, in load grains: 0 where there is none.
+fn greatest_capacity(modules: &[Module]) -> u64
+    ensures { result ≡ greatest_capacity modules.now }
+{
+    let mut most = 0;
+    for module in modules {
+        most = most.max(module.capacity);
+    }
+    most
+}
+
+/// The most load that lawful counts of a useful link may carry, up to the total load.
+fn useful_load(law: CountLaw, link: &Link, total: u64) -> u64
+    ensures { result ≡ useful_load law link.now total }
+{
+    match law {
+        CountLaw::Any => total,
+        CountLaw::AtMostOne => {
+            let most = greatest_capacity(link.modules.as_slice());
+            total.min(link.pre.saturating_add(most))
+        }
+    }
 }
 
 /// Whether no link has a fault.
@@ -451,8 +475,18 @@ impl Instance {
             .any(|module| module.capacity > 0)
     }
 
-    /// The most load that the link may ever carry: the total load where it is useful, else at most
-    /// its pre-installed capacity.
+    /// Which counts of a link's modules are lawful.
+    ///
+    /// - Rule: docs/DEFINITIONS.md, "Instances".
+    /// - Time: constant.
+    pub fn law(&self) -> CountLaw
+        ensures { result ≡ self.now.law }
+    {
+        self.parts.law
+    }
+
+    /// The most load that the link may ever carry: where it is useful the total load, or under the law of at most one
+    /// module no more than the largest one carries with the pre-installed capacity; else at most that capacity.
     ///
     /// - Gives: load grains.
     /// - Rule: docs/DEFINITIONS.md, "Instances".
@@ -462,7 +496,7 @@ impl Instance {
         ensures { result ≡ top_load self.now (link_at self.now link.0) }
     {
         if self.useful(link) {
-            self.total_load
+            useful_load(self.parts.law, self.link(link), self.total_load)
         } else {
             self.total_load.min(self.link(link).pre)
         }

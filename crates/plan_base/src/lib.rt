@@ -29,7 +29,7 @@ pub use design_fault::DesignFault;
 pub use ids::{ArcId, BranchId, DemandId, LinkId, NodeId};
 pub use instance::Instance;
 pub use loads::{LinkLoads, loads_of};
-pub use parts::{Demand, Link, Module, Orient, Parts};
+pub use parts::{CountLaw, Demand, Link, Module, Orient, Parts};
 pub use path::{Design, Path};
 pub use prices::{LinkPrices, Prices};
 pub use walks::is_simple_path;

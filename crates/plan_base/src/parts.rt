@@ -1,8 +1,9 @@
 //! What an instance is built of.
 
-ghost use Rattle.std.specs.Prelude.{◌≡◌, IfOk};
+ghost use Rattle.std.specs.Prelude.{◌≡◌, ◌↔◌, IfOk, IsTrue};
 ghost use Rattle.plan_base.specs.Arcs.{goes_back};
 ghost use Rattle.plan_base.specs.Places.{is_two_way};
+ghost use Rattle.plan_base.specs.Designs.{KeepsLimit};
 
 use crate::ids::NodeId;
 use base_items::Items;
@@ -41,7 +42,16 @@ impl Orient {
     }
 }
 
-/// A capacity that may be installed any number of times, at a cost each time.
+/// Which counts of a link's modules are lawful.
+#[derive(Clone, Copy, Debug, PartialEq, Eq)]
+pub enum CountLaw {
+    /// Any whole counts.
+    Any,
+    /// Counts of a link that add to at most one: one module of its list, or none.
+    AtMostOne,
+}
+
+/// A capacity that may be installed as often as the instance's law allows, at a cost each time.
 #[derive(Clone, Copy, Debug, PartialEq, Eq)]
 pub struct Module {
     /// In load grains.
@@ -80,19 +90,38 @@ impl Link {
     }
 }
 
-/// A load that goes from one node to another on one path.
+/// A load that goes from one node to another on one path, perhaps of at most so many arcs.
 #[derive(Clone, Copy, Debug, PartialEq, Eq)]
 pub struct Demand {
     pub source: NodeId,
     pub target: NodeId,
     /// In load grains.
     pub load: u128,
+    /// The most arcs that its path may have; None: any number.
+    pub hops: Option<u64>,
+}
+
+impl Demand {
+    /// Whether a path of so many arcs keeps the demand's limit.
+    ///
+    /// - Rule: docs/DEFINITIONS.md, "Designs".
+    /// - Time: constant.
+    pub fn keeps_limit(&self, arcs: usize) -> bool
+        ensures { IsTrue result ↔ KeepsLimit self.now.hops arcs }
+    {
+        match self.hops {
+            Some(limit) => arcs as u64 <= limit,
+            None => true,
+        }
+    }
 }
 
 /// What an instance is built of. Nothing is asked of it.
 #[derive(Debug, Drop)]
 pub struct Parts {
     pub orient: Orient,
+    /// Which counts of modules are lawful.
+    pub law: CountLaw,
     /// The count of nodes.
     pub nodes: u32,
     pub links: Items<Link>,
@@ -109,6 +138,7 @@ impl Parts {
     {
         Ok(Parts {
             orient: self.orient,
+            law: self.law,
             nodes: self.nodes,
             links: copy_links(&self.links)?,
             demands: self.demands.copy()?,

@@ -1,12 +1,12 @@
 //! Whether paths are simple paths of their demands.
 
-ghost use Rattle.std.specs.Prelude.{◌≡◌, ◌<◌, ◌&&◌, ◌||◌, ◌==◌, ◌↔◌, ℕ, length, IfOk, IsTrue};
+ghost use Rattle.std.specs.Prelude.{◌≡◌, ◌<◌, ◌^◌, ◌&&◌, ◌||◌, ◌==◌, ◌↔◌, ℕ, length, IfOk, IsTrue};
 ghost use Rattle.std.specs.Result.{result_err};
 ghost use Rattle.plan_base.specs.First.{first_fault};
 ghost use Rattle.plan_base.specs.Facts.{IsInstance};
 ghost use Rattle.plan_base.specs.Arcs.{is_arc, tail_of, head_of, demand_at};
 ghost use Rattle.plan_base.specs.Paths.{IsSimplePath};
-ghost use Rattle.plan_base.specs.DesignFaults.{path_fault, demand_path_fault};
+ghost use Rattle.plan_base.specs.DesignFaults.{path_fault, length_fault, demand_path_fault};
 ghost use Rattle.base_items.specs.Met.{is_met};
 ghost use Rattle.plan_base.specs.Walks.{walk_fault};
 
@@ -51,6 +51,21 @@ fn next_node(
     Ok(next)
 }
 
+/// Whether a path of so many arcs is within the limit, if there is one.
+fn check_length(demand: DemandId, hops: Option<u64>, arcs: usize) -> Result<(), DesignFault>
+    requires { arcs < 2 ^ 32 }
+    ensures { result_err result ≡ length_fault demand hops arcs }
+{
+    match hops {
+        Some(limit) if arcs as u64 > limit => Err(DesignFault::TooLong {
+            demand,
+            arcs: arcs as u32,
+            limit,
+        }),
+        _ => Ok(()),
+    }
+}
+
 /// Whether the arcs are a simple path of the demand.
 #[tactic(auto, using(crate::proofs::WalkLaws::walk_laws), unfolding(crate::specs::DesignFaults::path_fault))]
 fn check_path(
@@ -62,7 +77,8 @@ fn check_path(
 ) -> Result<(), DesignFault>
     requires lawful { IsInstance inst.now }
     requires source { demand.now.source.0 < inst.now.nodes }
-    ensures { result_err result ≡ path_fault inst.now id demand.now arcs.now }
+    ensures fault { result_err result ≡ path_fault inst.now id demand.now arcs.now }
+    ensures short { IfOk result (λ _. length arcs.now < inst.now.nodes) }
 {
     let mut here = demand.source;
     met.begin(here.0);
@@ -78,7 +94,25 @@ fn check_path(
     Ok(())
 }
 
-/// Whether each path of the design is a simple path of its demand.
+/// Whether the path has no more arcs than its demand's limit.
+#[tactic(auto, unfolding(crate::specs::DesignFaults::demand_path_fault))]
+fn check_demand_path(
+    inst: &Instance,
+    design: &Design,
+    id: DemandId,
+    met: &mut MetNodes,
+) -> Result<(), DesignFault>
+    requires lawful { IsInstance inst.now }
+    requires paths { length design.now.paths ≡ length inst.now.demands }
+    requires demand { id.0 < length inst.now.demands }
+    ensures { result_err result ≡ demand_path_fault inst.now design.now id.0 }
+{
+    let path = design.paths.as_slice()[id.0 as usize].as_slice();
+    check_path(inst, id, inst.demand(id), path, met)?;
+    check_length(id, inst.demand(id).hops, path.len())
+}
+
+/// Whether each path of the design is a simple path of its demand, and within its limit.
 ///
 /// - Time: linear in the arcs of all paths, up to the first fault.
 #[tactic(auto, using(crate::proofs::FirstFault::first_faults))]
@@ -89,9 +123,7 @@ pub(crate) fn check_paths(inst: &Instance, design: &Design) -> Result<(), Design
 {
     let mut met = MetNodes::new();
     for place in 0..inst.demands() {
-        let id = DemandId(place);
-        let path = &design.paths.as_slice()[place as usize];
-        check_path(inst, id, inst.demand(id), path.as_slice(), &mut met)?;
+        check_demand_path(inst, design, DemandId(place), &mut met)?;
     }
     Ok(())
 }

@@ -19,3 +19,7 @@ loop-place-preserved c =
       no_fault = walk-goes_on c.args.inst.now c.args.id c.args.demand.now.source c.args.arcs.now c.loop-place.place c.loop-place.here.0 c.loop-place.met no_arc c.loop-place.invariant.walk (omega arith) c.loop-place.invariant.no_fault c.in_ok-here.ensures.fault;
       walk = IsWalk-next c.args.inst.now c.args.id c.args.demand.now.source c.args.arcs.now c.loop-place.place c.loop-place.here.0 c.loop-place.met c.next_node.new.met no_arc c.in_ok-here.here c.requires.lawful c.loop-place.invariant.walk (omega arith) c.in_ok-here.ensures.fault c.in_ok-here.ensures.next c.in_ok-here.ensures.met;
     }
+
+pub returns-clause-short : goal.returns-clause-short
+returns-clause-short c =
+    omega (arith, walk-short c.args.inst.now c.args.id c.args.demand.now.source c.args.arcs.now c.loop-place.place c.requires.lawful c.requires.source (omega arith) c.loop-place.invariant.no_fault)

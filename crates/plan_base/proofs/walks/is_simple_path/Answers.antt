@@ -18,7 +18,7 @@ is_ok-none (Err e) none = absurd (cc)
 pub returns : goal.returns
 returns c =
     let fault : result_err c.check_path.result ≡ path_fault c.args.inst.now c.args.demand (demand_at c.args.inst.now c.args.demand.0) c.args.path.now =
-    c.check_path.ensures ∙ ap (λ (k : Demand). path_fault c.args.inst.now c.args.demand k c.as_slice.result.now) c.demand.ensures.value
+    c.check_path.ensures.fault ∙ ap (λ (k : Demand). path_fault c.args.inst.now c.args.demand k c.as_slice.result.now) c.demand.ensures.value
     ∙ ap (path_fault c.args.inst.now c.args.demand (demand_at c.args.inst.now c.args.demand.0)) c.as_slice.ensures.value in (
       λ told. IsSimplePath-path_fault _ c.args.demand _ _ (sym fault ∙ none-is_ok c.check_path.result (sym c.is_ok.ensures.value ∙ told)),
       λ simple. c.is_ok.ensures.value ∙ is_ok-none c.check_path.result (fault ∙ path_fault-IsSimplePath _ c.args.demand _ _ simple),
