@@ -35,7 +35,7 @@ weight_of ws arcs = sum_by (λ a. weight_at ws a) arcs
 
 -- a demand from one node to another, without load
 abbrev pub from_to : NodeId → NodeId → Demand
-from_to s t = record { source = s; target = t; load = 0 }
+from_to s t = record { source = s; target = t; load = 0; hops = None }
 
 -- a simple path from the source to the target, of usable arcs
 pub record IsUsablePath (p : Parts) (ws : Weights) (s t : NodeId) (arcs : List ArcId) : Type 0 where

@@ -1,5 +1,5 @@
 -- Routes and simple paths, and a path that goes on along a route.
-use Rattle.std.proofs.Common.{◌≡◌, ◌≢◌, ℕ, zero, suc, ◌<◌, ◌≤◌, Bool, true, false, not, ◌&&◌, List, [], ◌∷◌, ◌++◌, length, take, Option, Some, refl, sym, ap, subst, ◌∙◌, arith, IsTrue}
+use Rattle.std.proofs.Common.{◌≡◌, ◌≢◌, ℕ, zero, suc, ◌<◌, ◌≤◌, Bool, true, false, not, ◌&&◌, List, [], ◌∷◌, ◌++◌, length, take, Option, Some, None, refl, sym, ap, subst, ◌∙◌, arith, IsTrue}
 use Rattle.std.specs.List.{AllByRecursion}
 use Rattle.std.proofs.lemmas.Bool.{eqb-false}
 use Rattle.std.proofs.lemmas.List.{length-take-le}
@@ -47,7 +47,7 @@ avoids_append p v (a ∷ arcs) more h g = (h.0, avoids_append p v arcs more h.1 
 
 -- a demand from one node to another
 abbrev between : NodeId → NodeId → Demand
-between s t = record { source = s; target = t; load = 0 }
+between s t = record { source = s; target = t; load = 0; hops = None }
 
 rest_of : (p : Parts) (s t : NodeId) (a : ArcId) (arcs : List ArcId) → IsSimplePath p (between s t) (a ∷ arcs) → IsSimplePath p (between (head_of p a) t) arcs
 rest_of p s t a arcs h = record {
