@@ -1,6 +1,7 @@
 -- The steps of a link are the values that its least module cost takes.
 use Rattle.std.proofs.Common.{◌≡◌, ℕ, zero, suc, ◌+◌, ◌-◌, ◌<◌, ◌≤◌, inl, inr, List, length, slice_index, map, ap, ◌∙◌, arith}
 use Rattle.std.proofs.lemmas.List.{length-map, get_or-map}
+use Rattle.plan_base.specs.declared.parts.CountLaw.{CountLaw}
 use Rattle.plan_base.specs.declared.parts.Link.{Link}
 use Rattle.plan_base.specs.declared.parts.Parts.{Parts}
 use Rattle.plan_base.specs.Facts.{total_load}
@@ -25,7 +26,7 @@ costs_of-at : (steps : List Step) (i : ℕ) → i < length steps → slice_index
 costs_of-at steps i within = get_or-map (λ (s : Step). s.cost) steps i no_step 0 within
 
 -- a load at which a step is the first to reach
-step-load : (total : ℕ) (l : Link) (steps : List Step) (i : ℕ) → AreSteps total l steps → i < length steps → IsCostWithin total l (step_at steps i).cost
+step-load : {law : CountLaw} (total : ℕ) (l : Link) (steps : List Step) (i : ℕ) → AreSteps law total l steps → i < length steps → IsCostWithin law total l (step_at steps i).cost
 step-load total l steps zero are within =
     record { load = 0; within = omega arith; is_least = first-least total l steps 0 0 are (record { within = within; here = omega arith; before = λ j below. absurd (omega arith) }) }
 step-load total l steps (suc i) are within =
@@ -39,7 +40,7 @@ step-load total l steps (suc i) are within =
       });
     }
 
-pub AreCostsWithin-steps : (total : ℕ) (l : Link) (steps : List Step) → AreSteps total l steps → AreCostsWithin total l (costs_of steps)
+pub AreCostsWithin-steps : {law : CountLaw} (total : ℕ) (l : Link) (steps : List Step) → AreSteps law total l steps → AreCostsWithin law total l (costs_of steps)
 AreCostsWithin-steps total l steps are =
     let long = length-costs_of steps in
     record {
@@ -47,18 +48,18 @@ AreCostsWithin-steps total l steps are =
       each = λ i within. rw (costs_of-at steps i (omega arith)) (step-load total l steps i are (omega arith));
     }
 
-pub HasMoreSteps-steps : (total : ℕ) (l : Link) (steps : List Step) (number : ℕ) → AreSteps total l steps → number < length steps → HasMoreSteps total l number
+pub HasMoreSteps-steps : {law : CountLaw} (total : ℕ) (l : Link) (steps : List Step) (number : ℕ) → AreSteps law total l steps → number < length steps → HasMoreSteps law total l number
 HasMoreSteps-steps total l steps number are more =
     record { costs = costs_of steps; are_costs = AreCostsWithin-steps total l steps are; more = omega (arith, length-costs_of steps) }
 
 -- the first step that reaches a load up to the total load, where some counts carry it
-pub carried-reached : (total : ℕ) (l : Link) (steps : List Step) (load : ℕ) (counts : List ℕ) → AreAllSteps total l steps → load ≤ total → CarriesOn l load counts → (i : ℕ) × IsFirstReaching steps load i
+pub carried-reached : {law : CountLaw} (total : ℕ) (l : Link) (steps : List Step) (load : ℕ) (counts : List ℕ) → AreAllSteps law total l steps → load ≤ total → CarriesOn law l load counts → (i : ℕ) × IsFirstReaching steps load i
 carried-reached total l steps load counts are within carries =
     let some = are.are_steps.in_order.some in
     first_reaching steps load (length steps - 1) are.are_steps.in_order.rising (omega arith)
     (elim (either_way load (last_of steps).reach) [ inl reached ↦ reached | inr past ↦ absurd (none-carries total l steps load are within past counts carries) ])
 
-pub HasSteps-steps : (total : ℕ) (l : Link) (steps : List Step) → AreAllSteps total l steps → HasSteps total l (length steps)
+pub HasSteps-steps : {law : CountLaw} (total : ℕ) (l : Link) (steps : List Step) → AreAllSteps law total l steps → HasSteps law total l (length steps)
 HasSteps-steps total l steps are =
     record {
       costs = costs_of steps;
@@ -75,11 +76,11 @@ HasSteps-steps total l steps are =
       count = length-costs_of steps;
     }
 
-pub HasAtMostSteps-steps : (total : ℕ) (l : Link) (steps : List Step) → AreAllSteps total l steps → HasAtMostSteps total l MAX_STEPS
+pub HasAtMostSteps-steps : {law : CountLaw} (total : ℕ) (l : Link) (steps : List Step) → AreAllSteps law total l steps → HasAtMostSteps law total l MAX_STEPS
 HasAtMostSteps-steps total l steps are = record { number = length steps; has_steps = HasSteps-steps total l steps are; within = are.within }
 
 -- the fault of a link, where the links before it have few enough steps
-pub IsFaultOf-link : (p : Parts) (e : ℕ) (fault : StepFault) → e < length p.links → ((i : ℕ) → i < e → HasAtMostSteps (total_load p) (link_at p i) MAX_STEPS) → IsFaultOfLink (total_load p) (link_id e) (link_at p e) fault → IsFaultOf p fault
+pub IsFaultOf-link : (p : Parts) (e : ℕ) (fault : StepFault) → e < length p.links → ((i : ℕ) → i < e → HasAtMostSteps p.law (total_load p) (link_at p i) MAX_STEPS) → IsFaultOfLink p.law (total_load p) (link_id e) (link_at p e) fault → IsFaultOf p fault
 IsFaultOf-link p e (TooManySteps link) within before h =
     rw h.0 (record { within = within; more = h.1; before = before })
 IsFaultOf-link p e OutOfMemory within before h = tt
@@ -109,8 +110,8 @@ place-le some all rising all_rising places (suc i) within found =
           ]
     ]
 
-pub few-not-many : (l : Link) (total number : ℕ) → HasAtMostSteps total l number → HasMoreSteps total l number → ⊥
-few-not-many l total number few many =
+pub few-not-many : (law : CountLaw) (l : Link) (total number : ℕ) → HasAtMostSteps law total l number → HasMoreSteps law total l number → ⊥
+few-not-many law l total number few many =
     let steps = few.has_steps in
     let places : (i : ℕ) → i < length many.costs → IsPlaceOf steps.costs (slice_index many.costs i) = λ i within.
     (let found = steps.all (slice_index many.costs i) (many.are_costs.each i within) in record { place = found.0; within = found.1; is_value = found.2 }) in

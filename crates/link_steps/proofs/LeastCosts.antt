@@ -1,10 +1,13 @@
 -- A link that can carry a load has a least module cost for it: more of a module than the load has grains is never needed.
-use Rattle.std.proofs.Common.{◌≡◌, ℕ, zero, suc, ◌+◌, ◌*◌, ◌<◌, ◌≤◌, ◌⊎◌, inl, inr, min, true, List, [], ◌∷◌, length, slice_index, nat_le, refl, arith}
+use Rattle.std.proofs.Common.{◌≡◌, ℕ, zero, suc, ◌+◌, ◌*◌, ◌<◌, ◌≤◌, ◌⊎◌, inl, inr, min, true, List, [], ◌∷◌, length, slice_index, sum_by, nat_le, ◌&&◌, Bool, refl, arith}
 use Rattle.std.proofs.Math.Nat.{mul-le-mul_left, mul-le-mul_right}
-use Rattle.std.proofs.lemmas.Bool.{leb-true, le-leb}
+use Rattle.std.proofs.lemmas.List.Sums.{sum_by-cons}
+use Rattle.std.proofs.lemmas.Bool.{leb-true, le-leb, and_from, and_parts}
+use Rattle.plan_base.specs.declared.parts.CountLaw.{CountLaw}
+use Rattle.plan_base.specs.declared.parts.CountLaw.TheVariants.{Any, AtMostOne}
 use Rattle.plan_base.specs.declared.parts.Link.{Link}
 use Rattle.plan_base.specs.Sums.{sum_below}
-use Rattle.plan_base.specs.Designs.{module_at, capacity_with, module_cost_with}
+use Rattle.plan_base.specs.Designs.{module_at, capacity_with, module_cost_with, AreLawful}
 use Rattle.link_steps.specs.Costs.{CarriesOn, CanCarryOn, IsLeastModuleCostOn}
 use Rattle.link_steps.proofs.Order.{either_way}
 use Rattle.link_steps.proofs.Least.{IsLeastOf}
@@ -52,25 +55,58 @@ capped-cost load counts cost (suc n) =
     let fewer : slice_index (capped load counts) n ≤ slice_index counts n = rw (capped-at load counts n) (omega arith) in
     omega (arith, capped-cost load counts cost n, mul-le-mul_right (cost n) fewer)
 
-Carries-capped : (l : Link) (load : ℕ) (counts : List ℕ) → CarriesOn l load counts → load ≤ capacity_with l (capped load counts)
+Carries-capped : {law : CountLaw} (l : Link) (load : ℕ) (counts : List ℕ) → CarriesOn law l load counts → load ≤ capacity_with l (capped load counts)
 Carries-capped l load counts carries =
     let kept = capped-enough load counts (λ m. (module_at l m).capacity) (length l.modules) in
     let enough = carries.enough in
     omega arith
 
--- a link that can carry a load has a least module cost for it
-pub least_cost-exists : (l : Link) (load : ℕ) → CanCarryOn l load → (cost : ℕ) × IsLeastModuleCostOn l load cost
-least_cost-exists l load (some, some_carries) = by_outcome (searched-counts load (length l.modules) (λ counts. nat_le load (capacity_with l counts)) (module_cost_with l)).outcome
-  where
-    passes : (counts : List ℕ) → CarriesOn l load counts → (AreCountsUpto load (length l.modules) (capped load counts)) × (nat_le load (capacity_with l (capped load counts)) ≡ true)
-    passes counts carries = (capped-upto load (length l.modules) counts carries.count, le-leb _ _ (Carries-capped l load counts carries))
+-- whether counts are lawful
+abbrev is_lawful : CountLaw → List ℕ → Bool
+is_lawful Any counts = true
+is_lawful AtMostOne counts = nat_le (sum_by (λ n. n) counts) 1
 
-    by_outcome : ((counts : List ℕ) × IsLeastOf (λ counts. (AreCountsUpto load (length l.modules) counts) × (nat_le load (capacity_with l counts) ≡ true)) (module_cost_with l) counts) ⊎ ((counts : List ℕ) → (AreCountsUpto load (length l.modules) counts) × (nat_le load (capacity_with l counts) ≡ true) → ⊥) → (cost : ℕ) × IsLeastModuleCostOn l load cost
+tested-lawful : (law : CountLaw) (counts : List ℕ) → is_lawful law counts ≡ true → AreLawful law counts
+tested-lawful Any counts is = tt
+tested-lawful AtMostOne counts is = leb-true _ _ is
+
+lawful-tested : (law : CountLaw) (counts : List ℕ) → AreLawful law counts → is_lawful law counts ≡ true
+lawful-tested Any counts lawful = refl
+lawful-tested AtMostOne counts lawful = le-leb _ _ lawful
+
+capped-sum : (n : ℕ) (counts : List ℕ) → sum_by (λ c. c) (capped n counts) ≤ sum_by (λ c. c) counts
+capped-sum n [] = omega arith
+capped-sum n (c ∷ counts) = omega (arith, capped-sum n counts, sum_by-cons (λ (x : ℕ). x) c counts, sum_by-cons (λ (x : ℕ). x) (min n c) (capped n counts))
+
+-- fewer of a module are no less lawful
+capped-lawful : (law : CountLaw) (n : ℕ) (counts : List ℕ) → AreLawful law counts → AreLawful law (capped n counts)
+capped-lawful Any n counts lawful = tt
+capped-lawful AtMostOne n counts lawful = omega (arith, capped-sum n counts, lawful)
+
+-- lawful counts that carry the load
+abbrev is_enough : CountLaw → Link → ℕ → List ℕ → Bool
+is_enough law l load counts = nat_le load (capacity_with l counts) && is_lawful law counts
+
+-- such counts of no more than the load has grains
+abbrev IsTried : CountLaw → Link → ℕ → List ℕ → Type 0
+IsTried law l load counts = (AreCountsUpto load (length l.modules) counts) × (is_enough law l load counts ≡ true)
+
+-- a link that can carry a load has a least module cost for it
+pub least_cost-exists : {law : CountLaw} (l : Link) (load : ℕ) → CanCarryOn law l load → (cost : ℕ) × IsLeastModuleCostOn law l load cost
+least_cost-exists {law} l load (some, some_carries) = by_outcome (searched-counts load (length l.modules) (is_enough law l load) (module_cost_with l)).outcome
+  where
+    passes : (counts : List ℕ) → CarriesOn law l load counts → IsTried law l load (capped load counts)
+    passes counts carries = (
+      capped-upto load (length l.modules) counts carries.count,
+      and_from _ _ (le-leb _ _ (Carries-capped l load counts carries)) (lawful-tested law (capped load counts) (capped-lawful law load counts carries.lawful)),
+    )
+
+    by_outcome : ((counts : List ℕ) × IsLeastOf (IsTried law l load) (module_cost_with l) counts) ⊎ ((counts : List ℕ) → IsTried law l load counts → ⊥) → (cost : ℕ) × IsLeastModuleCostOn law l load cost
     by_outcome (inl (best, is)) = (
       module_cost_with l best,
       record {
         counts = best;
-        carries = record { count = length-upto load (length l.modules) best is.holds.0; enough = leb-true _ _ is.holds.1 };
+        carries = (let both = and_parts _ _ is.holds.1 in record { count = length-upto load (length l.modules) best is.holds.0; enough = leb-true _ _ both.0; lawful = tested-lawful law best both.1 });
         attained = refl;
         least = λ others carries.
             (let within : module_cost_with l best ≤ module_cost_with l (capped load others) = is.least (capped load others) (passes others carries) in

@@ -1,6 +1,9 @@
 pub mod Order
 pub mod Least
 pub mod Search
+pub mod Lists
+pub mod Picks
+pub mod Chosen
 pub mod Carrying
 pub mod LeastCosts
 pub mod Counts

@@ -5,13 +5,17 @@ use Rattle.std.proofs.Math.Nat.{mul-le-mul_left}
 use Rattle.std.proofs.lemmas.Grind.{div_ceil_times}
 use Rattle.std.specs.Int.{div_ceil}
 use Rattle.std.proofs.lemmas.List.{length-replicate, get_or-replicate, get_or-set_same, get_or-set_other, get_or_default}
+use Rattle.plan_base.specs.declared.parts.CountLaw.{CountLaw}
+use Rattle.plan_base.specs.declared.parts.CountLaw.TheVariants.{Any, AtMostOne}
 use Rattle.plan_base.specs.declared.parts.Link.{Link}
 use Rattle.plan_base.specs.declared.limits.TheConstants.{MAX_COUNT, MODULE_COST_BOUND}
 use Rattle.plan_base.specs.Designs.{module_at, capacity_with, module_cost_with, AreCountsInShape}
 use Rattle.link_steps.specs.declared.step.Step.{Step}
 use Rattle.link_steps.specs.declared.limits.TheConstants.{MAX_STEPS}
-use Rattle.link_steps.specs.Steps.{step_at, IsFree, AddsOne, AreStepsOf, IsMadeOf}
+use Rattle.link_steps.specs.Steps.{step_at, IsFree, AddsOne, IsOfOne, AreStepsOf, IsMadeOf}
 use Rattle.link_steps.proofs.Order.{either_way, same_or_not}
+use Rattle.link_steps.proofs.Picks.{AreOfOne-counts}
+use Rattle.link_steps.proofs.Carrying.{none-carries_pre}
 use Rattle.plan_base.proofs.SumsBelow.{term-le-sum_below}
 use Rattle.plan_base.proofs.CountSums.{none_of_each, capacity-none, cost-none, capacity-set, cost-set}
 
@@ -72,26 +76,24 @@ IsMadeSoFar-next l steps place here item counts adds so_far item_is =
     }
 
 -- back at the first step, the counts are those of the step
-pub IsMadeOf-so_far : (l : Link) (steps : List Step) (place : ℕ) (counts : List ℕ) → AreStepsOf l steps → length steps ≤ MAX_STEPS → 0 < place → place < length steps → IsMadeSoFar l steps place 0 counts → IsMadeOf l (step_at steps place) (step_at steps place).reach counts
+pub IsMadeOf-so_far : (l : Link) (steps : List Step) (place : ℕ) (counts : List ℕ) → AreStepsOf Any l steps → length steps ≤ MAX_STEPS → 0 < place → place < length steps → IsMadeSoFar l steps place 0 counts → IsMadeOf Any l (step_at steps place) (step_at steps place).reach counts
 IsMadeOf-so_far l steps place counts are few positive within so_far =
-    let first = are.are_steps.first in
+    let first = are.made.first in
     let low : (step_at steps 0).reach < are.total = are.are_steps.short 0 (omega arith) in
     let plain : (step_at steps 0).reach ≤ l.pre =
     elim (either_way (step_at steps 0).reach l.pre) [ inl le ↦ le | inr past ↦ absurd (omega (arith, first.whole past)) ] in
     record {
-      count = so_far.count;
-      enough = omega (arith, so_far.enough);
+      carries = record { count = so_far.count; enough = omega (arith, so_far.enough); lawful = tt };
       cost = omega (arith, so_far.cost, first.no_cost);
       few = λ m below. omega (arith, so_far.few m below);
     }
 
 -- nothing is added where the pre-installed capacity is enough
-pub IsMadeOf-none : (l : Link) (steps : List Step) (load : ℕ) → AreStepsOf l steps → load ≤ l.pre → IsMadeOf l (step_at steps 0) load (none_of_each l)
+pub IsMadeOf-none : (l : Link) (steps : List Step) (load : ℕ) → AreStepsOf Any l steps → load ≤ l.pre → IsMadeOf Any l (step_at steps 0) load (none_of_each l)
 IsMadeOf-none l steps load are within =
     record {
-      count = length-none l;
-      enough = omega (arith, capacity-none l);
-      cost = omega (arith, cost-none l, are.are_steps.first.no_cost);
+      carries = record { count = length-none l; enough = omega (arith, capacity-none l); lawful = tt };
+      cost = omega (arith, cost-none l, are.are_steps.no_cost);
       few = λ m below. omega (arith, none-at l m below);
     }
 
@@ -102,10 +104,10 @@ few-ceil (suc count) needed capacity positive below =
     omega arith
 
 -- as many free modules as the rest of the load needs
-pub IsMadeOf-free : (l : Link) (steps : List Step) (load count : ℕ) → AreStepsOf l steps → l.pre < load → load ≤ (step_at steps 0).reach → load ≤ MAX_COUNT
-    → count ≡ div_ceil (load - l.pre) (module_at l (step_at steps 0).added).capacity → IsMadeOf l (step_at steps 0) load (set (none_of_each l) (step_at steps 0).added count)
+pub IsMadeOf-free : (l : Link) (steps : List Step) (load count : ℕ) → AreStepsOf Any l steps → l.pre < load → load ≤ (step_at steps 0).reach → load ≤ MAX_COUNT
+    → count ≡ div_ceil (load - l.pre) (module_at l (step_at steps 0).added).capacity → IsMadeOf Any l (step_at steps 0) load (set (none_of_each l) (step_at steps 0).added count)
 IsMadeOf-free l steps load count are past within small count_is =
-    let first = are.are_steps.first in
+    let first = are.made.first in
     let free : IsFree l (step_at steps 0).added = first.free (omega arith) in
     let m = (step_at steps 0).added in
     let inside : m < length l.modules = free.within in
@@ -116,8 +118,7 @@ IsMadeOf-free l steps load count are past within small count_is =
     let far = rw none at (capacity-set l (none_of_each l) m count inside (length-none l)) in
     let dear = rw (none, free.cost) at (cost-set l (none_of_each l) m count inside (length-none l)) in
     record {
-      count = length-set (none_of_each l) m count ∙ length-none l;
-      enough = omega (arith, capacity-none l);
+      carries = record { count = length-set (none_of_each l) m count ∙ length-none l; enough = omega (arith, capacity-none l); lawful = tt };
       cost = omega (arith, cost-none l, first.no_cost);
       few = λ i below.
           elim (same_or_not i m) [
@@ -126,8 +127,33 @@ IsMadeOf-free l steps load count are past within small count_is =
           ];
     }
 
+-- under the law of at most one module, nothing is added where the pre-installed capacity is enough
+pub IsMadeOf-pre : (l : Link) (step : Step) (load : ℕ) → load ≤ l.pre → step.cost ≡ 0 → IsMadeOf AtMostOne l step load (none_of_each l)
+IsMadeOf-pre l step load within no_cost =
+    record {
+      carries = none-carries_pre AtMostOne l load within;
+      cost = omega (arith, cost-none l, no_cost);
+      few = λ m below. omega (arith, none-at l m below);
+    }
+
+-- else the module of the step
+pub IsMadeOf-one : (l : Link) (step : Step) (load : ℕ) → load ≤ step.reach → IsOfOne l step → IsMadeOf AtMostOne l step load (set (none_of_each l) step.added 1)
+IsMadeOf-one l step load within one =
+    let m = step.added in
+    let inside : m < length l.modules = one.within in
+    let picked = AreOfOne-counts l m inside in
+    record {
+      carries = record { count = picked.count; enough = omega (arith, within, one.reach, picked.reach); lawful = picked.lawful };
+      cost = omega (arith, one.cost, picked.cost);
+      few = λ i below.
+          elim (same_or_not i m) [
+            | inl is ↦ rw (is, get_or-set_same {A = ℕ} (none_of_each l) m 1 0 (omega (arith, length-none l))) (omega arith)
+            | inr is_not ↦ rw (get_or-set_other {A = ℕ} (none_of_each l) m i 1 0 is_not) (omega (arith, none-at l i below))
+          ];
+    }
+
 -- such counts are in shape
-pub AreCountsInShape-made : (l : Link) (step : Step) (load : ℕ) (counts : List ℕ) → step.cost ≤ MAX_STEPS * MODULE_COST_BOUND → IsMadeOf l step load counts → AreCountsInShape l counts
+pub AreCountsInShape-made : {law : CountLaw} (l : Link) (step : Step) (load : ℕ) (counts : List ℕ) → step.cost ≤ MAX_STEPS * MODULE_COST_BOUND → IsMadeOf law l step load counts → AreCountsInShape l counts
 AreCountsInShape-made l step load counts cheap made = λ m within.
     record {
       count_within = made.few m within;

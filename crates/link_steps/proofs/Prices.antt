@@ -1,17 +1,18 @@
 -- What prices give to a link, told by its steps.
-use Rattle.std.proofs.Common.{◌≡◌, ℕ, zero, suc, ◌+◌, ◌-◌, ◌*◌, ◌/◌, ◌<◌, ◌≤◌, inl, inr, Bool, true, false, min, max, List, [], ◌∷◌, ◌++◌, length, slice_index, if◌then◌else◌, Option, Some, None, refl, sym, ap, arith}
+use Rattle.std.proofs.Common.{◌≡◌, ℕ, ◌+◌, ◌-◌, ◌*◌, ◌/◌, ◌<◌, ◌≤◌, inl, inr, Bool, true, false, min, max, List, [], ◌∷◌, ◌++◌, length, slice_index, if◌then◌else◌, Option, Some, None, refl, sym, ap, arith}
 use Rattle.std.specs.Prelude.{ℤ, pos, ◌-ℤ◌, ◌≤ℤ◌}
 use Rattle.std.proofs.Math.Seq.{get_or-append_seam}
-use Rattle.std.proofs.lemmas.List.{get_or_append_left, length-replicate}
-use Rattle.std.proofs.Math.Nat.{mul-le-mul, mul-le-mul_left, div-mul-le_self, div-le_self}
+use Rattle.std.proofs.lemmas.List.{get_or_append_left}
+use Rattle.std.proofs.Math.Nat.{mul-le-mul, mul-le-mul_left, div-mul-le_self}
 use Rattle.std.proofs.lemmas.Int.{ints}
 use Rattle.std.proofs.lemmas.Nat.{le-div}
+use Rattle.plan_base.specs.declared.parts.CountLaw.{CountLaw}
 use Rattle.plan_base.specs.declared.parts.Link.{Link}
 use Rattle.plan_base.specs.declared.parts.Parts.{Parts}
-use Rattle.plan_base.specs.declared.limits.TheConstants.{MODULE_COST_BOUND, MAX_ROUTING_COST, MAX_PRICED_LOAD}
+use Rattle.plan_base.specs.declared.limits.TheConstants.{MODULE_COST_BOUND, MAX_PRICED_LOAD}
 use Rattle.link_steps.specs.declared.limits.TheConstants.{MAX_STEPS}
 use Rattle.plan_base.specs.Arcs.{link_at}
-use Rattle.plan_base.specs.Facts.{total_load, is_useful, top_load, price_limit}
+use Rattle.plan_base.specs.Facts.{total_load, top_load, price_limit}
 use Rattle.link_steps.specs.declared.step.Step.{Step}
 use Rattle.link_steps.specs.declared.ends.End.{End}
 use Rattle.link_steps.specs.Costs.{IsLeastModuleCostOn, IsStepCostOn}
@@ -19,24 +20,22 @@ use Rattle.link_steps.specs.Values.{top_back, value_at, GiveValue, IsLinkValue, 
 use Rattle.plan_base.specs.Places.{is_two_way, link_of_place}
 use Rattle.link_steps.specs.Steps.{step_at, AreSteps, AreAllSteps, end_in, AreEndsOf, IsBestEnd, unit_at, IsUnitOf, IsLeastUnit}
 use Rattle.link_steps.proofs.Order.{either_way, before_or_last}
-use Rattle.link_steps.proofs.Reached.{IsFirstReaching, first-least, least-unique}
+use Rattle.link_steps.proofs.Reached.{CarriesOn-less, IsFirstReaching, first-least, least-unique}
 use Rattle.plan_base.proofs.CountSums.{none_of_each, cost-none}
 use Rattle.link_steps.proofs.Counted.{carried-reached}
-use Rattle.plan_base.proofs.TopLoads.{top-le, no-capacity}
-use Rattle.link_steps.proofs.Carrying.{top-can_carry}
+use Rattle.plan_base.proofs.TopLoads.{top-le}
+use Rattle.link_steps.proofs.Carrying.{none-carries_pre, carried-le-top, top-can_carry}
 
--- only a useful link has a second step, so each step but the last one ends below the top load
-pub below-top : (p : Parts) (l : Link) (steps : List Step) (i j : ℕ) → AreSteps (total_load p) l steps → j < i → i < length steps → (step_at steps j).reach < top_load p l
-below-top p l steps i j are before within = by_cases (is_useful l) refl
-  where
-    by_cases : (b : Bool) → is_useful l ≡ b → (step_at steps j).reach < top_load p l
-    by_cases true is = rw is (are.short j (omega arith))
-    by_cases false is =
-        let adds = are.adds i (omega arith) within in
-        absurd (omega (arith, adds.reach, no-capacity l (step_at steps i).added is adds.added, are.in_order.rising (step_at steps i).before i adds.before within))
+-- a load that a later step reaches is carried, so each step but the last one ends below the top load
+pub below-top : (p : Parts) (l : Link) (steps : List Step) (i j : ℕ) → AreSteps p.law (total_load p) l steps → j < i → i < length steps → (step_at steps j).reach < top_load p l
+below-top p l steps i j are before within =
+    let attained = are.attained i within in
+    let farther : (step_at steps j).reach + 1 ≤ (step_at steps i).reach = omega (arith, are.in_order.rising j i before within) in
+    let carried = CarriesOn-less l ((step_at steps j).reach + 1) (step_at steps i).reach attained.counts farther attained.carries in
+    omega (arith, carried-le-top p l ((step_at steps j).reach + 1) (omega (arith, are.short j (omega arith))) (attained.counts, carried))
 
 -- where a step ends it is the first to reach
-end-reached : (p : Parts) (l : Link) (steps : List Step) (i : ℕ) → AreSteps (total_load p) l steps → i < length steps → IsFirstReaching steps (min (step_at steps i).reach (top_load p l)) i
+end-reached : (p : Parts) (l : Link) (steps : List Step) (i : ℕ) → AreSteps p.law (total_load p) l steps → i < length steps → IsFirstReaching steps (min (step_at steps i).reach (top_load p l)) i
 end-reached p l steps i are within =
     record {
       within = within;
@@ -44,7 +43,7 @@ end-reached p l steps i are within =
       before = λ j before. omega (arith, below-top p l steps i j are before within, are.in_order.rising j i before within);
     }
 
-end-least : (p : Parts) (l : Link) (steps : List Step) (i : ℕ) → AreSteps (total_load p) l steps → i < length steps → IsLeastModuleCostOn l (min (step_at steps i).reach (top_load p l)) (step_at steps i).cost
+end-least : (p : Parts) (l : Link) (steps : List Step) (i : ℕ) → AreSteps p.law (total_load p) l steps → i < length steps → IsLeastModuleCostOn p.law l (min (step_at steps i).reach (top_load p l)) (step_at steps i).cost
 end-least p l steps i are within = first-least (total_load p) l steps _ i are (end-reached p l steps i are within)
 
 -- the least module cost of a load is the cost of the first step that reaches it
@@ -53,7 +52,7 @@ record IsCostOf (steps : List Step) (load cost : ℕ) : Type 0 where
   first : IsFirstReaching steps load place
   is : cost ≡ (step_at steps place).cost
 
-cost-of : (p : Parts) (l : Link) (steps : List Step) (load cost : ℕ) → AreAllSteps (total_load p) l steps → load ≤ top_load p l → IsLeastModuleCostOn l load cost → IsCostOf steps load cost
+cost-of : (p : Parts) (l : Link) (steps : List Step) (load cost : ℕ) → AreAllSteps p.law (total_load p) l steps → load ≤ top_load p l → IsLeastModuleCostOn p.law l load cost → IsCostOf steps load cost
 cost-of p l steps load cost are within least =
     let found = carried-reached (total_load p) l steps load least.counts are (omega (arith, top-le p l)) least.carries in
     record { place = found.0; first = found.1; is = least-unique l load _ _ least (first-least (total_load p) l steps load found.0 are.are_steps found.1) }
@@ -123,7 +122,7 @@ larger-whole slope back_slope whole load back positive at at_back =
     ]
 
 module _ (p : Parts) (l : Link) (steps : List Step) (price back_price slope back_slope load back : ℕ) (best : End)
-    (are : AreAllSteps (total_load p) l steps) (is_slope : IsSlope l.routing price slope) (is_back : IsSlope l.routing back_price back_slope)
+    (are : AreAllSteps p.law (total_load p) l steps) (is_slope : IsSlope l.routing price slope) (is_back : IsSlope l.routing back_price back_slope)
     (positive : 0 < slope + back_slope) (one_way : is_two_way p.orient ≡ false → back_price ≡ 0)
     (is_best : IsBestEnd steps (top_load p l) (slope + back_slope) best) (at : IsLoadAt slope best.load load) (at_back : IsLoadAt back_slope best.load back) where
   cost_is : best.cost ≡ (step_at steps is_best.is_end_of.place).cost
@@ -145,7 +144,7 @@ module _ (p : Parts) (l : Link) (steps : List Step) (price back_price slope back
           let level : back_slope ≡ 0 = (let same : back_slope ≡ back_price - 1000 * l.routing = is_back in omega arith) in
           omega (arith, at_back.level level)
 
-  best-least : IsLeastModuleCostOn l (max load back) best.cost
+  best-least : IsLeastModuleCostOn p.law l (max load back) best.cost
   best-least = rw (larger_is, cost_is, load_is) (end-least p l steps is_best.is_end_of.place are.are_steps is_best.is_end_of.within)
 
   value : ℤ
@@ -164,7 +163,7 @@ module _ (p : Parts) (l : Link) (steps : List Step) (price back_price slope back
   }
 
   -- where the larger of two loads is carried, the best end is no worse than at the larger load
-  at_larger : (whole cost : ℕ) → whole ≤ top_load p l → IsLeastModuleCostOn l whole cost → 1000 * best.cost + (slope + back_slope) * whole ≤ 1000 * cost + (slope + back_slope) * best.load
+  at_larger : (whole cost : ℕ) → whole ≤ top_load p l → IsLeastModuleCostOn p.law l whole cost → 1000 * best.cost + (slope + back_slope) * whole ≤ 1000 * cost + (slope + back_slope) * best.load
   at_larger whole cost within least =
       let found = cost-of p l steps whole cost are within least in
       let here = found.first.here in
@@ -174,7 +173,7 @@ module _ (p : Parts) (l : Link) (steps : List Step) (price back_price slope back
       rw found.is (omega arith)
 
   -- it is better where the larger load is smaller than at the best end
-  at_smaller : (whole cost : ℕ) → whole ≤ top_load p l → IsLeastModuleCostOn l whole cost → whole < best.load → 1000 * best.cost + (slope + back_slope) * whole < 1000 * cost + (slope + back_slope) * best.load
+  at_smaller : (whole cost : ℕ) → whole ≤ top_load p l → IsLeastModuleCostOn p.law l whole cost → whole < best.load → 1000 * best.cost + (slope + back_slope) * whole < 1000 * cost + (slope + back_slope) * best.load
   at_smaller whole cost within least before =
       let found = cost-of p l steps whole cost are within least in
       let here = found.first.here in
@@ -199,7 +198,7 @@ module _ (p : Parts) (l : Link) (steps : List Step) (price back_price slope back
       by_cases true back_within = omega arith
       by_cases false back_within = omega arith
 
-  no-less : (x y c : ℕ) → x ≤ top_load p l → y ≤ top_back p l → IsStepCostOn l x y c → (pos (1000 * best.cost) -ℤ pos ((slope + back_slope) * best.load)) ≤ℤ value_at price back_price x y c
+  no-less : (x y c : ℕ) → x ≤ top_load p l → y ≤ top_back p l → IsStepCostOn p.law l x y c → (pos (1000 * best.cost) -ℤ pos ((slope + back_slope) * best.load)) ≤ℤ value_at price back_price x y c
   no-less x y c within back_within is_cost =
       let one = place-le l.routing price slope x (max x y) is_slope (omega arith) in
       let other = place-le l.routing back_price back_slope y (max x y) is_back (omega arith) in
@@ -263,13 +262,13 @@ module _ (p : Parts) (l : Link) (steps : List Step) (price back_price slope back
   }
 
 -- carrying nothing costs nothing, whatever the steps
-no_load-cost : (l : Link) → IsStepCostOn l 0 0 0
-no_load-cost l =
+no_load-cost : (law : CountLaw) (l : Link) → IsStepCostOn law l 0 0 0
+no_load-cost law l =
     record {
       module_cost = 0;
       is_least = record {
         counts = none_of_each l;
-        carries = record { count = length-replicate (length l.modules) 0; enough = omega arith };
+        carries = none-carries_pre law l 0 (omega arith);
         attained = cost-none l;
         least = λ others carries. omega arith;
       };
@@ -282,7 +281,7 @@ give-nothing p l price back_price = record {
   within = omega arith;
   back_within = omega arith;
   cost = 0;
-  is_cost = no_load-cost l;
+  is_cost = no_load-cost p.law l;
   attained = difference-same (1000 * 0) (price * 0 + back_price * 0) 0 0 (omega arith);
 }
 
@@ -315,15 +314,15 @@ quotient-le n small large positive le =
 -- what the least unit, or the lack of one, says of the start price
 abbrev pub start_of : Parts → Link → Option ℕ → ℕ
 start_of p l None = price_limit p
-start_of p l (Some unit) = 1000 * l.routing + unit
+start_of p l (Some unit) = min (1000 * l.routing + unit) (price_limit p)
 
-no-unit : (p : Parts) (l : Link) (steps : List Step) → AreAllSteps (total_load p) l steps → IsLeastUnit (share p) steps (top_load p l) (length steps) None → 0 < top_load p l → ⊥
+no-unit : (p : Parts) (l : Link) (steps : List Step) → AreAllSteps p.law (total_load p) l steps → IsLeastUnit (share p) steps (top_load p l) (length steps) None → 0 < top_load p l → ⊥
 no-unit p l steps are none positive =
     let carried = top-can_carry p l 1 (omega arith) in
     let found = carried-reached (total_load p) l steps 1 carried.0 are (omega (arith, top-le p l)) carried.1 in
     omega (arith, none found.0 found.1.within, found.1.here)
 
-IsLeastUnitPrice-unit : (p : Parts) (l : Link) (steps : List Step) (unit : ℕ) → AreAllSteps (total_load p) l steps → IsUnitOf (share p) steps (top_load p l) (length steps) unit
+IsLeastUnitPrice-unit : (p : Parts) (l : Link) (steps : List Step) (unit : ℕ) → AreAllSteps p.law (total_load p) l steps → IsUnitOf (share p) steps (top_load p l) (length steps) unit
     → ((i : ℕ) → i < length steps → 0 < min (step_at steps i).reach (top_load p l) → unit ≤ unit_at (share p) steps (top_load p l) i) → IsLeastUnitPrice p l (1000 * l.routing + unit)
 IsLeastUnitPrice-unit p l steps unit are is_unit least =
     let i = is_unit.place in
@@ -343,13 +342,13 @@ IsLeastUnitPrice-unit p l steps unit are is_unit least =
           rw cost.is (omega (arith, at_end, smaller)));
     }
 
-pub IsStartPrice-unit : (p : Parts) (l : Link) (steps : List Step) (least : Option ℕ) → AreAllSteps (total_load p) l steps → IsLeastUnit (share p) steps (top_load p l) (length steps) least
-    → start_of p l least ≤ price_limit p → IsStartPrice p l (start_of p l least)
-IsStartPrice-unit p l steps None are h limit =
+pub IsStartPrice-unit : (p : Parts) (l : Link) (steps : List Step) (least : Option ℕ) → AreAllSteps p.law (total_load p) l steps → IsLeastUnit (share p) steps (top_load p l) (length steps) least
+    → IsStartPrice p l (start_of p l least)
+IsStartPrice-unit p l steps None are h =
     record { of_used = λ positive. absurd (no-unit p l steps are h positive); of_unused = λ _. refl }
-IsStartPrice-unit p l steps (Some unit) are h limit =
+IsStartPrice-unit p l steps (Some unit) are h =
     record {
-      of_used = λ positive. record { unit_price = 1000 * l.routing + unit; is_least = IsLeastUnitPrice-unit p l steps unit are h.0 h.1; cut = omega (arith, limit) };
+      of_used = λ positive. record { unit_price = 1000 * l.routing + unit; is_least = IsLeastUnitPrice-unit p l steps unit are h.0 h.1; cut = refl };
       of_unused = λ none. absurd (omega (arith, h.0.positive));
     }
 
@@ -369,63 +368,9 @@ slope-within p l price slope load limit less within =
     let product : slope * load ≤ price_limit p * max (total_load p) 1 = mul-le-mul (let le : slope ≤ price_limit p = omega arith in le) most in
     omega (arith, product, div-mul-le_self (MAX_PRICED_LOAD) (max (total_load p) 1))
 
--- only a useful link has a step that costs something
-cost-of-useless : (total : ℕ) (l : Link) (steps : List Step) (i : ℕ) → AreSteps total l steps → is_useful l ≡ false → i < length steps → (step_at steps i).cost ≡ 0
-cost-of-useless total l steps zero are none within = are.first.no_cost
-cost-of-useless total l steps (suc i) are none within =
-    let adds = are.adds (suc i) (omega arith) within in
-    absurd (omega (arith, adds.reach, no-capacity l (step_at steps (suc i)).added none adds.added, are.in_order.rising (step_at steps (suc i)).before (suc i) adds.before within))
-
--- the share is at most a thousand
-share-small : (p : Parts) → share p ≤ 1000
-share-small p = by_cases (is_two_way p.orient)
-  where
-    by_cases : (b : Bool) → (if b then 500 else 1000) ≤ 1000
-    by_cases true = omega arith
-    by_cases false = omega arith
-
--- a share of a small cost is small
-share-cost : (p : Parts) (cost : ℕ) → cost ≤ MAX_STEPS * MODULE_COST_BOUND → share p * cost ≤ 1000 * (MAX_STEPS * MODULE_COST_BOUND)
-share-cost p cost cheap = mul-le-mul (share-small p) cheap
-
--- the least unit is small enough for the whole load
-unit-small : (p : Parts) (l : Link) (steps : List Step) (unit : ℕ) → AreAllSteps (total_load p) l steps → 0 < top_load p l
-    → ((i : ℕ) → i < length steps → 0 < min (step_at steps i).reach (top_load p l) → unit ≤ unit_at (share p) steps (top_load p l) i) → unit * total_load p ≤ 1000 * (MAX_STEPS * MODULE_COST_BOUND)
-unit-small p l steps unit are positive least =
-    let carried = top-can_carry p l (top_load p l) (omega arith) in
-    let found = carried-reached (total_load p) l steps (top_load p l) carried.0 are (top-le p l) carried.1 in
-    let i = found.0 in
-    let first = found.1 in
-    let at_top : min (step_at steps i).reach (top_load p l) ≡ top_load p l = (let here = first.here in omega arith) in
-    let small : unit ≤ share p * (step_at steps i).cost / top_load p l = rw at_top at (least i first.within (rw at_top positive)) in
-    let cheap : (step_at steps i).cost ≤ MAX_STEPS * MODULE_COST_BOUND = omega (arith, are.are_steps.in_order.cheap i first.within, first.within, are.within) in
-    by_cases (is_useful l) refl i small cheap first.within
-  where
-    by_cases : (b : Bool) → is_useful l ≡ b → (i : ℕ) → unit ≤ share p * (step_at steps i).cost / top_load p l → (step_at steps i).cost ≤ MAX_STEPS * MODULE_COST_BOUND → i < length steps → unit * total_load p ≤ 1000 * (MAX_STEPS * MODULE_COST_BOUND)
-    by_cases true is i small cheap within =
-        let small_of_total : unit ≤ share p * (step_at steps i).cost / total_load p = rw is at small in
-        let product : total_load p * unit ≤ total_load p * (share p * (step_at steps i).cost / total_load p) = mul-le-mul_left (total_load p) small_of_total in
-        omega (arith, product, div-mul-le_self (share p * (step_at steps i).cost) (total_load p), share-cost p (step_at steps i).cost cheap)
-    by_cases false is i small cheap within =
-        let no_cost = cost-of-useless (total_load p) l steps i are.are_steps is within in
-        let no_share : share p * (step_at steps i).cost ≡ 0 = rw no_cost (omega arith) in
-        let no_unit : unit ≤ 0 = omega (arith, small, div-le_self (share p * (step_at steps i).cost) (top_load p l), no_share) in
-        let none : unit ≡ 0 = omega arith in
-        rw none (omega arith)
-
--- a start price is at most the limit
-pub start-within : (p : Parts) (l : Link) (steps : List Step) (least : Option ℕ) → AreAllSteps (total_load p) l steps → l.routing * total_load p ≤ MAX_ROUTING_COST → IsLeastUnit (share p) steps (top_load p l) (length steps) least → start_of p l least ≤ price_limit p
-start-within p l steps None are cheap h = omega arith
-start-within p l steps (Some unit) are cheap h =
-    let positive : 0 < top_load p l = omega (arith, h.0.positive) in
-    let small = unit-small p l steps unit are positive h.1 in
-    let whole : max (total_load p) 1 ≡ total_load p = omega (arith, top-le p l) in
-    let product : (1000 * l.routing + unit) * total_load p ≤ MAX_PRICED_LOAD = omega (arith, small, cheap) in
-    le-div (1000 * l.routing + unit) (MAX_PRICED_LOAD) (max (total_load p) 1) (omega arith) (rw whole product)
-
 -- a link value is not positive
 pub IsLinkValue-not_positive : (p : Parts) (l : Link) (price back_price : ℕ) (value : ℤ) → IsLinkValue p l price back_price value → value ≤ℤ pos 0
-IsLinkValue-not_positive p l price back_price value is = at_nothing (price * 0 + back_price * 0) value (omega arith) (is.least 0 0 0 (omega arith) (omega arith) (no_load-cost l))
+IsLinkValue-not_positive p l price back_price value is = at_nothing (price * 0 + back_price * 0) value (omega arith) (is.least 0 0 0 (omega arith) (omega arith) (no_load-cost p.law l))
   where
     at_nothing : (nothing : ℕ) (v : ℤ) → nothing ≡ 0 → v ≤ℤ (pos (1000 * 0) -ℤ pos nothing) → v ≤ℤ pos 0
     at_nothing nothing v none le = omega (arith, ints)

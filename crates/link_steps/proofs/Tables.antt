@@ -2,6 +2,7 @@
 use Rattle.std.proofs.Common.{◌≡◌, ℕ, ◌+◌, ◌<◌, inl, inr, List, [], ◌∷◌, ◌++◌, length, slice_index_or, sym, ap, ◌∙◌, arith}
 use Rattle.std.proofs.Math.Seq.{get_or-append_seam}
 use Rattle.std.proofs.lemmas.List.{length-append, get_or_append_left}
+use Rattle.plan_base.specs.declared.parts.CountLaw.{CountLaw}
 use Rattle.plan_base.specs.declared.parts.Link.{Link}
 use Rattle.plan_base.specs.declared.parts.Parts.{Parts}
 use Rattle.plan_base.specs.Facts.{total_load, top_load}
@@ -15,7 +16,7 @@ use Rattle.link_steps.proofs.Order.{before_or_last}
 
 -- one link more
 pub AreTablesTo-push : (p : Parts) (tables : List (List Step)) (ends : List (List End)) (steps : List Step) (best : List End) (n : ℕ) → AreTablesTo p n tables ends
-    → AreAllSteps (total_load p) (link_at p n) steps → AreBestEnds steps (top_load p (link_at p n)) (length steps) best → AreTablesTo p (n + 1) (tables ++ steps ∷ []) (ends ++ best ∷ [])
+    → AreAllSteps p.law (total_load p) (link_at p n) steps → AreBestEnds steps (top_load p (link_at p n)) (length steps) best → AreTablesTo p (n + 1) (tables ++ steps ∷ []) (ends ++ best ∷ [])
 AreTablesTo-push p tables ends steps best n before are_all are_best =
     let table_count = before.table_count in
     let end_count = before.end_count in
@@ -39,9 +40,9 @@ AreTablesTo-push p tables ends steps best n before are_all are_best =
     }
 
 -- counts that carry a load at the cost of the first step that reaches it are the least
-pub AreLeastCounts-made : (total : ℕ) (l : Link) (steps : List Step) (load place : ℕ) (counts : List ℕ) → AreSteps total l steps → IsFirstReaching steps load place → IsMadeOf l (step_at steps place) load counts → AreLeastCountsOn l load counts
+pub AreLeastCounts-made : {law : CountLaw} (total : ℕ) (l : Link) (steps : List Step) (load place : ℕ) (counts : List ℕ) → AreSteps law total l steps → IsFirstReaching steps load place → IsMadeOf law l (step_at steps place) load counts → AreLeastCountsOn law l load counts
 AreLeastCounts-made total l steps load place counts are first made =
     record {
-      carries = record { count = made.count; enough = made.enough };
+      carries = made.carries;
       least = λ others carries. omega (arith, cost-le total l steps load place others are first carries, made.cost);
     }

@@ -1,13 +1,15 @@
 -- How a table keeps the steps of links, and how they are made. No public contract cites it.
 use Rattle.std.specs.Prelude.{ℕ, ◌≡◌, ◌<◌, ◌≤◌, ◌+◌, ◌-◌, ◌*◌, ◌/◌, min, List, [], ◌∷◌, ◌++◌, length, Option, Some, None, slice_index, slice_index_or}
+use Rattle.plan_base.specs.declared.parts.CountLaw.{CountLaw}
+use Rattle.plan_base.specs.declared.parts.CountLaw.TheVariants.{Any, AtMostOne}
 use Rattle.plan_base.specs.declared.parts.Link.{Link}
 use Rattle.plan_base.specs.declared.parts.Parts.{Parts}
 use Rattle.plan_base.specs.Arcs.{link_at}
 use Rattle.plan_base.specs.Facts.{total_load, top_load}
 use Rattle.plan_base.specs.declared.limits.TheConstants.{MODULE_COST_BOUND, MAX_COUNT, MAX_TOTAL_LOAD}
-use Rattle.plan_base.specs.Designs.{module_at, capacity_with, module_cost_with}
+use Rattle.plan_base.specs.Designs.{module_at, module_cost_with}
 use Rattle.plan_base.specs.declared.ids.LinkId.{LinkId}
-use Rattle.link_steps.specs.Costs.{HasMoreSteps}
+use Rattle.link_steps.specs.Costs.{CarriesOn, CannotCarryOn, HasMoreSteps}
 use Rattle.link_steps.specs.declared.step_fault.StepFault.{StepFault}
 use Rattle.link_steps.specs.declared.step_fault.StepFault.TheVariants.{TooManySteps, OutOfMemory}
 use Rattle.link_steps.specs.declared.step.Step.{Step}
@@ -58,35 +60,63 @@ pub record AreInOrder (steps : List Step) : Type 0 where
   pub dearer : (i j : ℕ) → i < j → j < length steps → (step_at steps i).cost < (step_at steps j).cost
   pub cheap : (i : ℕ) → i < length steps → (step_at steps i).cost ≤ i * MODULE_COST_BOUND
 
--- The first steps of a link, each the farthest of its cost: what goes past a step costs at least the next one.
-pub record AreSteps (total : ℕ) (l : Link) (steps : List Step) : Type 0 where
+-- some lawful counts carry so much at this cost
+pub record Attains (law : CountLaw) (l : Link) (reach cost : ℕ) : Type 0 where
+  pub counts : List ℕ
+  pub carries : CarriesOn law l reach counts
+  pub attained : module_cost_with l counts ≡ cost
+
+-- The first steps of a link, each attained and the farthest of its cost: what goes past a step costs at least the next one.
+pub record AreSteps (law : CountLaw) (total : ℕ) (l : Link) (steps : List Step) : Type 0 where
   pub in_order : AreInOrder steps
+  pub no_cost : (step_at steps 0).cost ≡ 0
+  pub attained : (i : ℕ) → i < length steps → Attains law l (step_at steps i).reach (step_at steps i).cost
+  pub short : (i : ℕ) → i + 1 < length steps → (step_at steps i).reach < total
+  pub next : (i j : ℕ) (counts : List ℕ) → i + 1 ≡ j → j < length steps → CarriesOn law l ((step_at steps i).reach + 1) counts
+      → (step_at steps j).cost ≤ module_cost_with l counts
+
+-- steps that grow, under the law of any counts: each but the first one adds one module to an earlier one
+pub record AreGrown (total : ℕ) (l : Link) (steps : List Step) : Type 0 where
   pub first : IsFirstStep total l (step_at steps 0)
   pub adds : (i : ℕ) → 0 < i → i < length steps → AddsOne l steps i (step_at steps i)
-  pub short : (i : ℕ) → i + 1 < length steps → (step_at steps i).reach < total
-  pub next : (i j : ℕ) (counts : List ℕ) → i + 1 ≡ j → j < length steps → length counts ≡ length l.modules
-      → (step_at steps i).reach < capacity_with l counts → (step_at steps j).cost ≤ module_cost_with l counts
 
--- what goes past the last step costs more
+-- a step of one module: that of its number reaches as far with the pre-installed capacity, and costs as much
+pub record IsOfOne (l : Link) (step : Step) : Type 0 where
+  pub within : step.added < length l.modules
+  pub reach : step.reach ≡ l.pre + (module_at l step.added).capacity
+  pub cost : step.cost ≡ (module_at l step.added).cost
+
+-- steps that are chosen, under the law of at most one module: each past the pre-installed capacity is of one module
+pub record AreChosen (l : Link) (steps : List Step) : Type 0 where
+  pub pre : l.pre ≤ (step_at steps 0).reach
+  pub one : (i : ℕ) → i < length steps → l.pre < (step_at steps i).reach → IsOfOne l (step_at steps i)
+
+-- how the steps were made under the law
+abbrev pub AreMade : CountLaw → ℕ → Link → List Step → Type 0
+AreMade Any total l steps = AreGrown total l steps
+AreMade AtMostOne total l steps = AreChosen l steps
+
+-- under the law of any counts, what goes past the last step costs more
 abbrev pub IsFarthest : Link → List Step → Type 0
-IsFarthest l steps = (counts : List ℕ) → length counts ≡ length l.modules
-    → (last_of steps).reach < capacity_with l counts → (last_of steps).cost < module_cost_with l counts
+IsFarthest l steps = (counts : List ℕ) → CarriesOn Any l ((last_of steps).reach + 1) counts → (last_of steps).cost < module_cost_with l counts
 
 -- each module that has capacity costs something
 abbrev pub HasNoFree : Link → Type 0
 HasNoFree l = (m : ℕ) → m < length l.modules → 0 < (module_at l m).capacity → 0 < (module_at l m).cost
 
--- steps that may go on
+-- steps that may go on, under the law of any counts
 pub record AreOpenSteps (total : ℕ) (l : Link) (steps : List Step) : Type 0 where
-  pub are_steps : AreSteps total l steps
+  pub are_steps : AreSteps Any total l steps
+  pub grown : AreGrown total l steps
   pub farthest : (last_of steps).reach < total → IsFarthest l steps
   pub no_free : (last_of steps).reach < total → HasNoFree l
 
 -- all steps of a link up to the total load, or up to all that it carries
-pub record AreAllSteps (total : ℕ) (l : Link) (steps : List Step) : Type 0 where
-  pub are_steps : AreSteps total l steps
+pub record AreAllSteps (law : CountLaw) (total : ℕ) (l : Link) (steps : List Step) : Type 0 where
+  pub are_steps : AreSteps law total l steps
+  pub made : AreMade law total l steps
   pub within : length steps ≤ MAX_STEPS
-  pub whole : (last_of steps).reach < total → (counts : List ℕ) → length counts ≡ length l.modules → capacity_with l counts ≤ (last_of steps).reach
+  pub whole : (last_of steps).reach < total → CannotCarryOn law l ((last_of steps).reach + 1)
 
 -- a step with one module added
 abbrev pub with_one : Link → List Step → ℕ → ℕ → Step
@@ -130,14 +160,14 @@ pub record AreStarts (l : Link) (steps : List Step) (starts : List ℕ) : Type 0
   pub passed : (m : ℕ) → m < length starts → IsPassedBy l steps m (slice_index starts m)
 
 -- steps of the link, up to some total load
-pub record AreStepsOf (l : Link) (steps : List Step) : Type 0 where
+pub record AreStepsOf (law : CountLaw) (l : Link) (steps : List Step) : Type 0 where
   pub total : ℕ
-  pub are_steps : AreSteps total l steps
+  pub are_steps : AreSteps law total l steps
+  pub made : AreMade law total l steps
 
--- counts that carry a load at the cost of a step, none of them too large
-pub record IsMadeOf (l : Link) (step : Step) (load : ℕ) (counts : List ℕ) : Type 0 where
-  pub count : length counts ≡ length l.modules
-  pub enough : load ≤ capacity_with l counts
+-- lawful counts that carry a load at the cost of a step, none of them too large
+pub record IsMadeOf (law : CountLaw) (l : Link) (step : Step) (load : ℕ) (counts : List ℕ) : Type 0 where
+  pub carries : CarriesOn law l load counts
   pub cost : module_cost_with l counts ≡ step.cost
   pub few : (m : ℕ) → m < length l.modules → slice_index counts m ≤ MAX_COUNT
 
@@ -225,14 +255,14 @@ IsLeastUnit part steps top count (Some unit) =
 -- the best ends of all steps of a link
 pub record AreEndsOf (p : Parts) (l : Link) (ends : List End) : Type 0 where
   pub steps : List Step
-  pub are_all : AreAllSteps (total_load p) l steps
+  pub are_all : AreAllSteps p.law (total_load p) l steps
   pub are_best : AreBestEnds steps (top_load p l) (length steps) ends
 
 -- the steps of the links of an instance before a count, in order, and the best ends among them
 pub record AreTablesTo (p : Parts) (count : ℕ) (tables : List (List Step)) (ends : List (List End)) : Type 0 where
   pub table_count : length tables ≡ count
   pub end_count : length ends ≡ count
-  pub each : (e : ℕ) → e < count → AreAllSteps (total_load p) (link_at p e) (slice_index_or tables e [])
+  pub each : (e : ℕ) → e < count → AreAllSteps p.law (total_load p) (link_at p e) (slice_index_or tables e [])
   pub best : (e : ℕ) → e < count
       → AreBestEnds (slice_index_or tables e []) (top_load p (link_at p e)) (length (slice_index_or tables e [])) (slice_index_or ends e [])
 
@@ -241,6 +271,6 @@ abbrev pub AreTables : Parts → List (List Step) → List (List End) → Type 0
 AreTables p tables ends = AreTablesTo p (length p.links) tables ends
 
 -- when a fault comes at one link
-abbrev pub IsFaultOfLink : ℕ → LinkId → Link → StepFault → Type 0
-IsFaultOfLink total id l (TooManySteps link) = (link ≡ id) × HasMoreSteps total l MAX_STEPS
-IsFaultOfLink total id l OutOfMemory = Unit {0}
+abbrev pub IsFaultOfLink : CountLaw → ℕ → LinkId → Link → StepFault → Type 0
+IsFaultOfLink law total id l (TooManySteps link) = (link ≡ id) × HasMoreSteps law total l MAX_STEPS
+IsFaultOfLink law total id l OutOfMemory = Unit {0}

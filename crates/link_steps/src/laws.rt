@@ -1,6 +1,7 @@
 //! Laws of the definitions.
 
 ghost use Rattle.std.specs.Prelude.{ℕ, List, ◌≡◌, ◌<◌, ◌≤◌, length};
+ghost use Rattle.plan_base.specs.declared.parts.CountLaw.{CountLaw as AnyLaw};
 ghost use Rattle.plan_base.specs.declared.parts.Link.{Link as AnyLink};
 ghost use Rattle.plan_base.specs.declared.parts.Parts.{Parts as AnyParts};
 ghost use Rattle.plan_base.specs.declared.path.Design.{Design as AnyDesign};
@@ -15,7 +16,7 @@ pub fn defined_up_to_top()
     ensures only { (p : AnyParts) (e load cost : ℕ) → load ≤ total_load p → IsLeastModuleCost p e load cost → load ≤ top_load p (link_at p e) }
 {}
 
-/// A least module cost is defined for each load that some counts carry.
+/// A least module cost is defined for each load that some lawful counts carry.
 pub fn defined_where_carried()
     ensures { (p : AnyParts) (e load : ℕ) → CanCarry p e load → (cost : ℕ) × IsLeastModuleCost p e load cost }
 {}
@@ -26,7 +27,7 @@ pub fn never_falls()
         → IsLeastModuleCost p e low low_cost → IsLeastModuleCost p e high high_cost → low_cost ≤ high_cost }
 {}
 
-/// Counts that carry a load cost at least its least module cost.
+/// Lawful counts that carry a load cost at least its least module cost.
 pub fn least_is_least()
     ensures { (p : AnyParts) (e : ℕ) (counts : List ℕ) (load cost : ℕ)
         → Carries p e load counts → IsLeastModuleCost p e load cost → cost ≤ module_cost_with (link_at p e) counts }
@@ -45,5 +46,5 @@ pub fn least_is_one()
 
 /// No link has at most so many steps and more.
 pub fn few_or_many()
-    ensures { (l : AnyLink) (total number : ℕ) → HasAtMostSteps total l number → HasMoreSteps total l number → ⊥ }
+    ensures { (law : AnyLaw) (l : AnyLink) (total number : ℕ) → HasAtMostSteps law total l number → HasMoreSteps law total l number → ⊥ }
 {}

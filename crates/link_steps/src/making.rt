@@ -1,15 +1,18 @@
-//! The steps of a link, made one by one in rising cost.
+//! The steps of a link, under the law of any counts made one by one in rising cost.
 
 ghost use Rattle.std.specs.Prelude.{ℕ, ◌≡◌, ◌<◌, ◌≤◌, ◌+◌, ◌⊎◌, length, All, Some, IfOk, IfErr, IfSome, IfNone};
+ghost use Rattle.plan_base.specs.declared.parts.CountLaw.TheVariants.{Any, AtMostOne};
 ghost use Rattle.plan_base.specs.Facts.{IsModule};
 ghost use Rattle.plan_base.specs.Designs.{module_at};
+ghost use Rattle.link_steps.specs.declared.step_fault.StepFault.TheVariants.{OutOfMemory};
 ghost use Rattle.link_steps.specs.Steps.{step_at, last_of, IsFree, HasNoFree, IsFirstStep, AreInOrder, AreAllSteps, IsPassedBy, AreStarts, IsNotWorse, IsNextStep, Beats, IsFaultOfLink};
 
+use crate::choices::chosen_steps;
 use crate::limits::MAX_STEPS;
 use crate::step::Step;
 use crate::step_fault::StepFault;
 use plan_base::limits::{CAPACITY_BOUND, MAX_MODULES, MAX_TOTAL_LOAD};
-use plan_base::{Link, LinkId};
+use plan_base::{CountLaw, Link, LinkId};
 use std::alloc::Global;
 
 /// The number of the first module that costs nothing and has capacity.
@@ -140,17 +143,17 @@ fn next_step(link: &Link, steps: &[Step], starts: &mut Vec<usize>) -> Option<Ste
     best
 }
 
-/// All steps of a link up to the total load, or up to all that it carries.
+/// All steps of a link up to the total load, or up to all that it carries, where any counts are lawful.
 ///
 /// - Errors: `TooManySteps`, as soon as one more than `MAX_STEPS` steps are made.
 /// - Time: the number of steps times that of modules; the sizes of loads and capacities do not count.
-pub fn steps_of(alloc: Global, id: LinkId, link: &Link, total: u64) -> Result<Vec<Step>, StepFault>
+fn grown_steps(alloc: Global, id: LinkId, link: &Link, total: u64) -> Result<Vec<Step>, StepFault>
     requires pre { link.now.pre < CAPACITY_BOUND }
     requires total { total ≤ MAX_TOTAL_LOAD }
     requires modules { All IsModule link.now.modules }
     requires count { length link.now.modules ≤ MAX_MODULES }
-    ensures steps { IfOk result (λ steps. AreAllSteps total link.now steps.items) }
-    ensures fault { IfErr result (IsFaultOfLink total id link.now) }
+    ensures steps { IfOk result (λ steps. AreAllSteps Any total link.now steps.items) }
+    ensures fault { IfErr result (IsFaultOfLink Any total id link.now) }
 {
     let mut steps = Vec::new(alloc);
     steps.push(first_step(link, total))?;
@@ -165,4 +168,28 @@ pub fn steps_of(alloc: Global, id: LinkId, link: &Link, total: u64) -> Result<Ve
         }
     }
     Err(StepFault::TooManySteps { link: id })
+}
+
+/// All steps of a link up to the total load, or up to all that it carries under the law.
+///
+/// - Errors: `TooManySteps`, where any counts are lawful and more than `MAX_STEPS` steps are wanted.
+pub fn steps_of(
+    alloc: Global,
+    law: CountLaw,
+    id: LinkId,
+    link: &Link,
+    total: u64,
+) -> Result<Vec<Step>, StepFault>
+    requires pre { link.now.pre < CAPACITY_BOUND }
+    requires total { total ≤ MAX_TOTAL_LOAD }
+    requires modules { All IsModule link.now.modules }
+    requires count { length link.now.modules ≤ MAX_MODULES }
+    ensures steps { IfOk result (λ steps. AreAllSteps law total link.now steps.items) }
+    ensures fault { IfErr result (IsFaultOfLink law total id link.now) }
+    ensures one { IfErr result (λ fault. law ≡ AtMostOne → fault ≡ OutOfMemory) }
+{
+    match law {
+        CountLaw::Any => grown_steps(alloc, id, link, total),
+        CountLaw::AtMostOne => Ok(chosen_steps(alloc, link, total)?),
+    }
 }

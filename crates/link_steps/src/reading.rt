@@ -1,11 +1,12 @@
 //! What the steps of a link tell of loads and prices.
 
-ghost use Rattle.std.specs.Prelude.{ℕ, ◌<◌, ◌≤◌, length, IfOk};
-ghost use Rattle.link_steps.specs.Steps.{step_at, AreRising, AreStepsOf, IsMadeOf};
+ghost use Rattle.std.specs.Prelude.{ℕ, ◌≡◌, ◌<◌, ◌≤◌, length, IfOk};
+ghost use Rattle.plan_base.specs.declared.parts.CountLaw.TheVariants.{Any, AtMostOne};
+ghost use Rattle.link_steps.specs.Steps.{step_at, AreRising, IsOfOne, AreStepsOf, IsMadeOf};
 
 use crate::limits::MAX_STEPS;
 use crate::step::Step;
-use plan_base::Link;
+use plan_base::{CountLaw, Link};
 use std::alloc::{AllocError, Global};
 
 /// The least value that prices give to a link, and the smallest loads that give it.
@@ -89,11 +90,11 @@ fn added_counts(
     steps: &[Step],
     place: usize,
 ) -> Result<Vec<u64>, AllocError>
-    requires steps { AreStepsOf link.now steps.now }
+    requires steps { AreStepsOf Any link.now steps.now }
     requires few { length steps.now ≤ MAX_STEPS }
     requires place { place < length steps.now }
     requires added { 0 < place }
-    ensures { IfOk result (λ counts. IsMadeOf link.now (step_at steps.now place) (step_at steps.now place).reach counts.items) }
+    ensures { IfOk result (λ counts. IsMadeOf Any link.now (step_at steps.now place) (step_at steps.now place).reach counts.items) }
 {
     let mut counts = vec![in alloc; 0u64; link.modules.len()]?;
     let mut here = place;
@@ -112,9 +113,9 @@ fn free_counts(
     steps: &[Step],
     load: u64,
 ) -> Result<Vec<u64>, AllocError>
-    requires steps { AreStepsOf link.now steps.now }
+    requires steps { AreStepsOf Any link.now steps.now }
     requires load { load ≤ (step_at steps.now 0).reach }
-    ensures { IfOk result (λ counts. IsMadeOf link.now (step_at steps.now 0) load counts.items) }
+    ensures { IfOk result (λ counts. IsMadeOf Any link.now (step_at steps.now 0) load counts.items) }
 {
     let mut counts = vec![in alloc; 0u64; link.modules.len()]?;
     if load > link.pre {
@@ -124,23 +125,60 @@ fn free_counts(
     Ok(counts)
 }
 
-/// One count for each module: together they reach the load, in load grains, at the cost of the step at this place.
-pub fn counts_of(
+/// The counts that carry a load at the cost of the step at this place, where any counts are lawful.
+fn grown_counts(
     alloc: Global,
     link: &Link,
     steps: &[Step],
     place: usize,
     load: u64,
 ) -> Result<Vec<u64>, AllocError>
-    requires steps { AreStepsOf link.now steps.now }
+    requires steps { AreStepsOf Any link.now steps.now }
     requires few { length steps.now ≤ MAX_STEPS }
     requires place { place < length steps.now }
     requires load { load ≤ (step_at steps.now place).reach }
-    ensures { IfOk result (λ counts. IsMadeOf link.now (step_at steps.now place) load counts.items) }
+    ensures { IfOk result (λ counts. IsMadeOf Any link.now (step_at steps.now place) load counts.items) }
 {
     if place == 0 {
         free_counts(alloc, link, steps, load)
     } else {
         added_counts(alloc, link, steps, place)
+    }
+}
+
+/// The counts that carry a load at the cost of a step, where at most one module is lawful: none, or that one.
+fn chosen_counts(alloc: Global, link: &Link, step: Step, load: u64) -> Result<Vec<u64>, AllocError>
+    requires load { load ≤ step.reach }
+    requires none { load ≤ link.now.pre → step.cost ≡ 0 }
+    requires one { link.now.pre < load → IsOfOne link.now step }
+    ensures { IfOk result (λ counts. IsMadeOf AtMostOne link.now step load counts.items) }
+{
+    let mut counts = vec![in alloc; 0u64; link.modules.len()]?;
+    if load > link.pre {
+        counts[step.added as usize] = 1;
+    }
+    Ok(counts)
+}
+
+/// One lawful count for each module: together they reach the load, in load grains, at the cost of the step at this
+/// place, which is the first to reach it.
+pub fn counts_of(
+    alloc: Global,
+    law: CountLaw,
+    link: &Link,
+    steps: &[Step],
+    place: usize,
+    load: u64,
+) -> Result<Vec<u64>, AllocError>
+    requires steps { AreStepsOf law link.now steps.now }
+    requires few { length steps.now ≤ MAX_STEPS }
+    requires place { place < length steps.now }
+    requires before { (j : ℕ) → j < place → (step_at steps.now j).reach < load }
+    requires load { load ≤ (step_at steps.now place).reach }
+    ensures { IfOk result (λ counts. IsMadeOf law link.now (step_at steps.now place) load counts.items) }
+{
+    match law {
+        CountLaw::Any => grown_counts(alloc, link, steps, place, load),
+        CountLaw::AtMostOne => chosen_counts(alloc, link, steps[place], load),
     }
 }

@@ -7,7 +7,8 @@ pub struct Step {
     pub reach: u64,
     /// In cost grains.
     pub cost: u128,
-    /// The place of the earlier step that it has one module more than. Means nothing in the first step.
+    /// The place of the earlier step that it has one module more than. Means nothing in the first step, and where a link
+    /// may have one module at most.
     pub before: u32,
     /// The number of that module; in a first step past the pre-installed capacity, that of a module without cost.
     pub added: u32,

@@ -1,10 +1,12 @@
 //! The step table: the least module costs of all links of an instance.
 
 ghost use Rattle.std.specs.Prelude.{ℕ, false, ◌≡◌, ◌<◌, ◌≤◌, ◌-◌, ◌*◌, ◌-ℤ◌, ◌≤ℤ◌, pos, length, All, IfOk, IfErr, IfSome, IfNone};
-ghost use Rattle.plan_base.specs.Facts.{total_load, top_load, price_limit, IsInstance};
+ghost use Rattle.plan_base.specs.declared.parts.CountLaw.TheVariants.{AtMostOne};
+ghost use Rattle.plan_base.specs.Facts.{total_load, top_load, price_limit};
 ghost use Rattle.plan_base.specs.Arcs.{link_at};
 ghost use Rattle.plan_base.specs.Designs.{AreCountsInShape};
 ghost use Rattle.link_steps.specs.Costs.{CannotCarry, IsLeastModuleCost, AreLeastCounts, HasSteps, HasAtMostSteps, IsFaultOf};
+ghost use Rattle.link_steps.specs.declared.step_fault.StepFault.TheVariants.{OutOfMemory};
 ghost use Rattle.link_steps.specs.Values.{share, top_back, IsLinkValue, IsValueTotal, AreFirstLoads, IsStartPrice, AreStartPrices};
 ghost use Rattle.plan_base.specs.Places.{is_two_way, places};
 
@@ -52,7 +54,7 @@ impl StepTable {
     /// The steps of a link.
     fn steps_of_link(&self, link: LinkId) -> &[Step]
         requires { link.0 < length self.now.links }
-        ensures { AreAllSteps (total_load self.now) (link_at self.now link.0) result.now }
+        ensures { AreAllSteps self.now.law (total_load self.now) (link_at self.now link.0) result.now }
     {
         self.tables[link.0 as usize].as_slice()
     }
@@ -68,21 +70,23 @@ impl StepTable {
     /// The table of an instance.
     ///
     /// - Errors: `TooManySteps`, at the first link whose least module cost takes more than `MAX_STEPS` values over the
-    ///   loads from 0 to the total load.
+    ///   loads from 0 to the total load; never where at most one module is lawful.
     /// - Rule: docs/DEFINITIONS.md, "Least module cost".
     /// - Time: for each link the number of its steps times that of its modules; the sizes of loads and capacities do not
     ///   count, and a link with too many steps is left at the first one too many.
     pub fn make(alloc: Global, inst: &Instance) -> Result<StepTable, StepFault>
         ensures value { IfOk result (λ table. table ≡ inst.now) }
-        ensures few { IfOk result (λ _. (e : ℕ) → e < length inst.now.links → HasAtMostSteps (total_load inst.now) (link_at inst.now e) MAX_STEPS) }
+        ensures few { IfOk result (λ _. (e : ℕ) → e < length inst.now.links → HasAtMostSteps inst.now.law (total_load inst.now) (link_at inst.now e) MAX_STEPS) }
         ensures fault { IfErr result (IsFaultOf inst.now) }
+        ensures one { IfErr result (λ fault. inst.now.law ≡ AtMostOne → fault ≡ OutOfMemory) }
     {
+        let law = inst.law();
         let total = inst.total_load();
         let mut tables = Vec::new(alloc);
         let mut ends = Vec::new(alloc);
         for place in 0..inst.links() {
             let link = LinkId(place);
-            let steps = steps_of(alloc, link, inst.link(link), total)?;
+            let steps = steps_of(alloc, law, link, inst.link(link), total)?;
             let best = best_ends(alloc, &steps, inst.top_load(link))?;
             tables.push(Items::from_vec(steps))?;
             ends.push(Items::from_vec(best))?;
@@ -91,10 +95,10 @@ impl StepTable {
         Ok(StepTable { inst, tables, ends })
     }
 
-    /// The least module cost of a load on a link, over all counts of its modules. Takes no memory.
+    /// The least module cost of a load on a link, over all lawful counts of its modules. Takes no memory.
     ///
     /// - Takes: a link of the instance; a load of at most the total load, in load grains.
-    /// - Gives: cost grains; None exactly where no counts carry the load.
+    /// - Gives: cost grains; None exactly where no lawful counts carry the load.
     /// - Rule: docs/DEFINITIONS.md, "Least module cost".
     /// - Time: the logarithm of the number of steps.
     pub fn at(&self, link: LinkId, load: u64) -> Option<u128>
@@ -139,10 +143,11 @@ impl StepTable {
         }
     }
 
-    /// Counts that carry a load on a link at its least module cost, each of them in shape.
+    /// Lawful counts that carry a load on a link at its least module cost, each of them in shape.
     ///
     /// - Takes: a link of the instance; a load of at most the total load, in load grains.
-    /// - Gives: one count for each module, in the order of `link.modules`; None exactly where no counts carry the load.
+    /// - Gives: one count for each module, in the order of `link.modules`; None exactly where no lawful counts carry the
+    ///   load.
     /// - Errors: want of memory alone.
     /// - Rule: docs/DEFINITIONS.md, "Least module cost".
     /// - Time: at most the number of steps and that of modules.
@@ -163,7 +168,8 @@ impl StepTable {
         if place == steps.len() {
             return Ok(None);
         }
-        let counts = counts_of(alloc, self.inst.link(link), steps, place, load)?;
+        let law = self.inst.law();
+        let counts = counts_of(alloc, law, self.inst.link(link), steps, place, load)?;
         Ok(Some(Items::from_vec(counts)))
     }
 
@@ -173,7 +179,7 @@ impl StepTable {
     /// - Rule: docs/DEFINITIONS.md, "Steps of a link".
     pub fn steps(&self, link: LinkId) -> u32
         requires { link.0 < length self.now.links }
-        ensures value { HasSteps (total_load self.now) (link_at self.now link.0) result }
+        ensures value { HasSteps self.now.law (total_load self.now) (link_at self.now link.0) result }
         ensures within { result ≤ MAX_STEPS }
     {
         self.steps_of_link(link).len() as u32
@@ -254,15 +260,15 @@ impl StepTable {
 
     /// The start price of the places of a link, in thousandths of a cost grain per load grain.
     fn start_price(&self, link: LinkId) -> u128
-        requires lawful { IsInstance self.now }
-        requires link { link.0 < length self.now.links }
+        requires { link.0 < length self.now.links }
         ensures value { IsStartPrice self.now (link_at self.now link.0) result }
         ensures within { result ≤ price_limit self.now }
     {
         let steps = self.steps_of_link(link);
+        let limit = self.inst.price_limit();
         match least_unit(self.share(), steps, self.inst.top_load(link)) {
-            None => self.inst.price_limit(),
-            Some(unit) => 1000 * u128::from(self.inst.link(link).routing) + unit,
+            None => limit,
+            Some(unit) => (1000 * u128::from(self.inst.link(link).routing) + unit).min(limit),
         }
     }
 

@@ -10,10 +10,10 @@ loop-here-init c =
 
 pub overflow_add-index_mut : goal.overflow_add-index_mut
 overflow_add-index_mut c =
-    let adds = c.requires.steps.are_steps.adds c.loop-here.here (omega arith) (omega (arith, c.loop-here.invariant.within)) in
+    let adds = c.requires.steps.made.adds c.loop-here.here (omega arith) (omega (arith, c.loop-here.invariant.within)) in
     omega (arith, IsMadeSoFar-item c.args.link.now c.args.steps.now c.args.place c.loop-here.here c.index_mut.result.now c.loop-here.counts.items adds c.loop-here.invariant c.index_mut.ensures.value)
 
 pub loop-here-preserved : goal.loop-here-preserved
 loop-here-preserved c =
-    let adds = c.requires.steps.are_steps.adds c.loop-here.here (omega arith) (omega (arith, c.loop-here.invariant.within)) in
+    let adds = c.requires.steps.made.adds c.loop-here.here (omega arith) (omega (arith, c.loop-here.invariant.within)) in
     IsMadeSoFar-next c.args.link.now c.args.steps.now c.args.place c.loop-here.here c.index_mut.result.now c.loop-here.counts.items adds c.loop-here.invariant c.index_mut.ensures.value

@@ -10,6 +10,6 @@ returns c =
     elim c.if-load-link.branch [
       | then-load-link w ↦
           (let ceil = rw w.as_slice.ensures.value at w.div_ceil.ensures in
-          rw (w.counts-is, counts) (IsMadeOf-free c.args.link.now c.args.steps.now c.args.load w.div_ceil.result c.requires.steps w.if-load-link.true c.requires.load (omega (arith, c.requires.load, c.requires.steps.are_steps.first.within)) ceil))
+          rw (w.counts-is, counts) (IsMadeOf-free c.args.link.now c.args.steps.now c.args.load w.div_ceil.result c.requires.steps w.if-load-link.true c.requires.load (omega (arith, c.requires.load, c.requires.steps.made.first.within)) ceil))
       | else-load-link w ↦ rw (w.counts-is, counts) (IsMadeOf-none c.args.link.now c.args.steps.now c.args.load c.requires.steps (omega (arith, w.if-load-link.false)))
     ]

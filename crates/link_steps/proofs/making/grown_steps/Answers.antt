@@ -5,7 +5,7 @@ use Rattle.link_steps.specs.Steps.{last_of}
 use Rattle.plan_base.proofs.CountSums.{none_of_each}
 use Rattle.link_steps.proofs.Going.{push, length-push, last-item, AreOpenSteps-first, AreOpenSteps-push, AreStarts-none, AreStarts-push, whole-none}
 use Rattle.link_steps.proofs.Counted.{HasMoreSteps-steps}
-use Rattle.link_steps.proofs.making.steps_of.Goals as goal
+use Rattle.link_steps.proofs.making.grown_steps.Goals as goal
 
 pub loop-made-init : goal.loop-made-init
 loop-made-init c =
@@ -20,8 +20,9 @@ loop-made-init c =
 pub returns-in-None-clause-steps : goal.returns-in-None-clause-steps
 returns-in-None-clause-steps c = record {
   are_steps = c.loop-made.invariant.are_open.are_steps;
+  made = c.loop-made.invariant.are_open.grown;
   within = omega (arith, c.loop-made.invariant.count);
-  whole = λ _. whole-none c.args.total c.args.link.now c.loop-made.steps.items c.loop-made.invariant.are_open.are_steps (rw c.as_slice.ensures.value at c.in-None.ensures.best);
+  whole = λ _. whole-none c.args.total c.args.link.now c.loop-made.steps.items c.loop-made.invariant.are_open.are_steps c.loop-made.invariant.are_open.grown (rw c.as_slice.ensures.value at c.in-None.ensures.best);
 }
 
 pub loop-made-preserved : goal.loop-made-preserved
