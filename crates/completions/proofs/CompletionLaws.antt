@@ -12,7 +12,7 @@ use Rattle.plan_base.specs.Facts.{total_load, IsInstance}
 use Rattle.plan_base.specs.Arcs.{link_at, demand_at, no_link}
 use Rattle.plan_base.specs.Places.{places, there_of, back_of}
 use Rattle.plan_base.specs.Paths.{uses_place}
-use Rattle.plan_base.specs.Designs.{load_from, load_at, need, carried, counts_at, module_cost_with, link_cost, cost_of, AreCountsInShape, IsDesign, CarriesLoads, IsCarriedDesign, IsGoodDesign}
+use Rattle.plan_base.specs.Designs.{load_from, load_at, need, carried, counts_at, module_cost_with, link_cost, cost_of, AreCountsInShape, IsDesign, CarriesLoads}
 use Rattle.plan_base.proofs.SumLaws.{sum_below-next}
 use Rattle.plan_base.proofs.SumsBelow.{sum_below-same, sum_below-le}
 use Rattle.plan_base.proofs.PlaceSums.{there-same, back-same, places-few}
@@ -20,10 +20,6 @@ use Rattle.link_steps.specs.Costs.{Carries, CanCarry, CannotCarry, IsLeastModule
 use Rattle.link_steps.proofs.Order.{before_or_last}
 use Rattle.completions.specs.Completions.{with_paths, ArePaths, IsCompletion, CarryLoads, HasOverfull, IsFirstOverfull}
 use Rattle.completions.specs.Links.{IsLinkCompletion, counts_in, cost_with, AreCompletedTo}
-
--- a design in shape whose links carry its loads is good
-pub good-carried : (p : Parts) (d : Design) → IsCarriedDesign p d → IsGoodDesign p d
-good-carried p d is = record { design = is.design; feasible = record { carried = is.carried }; in_shape = is.in_shape }
 
 -- the routing cost of a load up to the total load is small
 pub routing-within : (p : Parts) (e load : ℕ) → IsInstance p → e < length p.links → load ≤ total_load p → (link_at p e).routing * load ≤ MAX_ROUTING_COST
@@ -163,7 +159,7 @@ module _ (p : Parts) (paths : List (List ArcId)) (cost : ℕ) (all : List (List 
   no-cheaper other same design carries =
       let each : (e : ℕ) → e < length p.links → cost_with p paths all e ≤ link_cost p other e = λ e within.
       (let needs : need p other e ≡ need p (with_paths paths) e = need-paths p other (with_paths paths) e within same in
-      let enough : Carries p e (need p (with_paths paths) e) (counts_at other e) = record { count = design.counts e within; enough = omega (arith, needs, carries e within) } in
+      let enough : Carries p e (need p (with_paths paths) e) (counts_at other e) = record { count = design.counts e within; lawful = design.lawful e within; enough = omega (arith, needs, carries e within) } in
       let less = (done.least e within).least (counts_at other e) enough in
       let routing : (link_at p e).routing * carried p other e ≡ (link_at p e).routing * carried p (with_paths paths) e = ap (λ (load : ℕ). (link_at p e).routing * load) (carried-paths p other (with_paths paths) e within same) in
       omega (arith, less, routing)) in
@@ -178,6 +174,7 @@ module _ (p : Parts) (paths : List (List ArcId)) (cost : ℕ) (all : List (List 
         list_count = done.list_count;
         paths = are_paths.simple;
         counts = λ e within. (done.least e within).carries.count;
+        lawful = λ e within. (done.least e within).carries.lawful;
       };
       carried = λ e within. (least-completed e within).carries.enough;
       in_shape = done.in_shape;
