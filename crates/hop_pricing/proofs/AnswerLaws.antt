@@ -2,10 +2,10 @@
 use Rattle.std.proofs.Common.{◌≡◌, ℕ, ◌≤◌, ◌<◌, ◌↔◌, ◌⊎◌, inl, inr, List, Option, Some, None, refl, ap, arith}
 use Rattle.plan_base.specs.declared.ids.ArcId.{ArcId}
 use Rattle.plan_base.specs.declared.parts.Parts.{Parts}
-use Rattle.arc_restrict.specs.Restrictions.{Forbidden}
+use Rattle.arc_restrict.specs.Restrictions.{Forbidden, IsFewest}
 use Rattle.hop_pricing.specs.declared.within.Within.{Within}
 use Rattle.hop_pricing.specs.declared.within.Within.TheVariants.{Path, Far}
-use Rattle.hop_pricing.specs.Within.{IsLeastWithin, HasNoneWithin, IsFewest, AreFewest, IsWithin, IsSameAnswer}
+use Rattle.hop_pricing.specs.Within.{IsLeastWithin, HasNoneWithin, AreFewest, IsWithin, IsSameAnswer}
 
 lt_or_ge : (a b : ℕ) → (a < b) ⊎ (b ≤ a)
 lt_or_ge a b = grind arith

@@ -10,11 +10,10 @@ use Rattle.plan_base.specs.Arcs.{demand_at, no_demand}
 use Rattle.plan_base.specs.Paths.{arc_at}
 use Rattle.plan_base.proofs.PathLaws.{length-IsSimplePath}
 use Rattle.plan_base.proofs.PathSums.{place-within}
-use Rattle.arc_restrict.specs.Restrictions.{Forbidden, IsPermittedPath}
+use Rattle.arc_restrict.specs.Restrictions.{Forbidden, IsPermittedPath, IsFewest}
 use Rattle.arc_restrict.specs.Prices.{price_of}
 use Rattle.path_pricing.specs.Priced.{IsLeastPath}
 use Rattle.path_pricing.proofs.WeightLaws.{sum_by-same}
-use Rattle.hop_pricing.specs.Within.{IsFewest}
 
 -- a permitted path has fewer arcs than a number of 32 bits can count
 pub few-arcs : (p : Parts) (k : ℕ) (r : Forbidden) (arcs : List ArcId) → IsInstance p → k < length p.demands → IsPermittedPath p r k arcs → length arcs < 2 ^ 32

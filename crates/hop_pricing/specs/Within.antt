@@ -3,7 +3,7 @@
 use Rattle.std.specs.Prelude.{ℕ, ◌≡◌, ◌≤◌, ⊤, List, length, Option, Some, None}
 use Rattle.plan_base.specs.declared.ids.ArcId.{ArcId}
 use Rattle.plan_base.specs.declared.parts.Parts.{Parts}
-use Rattle.arc_restrict.specs.Restrictions.{Forbidden, IsPermittedPath, HasNoPath}
+use Rattle.arc_restrict.specs.Restrictions.{Forbidden, IsPermittedPath, HasNoPath, IsFewest}
 use Rattle.arc_restrict.specs.Prices.{price_of}
 use Rattle.hop_pricing.specs.declared.within.Within.{Within}
 use Rattle.hop_pricing.specs.declared.within.Within.TheVariants.{Path, Far}
@@ -22,13 +22,6 @@ pub record IsLeastWithin (p : Parts) (r : Forbidden) (prices : List ℕ) (k hops
 -- there is no such path
 abbrev pub HasNoneWithin : Parts → Forbidden → ℕ → ℕ → Type 0
 HasNoneWithin p r k hops = (arcs : List ArcId) → IsPermittedWithin p r k hops arcs → ⊥
-
--- a permitted path of the demand has so many arcs, and none has fewer
-pub record IsFewest (p : Parts) (r : Forbidden) (k arcs : ℕ) : Type 0 where
-  pub path : List ArcId
-  pub permitted : IsPermittedPath p r k path
-  pub attained : length path ≡ arcs
-  pub least : (other : List ArcId) → IsPermittedPath p r k other → arcs ≤ length other
 
 -- the fewest arcs of a permitted path; none where no path is permitted
 abbrev pub AreFewest : Parts → Forbidden → ℕ → Option ℕ → Type 0

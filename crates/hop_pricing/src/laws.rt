@@ -2,9 +2,9 @@
 
 ghost use Rattle.std.specs.Prelude.{ℕ, List, ◌↔◌, ◌<◌};
 ghost use Rattle.plan_base.specs.declared.parts.Parts.{Parts as AnyParts};
-ghost use Rattle.arc_restrict.specs.Restrictions.{Forbidden};
+ghost use Rattle.arc_restrict.specs.Restrictions.{Forbidden, IsFewest};
 ghost use Rattle.hop_pricing.specs.declared.within.Within.{Within as AnyWithin};
-ghost use Rattle.hop_pricing.specs.Within.{IsFewest, HasNoneWithin, IsWithin, IsSameAnswer};
+ghost use Rattle.hop_pricing.specs.Within.{HasNoneWithin, IsWithin, IsSameAnswer};
 
 /// No permitted path is within a limit exactly where the fewest arcs of a permitted path are above it.
 pub fn above_the_limit()

@@ -1,7 +1,7 @@
 use Rattle.std.proofs.Common.{sym, subst, arith}
 use Rattle.arc_restrict.specs.Rows.{forbids}
 use Rattle.path_pricing.specs.Priced.{IsPriced, IsLeastPath}
-use Rattle.hop_pricing.specs.Within.{IsFewest}
+use Rattle.arc_restrict.specs.Restrictions.{IsFewest}
 use Rattle.hop_pricing.proofs.CountLaws.{few-arcs, IsFewest-ones}
 use Rattle.hop_pricing.proofs.counting.fewest.Goals as goal
 
