@@ -21,6 +21,7 @@ fn copy_evidence(evidence: &Evidence) -> Result<Evidence, AllocError>
             demand: *demand,
             reached: reached.copy()?,
         },
+        Evidence::Far { demand } => Evidence::Far { demand: *demand },
         Evidence::Crowd(prices) => Evidence::Crowd(prices.copy()?),
         Evidence::Open(prices) => Evidence::Open(prices.copy()?),
     })

@@ -13,19 +13,19 @@ use Rattle.plan_base.specs.declared.path.Design.{Design}
 use Rattle.plan_base.specs.Facts.{is_useful}
 use Rattle.plan_base.specs.Arcs.{link_at, demand_at, no_arc}
 use Rattle.plan_base.specs.Paths.{uses_place, arc_at, node_at, IsSimplePath}
-use Rattle.plan_base.specs.Designs.{path_at, counts_at, load_from, load_at, need, carried, link_cost, cost_of, IsDesign, IsFeasible}
+use Rattle.plan_base.specs.Designs.{path_at, counts_at, load_from, load_at, need, carried, link_cost, cost_of, IsDesign, IsFeasible, KeepsLimit}
 use Rattle.link_steps.specs.Costs.{Carries, IsStepCost}
 use Rattle.link_steps.proofs.Carrying.{capacity-useless}
 use Rattle.arc_restrict.specs.Restrictions.{Forbidden, none_forbidden, IsPermitted, IsPermittedPath, LiesIn}
 use Rattle.proof_tree.specs.declared.tree.Evidence.{Evidence}
-use Rattle.proof_tree.specs.declared.tree.Evidence.TheVariants.{Bound, Routed, Overfull, Cut, Crowd, Open}
+use Rattle.proof_tree.specs.declared.tree.Evidence.TheVariants.{Bound, Routed, Overfull, Cut, Far, Crowd, Open}
 use Rattle.proof_tree.specs.declared.tree.TreeNode.{TreeNode}
 use Rattle.proof_tree.specs.declared.tree.TreeNode.TheVariants.{Leaf}
 use Rattle.proof_tree.specs.declared.plan.PlanStatus.{PlanStatus}
 use Rattle.proof_tree.specs.declared.plan.PlanStatus.TheVariants.{Optimal, Infeasible, Undecided}
 use Rattle.proof_tree.specs.declared.plan.Plan.{Plan}
 use Rattle.plan_base.specs.Claims.{IsOptimal, HasNoDesign}
-use Rattle.proof_tree.specs.Evidence.{AreOnlyPaths, ClosedByRouting, ClosedByOverfull, ClosedByCut, ClosedByCrowd, HasEvidence}
+use Rattle.proof_tree.specs.Evidence.{AreOnlyPaths, CostEnough, ClosedByOverfull, ClosedByCut, ClosedByFar, ClosedByCrowd, HasEvidence}
 use Rattle.proof_tree.specs.Trees.{LeafAt, leaves_of, IsValidTree}
 use Rattle.proof_tree.specs.Plans.{stated_cost, is_open, IsStatedDesign, IsOpenBound, IsCandidate, IsLeastCandidate, HasStatus, IsValidPlan, IsUndercutByNone, ClaimHolds, HasItsClaim}
 use Rattle.plan_base.specs.Places.{places, link_of_place, there_of, back_of}
@@ -63,7 +63,7 @@ only_paths-loads p r routing d e within only design lies = record {
 }
 
 Carries-load : (p : Parts) (d routing : Design) (e : ℕ) → IsDesign p d → IsFeasible p d → e < length p.links → HasLoads p d routing e → Carries p e (need p routing e) (counts_at d e)
-Carries-load p d routing e design feasible within same = record { count = design.counts e within; enough = rw (← same.there, ← same.back) (feasible.carried e within) }
+Carries-load p d routing e design feasible within same = record { count = design.counts e within; lawful = design.lawful e within; enough = rw (← same.there, ← same.back) (feasible.carried e within) }
 
 step_cost-le : (p : Parts) (d routing : Design) (e cost : ℕ) → IsDesign p d → IsFeasible p d → e < length p.links → HasLoads p d routing e
     → IsStepCost p e (there_of p (load_at p routing) e) (back_of p (load_at p routing) e) cost → cost ≤ link_cost p d e
@@ -74,7 +74,7 @@ step_cost-le p d routing e cost design feasible within same is_cost =
     let routed : (link_at p e).routing * carried p d e ≡ (link_at p e).routing * carried p routing e = ap (λ x. (link_at p e).routing * x) loads in
     omega arith
 
-routing-le : (p : Parts) (r : Forbidden) (cost : ℕ) (d : Design) → ClosedByRouting p r cost → IsFeasibleIn p r d → cost ≤ cost_of p d
+routing-le : (p : Parts) (r : Forbidden) (cost : ℕ) (d : Design) → CostEnough p r cost → IsFeasibleIn p r d → cost ≤ cost_of p d
 routing-le p r cost d closed h =
     let each = sum_below-le closed.step_costs (link_cost p d) (length p.links) (λ e within.
     step_cost-le p d closed.routing e (closed.step_costs e) h.design h.feasible within (only_paths-loads p r closed.routing d e within closed.only h.design h.lies) (closed.are_costs e within)) in
@@ -98,6 +98,16 @@ cut-none p r id reached d closed h =
     let inside = stays p r id reached (path_at d id.0) closed simple (h.lies id.0 closed.demand) (length (path_at d id.0)) (omega arith) in
     let bad : true ≡ false = sym inside ∙ ap (λ n. slice_index_or reached n false) simple.ends_at_target ∙ closed.target in
     cc
+
+-- a feasible design has a permitted path within each limit
+far-none : (p : Parts) (r : Forbidden) (id : DemandId) (d : Design) → ClosedByFar p r id → IsFeasibleIn p r d → ⊥
+far-none p r id d closed h = by_limit (demand_at p id.0).hops closed.far (h.feasible.limits id.0 closed.demand)
+  where
+    by_limit : (hops : Option ℕ) → IsSomeAnd hops (λ limit. (arcs : List ArcId) → IsPermittedPath p r id.0 arcs → limit < length arcs) → KeepsLimit hops (length (path_at d id.0)) → ⊥
+    by_limit None far keeps = far
+    by_limit (Some limit) far keeps =
+        let longer = far (path_at d id.0) (permitted_path p r d h.design h.lies id.0 closed.demand) in
+        omega arith
 
 crowd-none : (p : Parts) (r : Forbidden) (prices : List ℕ) (d : Design) → ClosedByCrowd p r prices → IsFeasibleIn p r d → ⊥
 crowd-none p r prices d closed h =
@@ -123,9 +133,10 @@ closed_leaf p (Some c) r (Bound prices) d closed shut h =
     let dual = bound-le-cost p r prices closed.bound d closed.is_bound h.design h.feasible h.lies in
     omega (arith, ints)
 closed_leaf p None r Routed d closed shut h = closed
-closed_leaf p (Some c) r Routed d closed shut h = routing-le p r c d closed h
+closed_leaf p (Some c) r Routed d closed shut h = routing-le p r c d closed.costs h
 closed_leaf p cost r (Overfull link) d closed shut h = absurd (overfull-none p r link d closed h)
 closed_leaf p cost r (Cut id reached) d closed shut h = absurd (cut-none p r id reached d closed h)
+closed_leaf p cost r (Far id) d closed shut h = absurd (far-none p r id d closed h)
 closed_leaf p cost r (Crowd prices) d closed shut h = absurd (crowd-none p r prices d closed h)
 closed_leaf p cost r (Open prices) d closed shut h = absurd (let bad : true ≡ false = shut in cc)
 
@@ -198,6 +209,7 @@ candidate-not_absent p plan d valid design feasible none =
     by_evidence Routed h is = at_cost (stated_cost plan) refl (closed_leaf p (stated_cost plan) h.leaf.restriction h.leaf.evidence d h.evidence (ap (λ (evidence : Evidence). is_open (Leaf evidence)) is) h.feasible)
     by_evidence (Overfull link) h is = at_cost (stated_cost plan) refl (closed_leaf p (stated_cost plan) h.leaf.restriction h.leaf.evidence d h.evidence (ap (λ (evidence : Evidence). is_open (Leaf evidence)) is) h.feasible)
     by_evidence (Cut id reached) h is = at_cost (stated_cost plan) refl (closed_leaf p (stated_cost plan) h.leaf.restriction h.leaf.evidence d h.evidence (ap (λ (evidence : Evidence). is_open (Leaf evidence)) is) h.feasible)
+    by_evidence (Far id) h is = at_cost (stated_cost plan) refl (closed_leaf p (stated_cost plan) h.leaf.restriction h.leaf.evidence d h.evidence (ap (λ (evidence : Evidence). is_open (Leaf evidence)) is) h.feasible)
     by_evidence (Crowd prices) h is = at_cost (stated_cost plan) refl (closed_leaf p (stated_cost plan) h.leaf.restriction h.leaf.evidence d h.evidence (ap (λ (evidence : Evidence). is_open (Leaf evidence)) is) h.feasible)
 
 undecided_claim : (p : Parts) (plan : Plan) → IsValidTree p (stated_cost plan) plan.tree → (bound : Option ℤ) → MatchOption bound ((candidate : ℤ) → IsCandidate p plan candidate → ⊥) (λ candidate. IsLeastCandidate p plan candidate) → MatchOption bound (HasNoDesign p) (λ candidate. IsUndercutByNone p candidate)

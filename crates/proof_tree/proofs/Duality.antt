@@ -90,7 +90,7 @@ carried-by_link p prices d =
     ∙ sum_below-same _ _ (length p.links) (λ e below. ap (λ (n : ℕ). there_of p (λ q. slice_index prices q * load_at p d q) e + n) (back-times p (slice_index prices) (load_at p d) e))
 
 Carries-feasible : (p : Parts) (d : Design) (e : ℕ) → IsDesign p d → IsFeasible p d → e < length p.links → Carries p e (need p d e) (counts_at d e)
-Carries-feasible p d e design feasible within = record { count = design.counts e within; enough = feasible.carried e within }
+Carries-feasible p d e design feasible within = record { count = design.counts e within; lawful = design.lawful e within; enough = feasible.carried e within }
 
 -- what a link's place back carries is at most its top load
 back-within-top : (p : Parts) (l : Link) (loads : ℕ → ℕ) (e : ℕ) → back_of p loads e ≤ top_load p l → back_of p loads e ≤ top_back p l

@@ -6,5 +6,7 @@ pub mod Claiming
 pub mod TriangleLaws
 pub mod Uniqueness
 pub mod TwoNodesLaws
+pub mod LimitLaws
+pub mod Farness
 pub mod OpeningLaws
 pub mod ShapeLaws

@@ -6,7 +6,7 @@ use Rattle.plan_base.specs.declared.limits.TheConstants.{MAX_NODES, MAX_LINKS, M
 use Rattle.plan_base.specs.Paths.{arc_at}
 use Rattle.proof_tree.specs.declared.limits.TheConstants.{MAX_BUDGET, MAX_RECORDS, MAX_PATH_ARCS, MAX_SIDE_ARCS}
 use Rattle.proof_tree.specs.declared.tree.Evidence.{Evidence}
-use Rattle.proof_tree.specs.declared.tree.Evidence.TheVariants.{Bound, Routed, Overfull, Cut, Crowd, Open}
+use Rattle.proof_tree.specs.declared.tree.Evidence.TheVariants.{Bound, Routed, Overfull, Cut, Far, Crowd, Open}
 use Rattle.proof_tree.specs.declared.tree.TreeNode.{TreeNode}
 use Rattle.proof_tree.specs.declared.tree.TreeNode.TheVariants.{Split, Leaf}
 use Rattle.proof_tree.specs.declared.plan.PlanStatus.{PlanStatus}
@@ -33,6 +33,7 @@ FitsEvidence nodes places (Bound prices) = length prices ≡ places
 FitsEvidence nodes places Routed = ⊤
 FitsEvidence nodes places (Overfull link) = ⊤
 FitsEvidence nodes places (Cut demand reached) = length reached ≡ nodes
+FitsEvidence nodes places (Far demand) = ⊤
 FitsEvidence nodes places (Crowd prices) = length prices ≡ places
 FitsEvidence nodes places (Open prices) = length prices ≡ places
 

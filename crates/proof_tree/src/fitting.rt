@@ -49,7 +49,7 @@ fn fits_evidence(nodes: u32, places: usize, evidence: &Evidence) -> bool
             prices.as_slice().len() == places
         }
         Evidence::Cut { reached, .. } => reached.len() == nodes as usize,
-        Evidence::Routed | Evidence::Overfull { .. } => true,
+        Evidence::Routed | Evidence::Overfull { .. } | Evidence::Far { .. } => true,
     }
 }
 

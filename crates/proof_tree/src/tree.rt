@@ -14,7 +14,7 @@ pub enum Evidence {
     /// At these prices the leaf's bound is at least the cost of the plan's design. Prices are in
     /// thousandths of a cost grain per load grain, one for each link.
     Bound(Prices),
-    /// Each demand has one path left, and these paths cost at least as much as the plan's design.
+    /// Each demand has one path left, within its limit on arcs, and these paths cost at least as much as the plan's design.
     Routed,
     /// Each demand has one path left, and the link cannot carry the load of these paths.
     Overfull {
@@ -27,6 +27,11 @@ pub enum Evidence {
         demand: DemandId,
         /// For each node whether the demand's source may still reach it.
         reached: Items<bool>,
+    },
+    /// The demand has no path left within its limit on arcs.
+    Far {
+        /// The demand.
+        demand: DemandId,
     },
     /// At these prices the demands ask for more than the pre-installed capacities give. Prices are
     /// as for `Bound`, and 0 on each link that has a module of positive capacity.
