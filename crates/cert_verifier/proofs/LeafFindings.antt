@@ -1,20 +1,22 @@
 -- What each kind of leaf finds, rule by rule.
 use Rattle.std.proofs.Common.{◌≡◌, ℕ, ◌<◌, ◌≤◌, ◌*◌, ◌&&◌, inl, inr, Bool, true, false, not, List, length, Option, Some, None, Result, Ok, Err, refl, sym, ap, subst, ◌∙◌, arith}
-use Rattle.std.specs.Prelude.{◌↔◌, IfOk, IfNone, IsSomeAnd, IsTrue, IsFalse, ℤ, pos, ◌≤ℤ◌}
+use Rattle.std.specs.Prelude.{◌↔◌, IfOk, IfNone, IsSome, IsSomeAnd, IsTrue, IsFalse, ℤ, pos, ◌≤ℤ◌}
 use Rattle.std.proofs.lemmas.Bool.{true≢false}
 use Rattle.plan_base.specs.declared.ids.LinkId.{LinkId}
 use Rattle.plan_base.specs.declared.ids.DemandId.{DemandId}
 use Rattle.plan_base.specs.declared.parts.Parts.{Parts}
 use Rattle.plan_base.specs.declared.path.Design.{Design}
 use Rattle.plan_base.specs.Arcs.{is_arc, tail_of, head_of, demand_at}
+use Rattle.plan_base.specs.Designs.{KeepsLimits}
 use Rattle.plan_base.proofs.SumsBelow.{sum_below-same}
 use Rattle.link_steps.specs.Costs.{CannotCarry, IsLeastModuleCost}
 use Rattle.arc_restrict.specs.Restrictions.{Forbidden}
 use Rattle.arc_restrict.specs.Prices.{AreWithinLimit, IsLeastPrice}
-use Rattle.proof_tree.specs.declared.tree.Evidence.TheVariants.{Bound, Routed, Overfull, Cut, Crowd, Open}
+use Rattle.proof_tree.specs.declared.tree.Evidence.TheVariants.{Bound, Routed, Overfull, Cut, Far, Crowd, Open}
 use Rattle.proof_tree.specs.Bounds.{IsBound, AreLeastPrices, price_total}
-use Rattle.proof_tree.specs.Evidence.{AreOnlyPaths, holds, ClosedByCrowd}
+use Rattle.proof_tree.specs.Evidence.{AreOnlyPaths, CostEnough, holds, ClosedByCrowd}
 use Rattle.proof_tree.specs.Plans.{IsOpenBound}
+use Rattle.proof_tree.proofs.Farness.{AreFewest, IsPast, past-far, far-past}
 use Rattle.proof_tree.proofs.Uniqueness.{bound-unique}
 use Rattle.verifier_paths.specs.OnlyPaths.{HavePaths}
 use Rattle.cert_verifier.specs.declared.rejected.Rejected.{Rejected}
@@ -22,9 +24,9 @@ use Rattle.cert_verifier.specs.declared.rejected.Rejected.TheVariants.{Leaf}
 use Rattle.cert_verifier.specs.Leaving.{IsNoWayOut}
 use Rattle.cert_verifier.specs.Totals.{IsPriceTotal, capacity_price}
 use Rattle.cert_verifier.specs.Routings.{needed, IsCostOfLoads, HasOverfull}
-use Rattle.cert_verifier.specs.LeafRules.{AreFreeOnUseful, Closes, LeafFinds}
+use Rattle.cert_verifier.specs.LeafRules.{HasLimit, AreFreeOnUseful, Closes, LeafFinds}
 use Rattle.cert_verifier.proofs.LeafLaws.{leaf_finds_none}
-use Rattle.cert_verifier.proofs.RoutingLaws.{AreLoadsOf, only_paths, only_carry, only_overfull, routing_closes, routing_cost, overfull_closes, carried_stays}
+use Rattle.cert_verifier.proofs.RoutingLaws.{AreLoadsOf, only_paths, only_carry, only_overfull, routing_enough, routing_cost, only_limits, overfull_closes, carried_stays}
 
 -- the prices do not fit
 pub not_within : (fits : Bool) (A B : Type 0) → (IsTrue fits ↔ (A × B)) → A → fits ≡ false → B → ⊥
@@ -64,26 +66,51 @@ unfolding LeafFinds
 routed_overfull p cost r index d loads only are_loads over =
     inr (inl (only_paths p r d only, refl), inr (inl ((d, only), refl), inl (refl, inr (only_overfull p r d loads only are_loads over, refl))))
 
-routed_cost : (p : Parts) (cost : Option ℕ) (r : Forbidden) (d : Design) (loads : List ℕ) (total : ℕ) → AreOnlyPaths p r d → AreLoadsOf p d loads → IsCostOfLoads p loads total → Closes p cost r Routed → IsSomeAnd cost (λ c. c ≤ total)
+routed_cost : (p : Parts) (cost : Option ℕ) (r : Forbidden) (d : Design) (loads : List ℕ) (total : ℕ) → AreOnlyPaths p r d → AreLoadsOf p d loads → IsCostOfLoads p loads total → IsSomeAnd cost (λ c. CostEnough p r c) → IsSomeAnd cost (λ c. c ≤ total)
 routed_cost p None r d loads total only are_loads is closed = closed
 routed_cost p (Some c) r d loads total only are_loads is closed = routing_cost p r d loads total c only are_loads is closed
 
-routed_closes : (p : Parts) (cost : Option ℕ) (r : Forbidden) (d : Design) (loads : List ℕ) (total : ℕ) → AreOnlyPaths p r d → AreLoadsOf p d loads → IsCostOfLoads p loads total → IsSomeAnd cost (λ c. c ≤ total) → Closes p cost r Routed
-routed_closes p None r d loads total only are_loads is enough = enough
-routed_closes p (Some c) r d loads total only are_loads is enough = routing_closes p r d loads total c only are_loads is enough
+routed_enough : (p : Parts) (cost : Option ℕ) (r : Forbidden) (d : Design) (loads : List ℕ) (total : ℕ) → AreOnlyPaths p r d → AreLoadsOf p d loads → IsCostOfLoads p loads total → IsSomeAnd cost (λ c. c ≤ total)
+    → IsSomeAnd cost (λ c. CostEnough p r c)
+routed_enough p None r d loads total only are_loads is enough = enough
+routed_enough p (Some c) r d loads total only are_loads is enough = routing_enough p r d loads total c only are_loads is enough
+
+routed_closes : (p : Parts) (cost : Option ℕ) (r : Forbidden) (d : Design) (loads : List ℕ) (total : ℕ) → AreOnlyPaths p r d → AreLoadsOf p d loads → IsCostOfLoads p loads total → IsSomeAnd cost (λ c. c ≤ total)
+    → KeepsLimits p d → Closes p cost r Routed
+routed_closes p None r d loads total only are_loads is enough keeps = enough
+routed_closes p (Some c) r d loads total only are_loads is enough keeps =
+    let costs = routing_enough p r d loads total c only are_loads is enough in
+    record { costs = costs; within = only_limits p r costs.routing d costs.only only keeps }
+
+-- the only paths of a closed leaf keep their limits
+routed_limits : (p : Parts) (cost : Option ℕ) (r : Forbidden) (d : Design) → AreOnlyPaths p r d → Closes p cost r Routed → KeepsLimits p d
+routed_limits p None r d only closed = absurd closed
+routed_limits p (Some c) r d only closed = only_limits p r d closed.costs.routing only closed.costs.only closed.within
 
 -- the only paths cost too little
 pub routed_too_cheap : (p : Parts) (cost : Option ℕ) (r : Forbidden) (index : ℕ) (d : Design) (loads : List ℕ) (total : ℕ) → AreOnlyPaths p r d → AreLoadsOf p d loads → IsCostOfLoads p loads total
     → (IsSomeAnd cost (λ c. c ≤ total) → ⊥) → LeafFinds p cost r index Routed (Some (Leaf index 4))
 unfolding LeafFinds
 routed_too_cheap p cost r index d loads total only are_loads is cheap =
-    inr (inl (only_paths p r d only, refl), inr (inl ((d, only), refl), inr (inl (only_carry p r d loads total only are_loads is, refl), inr ((λ closed. cheap (routed_cost p cost r d loads total only are_loads is closed)), refl))))
+    inr (inl (only_paths p r d only, refl), inr (inl ((d, only), refl), inr (inl (only_carry p r d loads total only are_loads is, refl), inl (refl, inr ((λ costs. cheap (routed_cost p cost r d loads total only are_loads is costs)), refl)))))
+
+-- an only path is too long
+pub routed_too_long : (p : Parts) (cost : Option ℕ) (r : Forbidden) (index : ℕ) (d : Design) (loads : List ℕ) (total : ℕ) → AreOnlyPaths p r d → AreLoadsOf p d loads → IsCostOfLoads p loads total
+    → IsSomeAnd cost (λ c. c ≤ total) → (KeepsLimits p d → ⊥) → LeafFinds p cost r index Routed (Some (Leaf index 5))
+unfolding LeafFinds
+routed_too_long p cost r index d loads total only are_loads is enough long =
+    inr (inl (only_paths p r d only, refl), inr (inl ((d, only), refl), inr (inl (only_carry p r d loads total only are_loads is, refl), inr (inl (routed_enough p cost r d loads total only are_loads is enough, refl), inr ((λ closed. long (routed_limits p cost r d only closed)), refl)))))
 
 -- what is told of a leaf with only paths that the links carry
-pub routed_decided : (p : Parts) (cost : Option ℕ) (r : Forbidden) (index : ℕ) (d : Design) (loads : List ℕ) (total : ℕ) (enough : Bool) (found : Option Rejected) → AreOnlyPaths p r d → AreLoadsOf p d loads
-    → IsCostOfLoads p loads total → (IsTrue enough ↔ IsSomeAnd cost (λ c. c ≤ total)) → (IsTrue enough → found ≡ None) → (IsFalse enough → found ≡ Some (Leaf index 4)) → LeafFinds p cost r index Routed found
-routed_decided p cost r index d loads total true found only are_loads is costs ok broken = rw (ok refl) (leaf_finds_none p cost r index Routed (routed_closes p cost r d loads total only are_loads is (costs.0 refl)))
-routed_decided p cost r index d loads total false found only are_loads is costs ok broken = rw (broken refl) (routed_too_cheap p cost r index d loads total only are_loads is (λ enough. true≢false (sym (costs.1 enough))))
+pub routed_decided : (p : Parts) (cost : Option ℕ) (r : Forbidden) (index : ℕ) (d : Design) (loads : List ℕ) (total : ℕ) (enough within : Bool) (found : Option Rejected) → AreOnlyPaths p r d → AreLoadsOf p d loads
+    → IsCostOfLoads p loads total → (IsTrue enough ↔ IsSomeAnd cost (λ c. c ≤ total)) → (IsTrue within ↔ KeepsLimits p d)
+    → (IsTrue enough → IsTrue within → found ≡ None) → (IsFalse enough → found ≡ Some (Leaf index 4)) → (IsTrue enough → IsFalse within → found ≡ Some (Leaf index 5)) → LeafFinds p cost r index Routed found
+routed_decided p cost r index d loads total true true found only are_loads is costs keeps ok cheap long =
+    rw (ok refl refl) (leaf_finds_none p cost r index Routed (routed_closes p cost r d loads total only are_loads is (costs.0 refl) (keeps.0 refl)))
+routed_decided p cost r index d loads total true false found only are_loads is costs keeps ok cheap long =
+    rw (long refl refl) (routed_too_long p cost r index d loads total only are_loads is (costs.0 refl) (λ within. true≢false (sym (keeps.1 within))))
+routed_decided p cost r index d loads total false within found only are_loads is costs keeps ok cheap long =
+    rw (cheap refl) (routed_too_cheap p cost r index d loads total only are_loads is (λ enough. true≢false (sym (costs.1 enough))))
 
 -- the link carries its load
 pub overfull_carried : (p : Parts) (cost : Option ℕ) (r : Forbidden) (index : ℕ) (link : LinkId) (d : Design) (loads : List ℕ) (least : ℕ) → link.0 < length p.links → AreOnlyPaths p r d → AreLoadsOf p d loads
@@ -143,6 +170,21 @@ cut_closed p cost r index id reached within source target none =
       target = target;
       closed = λ a. stays_in (is_arc p a) (r id.0 a) (holds reached (tail_of p a)) (holds reached (head_of p a)) (none a);
     })
+
+-- of a leaf where a demand is far: there is no limit
+pub far_no_limit : (p : Parts) (cost : Option ℕ) (r : Forbidden) (index : ℕ) (id : DemandId) → (HasLimit p id → ⊥) → LeafFinds p cost r index (Far id) (Some (Leaf index 1))
+unfolding LeafFinds
+far_no_limit p cost r index id none = inl (refl, inr (none, refl))
+
+-- what is told of a leaf where a demand with a limit has these fewest arcs
+pub far_decided : (p : Parts) (cost : Option ℕ) (r : Forbidden) (index : ℕ) (id : DemandId) (limit : ℕ) (fewest : Option ℕ) (past : Bool) (found : Option Rejected) → id.0 < length p.demands → (demand_at p id.0).hops ≡ Some limit
+    → AreFewest p r id.0 fewest → (IsTrue past ↔ IsPast fewest limit) → (IsTrue past → found ≡ None) → (IsFalse past → found ≡ Some (Leaf index 2)) → LeafFinds p cost r index (Far id) found
+unfolding LeafFinds
+far_decided p cost r index id limit fewest true found within hops is past ok broken =
+    rw (ok refl) (leaf_finds_none p cost r index (Far id) (record { demand = within; far = past-far p r id.0 limit fewest hops is (past.0 refl) }))
+far_decided p cost r index id limit fewest false found within hops is past ok broken =
+    let limited : HasLimit p id = record { demand = within; limit = subst (λ (h : Option ℕ). IsSome h) (sym hops) refl } in
+    rw (broken refl) (inr (inl (limited, refl), inr ((λ closed. true≢false (sym (past.1 (far-past p r id.0 limit fewest hops is closed.far)))), refl)))
 
 least_price-one : (p : Parts) (r : Forbidden) (prices : List ℕ) (k a b : ℕ) → IsLeastPrice p r prices k a → IsLeastPrice p r prices k b → a ≡ b
 least_price-one p r prices k a b ha hb =

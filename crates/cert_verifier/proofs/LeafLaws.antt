@@ -1,12 +1,12 @@
 -- A leaf breaks no rule exactly where it has its evidence.
 use Rattle.std.proofs.Common.{None, Some, inl, inr, refl, subst}
-use Rattle.std.specs.Prelude.{ℕ, List, Option}
+use Rattle.std.specs.Prelude.{ℕ, List, Option, IsSome, IsSomeAnd}
 use Rattle.plan_base.specs.declared.parts.Parts.{Parts}
 use Rattle.plan_base.specs.declared.path.Design.{Design}
 use Rattle.link_steps.specs.Costs.{Carries}
 use Rattle.arc_restrict.specs.Restrictions.{Forbidden}
 use Rattle.proof_tree.specs.declared.tree.Evidence.{Evidence}
-use Rattle.proof_tree.specs.declared.tree.Evidence.TheVariants.{Bound, Routed, Overfull, Cut, Crowd, Open}
+use Rattle.proof_tree.specs.declared.tree.Evidence.TheVariants.{Bound, Routed, Overfull, Cut, Far, Crowd, Open}
 use Rattle.proof_tree.specs.Bounds.{AreLeastPrices}
 use Rattle.proof_tree.specs.Evidence.{AreOnlyPaths, HasEvidence}
 use Rattle.verifier_paths.specs.OnlyPaths.{HavePaths}
@@ -20,9 +20,10 @@ use Rattle.cert_verifier.proofs.RuleLaws.{then_by-none, FindsOne, unless-one, th
 pub leaf_found_none : (p : Parts) (cost : Option ℕ) (r : Forbidden) (index : ℕ) (evidence : Evidence) → LeafFinds p cost r index evidence None → HasEvidence p cost r evidence
 unfolding LeafFinds
 leaf_found_none p cost r index (Bound prices) h = unless-none _ _ (then_by-none (then_by-none h).1).1
-leaf_found_none p cost r index Routed h = unless-none _ _ (then_by-none (then_by-none (then_by-none h).1).1).1
+leaf_found_none p cost r index Routed h = unless-none _ _ (then_by-none (then_by-none (then_by-none (then_by-none h).1).1).1).1
 leaf_found_none p cost r index (Overfull link) h = unless-none _ _ (then_by-none (then_by-none (then_by-none h).1).1).1
 leaf_found_none p cost r index (Cut demand reached) h = unless-none _ _ (then_by-none (then_by-none (then_by-none h).1).1).1
+leaf_found_none p cost r index (Far demand) h = unless-none _ _ (then_by-none h).1
 leaf_found_none p cost r index (Crowd prices) h = unless-none _ _ (then_by-none (then_by-none (then_by-none h).1).1).1
 leaf_found_none p cost r index (Open prices) h = unless-none _ _ h
 
@@ -33,6 +34,7 @@ leaf_found_none-open p cost r index (Bound prices) h = tt
 leaf_found_none-open p cost r index Routed h = tt
 leaf_found_none-open p cost r index (Overfull link) h = tt
 leaf_found_none-open p cost r index (Cut demand reached) h = tt
+leaf_found_none-open p cost r index (Far demand) h = tt
 leaf_found_none-open p cost r index (Crowd prices) h = tt
 leaf_found_none-open p cost r index (Open prices) h = unless-none _ _ h
 
@@ -53,8 +55,15 @@ routed_rules : (p : Parts) (cost : Option ℕ) (r : Forbidden) (index : ℕ) →
 unfolding LeafFinds
 routed_rules p None r index h = absurd h
 routed_rules p (Some c) r index h =
-    let carries : CanCarryAll p r = λ d only e within. ((h.are_costs e within).is_least.counts, subst (λ (load : ℕ). Carries p e load (h.are_costs e within).is_least.counts) (only_need p r h.routing d e within h.only only) (h.are_costs e within).is_least.carries) in
-    inr (inl (only-paths p r h.routing h.only, refl), inr (inl ((h.routing, h.only), refl), inr (inl (carries, refl), inl (h, refl))))
+    let carries : CanCarryAll p r = λ d only e within.
+    let least = (h.costs.are_costs e within).is_least in
+    (least.counts, subst (λ (load : ℕ). Carries p e load least.counts) (only_need p r h.costs.routing d e within h.costs.only only) least.carries) in
+    inr (inl (only-paths p r h.costs.routing h.costs.only, refl), inr (inl ((h.costs.routing, h.costs.only), refl), inr (inl (carries, refl), inr (inl (h.costs, refl), inl (h, refl)))))
+
+-- a demand of which each path is too long has a limit
+has_limit : (hops : Option ℕ) (Q : ℕ → Type 0) → IsSomeAnd hops Q → IsSome hops
+has_limit None Q h = absurd h
+has_limit (Some limit) Q h = refl
 
 pub leaf_finds_none : (p : Parts) (cost : Option ℕ) (r : Forbidden) (index : ℕ) (evidence : Evidence) → HasEvidence p cost r evidence → LeafFinds p cost r index evidence None
 unfolding LeafFinds
@@ -63,6 +72,7 @@ leaf_finds_none p cost r index Routed h = routed_rules p cost r index h
 leaf_finds_none p cost r index (Overfull link) h =
     inr (inl (h.is_link, refl), inr (inl (only-paths p r h.routing h.only, refl), inr (inl ((h.routing, h.only), refl), inl (h, refl))))
 leaf_finds_none p cost r index (Cut demand reached) h = inr (inl (h.demand, refl), inr (inl (h.source, refl), inr (inl (h.target, refl), inl (h, refl))))
+leaf_finds_none p cost r index (Far demand) h = inr (inl (record { demand = h.demand; limit = has_limit _ _ h.far }, refl), inl (h, refl))
 leaf_finds_none p cost r index (Crowd prices) h =
     inr (inl (h.within_limit, refl), inr (inl (h.free, refl), inr (inl (least_prices-paths p r prices _ h.are_least, refl), inl (h, refl))))
 leaf_finds_none p cost r index (Open prices) h = inl (h, refl)
@@ -70,8 +80,9 @@ leaf_finds_none p cost r index (Open prices) h = inl (h, refl)
 pub leaf_finds_one : (p : Parts) (cost : Option ℕ) (r : Forbidden) (index : ℕ) (evidence : Evidence) → FindsOne (LeafFinds p cost r index evidence)
 unfolding LeafFinds
 leaf_finds_one p cost r index (Bound prices) = then_by-one _ _ (unless-one _ _) (then_by-one _ _ (unless-one _ _) (unless-one _ _))
-leaf_finds_one p cost r index Routed = then_by-one _ _ (unless-one _ _) (then_by-one _ _ (unless-one _ _) (then_by-one _ _ (unless-one _ _) (unless-one _ _)))
+leaf_finds_one p cost r index Routed = then_by-one _ _ (unless-one _ _) (then_by-one _ _ (unless-one _ _) (then_by-one _ _ (unless-one _ _) (then_by-one _ _ (unless-one _ _) (unless-one _ _))))
 leaf_finds_one p cost r index (Overfull link) = then_by-one _ _ (unless-one _ _) (then_by-one _ _ (unless-one _ _) (then_by-one _ _ (unless-one _ _) (unless-one _ _)))
 leaf_finds_one p cost r index (Cut demand reached) = then_by-one _ _ (unless-one _ _) (then_by-one _ _ (unless-one _ _) (then_by-one _ _ (unless-one _ _) (unless-one _ _)))
+leaf_finds_one p cost r index (Far demand) = then_by-one _ _ (unless-one _ _) (unless-one _ _)
 leaf_finds_one p cost r index (Crowd prices) = then_by-one _ _ (unless-one _ _) (then_by-one _ _ (unless-one _ _) (then_by-one _ _ (unless-one _ _) (unless-one _ _)))
 leaf_finds_one p cost r index (Open prices) = unless-one _ _

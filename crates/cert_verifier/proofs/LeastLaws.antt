@@ -10,7 +10,7 @@ use Rattle.std.proofs.lemmas.List.Quantifiers.{Any-push}
 use Rattle.plan_base.specs.declared.parts.Parts.{Parts}
 use Rattle.arc_restrict.specs.Restrictions.{Forbidden}
 use Rattle.proof_tree.specs.declared.tree.Evidence.{Evidence}
-use Rattle.proof_tree.specs.declared.tree.Evidence.TheVariants.{Bound, Routed, Overfull, Cut, Crowd, Open}
+use Rattle.proof_tree.specs.declared.tree.Evidence.TheVariants.{Bound, Routed, Overfull, Cut, Far, Crowd, Open}
 use Rattle.proof_tree.specs.declared.plan.Plan.{Plan}
 use Rattle.proof_tree.specs.Trees.{LeafAt, leaves_of}
 use Rattle.proof_tree.specs.Plans.{IsOpenBound, IsCandidate, stated_cost}
@@ -26,6 +26,7 @@ open_bound-unique p r (Bound prices) a b x y = absurd x
 open_bound-unique p r Routed a b x y = absurd x
 open_bound-unique p r (Overfull link) a b x y = absurd x
 open_bound-unique p r (Cut demand reached) a b x y = absurd x
+open_bound-unique p r (Far demand) a b x y = absurd x
 open_bound-unique p r (Crowd prices) a b x y = absurd x
 
 -- some of the first is some of the whole

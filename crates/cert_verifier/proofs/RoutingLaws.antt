@@ -1,15 +1,17 @@
 -- Only paths, what they load, and what that costs.
 use Rattle.std.proofs.Common.{◌≡◌, ℕ, ◌<◌, ◌≤◌, max, List, length, slice_index, sym, ap, subst, ◌∙◌, arith}
+use Rattle.plan_base.specs.declared.ids.ArcId.{ArcId}
 use Rattle.plan_base.specs.declared.ids.LinkId.{LinkId}
 use Rattle.plan_base.specs.declared.parts.Parts.{Parts}
 use Rattle.plan_base.specs.declared.path.Design.{Design}
+use Rattle.plan_base.specs.Arcs.{demand_at}
 use Rattle.plan_base.specs.Places.{places, there_of, back_of}
-use Rattle.plan_base.specs.Designs.{path_at, load_at, need}
+use Rattle.plan_base.specs.Designs.{path_at, load_at, need, KeepsLimit, KeepsLimits}
 use Rattle.plan_base.proofs.SumsBelow.{sum_below-same}
 use Rattle.plan_base.proofs.PlaceSums.{there-same, back-same}
 use Rattle.link_steps.specs.Costs.{Carries, CannotCarry, IsLeastModuleCost, IsStepCost}
 use Rattle.arc_restrict.specs.Restrictions.{Forbidden}
-use Rattle.proof_tree.specs.Evidence.{AreOnlyPaths, ClosedByRouting, ClosedByOverfull}
+use Rattle.proof_tree.specs.Evidence.{AreOnlyPaths, CostEnough, ClosedByOverfull}
 use Rattle.verifier_paths.specs.OnlyPaths.{HavePaths, HasSecond}
 use Rattle.cert_verifier.specs.LeafRules.{HaveOnlyPaths, CanCarryAll}
 use Rattle.cert_verifier.specs.Routings.{needed, IsCostOfLoads, HasOverfull}
@@ -61,8 +63,8 @@ step_cost-unique p e load back a b ha hb = omega (arith, ha.is_sum, hb.is_sum, l
 step_cost-moves : (p : Parts) (e load back other other_back cost : ℕ) → load ≡ other → back ≡ other_back → IsStepCost p e load back cost → IsStepCost p e other other_back cost
 step_cost-moves p e load back other other_back cost there here is = subst (λ (x : ℕ). IsStepCost p e x other_back cost) there (subst (λ (y : ℕ). IsStepCost p e load y cost) here is)
 
-pub routing_closes : (p : Parts) (r : Forbidden) (d : Design) (loads : List ℕ) (total cost : ℕ) → AreOnlyPaths p r d → AreLoadsOf p d loads → IsCostOfLoads p loads total → cost ≤ total → ClosedByRouting p r cost
-routing_closes p r d loads total cost only are_loads is enough =
+pub routing_enough : (p : Parts) (r : Forbidden) (d : Design) (loads : List ℕ) (total cost : ℕ) → AreOnlyPaths p r d → AreLoadsOf p d loads → IsCostOfLoads p loads total → cost ≤ total → CostEnough p r cost
+routing_enough p r d loads total cost only are_loads is enough =
     record {
       routing = d;
       only = only;
@@ -71,7 +73,7 @@ routing_closes p r d loads total cost only are_loads is enough =
       enough = omega (arith, enough, is.is_sum);
     }
 
-pub routing_cost : (p : Parts) (r : Forbidden) (d : Design) (loads : List ℕ) (total cost : ℕ) → AreOnlyPaths p r d → AreLoadsOf p d loads → IsCostOfLoads p loads total → ClosedByRouting p r cost → cost ≤ total
+pub routing_cost : (p : Parts) (r : Forbidden) (d : Design) (loads : List ℕ) (total cost : ℕ) → AreOnlyPaths p r d → AreLoadsOf p d loads → IsCostOfLoads p loads total → CostEnough p r cost → cost ≤ total
 routing_cost p r d loads total cost only are_loads is closed =
     let same = sum_below-same closed.step_costs is.step_costs (length p.links) (λ e below.
     step_cost-unique p e (there_of p (slice_index loads) e) (back_of p (slice_index loads) e) (closed.step_costs e) (is.step_costs e)
@@ -81,6 +83,11 @@ routing_cost p r d loads total cost only are_loads is closed =
     (closed.are_costs e below))
     (is.are_costs e below)) in
     omega (arith, same, closed.enough, is.is_sum)
+
+-- so other designs of the only paths keep the limits too
+pub only_limits : (p : Parts) (r : Forbidden) (d other : Design) → AreOnlyPaths p r d → AreOnlyPaths p r other → KeepsLimits p other → KeepsLimits p d
+only_limits p r d other only only_other keeps k within =
+    subst (λ (arcs : List ArcId). KeepsLimit (demand_at p k).hops (length arcs)) (sym ((only_other k within).only (path_at d k) (only k within).permitted)) (keeps k within)
 
 pub overfull_closes : (p : Parts) (r : Forbidden) (d : Design) (loads : List ℕ) (link : LinkId) → AreOnlyPaths p r d → AreLoadsOf p d loads → link.0 < length p.links → CannotCarry p link.0 (needed p loads link.0) → ClosedByOverfull p r link
 overfull_closes p r d loads link only are_loads within cannot =

@@ -3,7 +3,7 @@ use Rattle.std.specs.Prelude.{◌≡◌, List, Option, Some, None, MatchOption, 
 use Rattle.plan_base.specs.declared.parts.Parts.{Parts}
 use Rattle.arc_restrict.specs.Prices.{AreWithinLimit}
 use Rattle.proof_tree.specs.declared.tree.Evidence.{Evidence}
-use Rattle.proof_tree.specs.declared.tree.Evidence.TheVariants.{Bound, Routed, Overfull, Cut, Crowd, Open}
+use Rattle.proof_tree.specs.declared.tree.Evidence.TheVariants.{Bound, Routed, Overfull, Cut, Far, Crowd, Open}
 use Rattle.proof_tree.specs.Trees.{LeafAt}
 use Rattle.proof_tree.specs.Plans.{IsOpenBound}
 
@@ -14,6 +14,7 @@ IsOpenWithin p (Bound prices) = ⊤
 IsOpenWithin p Routed = ⊤
 IsOpenWithin p (Overfull link) = ⊤
 IsOpenWithin p (Cut demand reached) = ⊤
+IsOpenWithin p (Far demand) = ⊤
 IsOpenWithin p (Crowd prices) = ⊤
 
 -- the bound of an open leaf among these

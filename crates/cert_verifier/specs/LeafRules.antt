@@ -1,6 +1,7 @@
 -- The rules of each kind of leaf, in their order. The last rule of a kind is that the leaf has its evidence.
-use Rattle.std.specs.Prelude.{ℕ, ◌≡◌, ◌<◌, false, List, length, slice_index, IsTrue, Option}
+use Rattle.std.specs.Prelude.{ℕ, ◌≡◌, ◌<◌, false, List, length, slice_index, IsTrue, Option, IsSome, IsSomeAnd}
 use Rattle.plan_base.specs.declared.parts.Parts.{Parts}
+use Rattle.plan_base.specs.declared.ids.DemandId.{DemandId}
 use Rattle.plan_base.specs.declared.path.Design.{Design}
 use Rattle.plan_base.specs.Facts.{is_useful}
 use Rattle.plan_base.specs.Arcs.{link_at, demand_at}
@@ -10,8 +11,8 @@ use Rattle.link_steps.specs.Costs.{CanCarry}
 use Rattle.arc_restrict.specs.Restrictions.{Forbidden}
 use Rattle.arc_restrict.specs.Prices.{AreWithinLimit}
 use Rattle.proof_tree.specs.declared.tree.Evidence.{Evidence}
-use Rattle.proof_tree.specs.declared.tree.Evidence.TheVariants.{Bound, Routed, Overfull, Cut, Crowd, Open}
-use Rattle.proof_tree.specs.Evidence.{AreOnlyPaths, holds, HasEvidence}
+use Rattle.proof_tree.specs.declared.tree.Evidence.TheVariants.{Bound, Routed, Overfull, Cut, Far, Crowd, Open}
+use Rattle.proof_tree.specs.Evidence.{AreOnlyPaths, CostEnough, holds, HasEvidence}
 use Rattle.verifier_paths.specs.OnlyPaths.{HavePaths}
 use Rattle.cert_verifier.specs.declared.rejected.Rejected.{Rejected}
 use Rattle.cert_verifier.specs.declared.rejected.Rejected.TheVariants.{Leaf}
@@ -25,6 +26,11 @@ HaveOnlyPaths p r = (d : Design) × AreOnlyPaths p r d
 abbrev pub CanCarryAll : Parts → Forbidden → Type 0
 CanCarryAll p r = (d : Design) → AreOnlyPaths p r d → (e : ℕ) → e < length p.links → CanCarry p e (need p d e)
 
+-- the demand exists and has a limit
+pub record HasLimit (p : Parts) (id : DemandId) : Type 0 where
+  pub demand : id.0 < length p.demands
+  pub limit : IsSome (demand_at p id.0).hops
+
 -- the prices of the places of useful links are 0
 abbrev pub AreFreeOnUseful : Parts → List ℕ → Type 0
 AreFreeOnUseful p prices = (q : ℕ) → q < places p → IsTrue (is_useful (link_at p (link_of_place p q))) → slice_index prices q ≡ 0
@@ -35,9 +41,10 @@ Closes p cost r evidence = HasEvidence p cost r evidence
 
 -- the first rule that a leaf of a record of this index breaks.
 -- Bound: 1 prices within the limit, 2 paths, 3 the bound is at least the cost.
--- Routed: 1 paths, 2 no second ones, 3 links carry them, 4 they cost at least the cost.
+-- Routed: 1 paths, 2 no second ones, 3 links carry them, 4 they cost at least the cost, 5 they keep their limits.
 -- Overfull: 1 the link exists, 2 paths, 3 no second ones, 4 the link cannot carry them.
 -- Cut: 1 the demand exists, 2 its source is in the set, 3 its target is not, 4 no permitted arc leaves the set.
+-- Far: 1 the demand exists and has a limit, 2 no permitted path keeps it.
 -- Crowd: 1 prices within the limit, 2 free places of useful links, 3 paths, 4 the demands ask for more than there is.
 -- Open: 1 prices within the limit.
 unfoldable pub LeafFinds : Parts → Option ℕ → Forbidden → ℕ → Evidence → Option Rejected → Type 0
@@ -49,7 +56,8 @@ LeafFinds p cost r index Routed =
     unless (HavePaths p r) (Leaf index 1)
     then_by unless (HaveOnlyPaths p r) (Leaf index 2)
     then_by unless (CanCarryAll p r) (Leaf index 3)
-    then_by unless (Closes p cost r Routed) (Leaf index 4)
+    then_by unless (IsSomeAnd cost (λ c. CostEnough p r c)) (Leaf index 4)
+    then_by unless (Closes p cost r Routed) (Leaf index 5)
 LeafFinds p cost r index (Overfull link) =
     unless (link.0 < length p.links) (Leaf index 1)
     then_by unless (HavePaths p r) (Leaf index 2)
@@ -60,6 +68,9 @@ LeafFinds p cost r index (Cut demand reached) =
     then_by unless (IsTrue (holds reached (demand_at p demand.0).source)) (Leaf index 2)
     then_by unless (holds reached (demand_at p demand.0).target ≡ false) (Leaf index 3)
     then_by unless (Closes p cost r (Cut demand reached)) (Leaf index 4)
+LeafFinds p cost r index (Far demand) =
+    unless (HasLimit p demand) (Leaf index 1)
+    then_by unless (Closes p cost r (Far demand)) (Leaf index 2)
 LeafFinds p cost r index (Crowd prices) =
     unless (AreWithinLimit p prices) (Leaf index 1)
     then_by unless (AreFreeOnUseful p prices) (Leaf index 2)

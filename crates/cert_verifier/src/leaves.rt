@@ -1,13 +1,13 @@
 //! The rules of each kind of leaf.
 
-ghost use Rattle.std.specs.Prelude.{◌≡◌, ◌<◌, ◌≤◌, ◌+◌, ◌-◌, ◌*◌, ◌↔◌, ℕ, max, Some, None, IsTrue, IsFalse, ℤ, pos, ◌≤ℤ◌, length, slice_index, IfOk, IfSome, IfNone, IsSomeAnd};
+ghost use Rattle.std.specs.Prelude.{◌≡◌, ◌<◌, ◌≤◌, ◌+◌, ◌-◌, ◌*◌, ◌↔◌, ℕ, max, Some, None, IsTrue, IsFalse, ℤ, pos, ◌≤ℤ◌, length, slice_index, IfOk, IfSome, IfNone, IsSomeAnd, MatchOption, ⊤};
 ghost use Rattle.std.specs.Result.{result_err};
 ghost use Rattle.link_steps.specs.Costs.{CannotCarry, IsStepCost};
 ghost use Rattle.plan_base.specs.Facts.{total_load};
 ghost use Rattle.plan_base.specs.Arcs.{demand_at};
 ghost use Rattle.plan_base.specs.Places.{places};
 ghost use Rattle.plan_base.specs.Paths.{IsSimplePath};
-ghost use Rattle.plan_base.specs.Designs.{load_at};
+ghost use Rattle.plan_base.specs.Designs.{load_at, KeepsLimits};
 ghost use Rattle.proof_tree.specs.declared.tree.Evidence.TheVariants as kind;
 ghost use Rattle.proof_tree.specs.Evidence.{holds};
 ghost use Rattle.proof_tree.specs.Plans.{IsOpenBound};
@@ -19,7 +19,7 @@ ghost use Rattle.cert_verifier.specs.Told.{Tells};
 ghost use Rattle.cert_verifier.specs.Leaving.{leads_out, IsNoWayOut};
 ghost use Rattle.cert_verifier.specs.Routings.{design_of, IsCostOfLoads, HasOverfull};
 ghost use Rattle.cert_verifier.specs.Bounds.{IsOpenWithin};
-ghost use Rattle.cert_verifier.specs.LeafRules.{AreFreeOnUseful, LeafFinds};
+ghost use Rattle.cert_verifier.specs.LeafRules.{HasLimit, AreFreeOnUseful, LeafFinds};
 
 use crate::bounds::{bound_at, is_crowded, is_enough, price_total};
 use crate::rejected::Rejected;
@@ -31,7 +31,7 @@ use plan_base::{
 };
 use proof_tree::Evidence;
 use std::alloc::{AllocError, Global};
-use verifier_paths::{Forbidden, OnlyPaths, only_paths};
+use verifier_paths::{Forbidden, OnlyPaths, fewest_arcs, only_paths};
 
 /// Where a leaf stands: the restriction there, and the index of its record.
 #[derive(Clone, Copy)]
@@ -144,6 +144,33 @@ fn costs_enough(total: u128, cost: Option<u128>) -> bool
     }
 }
 
+/// Whether no path has more arcs than its demand's limit.
+fn are_within(inst: &Instance, paths: &Items<Path>) -> bool
+    requires { length paths.now ≡ length inst.now.demands }
+    ensures { IsTrue result ↔ KeepsLimits inst.now (design_of paths.now) }
+{
+    for place in 0..inst.demands() {
+        let path = &paths.as_slice()[place as usize];
+        if !inst
+            .demand(DemandId(place))
+            .keeps_limit(path.as_slice().len())
+        {
+            return false;
+        }
+    }
+    true
+}
+
+/// The leaf of this index breaks rule 4 where its only paths cost too little, or else rule 5 where one is too long.
+fn routing_or(enough: bool, within: bool, index: u32) -> Result<(), Rejected>
+    ensures ok { IsTrue enough → IsTrue within → result_err result ≡ None }
+    ensures cheap { IsFalse enough → result_err result ≡ Some (Leaf index 4) }
+    ensures long { IsTrue enough → IsFalse within → result_err result ≡ Some (Leaf index 5) }
+{
+    holds_or(enough, index, 4)?;
+    holds_or(within, index, 5)
+}
+
 /// The rules of a leaf that is closed by its routing.
 fn check_routed(alloc: Global, at: &Place) -> Result<(), Rejected>
     requires table { at.now.table.now ≡ at.now.inst.now }
@@ -154,9 +181,10 @@ fn check_routed(alloc: Global, at: &Place) -> Result<(), Rejected>
         OnlyPaths::Missing => broken(at.index, 1),
         OnlyPaths::Second => broken(at.index, 2),
         OnlyPaths::Only(paths) => {
+            let within = are_within(at.inst, &paths);
             let loads = loads_of_paths(alloc, at.inst, paths);
             match cost_of_paths(at.inst, at.table, &loads) {
-                Some(total) => holds_or(costs_enough(total, at.cost), at.index, 4),
+                Some(total) => routing_or(costs_enough(total, at.cost), within, at.index),
                 None => broken(at.index, 3),
             }
         }
@@ -234,6 +262,39 @@ fn check_cut(at: &Place, demand: DemandId, reached: &[bool]) -> Result<(), Rejec
     Ok(())
 }
 
+/// The limit on the arcs of the demand's path, where there is such a demand and it has one.
+fn limit_of(inst: &Instance, demand: DemandId) -> Option<u64>
+    ensures demand { IfSome result (λ limit. demand.0 < length inst.now.demands) }
+    ensures limit { IfSome result (λ limit. (demand_at inst.now demand.0).hops ≡ Some limit) }
+    ensures none { IfNone result (HasLimit inst.now demand → ⊥) }
+{
+    if demand.0 >= inst.demands() {
+        return None;
+    }
+    inst.demand(demand).hops
+}
+
+/// Whether each path has more arcs than the limit, where the fewest of any path are told, or none where there is none.
+fn is_past(fewest: Option<u128>, limit: u64) -> bool
+    ensures { IsTrue result ↔ MatchOption fewest ⊤ (λ arcs. limit < arcs) }
+{
+    match fewest {
+        Some(arcs) => arcs > u128::from(limit),
+        None => true,
+    }
+}
+
+/// The rules of a leaf where no path of a demand keeps its limit.
+fn check_far(alloc: Global, at: &Place, demand: DemandId) -> Result<(), Rejected>
+    ensures { Tells (LeafFinds at.now.inst.now at.now.cost (forbidden_by at.now.forbidden.now) at.now.index (kind.Far demand)) (result_err result) }
+{
+    let Some(limit) = limit_of(at.inst, demand) else {
+        return broken(at.index, 1);
+    };
+    let fewest = fewest_arcs(alloc, at.inst, at.forbidden, demand)?;
+    holds_or(is_past(fewest, limit), at.index, 2)
+}
+
 /// Whether the prices of the places of useful links are 0.
 fn are_free_on_useful(inst: &Instance, prices: &[u128]) -> bool
     requires count { length prices.now ≡ places inst.now }
@@ -288,6 +349,7 @@ pub(crate) fn check_leaf(alloc: Global, at: &Place, evidence: &Evidence) -> Resu
         Evidence::Routed => check_routed(alloc, at),
         Evidence::Overfull { link } => check_overfull(alloc, at, *link),
         Evidence::Cut { demand, reached } => check_cut(at, *demand, reached.as_slice()),
+        Evidence::Far { demand } => check_far(alloc, at, *demand),
         Evidence::Crowd(prices) => check_crowd(alloc, at, prices),
         Evidence::Open(prices) => check_open(at, prices),
     }

@@ -146,7 +146,8 @@ rounds_done p takes prices source most labels inst are within enough few least =
       record { arcs = w.arcs; way = w.way; few = omega (arith, w.few, few); costs = w.costs };
   least = λ v arcs inside way.
       let r = route_of_way p takes prices source.0 v arcs way in
-      let short = length-IsSimplePath p (record { source = source; target = record { 0 = v }; load = 0 }) r.arcs inst within (simple_of_way p takes (record { source = source; target = record { 0 = v }; load = 0 }) r.arcs are r.way r.once) in
+      let short = length-IsSimplePath p (record { source = source; target = record { 0 = v }; load = 0; hops = None }) r.arcs inst within
+      (simple_of_way p takes (record { source = source; target = record { 0 = v }; load = 0; hops = None }) r.arcs are r.way r.once) in
       at_most-le _ _ _ ((least.each v inside).least r.arcs r.way (omega (arith, short, enough))) r.low;
 }
 

@@ -1,6 +1,6 @@
 -- Counts of arcs as prices: from a node that is reached an arc leads back to one that is one arc nearer.
 use Rattle.std.proofs.Common.{◌≡◌, ℕ, suc, ◌+◌, ◌*◌, ◌<◌, ◌≤◌, inl, inr, Bool, List, [], ◌∷◌, ◌++◌, length, reverse, slice_index, Option, Some, None, refl, sym, ap, subst, ◌∙◌, arith, length-append}
-use Rattle.std.specs.Prelude.{⊤}
+use Rattle.std.specs.Prelude.{⊤, MatchOption}
 use Rattle.std.proofs.lemmas.List.{reverse-append}
 use Rattle.plan_base.specs.declared.ids.ArcId.{ArcId}
 use Rattle.plan_base.specs.declared.ids.NodeId.{NodeId}
@@ -9,13 +9,14 @@ use Rattle.plan_base.specs.Facts.{IsInstance}
 use Rattle.plan_base.specs.Arcs.{tail_of, head_of, demand_at}
 use Rattle.plan_base.specs.Places.{places, place_of}
 use Rattle.plan_base.proofs.PathSums.{place-within}
-use Rattle.arc_restrict.specs.Prices.{price_of}
-use Rattle.verifier_paths.specs.Labels.{label_at, IsAtMost, IsWay, AreLeast}
+use Rattle.arc_restrict.specs.Restrictions.{Forbidden, IsPermittedPath, HasNoPath, IsFewest}
+use Rattle.arc_restrict.specs.Prices.{price_of, IsLeastPrice}
+use Rattle.verifier_paths.specs.Labels.{may_take, label_at, IsAtMost, IsWay, AreLeast}
 use Rattle.verifier_paths.specs.OnlyPaths.{AreOnes, AreFewest, IsPathOf, IsStep}
 use Rattle.verifier_paths.proofs.Ways.{Avoids, MeetOnce, has_last, way_on, price-cons, simple_of_way, way-all, way_of_simple}
 use Rattle.verifier_paths.proofs.Offers.{known, before_or_at, arc_of}
 use Rattle.verifier_paths.proofs.Rounding.{TakesArcs, tail-within, number-within}
-use Rattle.verifier_paths.proofs.LeastPrices.{label-below}
+use Rattle.verifier_paths.proofs.LeastPrices.{takes_arcs, path-taken, label-below}
 
 -- ---- prices 1 count arcs
 
@@ -34,6 +35,22 @@ fewest_of_least p takes prices source labels ones are least = record {
       let w = least.attained v price within is in
       record { arcs = w.arcs; way = w.way; few = w.few; costs = sym (ones-count p takes prices source v w.arcs ones are w.way) ∙ w.costs };
   least = λ v arcs within way. subst (λ (n : ℕ). IsAtMost (label_at labels v) n) (ones-count p takes prices source v arcs ones are way) (least.least v arcs within way);
+}
+
+-- a permitted path has as many arcs as it costs
+path-count : (p : Parts) (r : Forbidden) (prices : List ℕ) (k : ℕ) (arcs : List ArcId) → AreOnes p prices → IsPermittedPath p r k arcs → price_of p prices arcs ≡ length arcs
+path-count p r prices k arcs ones h =
+    let takes = may_take p r k None in
+    ones-count p takes prices (demand_at p k).source.0 (demand_at p k).target.0 arcs ones (takes_arcs p r k None) (way_of_simple p takes (demand_at p k) arcs h.simple (path-taken p r k arcs h))
+
+-- so a least price is the fewest arcs
+pub fewest_at_ones : (p : Parts) (r : Forbidden) (prices : List ℕ) (k : ℕ) (found : Option ℕ) → AreOnes p prices → MatchOption found (HasNoPath p r k) (λ price. IsLeastPrice p r prices k price) → MatchOption found (HasNoPath p r k) (λ arcs. IsFewest p r k arcs)
+fewest_at_ones p r prices k None ones none = none
+fewest_at_ones p r prices k (Some price) ones is = record {
+  path = is.path;
+  permitted = is.permitted;
+  attained = sym (path-count p r prices k is.path ones is.permitted) ∙ is.attained;
+  least = λ other permitted. omega (arith, is.least other permitted, path-count p r prices k other ones permitted);
 }
 
 -- ---- one step back

@@ -5,11 +5,12 @@ ghost use Rattle.plan_base.specs.Arcs.{demand_at};
 ghost use Rattle.plan_base.specs.Facts.{IsInstance, total_load};
 ghost use Rattle.plan_base.specs.Places.{places};
 ghost use Rattle.plan_base.specs.declared.limits.TheConstants.{MAX_PRICED_LOAD};
-ghost use Rattle.arc_restrict.specs.Restrictions.{HasNoPath};
+ghost use Rattle.arc_restrict.specs.Restrictions.{HasNoPath, IsFewest};
 ghost use Rattle.arc_restrict.specs.Prices.{price_of, AreWithinLimit, IsLeastPrice};
 ghost use Rattle.verifier_paths.specs.declared.limits.TheConstants.{MAX_WAY_ARCS};
 ghost use Rattle.verifier_paths.specs.Kept.{forbidden_by};
 ghost use Rattle.verifier_paths.specs.Labels.{may_take, AreLeast, AreSmall, IsRelaxed, IsRound, lower_of, first_labels};
+ghost use Rattle.verifier_paths.specs.OnlyPaths.{AreOnes};
 
 use crate::marks::Forbidden;
 use plan_base::{ArcId, DemandId, Instance, NodeId};
@@ -177,4 +178,43 @@ pub fn least_price(
     };
     let labels = least_prices(alloc, &ways, prices)?;
     Ok(labels[inst.demand(demand).target.0 as usize])
+}
+
+/// The fewest arcs of a permitted path of the demand, by least prices where each place has the price 1.
+#[tactic(auto, using(crate::proofs::StepsBack::fewest_at_ones))]
+fn fewest_at(
+    alloc: Global,
+    inst: &Instance,
+    forbidden: &Forbidden,
+    demand: DemandId,
+    ones: &[u128],
+) -> Result<Option<u128>, AllocError>
+    requires demand { demand.0 < length inst.now.demands }
+    requires ones { AreOnes inst.now ones.now }
+    ensures { IfOk result (λ fewest. MatchOption fewest
+        (HasNoPath inst.now (forbidden_by forbidden.now) demand.0)
+        (λ arcs. IsFewest inst.now (forbidden_by forbidden.now) demand.0 arcs)) }
+{
+    least_price(alloc, inst, forbidden, demand, ones)
+}
+
+/// The fewest arcs of a permitted path of the demand, and none where it has none.
+///
+/// - Takes: a demand of the instance.
+/// - Errors: want of memory.
+/// - Rule: docs/DEFINITIONS.md, "Restrictions".
+/// - Time: nodes times arcs.
+pub fn fewest_arcs(
+    alloc: Global,
+    inst: &Instance,
+    forbidden: &Forbidden,
+    demand: DemandId,
+) -> Result<Option<u128>, AllocError>
+    requires { demand.0 < length inst.now.demands }
+    ensures { IfOk result (λ fewest. MatchOption fewest
+        (HasNoPath inst.now (forbidden_by forbidden.now) demand.0)
+        (λ arcs. IsFewest inst.now (forbidden_by forbidden.now) demand.0 arcs)) }
+{
+    let ones = vec![in alloc; 1; inst.places() as usize]?;
+    fewest_at(alloc, inst, forbidden, demand, &ones)
 }

@@ -28,8 +28,8 @@ returns-in-Some c = λ differs.
     let only = rw c.in-Only.is at c.in_ok-only_paths.ensures.left in
     let few : places at.inst.now ≤ MAX_PLACES = places-few at.inst.now c.lawful.ensures in
     let are_loads : AreLoadsOf at.inst.now (design_of c.in-Only.paths) loads = λ q below. c.loads_of_paths-loads.ensures.value q (omega (arith, below, few)) in
-    routed_decided at.inst.now at.cost (forbidden_by at.forbidden.now) at.index (design_of c.in-Only.paths) loads c.in-Some.total c.costs_enough.result _ only.1 are_loads c.in-Some.ensures.cost c.costs_enough.ensures
-    c.holds_or.ensures.ok c.holds_or.ensures.broken
+    routed_decided at.inst.now at.cost (forbidden_by at.forbidden.now) at.index (design_of c.in-Only.paths) loads c.in-Some.total c.costs_enough.result c.are_within-within.result _ only.1 are_loads c.in-Some.ensures.cost
+    c.costs_enough.ensures c.are_within-within.ensures c.routing_or.ensures.ok c.routing_or.ensures.cheap c.routing_or.ensures.long
 
 pub returns-in-None : goal.returns-in-None
 returns-in-None c = λ differs.
