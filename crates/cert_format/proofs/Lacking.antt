@@ -10,7 +10,7 @@ use Rattle.scaled_numbers.specs.Canonical.{grains_text, behind_point, fraction_d
 use Rattle.plan_base.specs.declared.ids.ArcId.{ArcId}
 use Rattle.plan_base.specs.declared.path.Design.{Design}
 use Rattle.proof_tree.specs.declared.tree.Evidence.{Evidence}
-use Rattle.proof_tree.specs.declared.tree.Evidence.TheVariants.{Bound, Routed, Overfull, Cut, Crowd, Open}
+use Rattle.proof_tree.specs.declared.tree.Evidence.TheVariants.{Bound, Routed, Overfull, Cut, Far, Crowd, Open}
 use Rattle.proof_tree.specs.declared.tree.TreeNode.{TreeNode}
 use Rattle.proof_tree.specs.declared.tree.TreeNode.TheVariants.{Split, Leaf}
 use Rattle.proof_tree.specs.declared.plan.PlanStatus.{PlanStatus}
@@ -26,7 +26,7 @@ use Rattle.cert_format.specs.declared.limits.TheConstants.{MAX_LISTS}
 use Rattle.cert_format.specs.Lists.{lists_in, shown, width}
 use Rattle.cert_format.specs.Drafts.{AreListed}
 use Rattle.plan_words.specs.Words.{numerals, row}
-use Rattle.cert_format.specs.Grammar.{header_line, both_text, count_line, status_line, signed_text, path_line, modules_line, leaf_line, record_line, end_line, head_lines, design_lines, bound_lines, price_line, price_lines, front_lines, tree_lines, plan_lines, arc_numbers, counted, members, AreArcs, HasLeafFields, HasRecordFields, HasDesignFields, IsBoundField, HasFields}
+use Rattle.cert_format.specs.Grammar.{header_line, both_text, count_line, status_line, signed_text, path_line, modules_line, leaf_line, record_line, end_line, head_lines, design_lines, bound_lines, price_line, price_lines, front_lines, tree_lines, plan_lines, arc_numbers, counted, members, AreArcs, HasLeafFields, HasRecordFields, HasDesignFields, IsBoundField, HasLines, HasFields}
 use Rattle.plan_words.specs.Cuts.{Lacks}
 use Rattle.plan_words.proofs.Cutting.{lacks-append}
 use Rattle.plan_words.proofs.NumberWords.{digits-lack, decimal_digits}
@@ -142,6 +142,7 @@ leaf-lacks nodes links (Bound ps) few h k = row-lacks (codes "PRICED") ps refl k
 leaf-lacks nodes links Routed few h k = lacks-by (codes "ROUTED") refl
 leaf-lacks nodes links (Overfull link) few h k = row-lacks (codes "OVERFULL") (link.0 ∷ []) refl (omega (arith, k), tt)
 leaf-lacks nodes links (Cut demand reached) few h k = row-lacks (codes "CUT") (demand.0 ∷ counted (members 0 reached)) refl (cut_small nodes demand.0 reached few k h)
+leaf-lacks nodes links (Far demand) few h k = row-lacks (codes "FAR") (demand.0 ∷ []) refl (omega (arith, k), tt)
 leaf-lacks nodes links (Crowd ps) few h k = row-lacks (codes "CROWD") ps refl k
 leaf-lacks nodes links (Open ps) few h k = row-lacks (codes "OPEN") ps refl k
 
@@ -160,9 +161,9 @@ prices-lack Second places lists h = (
   rec-map AreSmall price_line (λ list small. row-lacks (codes "P") list refl small) lists (lists_small places [] lists h.2),
 )
 
-pub plan_lacks : (form : Form) (plan : Plan) → IsSpellable plan → HasFields plan → AreReady form (places_in plan.both plan.links) plan.tree → AllByRecursion (Lacks 10) (plan_lines form plan)
+pub plan_lacks : (form : Form) (plan : Plan) → IsSpellable plan → HasFields plan → HasLines form plan.tree → AreReady form (places_in plan.both plan.links) plan.tree → AllByRecursion (Lacks 10) (plan_lines form plan)
 unfolding front_lines
-plan_lacks form plan s f r =
+plan_lacks form plan s f lines r =
     let lists : List (List ℕ) = lists_in form plan.tree in
     let places : ℕ = places_in plan.both plan.links in
     let prices : List (List ℕ) = price_lines form (length lists) lists in
@@ -175,6 +176,6 @@ plan_lacks form plan s f r =
       row-lacks (codes "TREE") (length plan.tree ∷ []) refl (omega (arith, s.records.few), tt),
       rec-map (λ node. FitsRecord plan.nodes (width form places) (shown form lists node) × HasRecordFields (shown form lists node)) (λ node. record_line (shown form lists node))
           (λ node. record-lacks plan.nodes (width form places) s.sizes.nodes (shown form lists node)) plan.tree
-          (shown_all form lists 0 plan.nodes places plan.tree (good_listed form places (length lists) lists r.listed) fit r.named),
+          (shown_all form lists 0 plan.nodes places plan.tree (good_listed form places (length lists) lists r.listed) fit (r.named lines)),
     )
     (lacks-by end_line refl, tt))

@@ -3,7 +3,7 @@ use Rattle.std.proofs.Common.{◌≡◌, ℕ, nat_eq, Bool, true, false, true≢
 use Rattle.std.specs.List.{AllByRecursion}
 use Rattle.std.specs.Cmp.Lexicographic.{pointwise}
 use Rattle.std.proofs.lemmas.Slice.Eq.{bytes_eq-Decides}
-use Rattle.proof_tree.specs.declared.tree.Evidence.TheVariants.{Bound, Routed, Overfull, Cut, Crowd, Open}
+use Rattle.proof_tree.specs.declared.tree.Evidence.TheVariants.{Bound, Routed, Overfull, Cut, Far, Crowd, Open}
 use Rattle.proof_tree.specs.declared.tree.TreeNode.{TreeNode}
 use Rattle.proof_tree.specs.declared.tree.TreeNode.TheVariants.{Split, Leaf}
 use Rattle.cert_format.specs.Lists.{is_among, with_list, with_some, prices_at, gathered, lists_of}
@@ -55,6 +55,7 @@ record-fields all lists (Leaf (Bound ps)) h k = in-by lists ps k
 record-fields all lists (Leaf Routed) h k = tt
 record-fields all lists (Leaf (Overfull link)) h k = h
 record-fields all lists (Leaf (Cut demand reached)) h k = h
+record-fields all lists (Leaf (Far demand)) h k = h
 record-fields all lists (Leaf (Crowd ps)) h k = in-by lists ps k
 record-fields all lists (Leaf (Open ps)) h k = in-by lists ps k
 

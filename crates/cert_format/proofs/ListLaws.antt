@@ -7,7 +7,7 @@ use Rattle.std.proofs.lemmas.Bool.{cases_Bool, ltb-true, ltb-false}
 use Rattle.std.proofs.lemmas.List.{append-nil, take_all}
 use Rattle.std.proofs.lemmas.Slice.Eq.{bytes_eq-Decides}
 use Rattle.proof_tree.specs.declared.limits.TheConstants.{MAX_RECORDS}
-use Rattle.proof_tree.specs.declared.tree.Evidence.TheVariants.{Bound, Routed, Overfull, Cut, Crowd, Open}
+use Rattle.proof_tree.specs.declared.tree.Evidence.TheVariants.{Bound, Routed, Overfull, Cut, Far, Crowd, Open}
 use Rattle.proof_tree.specs.declared.tree.TreeNode.{TreeNode}
 use Rattle.proof_tree.specs.declared.tree.TreeNode.TheVariants.{Split, Leaf}
 use Rattle.proof_tree.specs.Shapes.{are_trees}
@@ -16,7 +16,7 @@ use Rattle.cert_format.specs.declared.limits.TheConstants.{MAX_LISTS}
 use Rattle.cert_format.specs.declared.form.Form.{Form}
 use Rattle.cert_format.specs.declared.form.Form.TheVariants.{First, Second}
 use Rattle.cert_format.specs.Lists.{is_among, number_in, with_list, prices_at, with_some, gathered, lists_of, lists_in, is_list, named_by, named_behind, named_from, IsNext, AreNamed, AreNew}
-use Rattle.cert_format.specs.Grammar.{HasRecordFields}
+use Rattle.cert_format.specs.Grammar.{HasLines, HasRecordFields}
 use Rattle.cert_format.specs.Drafts.{AreListed}
 use Rattle.cert_format.proofs.BodyLaws.{AreSmall}
 
@@ -175,6 +175,7 @@ prices-good nodes w (Leaf (Bound qs)) ps e fits fields = subst (λ xs. (length x
 prices-good nodes w (Leaf Routed) ps e fits fields = absurd cc
 prices-good nodes w (Leaf (Overfull link)) ps e fits fields = absurd cc
 prices-good nodes w (Leaf (Cut demand reached)) ps e fits fields = absurd cc
+prices-good nodes w (Leaf (Far demand)) ps e fits fields = absurd cc
 prices-good nodes w (Leaf (Crowd qs)) ps e fits fields = subst (λ xs. (length xs ≡ w) × AreSmall xs) (some-same qs ps e) (fits, fields)
 prices-good nodes w (Leaf (Open qs)) ps e fits fields = subst (λ xs. (length xs ≡ w) × AreSmall xs) (some-same qs ps e) (fits, fields)
 
@@ -299,24 +300,37 @@ good_listed Second places stated lists h =
     let within : length lists ≤ stated = h.1 in
     (omega (arith, few, within), h.2)
 
-first-named : (lists : List (List ℕ)) (named : ℕ) (nodes : List TreeNode) → AreNamed First lists named nodes × (named_from First lists named nodes ≡ named)
-unfolding AreNamed named_from
-first-named lists named [] = (tt, refl)
-first-named lists named (node ∷ nodes) = (let more = first-named lists named nodes in ((tt, more.0), more.1))
+-- in a text of the first version no list is named
+first-ends : (lists : List (List ℕ)) (named : ℕ) (nodes : List TreeNode) → named_from First lists named nodes ≡ named
+unfolding named_from
+first-ends lists named [] = refl
+first-ends lists named (node ∷ nodes) = first-ends lists named nodes
+
+first-named : (lists : List (List ℕ)) (named : ℕ) (nodes : List TreeNode) → HasLines First nodes → AreNamed First lists named nodes
+unfolding AreNamed
+first-named lists named [] h = tt
+first-named lists named (node ∷ nodes) h = (h.0, first-named lists named nodes h.1)
+
+-- and each record has a line where it stands
+pub named-lines : (form : Form) (lists : List (List ℕ)) (named : ℕ) (nodes : List TreeNode) → AreNamed form lists named nodes → HasLines form nodes
+unfolding AreNamed
+named-lines First lists named [] h = tt
+named-lines First lists named (node ∷ nodes) h = (h.0, named-lines First lists named nodes h.1)
+named-lines Second lists named nodes h = tt
 
 -- the lists of a tree are those of a text
 pub record AreReady (form : Form) (places : ℕ) (nodes : List TreeNode) : Type 0 where
   pub listed : AreListed form places (length (lists_in form nodes)) (lists_in form nodes)
-  pub named : AreNamed form (lists_in form nodes) 0 nodes
+  pub named : HasLines form nodes → AreNamed form (lists_in form nodes) 0 nodes
   pub ends : named_from form (lists_in form nodes) 0 nodes ≡ length (lists_in form nodes)
 
 pub lists_ready : (form : Form) (count places : ℕ) (nodes : List TreeNode) → IsTrue (are_trees 1 nodes) → length nodes ≤ MAX_RECORDS → AllByRecursion (λ node. FitsRecord count places node × HasRecordFields node) nodes → AreReady form places nodes
-lists_ready First count places nodes whole few h = (let f = first-named [] 0 nodes in record { listed = (refl, refl); named = f.0; ends = f.1 })
+lists_ready First count places nodes whole few h = record { listed = (refl, refl); named = first-named [] 0 nodes; ends = first-ends [] 0 nodes }
 lists_ready Second count places nodes whole few h =
     let g = gathering count places [] nodes h in
     record {
       listed = (few-lists nodes whole few, omega arith, subst (AreNew places []) (sym g.all_is) g.new);
-      named = subst (λ ls. AreNamed Second ls 0 nodes) (sym g.all_is) g.named;
+      named = λ lines. subst (λ ls. AreNamed Second ls 0 nodes) (sym g.all_is) g.named;
       ends = subst (λ ls. named_from Second ls 0 nodes ≡ length ls) (sym g.all_is) g.ends;
     }
 

@@ -40,8 +40,8 @@ spelt-begun : (text : List ℕ) (plan : Plan) → SpellsPlan text plan → IsBeg
 spelt-begun text plan s = record {
   states = stated_by s.form plan;
   more = [];
-  draft = spelled_draft s.form plan s.spellable s.fields s.told;
-  begins = plan_drafted s.form plan s.spellable s.fields ∙ sym (plan_text_lines s.form plan s.spellable s.fields) ∙ ap lines_of (sym s.is_text) ∙ sym (append-nil (lines_of text));
+  draft = spelled_draft s.form plan s.spellable s.fields s.told s.lines;
+  begins = plan_drafted s.form plan s.spellable s.fields ∙ sym (plan_text_lines s.form plan s.spellable s.fields s.lines) ∙ ap lines_of (sym s.is_text) ∙ sym (append-nil (lines_of text));
 }
 
 pub no_fault : (text : List ℕ) (plan : Plan) (fault : PlanFault) → SpellsPlan text plan → IsFault text fault → fault ≡ faults.OutOfMemory

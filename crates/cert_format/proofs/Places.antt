@@ -94,7 +94,7 @@ unfolding IsGrown left_open AreNamed
 leaf-read g = record { some = omega arith; few = omega arith; grown = refl; each = ((tt, tt), tt); names = (by g.form, tt) }
   where
     by : (form : Form) → Names form g.lists 0 (Leaf Routed)
-    by First = tt
+    by First = refl
     by Second = tt
 
 -- what the lines of the front are

@@ -21,13 +21,13 @@ use Rattle.cert_format.specs.declared.numbering.Ground.{Ground}
 use Rattle.cert_format.specs.declared.reading.Head.{Head}
 use Rattle.plan_words.specs.Lines.{Line, whole, text_of, lines_of}
 use Rattle.cert_format.specs.Lists.{lists_in, named_from, AreNamed, AreNew}
-use Rattle.cert_format.specs.Grammar.{number_line, cost_line, bound_line, price_line, end_line, head_lines, design_lines, bound_lines, price_lines, front_lines, tree_lines, lines_with, plan_lines, plan_text, CanTell, HasRecordFields, HasDesignFields, IsBoundField, HasFields, SpellsPlan}
+use Rattle.cert_format.specs.Grammar.{number_line, cost_line, bound_line, price_line, end_line, head_lines, design_lines, bound_lines, price_lines, front_lines, tree_lines, lines_with, plan_lines, plan_text, CanTell, HasLines, HasRecordFields, HasDesignFields, IsBoundField, HasFields, SpellsPlan}
 use Rattle.cert_format.specs.Drafts.{IsGrown, Stated, AreListed, IsDraft, has_counts, is_complete, front_of, tree_of, closing, draft_lines}
 use Rattle.cert_format.specs.Bodies.{fixed_of, number_row, cost_allowed, cost_of, bound_of}
 use Rattle.cert_format.specs.Reading.{Reader, ◌>>=◌, bind, done, one, head, design_of, design, bound, list_count, front_with, opening, lists, records, tree, tree_with, ground_with, stated_on, before_end, last_line, ending, whole_plan, read_as, plan_of}
 use Rattle.plan_words.proofs.Cutting.{text_of_lines, lines_of_text}
 use Rattle.cert_format.proofs.BodyLaws.{IsCost, fixed_takes, fixed_again, number_row_takes, number_row_again, cost_takes, cost_again, bound_takes, bound_again}
-use Rattle.cert_format.proofs.ListLaws.{AreReady, good_listed, lists_ready, lists_told}
+use Rattle.cert_format.proofs.ListLaws.{AreReady, named-lines, good_listed, lists_ready, lists_told}
 use Rattle.cert_format.proofs.ReadingLaws.{read_one, bind_ok, taken, and_then, done_parts, done_is, one_line, one_again, IsHead, lines_of_head, head_takes, head_again, after_cost, cost_in, IsDesignIn, design_of_takes, design_of_again, lists_take, lists_again, lists_short, IsGround, FitsGround, line_on, grown_takes, grown_again, grown_whole}
 use Rattle.cert_format.proofs.Lacking.{plan_lacks}
 
@@ -424,6 +424,7 @@ pub record IsToldBy (ls : List Line) (plan : Plan) : Type 0 where
   pub fields : HasFields plan
   pub form : Form
   pub told : CanTell form plan.both
+  pub has_lines : HasLines form plan.tree
   pub lines : ls ≡ map whole (plan_lines form plan)
 
 -- the lines of a whole text
@@ -459,6 +460,7 @@ whole_takes ls plan e =
       fields = g.0.fields;
       form = s.form;
       told = g.0.told;
+      has_lines = named-lines s.form s.lists 0 s.plan.tree g.0.named;
       lines = g.2 ∙ ap (λ us. front_of s ++ (tree_of s ++ us)) end ∙ whole-lines s g.1 lists_are count;
     })
   where
@@ -483,8 +485,8 @@ plan_ready form plan s f =
     lists_ready form plan.nodes (places_in plan.both plan.links) plan.tree s.whole s.records.few
     (seconds plan.nodes (places_in plan.both plan.links) plan.tree (recursion_from_All (FitsRecord plan.nodes (places_in plan.both plan.links)) plan.tree s.records.each) f.record_fields)
 
-pub spelled_draft : (form : Form) (plan : Plan) → IsSpellable plan → HasFields plan → CanTell form plan.both → IsDraft (stated_by form plan)
-spelled_draft form plan s f told =
+pub spelled_draft : (form : Form) (plan : Plan) → IsSpellable plan → HasFields plan → CanTell form plan.both → HasLines form plan.tree → IsDraft (stated_by form plan)
+spelled_draft form plan s f told lines =
     let r = plan_ready form plan s f in
     record {
       sizes = s.sizes;
@@ -497,7 +499,7 @@ spelled_draft form plan s f told =
       few = s.records.few;
       grown = grown_whole plan.tree 1 (true-is (are_trees 1 plan.tree) s.whole);
       records = recursion_from_All (FitsRecord plan.nodes (places_in plan.both plan.links)) plan.tree s.records.each;
-      named = r.named;
+      named = r.named lines;
     }
   where
     true-is : (b : Bool) → IsTrue b → b ≡ true
@@ -522,12 +524,12 @@ plan_drafted form plan s f =
     ∙ ap (λ b. front_of x ++ (tree_of x ++ cond b (whole end_line ∷ []) [])) (plan-complete form plan s f)
     ∙ whole-lines x refl refl refl
 
-pub whole_again : (form : Form) (plan : Plan) → IsSpellable plan → HasFields plan → CanTell form plan.both → whole_plan (map whole (plan_lines form plan)) ≡ Ok plan
+pub whole_again : (form : Form) (plan : Plan) → IsSpellable plan → HasFields plan → CanTell form plan.both → HasLines form plan.tree → whole_plan (map whole (plan_lines form plan)) ≡ Ok plan
 unfolding whole_plan
-whole_again form plan s f told =
+whole_again form plan s f told lines =
     let x : Stated = stated_by form plan in
     ap (λ ls. before_end ls >>= ending) (sym (whole-lines x refl refl refl))
-    ∙ ap (λ r. r >>= ending) (draft_again x (whole end_line ∷ []) (spelled_draft form plan s f told) refl)
+    ∙ ap (λ r. r >>= ending) (draft_again x (whole end_line ∷ []) (spelled_draft form plan s f told lines) refl)
     ∙ ap (λ t. cond t (last_line plan (one (fixed_of end_line) (whole end_line ∷ []))) (Err (whole end_line ∷ []))) (plan-complete form plan s f)
     ∙ ap (last_line plan) (one_again (fixed_of end_line) end_line tt [] (fixed_again end_line))
 
@@ -537,7 +539,7 @@ pub spells_takes : (text : List ℕ) (plan : Plan) → plan_of text ≡ Ok plan 
 unfolding plan_of plan_text
 spells_takes text plan e =
     let w = whole_takes (lines_of text) plan (read-ok (whole_plan (lines_of text)) plan e) in
-    record { spellable = w.spellable; fields = w.fields; form = w.form; told = w.told; is_text = sym (text_of_lines text) ∙ ap text_of w.lines }
+    record { spellable = w.spellable; fields = w.fields; form = w.form; told = w.told; lines = w.has_lines; is_text = sym (text_of_lines text) ∙ ap text_of w.lines }
   where
     read-ok : (r : Result Plan (List Line)) (plan : Plan) → read_as (length text) r ≡ Ok plan → r ≡ Ok plan
     read-ok (Ok p) plan e = (let same : p ≡ plan = cc in ap (λ (p : Plan). Ok p) same)
@@ -547,13 +549,13 @@ nil-lines : (ls : List Line) → ls ++ lines_of [] ≡ ls
 unfolding lines_of
 nil-lines ls = append-nil ls
 
-pub plan_text_lines : (form : Form) (plan : Plan) → IsSpellable plan → HasFields plan → lines_of (plan_text form plan) ≡ map whole (plan_lines form plan)
+pub plan_text_lines : (form : Form) (plan : Plan) → IsSpellable plan → HasFields plan → HasLines form plan.tree → lines_of (plan_text form plan) ≡ map whole (plan_lines form plan)
 unfolding plan_text
-plan_text_lines form plan s f =
-    ap lines_of (sym (append-nil (text_of (map whole (plan_lines form plan))))) ∙ lines_of_text (plan_lines form plan) [] (plan_lacks form plan s f (plan_ready form plan s f)) ∙ nil-lines (map whole (plan_lines form plan))
+plan_text_lines form plan s f lines =
+    ap lines_of (sym (append-nil (text_of (map whole (plan_lines form plan))))) ∙ lines_of_text (plan_lines form plan) [] (plan_lacks form plan s f lines (plan_ready form plan s f)) ∙ nil-lines (map whole (plan_lines form plan))
 
 pub spells_again : (text : List ℕ) (plan : Plan) → SpellsPlan text plan → plan_of text ≡ Ok plan
 unfolding plan_of
 spells_again text plan s =
-    ap (λ ls. read_as (length text) (whole_plan ls)) (ap lines_of s.is_text ∙ plan_text_lines s.form plan s.spellable s.fields)
-    ∙ ap (read_as (length text)) (whole_again s.form plan s.spellable s.fields s.told)
+    ap (λ ls. read_as (length text) (whole_plan ls)) (ap lines_of s.is_text ∙ plan_text_lines s.form plan s.spellable s.fields s.lines)
+    ∙ ap (read_as (length text)) (whole_again s.form plan s.spellable s.fields s.told s.lines)

@@ -9,13 +9,13 @@ use Rattle.plan_base.specs.declared.limits.TheConstants.{MAX_NODES}
 use Rattle.plan_base.specs.Paths.{arc_at}
 use Rattle.proof_tree.specs.declared.limits.TheConstants.{MAX_SIDE_ARCS}
 use Rattle.proof_tree.specs.declared.tree.Evidence.{Evidence}
-use Rattle.proof_tree.specs.declared.tree.Evidence.TheVariants.{Bound, Routed, Overfull, Cut, Crowd, Open}
+use Rattle.proof_tree.specs.declared.tree.Evidence.TheVariants.{Bound, Routed, Overfull, Cut, Far, Crowd, Open}
 use Rattle.proof_tree.specs.declared.tree.TreeNode.{TreeNode}
 use Rattle.proof_tree.specs.declared.tree.TreeNode.TheVariants.{Split, Leaf}
 use Rattle.proof_tree.specs.Spellings.{IsAscending, IsWrittenSide, FitsEvidence, FitsRecord}
 use Rattle.plan_words.specs.Words.{◌>>=◌, numerals, row, behind, each, numbers_of}
 use Rattle.cert_format.specs.Grammar.{arc_numbers, counted, members, leaf_line, record_line, AreArcs, HasLeafFields, HasRecordFields}
-use Rattle.cert_format.specs.Bodies.{only_if, choose, fixed_of, one_in, arc_of, uncounted, ascends, side_arcs, with_rest, side_of, two_sides, right_side, behind_left, sides_of, split_with, split_in, cut_with, overfull_with, behind_number, flags_of, cut_in, overfull_in, prices_of, priced_of, leaf_of, record_of}
+use Rattle.cert_format.specs.Bodies.{only_if, choose, fixed_of, one_in, arc_of, uncounted, ascends, side_arcs, with_rest, side_of, two_sides, right_side, behind_left, sides_of, split_with, split_in, cut_with, overfull_with, far_with, lone_number, behind_number, flags_of, cut_in, prices_of, priced_of, leaf_of, record_of}
 use Rattle.plan_words.proofs.NumberWords.{then-some, map-some, behind_found, behind_takes, numbers_found, numbers_takes, each_takes, each_found, no-length}
 use Rattle.cert_format.proofs.BodyLaws.{AreSmall, only_true, chosen, fixed_takes, one_takes, one_again, uncounted_takes, uncounted_again, arc_takes, arc_again, arcs_small}
 
@@ -219,16 +219,30 @@ cut-takes nodes links (d ∷ ns) e h body line =
       line = line ∙ ap (λ xs. row (codes "CUT") (d ∷ xs)) (count.1 ∙ ap counted flags.1);
     })
 
-overfull-takes : (nodes links : ℕ) (ns : List ℕ) (e : Evidence) → overfull_in ns ≡ Some e → (body : List ℕ) → body ≡ row (codes "OVERFULL") ns → IsLeafLine nodes links e body
-unfolding overfull_in leaf_line
-overfull-takes nodes links ns e h body line =
-    let (n, found, is) = map-some (one_in 0 (2 ^ 32 - 1) ns) overfull_with e h in
+-- a lone number stands in one text
+lone-takes : (bytes : List ℕ) (n : ℕ) → lone_number bytes ≡ Some n → (n < 2 ^ 32) × (bytes ≡ numerals (n ∷ []))
+unfolding lone_number
+lone-takes bytes n h =
+    let (ns, numbers, found) = then-some (numbers_of bytes) (one_in 0 (2 ^ 32 - 1)) n h in
     let one = one_takes 0 (2 ^ 32 - 1) ns n found in
-    subst (λ (x : Evidence). IsLeafLine nodes links x body) is (record {
-      fits = tt;
-      fields = omega (arith, one.1);
-      line = line ∙ ap (row (codes "OVERFULL")) one.2;
-    })
+    (omega (arith, one.1), (numbers_takes bytes ns numbers).1 ∙ ap numerals one.2)
+
+overfull-line : (nodes links n : ℕ) → n < 2 ^ 32 → IsLeafLine nodes links (overfull_with n) (row (codes "OVERFULL") (n ∷ []))
+unfolding leaf_line
+overfull-line nodes links n small = record { fits = tt; fields = small; line = refl }
+
+far-line : (nodes links n : ℕ) → n < 2 ^ 32 → IsLeafLine nodes links (far_with n) (row (codes "FAR") (n ∷ []))
+unfolding leaf_line
+far-line nodes links n small = record { fits = tt; fields = small; line = refl }
+
+-- a leaf of a word and a lone number
+lone-line : (nodes links : ℕ) (word : List ℕ) (make : ℕ → Evidence) (body rest : List ℕ) (e : Evidence) → ((n : ℕ) → n < 2 ^ 32 → IsLeafLine nodes links (make n) (row word (n ∷ []))) → behind word body ≡ Some rest
+    → option_map make (lone_number rest) ≡ Some e → IsLeafLine nodes links e body
+lone-line nodes links word make body rest e each first later =
+    let (n, found, is) = map-some (lone_number rest) make e later in
+    let one = lone-takes rest n found in
+    let line : body ≡ row word (n ∷ []) = behind_takes word body rest first ∙ ap (λ bs. word ++ bs) one.1 in
+    subst (λ (x : Evidence). IsLeafLine nodes links x body) is (subst (IsLeafLine nodes links (make n)) (sym line) (each n one.0))
 
 record ArePrices (links : ℕ) (word ps body : List ℕ) : Type 0 where
   count : length ps ≡ links
@@ -277,26 +291,30 @@ routed-takes nodes links body e line same =
     let is : Routed ≡ e = cc in
     subst (λ (x : Evidence). IsLeafLine nodes links x body) is (record { fits = tt; fields = tt; line = line })
 
+abbrev from_far : ℕ → List ℕ → Option Evidence
+from_far links body = choose (behind (codes "FAR") body) (λ rest. option_map far_with (lone_number rest)) (priced_of links body)
+
 abbrev from_cut : ℕ → ℕ → List ℕ → Option Evidence
-from_cut nodes links body = choose (behind (codes "CUT") body) (λ rest. numbers_of rest >>= cut_in nodes) (priced_of links body)
+from_cut nodes links body = choose (behind (codes "CUT") body) (λ rest. numbers_of rest >>= cut_in nodes) (from_far links body)
 
 abbrev from_overfull : ℕ → ℕ → List ℕ → Option Evidence
-from_overfull nodes links body = choose (behind (codes "OVERFULL") body) (λ rest. numbers_of rest >>= overfull_in) (from_cut nodes links body)
+from_overfull nodes links body = choose (behind (codes "OVERFULL") body) (λ rest. option_map overfull_with (lone_number rest)) (from_cut nodes links body)
 
 pub leaf_takes : (nodes links : ℕ) (body : List ℕ) (e : Evidence) → leaf_of nodes links body ≡ Some e → IsLeafLine nodes links e body
 unfolding leaf_of
 leaf_takes nodes links body e h =
     elim (chosen (fixed_of (codes "ROUTED") body) (λ _. Some Routed) (from_overfull nodes links body) e h) [
       | inl (x, first, later) ↦ routed-takes nodes links body e (fixed_takes (codes "ROUTED") body x first) later
-      | inr more ↦ elim (chosen (behind (codes "OVERFULL") body) (λ rest. numbers_of rest >>= overfull_in) (from_cut nodes links body) e more) [
-        | inl (rest, first, later) ↦
-            (let (ns, numbers, found) = then-some (numbers_of rest) overfull_in e later in
-            overfull-takes nodes links ns e found body (behind_takes (codes "OVERFULL") body rest first ∙ ap (λ bs. codes "OVERFULL" ++ bs) (numbers_takes rest ns numbers).1))
-        | inr other ↦ elim (chosen (behind (codes "CUT") body) (λ rest. numbers_of rest >>= cut_in nodes) (priced_of links body) e other) [
+      | inr more ↦ elim (chosen (behind (codes "OVERFULL") body) (λ rest. option_map overfull_with (lone_number rest)) (from_cut nodes links body) e more) [
+        | inl (rest, first, later) ↦ lone-line nodes links (codes "OVERFULL") overfull_with body rest e (overfull-line nodes links) first later
+        | inr other ↦ elim (chosen (behind (codes "CUT") body) (λ rest. numbers_of rest >>= cut_in nodes) (from_far links body) e other) [
           | inl (rest, first, later) ↦
               (let (ns, numbers, found) = then-some (numbers_of rest) (cut_in nodes) e later in
               cut-takes nodes links ns e found body (behind_takes (codes "CUT") body rest first ∙ ap (λ bs. codes "CUT" ++ bs) (numbers_takes rest ns numbers).1))
-          | inr last ↦ priced-takes nodes links body e last
+          | inr further ↦ elim (chosen (behind (codes "FAR") body) (λ rest. option_map far_with (lone_number rest)) (priced_of links body) e further) [
+            | inl (rest, first, later) ↦ lone-line nodes links (codes "FAR") far_with body rest e (far-line nodes links) first later
+            | inr last ↦ priced-takes nodes links body e last
+          ]
         ]
       ]
     ]
@@ -320,9 +338,9 @@ prices-again : (links : ℕ) (ps : List ℕ) → length ps ≡ links → AreSmal
 unfolding prices_of
 prices-again links ps count small = ap (λ o. o >>= λ ns. only_if (length ns == links) ns) (numbers_found ps small) ∙ only_true (length ps == links) ps (eq-eqb (length ps) links count)
 
-overfull-again : (n : ℕ) → n < 2 ^ 32 → (numbers_of (numerals (n ∷ [])) >>= overfull_in) ≡ Some (overfull_with n)
-unfolding overfull_in
-overfull-again n small = ap (λ o. o >>= overfull_in) (numbers_found (n ∷ []) (omega arith, tt)) ∙ ap (option_map overfull_with) (one_again 0 (2 ^ 32 - 1) n (omega arith) (omega arith))
+lone-again : (n : ℕ) → n < 2 ^ 32 → lone_number (numerals (n ∷ [])) ≡ Some n
+unfolding lone_number
+lone-again n small = ap (λ o. o >>= one_in 0 (2 ^ 32 - 1)) (numbers_found (n ∷ []) (omega arith, tt)) ∙ one_again 0 (2 ^ 32 - 1) n (omega arith) (omega arith)
 
 pub cut_small : (nodes d : ℕ) (fs : List Bool) → nodes ≤ MAX_NODES → d < 2 ^ 32 → length fs ≡ nodes → AreSmall (d ∷ counted (members 0 fs))
 cut_small nodes d fs small fits long =
@@ -344,8 +362,9 @@ pub leaf_again : (nodes links : ℕ) (e : Evidence) → nodes ≤ MAX_NODES → 
 unfolding leaf_of priced_of fixed_of behind leaf_line
 leaf_again nodes links (Bound ps) small fits fields = ap (option_map (λ prices. Bound prices)) (prices-again links ps fits fields)
 leaf_again nodes links Routed small fits fields = refl
-leaf_again nodes links (Overfull link) small fits fields = overfull-again link.0 fields
+leaf_again nodes links (Overfull link) small fits fields = ap (option_map overfull_with) (lone-again link.0 fields)
 leaf_again nodes links (Cut demand reached) small fits fields = cut-again nodes demand.0 reached small fields fits
+leaf_again nodes links (Far demand) small fits fields = ap (option_map far_with) (lone-again demand.0 fields)
 leaf_again nodes links (Crowd ps) small fits fields = ap (option_map (λ prices. Crowd prices)) (prices-again links ps fits fields)
 leaf_again nodes links (Open ps) small fits fields = ap (option_map (λ prices. Open prices)) (prices-again links ps fits fields)
 
@@ -356,6 +375,7 @@ no-split (Bound ps) = refl
 no-split Routed = refl
 no-split (Overfull link) = refl
 no-split (Cut demand reached) = refl
+no-split (Far demand) = refl
 no-split (Crowd ps) = refl
 no-split (Open ps) = refl
 

@@ -6,14 +6,14 @@ use Rattle.std.specs.List.{AllByRecursion}
 use Rattle.std.proofs.lemmas.Bool.{leb-true, le-leb}
 use Rattle.plan_base.specs.declared.limits.TheConstants.{MAX_NODES}
 use Rattle.proof_tree.specs.declared.tree.Evidence.{Evidence}
-use Rattle.proof_tree.specs.declared.tree.Evidence.TheVariants.{Bound, Routed, Overfull, Cut, Crowd, Open}
+use Rattle.proof_tree.specs.declared.tree.Evidence.TheVariants.{Bound, Routed, Overfull, Cut, Far, Crowd, Open}
 use Rattle.proof_tree.specs.declared.tree.TreeNode.{TreeNode}
 use Rattle.proof_tree.specs.declared.tree.TreeNode.TheVariants.{Split, Leaf}
 use Rattle.proof_tree.specs.Spellings.{FitsEvidence, FitsRecord}
 use Rattle.cert_format.specs.declared.limits.TheConstants.{MAX_LISTS}
 use Rattle.cert_format.specs.declared.form.Form.{Form}
 use Rattle.cert_format.specs.declared.form.Form.TheVariants.{First, Second}
-use Rattle.cert_format.specs.Lists.{number_in, shown, width, named_behind, IsNext, Names, AreNamed, AreNew, listed, priced, resolved}
+use Rattle.cert_format.specs.Lists.{number_in, has_first_line, shown, width, named_behind, IsNext, Names, AreNamed, AreNew, listed, priced, resolved}
 use Rattle.plan_words.specs.Words.{◌>>=◌}
 use Rattle.cert_format.specs.Grammar.{record_line, HasLeafFields, HasRecordFields}
 use Rattle.cert_format.specs.Bodies.{record_of, record_in}
@@ -68,6 +68,7 @@ leaf-takes lists named nodes places (Bound ns) e new h fits fields =
 leaf-takes lists named nodes places Routed e new h fits fields = (let is : Routed ≡ e = cc in subst (λ (x : Evidence). IsShownAs Second lists named nodes places (Leaf x) (Leaf Routed)) is (record { fits = tt; fields = tt; names = tt; is_shown = refl }))
 leaf-takes lists named nodes places (Overfull link) e new h fits fields = (let is : Overfull link ≡ e = cc in subst (λ (x : Evidence). IsShownAs Second lists named nodes places (Leaf x) (Leaf (Overfull link))) is (record { fits = tt; fields = fields; names = tt; is_shown = refl }))
 leaf-takes lists named nodes places (Cut demand reached) e new h fits fields = (let is : Cut demand reached ≡ e = cc in subst (λ (x : Evidence). IsShownAs Second lists named nodes places (Leaf x) (Leaf (Cut demand reached))) is (record { fits = fits; fields = fields; names = tt; is_shown = refl }))
+leaf-takes lists named nodes places (Far demand) e new h fits fields = (let is : Far demand ≡ e = cc in subst (λ (x : Evidence). IsShownAs Second lists named nodes places (Leaf x) (Leaf (Far demand))) is (record { fits = tt; fields = fields; names = tt; is_shown = refl }))
 leaf-takes lists named nodes places (Crowd ns) e new h fits fields =
     let (ps, found, is) = map-some (listed lists named ns) (λ prices. Crowd prices) e h in
     let p = listed-takes places lists named ns ps new found in
@@ -80,8 +81,9 @@ leaf-takes lists named nodes places (Open ns) e new h fits fields =
 shown-takes : (form : Form) (lists : List (List ℕ)) (named nodes places : ℕ) (raw node : TreeNode) → AreGood form places lists → resolved form lists named raw ≡ Some node → FitsRecord nodes (width form places) raw → HasRecordFields raw → IsShownAs form lists named nodes places node raw
 unfolding resolved
 shown-takes First lists named nodes places raw node good e fits fields =
+    let (test, same) = when_some (has_first_line raw) (Some raw) node e in
     let is : raw ≡ node = cc in
-    subst (λ (x : TreeNode). IsShownAs First lists named nodes places x raw) is (record { fits = fits; fields = fields; names = tt; is_shown = refl })
+    subst (λ (x : TreeNode). IsShownAs First lists named nodes places x raw) is (record { fits = fits; fields = fields; names = test; is_shown = refl })
 shown-takes Second lists named nodes places (Split demand at left right) node good e fits fields =
     let is : Split demand at left right ≡ node = cc in
     subst (λ (x : TreeNode). IsShownAs Second lists named nodes places x (Split demand at left right)) is (record { fits = fits; fields = fields; names = tt; is_shown = refl })
@@ -115,12 +117,13 @@ number-small lists named ps few next = (omega (arith, few, next.listed), tt)
 
 pub shown_well : (form : Form) (lists : List (List ℕ)) (named nodes places : ℕ) (node : TreeNode) → AreGood form places lists → FitsRecord nodes places node → HasRecordFields node → Names form lists named node → IsShownWell form lists named nodes places node
 unfolding resolved
-shown_well First lists named nodes places node good fits fields names = record { fits = fits; fields = fields; is_read = refl }
+shown_well First lists named nodes places node good fits fields names = record { fits = fits; fields = fields; is_read = ap (λ t. cond t (Some node) None) names }
 shown_well Second lists named nodes places (Split demand at left right) good fits fields names = record { fits = fits; fields = fields; is_read = refl }
 shown_well Second lists named nodes places (Leaf (Bound ps)) good fits fields names = record { fits = refl; fields = number-small lists named ps good.0 names; is_read = ap (λ o. option_map (λ (x : Evidence). Leaf x) (option_map (λ prices. Bound prices) o)) (listed-again lists named ps names) }
 shown_well Second lists named nodes places (Leaf Routed) good fits fields names = record { fits = tt; fields = tt; is_read = refl }
 shown_well Second lists named nodes places (Leaf (Overfull link)) good fits fields names = record { fits = tt; fields = fields; is_read = refl }
 shown_well Second lists named nodes places (Leaf (Cut demand reached)) good fits fields names = record { fits = fits; fields = fields; is_read = refl }
+shown_well Second lists named nodes places (Leaf (Far demand)) good fits fields names = record { fits = tt; fields = fields; is_read = refl }
 shown_well Second lists named nodes places (Leaf (Crowd ps)) good fits fields names = record { fits = refl; fields = number-small lists named ps good.0 names; is_read = ap (λ o. option_map (λ (x : Evidence). Leaf x) (option_map (λ prices. Crowd prices) o)) (listed-again lists named ps names) }
 shown_well Second lists named nodes places (Leaf (Open ps)) good fits fields names = record { fits = refl; fields = number-small lists named ps good.0 names; is_read = ap (λ o. option_map (λ (x : Evidence). Leaf x) (option_map (λ prices. Open prices) o)) (listed-again lists named ps names) }
 

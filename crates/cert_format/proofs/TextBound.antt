@@ -12,7 +12,7 @@ use Rattle.plan_base.specs.declared.path.Design.{Design}
 use Rattle.plan_base.specs.declared.limits.TheConstants.{MAX_NODES, MAX_LINKS, MAX_DEMANDS, MAX_MODULES}
 use Rattle.proof_tree.specs.declared.limits.TheConstants.{MAX_RECORDS, MAX_PATH_ARCS, MAX_SIDE_ARCS}
 use Rattle.proof_tree.specs.declared.tree.Evidence.{Evidence}
-use Rattle.proof_tree.specs.declared.tree.Evidence.TheVariants.{Bound, Routed, Overfull, Cut, Crowd, Open}
+use Rattle.proof_tree.specs.declared.tree.Evidence.TheVariants.{Bound, Routed, Overfull, Cut, Far, Crowd, Open}
 use Rattle.proof_tree.specs.declared.tree.TreeNode.{TreeNode}
 use Rattle.proof_tree.specs.declared.tree.TreeNode.TheVariants.{Split, Leaf}
 use Rattle.proof_tree.specs.declared.plan.PlanStatus.{PlanStatus}
@@ -251,6 +251,7 @@ leaf-most nodes (Cut demand reached) few h k =
     let small : demand.0 < 2 ^ 32 = k in
     let some : length (members 0 reached) ≤ 512 = omega (arith, few, long, members_few 0 reached) in
     omega (arith, row-ids (codes "CUT") (demand.0 ∷ counted (members 0 reached)) 514 (omega arith) (omega (arith, some)) (omega (arith, small), (omega (arith, some), members-ids 0 nodes reached (omega (arith, long)) (omega (arith, few)))))
+leaf-most nodes (Far demand) few h k = omega (arith, number-most (codes "FAR") demand.0 (omega arith) (omega (arith, k)))
 leaf-most nodes (Crowd ps) few h k = priced-most (codes "CROWD") ps (omega arith) h k
 leaf-most nodes (Open ps) few h k = priced-most (codes "OPEN") ps (omega arith) h k
 
@@ -286,7 +287,7 @@ text_within plan s f =
     let n : List (List ℕ) = map (λ node. record_line (shown Second lists node)) plan.tree in
     let t : List ℕ = number_line (codes "TREE") (length plan.tree) in
     let fit = pair_of (FitsRecord plan.nodes places) HasRecordFields plan.tree (recursion_from_All (FitsRecord plan.nodes places) plan.tree s.records.each) f.record_fields in
-    let each = shown_all Second lists 0 plan.nodes places plan.tree (few, r.listed.2) fit r.named in
+    let each = shown_all Second lists 0 plan.nodes places plan.tree (few, r.listed.2) fit (r.named tt) in
     let all : length (plan_text Second plan) ≡ bytes_of ((h ++ (d ++ (b ++ p))) ++ ((t ∷ n) ++ end_line ∷ [])) = text-bytes ((h ++ (d ++ (b ++ p))) ++ ((t ∷ n) ++ end_line ∷ [])) in
     let whole_tree : are_trees 1 plan.tree ≡ true = s.whole in
     let most : length plan.tree ≤ MAX_RECORDS = s.records.few in

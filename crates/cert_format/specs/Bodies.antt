@@ -6,7 +6,7 @@ use Rattle.plan_base.specs.declared.ids.ArcId.{ArcId}
 use Rattle.plan_base.specs.declared.limits.TheConstants.{MAX_NODES, MAX_LINKS, MAX_DEMANDS, MAX_MODULES}
 use Rattle.proof_tree.specs.declared.limits.TheConstants.{MAX_PATH_ARCS, MAX_SIDE_ARCS}
 use Rattle.proof_tree.specs.declared.tree.Evidence.{Evidence}
-use Rattle.proof_tree.specs.declared.tree.Evidence.TheVariants.{Bound, Routed, Overfull, Cut, Crowd, Open}
+use Rattle.proof_tree.specs.declared.tree.Evidence.TheVariants.{Bound, Routed, Overfull, Cut, Far, Crowd, Open}
 use Rattle.proof_tree.specs.declared.tree.TreeNode.{TreeNode}
 use Rattle.proof_tree.specs.declared.tree.TreeNode.TheVariants.{Split, Leaf}
 use Rattle.proof_tree.specs.declared.plan.PlanStatus.{PlanStatus}
@@ -207,9 +207,13 @@ cut_in nodes [] = None
 cut_in nodes (demand ∷ ns) = if nat_lt demand (2 ^ 32)
     then option_map (cut_with demand) (uncounted nodes ns >>= flags_of 0 nodes) else None
 
--- the number of an overfull link
-unfoldable pub overfull_in : List ℕ → Option Evidence
-overfull_in ns = option_map overfull_with (one_in 0 (2 ^ 32 - 1) ns)
+-- a demand of this number that is far
+abbrev pub far_with : ℕ → Evidence
+far_with demand = Far (record { 0 = demand })
+
+-- one number of a link or a demand, and no other
+unfoldable pub lone_number : List ℕ → Option ℕ
+lone_number bytes = numbers_of bytes >>= one_in 0 (2 ^ 32 - 1)
 
 -- so many numbers
 unfoldable pub prices_of : ℕ → List ℕ → Option (List ℕ)
@@ -226,9 +230,10 @@ priced_of count body =
 unfoldable pub leaf_of : ℕ → ℕ → List ℕ → Option Evidence
 leaf_of nodes count body =
     choose (fixed_of (codes "ROUTED") body) (λ _. Some Routed)
-    (choose (behind (codes "OVERFULL") body) (λ rest. numbers_of rest >>= overfull_in)
+    (choose (behind (codes "OVERFULL") body) (λ rest. option_map overfull_with (lone_number rest))
     (choose (behind (codes "CUT") body) (λ rest. numbers_of rest >>= cut_in nodes)
-    (priced_of count body)))
+    (choose (behind (codes "FAR") body) (λ rest. option_map far_with (lone_number rest))
+    (priced_of count body))))
 
 -- a record, where so many numbers stand for prices
 unfoldable pub record_of : ℕ → ℕ → List ℕ → Option TreeNode

@@ -1,10 +1,10 @@
 -- The text of a plan, line by line.
-use Rattle.std.specs.Prelude.{ℕ, suc, ◌≡◌, ◌<◌, ◌^◌, Bool, true, false, List, [], ◌∷◌, ◌++◌, length, map, codes, ⊤, Option, Some, None, IfSome, ℤ, pos, negsuc}
+use Rattle.std.specs.Prelude.{ℕ, suc, ◌≡◌, ◌<◌, ◌^◌, Bool, true, false, List, [], ◌∷◌, ◌++◌, length, map, codes, ⊤, IsTrue, Option, Some, None, IfSome, ℤ, pos, negsuc}
 use Rattle.std.specs.List.{AllByRecursion}
 use Rattle.plan_base.specs.declared.ids.ArcId.{ArcId}
 use Rattle.plan_base.specs.declared.path.Design.{Design}
 use Rattle.proof_tree.specs.declared.tree.Evidence.{Evidence}
-use Rattle.proof_tree.specs.declared.tree.Evidence.TheVariants.{Bound, Routed, Overfull, Cut, Crowd, Open}
+use Rattle.proof_tree.specs.declared.tree.Evidence.TheVariants.{Bound, Routed, Overfull, Cut, Far, Crowd, Open}
 use Rattle.proof_tree.specs.declared.tree.TreeNode.{TreeNode}
 use Rattle.proof_tree.specs.declared.tree.TreeNode.TheVariants.{Split, Leaf}
 use Rattle.proof_tree.specs.declared.plan.PlanStatus.{PlanStatus}
@@ -16,7 +16,7 @@ use Rattle.cert_format.specs.declared.form.Form.{Form}
 use Rattle.cert_format.specs.declared.form.Form.TheVariants.{First, Second}
 use Rattle.plan_words.specs.Lines.{whole, text_of}
 use Rattle.plan_words.specs.Words.{row}
-use Rattle.cert_format.specs.Lists.{lists_in, shown}
+use Rattle.cert_format.specs.Lists.{has_first_line, lists_in, shown}
 
 -- the first line
 abbrev pub header_line : Form → List ℕ
@@ -90,6 +90,7 @@ leaf_line (Bound prices) = row (codes "PRICED") prices
 leaf_line Routed = codes "ROUTED"
 leaf_line (Overfull link) = number_line (codes "OVERFULL") link.0
 leaf_line (Cut demand reached) = row (codes "CUT") (demand.0 ∷ counted (members 0 reached))
+leaf_line (Far demand) = number_line (codes "FAR") demand.0
 leaf_line (Crowd prices) = row (codes "CROWD") prices
 leaf_line (Open prices) = row (codes "OPEN") prices
 
@@ -152,6 +153,11 @@ abbrev pub CanTell : Form → Bool → Type 0
 CanTell First both = both ≡ false
 CanTell Second both = ⊤
 
+-- the version has a line for each record
+abbrev pub HasLines : Form → List TreeNode → Type 0
+HasLines First nodes = AllByRecursion (λ node. IsTrue (has_first_line node)) nodes
+HasLines Second nodes = ⊤
+
 -- ---- the numbers of a plan, within their fields
 
 -- numbers of so many bits
@@ -168,6 +174,7 @@ HasLeafFields (Bound prices) = AreWithin 128 prices
 HasLeafFields Routed = ⊤
 HasLeafFields (Overfull link) = link.0 < 2 ^ 32
 HasLeafFields (Cut demand reached) = demand.0 < 2 ^ 32
+HasLeafFields (Far demand) = demand.0 < 2 ^ 32
 HasLeafFields (Crowd prices) = AreWithin 128 prices
 HasLeafFields (Open prices) = AreWithin 128 prices
 
@@ -200,4 +207,5 @@ pub record SpellsPlan (text : List ℕ) (plan : Plan) : Type 0 where
   pub fields : HasFields plan
   pub form : Form
   pub told : CanTell form plan.both
+  pub lines : HasLines form plan.tree
   pub is_text : text ≡ plan_text form plan

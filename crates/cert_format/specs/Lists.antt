@@ -1,10 +1,10 @@
 -- Price lists of a plan text: the lists of a tree, their numbers, and records that name lists by number.
-use Rattle.std.specs.Prelude.{ℕ, suc, ◌≡◌, ◌<◌, ◌≤◌, ◌^◌, nat_le, nat_eq, Bool, false, if◌then◌else◌, List, [], ◌∷◌, ◌++◌, length, ⊤, Option, Some, None, IfSome, slice_get, position}
+use Rattle.std.specs.Prelude.{ℕ, suc, ◌≡◌, ◌<◌, ◌≤◌, ◌^◌, nat_le, nat_eq, Bool, true, false, if◌then◌else◌, IsTrue, List, [], ◌∷◌, ◌++◌, length, ⊤, Option, Some, None, IfSome, slice_get, position}
 use Rattle.std.specs.List.{list_any, position_or_len, AllByRecursion}
 use Rattle.std.specs.Option.{option_map}
 use Rattle.std.specs.Cmp.Lexicographic.{pointwise}
 use Rattle.proof_tree.specs.declared.tree.Evidence.{Evidence}
-use Rattle.proof_tree.specs.declared.tree.Evidence.TheVariants.{Bound, Routed, Overfull, Cut, Crowd, Open}
+use Rattle.proof_tree.specs.declared.tree.Evidence.TheVariants.{Bound, Routed, Overfull, Cut, Far, Crowd, Open}
 use Rattle.proof_tree.specs.declared.tree.TreeNode.{TreeNode}
 use Rattle.proof_tree.specs.declared.tree.TreeNode.TheVariants.{Split, Leaf}
 use Rattle.cert_format.specs.declared.form.Form.{Form}
@@ -34,6 +34,7 @@ prices_in (Bound prices) = Some prices
 prices_in Routed = None
 prices_in (Overfull link) = None
 prices_in (Cut demand reached) = None
+prices_in (Far demand) = None
 prices_in (Crowd prices) = Some prices
 prices_in (Open prices) = Some prices
 
@@ -69,6 +70,7 @@ numbered lists (Bound prices) = Bound (number_in lists prices ∷ [])
 numbered lists Routed = Routed
 numbered lists (Overfull link) = Overfull link
 numbered lists (Cut demand reached) = Cut demand reached
+numbered lists (Far demand) = Far demand
 numbered lists (Crowd prices) = Crowd (number_in lists prices ∷ [])
 numbered lists (Open prices) = Open (number_in lists prices ∷ [])
 
@@ -108,9 +110,14 @@ pub record IsNext (lists : List (List ℕ)) (named : ℕ) (prices : List ℕ) : 
   pub listed : number_in lists prices < length lists
   pub in_order : number_in lists prices ≤ named
 
+-- the first version has a line for the record: it has none for a leaf where a demand is far
+abbrev pub has_first_line : TreeNode → Bool
+has_first_line (Leaf (Far demand)) = false
+has_first_line _ = true
+
 -- the record can stand where so many lists are named before it
 abbrev pub Names : Form → List (List ℕ) → ℕ → TreeNode → Type 0
-Names First lists named node = ⊤
+Names First lists named node = IsTrue (has_first_line node)
 Names Second lists named node = IfSome (prices_at node) (IsNext lists named)
 
 -- each record names a list that is named already, or the next one, where so many are named before them
@@ -137,11 +144,12 @@ priced lists named (Bound ns) = option_map (λ prices. Bound prices) (listed lis
 priced lists named Routed = Some Routed
 priced lists named (Overfull link) = Some (Overfull link)
 priced lists named (Cut demand reached) = Some (Cut demand reached)
+priced lists named (Far demand) = Some (Far demand)
 priced lists named (Crowd ns) = option_map (λ prices. Crowd prices) (listed lists named ns)
 priced lists named (Open ns) = option_map (λ prices. Open prices) (listed lists named ns)
 
 -- the record that is shown so
 unfoldable pub resolved : Form → List (List ℕ) → ℕ → TreeNode → Option TreeNode
-resolved First lists named node = Some node
+resolved First lists named node = if has_first_line node then Some node else None
 resolved Second lists named (Split demand at left right) = Some (Split demand at left right)
 resolved Second lists named (Leaf evidence) = option_map (λ found. Leaf found) (priced lists named evidence)

@@ -1,8 +1,8 @@
 //! What the line of a leaf is read as, without its line end.
 
-ghost use Rattle.std.specs.Prelude.{◌≡◌, Some, None, IfOk, option_and_then};
+ghost use Rattle.std.specs.Prelude.{◌≡◌, Some, None, IfOk, option_and_then, option_map};
 ghost use Rattle.plan_words.specs.Words.{numbers_of};
-ghost use Rattle.cert_format.specs.Bodies.{behind_number, flags_of, cut_in, prices_of, priced_of, overfull_in, leaf_of};
+ghost use Rattle.cert_format.specs.Bodies.{behind_number, flags_of, cut_in, prices_of, priced_of, overfull_with, far_with, lone_number, leaf_of};
 ghost use Rattle.plan_words.specs.Cuts.{found_now, items_of};
 
 use crate::bodies::{fixed, one_in, uncounted};
@@ -112,16 +112,35 @@ fn cut(alloc: Global, nodes: u32, bytes: &[u8]) -> Result<Option<Evidence>, Allo
     }
 }
 
-/// An overfull link, behind the word.
-#[tactic(auto, unfolding(crate::specs::Bodies::overfull_in))]
-fn overfull(alloc: Global, bytes: &[u8]) -> Result<Option<Evidence>, AllocError>
-    ensures { IfOk result (λ found. found ≡ option_and_then (overfull_in) (numbers_of bytes.now)) }
+/// One number of a link or a demand, and no other.
+#[tactic(auto, unfolding(crate::specs::Bodies::lone_number))]
+fn lone_number(alloc: Global, bytes: &[u8]) -> Result<Option<u32>, AllocError>
+    ensures { IfOk result (λ found. found ≡ lone_number bytes.now) }
 {
     match numbers(alloc, bytes)? {
-        Some(numbers) => match one_in(0, u32::MAX, numbers.as_slice()) {
-            Some(link) => Ok(Some(Evidence::Overfull { link: LinkId(link) })),
-            None => Ok(None),
-        },
+        Some(numbers) => Ok(one_in(0, u32::MAX, numbers.as_slice())),
+        None => Ok(None),
+    }
+}
+
+/// An overfull link, behind the word.
+fn overfull(alloc: Global, bytes: &[u8]) -> Result<Option<Evidence>, AllocError>
+    ensures { IfOk result (λ found. found ≡ option_map overfull_with (lone_number bytes.now)) }
+{
+    match lone_number(alloc, bytes)? {
+        Some(link) => Ok(Some(Evidence::Overfull { link: LinkId(link) })),
+        None => Ok(None),
+    }
+}
+
+/// A demand that is far, behind the word.
+fn far(alloc: Global, bytes: &[u8]) -> Result<Option<Evidence>, AllocError>
+    ensures { IfOk result (λ found. found ≡ option_map far_with (lone_number bytes.now)) }
+{
+    match lone_number(alloc, bytes)? {
+        Some(demand) => Ok(Some(Evidence::Far {
+            demand: DemandId(demand),
+        })),
         None => Ok(None),
     }
 }
@@ -144,6 +163,9 @@ pub(crate) fn leaf(
     }
     if let Some(rest) = behind(b"CUT", body) {
         return cut(alloc, nodes, rest);
+    }
+    if let Some(rest) = behind(b"FAR", body) {
+        return far(alloc, rest);
     }
     priced(alloc, count, body)
 }

@@ -7,7 +7,7 @@ ghost use Rattle.cert_format.specs.declared.fault.PlanFault.TheVariants.{OutOfMe
 ghost use Rattle.cert_format.specs.declared.limits.TheConstants.{MAX_PLAN_BYTES};
 ghost use Rattle.cert_format.specs.declared.form.Form.TheVariants.{First, Second};
 ghost use Rattle.proof_tree.specs.Spellings.{IsSpellable};
-ghost use Rattle.cert_format.specs.Grammar.{plan_text, HasFields, SpellsPlan};
+ghost use Rattle.cert_format.specs.Grammar.{plan_text, HasLines, HasFields, SpellsPlan};
 ghost use Rattle.cert_format.specs.Faults.{IsFault};
 
 /// No text spells two plans.
@@ -20,10 +20,11 @@ pub fn one_text_for_a_plan()
     ensures { (one other : List ℕ) (plan : AnyPlan) (s : SpellsPlan one plan) (t : SpellsPlan other plan) → s.form ≡ t.form → one ≡ other }
 {}
 
-/// A plan that fits has a text of the second version, and one of the first where no link has two prices.
+/// A plan that fits has a text of the second version, and one of the first where no link has two prices and no leaf has a
+/// demand that is far.
 pub fn a_text_for_a_plan()
     ensures second { (plan : AnyPlan) → IsSpellable plan → HasFields plan → SpellsPlan (plan_text Second plan) plan }
-    ensures first { (plan : AnyPlan) → IsSpellable plan → HasFields plan → plan.both ≡ false → SpellsPlan (plan_text First plan) plan }
+    ensures first { (plan : AnyPlan) → IsSpellable plan → HasFields plan → plan.both ≡ false → HasLines First plan.tree → SpellsPlan (plan_text First plan) plan }
 {}
 
 /// A text that spells a plan has no fault; want of memory may be told of any text.

@@ -1,8 +1,8 @@
 //! Records with prices, and with the numbers of price lists in their place.
 
-ghost use Rattle.std.specs.Prelude.{◌≡◌, ◌≤◌, ◌<◌, ◌+◌, ◌^◌, nat_eq, IfOk};
+ghost use Rattle.std.specs.Prelude.{if◌then◌else◌, ◌≡◌, ◌≤◌, ◌<◌, ◌+◌, ◌^◌, nat_eq, IfOk};
 ghost use Rattle.std.specs.Cmp.Lexicographic.{pointwise};
-ghost use Rattle.cert_format.specs.Lists.{prices_in, prices_at, lists_of, named_by, named_behind, listed, priced, resolved};
+ghost use Rattle.cert_format.specs.Lists.{prices_in, prices_at, lists_of, named_by, named_behind, has_first_line, listed, priced, resolved};
 ghost use Rattle.plan_words.specs.Cuts.{found_now};
 
 use crate::form::Form;
@@ -28,7 +28,10 @@ fn prices_in(evidence: &Evidence) -> Option<&[u128]>
         Evidence::Bound(prices) | Evidence::Crowd(prices) | Evidence::Open(prices) => {
             Some(prices.as_slice())
         }
-        Evidence::Routed | Evidence::Overfull { .. } | Evidence::Cut { .. } => None,
+        Evidence::Routed
+        | Evidence::Overfull { .. }
+        | Evidence::Cut { .. }
+        | Evidence::Far { .. } => None,
     }
 }
 
@@ -134,7 +137,28 @@ fn priced(
         Evidence::Open(prices) => {
             Ok(listed(alloc, lists, named, prices.as_slice())?.map(Evidence::Open))
         }
-        Evidence::Routed | Evidence::Overfull { .. } | Evidence::Cut { .. } => Ok(Some(evidence)),
+        Evidence::Routed
+        | Evidence::Overfull { .. }
+        | Evidence::Cut { .. }
+        | Evidence::Far { .. } => Ok(Some(evidence)),
+    }
+}
+
+/// Whether the first version has a line for the record: it has none for a leaf where a demand is far.
+fn has_first_line(node: &TreeNode) -> bool
+    ensures { result ≡ has_first_line node.now }
+{
+    !matches!(node, TreeNode::Leaf(Evidence::Far { .. }))
+}
+
+/// The record of the first version that is shown so, where that version has a line for it.
+fn first_record(node: TreeNode) -> Option<TreeNode>
+    ensures { result ≡ if has_first_line node then Some node else None }
+{
+    if has_first_line(&node) {
+        Some(node)
+    } else {
+        None
     }
 }
 
@@ -149,7 +173,7 @@ pub(crate) fn resolve(
     ensures { IfOk result (λ found. found ≡ resolved ground.now.form ground.now.lists named node) }
 {
     match ground.form {
-        Form::First => Ok(Some(node)),
+        Form::First => Ok(first_record(node)),
         Form::Second => match node {
             TreeNode::Split { .. } => Ok(Some(node)),
             TreeNode::Leaf(evidence) => {

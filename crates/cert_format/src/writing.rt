@@ -352,6 +352,7 @@ fn push_leaf(
         Evidence::Routed => push_fixed(b"ROUTED", out),
         Evidence::Overfull { link } => push_number_row(b"OVERFULL", link.0, out),
         Evidence::Cut { demand, reached } => push_cut(alloc, demand.0, reached.as_slice(), out),
+        Evidence::Far { demand } => push_number_row(b"FAR", demand.0, out),
         Evidence::Crowd(prices) => push_number_of(b"CROWD", lists, prices.as_slice(), out),
         Evidence::Open(prices) => push_number_of(b"OPEN", lists, prices.as_slice(), out),
     }
