@@ -1,11 +1,11 @@
 -- Each arc has one weight, since a link has a step cost up to the top load, and one alone.
-use Rattle.std.proofs.Common.{◌≡◌, ℕ, zero, suc, ◌+◌, ◌*◌, ◌<◌, ◌≤◌, ◌⊎◌, inl, inr, min, Bool, true, false, if◌then◌else◌, [], ◌∷◌, length, slice_index_or, Option, Some, None, refl, sym, ap, ◌∙◌, arith, length-append}
+use Rattle.std.proofs.Common.{◌≡◌, ℕ, zero, suc, ◌+◌, ◌*◌, ◌<◌, ◌≤◌, ◌⊎◌, inl, inr, [], ◌∷◌, length, slice_index_or, Option, Some, None, refl, sym, ap, ◌∙◌, arith, length-append}
 use Rattle.std.proofs.lemmas.List.{get_or_append_left, get_or_push}
-use Rattle.plan_base.specs.declared.parts.Link.{Link}
 use Rattle.plan_base.specs.declared.parts.Parts.{Parts}
 use Rattle.plan_base.specs.Arcs.{link_at}
-use Rattle.plan_base.specs.Facts.{total_load, top_load, is_useful}
+use Rattle.plan_base.specs.Facts.{top_load}
 use Rattle.plan_base.specs.Places.{link_of_place, there_of, back_of}
+use Rattle.plan_base.proofs.TopLoads.{top-le}
 use Rattle.link_steps.proofs.Order.{either_way, before_or_last}
 use Rattle.link_steps.proofs.Carrying.{carried-le-top, top-can_carry}
 use Rattle.link_steps.proofs.LeastCosts.{least_cost-exists}
@@ -13,13 +13,6 @@ use Rattle.link_steps.proofs.Reached.{least-unique}
 use Rattle.demand_routing.specs.Traffic.{with_more, larger_of, IsTooMuch, IsCostOf, IsRise, IsAddedCost, span_of, halved, IsShared, IsAlone, IsFarCost}
 use Rattle.demand_routing.specs.Weighed.{module_cost_by, with_routing, cost_at, rise_of, added_cost, far_of, far_cost, listed}
 use Rattle.demand_routing.proofs.Rises.{larger-le}
-
-top-le-total : (p : Parts) (l : Link) → top_load p l ≤ total_load p
-top-le-total p l = by_cases (is_useful l) (total_load p) l.pre
-  where
-    by_cases : (b : Bool) (total pre : ℕ) → (if b then total else min total pre) ≤ total
-    by_cases true total pre = omega arith
-    by_cases false total pre = omega arith
 
 -- the step cost of a link, or that its top load is less than it carries
 abbrev IsFoundCost : Parts → (ℕ → ℕ) → ℕ → Option ℕ → Type 0
@@ -50,7 +43,7 @@ rise-found p f q load (Some after) None now high = absurd (omega (arith, now.0, 
 rise-found p f q load (Some after) (Some before) now old = record {
   before = before;
   after = after;
-  within = omega (arith, now.0, top-le-total p (link_at p (link_of_place p q)));
+  within = omega (arith, now.0, top-le p (link_at p (link_of_place p q)));
   costs_before = old.1;
   costs_after = now.1;
   is_rise = refl;
@@ -93,6 +86,10 @@ far-told : (p : Parts) (f : ℕ → ℕ) (q load far : ℕ) (weight : Option ℕ
 unfolding IsFarCost
 far-told p f q load far (Some weight) is = is
 far-told p f q load far None is = is
+
+-- none where the load is too much for the arc's link
+pub far-none : (p : Parts) (f : ℕ → ℕ) (q load far : ℕ) → IsTooMuch p (with_more f q load) (link_of_place p q) → IsFarCost p f q load far None
+far-none p f q load far too_much = far-told p f q load far None too_much
 
 -- what an arc weighs where far more load is looked at too
 pub far-is : (p : Parts) (f : ℕ → ℕ) (q load far : ℕ) → IsFarCost p f q load far (far_cost p f q load far)

@@ -3,4 +3,5 @@ pub mod ReroutingLaws
 pub mod TrafficLaws
 pub mod RoutingLaws
 pub mod AddedCosts
+pub mod KeptLaws
 pub mod WeighedLaws

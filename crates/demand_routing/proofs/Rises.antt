@@ -37,7 +37,7 @@ more-within p f q load within =
 pub too_much-more : (p : Parts) (f : ℕ → ℕ) (q load e : ℕ) → IsTooMuch p f e → IsTooMuch p (with_more f q load) e
 too_much-more p f q load e h within counts carries =
     let le = larger-le p f q load e in
-    h (omega arith) counts (record { count = carries.count; enough = omega (arith, carries.enough) })
+    h (omega arith) counts (record { count = carries.count; enough = omega (arith, carries.enough); lawful = carries.lawful })
 
 -- loads up to a greatest number, which is above the total load
 pub too_much-cut : (p : Parts) (g : ℕ → ℕ) (e there back most : ℕ) → total_load p < most → there ≡ min (there_of p g e) most → back ≡ min (back_of p g e) most

@@ -3,10 +3,12 @@ use Rattle.std.proofs.Common.{◌≡◌, ℕ, ◌*◌, ◌<◌, List, length, sl
 use Rattle.plan_base.specs.declared.ids.ArcId.{ArcId}
 use Rattle.plan_base.specs.declared.parts.Demand.{Demand}
 use Rattle.plan_base.specs.declared.parts.Parts.{Parts}
-use Rattle.least_path.specs.Paths.{IsLeastPath, HasNoUsablePath}
+use Rattle.plan_base.specs.Paths.{IsSimplePath}
+use Rattle.demand_routing.specs.Kept.{IsLeastKept, HasNoneKept}
 use Rattle.demand_routing.specs.Traffic.{place_at, IsAddedCost, IsFarCost}
 use Rattle.demand_routing.specs.Weighed.{added_cost, far_cost, added_costs, far_costs}
 use Rattle.demand_routing.specs.Routings.{IsCheapestWay, HasNoWay, IsLeastWay, HasNoFarWay}
+use Rattle.demand_routing.proofs.KeptLaws.{kept_simple}
 use Rattle.demand_routing.proofs.AddedCosts.{added-is, far-is, listed-at, listed-length}
 
 pub added_count : (p : Parts) (loads : List ℕ) (load : ℕ) → length (added_costs p loads load) ≡ 2 * length p.links
@@ -31,14 +33,20 @@ far-at p loads load far n below =
     (sym (listed-at (λ (k : ℕ). far_cost p (slice_index loads) (place_at p k) load far) (2 * length p.links) n below))
     (far-is p (slice_index loads) (place_at p n) load far)
 
-pub cheapest_way : (p : Parts) (loads : List ℕ) (k : Demand) (arcs : List ArcId) (rise : ℕ) → IsLeastPath p (added_costs p loads k.load) k.source k.target arcs rise → IsCheapestWay p loads k arcs rise
+pub cheapest_way : (p : Parts) (loads : List ℕ) (k : Demand) (arcs : List ArcId) (rise : ℕ) → IsLeastKept p (added_costs p loads k.load) k arcs rise → IsCheapestWay p loads k arcs rise
 cheapest_way p loads k arcs rise least = record { weights = added_costs p loads k.load; added = λ n within below. added-at p loads k.load n within; least = least }
 
-pub no_way : (p : Parts) (loads : List ℕ) (k : Demand) → HasNoUsablePath p (added_costs p loads k.load) k.source k.target → HasNoWay p loads k
+pub no_way : (p : Parts) (loads : List ℕ) (k : Demand) → HasNoneKept p (added_costs p loads k.load) k → HasNoWay p loads k
 no_way p loads k none = record { weights = added_costs p loads k.load; added = λ n within below. added-at p loads k.load n within; none = none }
 
-pub least_way : (p : Parts) (loads : List ℕ) (k : Demand) (far : ℕ) (arcs : List ArcId) (weight : ℕ) → IsLeastPath p (far_costs p loads k.load far) k.source k.target arcs weight → IsLeastWay p loads k far arcs weight
+pub least_way : (p : Parts) (loads : List ℕ) (k : Demand) (far : ℕ) (arcs : List ArcId) (weight : ℕ) → IsLeastKept p (far_costs p loads k.load far) k arcs weight → IsLeastWay p loads k far arcs weight
 least_way p loads k far arcs weight least = record { weights = far_costs p loads k.load far; far_costs = λ n within below. far-at p loads k.load far n within; least = least }
 
-pub no_far_way : (p : Parts) (loads : List ℕ) (k : Demand) (far : ℕ) → HasNoUsablePath p (far_costs p loads k.load far) k.source k.target → HasNoFarWay p loads k far
+pub no_far_way : (p : Parts) (loads : List ℕ) (k : Demand) (far : ℕ) → HasNoneKept p (far_costs p loads k.load far) k → HasNoFarWay p loads k far
 no_far_way p loads k far none = record { weights = far_costs p loads k.load far; far_costs = λ n within below. far-at p loads k.load far n within; none = none }
+
+pub cheapest_simple : (p : Parts) (loads : List ℕ) (k : Demand) (arcs : List ArcId) (rise : ℕ) → IsCheapestWay p loads k arcs rise → IsSimplePath p k arcs
+cheapest_simple p loads k arcs rise way = kept_simple p way.weights k arcs rise way.least
+
+pub least_way_simple : (p : Parts) (loads : List ℕ) (k : Demand) (far : ℕ) (arcs : List ArcId) (weight : ℕ) → IsLeastWay p loads k far arcs weight → IsSimplePath p k arcs
+least_way_simple p loads k far arcs weight way = kept_simple p way.weights k arcs weight way.least

@@ -1,3 +1,4 @@
+pub mod Kept
 pub mod Routings
 pub mod Traffic
 pub mod Weighed

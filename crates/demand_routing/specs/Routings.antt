@@ -8,9 +8,10 @@ use Rattle.plan_base.specs.Arcs.{demand_at}
 use Rattle.plan_base.specs.Places.{places}
 use Rattle.plan_base.specs.Sums.{sum_below}
 use Rattle.plan_base.specs.Designs.{load_from}
-use Rattle.least_path.specs.Paths.{Weights, IsLeastPath, HasNoUsablePath}
+use Rattle.least_path.specs.Paths.{Weights}
 use Rattle.completions.specs.Completions.{with_paths, ArePaths}
 use Rattle.demand_routing.specs.declared.routing.Routing.{Routing}
+use Rattle.demand_routing.specs.Kept.{IsLeastKept, HasNoneKept}
 use Rattle.demand_routing.specs.Traffic.{AreAddedCosts, AreFarCosts}
 
 -- whether the demand of this number is marked
@@ -37,11 +38,11 @@ pub record HasSameRoutes (r s : Routing) : Type 0 where
   pub laid : r.laid ≡ s.laid
   pub loads : r.loads.value ≡ s.loads.value
 
--- a path of the demand that raises the step costs by so much where its load comes to what the places carry, and none raises them by less
+-- a path of the demand within its limit that raises the step costs by so much where its load comes to what the places carry, and none within it raises them by less
 pub record IsCheapestWay (p : Parts) (loads : List ℕ) (k : Demand) (arcs : List ArcId) (rise : ℕ) : Type 0 where
   pub weights : Weights
   pub added : AreAddedCosts p loads k.load (places p) weights
-  pub least : IsLeastPath p weights k.source k.target arcs rise
+  pub least : IsLeastKept p weights k arcs rise
 
 -- the cheapest way of a demand, which raises the step costs by less than this
 pub record IsCheaperWay (p : Parts) (loads : List ℕ) (k : Demand) (own : Option ℕ) (arcs : List ArcId) : Type 0 where
@@ -49,25 +50,25 @@ pub record IsCheaperWay (p : Parts) (loads : List ℕ) (k : Demand) (own : Optio
   pub cheapest : IsCheapestWay p loads k arcs rise
   pub less : IfSome own (λ own. rise < own)
 
--- a path of the demand of this weight where far more load is looked at too, and none weighs less
+-- a path of the demand within its limit, of this weight where far more load is looked at too, and none within it weighs less
 pub record IsLeastWay (p : Parts) (loads : List ℕ) (k : Demand) (far : ℕ) (arcs : List ArcId) (weight : ℕ) : Type 0 where
   pub weights : Weights
   pub far_costs : AreFarCosts p loads k.load far (places p) weights
-  pub least : IsLeastPath p weights k.source k.target arcs weight
+  pub least : IsLeastKept p weights k arcs weight
 
--- there is no path of the demand where far more load is looked at too
+-- there is no path of the demand within its limit where far more load is looked at too
 pub record HasNoFarWay (p : Parts) (loads : List ℕ) (k : Demand) (far : ℕ) : Type 0 where
   pub weights : Weights
   pub far_costs : AreFarCosts p loads k.load far (places p) weights
-  pub none : HasNoUsablePath p weights k.source k.target
+  pub none : HasNoneKept p weights k
 
--- no path of the demand has links that can all carry its load beside what they carry
+-- no path of the demand within its limit has links that can all carry its load beside what they carry
 pub record HasNoWay (p : Parts) (loads : List ℕ) (k : Demand) : Type 0 where
   pub weights : Weights
   pub added : AreAddedCosts p loads k.load (places p) weights
-  pub none : HasNoUsablePath p weights k.source k.target
+  pub none : HasNoneKept p weights k
 
--- some demands are laid, and one that is not has no path whose links can carry it
+-- some demands are laid, and one that is not has no path within its limit whose links can carry it
 pub record IsStuck (p : Parts) : Type 0 where
   pub paths : List (List ArcId)
   pub laid : List Bool

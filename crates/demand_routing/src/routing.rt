@@ -10,9 +10,9 @@ ghost use Rattle.demand_routing.specs.Routings.{IsRouting, HasSameRoutes, IsChea
 ghost use Rattle.demand_routing.specs.Traffic.{AreRises, HasTooMuch};
 
 use crate::copies::set_path;
+use crate::limits::LimitedRoom;
 use crate::loads::{add_load, remove_load};
 use crate::weights::{FarRises, Rises, rise_along};
-use least_path::Room;
 use link_steps::StepTable;
 use plan_base::limits::MAX_PLACES;
 use plan_base::{DemandId, Instance, Path};
@@ -32,7 +32,7 @@ pub struct Routing {
     pub searches: u32,
     /// For each place where among its link's steps that of its link's need is looked for first.
     nears: Box<[u32; MAX_PLACES]>,
-    room: Room,
+    room: LimitedRoom,
 }
 
 impl Routing {
@@ -49,7 +49,7 @@ impl Routing {
             cost: 0,
             searches: 0,
             nears: Box::new(alloc, [0; MAX_PLACES])?,
-            room: Room::new(alloc, inst)?,
+            room: LimitedRoom::new(alloc, inst)?,
         })
     }
 
@@ -106,7 +106,8 @@ impl Routing {
         fall
     }
 
-    /// Searches for a path that raises the step costs least, puts it into the room, and gives the rise in cost grains.
+    /// Searches for a path within the demand's limit that raises the step costs least, puts it into the room, and gives the
+    /// rise in cost grains.
     #[tactic(auto, using(crate::proofs::WeighedLaws::added_count, crate::proofs::WeighedLaws::cheapest_way, crate::proofs::WeighedLaws::no_way))]
     fn search(
         &mut self,
@@ -134,11 +135,11 @@ impl Routing {
             nears: &self.nears,
             load: demand.load,
         };
-        self.room
-            .search_by(inst, &rises, demand.source, demand.target)
+        self.room.search(inst, &rises, demand)
     }
 
-    /// Searches for a path of least weight, where far more load is looked at too, and puts it into the room.
+    /// Searches for a path of least weight within the demand's limit, where far more load is looked at too, and puts it
+    /// into the room.
     #[tactic(auto, using(crate::proofs::WeighedLaws::far_count, crate::proofs::WeighedLaws::least_way, crate::proofs::WeighedLaws::no_far_way))]
     fn search_far(
         &mut self,
@@ -167,8 +168,7 @@ impl Routing {
             load: demand.load,
         };
         let far_rises = FarRises { rises, far };
-        self.room
-            .search_by(inst, &far_rises, demand.source, demand.target)
+        self.room.search(inst, &far_rises, demand)
     }
 
     /// Gives a demand that is off the path in the room.
@@ -188,7 +188,9 @@ impl Routing {
         self.room.swap(&mut self.paths[demand.0 as usize]);
     }
 
-    /// Searches for a path that raises the step costs by less than this, and gives it to the demand, which is off.
+    /// Searches for a path within the limit that raises the step costs by less than this, and gives it to the demand, which
+    /// is off.
+    #[tactic(auto, using(crate::proofs::WeighedLaws::cheapest_simple))]
     fn take_cheaper(
         &mut self,
         inst: &Instance,
@@ -225,7 +227,7 @@ impl Routing {
         }
     }
 
-    /// Moves a demand to the path that raises the step costs least, where that is cheaper than its own.
+    /// Moves a demand to the path within its limit that raises the step costs least, where that is cheaper than its own.
     pub fn reroute(
         &mut self,
         inst: &Instance,
@@ -247,7 +249,8 @@ impl Routing {
         Ok(helps)
     }
 
-    /// Lays a demand on the path that raises the step costs least, where there is one whose links can carry it.
+    /// Lays a demand on the path within its limit that raises the step costs least, where there is one whose links can carry
+    /// it.
     pub fn lay_least(
         &mut self,
         inst: &Instance,
@@ -270,7 +273,8 @@ impl Routing {
         Ok(found)
     }
 
-    /// Lays a demand on a path of least weight, where far more load is looked at too.
+    /// Lays a demand on a path of least weight within its limit, where far more load is looked at too.
+    #[tactic(auto, using(crate::proofs::WeighedLaws::least_way_simple))]
     pub fn lay_far(
         &mut self,
         inst: &Instance,
