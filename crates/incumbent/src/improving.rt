@@ -30,17 +30,19 @@ fn searched(
     Ok(rounds.into_best())
 }
 
-/// The completed design where there is one that costs less, else the design itself, with its cost in cost grains.
+/// The completed design where there is a good one that costs less, else the design itself, with its cost in cost grains.
 fn cheaper(inst: &Instance, design: Design, completed: Option<(u128, Design)>) -> (u128, Design)
-    requires design { IsGoodDesign inst.now design }
-    requires completed { IfSome completed (IsPriced inst.now) }
+    requires { IsGoodDesign inst.now design }
     ensures priced { IsPriced inst.now result }
     ensures not_dearer { result.0 ≤ cost_of inst.now design }
-    ensures least { IfSome completed (λ found. result.0 ≤ found.0) }
+    ensures least { IfSome completed (λ found. IsGoodDesign inst.now found.1 → result.0 ≤ cost_of inst.now found.1) }
 {
     let kept = check_design(inst, &design).unwrap();
-    match completed {
-        Some((cost, better)) if cost < kept => (cost, better),
+    let Some((_cost, better)) = completed else {
+        return (kept, design);
+    };
+    match check_design(inst, &better) {
+        Ok(cost) if cost < kept => (cost, better),
         _ => (kept, design),
     }
 }
@@ -70,7 +72,6 @@ pub fn improve(
 }
 
 /// As `improve`, with draws that begin with this seed.
-#[tactic(auto, using(crate::proofs::DesignLaws::priced_completion))]
 pub fn improve_seeded(
     alloc: Global,
     inst: &Instance,

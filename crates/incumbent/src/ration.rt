@@ -3,12 +3,13 @@
 ghost use Rattle.std.specs.Prelude.{◌≡◌, ◌<◌, ◌≤◌, ◌+◌, ◌-◌, ◌%◌, ◌^◌, ◌↔◌, min, length, slice_set, Some, IfOk, OnOk, OnErr, IfSome, IfNone, IsSomeAnd, IsTrue};
 ghost use Rattle.plan_base.specs.Arcs.{demand_at};
 ghost use Rattle.plan_base.specs.Paths.{IsSimplePath};
-ghost use Rattle.plan_base.specs.Designs.{cost_of, IsDesign, IsGoodDesign};
-ghost use Rattle.completions.specs.Completions.{ArePaths, HasOverfull};
+ghost use Rattle.plan_base.specs.Designs.{cost_of, IsDesign, KeepsLimits, IsGoodDesign};
+ghost use Rattle.completions.specs.Completions.{with_paths, ArePaths, HasOverfull};
 ghost use Rattle.incumbent.specs.Searches.{IsDue, IsOpening, IsCheaper, next_place, HasSearched, HasWaited};
 
 use crate::improving::improve_seeded;
 use crate::laying::lay_all;
+use crate::negotiating::negotiated;
 use completions::complete;
 use demand_routing::{roomy_copies, set_path};
 use link_steps::StepTable;
@@ -21,8 +22,8 @@ const DUE: [u32; 7] = [0, 0, 4, 16, 64, 256, 1_024];
 /// How many seeds a seat has: one for each of its searches.
 const SEEDS: u32 = 7;
 
-/// While the paths give no design to begin with, demands are laid one by one at the first asking and at each one so many
-/// later.
+/// While the paths give no design to begin with, demands are laid one by one, and where that gives none their paths are
+/// negotiated, at the first asking and at each one so many later.
 const LAYING_TURN: u32 = 16;
 
 /// How many demands are tried for another path at most.
@@ -63,7 +64,7 @@ fn place_after(seat: u32, seats: u32, place: u32) -> u32
     place.saturating_add(seats)
 }
 
-/// The cheapest design with these paths, where the links can carry them.
+/// The cheapest design with these paths, where they keep the limits of their demands and the links can carry them.
 #[tactic(auto, using(crate::proofs::DesignLaws::good_completion))]
 fn completed(
     alloc: Global,
@@ -75,17 +76,20 @@ fn completed(
     requires paths { ArePaths inst.now paths.now }
     ensures good { IfOk result (λ found. IfSome found (IsGoodDesign inst.now)) }
     ensures paths { IfOk result (λ found. IfSome found (λ design. design.paths ≡ paths.now)) }
-    ensures none { IfOk result (λ found. IfNone found (HasOverfull inst.now paths.now)) }
+    ensures none { IfOk result (λ found. IfNone found (KeepsLimits inst.now (with_paths paths.now) → HasOverfull inst.now paths.now)) }
 {
     let copy = roomy_copies(alloc, inst, paths.as_slice())?;
-    match complete(alloc, inst, table, Items::from_vec(copy))? {
-        Some((_cost, design)) => Ok(Some(design)),
-        None => Ok(None),
+    let Some((_cost, design)) = complete(alloc, inst, table, Items::from_vec(copy))? else {
+        return Ok(None);
+    };
+    if check_design(inst, &design).is_err() {
+        return Ok(None);
     }
+    Ok(Some(design))
 }
 
-/// The cheapest design with paths that are laid one by one, where each demand finds one.
-fn laid(
+/// The cheapest design with paths that are negotiated, where that finds some.
+fn bargained(
     alloc: Global,
     inst: &Instance,
     table: &StepTable,
@@ -95,9 +99,34 @@ fn laid(
     requires paths { ArePaths inst.now paths.now }
     ensures { IfOk result (λ found. IfSome found (IsGoodDesign inst.now)) }
 {
-    match lay_all(alloc, inst, table, paths)? {
-        Some(laid) => completed(alloc, inst, table, &laid),
+    match negotiated(alloc, inst, table, paths)? {
+        Some(found) => completed(alloc, inst, table, &found),
         None => Ok(None),
+    }
+}
+
+/// The cheapest design with paths that are laid one by one, where each demand finds one and the design is good; else,
+/// where this is asked for, with paths that are negotiated.
+fn laid(
+    alloc: Global,
+    inst: &Instance,
+    table: &StepTable,
+    paths: &Items<Path>,
+    is_turn: bool,
+) -> Result<Option<Design>, AllocError>
+    requires table { table.now ≡ inst.now }
+    requires paths { ArePaths inst.now paths.now }
+    ensures { IfOk result (λ found. IfSome found (IsGoodDesign inst.now)) }
+{
+    if let Some(laid) = lay_all(alloc, inst, table, paths)? {
+        if let Some(design) = completed(alloc, inst, table, &laid)? {
+            return Ok(Some(design));
+        }
+    }
+    if is_turn {
+        bargained(alloc, inst, table, paths)
+    } else {
+        Ok(None)
     }
 }
 
@@ -122,7 +151,7 @@ fn exchanged(
 }
 
 /// The cheapest design with the paths of a good one, where that of a demand is the one among these; None where it is
-/// the same, or the links cannot carry them.
+/// the same or above the demand's limit, or the links cannot carry them.
 fn completed_with(
     alloc: Global,
     inst: &Instance,
@@ -241,6 +270,7 @@ impl DesignSearch {
     }
 
     /// A design to begin with: that of these paths and that of paths laid one by one, in this order or the other one.
+    /// Paths are negotiated at laying turns alone.
     fn fresh(
         &self,
         alloc: Global,
@@ -254,7 +284,7 @@ impl DesignSearch {
         ensures { IfOk result (λ found. IfSome found (IsGoodDesign inst.now)) }
     {
         if is_laid_first {
-            if let Some(found) = laid(alloc, inst, table, paths)? {
+            if let Some(found) = laid(alloc, inst, table, paths, self.is_laying_turn())? {
                 return Ok(Some(found));
             }
             return completed(alloc, inst, table, paths);
@@ -265,7 +295,7 @@ impl DesignSearch {
         if !self.is_laying_turn() {
             return Ok(None);
         }
-        laid(alloc, inst, table, paths)
+        laid(alloc, inst, table, paths, true)
     }
 
     /// The design that the next search begins with.

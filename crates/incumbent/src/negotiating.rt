@@ -1,0 +1,444 @@
+//! Paths that are negotiated: links may carry more than they can, at a price that rises from round to round.
+
+ghost use Rattle.std.specs.Prelude.{◌≡◌, ◌<◌, ◌≤◌, length, All, IfOk, OnOk, IfSome, IsTrue};
+ghost use Rattle.std.specs.Option.{unwrap_or};
+ghost use Rattle.plan_base.specs.Arcs.{demand_at};
+ghost use Rattle.plan_base.specs.Facts.{IsDemand};
+ghost use Rattle.plan_base.specs.Paths.{IsSimplePath};
+ghost use Rattle.least_path.specs.Paths.{AreWeights};
+ghost use Rattle.completions.specs.Completions.{ArePaths};
+ghost use Rattle.demand_routing.specs.Routings.{IsRouting};
+
+use crate::laying::largest_first;
+use demand_routing::{Routing, roomy_copies};
+use least_path::Room;
+use least_path::limits::MAX_WEIGHT;
+use link_steps::StepTable;
+use plan_base::limits::MAX_PLACES;
+use plan_base::{ArcId, Demand, DemandId, Instance, Items, LinkId, LinkLoads, Path};
+use std::alloc::{AllocError, Global};
+
+/// The most rounds.
+const MOST_ROUNDS: u32 = 128;
+
+/// The most searches of all rounds together.
+const MOST_SEARCHES: u32 = 20_000;
+
+/// The price of a load grain on a link of mean price.
+const MEAN_PRICE: u128 = 64;
+
+/// No link has more than so many times the mean price.
+const MOST_MEANS: u128 = 16;
+
+/// What prices of links are reckoned in: so many to a cost grain.
+const SHARES: u128 = 65_536;
+
+/// What a load grain too much asks in the first round; in each later one a sixteenth more.
+const FIRST_PRESSURE: u128 = 16;
+
+/// What the price of a link rises by in a round that leaves twice what it can carry on it.
+const LESSON: u128 = 256;
+
+/// What a link asks for.
+#[derive(Clone, Copy)]
+struct Toll {
+    /// The most that it can carry by any lawful counts, in load grains.
+    top: u128,
+    /// For each load grain: its share of what the link costs, and what the rounds before taught.
+    price: u128,
+}
+
+/// What a load grain costs on a link that carries all it can, in shares of a cost grain.
+fn link_price(inst: &Instance, table: &StepTable, link: LinkId) -> u128
+    requires table { table.now ≡ inst.now }
+    requires link { link.0 < length inst.now.links }
+{
+    let top = inst.top_load(link).min(inst.total_load());
+    let modules = table.at(link, top).unwrap_or(0);
+    let share = modules.saturating_mul(SHARES) / u128::from(top.max(1));
+    u128::from(inst.link(link).routing)
+        .saturating_mul(SHARES)
+        .saturating_add(share)
+}
+
+/// The mean of what a load grain costs on the links, in shares of a cost grain, at least 1.
+fn mean_price(inst: &Instance, table: &StepTable) -> u128
+    requires table { table.now ≡ inst.now }
+    ensures { 0 < result }
+{
+    let mut sum = 0u128;
+    for place in 0..inst.links() {
+        sum = sum.saturating_add(link_price(inst, table, LinkId(place)));
+    }
+    (sum / u128::from(inst.links().max(1))).max(1)
+}
+
+/// What each link asks for in the first round, in order.
+fn first_tolls(alloc: Global, inst: &Instance, table: &StepTable) -> Result<Vec<Toll>, AllocError>
+    requires table { table.now ≡ inst.now }
+{
+    let mean = mean_price(inst, table);
+    let mut tolls = Vec::with_capacity(alloc, inst.links() as usize)?;
+    for place in 0..inst.links() {
+        let link = LinkId(place);
+        let price = link_price(inst, table, link).saturating_mul(MEAN_PRICE) / mean;
+        tolls.push(Toll {
+            top: u128::from(inst.top_load(link)),
+            price: price.clamp(1, MOST_MEANS * MEAN_PRICE),
+        })?;
+    }
+    Ok(tolls)
+}
+
+/// What a place carries, in load grains.
+fn load_at(loads: &[u128; MAX_PLACES], place: u32) -> u128 {
+    if (place as usize) < MAX_PLACES {
+        loads[place as usize]
+    } else {
+        0
+    }
+}
+
+/// What a load asks for on a link's place that carries so much; None where the load alone is more than the link can
+/// carry.
+fn asked(toll: &Toll, carried: u128, pressure: u128, load: u128) -> Option<u128>
+    ensures { unwrap_or result 0 ≤ MAX_WEIGHT }
+{
+    if load > toll.top {
+        return None;
+    }
+    let over = carried.saturating_add(load).saturating_sub(toll.top);
+    let own = load.saturating_mul(toll.price);
+    Some(
+        own.saturating_add(over.saturating_mul(pressure))
+            .min(MAX_WEIGHT),
+    )
+}
+
+/// What a load asks for on an arc.
+fn weight_of(
+    inst: &Instance,
+    loads: &[u128; MAX_PLACES],
+    tolls: &[Toll],
+    pressure: u128,
+    load: u128,
+    arc: ArcId,
+) -> Option<u128>
+    ensures { unwrap_or result 0 ≤ MAX_WEIGHT }
+{
+    match tolls.get(arc.link().0 as usize) {
+        Some(toll) => asked(toll, load_at(loads, inst.place(arc)), pressure, load),
+        None => None,
+    }
+}
+
+/// Sets the list to what a load asks for on the arcs.
+fn list_weights(
+    weights: &mut Vec<Option<u128>>,
+    inst: &Instance,
+    loads: &[u128; MAX_PLACES],
+    tolls: &[Toll],
+    pressure: u128,
+    load: u128,
+) -> Result<(), AllocError>
+    ensures { OnOk result (AreWeights inst.now weights.new.items) }
+{
+    weights.clear();
+    for number in 0..inst.arcs() {
+        weights.push(weight_of(inst, loads, tolls, pressure, load, ArcId(number)))?;
+    }
+    Ok(())
+}
+
+/// Whether an arc's link carries more than it can.
+fn is_over(inst: &Instance, loads: &[u128; MAX_PLACES], tolls: &[Toll], arc: ArcId) -> bool {
+    match tolls.get(arc.link().0 as usize) {
+        Some(toll) => load_at(loads, inst.place(arc)) > toll.top,
+        None => false,
+    }
+}
+
+/// Whether the link of one of these arcs carries more than it can.
+fn has_over(inst: &Instance, loads: &[u128; MAX_PLACES], tolls: &[Toll], arcs: &[ArcId]) -> bool {
+    for arc in arcs {
+        if is_over(inst, loads, tolls, *arc) {
+            return true;
+        }
+    }
+    false
+}
+
+/// Raises the price of a link that needs so much where that is more than it can carry, and tells whether it is.
+fn raise_at(tolls: &mut Vec<Toll>, place: usize, need: u128) -> bool {
+    let Some(toll) = tolls.get_mut(place) else {
+        return false;
+    };
+    if need <= toll.top {
+        return false;
+    }
+    let over = need.saturating_sub(toll.top);
+    let lesson = over.saturating_mul(LESSON) / toll.top.max(1);
+    toll.price = toll
+        .price
+        .saturating_add(lesson.clamp(1, MOST_MEANS * LESSON));
+    true
+}
+
+/// Raises the prices of the links that carry more than they can, and tells whether one does.
+fn raise_all(inst: &Instance, loads: &[u128; MAX_PLACES], tolls: &mut Vec<Toll>) -> bool {
+    let mut is_one = false;
+    for place in 0..inst.links() {
+        let need = LinkLoads::of_link(inst, loads, LinkId(place)).need();
+        if raise_at(tolls, place as usize, need) {
+            is_one = true;
+        }
+    }
+    is_one
+}
+
+/// Whether a demand has a limit on arcs.
+fn has_limits(inst: &Instance) -> bool {
+    (0..inst.demands()).any(|place| inst.demand(DemandId(place)).hops.is_some())
+}
+
+/// Room for searches, and the path of the latest one.
+#[derive(Drop)]
+struct Scout {
+    room: Room,
+    /// Room for searches within limits, where a demand has one: it takes memory for each pair of nodes.
+    limited: Option<limited_path::Room>,
+    path: Path,
+}
+
+impl Scout {
+    /// Room for the nodes of an instance.
+    fn new(alloc: Global, inst: &Instance) -> Result<Scout, AllocError> {
+        let limited = if has_limits(inst) {
+            Some(limited_path::Room::new(alloc, inst)?)
+        } else {
+            None
+        };
+        Ok(Scout {
+            room: Room::new(alloc, inst)?,
+            limited,
+            path: Path::from_vec(Vec::with_capacity(alloc, inst.nodes() as usize)?),
+        })
+    }
+
+    /// Finds a path of least weight from the demand's source to its target, where there is one.
+    #[tactic(auto, using(crate::proofs::ScoutLaws::least_simple))]
+    fn find_any(
+        &mut self,
+        inst: &Instance,
+        weights: &[Option<u128>],
+        demand: &Demand,
+    ) -> Result<bool, AllocError>
+        requires weights { AreWeights inst.now weights.now }
+        requires demand { IsDemand inst.now.nodes demand.now }
+        ensures { IfOk result (λ found. IsTrue found → IsSimplePath inst.now demand.now self.new.path) }
+    {
+        let Some(_weight) = self
+            .room
+            .search(inst, weights, demand.source, demand.target)?
+        else {
+            return Ok(false);
+        };
+        self.room.swap(&mut self.path);
+        Ok(true)
+    }
+
+    /// Finds a path of least weight among those of at most so many arcs, where there is one.
+    #[tactic(auto, using(crate::proofs::ScoutLaws::least_within_simple))]
+    fn find_within(
+        &mut self,
+        inst: &Instance,
+        weights: &[Option<u128>],
+        demand: &Demand,
+        hops: u64,
+    ) -> Result<bool, AllocError>
+        requires weights { AreWeights inst.now weights.now }
+        requires demand { IsDemand inst.now.nodes demand.now }
+        ensures { IfOk result (λ found. IsTrue found → IsSimplePath inst.now demand.now self.new.path) }
+    {
+        let Some(room) = &mut self.limited else {
+            return Ok(false);
+        };
+        let Some(_weight) = room.search_within(inst, weights, demand.source, demand.target, hops)?
+        else {
+            return Ok(false);
+        };
+        room.swap(&mut self.path);
+        Ok(true)
+    }
+
+    /// Finds a path of least weight among those that keep the demand's limit, where there is one.
+    fn find(
+        &mut self,
+        inst: &Instance,
+        weights: &[Option<u128>],
+        demand: &Demand,
+    ) -> Result<bool, AllocError>
+        requires weights { AreWeights inst.now weights.now }
+        requires demand { IsDemand inst.now.nodes demand.now }
+        ensures { IfOk result (λ found. IsTrue found → IsSimplePath inst.now demand.now self.new.path) }
+    {
+        match demand.hops {
+            Some(hops) => self.find_within(inst, weights, demand, hops),
+            None => self.find_any(inst, weights, demand),
+        }
+    }
+}
+
+/// What a negotiation works on.
+#[derive(Drop)]
+struct Negotiation {
+    routing: Routing,
+    /// What each link asks for, in order.
+    tolls: Vec<Toll>,
+    /// What a load grain too much asks.
+    pressure: u128,
+    /// How many searches there were.
+    searches: u32,
+    /// What each arc asks for in the latest search.
+    weights: Vec<Option<u128>>,
+    scout: Scout,
+}
+
+impl Negotiation {
+    /// The negotiation before its first round: none of these paths is laid.
+    fn new(
+        alloc: Global,
+        inst: &Instance,
+        table: &StepTable,
+        paths: &Items<Path>,
+    ) -> Result<Negotiation, AllocError>
+        requires table { table.now ≡ inst.now }
+        requires paths { ArePaths inst.now paths.now }
+        ensures { IfOk result (λ negotiation. IsRouting inst.now negotiation.routing) }
+    {
+        let copies = roomy_copies(alloc, inst, paths.as_slice())?;
+        Ok(Negotiation {
+            routing: Routing::new(alloc, inst, copies)?,
+            tolls: first_tolls(alloc, inst, table)?,
+            pressure: FIRST_PRESSURE,
+            searches: 0,
+            weights: Vec::with_capacity(alloc, inst.arcs() as usize)?,
+            scout: Scout::new(alloc, inst)?,
+        })
+    }
+
+    /// Finds the path that asks least for a demand, beside what the places carry; false where there is none.
+    fn find(&mut self, inst: &Instance, demand: DemandId) -> Result<bool, AllocError>
+        requires demand { demand.0 < length inst.now.demands }
+        ensures routing { self.new.routing ≡ self.old.routing }
+        ensures path { IfOk result (λ found. IsTrue found → IsSimplePath inst.now (demand_at inst.now demand.0) self.new.scout.path) }
+    {
+        let demand = inst.demand(demand);
+        list_weights(
+            &mut self.weights,
+            inst,
+            &self.routing.loads,
+            &self.tolls,
+            self.pressure,
+            demand.load,
+        )?;
+        self.scout.find(inst, &self.weights, demand)
+    }
+
+    /// Lays a demand on the path that asks least; false where there is none, or where the searches are spent.
+    fn lay(
+        &mut self,
+        inst: &Instance,
+        table: &StepTable,
+        demand: DemandId,
+    ) -> Result<bool, AllocError>
+        requires table { table.now ≡ inst.now }
+        requires demand { demand.0 < length inst.now.demands }
+        requires routing { IsRouting inst.now self.old.routing }
+        ensures routing { OnOk result (IsRouting inst.now self.new.routing) }
+    {
+        if self.searches >= MOST_SEARCHES {
+            return Ok(false);
+        }
+        self.searches += 1;
+        let _fall = self.routing.take_off(inst, table, demand);
+        if !self.find(inst, demand)? {
+            return Ok(false);
+        }
+        self.routing
+            .set_back(inst, table, demand, &self.scout.path)?;
+        Ok(true)
+    }
+
+    /// Whether the path of a demand goes along a link that carries more than it can.
+    fn is_overfull(&self, inst: &Instance, demand: DemandId) -> bool {
+        match self.routing.paths.get(demand.0 as usize) {
+            Some(path) => has_over(inst, &self.routing.loads, &self.tolls, path.as_slice()),
+            None => false,
+        }
+    }
+
+    /// One round: lays the demands of this order one by one, in the first round all and later those whose paths go along
+    /// links that carry more than they can; false where that cannot go on.
+    fn go_round(
+        &mut self,
+        inst: &Instance,
+        table: &StepTable,
+        order: &[(u128, u32)],
+        is_first: bool,
+    ) -> Result<bool, AllocError>
+        requires table { table.now ≡ inst.now }
+        requires order { All (λ key. key.1 < length inst.now.demands) order.now }
+        requires routing { IsRouting inst.now self.old.routing }
+        ensures routing { OnOk result (IsRouting inst.now self.new.routing) }
+    {
+        for (_size, place) in order {
+            let demand = DemandId(*place);
+            let is_moved = is_first || self.is_overfull(inst, demand);
+            if is_moved && !self.lay(inst, table, demand)? {
+                return Ok(false);
+            }
+        }
+        Ok(true)
+    }
+
+    /// Raises the prices of the links that carry more than they can, and what a load grain too much asks; false where
+    /// there is no such link.
+    fn raise(&mut self, inst: &Instance) -> bool
+        ensures { self.new.routing ≡ self.old.routing }
+    {
+        self.pressure = self.pressure.saturating_add(self.pressure / 16);
+        raise_all(inst, &self.routing.loads, &mut self.tolls)
+    }
+}
+
+/// Paths that are negotiated: in each round demands are laid one by one on the paths that ask least, the largest loads
+/// first, where a load asks for its share of what the links cost, for what the rounds before taught, and for each load
+/// grain too much. None where no round leaves all links with what they can carry.
+///
+/// - Takes: an instance and its step table; one simple path for each demand, in order.
+/// - Gives: one simple path for each demand, in order, within its limit where the demand has one.
+/// - Errors: want of memory alone.
+/// - Time: at most 20,000 searches for a least path, in at most 128 rounds.
+pub fn negotiated(
+    alloc: Global,
+    inst: &Instance,
+    table: &StepTable,
+    paths: &Items<Path>,
+) -> Result<Option<Items<Path>>, AllocError>
+    requires table { table.now ≡ inst.now }
+    requires paths { ArePaths inst.now paths.now }
+    ensures paths { IfOk result (λ found. IfSome found (ArePaths inst.now)) }
+{
+    let mut negotiation = Negotiation::new(alloc, inst, table, paths)?;
+    let order = largest_first(alloc, inst)?;
+    for round in 0..MOST_ROUNDS {
+        if !negotiation.go_round(inst, table, order.as_slice(), round == 0)? {
+            return Ok(None);
+        }
+        if !negotiation.raise(inst) {
+            return Ok(Some(Items::from_vec(negotiation.routing.paths)));
+        }
+    }
+    Ok(None)
+}
