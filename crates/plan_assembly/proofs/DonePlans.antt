@@ -103,6 +103,7 @@ needs_none p (r ∷ rs) (Leaf (evidence.Bound prices) ∷ records) h = absurd h.
 needs_none p (r ∷ rs) (Leaf evidence.Routed ∷ records) h = absurd h.0
 needs_none p (r ∷ rs) (Leaf (evidence.Overfull link) ∷ records) h = needs_none p rs records h.1
 needs_none p (r ∷ rs) (Leaf (evidence.Cut demand reached) ∷ records) h = needs_none p rs records h.1
+needs_none p (r ∷ rs) (Leaf (evidence.Far demand) ∷ records) h = needs_none p rs records h.1
 needs_none p (r ∷ rs) (Leaf (evidence.Crowd prices) ∷ records) h = needs_none p rs records h.1
 needs_none p (r ∷ rs) (Leaf (evidence.Open prices) ∷ records) h = needs_none p rs records h.1
 needs_none p (r ∷ rs) (Split k at left right ∷ records) h = needs_none p (with_forbidden r k left ∷ with_forbidden r k right ∷ rs) records h.1

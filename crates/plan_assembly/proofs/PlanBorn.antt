@@ -332,6 +332,7 @@ ExamineStep-born s t id answer h born e = by answer e
     by : (a : Result Examined ExamineFault) → ExamineStep s id a t → AreBorn t.nodes
     by (Ok examined.Cut) x = kept (to_nodes s t _ x.becomes (closed-same s id x.node _ _ x.open_node.is_node x.open_node.undone refl))
     by (Ok (examined.Divided left right)) x = Divides-born s t id left right h born x
+    by (Ok (examined.Far demand)) x = kept (to_nodes s t _ x.becomes (closed-same s id x.node _ _ x.ready.open_node.is_node x.ready.open_node.undone refl))
     by (Ok examined.Overfull) x = kept (to_nodes s t _ x.becomes (closed-same s id x.node _ _ x.ready.open_node.is_node x.ready.open_node.undone refl))
     by (Ok examined.Routed) x = kept (to_nodes s t _ x.becomes (closed-same s id x.node _ _ x.ready.open_node.is_node x.ready.open_node.undone refl))
     by (Err examine_fault.OutOfMemory) x = kept (unchanged-same s t x)

@@ -49,6 +49,7 @@ module _ (s : State) (h : IsReachable s) (plan : Plan) (tree : plan.tree ≡ tre
   open-bound bound leaf of evidence.Routed same is = absurd is
   open-bound bound leaf of (evidence.Overfull link) same is = absurd is
   open-bound bound leaf of (evidence.Cut demand reached) same is = absurd is
+  open-bound bound leaf of (evidence.Far demand) same is = absurd is
   open-bound bound leaf of (evidence.Crowd prices) same is = absurd is
 
   pub candidate-limit : (bound : ℤ) → IsCandidate s.problem plan bound → IsLimitBelow s (length s.nodes) bound

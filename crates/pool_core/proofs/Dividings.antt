@@ -69,6 +69,7 @@ module _ (s : State) (table : Parts) (grounds : List (Option Rows)) (places : Li
   divides = record {
     node = div.node;
     ready = div.ready;
+    none_far = div.none_far;
     division = d;
     parts = div.parts;
     left_is = refl;

@@ -9,6 +9,7 @@ pub mod OfferPool
 pub mod Examining
 pub mod Dividings
 pub mod Routings
+pub mod FarPool
 pub mod RoutedPool
 pub mod TaskLaws
 pub mod Leaves

@@ -21,12 +21,12 @@ use Rattle.pool_machine.specs.Machine.{Examining, to_examining, IsReachable}
 use Rattle.pool_reading.specs.Views.{closed_at}
 use Rattle.pool_reading.specs.Examining.{HasOnlyPaths}
 use Rattle.pool_core.proofs.Examining.{open-at, shown-closed}
-use Rattle.pool_core.proofs.Routings.{carried-good, are-paths, overfull-closed, completion-routed, with_cheaper, better-holds}
+use Rattle.pool_core.proofs.Routings.{are-paths, overfull-closed, completion-routed, with_cheaper, better-holds}
 use Rattle.pool_machine.proofs.Runs.{IsReachable-step}
 
 module _ (s : State) (id : BranchId) (paths : List (List ArcId)) (at : HasOnlyPaths s id paths) where
   pub paths-are : ArePaths s.problem paths
-  paths-are = are-paths s.problem (restriction_of at.node) paths at.only
+  paths-are = are-paths s.problem (restriction_of at.node) paths at.only at.none_far
 
   pub paths-open : is_open_state (state_of s id) ≡ true
   paths-open = open-at s id at.node at.ready.open_node
@@ -39,8 +39,9 @@ module _ (s : State) (id : BranchId) (paths : List (List ArcId)) (at : HasOnlyPa
   overfull-closes link first = record {
     node = at.node;
     ready = at.ready;
+    none_far = at.none_far;
     link = link;
-    overfull = overfull-closed s.problem (restriction_of at.node) paths at.only link first;
+    overfull = overfull-closed s.problem (restriction_of at.node) paths at.only at.none_far link first;
     becomes = shown-closed s id at.node (evidence.Overfull link) at.ready.open_node.is_node;
   }
 
@@ -54,7 +55,7 @@ module _ (s : State) (id : BranchId) (paths : List (List ArcId)) (at : HasOnlyPa
       (counts : (e : ℕ) → e < length s.problem.links → AreLeastCounts s.problem e (need s.problem design e) (counts_at design e))
       (t : State) (answer : Result Better DesignFault) (step : BetterStep s design answer t) where
     held : t ≡ with_cheaper s cost design
-    held = better-holds s t cost design answer step (carried-good s.problem design done.carried) (sym done.is_cost)
+    held = better-holds s t cost design answer step (completion-routed s.problem (restriction_of at.node) paths at.only at.none_far cost design done counts).good (sym done.is_cost)
 
     pub routed-open : is_open_state (state_of t id) ≡ true
     routed-open = subst (λ (x : State). is_open_state (state_of x id) ≡ true) (sym held) paths-open
@@ -66,9 +67,10 @@ module _ (s : State) (id : BranchId) (paths : List (List ArcId)) (at : HasOnlyPa
     routed-closes = record {
       node = at.node;
       ready = at.ready;
+      none_far = at.none_far;
       cost = cost;
       design = design;
-      routed = completion-routed s.problem (restriction_of at.node) paths at.only cost design done counts;
+      routed = completion-routed s.problem (restriction_of at.node) paths at.only at.none_far cost design done counts;
       becomes = ap (λ (x : State). closed_at x id (reason.Shown evidence.Routed) (slice_get x.nodes id.0)) held
           ∙ ap (closed_at (with_cheaper s cost design) id (reason.Shown evidence.Routed)) at.ready.open_node.is_node;
     }

@@ -7,25 +7,23 @@ use Rattle.plan_base.specs.declared.parts.Parts.{Parts}
 use Rattle.plan_base.specs.declared.path.Design.{Design}
 use Rattle.plan_base.specs.declared.design_fault.DesignFault.{DesignFault}
 use Rattle.plan_base.specs.Arcs.{link_at}
-use Rattle.plan_base.specs.Designs.{counts_at, need, module_cost_with, link_cost, cost_of, IsCarriedDesign, IsGoodDesign}
+use Rattle.plan_base.specs.Designs.{counts_at, need, module_cost_with, link_cost, cost_of, IsGoodDesign}
 use Rattle.plan_base.proofs.DesignLaws.{design_fault-IsGoodDesign}
 use Rattle.link_steps.specs.Costs.{AreLeastCounts}
 use Rattle.arc_restrict.specs.Restrictions.{Forbidden, IsOnlyPath}
 use Rattle.second_path.specs.Others.{AreOnlyPaths as AreOnlyOnes}
 use Rattle.proof_tree.specs.Evidence.{AreOnlyPaths, ClosedByOverfull}
+use Rattle.proof_tree.proofs.Farness.{near-keeps}
 use Rattle.completions.specs.Completions.{with_paths, ArePaths, IsCompletion, CarryLoads, HasOverfull, IsFirstOverfull}
 use Rattle.pool_machine.specs.declared.answers.Better.{Better}
 use Rattle.pool_machine.specs.declared.answers.Better.TheVariants as better
 use Rattle.pool_machine.specs.declared.tree.Incumbent.{Incumbent}
 use Rattle.pool_machine.specs.State.{State}
+use Rattle.pool_machine.specs.Readiness.{NoneFar}
 use Rattle.pool_machine.specs.Examining.{cheaper_of, IsRouted}
 use Rattle.pool_machine.specs.Bettering.{is_cheaper, BetterStep}
 
--- a design whose links carry its paths is a good one
-pub carried-good : (p : Parts) (d : Design) → IsCarriedDesign p d → IsGoodDesign p d
-carried-good p d is = record { design = is.design; feasible = record { carried = is.carried }; in_shape = is.in_shape }
-
-module _ (p : Parts) (r : Forbidden) (paths : List (List ArcId)) (only : AreOnlyOnes p r paths) where
+module _ (p : Parts) (r : Forbidden) (paths : List (List ArcId)) (only : AreOnlyOnes p r paths) (near : NoneFar p r) where
   pub are-paths : ArePaths p paths
   are-paths = record { count = only.count; simple = λ k within. (only.only k within).permitted.simple }
 
@@ -39,7 +37,11 @@ module _ (p : Parts) (r : Forbidden) (paths : List (List ArcId)) (only : AreOnly
       → ((e : ℕ) → e < length p.links → AreLeastCounts p e (need p d e) (counts_at d e)) → IsRouted p r cost d
   completion-routed cost d done counts = record {
     only = only-of d done.same_paths;
-    good = carried-good p d done.carried;
+    good = record {
+      design = done.carried.design;
+      feasible = record { carried = done.carried.carried; limits = near-keeps p r d (only-of d done.same_paths) near };
+      in_shape = done.carried.in_shape;
+    };
     is_cost = sym done.is_cost;
     step_costs = link_cost p d;
     are_costs = λ e within. record {

@@ -79,6 +79,7 @@ not_above n k h = grind (arith, nat_tests)
 pub examined-one : (s t : State) (id : BranchId) (answer : Examined) → ExamineStep s id (Ok answer) t → t.examined ≡ s.examined + 1
 examined-one s t id examined.Cut e = ap (λ (x : State). x.examined) e.becomes ∙ sym (add-one s.examined)
 examined-one s t id (examined.Divided left right) e = ap (λ (x : State). x.examined) e.becomes ∙ sym (add-one s.examined)
+examined-one s t id (examined.Far demand) e = ap (λ (x : State). x.examined) e.becomes ∙ sym (add-one s.examined)
 examined-one s t id examined.Overfull e = ap (λ (x : State). x.examined) e.becomes ∙ sym (add-one s.examined)
 examined-one s t id examined.Routed e = ap (λ (x : State). x.examined) e.becomes ∙ sym (add-one s.examined)
 

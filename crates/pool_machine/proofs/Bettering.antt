@@ -11,7 +11,7 @@ use Rattle.arc_restrict.specs.Restrictions.{Forbidden}
 use Rattle.proof_tree.specs.Evidence.{HasEvidence, ClosedByBound, ClosedByRouting}
 use Rattle.proof_tree.specs.Plans.{IsStatedDesign}
 use Rattle.proof_tree.specs.declared.tree.Evidence.{Evidence}
-use Rattle.proof_tree.specs.declared.tree.Evidence.TheVariants.{Bound, Routed, Overfull, Cut, Crowd, Open}
+use Rattle.proof_tree.specs.declared.tree.Evidence.TheVariants.{Bound, Routed, Overfull, Cut, Far, Crowd, Open}
 use Rattle.pool_machine.specs.State.{Fate, Undone, ClosedBy, DividedBy, Node, Incumbent, State, restriction_of, cutoff_of}
 use Rattle.pool_machine.specs.Examining.{cheaper_of, ClosesRouted}
 use Rattle.pool_machine.specs.Bettering.{is_cheaper, TakesBetter}
@@ -30,9 +30,15 @@ module _ (p : Parts) (old : Option ℕ) (cost : ℕ) (below : IfSome old (λ c. 
     where
       routed : (o : Option ℕ) → IfSome o (λ c. cost ≤ c) → IsSomeAnd o (λ c. ClosedByRouting p r c) → ClosedByRouting p r cost
       routed None less b = absurd b
-      routed (Some c) less b = record { routing = b.routing; only = b.only; step_costs = b.step_costs; are_costs = b.are_costs; enough = (let e = b.enough in let l : cost ≤ c = less in omega arith) }
+      routed (Some c) less b =
+          let costs = b.costs in
+          record {
+            costs = record { routing = costs.routing; only = costs.only; step_costs = costs.step_costs; are_costs = costs.are_costs; enough = (let e = costs.enough in let l : cost ≤ c = less in omega arith) };
+            within = b.within;
+          }
   HasEvidence-cheaper r (Overfull link) h = h
   HasEvidence-cheaper r (Cut demand reached) h = h
+  HasEvidence-cheaper r (Far demand) h = h
   HasEvidence-cheaper r (Crowd prices) h = h
   HasEvidence-cheaper r (Open prices) h = h
 
@@ -99,4 +105,7 @@ module _ (s : State) (h : IsSound s) where
       let is = e.ready.open_node in
       subst IsSound (sym e.becomes)
       (closed-sound s' id node Routed h' (record { not_spent = is.not_spent; is_node = is.is_node; undone = is.undone }) refl
-      (record { routing = e.design; only = routed.only; step_costs = routed.step_costs; are_costs = routed.are_costs; enough = (let w = below.within in let l = routed.is_least in omega arith) }) tt)
+      (record {
+        costs = record { routing = e.design; only = routed.only; step_costs = routed.step_costs; are_costs = routed.are_costs; enough = (let w = below.within in let l = routed.is_least in omega arith) };
+        within = routed.good.feasible.limits;
+      }) tt)

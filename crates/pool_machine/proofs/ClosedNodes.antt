@@ -2,6 +2,7 @@
 use Rattle.std.proofs.Common.{◌≡◌, ℕ, suc, inr, false, Option, Some, None, refl, sym, ap, subst, arith, pos, ◌≤ℤ◌}
 use Rattle.std.specs.Prelude.{IsSomeAnd}
 use Rattle.plan_base.specs.declared.ids.BranchId.{BranchId}
+use Rattle.plan_base.specs.declared.ids.DemandId.{DemandId}
 use Rattle.plan_base.specs.declared.parts.Parts.{Parts}
 use Rattle.plan_base.specs.Places.{places}
 use Rattle.proof_tree.specs.Evidence.{HasEvidence, ClosedByBound}
@@ -14,7 +15,7 @@ use Rattle.pool_machine.specs.State.{Node, State, restriction_of, cutoff_of, exa
 use Rattle.pool_machine.specs.Closing.{closed_by, ClosesBy, by_crowd, by_bound, Closes}
 use Rattle.pool_machine.specs.Changes.{examined_with}
 use Rattle.pool_machine.specs.Readiness.{IsExamined}
-use Rattle.pool_machine.specs.Examining.{ClosesByCut, ClosesOverfull}
+use Rattle.pool_machine.specs.Examining.{ClosesByCut, ClosesFar, ClosesOverfull}
 use Rattle.pool_machine.specs.Nodes.{IsSoundNode, IsSoundBest}
 use Rattle.pool_machine.specs.Soundness.{IsSound}
 use Rattle.pool_machine.proofs.Frames.{AreApart-set}
@@ -75,6 +76,9 @@ module _ (s : State) (id : BranchId) (h : IsSound s) where
       let k = node_at s id.0 e.node h e.open_node.is_node in
       let cut = rw e.is_cut at (k.cut) in
       subst IsSound (sym e.becomes) (closed-sound s id e.node (evidence.Cut e.cut.demand e.cut.reached) h e.open_node refl cut.0 cut.1)
+
+  pub ClosesFar-sound : (t : State) (demand : DemandId) → ClosesFar s id demand t → IsSound t
+  ClosesFar-sound t demand e = subst IsSound (sym e.becomes) (closed-sound s id e.node (evidence.Far demand) h e.ready.open_node refl e.far.closed tt)
 
   pub ClosesOverfull-sound : (t : State) → ClosesOverfull s id t → IsSound t
   ClosesOverfull-sound t e = subst IsSound (sym e.becomes) (closed-sound s id e.node (evidence.Overfull e.link) h e.ready.open_node refl e.overfull tt)

@@ -49,7 +49,7 @@ use Rattle.pool_machine.proofs.Publishing.{Publishes-sound}
 use Rattle.pool_machine.proofs.Settling.{Settles-sound}
 use Rattle.pool_machine.proofs.Offering.{TakesCut-sound, Accepts-sound}
 use Rattle.pool_machine.proofs.Opening.{Opens-sound}
-use Rattle.pool_machine.proofs.ClosedNodes.{Closes-sound, ClosesByCut-sound, ClosesOverfull-sound}
+use Rattle.pool_machine.proofs.ClosedNodes.{Closes-sound, ClosesByCut-sound, ClosesFar-sound, ClosesOverfull-sound}
 use Rattle.pool_machine.proofs.Bettering.{TakesBetter-sound, ClosesRouted-sound}
 use Rattle.pool_machine.proofs.Dividing.{Divides-sound}
 
@@ -107,6 +107,7 @@ module _ where
   ExamineStep-sound : (s t : State) (id : BranchId) (answer : Result Examined ExamineFault) → IsSound s → ExamineStep s id answer t → IsSound t
   ExamineStep-sound s t id (Ok examined.Cut) h e = ClosesByCut-sound s id h t e
   ExamineStep-sound s t id (Ok (examined.Divided left right)) h e = Divides-sound s id left right t h e
+  ExamineStep-sound s t id (Ok (examined.Far demand)) h e = ClosesFar-sound s id h t demand e
   ExamineStep-sound s t id (Ok examined.Overfull) h e = ClosesOverfull-sound s id h t e
   ExamineStep-sound s t id (Ok examined.Routed) h e = ClosesRouted-sound s h id t e
   ExamineStep-sound s t id (Err examine_fault.OutOfMemory) h e = unchanged-sound s t h e
@@ -214,6 +215,7 @@ Step-goes s t (Examining id) (to_examining answer) e = by answer e
     by : (a : Result Examined ExamineFault) → ExamineStep s id a t → GoesTo s (to_examining a) t
     by (Ok examined.Cut) x = goes_to s (to_examining (Ok examined.Cut)) t _ x.becomes refl refl refl refl refl refl
     by (Ok (examined.Divided left right)) x = goes_to s (to_examining (Ok (examined.Divided left right))) t _ x.becomes refl refl refl refl refl refl
+    by (Ok (examined.Far demand)) x = goes_to s (to_examining (Ok (examined.Far demand))) t _ x.becomes refl refl refl refl refl refl
     by (Ok examined.Overfull) x = goes_to s (to_examining (Ok examined.Overfull)) t _ x.becomes refl refl refl refl refl refl
     by (Ok examined.Routed) x = goes_to s (to_examining (Ok examined.Routed)) t _ x.becomes refl refl refl refl refl refl
     by (Err examine_fault.OutOfMemory) x = refused s (to_examining (Err examine_fault.OutOfMemory)) t x refl refl

@@ -11,7 +11,7 @@ use Rattle.proof_tree.specs.Splits.{IsSplit}
 use Rattle.proof_tree.specs.Spellings.{IsAscending}
 use Rattle.pool_machine.specs.State.{with_limit, Node, State, restriction_of, kept_prices, Division, DividedBy}
 use Rattle.pool_machine.specs.Changes.{waiting_with}
-use Rattle.pool_machine.specs.Readiness.{IsReady}
+use Rattle.pool_machine.specs.Readiness.{IsReady, NoneFar}
 
 -- Two permitted paths of the demand part at the node, the first one's arc there is in the left set and the
 -- second one's in the right set, and each arc that leaves the node and is not forbidden is in one of the sets.
@@ -43,6 +43,7 @@ divided_by division node = record node { fate = DividedBy division; round = None
 pub record Divides (old : State) (id left_child right_child : BranchId) (new : State) : Type 0 where
   pub node : Node
   pub ready : IsReady old id node
+  pub none_far : NoneFar old.problem (restriction_of node)
   pub division : Division
   pub parts : PartsAt old.problem (restriction_of node) division
   pub left_is : division.left_child ≡ left_child

@@ -2,6 +2,7 @@
 use Rattle.std.specs.Prelude.{ℕ, suc, ◌≡◌, ◌<◌, length, Option, Some, None, slice_set, nat_lt, if◌then◌else◌, Result, Ok, Err}
 use Rattle.plan_base.specs.declared.ids.LinkId.{LinkId}
 use Rattle.plan_base.specs.declared.ids.BranchId.{BranchId}
+use Rattle.plan_base.specs.declared.ids.DemandId.{DemandId}
 use Rattle.plan_base.specs.declared.parts.Parts.{Parts}
 use Rattle.plan_base.specs.declared.path.Design.{Design}
 use Rattle.plan_base.specs.Places.{there_of, back_of}
@@ -18,7 +19,7 @@ use Rattle.pool_machine.specs.declared.answers.ExamineFault.TheVariants as exami
 use Rattle.pool_machine.specs.State.{Node, State, restriction_of, HeldCut, Incumbent}
 use Rattle.pool_machine.specs.Closing.{closed_by}
 use Rattle.pool_machine.specs.Changes.{examined_with}
-use Rattle.pool_machine.specs.Readiness.{examine_refusal, IsExamined, IsReady}
+use Rattle.pool_machine.specs.Readiness.{examine_refusal, IsExamined, IsReady, IsFirstFar, NoneFar}
 use Rattle.pool_machine.specs.Dividing.{Divides}
 
 -- the examined node is closed by the cut that it holds
@@ -29,10 +30,18 @@ pub record ClosesByCut (old : State) (id : BranchId) (new : State) : Type 0 wher
   pub is_cut : node.cut ≡ Some cut
   pub becomes : new ≡ examined_with old id (closed_by (evidence.Cut cut.demand cut.reached) node)
 
+-- the examined node has a demand without a path that keeps its limit; the first such demand is told
+pub record ClosesFar (old : State) (id : BranchId) (demand : DemandId) (new : State) : Type 0 where
+  pub node : Node
+  pub ready : IsReady old id node
+  pub far : IsFirstFar old.problem (restriction_of node) demand
+  pub becomes : new ≡ examined_with old id (closed_by (evidence.Far demand) node)
+
 -- the examined node leaves each demand one path, and these overfill a link
 pub record ClosesOverfull (old : State) (id : BranchId) (new : State) : Type 0 where
   pub node : Node
   pub ready : IsReady old id node
+  pub none_far : NoneFar old.problem (restriction_of node)
   pub link : LinkId
   pub overfull : ClosedByOverfull old.problem (restriction_of node) link
   pub becomes : new ≡ examined_with old id (closed_by (evidence.Overfull link) node)
@@ -55,6 +64,7 @@ cheaper_of (Some held) cost design = if nat_lt cost held.cost then record { cost
 pub record ClosesRouted (old : State) (id : BranchId) (new : State) : Type 0 where
   pub node : Node
   pub ready : IsReady old id node
+  pub none_far : NoneFar old.problem (restriction_of node)
   pub cost : ℕ
   pub design : Design
   pub routed : IsRouted old.problem (restriction_of node) cost design
@@ -68,6 +78,7 @@ pub record ClosesRouted (old : State) (id : BranchId) (new : State) : Type 0 whe
 abbrev pub ExamineStep : State → BranchId → Result Examined ExamineFault → State → Type 0
 ExamineStep old id (Ok examined.Cut) new = ClosesByCut old id new
 ExamineStep old id (Ok (examined.Divided left right)) new = Divides old id left right new
+ExamineStep old id (Ok (examined.Far demand)) new = ClosesFar old id demand new
 ExamineStep old id (Ok examined.Overfull) new = ClosesOverfull old id new
 ExamineStep old id (Ok examined.Routed) new = ClosesRouted old id new
 ExamineStep old id (Err examine_fault.OutOfMemory) new = new ≡ old

@@ -1,7 +1,11 @@
 -- When an open leaf may be examined, and why it may not.
-use Rattle.std.specs.Prelude.{ℕ, ◌≡◌, ◌<◌, ◌≤◌, ◌⊎◌, Bool, true, false, not, ◌&&◌, ◌==◌, Option, Some, None, slice_get, ℤ, pos, nat_lt, if◌then◌else◌}
+use Rattle.std.specs.Prelude.{ℕ, ◌≡◌, ◌<◌, ◌≤◌, ◌⊎◌, Bool, true, false, not, ◌&&◌, ◌==◌, length, Option, Some, None, slice_get, ℤ, pos, nat_lt, if◌then◌else◌}
 use Rattle.plan_base.specs.declared.ids.BranchId.{BranchId}
+use Rattle.plan_base.specs.declared.ids.DemandId.{DemandId}
+use Rattle.plan_base.specs.declared.parts.Parts.{Parts}
 use Rattle.plan_base.specs.First.{◌or_else◌, when}
+use Rattle.arc_restrict.specs.Restrictions.{Forbidden}
+use Rattle.proof_tree.specs.Evidence.{IsFar, ClosedByFar}
 use Rattle.pool_machine.specs.declared.answers.ExamineFault.{ExamineFault}
 use Rattle.pool_machine.specs.declared.answers.ExamineFault.TheVariants as examine_fault
 use Rattle.pool_machine.specs.declared.limits.TheConstants.{MAX_VERSIONS}
@@ -51,3 +55,12 @@ pub record IsReady (s : State) (id : BranchId) (node : Node) : Type 0 where
   pub priced : 0 < node.completed
   pub not_closable : is_closable (cutoff_of s) node ≡ false
   pub settled : (node.settled ≡ true) ⊎ (MAX_VERSIONS ≤ node.completed)
+
+-- no permitted path of the demand keeps its limit, and each demand before it that has a limit has a path that does
+pub record IsFirstFar (p : Parts) (r : Forbidden) (demand : DemandId) : Type 0 where
+  pub closed : ClosedByFar p r demand
+  pub before : (k : ℕ) → k < demand.0 → IsFar p r k → ⊥
+
+-- each demand that has a limit has a permitted path that keeps it
+abbrev pub NoneFar : Parts → Forbidden → Type 0
+NoneFar p r = (k : ℕ) → k < length p.demands → IsFar p r k → ⊥

@@ -193,6 +193,8 @@ pub enum Examined {
     Cut,
     /// It is divided into these two nodes.
     Divided { left: BranchId, right: BranchId },
+    /// No path of the demand keeps its limit, and each demand before it has one that does; that has closed it.
+    Far { demand: DemandId },
     /// Each demand has one path, and a link cannot carry them; that has closed it.
     Overfull,
     /// Each demand has one path, and they can be carried; that has closed it.

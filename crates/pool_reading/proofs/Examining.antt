@@ -22,7 +22,7 @@ use Rattle.pool_machine.specs.Machine.{IsReachable}
 use Rattle.pool_machine.specs.Nodes.{IsSoundNode, IsSoundBest}
 use Rattle.pool_nodes.specs.Grounds.{IsGroundOf}
 use Rattle.pool_reading.specs.Views.{IsKeptPool}
-use Rattle.pool_reading.specs.Examining.{IsReadyAt, IsDeterminedAt}
+use Rattle.pool_reading.specs.Examining.{IsReadyAt, IsNearAt, IsDeterminedAt}
 use Rattle.pool_machine.proofs.Runs.{IsReachable-sound}
 use Rattle.pool_machine.proofs.Replacing.{node_at}
 
@@ -59,13 +59,16 @@ never-empty p node k set sound some empty =
     let least = b.is_bound.are_least k empty.is_demand in
     cut_off-none p (restriction_of node) k set empty.cut_off least.path least.permitted
 
-pub determined-at : (s : State) (id : BranchId) (found : Determined) (r : Forbidden) → IsReachable s → (at : IsReadyAt s id) → r ≡ restriction_of at.node
+pub determined-at : (s : State) (id : BranchId) (found : Determined) (r : Forbidden) → IsReachable s → (at : IsNearAt s id) → r ≡ restriction_of at.node
     → IsDetermined s.problem r found → IsDeterminedAt s id found
 determined-at s id (determined.Empty demand set) r reachable at same h =
     let is = at.ready.open_node in
     never-empty s.problem at.node demand.0 set (node_at s id.0 at.node (IsReachable-sound s reachable) is.is_node) at.ready.priced (rw same at h)
-determined-at s id (determined.Two demand first second) r reachable at same h = record { node = at.node; ready = at.ready; two = rw same at h }
-determined-at s id (determined.One paths) r reachable at same h = record { node = at.node; ready = at.ready; only = rw same at h }
+determined-at s id (determined.Two demand first second) r reachable at same h = record { node = at.node; ready = at.ready; none_far = at.none_far; two = rw same at h }
+determined-at s id (determined.One paths) r reachable at same h = record { node = at.node; ready = at.ready; none_far = at.none_far; only = rw same at h }
+
+abbrev pub near-ready : (s : State) (id : BranchId) → IsNearAt s id → IsReadyAt s id
+near-ready s id at = record { node = at.node; ready = at.ready }
 
 -- The ground of a node that may be examined
 module _ (s : State) (table : Parts) (grounds : List (Option Rows)) (places : List Slot) (h : IsKeptPool s table grounds places) (id : BranchId) (at : IsReadyAt s id) where
@@ -90,7 +93,7 @@ module _ (s : State) (table : Parts) (grounds : List (Option Rows)) (places : Li
   pub ready-item : (item : Node) → item ≡ get_or s.nodes id.0 item → item ≡ at.node
   ready-item item read = read ∙ get_or_from_slice_get s.nodes id.0 at.node item at.ready.open_node.is_node
 
-pub determined-ok : {E : Type 0} (s : State) (id : BranchId) (result : Result Determined E) (r : Forbidden) → IsReachable s → (at : IsReadyAt s id) → r ≡ restriction_of at.node
+pub determined-ok : {E : Type 0} (s : State) (id : BranchId) (result : Result Determined E) (r : Forbidden) → IsReachable s → (at : IsNearAt s id) → r ≡ restriction_of at.node
     → IfOk result (IsDetermined s.problem r) → IfOk result (IsDeterminedAt s id)
 determined-ok s id (Ok found) r reachable at same h = determined-at s id found r reachable at same h
 determined-ok s id (Err fault) r reachable at same h = tt

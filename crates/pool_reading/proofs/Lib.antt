@@ -1,6 +1,7 @@
 pub mod Answering
 pub mod Offers
 mod Examining
+mod FarLaws
 mod Dividings
 pub mod TaskLaws
 pub mod Reading

@@ -10,7 +10,7 @@ use Rattle.arc_restrict.specs.Restrictions.{with_forbidden}
 use Rattle.arc_restrict.specs.Rows.{Rows, forbids, HasSizeOf}
 use Rattle.branch_tree.specs.declared.node.Division.{Division}
 use Rattle.pool_machine.specs.State.{Node, State, restriction_of}
-use Rattle.pool_machine.specs.Readiness.{IsReady}
+use Rattle.pool_machine.specs.Readiness.{IsReady, IsFirstFar, NoneFar}
 use Rattle.pool_machine.specs.Dividing.{PartsAt, child_of}
 
 -- the node of the number may be examined
@@ -18,16 +18,30 @@ pub record IsReadyAt (s : State) (id : BranchId) : Type 0 where
   pub node : Node
   pub ready : IsReady s id node
 
--- and it leaves each demand one path, and these are they
+-- and it leaves each demand with a limit a path that keeps it
+pub record IsNearAt (s : State) (id : BranchId) : Type 0 where
+  pub node : Node
+  pub ready : IsReady s id node
+  pub none_far : NoneFar s.problem (restriction_of node)
+
+-- the node of the number may be examined, and this is the first demand of which it leaves no path that keeps its limit
+pub record IsFarAt (s : State) (id : BranchId) (demand : DemandId) : Type 0 where
+  pub node : Node
+  pub ready : IsReady s id node
+  pub far : IsFirstFar s.problem (restriction_of node) demand
+
+-- no demand is far at the node, and it leaves each one path, and these are they
 pub record HasOnlyPaths (s : State) (id : BranchId) (paths : List (List ArcId)) : Type 0 where
   pub node : Node
   pub ready : IsReady s id node
+  pub none_far : NoneFar s.problem (restriction_of node)
   pub only : AreOnlyPaths s.problem (restriction_of node) paths
 
--- and it leaves the demand two paths, of which these are two
+-- no demand is far at the node, and it leaves the demand two paths, of which these are two
 pub record HasTwoPaths (s : State) (id : BranchId) (demand : DemandId) (first second : List ArcId) : Type 0 where
   pub node : Node
   pub ready : IsReady s id node
+  pub none_far : NoneFar s.problem (restriction_of node)
   pub two : IsFirstTwo s.problem (restriction_of node) demand.0 first second
 
 -- what the node leaves; each demand has a path there
@@ -68,6 +82,7 @@ pub record IsChildAt (s : State) (id : BranchId) (demand : DemandId) (arcs : Lis
 pub record IsDivisionAt (s : State) (id : BranchId) (division : Division) : Type 0 where
   pub node : Node
   pub ready : IsReady s id node
+  pub none_far : NoneFar s.problem (restriction_of node)
   pub parts : PartsAt s.problem (restriction_of node) division
   pub left_next : division.left_child.0 ≡ length s.nodes
   pub right_next : division.right_child.0 ≡ suc (length s.nodes)

@@ -1,12 +1,12 @@
 //! Examinations: an open leaf is closed or divided.
 
 ghost use Rattle.std.specs.Prelude.{◌≡◌, Ok, IfOk, OnErr};
-ghost use Rattle.pool_machine.specs.Examining.{ExamineStep};
-ghost use Rattle.pool_reading.specs.Examining.{IsReadyAt, HasOnlyPaths};
+ghost use Rattle.pool_machine.specs.Examining.{ClosesFar, ExamineStep};
+ghost use Rattle.pool_reading.specs.Examining.{IsReadyAt, IsFarAt, HasOnlyPaths};
 
 use super::Pool;
 use completions::{complete, overfull_link};
-use plan_base::{BranchId, Design, Items, Path};
+use plan_base::{BranchId, DemandId, Design, Items, Path};
 use pool_machine::{ExamineFault, Examined};
 use pool_nodes::Reason;
 use proof_tree::Evidence;
@@ -14,6 +14,16 @@ use second_path::Determined;
 use std::alloc::AllocError;
 
 impl Pool {
+    /// Closes a node where no permitted path of a demand keeps its limit.
+    fn close_far(&mut self, node: BranchId, demand: DemandId)
+        requires { IsFarAt self.old node demand }
+        ensures { ClosesFar self.old node demand self.new }
+    {
+        // Whoever looks into the pool knows what its type keeps, which the proof needs.
+        let _ = &self.nodes;
+        self.close(node, Reason::Shown(Evidence::Far { demand }));
+    }
+
     /// Closes a node that leaves each demand one path: by the first link that these paths overfill, or else with
     /// the cheapest design for them.
     fn close_routed(&mut self, node: BranchId, paths: Items<Path>) -> Result<Examined, AllocError>
@@ -44,6 +54,10 @@ impl Pool {
         ensures event { IfOk result (λ answer. ExamineStep self.old node (Ok answer) self.new) }
         ensures kept { OnErr result (self.new ≡ self.old) }
     {
+        if let Some(demand) = self.view().far_at(node)? {
+            self.close_far(node, demand);
+            return Ok(Examined::Far { demand });
+        }
         let determined = self.view().determine_at(node)?;
         match determined {
             Determined::Empty {
@@ -61,9 +75,10 @@ impl Pool {
 
     /// Closes or divides an open leaf.
     ///
-    /// - Gives: `Cut` where the node has a cut; `Divided` where a demand has two permitted paths, which part
-    ///   there; `Overfull` where each demand has one and a link cannot carry them; `Routed` where they can be
-    ///   carried, and they become the best design where they cost less.
+    /// - Gives: `Cut` where the node has a cut; else `Far` with the first demand of which no permitted path keeps its
+    ///   limit; else `Divided` where a demand has two permitted paths, which part there; `Overfull` where each demand
+    ///   has one and a link cannot carry them; `Routed` where they can be carried, and they become the best design
+    ///   where they cost less.
     /// - Errors: in this order, `Spent` where the budget is spent; `NotOpen` where the node is no open leaf;
     ///   and, where it has no cut, `Unpriced` where no version was ever complete; `Closable` where
     ///   `close_by_bound` closes it; `Unsettled` where it is not settled and has room for more versions. Want of

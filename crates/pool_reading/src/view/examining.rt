@@ -1,27 +1,66 @@
 //! Why an examination is refused, and what a node leaves to the demands.
 
-ghost use Rattle.std.specs.Prelude.{◌≡◌, not, ◌&&◌, nat_lt, IfOk, IfSome, slice_get};
+ghost use Rattle.std.specs.Prelude.{◌≡◌, ◌<◌, ◌↔◌, not, ◌&&◌, nat_lt, length, IsTrue, IfOk, IfSome, IfNone, slice_get};
 ghost use Rattle.arc_restrict.specs.Rows.{forbids};
+ghost use Rattle.proof_tree.specs.Evidence.{IsFar};
 ghost use Rattle.second_path.specs.Others.{IsDetermined};
 ghost use Rattle.pool_machine.specs.declared.limits.TheConstants.{MAX_VERSIONS};
 ghost use Rattle.pool_machine.specs.State.{restriction_of};
-ghost use Rattle.pool_machine.specs.Readiness.{completed_in, settled_in, ready_fault, examine_refusal};
-ghost use Rattle.pool_reading.specs.Examining.{IsReadyAt, IsDeterminedAt};
+ghost use Rattle.pool_machine.specs.Readiness.{completed_in, settled_in, ready_fault, examine_refusal, IsFirstFar, NoneFar};
+ghost use Rattle.pool_reading.specs.Examining.{IsReadyAt, IsNearAt, IsFarAt, IsDeterminedAt};
 
 use super::PoolView;
 use super::closing::is_open_state;
 use arc_restrict::Restriction;
-use plan_base::BranchId;
+use hop_pricing::fewest;
+use plan_base::{BranchId, DemandId, Instance};
 use pool_machine::ExamineFault;
 use pool_machine::limits::MAX_VERSIONS;
 use second_path::{Determined, determine, determine_among};
-use std::alloc::AllocError;
+use std::alloc::{AllocError, Global};
 
 /// Whether a node is not settled and has room for more versions.
 fn is_unsettled(settled: bool, completed: u32) -> bool
     ensures { result ≡ (not settled && nat_lt completed MAX_VERSIONS) }
 {
     !settled && completed < MAX_VERSIONS
+}
+
+/// Whether the demand has a limit, and no permitted path of it keeps that.
+fn is_far(
+    alloc: Global,
+    inst: &Instance,
+    demand: DemandId,
+    rows: &Restriction,
+) -> Result<bool, AllocError>
+    requires { demand.0 < length inst.now.demands }
+    ensures { IfOk result (λ far. IsTrue far ↔ IsFar inst.now (forbids rows.now) demand.0) }
+{
+    let Some(limit) = inst.demand(demand).hops else {
+        return Ok(false);
+    };
+    match fewest(alloc, inst, demand, rows)? {
+        Some(arcs) => Ok(u64::from(arcs) > limit),
+        None => Ok(true),
+    }
+}
+
+/// The first demand that has a limit which no permitted path of it keeps.
+fn first_far(
+    alloc: Global,
+    inst: &Instance,
+    rows: &Restriction,
+) -> Result<Option<DemandId>, AllocError>
+    ensures some { IfOk result (λ found. IfSome found (IsFirstFar inst.now (forbids rows.now))) }
+    ensures none { IfOk result (λ found. IfNone found (NoneFar inst.now (forbids rows.now))) }
+{
+    for place in 0..inst.demands() {
+        let demand = DemandId(place);
+        if is_far(alloc, inst, demand, rows)? {
+            return Ok(Some(demand));
+        }
+    }
+    Ok(None)
 }
 
 impl<'a> PoolView<'a> {
@@ -100,9 +139,22 @@ impl<'a> PoolView<'a> {
         determine_among(self.alloc, self.problem, rows, paths)
     }
 
-    /// What the restriction of a node that may be examined leaves to the demands.
-    pub fn determine_at(&self, node: BranchId) -> Result<Determined, AllocError>
+    /// The first demand at a node that may be examined of which no permitted path keeps its limit.
+    pub fn far_at(&self, node: BranchId) -> Result<Option<DemandId>, AllocError>
         requires { IsReadyAt self.now node }
+        ensures some { IfOk result (λ found. IfSome found (IsFarAt self.now node)) }
+        ensures none { IfOk result (λ found. IfNone found (IsNearAt self.now node)) }
+    {
+        let ground = &self.grounds[node.0 as usize];
+        let Some(rows) = ground.rows() else {
+            unreachable!();
+        };
+        first_far(self.alloc, self.problem, &**rows)
+    }
+
+    /// What the restriction of a node leaves to the demands, where it may be examined and no demand is far there.
+    pub fn determine_at(&self, node: BranchId) -> Result<Determined, AllocError>
+        requires { IsNearAt self.now node }
         ensures { IfOk result (IsDeterminedAt self.now node) }
     {
         let ground = &self.grounds[node.0 as usize];

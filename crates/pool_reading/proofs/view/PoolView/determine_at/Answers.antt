@@ -5,24 +5,25 @@ use Rattle.arc_restrict.specs.Rows.{forbids}
 use Rattle.pool_reading.specs.Shown.{shown}
 use Rattle.pool_machine.specs.State.{Node, State, restriction_of}
 use Rattle.second_path.specs.Others.{IsDetermined}
-use Rattle.pool_reading.specs.Examining.{IsReadyAt, IsDeterminedAt}
-use Rattle.pool_reading.proofs.Examining.{ready-ground-within, ready-ground, ground-none, ground-some, determined-ok}
+use Rattle.pool_reading.specs.Examining.{IsReadyAt, IsNearAt, IsDeterminedAt}
+use Rattle.pool_reading.proofs.Examining.{near-ready, ready-ground-within, ready-ground, ground-none, ground-some, determined-ok}
 use Rattle.pool_reading.proofs.view.PoolView.determine_at.Goals as goal
 
 pub bounds-self-inside-node : goal.bounds-self-inside-node
 bounds-self-inside-node c =
     let within : c.args.node.0 < length c.self.inside.grounds.now =
-    ready-ground-within (shown c.self.inside) _ c.self.inside.grounds.now c.self.inside.places.now c.self.invariant c.args.node (subst (λ (s : State). IsReadyAt s c.args.node) (sym c.self.view_is) c.requires) in
+    ready-ground-within (shown c.self.inside) _ c.self.inside.grounds.now c.self.inside.places.now c.self.invariant c.args.node (near-ready (shown c.self.inside) c.args.node (subst (λ (s : State). IsNearAt s c.args.node) (sym c.self.view_is) c.requires)) in
     search rules
 
 pub unreachable-requires : goal.unreachable-requires
 unreachable-requires c =
-    let g = ready-ground (shown c.self.inside) _ c.self.inside.grounds.now c.self.inside.places.now c.self.invariant c.args.node (subst (λ (s : State). IsReadyAt s c.args.node) (sym c.self.view_is) c.requires) c.index-self-node.result c.index-self-node.is in
+    let at : IsReadyAt (shown c.self.inside) c.args.node = near-ready (shown c.self.inside) c.args.node (subst (λ (s : State). IsNearAt s c.args.node) (sym c.self.view_is) c.requires) in
+    let g = ready-ground (shown c.self.inside) _ c.self.inside.grounds.now c.self.inside.places.now c.self.invariant c.args.node at c.index-self-node.result c.index-self-node.is in
     ground-none _ c.rows.result c.index-self-node.result g.0 (c.rows.ensures ∙ sym c.index-self-node.is) g.1 c.in_default.is
 
 pub determined-requires : goal.determined-requires
 determined-requires c =
-    let at : IsReadyAt (shown c.self.inside) c.args.node = (subst (λ (s : State). IsReadyAt s c.args.node) (sym c.self.view_is) c.requires) in
+    let at : IsReadyAt (shown c.self.inside) c.args.node = (near-ready (shown c.self.inside) c.args.node (subst (λ (s : State). IsNearAt s c.args.node) (sym c.self.view_is) c.requires)) in
     let g = ready-ground (shown c.self.inside) _ c.self.inside.grounds.now c.self.inside.places.now c.self.invariant c.args.node at c.index-self-node.result c.index-self-node.is in
     let rows : arc_value c.in-Some.rows.now ≡ g.0 = ground-some _ c.rows.result c.index-self-node.result g.0 c.in-Some.rows (c.rows.ensures ∙ sym c.index-self-node.is) g.1 c.in-Some.is in
     subst (λ (s : State). IfSome (slice_get s.nodes c.args.node.0) (λ (x : Node). forbids c.deref.result.now ≡ restriction_of x)) c.self.view_is
@@ -30,8 +31,8 @@ determined-requires c =
 
 pub returns : goal.returns
 returns c =
-    let at : IsReadyAt (shown c.self.inside) c.args.node = (subst (λ (s : State). IsReadyAt s c.args.node) (sym c.self.view_is) c.requires) in
-    let g = ready-ground (shown c.self.inside) _ c.self.inside.grounds.now c.self.inside.places.now c.self.invariant c.args.node at c.index-self-node.result c.index-self-node.is in
+    let at : IsNearAt (shown c.self.inside) c.args.node = subst (λ (s : State). IsNearAt s c.args.node) (sym c.self.view_is) c.requires in
+    let g = ready-ground (shown c.self.inside) _ c.self.inside.grounds.now c.self.inside.places.now c.self.invariant c.args.node (near-ready (shown c.self.inside) c.args.node at) c.index-self-node.result c.index-self-node.is in
     let rows : arc_value c.in-Some.rows.now ≡ g.0 = ground-some _ c.rows.result c.index-self-node.result g.0 c.in-Some.rows (c.rows.ensures ∙ sym c.index-self-node.is) g.1 c.in-Some.is in
     let same : forbids c.deref.result.now ≡ restriction_of at.node = ap forbids (c.deref.ensures ∙ rows) ∙ g.2 in
     let found : IfOk c.determined.result (IsDetermined (shown c.self.inside).problem (forbids c.deref.result.now)) =

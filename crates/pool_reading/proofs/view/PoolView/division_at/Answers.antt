@@ -79,6 +79,7 @@ returns-clause-division c =
     record {
       node = c.requires.node;
       ready = c.requires.ready;
+      none_far = c.requires.none_far;
       parts = parts-at p (restriction_of c.requires.node) d one other c.args.first.now c.args.second.now within c.requires.two part dealt;
       left_next = count;
       right_next = add-one (length c.self.inside.nodes.now) ∙ ap suc count;

@@ -1,0 +1,34 @@
+-- An examination of a node where a demand is far is one event.
+use Rattle.std.proofs.Common.{◌≡◌, ◌<◌, true, slice_get}
+use Rattle.std.specs.Prelude.{Ok}
+use Rattle.plan_base.specs.declared.ids.BranchId.{BranchId}
+use Rattle.plan_base.specs.declared.ids.DemandId.{DemandId}
+use Rattle.proof_tree.specs.declared.tree.Evidence.TheVariants as evidence
+use Rattle.pool_machine.specs.declared.answers.Examined.TheVariants as examined
+use Rattle.pool_nodes.specs.declared.reason.Reason.TheVariants as reason
+use Rattle.pool_machine.specs.State.{State, state_of}
+use Rattle.pool_machine.specs.Changes.{is_open_state}
+use Rattle.pool_machine.specs.Examining.{ClosesFar}
+use Rattle.pool_machine.specs.Machine.{Examining, to_examining, IsReachable}
+use Rattle.pool_machine.proofs.Runs.{IsReachable-step}
+use Rattle.pool_reading.specs.Views.{closed_at}
+use Rattle.pool_reading.specs.Examining.{IsFarAt}
+use Rattle.pool_core.proofs.Examining.{open-at, shown-closed}
+
+module _ (s : State) (id : BranchId) (demand : DemandId) (at : IsFarAt s id demand) where
+  pub far-open : is_open_state (state_of s id) ≡ true
+  far-open = open-at s id at.node at.ready.open_node
+
+  pub far-not_spent : s.examined < s.budget
+  far-not_spent = at.ready.open_node.not_spent
+
+  pub far-closes : ClosesFar s id demand (closed_at s id (reason.Shown (evidence.Far demand)) (slice_get s.nodes id.0))
+  far-closes = record {
+    node = at.node;
+    ready = at.ready;
+    far = at.far;
+    becomes = shown-closed s id at.node (evidence.Far demand) at.ready.open_node.is_node;
+  }
+
+  pub far-reachable : IsReachable s → IsReachable (closed_at s id (reason.Shown (evidence.Far demand)) (slice_get s.nodes id.0))
+  far-reachable h = IsReachable-step s (closed_at s id (reason.Shown (evidence.Far demand)) (slice_get s.nodes id.0)) (Examining id) (to_examining (Ok (examined.Far demand))) h far-closes
