@@ -4,6 +4,7 @@ use Rattle.std.proofs.lemmas.Bool.{false≢true}
 use Rattle.std.proofs.lemmas.List.{length-append, get_or_append_left}
 use Rattle.std.proofs.Math.Seq.{get_or-append_seam}
 use Rattle.plan_base.specs.declared.parts.Orient.{Orient}
+use Rattle.plan_base.specs.declared.parts.CountLaw.{CountLaw}
 use Rattle.plan_base.specs.declared.parts.Link.{Link}
 use Rattle.plan_base.specs.declared.parts.Demand.{Demand}
 use Rattle.plan_base.specs.declared.parts.Parts.{Parts}
@@ -28,19 +29,19 @@ use Rattle.model_check.proofs.Values.{planned-none, outside-some}
 
 -- ---- one instance
 
-make : Orient → ℕ → List Link → List Demand → Parts
-make orient nodes links demands = record { orient = orient; nodes = nodes; links = links; demands = demands }
+make : Orient → CountLaw → ℕ → List Link → List Demand → Parts
+make orient law nodes links demands = record { orient = orient; law = law; nodes = nodes; links = links; demands = demands }
 
-same_made : (o o' : Orient) (n n' : ℕ) (ls ls' : List Link) (ds ds' : List Demand) → o ≡ o' → n ≡ n' → ls ≡ ls' → ds ≡ ds' → make o n ls ds ≡ make o' n' ls' ds'
-same_made o o' n n' ls ls' ds ds' same_o same_n same_ls same_ds = cc
+same_made : (o o' : Orient) (w w' : CountLaw) (n n' : ℕ) (ls ls' : List Link) (ds ds' : List Demand) → o ≡ o' → w ≡ w' → n ≡ n' → ls ≡ ls' → ds ≡ ds' → make o w n ls ds ≡ make o' w' n' ls' ds'
+same_made o o' w w' n n' ls ls' ds ds' same_o same_w same_n same_ls same_ds = cc
 
-same_fields : (a b : Parts) → a.orient ≡ b.orient → a.nodes ≡ b.nodes → a.links ≡ b.links → a.demands ≡ b.demands → a ≡ b
+same_fields : (a b : Parts) → a.orient ≡ b.orient → a.law ≡ b.law → a.nodes ≡ b.nodes → a.links ≡ b.links → a.demands ≡ b.demands → a ≡ b
 unfolding make
-same_fields a b o n ls ds = same_made a.orient b.orient a.nodes b.nodes a.links b.links a.demands b.demands o n ls ds
+same_fields a b o w n ls ds = same_made a.orient b.orient a.law b.law a.nodes b.nodes a.links b.links a.demands b.demands o w n ls ds
 
 pub same_parts : (net : NetworkFile) (model : ModelFile) (a b : Parts) → ReadsAs net model a → ReadsAs net model b → a ≡ b
 same_parts net model a b h k =
-    same_fields a b (h.orient ∙ sym k.orient) (h.nodes ∙ sym k.nodes) (h.links ∙ sym k.links) (h.demands ∙ sym k.demands)
+    same_fields a b (h.orient ∙ sym k.orient) (h.law ∙ sym k.law) (h.nodes ∙ sym k.nodes) (h.links ∙ sym k.links) (h.demands ∙ sym k.demands)
 
 -- ---- an instance is not refused
 
@@ -49,7 +50,7 @@ built_is_read : (net : NetworkFile) (model : ModelFile) (p : Parts) → ReadsAs 
 built_is_read net model p h lawful =
     let few : p.nodes ≤ MAX_NODES = lawful.nodes in
     let count : told_of (length net.nodes) ≡ p.nodes = omega (arith, few, h.nodes) in
-    same_fields (parts_of net model) p (sym h.orient) count (sym h.links) (sym h.demands)
+    same_fields (parts_of net model) p (sym h.orient) (sym h.law) count (sym h.links) (sym h.demands)
 
 unsupported_not : (m : ModelFile) (key : Key) (value : ℕ) → IsUnsupported m key value → IsSupported m → ⊥
 unsupported_not m key value h supported =

@@ -21,6 +21,7 @@ use Rattle.snd_network.specs.declared.file.LinkRecord.{LinkRecord}
 use Rattle.snd_network.specs.declared.file.DemandRecord.{DemandRecord}
 use Rattle.snd_network.specs.declared.file.NetworkFile.{NetworkFile}
 use Rattle.snd_network.specs.WellFormed.{IsModule, IsGoodLink, IsGoodDemand, IsWellFormed}
+use Rattle.snd_model.specs.declared.values.HopModel.{HopModel}
 use Rattle.snd_model.specs.declared.file.ModelFile.{ModelFile}
 use Rattle.model_check.specs.Reading.{module_of, link_of, demand_of}
 use Rattle.model_check.specs.Refusals.{parts_of, CanComeOfParts, CanCome}
@@ -95,15 +96,15 @@ can_links : (count : ℕ) (rs : List LinkRecord) → All (IsGoodLink count) rs �
 can_links count rs h =
     can_in (link_fault count) (map link_of rs) (All-map (λ l. (e : ℕ) → Can (link_fault count e l)) link_of rs (λ k d within. can_link count _ (h k d within)))
 
-can_demand : (count : ℕ) (r : DemandRecord) → IsGoodDemand count r → (k : ℕ) → Can (demand_fault count k (demand_of r))
+can_demand : (hop : HopModel) (count : ℕ) (r : DemandRecord) → IsGoodDemand count r → (k : ℕ) → Can (demand_fault count k (demand_of hop r))
 unfolding demand_fault
-can_demand count r h k =
+can_demand hop count r h k =
     can_or (when (has_end_outside count r.source r.target) (EndOutOfRange (end.Demand (demand_id k)))) (when (r.source.0 == r.target.0) (LoopDemand (demand_id k))) (never_when (has_end_outside count r.source r.target) (EndOutOfRange (end.Demand (demand_id k))) (ends_inside count r.source r.target h.source h.target)) (λ _.
     can_when (r.source.0 == r.target.0) (LoopDemand (demand_id k)) tt)
 
-can_demands : (count : ℕ) (rs : List DemandRecord) → All (IsGoodDemand count) rs → Can (first_in (demand_fault count) (map demand_of rs))
-can_demands count rs h =
-    can_in (demand_fault count) (map demand_of rs) (All-map (λ d. (k : ℕ) → Can (demand_fault count k d)) demand_of rs (λ k d within. can_demand count _ (h k d within)))
+can_demands : (hop : HopModel) (count : ℕ) (rs : List DemandRecord) → All (IsGoodDemand count) rs → Can (first_in (demand_fault count) (map (demand_of hop) rs))
+can_demands hop count rs h =
+    can_in (demand_fault count) (map (demand_of hop) rs) (All-map (λ d. (k : ℕ) → Can (demand_fault count k d)) (demand_of hop) rs (λ k d within. can_demand hop count _ (h k d within)))
 
 can_sizes : (p : Parts) → Can (size_fault p)
 can_sizes p =
@@ -133,7 +134,7 @@ can_parts net model h =
     can_or (size_fault p) (links or_else demands or_else total_fault p or_else routing) (can_sizes p) (λ none.
     let count = told_whole p (length net.nodes) refl none in
     can_or links (demands or_else total_fault p or_else routing) (can_links p.nodes net.links (subst (λ n. All (IsGoodLink n) net.links) (sym count) h.links)) (λ _.
-    can_or demands (total_fault p or_else routing) (can_demands p.nodes net.demands (subst (λ n. All (IsGoodDemand n) net.demands) (sym count) h.demands)) (λ _.
+    can_or demands (total_fault p or_else routing) (can_demands model.hop p.nodes net.demands (subst (λ n. All (IsGoodDemand n) net.demands) (sym count) h.demands)) (λ _.
     can_or (total_fault p) routing (can_limit (nat_lt MAX_TOTAL_LOAD (total_load p)) 7 0 (omega arith) (omega arith)) (λ _.
     can_routing (total_load p) p.links))))
 

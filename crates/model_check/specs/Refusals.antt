@@ -15,7 +15,7 @@ use Rattle.snd_model.specs.Grammar.{setting_of}
 use Rattle.model_check.specs.declared.fault.CheckFault.{CheckFault}
 use Rattle.model_check.specs.declared.fault.CheckFault.TheVariants.{Unsupported, Build, OutOfMemory}
 use Rattle.model_check.specs.Profile.{is_planned, AreAllPlanned, IsSupported}
-use Rattle.model_check.specs.Reading.{orient_of, link_of, demand_of}
+use Rattle.model_check.specs.Reading.{orient_of, law_of, link_of, demand_of}
 
 -- the key's value is outside the profile, and the value of each key before it in the table is in the profile
 pub record IsFirstOutside (m : ModelFile) (key : Key) : Type 0 where
@@ -39,7 +39,13 @@ pub record IsUnsupported (m : ModelFile) (key : Key) (value : ℕ) : Type 0 wher
 
 -- the parts that are built, with the count of nodes as a fault tells it
 abbrev pub parts_of : NetworkFile → ModelFile → Parts
-parts_of net model = record { orient = orient_of model.link; nodes = told_of (length net.nodes); links = map link_of net.links; demands = map demand_of net.demands }
+parts_of net model = record {
+  orient = orient_of model.link;
+  law = law_of model.capacity;
+  nodes = told_of (length net.nodes);
+  links = map link_of net.links;
+  demands = map (demand_of model.hop) net.demands;
+}
 
 -- a refusal of the model comes before every fault of the parts; want of memory may be told of any files
 abbrev pub IsCheckFault : NetworkFile → ModelFile → CheckFault → Type 0

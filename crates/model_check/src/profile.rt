@@ -20,11 +20,11 @@ fn is_planned(setting: Setting) -> bool
         setting,
         Setting::Demand(DemandModel::Undirected | DemandModel::Directed)
             | Setting::Link(LinkModel::Undirected | LinkModel::Directed | LinkModel::Bidirected)
-            | Setting::Capacity(CapacityModel::Modular)
+            | Setting::Capacity(CapacityModel::Modular | CapacityModel::Explicit)
             | Setting::FixedCharge(FixedChargeModel::No)
             | Setting::Routing(RoutingModel::SinglePath)
             | Setting::Path(PathModel::All)
-            | Setting::Hop(HopModel::No)
+            | Setting::Hop(HopModel::No | HopModel::Yes)
             | Setting::Survivability(SurvivabilityModel::No)
     )
 }

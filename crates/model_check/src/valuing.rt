@@ -2,11 +2,11 @@
 
 ghost use Rattle.std.specs.Prelude.{◌≡◌, map, IfOk};
 ghost use Rattle.plan_base.specs.Faults.{told_of};
-ghost use Rattle.model_check.specs.Reading.{module_of, link_of, demand_of, orient_of};
+ghost use Rattle.model_check.specs.Reading.{module_of, link_of, demand_of, orient_of, law_of, limit_of};
 ghost use Rattle.model_check.specs.Refusals.{parts_of};
 
-use plan_base::{Demand, Items, Link, Module, Orient, Parts};
-use snd_model::{LinkModel, ModelFile};
+use plan_base::{CountLaw, Demand, Items, Link, Module, Orient, Parts};
+use snd_model::{CapacityModel, HopModel, LinkModel, ModelFile};
 use snd_network::{DemandRecord, LinkRecord, NetworkFile};
 use std::alloc::{AllocError, Global};
 
@@ -28,6 +28,28 @@ fn orient_of(link: LinkModel) -> Orient
         LinkModel::Undirected => Orient::Undirected,
         LinkModel::Directed => Orient::Directed,
         LinkModel::Bidirected => Orient::Bidirected,
+    }
+}
+
+/// Which counts of a link's modules are lawful.
+fn law_of(capacity: CapacityModel) -> CountLaw
+    ensures { result ≡ law_of capacity }
+{
+    match capacity {
+        CapacityModel::Modular | CapacityModel::Linear | CapacityModel::SingleModular => {
+            CountLaw::Any
+        }
+        CapacityModel::Explicit => CountLaw::AtMostOne,
+    }
+}
+
+/// The most arcs of a demand's path.
+fn limit_of(hop: HopModel, read: Option<u64>) -> Option<u64>
+    ensures { result ≡ limit_of hop read }
+{
+    match hop {
+        HopModel::No => None,
+        HopModel::Yes => read,
     }
 }
 
@@ -72,24 +94,29 @@ fn links_of(alloc: Global, links: &Items<LinkRecord>) -> Result<Items<Link>, All
 }
 
 /// The demand in grains.
-fn demand_of(demand: &DemandRecord) -> Demand
-    ensures { result ≡ demand_of demand.now }
+fn demand_of(hop: HopModel, demand: &DemandRecord) -> Demand
+    ensures { result ≡ demand_of hop demand.now }
 {
     Demand {
         source: demand.source,
         target: demand.target,
         load: u128::from(demand.unit) * u128::from(demand.value),
+        hops: limit_of(hop, demand.hops),
     }
 }
 
 /// The demands in grains.
 #[tactic(auto, using(crate::proofs::Lists::next_more))]
-fn demands_of(alloc: Global, demands: &Items<DemandRecord>) -> Result<Items<Demand>, AllocError>
-    ensures { IfOk result (λ found. found ≡ map demand_of demands.now) }
+fn demands_of(
+    alloc: Global,
+    hop: HopModel,
+    demands: &Items<DemandRecord>,
+) -> Result<Items<Demand>, AllocError>
+    ensures { IfOk result (λ found. found ≡ map (demand_of hop) demands.now) }
 {
     let mut found = Vec::new(alloc);
     for demand in demands.as_slice() {
-        found.push(demand_of(demand))?;
+        found.push(demand_of(hop, demand))?;
     }
     Ok(Items::from_vec(found))
 }
@@ -104,8 +131,9 @@ pub(crate) fn parts_of(
 {
     Ok(Parts {
         orient: orient_of(model.link),
+        law: law_of(model.capacity),
         nodes: told(net.nodes.len()),
         links: links_of(alloc, &net.links)?,
-        demands: demands_of(alloc, &net.demands)?,
+        demands: demands_of(alloc, model.hop, &net.demands)?,
     })
 }
