@@ -15,6 +15,7 @@ use Rattle.snd_model.specs.declared.keys.Key.{Key}
 use Rattle.snd_model.specs.declared.keys.Key.TheVariants as keys
 use Rattle.snd_model.specs.Grammar.{setting_of}
 use Rattle.model_check.specs.Profile.{is_planned}
+use Rattle.snd_model.specs.declared.values.HopModel.TheVariants as hops
 use Rattle.model_check.specs.Reading.{link_of, demand_of, ReadsAs}
 use Rattle.link_steps.specs.Costs.{HasMoreSteps}
 use Rattle.instance_maker.specs.Draws.{next_state, state_after, draw}
@@ -91,7 +92,7 @@ count-links number nodes =
 
 -- ---- demands
 
-sampled-demand : (nodes state i : ℕ) → 4 ≤ nodes → IsDemand nodes (demand_of (sample_demand nodes state i))
+sampled-demand : (nodes state i : ℕ) → 4 ≤ nodes → IsDemand nodes (demand_of hops.No (sample_demand nodes state i))
 sampled-demand nodes state i some =
     let s = draw state nodes in
     let d = draw (next_state state) (nodes - 1) in
@@ -104,22 +105,22 @@ sampled-demand nodes state i some =
       different = λ e. elsewhere nodes s (1 + d) within (omega arith) (omega (arith, low)) (e ∙ ap (λ n. n % nodes) same);
     }
 
-small-load : (nodes state i : ℕ) → (demand_of (sample_demand nodes state i)).load ≤ 9 * 10 ^ 6
+small-load : (nodes state i : ℕ) → (demand_of hops.No (sample_demand nodes state i)).load ≤ 9 * 10 ^ 6
 small-load nodes state i = omega (arith, drawn_below (next_state (next_state state)) 9 (omega arith))
 
 module _ (number nodes demands : ℕ) (some : 4 ≤ nodes) (few : nodes ≤ 64) (within : demands ≤ 4096) where
   state : ℕ
   state = after_chords (after_ring number nodes) nodes
 
-  all-demands : (P : Demand → Type 0) → ((i : ℕ) → P (demand_of (sample_demand nodes (state_after (after_chords (after_ring number nodes) nodes) (3 * i)) i))) → All P (sample_parts number nodes demands).demands
+  all-demands : (P : Demand → Type 0) → ((i : ℕ) → P (demand_of hops.No (sample_demand nodes (state_after (after_chords (after_ring number nodes) nodes) (3 * i)) i))) → All P (sample_parts number nodes demands).demands
   all-demands P each =
       let first = after_chords (after_ring number nodes) nodes in
-      All-map P demand_of (sample_demands first nodes demands) (all_numbered (λ d. P (demand_of d)) (λ i. sample_demand nodes (state_after first (3 * i)) i) demands (λ i below. each i))
+      All-map P (demand_of hops.No) (sample_demands first nodes demands) (all_numbered (λ d. P (demand_of hops.No d)) (λ i. sample_demand nodes (state_after first (3 * i)) i) demands (λ i below. each i))
 
   count-demands : length (sample_parts number nodes demands).demands ≡ demands
   count-demands =
       let first = after_chords (after_ring number nodes) nodes in
-      length-map (sample_demands first nodes demands) demand_of ∙ length-map-range_with_len (λ i. sample_demand nodes (state_after first (3 * i)) i) 0 demands
+      length-map (sample_demands first nodes demands) (demand_of hops.No) ∙ length-map-range_with_len (λ i. sample_demand nodes (state_after first (3 * i)) i) 0 demands
 
   pub small_total : total_load (sample_parts number nodes demands) ≤ 36864 * 10 ^ 6
   small_total =
@@ -141,8 +142,8 @@ module _ (number nodes demands : ℕ) (some : 4 ≤ nodes) (few : nodes ≤ 64) 
         routing = λ i d below. rw ((links i d below).free) (omega arith);
       }
 
-  pub few_steps : (e : ℕ) → e < length (sample_parts number nodes demands).links → HasMoreSteps (total_load (sample_parts number nodes demands)) (link_at (sample_parts number nodes demands) e) 4096 → ⊥
-  few_steps e below = few_levels (link_at (sample_parts number nodes demands) e) (all-sampled number nodes some e no_link below).has_tens (total_load (sample_parts number nodes demands)) small_total
+  pub few_steps : (e : ℕ) → e < length (sample_parts number nodes demands).links → HasMoreSteps (sample_parts number nodes demands).law (total_load (sample_parts number nodes demands)) (link_at (sample_parts number nodes demands) e) 4096 → ⊥
+  few_steps e below = few_levels (sample_parts number nodes demands).law (link_at (sample_parts number nodes demands) e) (all-sampled number nodes some e no_link below).has_tens (total_load (sample_parts number nodes demands)) small_total
 
   planned : (key : Key) → is_planned (setting_of trial_model key) ≡ true
   planned keys.Demand = refl
@@ -158,6 +159,7 @@ module _ (number nodes demands : ℕ) (some : 4 ≤ nodes) (few : nodes ≤ 64) 
   reads = record {
     supported = record { values = planned; pair = λ _. refl };
     orient = refl;
+    law = refl;
     nodes = sym (length-map-range_with_len sample_node 0 nodes);
     links = refl;
     demands = refl;

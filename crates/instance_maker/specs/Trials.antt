@@ -1,6 +1,7 @@
 -- What a trial plans: the network of a number, under one model.
 use Rattle.std.specs.Prelude.{ℕ, map}
 use Rattle.plan_base.specs.declared.parts.Orient.TheVariants.{Undirected}
+use Rattle.plan_base.specs.declared.parts.CountLaw.TheVariants.{Any}
 use Rattle.plan_base.specs.declared.parts.Parts.{Parts}
 use Rattle.snd_model.specs.declared.values.DemandModel.TheVariants as demand_models
 use Rattle.snd_model.specs.declared.values.LinkModel.TheVariants as link_models
@@ -31,7 +32,8 @@ trial_model = record {
 abbrev pub sample_parts : ℕ → ℕ → ℕ → Parts
 sample_parts number nodes demands = record {
   orient = Undirected;
+  law = Any;
   nodes = nodes;
   links = map link_of (sample_links number nodes);
-  demands = map demand_of (sample_network number nodes demands).demands;
+  demands = map (demand_of hops.No) (sample_network number nodes demands).demands;
 }

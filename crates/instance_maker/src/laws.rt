@@ -28,5 +28,5 @@ pub fn samples_are_instances()
         → IsInstance (sample_parts number nodes demands) }
     ensures few_steps { (number nodes demands e : ℕ) → MIN_NODES ≤ nodes → nodes ≤ MAX_NODES → demands ≤ MAX_DEMANDS
         → e < length (sample_parts number nodes demands).links
-        → HasMoreSteps (total_load (sample_parts number nodes demands)) (link_at (sample_parts number nodes demands) e) MAX_STEPS → ⊥ }
+        → HasMoreSteps (sample_parts number nodes demands).law (total_load (sample_parts number nodes demands)) (link_at (sample_parts number nodes demands) e) MAX_STEPS → ⊥ }
 {}

@@ -14,9 +14,9 @@ pub no_steps : (p : Parts) → HaveSteps p 0 0
 no_steps p = record { steps = []; one_each = refl; each = λ e within. absurd (omega arith); together = refl }
 
 each-more : (p : Parts) (count steps : ℕ) (have : List ℕ) → length have ≡ count
-    → ((e : ℕ) → e < count → HasSteps (total_load p) (link_at p e) (get_or have e 0))
-    → HasSteps (total_load p) (link_at p count) steps
-    → (e : ℕ) → e < count + 1 → (e < count) ⊎ (count ≤ e) → HasSteps (total_load p) (link_at p e) (get_or (have ++ steps ∷ []) e 0)
+    → ((e : ℕ) → e < count → HasSteps p.law (total_load p) (link_at p e) (get_or have e 0))
+    → HasSteps p.law (total_load p) (link_at p count) steps
+    → (e : ℕ) → e < count + 1 → (e < count) ⊎ (count ≤ e) → HasSteps p.law (total_load p) (link_at p e) (get_or (have ++ steps ∷ []) e 0)
 each-more p count steps have is_count each here e within (inl below) =
     rw (get_or_append_left have (steps ∷ []) 0 e (omega arith)) (each e below)
 each-more p count steps have is_count each here e within (inr above) =
@@ -25,7 +25,7 @@ each-more p count steps have is_count each here e within (inr above) =
     rw (is_last, get_or-append_seam have steps [] 0, is_count) here
 
 -- the steps of one more link
-pub more_steps : (p : Parts) (count all steps : ℕ) → HaveSteps p count all → HasSteps (total_load p) (link_at p count) steps → HaveSteps p (count + 1) (all + steps)
+pub more_steps : (p : Parts) (count all steps : ℕ) → HaveSteps p count all → HasSteps p.law (total_load p) (link_at p count) steps → HaveSteps p (count + 1) (all + steps)
 more_steps p count all steps have here = record {
   steps = have.steps ++ steps ∷ [];
   one_each = length-append have.steps (steps ∷ []) ∙ ap (λ n. n + 1) have.one_each;

@@ -104,7 +104,7 @@ fault_line (Read file) = read_line file
 pub record HaveSteps (p : Parts) (count all : ℕ) : Type 0 where
   pub steps : List ℕ
   pub one_each : length steps ≡ count
-  pub each : (e : ℕ) → e < count → HasSteps (total_load p) (link_at p e) (slice_index_or steps e 0)
+  pub each : (e : ℕ) → e < count → HasSteps p.law (total_load p) (link_at p e) (slice_index_or steps e 0)
   pub together : all ≡ sum_by (λ n. n) steps
 
 -- the counts of nodes, links and demands, and the total load in units, each behind its word

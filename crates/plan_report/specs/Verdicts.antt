@@ -1,7 +1,7 @@
 -- The line of a verdict on a plan. It ends with a line feed; its words are parted by one blank, which is 32. Costs and bounds are decimals in units of cost.
 use Rattle.std.specs.Prelude.{ℕ, suc, List, [], ◌∷◌, ◌++◌, codes, Option, Some, None, Result, Ok, Err, ℤ, pos, negsuc}
 use Rattle.plan_base.specs.declared.design_fault.DesignFault.{DesignFault}
-use Rattle.plan_base.specs.declared.design_fault.DesignFault.TheVariants.{WrongCount, NotAPath, Repeats, CountShape, Short}
+use Rattle.plan_base.specs.declared.design_fault.DesignFault.TheVariants.{WrongCount, NotAPath, Repeats, CountShape, Short, TooLong}
 use Rattle.plan_base.specs.declared.path.Design.{Design as PlannedDesign}
 use Rattle.proof_tree.specs.declared.plan.PlanStatus.{PlanStatus}
 use Rattle.proof_tree.specs.declared.plan.PlanStatus.TheVariants.{Optimal, Infeasible, Undecided}
@@ -52,6 +52,7 @@ design_fault_number (NotAPath demand place) = 2
 design_fault_number (Repeats demand place) = 3
 design_fault_number (CountShape link) = 4
 design_fault_number (Short link load capacity) = 5
+design_fault_number (TooLong demand arcs limit) = 6
 
 -- the line of a plan with another cost than it states
 abbrev pub costs_line : ℕ → ℕ → List ℕ

@@ -90,6 +90,7 @@ fn design_fault_number(fault: DesignFault) -> u64
         DesignFault::Repeats { .. } => 3,
         DesignFault::CountShape { .. } => 4,
         DesignFault::Short { .. } => 5,
+        DesignFault::TooLong { .. } => 6,
     }
 }
 

@@ -9,7 +9,7 @@ use Rattle.plan_base.specs.Places.{is_two_way, there_of, back_of}
 use Rattle.plan_base.specs.Designs.{path_at, counts_at, load_at, need, capacity_with, link_cost}
 use Rattle.scaled_numbers.specs.Canonical.{grains_text}
 use Rattle.snd_network.specs.declared.file.NetworkFile.{NetworkFile}
-use Rattle.proof_tree.specs.declared.tree.Evidence.TheVariants.{Routed, Overfull, Cut, Crowd}
+use Rattle.proof_tree.specs.declared.tree.Evidence.TheVariants.{Routed, Overfull, Cut, Far, Crowd}
 use Rattle.proof_tree.specs.declared.tree.TreeNode.{TreeNode}
 use Rattle.proof_tree.specs.declared.tree.TreeNode.TheVariants.{Leaf}
 use Rattle.proof_tree.specs.declared.plan.PlanStatus.{PlanStatus}
@@ -181,6 +181,7 @@ evidence_line record_ kind demand nodes links =
 abbrev pub evidence_row : NetworkFile → Parts → ℕ → TreeNode → List ℕ
 evidence_row net p i (Leaf (Overfull link)) = evidence_line i (codes "OVERFULL") [] [] (link_name net link.0)
 evidence_row net p i (Leaf (Cut demand reached)) = evidence_line i (codes "CUT") (demand_name net demand.0) (parted (reached_words net reached p.nodes)) []
+evidence_row net p i (Leaf (Far demand)) = evidence_line i (codes "FAR") (demand_name net demand.0) [] []
 evidence_row net p i (Leaf (Crowd prices)) = evidence_line i (codes "CROWD") [] [] (parted (priced_words net p prices (length p.links)))
 evidence_row net p i node = []
 

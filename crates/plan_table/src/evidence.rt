@@ -172,6 +172,9 @@ fn push_record(
             let nodes = parted(words.as_slice());
             push_line(text, place, b"CUT", demand_name(net, *demand), nodes, b"")
         }
+        TreeNode::Leaf(Evidence::Far { demand }) => {
+            push_line(text, place, b"FAR", demand_name(net, *demand), b"", b"")
+        }
         TreeNode::Leaf(Evidence::Crowd(prices)) => {
             push_priced(words, net, inst, prices)?;
             push_line(text, place, b"CROWD", b"", b"", parted(words.as_slice()))

@@ -168,12 +168,12 @@ no-steps : Below → (texts : Texts) (limit at : ℕ) (net : NetworkFile) (parts
 no-steps below texts limit at net parts past reads few =
     let same : past.parts ≡ parts = same-parts below texts past.net net past.parts parts past.reads reads in
     let first : IsFirstPastSteps parts at = subst (λ (p : Parts). IsFirstPastSteps p at) same past.first in
-    below.few_or_many (link_at parts at) (total_load parts) MAX_STEPS (few at first.within) first.more
+    below.few_or_many parts.law (link_at parts at) (total_load parts) MAX_STEPS (few at first.within) first.more
 
 same-link : Below → (p : Parts) (at other : ℕ) → IsFirstPastSteps p at → IsFirstPastSteps p other → (at ≡ other) ⊎ ((at < other) ⊎ (other < at)) → at ≡ other
 same-link below p at other one two (inl same) = same
-same-link below p at other one two (inr (inl before)) = absurd (below.few_or_many (link_at p at) (total_load p) MAX_STEPS (two.before at before) one.more)
-same-link below p at other one two (inr (inr after)) = absurd (below.few_or_many (link_at p other) (total_load p) MAX_STEPS (one.before other after) two.more)
+same-link below p at other one two (inr (inl before)) = absurd (below.few_or_many p.law (link_at p at) (total_load p) MAX_STEPS (two.before at before) one.more)
+same-link below p at other one two (inr (inr after)) = absurd (below.few_or_many p.law (link_at p other) (total_load p) MAX_STEPS (one.before other after) two.more)
 
 same-steps : Below → (texts : Texts) (limit at bound place : ℕ) → IsPastSteps texts limit at → IsPastSteps texts bound place → faults.OverLimit limit at ≡ faults.OverLimit bound place
 same-steps below texts limit at bound place one two =

@@ -1,5 +1,6 @@
 -- What the crates below say of one answer. Only private clauses cite this module.
 use Rattle.std.specs.Prelude.{ℕ, ◌≡◌, ◌⊎◌, List, Option}
+use Rattle.plan_base.specs.declared.parts.CountLaw.{CountLaw}
 use Rattle.plan_base.specs.declared.parts.Link.{Link}
 use Rattle.plan_base.specs.declared.parts.Parts.{Parts}
 use Rattle.plan_base.specs.Facts.{IsInstance}
@@ -35,7 +36,7 @@ pub record Below : Type 0 where
   pub one_instance : (net : NetworkFile) (model : ModelFile) (a b : Parts) → ReadsAs net model a → ReadsAs net model b → a ≡ b
   pub no_refusal : (net : NetworkFile) (model : ModelFile) (parts : Parts) (f : CheckFault) → ReadsAs net model parts → IsInstance parts → IsCheckFault net model f → f ≡ check_faults.OutOfMemory
   pub one_check_fault : (net : NetworkFile) (model : ModelFile) (f g : CheckFault) → IsCheckFault net model f → IsCheckFault net model g → (f ≡ check_faults.OutOfMemory) ⊎ ((g ≡ check_faults.OutOfMemory) ⊎ (f ≡ g))
-  pub few_or_many : (l : Link) (total number : ℕ) → HasAtMostSteps total l number → HasMoreSteps total l number → ⊥
+  pub few_or_many : (law : CountLaw) (l : Link) (total number : ℕ) → HasAtMostSteps law total l number → HasMoreSteps law total l number → ⊥
   pub one_plan : (text : List ℕ) (a b : Plan) → SpellsPlan text a → SpellsPlan text b → a ≡ b
   pub spelt_plan : (text : List ℕ) (plan : Plan) (f : PlanFault) → SpellsPlan text plan → IsPlanFault text f → f ≡ plan_faults.OutOfMemory
   pub one_plan_fault : (text : List ℕ) (f g : PlanFault) → IsPlanFault text f → IsPlanFault text g → (f ≡ plan_faults.OutOfMemory) ⊎ ((g ≡ plan_faults.OutOfMemory) ⊎ (f ≡ g))

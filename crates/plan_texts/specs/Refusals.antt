@@ -67,7 +67,7 @@ HasItsPlan text = IfSome text (λ text. (plan : Plan) × SpellsPlan text plan)
 
 -- the least module cost of each link takes at most the lawful number of values
 abbrev pub HasFewSteps : Parts → Type 0
-HasFewSteps p = (e : ℕ) → e < length p.links → HasAtMostSteps (total_load p) (link_at p e) MAX_STEPS
+HasFewSteps p = (e : ℕ) → e < length p.links → HasAtMostSteps p.law (total_load p) (link_at p e) MAX_STEPS
 
 -- the texts spell this network, this instance within its limits, and this plan where one is among them
 pub record IsProblem (texts : Texts) (net : NetworkFile) (parts : Parts) (plan : Option Plan) : Type 0 where
