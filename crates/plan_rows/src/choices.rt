@@ -3,7 +3,7 @@
 //! Loads are in tenths of a unit and costs in thousandths.
 
 use crate::claims::NO_DESIGN;
-use crate::network::{Demand, Kind, Link, Network};
+use crate::network::{Demand, Extra, Kind, Link, Module, Network};
 use std::alloc::{AllocError, Global};
 use std::fmt;
 
@@ -95,7 +95,7 @@ fn extend(network: &Network, walk: Walk, longer: &mut Vec<Walk>) -> Result<(), A
     Ok(())
 }
 
-/// The simple paths of a demand.
+/// The simple paths of a demand that keep its limit.
 fn paths_of(alloc: Global, network: &Network, demand: Demand) -> Result<Vec<Way>, AllocError> {
     let mut paths = Vec::new(alloc);
     let mut walks = Vec::new(alloc);
@@ -104,7 +104,10 @@ fn paths_of(alloc: Global, network: &Network, demand: Demand) -> Result<Vec<Way>
         nodes: only(demand.source as usize),
         way: Way { there: 0, back: 0 },
     })?;
-    for _ in 0..network.nodes {
+    for links in 0..network.nodes {
+        if demand.hops.is_some_and(|most| most < links) {
+            break;
+        }
         let mut longer = Vec::new(alloc);
         for walk in walks.iter() {
             if walk.at == demand.target {
@@ -118,15 +121,34 @@ fn paths_of(alloc: Global, network: &Network, demand: Demand) -> Result<Vec<Way>
     Ok(paths)
 }
 
+/// What is installed besides this module costs where a link carries this load, or None where it cannot. The costs of
+/// smaller loads are known.
+fn cost_besides(
+    extra: Extra,
+    link: &Link,
+    module: Module,
+    load: usize,
+    known: &[Option<u64>],
+) -> Option<u64> {
+    let rest = load.saturating_sub(module.capacity as usize);
+    if extra == Extra::Explicit {
+        return if rest <= link.pre as usize {
+            Some(0)
+        } else {
+            None
+        };
+    }
+    known.get(rest).copied().flatten()
+}
+
 /// The least cost of carrying this load, where the costs of smaller loads are known.
-fn least_with(link: &Link, load: usize, known: &[Option<u64>]) -> Option<u64> {
+fn least_with(extra: Extra, link: &Link, load: usize, known: &[Option<u64>]) -> Option<u64> {
     if load <= link.pre as usize {
         return Some(0);
     }
     let mut least: Option<u64> = None;
     for module in link.modules.iter() {
-        let rest = load.saturating_sub(module.capacity as usize);
-        let Some(Some(cost)) = known.get(rest) else {
+        let Some(cost) = cost_besides(extra, link, *module, load, known) else {
             continue;
         };
         let cost = cost.saturating_add(u64::from(module.cost) * 10);
@@ -138,10 +160,15 @@ fn least_with(link: &Link, load: usize, known: &[Option<u64>]) -> Option<u64> {
 }
 
 /// The least costs of the modules of a link, for each load up to this one.
-fn table_of(alloc: Global, link: &Link, most: usize) -> Result<CostTable, AllocError> {
+fn table_of(
+    alloc: Global,
+    extra: Extra,
+    link: &Link,
+    most: usize,
+) -> Result<CostTable, AllocError> {
     let mut table = Vec::new(alloc);
     for load in 0..=most {
-        let least = least_with(link, load, table.as_slice());
+        let least = least_with(extra, link, load, table.as_slice());
         table.push(least)?;
     }
     Ok(table)
@@ -211,7 +238,7 @@ fn least_of(
         .fold(0u64, |sum, demand| sum.saturating_add(demand.load()));
     let mut tables = Vec::new(alloc);
     for link in network.links.iter() {
-        tables.push(table_of(alloc, link, total as usize)?)?;
+        tables.push(table_of(alloc, network.extra, link, total as usize)?)?;
     }
     let mut least = NO_DESIGN;
     let mut chosen = Vec::new(alloc);

@@ -2,7 +2,7 @@
 
 ghost use Rattle.std.specs.Prelude.{◌≤◌};
 
-use crate::network::{Demand, Kind, Link, Module, Network};
+use crate::network::{Demand, Extra, Kind, Link, Module, Network};
 use row_draws::Draws;
 use std::alloc::{AllocError, Global};
 
@@ -149,16 +149,27 @@ fn made_demands(
             target: other_node(draws, nodes, source),
             unit: 1 + draws.below(2),
             value: tenths(draws, style, 10),
+            hops: None,
         })?;
     }
     Ok(demands)
 }
 
-/// The network of this number, whose links are bidirected, or not.
+/// Gives most of the demands a limit of 1 to 4 links.
+fn limit_demands(draws: &mut Draws, demands: &mut Vec<Demand>) {
+    for demand in demands.iter_mut() {
+        if !draws.one_of(4) {
+            demand.hops = Some(1 + draws.below(4));
+        }
+    }
+}
+
+/// The network of this number, whose links are bidirected, or not, and which asks for this besides.
 pub(crate) fn made_network(
     alloc: Global,
     number: u32,
     bidirected: bool,
+    extra: Extra,
 ) -> Result<Network, AllocError> {
     let mut draws = Draws::begin(number);
     let nodes = 4 + number % 9;
@@ -171,10 +182,16 @@ pub(crate) fn made_network(
         decimals: draws.one_of(2),
         tight: draws.one_of(5),
     };
+    let links = made_links(alloc, &mut draws, style, nodes)?;
+    let mut demands = made_demands(alloc, &mut draws, style, nodes, 12)?;
+    if extra == Extra::Limits {
+        limit_demands(&mut draws, &mut demands);
+    }
     Ok(Network {
         kind,
+        extra,
         nodes,
-        links: made_links(alloc, &mut draws, style, nodes)?,
-        demands: made_demands(alloc, &mut draws, style, nodes, 12)?,
+        links,
+        demands,
     })
 }

@@ -1,9 +1,9 @@
 //! Plans made networks through the top call, each with several budgets, and looks over what comes out.
 //!
 //! The networks have 4 to 12 nodes and come from a small generator (`made`), the same ones in each run: with directed,
-//! undirected and bidirected links, none to three modules on a link, whole and decimal numbers, and some that have no
-//! design. Each plan must be accepted by `verify`, and state its status and its budget. `upgrade` must give its text
-//! again, and read the same plan in version 1, which `versions` writes where links are not bidirected. The plans of one
+//! undirected and bidirected links, none to three modules on a link, whole and decimal numbers, some that have no
+//! design, some with limits on the links of paths, and some with explicit capacities. Each plan must be accepted by `verify`, and state its status and its budget. `upgrade` must give its text
+//! again, and read the same plan in version 1, which `versions` writes where there is one. The plans of one
 //! network must agree: a greater budget never knows less, and what several workers find contradicts nothing. Where few
 //! paths can be chosen from, the least cost of all choices, which `choices` finds by trying them, must lie where each
 //! plan says. The program writes a line for each network, and ends with an error at the first plan that is not as it
@@ -23,7 +23,8 @@ use anyhow::{Context, Result, ensure};
 use choices::{Tried, least_cost};
 use claims::Range;
 use made::made_network;
-use std::alloc::Global;
+use network::{Extra, Network};
+use std::alloc::{AllocError, Global};
 use std::io;
 use std::io::Write;
 use std::sync::Wait;
@@ -36,6 +37,9 @@ const NETWORKS: u32 = 100;
 
 /// How many of bidirected links, with the numbers behind these.
 const BIDIRECTED: u32 = 40;
+
+/// How many of any links with hop limits, and as many with explicit capacities, with the numbers behind those.
+const EXTRA: u32 = 20;
 
 /// With how many nodes of the search tree each network is planned, in turn, until its best design is known.
 const BUDGETS: [u32; 6] = [1, 2, 3, 10, 100, 1_000];
@@ -133,6 +137,22 @@ fn plan_network<R: Threads + Wait + Sync>(
     Ok(known)
 }
 
+/// The network of this number.
+fn numbered_network(alloc: Global, number: u32) -> Result<Network, AllocError> {
+    if number < NETWORKS {
+        return made_network(alloc, number, false, Extra::Nothing);
+    }
+    if number < NETWORKS + BIDIRECTED {
+        return made_network(alloc, number, true, Extra::Nothing);
+    }
+    let extra = if number < NETWORKS + BIDIRECTED + EXTRA {
+        Extra::Limits
+    } else {
+        Extra::Explicit
+    };
+    made_network(alloc, number, number % 4 == 0, extra)
+}
+
 /// Plans the network of this number, and writes its line.
 fn write_network<R: Threads + Wait + Sync, W: Write>(
     rt: &R,
@@ -140,7 +160,7 @@ fn write_network<R: Threads + Wait + Sync, W: Write>(
     number: u32,
     out: &mut W,
 ) -> Result<()> {
-    let network = made_network(alloc, number, number >= NETWORKS)?;
+    let network = numbered_network(alloc, number)?;
     let texts = Texts::of(alloc, &network)?;
     let tried = least_cost(alloc, &network)?;
     let known = plan_network(rt, alloc, number, &texts, tried).context(format_args!(
@@ -152,7 +172,7 @@ fn write_network<R: Threads + Wait + Sync, W: Write>(
 
 fn main(rt: HostRuntime) -> Result<()> {
     let mut out = io::writer(&rt);
-    for number in 0..NETWORKS + BIDIRECTED {
+    for number in 0..NETWORKS + BIDIRECTED + 2 * EXTRA {
         write_network(&rt, rt.alloc(), number, &mut out)?;
     }
     Ok(())

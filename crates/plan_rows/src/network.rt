@@ -30,6 +30,8 @@ pub(crate) struct Demand {
     pub(crate) unit: u32,
     /// In tenths of a unit of load.
     pub(crate) value: u32,
+    /// The most links of its path, where there is a limit.
+    pub(crate) hops: Option<u32>,
 }
 
 /// Which ways links and demands go.
@@ -43,9 +45,21 @@ pub(crate) enum Kind {
     Bidirected,
 }
 
+/// What a network asks for besides.
+#[derive(Clone, Copy, PartialEq, Eq)]
+pub(crate) enum Extra {
+    /// Nothing: any number of each module, and paths of any length.
+    Nothing,
+    /// Demands may have limits on the links of their paths.
+    Limits,
+    /// At most one module is installed on a link.
+    Explicit,
+}
+
 #[derive(Drop)]
 pub(crate) struct Network {
     pub(crate) kind: Kind,
+    pub(crate) extra: Extra,
     pub(crate) nodes: u32,
     pub(crate) links: Vec<Link>,
     pub(crate) demands: Vec<Demand>,
@@ -68,6 +82,14 @@ impl fmt::Display for Network {
             Kind::Undirected => "undirected",
             Kind::Bidirected => "bidirected",
         };
-        write!(f, "nodes {nodes}, {kind} links {links}, demands {demands}")
+        let extra = match self.extra {
+            Extra::Nothing => "",
+            Extra::Limits => ", hop limits",
+            Extra::Explicit => ", explicit capacities",
+        };
+        write!(
+            f,
+            "nodes {nodes}, {kind} links {links}, demands {demands}{extra}"
+        )
     }
 }

@@ -1,6 +1,6 @@
 //! The texts of a network and of its model.
 
-use crate::network::{Demand, Kind, Link, Network};
+use crate::network::{Demand, Extra, Kind, Link, Network};
 use std::alloc::{AllocError, Global};
 use std::fmt;
 
@@ -10,7 +10,7 @@ const MODEL_HEADER: &str = "?SNDlib native format; type: model; version: 1.0\n";
 
 /// The rows of a model that are the same for all networks.
 const MODEL_ROWS: &str =
-    "LINK_CAPACITY_MODEL = MODULAR\nFIXED_CHARGE_MODEL = NO\nROUTING_MODEL = SINGLE_PATH\nADMISSIBLE_PATH_MODEL = ALL\nHOP_LIMIT_MODEL = NO\nSURVIVABILITY_MODEL = NO\n";
+    "FIXED_CHARGE_MODEL = NO\nROUTING_MODEL = SINGLE_PATH\nADMISSIBLE_PATH_MODEL = ALL\nSURVIVABILITY_MODEL = NO\n";
 
 /// Tenths, written as a decimal.
 #[derive(Clone, Copy)]
@@ -49,7 +49,7 @@ impl fmt::Display for Hundredths {
 pub(crate) struct Texts {
     pub(crate) network: String,
     pub(crate) model: String,
-    /// Whether both ways of a link share its capacity, so that plans have a text of version 1.
+    /// Whether both ways of a link share its capacity, so that plans without a `FAR` leaf have a text of version 1.
     pub(crate) has_first_text: bool,
 }
 
@@ -58,7 +58,7 @@ impl Texts {
     pub(crate) fn of(alloc: Global, network: &Network) -> Result<Texts, AllocError> {
         Ok(Texts {
             network: network_text(alloc, network)?,
-            model: model_text(alloc, network.kind)?,
+            model: model_text(alloc, network.kind, network.extra)?,
             has_first_text: network.kind != Kind::Bidirected,
         })
     }
@@ -88,10 +88,11 @@ fn push_demand(text: &mut String, number: usize, demand: Demand) -> Result<(), A
     let target = demand.target;
     let unit = demand.unit;
     let value = Tenths(demand.value);
-    write!(
-        text,
-        "  d{number} ( n{source} n{target} ) {unit} {value} UNLIMITED\n"
-    )
+    write!(text, "  d{number} ( n{source} n{target} ) {unit} {value} ")?;
+    match demand.hops {
+        Some(hops) => write!(text, "{hops}\n"),
+        None => text.push_str("UNLIMITED\n"),
+    }
 }
 
 /// The text of a network.
@@ -113,12 +114,23 @@ fn network_text(alloc: Global, network: &Network) -> Result<String, AllocError> 
     Ok(text)
 }
 
-/// The text of the model of networks of this kind.
-fn model_text(alloc: Global, kind: Kind) -> Result<String, AllocError> {
+/// The text of the model of networks of this kind, which ask for this besides.
+fn model_text(alloc: Global, kind: Kind, extra: Extra) -> Result<String, AllocError> {
     let (demands, links) = match kind {
         Kind::Directed => ("DIRECTED", "DIRECTED"),
         Kind::Undirected => ("UNDIRECTED", "UNDIRECTED"),
         Kind::Bidirected => ("DIRECTED", "BIDIRECTED"),
     };
-    format!(in alloc; "{MODEL_HEADER}DEMAND_MODEL = {demands}\nLINK_MODEL = {links}\n{MODEL_ROWS}")
+    let (capacities, limits) = match extra {
+        Extra::Nothing => ("MODULAR", "NO"),
+        Extra::Limits => ("MODULAR", "YES"),
+        Extra::Explicit => ("EXPLICIT", "NO"),
+    };
+    let mut text = String::from_str(alloc, MODEL_HEADER)?;
+    write!(
+        text,
+        "DEMAND_MODEL = {demands}\nLINK_MODEL = {links}\nLINK_CAPACITY_MODEL = {capacities}\nHOP_LIMIT_MODEL = {limits}\n"
+    )?;
+    text.push_str(MODEL_ROWS)?;
+    Ok(text)
 }

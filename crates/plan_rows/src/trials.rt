@@ -94,7 +94,7 @@ fn read_plan_again<R: Threads + Wait + Sync>(
 ) -> Result<()> {
     verify_plan(rt, alloc, texts, plan, claim)?;
     upgrade_plan(rt, alloc, plan, plan)?;
-    if texts.has_first_text {
+    if texts.has_first_text && !plan.contains("\nFAR ") {
         let first = first_text(alloc, plan)?;
         verify_plan(rt, alloc, texts, first.as_str(), claim).context("version 1")?;
         upgrade_plan(rt, alloc, first.as_str(), plan).context("version 1")?;

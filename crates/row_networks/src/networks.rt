@@ -1,7 +1,7 @@
 //! The network of a row.
 
 use crate::numbers::numbers_of;
-use plan_base::{Demand, Instance, Items, Link, Module, NodeId, Orient, Parts};
+use plan_base::{CountLaw, Demand, Instance, Items, Link, Module, NodeId, Orient, Parts};
 use std::alloc::Global;
 
 /// An instance and its name.
@@ -56,8 +56,14 @@ fn link_of(alloc: Global, part: &str) -> Option<Link> {
     })
 }
 
-/// The demand of two nodes and a load.
+/// The demand of two nodes and a load, and of a limit on the arcs of its path, where there is one.
 fn demand_of(alloc: Global, part: &str) -> Option<Demand> {
+    let (part, limit) = part.split_once(" / ").unwrap_or((part, ""));
+    let hops = if limit.is_empty() {
+        None
+    } else {
+        Some(limit.parse::<u64>().ok()?)
+    };
     let numbers = numbers_of(alloc, part, ' ')?;
     let [source, target, load] = numbers.as_slice() else {
         return None;
@@ -66,6 +72,7 @@ fn demand_of(alloc: Global, part: &str) -> Option<Demand> {
         source: node_of(*source)?,
         target: node_of(*target)?,
         load: u128::from(*load),
+        hops,
     })
 }
 
@@ -102,6 +109,7 @@ fn instance_of(alloc: Global, text: &str) -> Option<Instance> {
     };
     let parts = Parts {
         orient,
+        law: CountLaw::Any,
         nodes: nodes.parse::<u32>().ok()?,
         links: links_of(alloc, links)?,
         demands: demands_of(alloc, demands)?,

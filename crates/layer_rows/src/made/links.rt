@@ -7,7 +7,9 @@ ghost use Rattle.plan_base.specs.Places.{is_two_way};
 use super::trying::{Costs, Gain, SmallLink, tried_costs, tried_gain, tried_start};
 use crate::telling::tell_differing;
 use link_steps::StepTable;
-use plan_base::{Demand, Instance, Items, Link, LinkId, Module, NodeId, Orient, Parts, Prices};
+use plan_base::{
+    CountLaw, Demand, Instance, Items, Link, LinkId, Module, NodeId, Orient, Parts, Prices,
+};
 use row_draws::Draws;
 use row_networks::table_of;
 use std::alloc::{AllocError, Global};
@@ -33,7 +35,7 @@ fn made_link(draws: &mut Draws) -> SmallLink {
 }
 
 /// The parts of all made links, between two nodes, and a demand of 8 grains.
-fn made_parts(alloc: Global, orient: Orient) -> Result<Parts, AllocError> {
+fn made_parts(alloc: Global, orient: Orient, law: CountLaw) -> Result<Parts, AllocError> {
     let (source, target) = (NodeId(0), NodeId(1));
     let mut draws = Draws::begin(1);
     let mut links = Vec::new(alloc);
@@ -51,9 +53,11 @@ fn made_parts(alloc: Global, orient: Orient) -> Result<Parts, AllocError> {
         source,
         target,
         load: 8,
+        hops: None,
     };
     Ok(Parts {
         orient,
+        law,
         nodes: 2,
         links: Items::from_vec(links),
         demands: Items::from_vec(vec![in alloc; demand]?),
@@ -61,11 +65,11 @@ fn made_parts(alloc: Global, orient: Orient) -> Result<Parts, AllocError> {
 }
 
 /// The table of all made links.
-fn made_table(alloc: Global, orient: Orient) -> Option<StepTable>
+fn made_table(alloc: Global, orient: Orient, law: CountLaw) -> Option<StepTable>
     ensures { IfSome result (λ table. (table.orient ≡ orient) × (length table.links ≡ 300) × (total_load table ≡ 8)
         × (1_000_000_000 ≤ price_limit table)) }
 {
-    let inst = Instance::build(alloc, made_parts(alloc, orient).ok()?).ok()?;
+    let inst = Instance::build(alloc, made_parts(alloc, orient, law).ok()?).ok()?;
     if inst.orient() != orient || inst.links() != LINKS {
         return None;
     }
@@ -177,6 +181,7 @@ fn starts_agree(
 fn all_agree(
     table: &StepTable,
     orient: Orient,
+    law: CountLaw,
     prices: &Prices,
     link: LinkId,
     small: &SmallLink,
@@ -186,14 +191,14 @@ fn all_agree(
     requires total { total_load table.now ≡ 8 }
     requires limit { 1_000_000_000 ≤ price_limit table.now }
 {
-    let costs = tried_costs(small);
+    let costs = tried_costs(small, law);
     costs_agree(table, link, &costs)
         && values_agree(table, orient, link, small, &costs)
         && starts_agree(prices, orient, link, small, &costs)
 }
 
 /// The first made link of which the table and the start prices do not tell what trying tells.
-fn first_differing(table: &StepTable, orient: Orient, prices: &Prices) -> Option<u32>
+fn first_differing(table: &StepTable, orient: Orient, law: CountLaw, prices: &Prices) -> Option<u32>
     requires orient { table.now.orient ≡ orient }
     requires links { length table.now.links ≡ 300 }
     requires total { total_load table.now ≡ 8 }
@@ -202,23 +207,30 @@ fn first_differing(table: &StepTable, orient: Orient, prices: &Prices) -> Option
     let mut draws = Draws::begin(1);
     for place in 0..LINKS {
         let small = made_link(&mut draws);
-        if !all_agree(table, orient, prices, LinkId(place), &small) {
+        if !all_agree(table, orient, law, prices, LinkId(place), &small) {
             return Some(place);
         }
     }
     None
 }
 
-/// Adds the first made link of this orientation of which the tables do not tell what trying tells.
-fn tell_oriented(alloc: Global, orient: Orient, text: &mut String) -> Option<()> {
-    let table = made_table(alloc, orient)?;
+/// Adds the first made link of this orientation and law of which the tables do not tell what trying tells.
+fn tell_oriented(alloc: Global, orient: Orient, law: CountLaw, text: &mut String) -> Option<()> {
+    let table = made_table(alloc, orient, law)?;
     let prices = table.start_prices(alloc).ok()?;
-    tell_differing("link", first_differing(&table, orient, &prices), text)
+    tell_differing("link", first_differing(&table, orient, law, &prices), text)
 }
 
-/// Adds the first made link of which the tables do not tell what trying tells, with one place and with two.
-pub(crate) fn tell_links(alloc: Global, text: &mut String) -> Option<()> {
-    tell_oriented(alloc, Orient::Undirected, text)?;
+/// Adds the first made link under this law of which the tables do not tell what trying tells, with one place and with two.
+fn tell_law(alloc: Global, law: CountLaw, text: &mut String) -> Option<()> {
+    tell_oriented(alloc, Orient::Undirected, law, text)?;
     text.push_str(",").ok()?;
-    tell_oriented(alloc, Orient::Bidirected, text)
+    tell_oriented(alloc, Orient::Bidirected, law, text)
+}
+
+/// Adds the first made link of which the tables do not tell what trying tells, under each law.
+pub(crate) fn tell_links(alloc: Global, text: &mut String) -> Option<()> {
+    tell_law(alloc, CountLaw::Any, text)?;
+    text.push_str(",").ok()?;
+    tell_law(alloc, CountLaw::AtMostOne, text)
 }

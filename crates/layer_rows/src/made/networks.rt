@@ -7,7 +7,7 @@ use crate::restricting::forbid;
 use crate::searching::Asked;
 use crate::telling::tell_differing;
 use arc_restrict::Restriction;
-use plan_base::{Demand, Instance, Items, Link, NodeId, Orient, Parts, Prices};
+use plan_base::{CountLaw, Demand, Instance, Items, Link, NodeId, Orient, Parts, Prices};
 use row_draws::Draws;
 use std::alloc::{AllocError, Global};
 
@@ -57,6 +57,7 @@ fn made_demands(alloc: Global, draws: &mut Draws, nodes: u32) -> Result<Items<De
             source,
             target,
             load,
+            hops: None,
         })?;
     }
     Ok(Items::from_vec(demands))
@@ -72,6 +73,7 @@ fn made_network(alloc: Global, draws: &mut Draws) -> Result<Parts, AllocError> {
     };
     Ok(Parts {
         orient,
+        law: CountLaw::Any,
         nodes,
         links: made_links(alloc, draws, nodes)?,
         demands: made_demands(alloc, draws, nodes)?,

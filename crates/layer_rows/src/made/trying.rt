@@ -1,8 +1,8 @@
-//! The least costs of a small link, found by trying all counts of modules.
+//! The least costs of a small link, found by trying all lawful counts of modules.
 
 ghost use Rattle.std.specs.Prelude.{◌<◌};
 
-use plan_base::Module;
+use plan_base::{CountLaw, Module};
 
 /// A link whose least costs are found by trying.
 #[derive(Clone, Copy)]
@@ -42,13 +42,26 @@ fn offer(costs: &mut Costs, capacity: u64, cost: u128) {
     }
 }
 
-/// The least module costs, by trying all counts up to 8.
-pub(crate) fn tried_costs(small: &SmallLink) -> Costs {
+/// Whether the law allows these counts of a link's modules.
+fn is_lawful(law: CountLaw, counts: [u64; 3]) -> bool {
+    match law {
+        CountLaw::Any => true,
+        CountLaw::AtMostOne => {
+            let two = counts[0].saturating_add(counts[1]);
+            two.saturating_add(counts[2]) <= 1
+        }
+    }
+}
+
+/// The least module costs, by trying all lawful counts up to 8.
+pub(crate) fn tried_costs(small: &SmallLink, law: CountLaw) -> Costs {
     let mut costs = [None; 9];
     for combination in 0..9 * 9 * 9 {
         let counts = [combination % 9, combination / 9 % 9, combination / 81];
-        let (capacity, cost) = installed(small, counts);
-        offer(&mut costs, capacity, cost);
+        if is_lawful(law, counts) {
+            let (capacity, cost) = installed(small, counts);
+            offer(&mut costs, capacity, cost);
+        }
     }
     costs
 }

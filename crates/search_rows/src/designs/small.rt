@@ -123,6 +123,7 @@ fn tell_completed(
     let overfull = overfull_link(inst, table, &design);
     match (complete(alloc, inst, table, design.paths).ok()?, overfull) {
         (Some((cost, design)), None) => {
+            check_design(inst, &design).ok()?;
             write!(text, " {}", cost / UNIT).ok()?;
             tell_better(alloc, inst, table, design, text)
         }

@@ -2,8 +2,8 @@
 
 use column_pool::Brief;
 use plan_base::{
-    ArcId, BranchId, Demand, DemandId, Instance, Items, Link, Module, NodeId, Orient, Parts, Path,
-    Prices,
+    ArcId, BranchId, CountLaw, Demand, DemandId, Instance, Items, Link, Module, NodeId, Orient,
+    Parts, Path, Prices,
 };
 use row_draws::Draws;
 use std::alloc::Global;
@@ -65,6 +65,7 @@ fn made_demand(draws: &mut Draws) -> Demand {
         source: NodeId(0),
         target: NodeId(1 + draws.below(2)),
         load: u128::from(draws.below(9)),
+        hops: None,
     }
 }
 
@@ -81,6 +82,7 @@ fn made_demands(alloc: Global, draws: &mut Draws) -> Option<Items<Demand>> {
 pub(crate) fn made_instance(alloc: Global, draws: &mut Draws, orient: Orient) -> Option<Instance> {
     let parts = Parts {
         orient,
+        law: CountLaw::Any,
         nodes: 3,
         links: made_links(alloc, draws)?,
         demands: made_demands(alloc, draws)?,

@@ -3,7 +3,8 @@
 use column_pool::Brief;
 use master_step::{Step, advance, best_step, crowd_prices};
 use plan_base::{
-    ArcId, BranchId, Demand, Instance, Items, Link, Module, NodeId, Orient, Parts, Path, Prices,
+    ArcId, BranchId, CountLaw, Demand, Instance, Items, Link, Module, NodeId, Orient, Parts, Path,
+    Prices,
 };
 use row_networks::table_of;
 use std::alloc::Global;
@@ -34,9 +35,11 @@ fn two_links(alloc: Global, modules: &[Module]) -> Option<Instance> {
         source: NodeId(0),
         target: NodeId(1),
         load: 10_000_000,
+        hops: None,
     };
     let parts = Parts {
         orient: Orient::Undirected,
+        law: CountLaw::Any,
         nodes: 2,
         links: links_of(alloc, modules)?,
         demands: Items::from_vec(vec![in alloc; demand, demand].ok()?),

@@ -1,6 +1,6 @@
 //! A small instance, and plans that claim something.
 
-use plan_base::{Demand, Design, Instance, Items, Link, Module, NodeId, Orient, Parts};
+use plan_base::{CountLaw, Demand, Design, Instance, Items, Link, Module, NodeId, Orient, Parts};
 use proof_tree::{Evidence, Plan, PlanStatus, Tree, TreeNode};
 use std::alloc::{AllocError, Global};
 
@@ -27,9 +27,11 @@ fn parts(alloc: Global) -> Result<Parts, AllocError> {
         source: NodeId(0),
         target: NodeId(1),
         load: 36_500_000,
+        hops: None,
     };
     Ok(Parts {
         orient: Orient::Undirected,
+        law: CountLaw::Any,
         nodes: 2,
         links: Items::from_vec(vec![in alloc; link]?),
         demands: Items::from_vec(vec![in alloc; demand]?),

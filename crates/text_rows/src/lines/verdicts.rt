@@ -14,7 +14,7 @@ const DEMAND: DemandId = DemandId(0);
 const LINK: LinkId = LinkId(0);
 
 /// What is wrong with plans, in each kind.
-const REJECTED: [Rejected; 13] = [
+const REJECTED: [Rejected; 14] = [
     Rejected::Design(DesignFault::WrongCount),
     Rejected::Design(DesignFault::NotAPath {
         demand: DEMAND,
@@ -29,6 +29,11 @@ const REJECTED: [Rejected; 13] = [
         link: LINK,
         load: 6,
         capacity: 5,
+    }),
+    Rejected::Design(DesignFault::TooLong {
+        demand: DEMAND,
+        arcs: 4,
+        limit: 3,
     }),
     Rejected::Cost {
         stated: 9_000_000_000_000,

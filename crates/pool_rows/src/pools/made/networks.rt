@@ -1,6 +1,6 @@
 //! The networks: a ring of four nodes with a chord, and up to four demands. None stands where memory is wanting.
 
-use plan_base::{Demand, Instance, Items, Link, Module, NodeId, Orient, Parts};
+use plan_base::{CountLaw, Demand, Instance, Items, Link, Module, NodeId, Orient, Parts};
 use row_draws::Draws;
 use std::alloc::Global;
 
@@ -46,6 +46,7 @@ fn made_demand(draws: &mut Draws) -> Demand {
         source: NodeId(source),
         target: NodeId(target),
         load: u128::from(1 + draws.below(6)),
+        hops: None,
     }
 }
 
@@ -62,6 +63,7 @@ fn made_demands(alloc: Global, draws: &mut Draws) -> Option<Items<Demand>> {
 pub(super) fn made_network(alloc: Global, draws: &mut Draws) -> Option<Instance> {
     let parts = Parts {
         orient: Orient::Bidirected,
+        law: CountLaw::Any,
         nodes: 4,
         links: made_links(alloc, draws)?,
         demands: made_demands(alloc, draws)?,
