@@ -1,5 +1,5 @@
 -- Potentials show that a path is least, and a closed set that there is none.
-use Rattle.std.proofs.Common.{◌≡◌, ℕ, zero, suc, ◌+◌, ◌<◌, ◌≤◌, ◌⊎◌, inl, inr, true, false, Bool, ◌&&◌, List, length, get_or, take, map, Option, Some, None, min, arith, refl, sym, ◌∙◌, ap, subst, sum_by, if◌then◌else◌}
+use Rattle.std.proofs.Common.{◌≡◌, ℕ, zero, suc, ◌+◌, ◌<◌, ◌≤◌, inl, inr, true, false, Bool, ◌&&◌, List, length, get_or, take, map, Option, Some, None, min, arith, refl, sym, ◌∙◌, ap, subst, sum_by, if◌then◌else◌}
 use Rattle.std.proofs.lemmas.Bool.{ltb-true}
 use Rattle.std.proofs.lemmas.List.{get_or-map, length-map, get_or_past}
 use Rattle.std.proofs.lemmas.List.Sums.{sum_by_more, sum_by-take-le}
@@ -11,9 +11,10 @@ use Rattle.plan_base.specs.Arcs.{is_arc, tail_of, head_of, link_of, is_back, no_
 use Rattle.plan_base.specs.Paths.{arc_at, node_at}
 use Rattle.least_path.specs.declared.label.Label.{Label}
 use Rattle.least_path.specs.declared.label.Stop.{Stop}
-use Rattle.least_path.specs.Paths.{Weights, weight_at, weight_of, IsUsable, IsUsablePath, IsLeastPath, ArePotentials, IsIn, IsClosedSet, HasNoUsablePath}
-use Rattle.least_path.specs.Labels.{Labels, label_at, way, is_labelled, potential_of, HasNoOpen, IsNearest, IsSearch}
-use Rattle.least_path.proofs.NearestLaws.{decide, label_within}
+use Rattle.least_path.specs.Paths.{Weights, weight_at, weight_of, IsUsable, IsUsablePath, IsLeastPath, ArePotentials, IsIn, IsClosedSet, IsBelow, HasNoUsablePath, HasNoneBelow}
+use Rattle.least_path.specs.Labels.{Labels, label_at, way, is_labelled, potential_of, HasNoOpen, IsWanted, IsNearest, IsSearch}
+use Rattle.least_path.specs.Trees.{RiseAlong}
+use Rattle.least_path.proofs.NearestLaws.{decide, label_within, lt_or_le, some_same}
 use Rattle.least_path.proofs.WayLaws.{way-path}
 
 -- along a usable path potentials rise by at most the weights
@@ -62,44 +63,82 @@ potential-at ls weight v within = get_or-map (potential_of weight) ls v None 0 w
 pub potential-label : (ls : Labels) (weight v : ℕ) (l : Label) → label_at ls v ≡ Some l → get_or (map (potential_of weight) ls) v 0 ≡ min l.length weight
 potential-label ls weight v l is = potential-at ls weight v (label_within ls v l is) ∙ ap (potential_of weight) is
 
+-- the search is done with all ways that are shorter than this: no open node is nearer, and each such way is wanted
+pub record IsDoneBelow (limit : Option ℕ) (t : NodeId) (ls : Labels) (weight : ℕ) : Type 0 where
+  far : (v : ℕ) (l : Label) → label_at ls v ≡ Some l → l.settled ≡ false → weight ≤ l.length
+  wanted : (n : ℕ) → n < weight → IsWanted limit t ls n
+
+below-less : (limit : Option ℕ) (n most : ℕ) → n < most → IsBelow limit most → IsBelow limit n
+below-less None n most less below = tt
+below-less (Some limit) n most less below = omega (arith, less, below)
+
+-- where the target is the nearest node
+done-found : (p : Parts) (ws : Weights) (limit : Option ℕ) (s t : NodeId) (ls : Labels) (stop : Stop) → IsSearch p ws limit s t ls → IsNearest ls stop → stop.node.0 ≡ t.0 → IsDoneBelow limit t ls stop.label.length
+done-found p ws limit s t ls stop h near target = record {
+  far = near.least;
+  wanted = λ n less. record {
+    below = below-less limit n stop.label.length less (h.below stop.node.0 stop.label near.is);
+    shorter = λ l at.
+        let same : stop.label ≡ l = some_same (label_at ls t.0) stop.label l (subst (λ (v : ℕ). label_at ls v ≡ Some stop.label) target near.is) at in
+        subst (λ (x : Label). n < x.length) same less;
+  };
+}
+
+-- where no node is left, the target is not reached
+unreached : (p : Parts) (ws : Weights) (limit : Option ℕ) (s t : NodeId) (ls : Labels) → IsSearch p ws limit s t ls → HasNoOpen ls → (l : Label) → label_at ls t.0 ≡ Some l → ⊥
+unreached p ws limit s t ls h none l at = let bad : true ≡ false = sym (none t.0 l at) ∙ h.labels.target_open l at in cc
+
+pub done-all : (p : Parts) (ws : Weights) (limit : Option ℕ) (s t : NodeId) (ls : Labels) (weight : ℕ) → IsSearch p ws limit s t ls → HasNoOpen ls → ((n : ℕ) → n < weight → IsBelow limit n) → IsDoneBelow limit t ls weight
+done-all p ws limit s t ls weight h none below = record {
+  far = λ v l at open_. absurd (let bad : true ≡ false = sym (none v l at) ∙ open_ in cc);
+  wanted = λ n less. record { below = below n less; shorter = λ l at. absurd (unreached p ws limit s t ls h none l at) };
+}
+
 -- along an arc whose tail has this label
-along-arc : (p : Parts) (ws : Weights) (s t : NodeId) (ls : Labels) (stop : Stop) (a : ArcId) (known : Option Label) → IsSearch p ws s t ls → IsNearest ls stop → IsUsable p ws a → label_at ls (tail_of p a).0 ≡ known → (head_of p a).0 < length ls → (tail_of p a).0 < length ls → get_or (map (potential_of stop.label.length) ls) (head_of p a).0 0 ≤ get_or (map (potential_of stop.label.length) ls) (tail_of p a).0 0 + weight_at ws a
-along-arc p ws s t ls stop a None h near usable is head tail =
-    let weight = stop.label.length in
+along-arc : (p : Parts) (ws : Weights) (limit : Option ℕ) (s t : NodeId) (ls : Labels) (weight : ℕ) (a : ArcId) (known : Option Label) → IsSearch p ws limit s t ls → IsDoneBelow limit t ls weight → IsUsable p ws a → label_at ls (tail_of p a).0 ≡ known → (head_of p a).0 < length ls → (tail_of p a).0 < length ls → get_or (map (potential_of weight) ls) (head_of p a).0 0 ≤ get_or (map (potential_of weight) ls) (tail_of p a).0 0 + weight_at ws a
+along-arc p ws limit s t ls weight a None h done usable is head tail =
     let at_tail : get_or (map (potential_of weight) ls) (tail_of p a).0 0 ≡ weight = potential-at ls weight (tail_of p a).0 tail ∙ ap (potential_of weight) is in
     omega (arith, at_tail, potential-at ls weight (head_of p a).0 head, potential-at_most weight (label_at ls (head_of p a).0))
-along-arc p ws s t ls stop a (Some l) h near usable is head tail =
-    let weight = stop.label.length in
+along-arc p ws limit s t ls weight a (Some l) h done usable is head tail =
     let at_tail = potential-label ls weight (tail_of p a).0 l is in
-    elim (decide l.settled) [
-      | inl settled ↦
-          let reached = h.relaxed a usable l is settled in
-          let at_head = potential-label ls weight (head_of p a).0 reached.label reached.is in
-          omega (arith, at_tail, at_head, reached.within)
-      | inr open_ ↦
-          let far = near.least (tail_of p a).0 l is open_ in
-          omega (arith, at_tail, far, potential-at ls weight (head_of p a).0 head, potential-at_most weight (label_at ls (head_of p a).0))
+    let most = potential-at_most weight (label_at ls (head_of p a).0) in
+    elim (lt_or_le (l.length + weight_at ws a) weight) [
+      | inl below ↦ elim (decide l.settled) [
+        | inl settled ↦
+            let reached = h.relaxed a usable l is settled (done.wanted (l.length + weight_at ws a) below) in
+            let at_head = potential-label ls weight (head_of p a).0 reached.label reached.is in
+            omega (arith, at_tail, at_head, reached.within)
+        | inr open_ ↦ absurd (omega (arith, below, done.far (tail_of p a).0 l is open_))
+      ]
+      | inr beyond ↦ omega (arith, at_tail, beyond, potential-at ls weight (head_of p a).0 head, most)
     ]
 
-pub potentials-right : (p : Parts) (ws : Weights) (s t : NodeId) (ls : Labels) (stop : Stop) → IsInstance p → IsSearch p ws s t ls → IsNearest ls stop → stop.node.0 ≡ t.0 → ArePotentials p ws s t stop.label.length (map (potential_of stop.label.length) ls)
-potentials-right p ws s t ls stop inst h near target =
-    let weight = stop.label.length in
-    record {
-      count = length-map ls (potential_of weight) ∙ h.labels.count;
-      at_source = let at = potential-label ls weight s.0 h.labels.source_label h.labels.source_is in omega (arith, at, h.labels.source_length);
-      at_target = let at = potential-label ls weight t.0 stop.label (subst (λ (v : ℕ). label_at ls v ≡ Some stop.label) target near.is) in omega (arith, at);
-      along = λ a usable. along-arc p ws s t ls stop a (label_at ls (tail_of p a).0) h near usable refl
-          (omega (arith, head-within p a inst usable.is_an_arc, h.labels.count))
-          (omega (arith, tail-within p a inst usable.is_an_arc, h.labels.count));
-    }
+pub all-along : (p : Parts) (ws : Weights) (limit : Option ℕ) (s t : NodeId) (ls : Labels) (weight : ℕ) → IsInstance p → IsSearch p ws limit s t ls → IsDoneBelow limit t ls weight → RiseAlong p ws (map (potential_of weight) ls)
+all-along p ws limit s t ls weight inst h done = λ a usable. along-arc p ws limit s t ls weight a (label_at ls (tail_of p a).0) h done usable refl
+    (omega (arith, head-within p a inst usable.is_an_arc, h.labels.count))
+    (omega (arith, tail-within p a inst usable.is_an_arc, h.labels.count))
 
-pub found-path : (p : Parts) (ws : Weights) (s t : NodeId) (ls : Labels) (stop : Stop) → IsInstance p → IsSearch p ws s t ls → IsNearest ls stop → stop.node.0 ≡ t.0 → IsLeastPath p ws s t (way p ls stop.label.steps stop.label) stop.label.length
-found-path p ws s t ls stop inst h near target =
+-- they show the weight of a path to a node that has this potential
+pub all-shown : (p : Parts) (ws : Weights) (limit : Option ℕ) (s outside t : NodeId) (ls : Labels) (weight : ℕ) → IsInstance p → IsSearch p ws limit s outside ls → IsDoneBelow limit outside ls weight → get_or (map (potential_of weight) ls) t.0 0 ≡ weight → ArePotentials p ws s t weight (map (potential_of weight) ls)
+all-shown p ws limit s outside t ls weight inst h done at_target = record {
+  count = length-map ls (potential_of weight) ∙ h.labels.count;
+  at_source = let at = potential-label ls weight s.0 h.labels.source_label h.labels.source_is in omega (arith, at, h.labels.source_length);
+  at_target = at_target;
+  along = all-along p ws limit s outside ls weight inst h done;
+}
+
+pub potentials-right : (p : Parts) (ws : Weights) (limit : Option ℕ) (s t : NodeId) (ls : Labels) (stop : Stop) → IsInstance p → IsSearch p ws limit s t ls → IsNearest ls stop → stop.node.0 ≡ t.0 → ArePotentials p ws s t stop.label.length (map (potential_of stop.label.length) ls)
+potentials-right p ws limit s t ls stop inst h near target =
+    let at = potential-label ls stop.label.length t.0 stop.label (subst (λ (v : ℕ). label_at ls v ≡ Some stop.label) target near.is) in
+    all-shown p ws limit s t t ls stop.label.length inst h (done-found p ws limit s t ls stop h near target) (omega (arith, at))
+
+pub found-path : (p : Parts) (ws : Weights) (limit : Option ℕ) (s t : NodeId) (ls : Labels) (stop : Stop) → IsInstance p → IsSearch p ws limit s t ls → IsNearest ls stop → stop.node.0 ≡ t.0 → IsLeastPath p ws s t (way p ls stop.label.steps stop.label) stop.label.length
+found-path p ws limit s t ls stop inst h near target =
     let path = way-path p ws s t t ls stop.node.0 stop.label h.labels near.is target in
     record {
       path = path.path;
       weight_is = path.weight;
-      least = least p ws s t stop.label.length (map (potential_of stop.label.length) ls) (potentials-right p ws s t ls stop inst h near target);
+      least = least p ws s t stop.label.length (map (potential_of stop.label.length) ls) (potentials-right p ws limit s t ls stop inst h near target);
     }
 
 -- a set that no usable arc leaves holds each node of a path
@@ -123,9 +162,6 @@ some-label : (x : Option Label) → is_labelled x ≡ true → IsSomeLabel x
 some-label None h = absurd (let bad : false ≡ true = h in cc)
 some-label (Some l) h = record { label = l; is = refl }
 
-lt_or_le : (v n : ℕ) → (v < n) ⊎ (n ≤ v)
-lt_or_le v n = grind arith
-
 pub in-label : (ls : Labels) (v : ℕ) → IsIn (map is_labelled ls) v → IsSomeLabel (label_at ls v)
 in-label ls v h = elim (lt_or_le v (length ls)) [
   | inl within ↦ some-label (label_at ls v) (sym (get_or-map is_labelled ls v None false within) ∙ h)
@@ -139,15 +175,36 @@ no_label_at : (x : Option Label) → ((l : Label) → x ≡ Some l → ⊥) → 
 no_label_at None h = refl
 no_label_at (Some l) h = absurd (h l refl)
 
-pub reached-closed : (p : Parts) (ws : Weights) (s t : NodeId) (ls : Labels) → t.0 < p.nodes → IsSearch p ws s t ls → HasNoOpen ls → IsClosedSet p ws s t (map is_labelled ls)
-reached-closed p ws s t ls target h none = record {
+lacks : (ls : Labels) (v : ℕ) → label_at ls v ≡ None → get_or (map is_labelled ls) v false ≡ false
+lacks ls v none = elim (lt_or_le v (length ls)) [
+  | inl within ↦ get_or-map is_labelled ls v None false within ∙ ap (λ (x : Option Label). is_labelled x) none
+  | inr past ↦ get_or_past (map is_labelled ls) v false (omega (arith, past, length-map {A = Option Label} {B = Bool} ls is_labelled))
+]
+
+pub reached-closed : (p : Parts) (ws : Weights) (s outside t : NodeId) (ls : Labels) → IsSearch p ws None s outside ls → HasNoOpen ls → label_at ls t.0 ≡ None → IsClosedSet p ws s t (map is_labelled ls)
+reached-closed p ws s outside t ls h none missed = record {
   count = length-map ls is_labelled ∙ h.labels.count;
   has_source = label-in ls s.0 h.labels.source_label h.labels.source_is;
-  lacks_target =
-      let no : label_at ls t.0 ≡ None = no_label_at (label_at ls t.0) (λ l is. let bad : true ≡ false = sym (none t.0 l is) ∙ h.labels.target_open l is in cc) in
-      get_or-map is_labelled ls t.0 None false (omega (arith, target, h.labels.count)) ∙ ap (λ (x : Option Label). is_labelled x) no;
+  lacks_target = lacks ls t.0 missed;
   closed = λ a usable inside.
       let from = in-label ls (tail_of p a).0 inside in
-      let to = h.relaxed a usable from.label from.is (none (tail_of p a).0 from.label from.is) in
+      let wanted : IsWanted None outside ls (from.label.length + weight_at ws a) = record { below = tt; shorter = λ l at. absurd (unreached p ws None s outside ls h none l at) } in
+      let to = h.relaxed a usable from.label from.is (none (tail_of p a).0 from.label from.is) wanted in
       label-in ls (head_of p a).0 to.label to.is;
 }
+
+pub no-label : (p : Parts) (ws : Weights) (limit : Option ℕ) (s t : NodeId) (ls : Labels) → IsSearch p ws limit s t ls → HasNoOpen ls → label_at ls t.0 ≡ None
+no-label p ws limit s t ls h none = no_label_at (label_at ls t.0) (unreached p ws limit s t ls h none)
+
+-- where no node is left, no path is below the limit
+pub none-below : (p : Parts) (ws : Weights) (limit : Option ℕ) (s t : NodeId) (ls : Labels) → IsInstance p → t.0 < p.nodes → IsSearch p ws limit s t ls → HasNoOpen ls → HasNoneBelow p ws s t limit
+none-below p ws None s t ls inst target h none = closed-no_path p ws s t (map is_labelled ls) (reached-closed p ws s t t ls h none (no-label p ws None s t ls h none))
+none-below p ws (Some most) s t ls inst target h none =
+    let at = potential-at ls most t.0 (omega (arith, target, h.labels.count)) ∙ ap (potential_of most) (no-label p ws (Some most) s t ls h none) in
+    least p ws s t most (map (potential_of most) ls) (all-shown p ws (Some most) s t t ls most inst h (done-all p ws (Some most) s t ls most h none (λ n less. less)) at)
+
+-- no weight is below a limit of nothing
+pub none-at_all : (p : Parts) (ws : Weights) (limit : Option ℕ) (s t : NodeId) → (IsBelow limit 0 → ⊥) → HasNoneBelow p ws s t limit
+none-at_all p ws None s t not_below = absurd (not_below tt)
+none-at_all p ws (Some zero) s t not_below = λ arcs path. omega arith
+none-at_all p ws (Some (suc most)) s t not_below = absurd (not_below (omega arith))

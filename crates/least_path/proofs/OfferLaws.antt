@@ -2,8 +2,7 @@
 use Rattle.std.proofs.Common.{◌≡◌, ◌≢◌, ℕ, suc, ◌+◌, ◌<◌, ◌≤◌, ◌⊎◌, inl, inr, true, false, List, length, get_or, Option, Some, None, arith, refl, sym, ◌∙◌, ap, subst}
 use Rattle.std.proofs.Math.ListN.{set, length-set}
 use Rattle.std.proofs.lemmas.Bool.{ltb-true, ltb-false}
-use Rattle.std.proofs.lemmas.List.{get_or-set_same, get_or-set_other, get_or_default, get_or_past}
-use Rattle.std.specs.Option.{unwrap_or}
+use Rattle.std.proofs.lemmas.List.{get_or-set_same, get_or-set_other, get_or_default}
 use Rattle.std.proofs.lemmas.List.Sums.{sum_by-set}
 use Rattle.plan_base.specs.declared.ids.NodeId.{NodeId}
 use Rattle.plan_base.specs.declared.ids.ArcId.{ArcId}
@@ -12,10 +11,9 @@ use Rattle.plan_base.specs.Arcs.{tail_of, head_of}
 use Rattle.plan_base.specs.Paths.{arc_at}
 use Rattle.least_path.specs.declared.label.Label.{Label}
 use Rattle.least_path.specs.declared.label.Stop.{Stop}
-use Rattle.least_path.specs.declared.limits.TheConstants.{MAX_WEIGHT}
-use Rattle.least_path.specs.Paths.{Weights, weight_at, IsUsable}
-use Rattle.least_path.specs.Labels.{Labels, label_at, is_better, offered, open_one, open_count, GoesOn, IsSettledAt, IsReached, IsLabel, AreLabels, HasAtMost, IsRelaxed, IsSpread}
-use Rattle.least_path.proofs.NearestLaws.{decide, lt_or_le, same_or_not, below_cases, some_same}
+use Rattle.least_path.specs.Paths.{Weights, weight_at, IsUsable, IsBelow}
+use Rattle.least_path.specs.Labels.{Labels, label_at, is_better, offered, open_one, open_count, IsWanted, GoesOn, IsServed, IsIdle, IsReached, IsLabel, AreLabels, HasAtMost, IsRelaxed, IsSpread}
+use Rattle.least_path.proofs.NearestLaws.{decide, same_or_not, below_cases, some_same}
 
 offered-better : (ls : Labels) (v : ℕ) (l : Label) → is_better l (label_at ls v) ≡ true → offered ls v l ≡ set ls v (Some l)
 unfolding offered
@@ -89,14 +87,14 @@ reached-kept p ws ls v l w m open_ r = record {
 }
 
 -- the head of the arc is open where the label is better
-open-head : (p : Parts) (ws : Weights) (s t : NodeId) (ls : Labels) (stop : Stop) (arcs : List ArcId) (i : ℕ) (a : ArcId) (l : Label) → IsSpread p ws s t ls stop arcs i → GoesOn p ws ls stop a l → is_better l (label_at ls (head_of p a).0) ≡ true → (m : Label) → label_at ls (head_of p a).0 ≡ Some m → m.settled ≡ false
-open-head p ws s t ls stop arcs i a l h g better m at = elim (decide m.settled) [
+open-head : (p : Parts) (ws : Weights) (limit : Option ℕ) (s t : NodeId) (ls : Labels) (stop : Stop) (arcs : List ArcId) (i : ℕ) (a : ArcId) (l : Label) → IsSpread p ws limit s t ls stop arcs i → GoesOn p ws limit ls stop a l → is_better l (label_at ls (head_of p a).0) ≡ true → (m : Label) → label_at ls (head_of p a).0 ≡ Some m → m.settled ≡ false
+open-head p ws limit s t ls stop arcs i a l h g better m at = elim (decide m.settled) [
   | inl settled ↦ absurd (let early = h.latest (head_of p a).0 m at settled in let less = shorter l (label_at ls (head_of p a).0) m better at in omega (arith, early, less, g.length_is))
   | inr open_ ↦ open_
 ]
 
-new-label : (p : Parts) (ws : Weights) (s t : NodeId) (ls : Labels) (stop : Stop) (arcs : List ArcId) (i : ℕ) (a : ArcId) (l : Label) → IsSpread p ws s t ls stop arcs i → GoesOn p ws ls stop a l → ((k : Label) → label_at ls (head_of p a).0 ≡ Some k → k.settled ≡ false) → open_count (set ls (head_of p a).0 (Some l)) ≡ open_count ls → IsLabel p ws s (set ls (head_of p a).0 (Some l)) (head_of p a).0 l
-new-label p ws s t ls stop arcs i a l h g open_ same = record {
+new-label : (p : Parts) (ws : Weights) (limit : Option ℕ) (s t : NodeId) (ls : Labels) (stop : Stop) (arcs : List ArcId) (i : ℕ) (a : ArcId) (l : Label) → IsSpread p ws limit s t ls stop arcs i → GoesOn p ws limit ls stop a l → ((k : Label) → label_at ls (head_of p a).0 ≡ Some k → k.settled ≡ false) → open_count (set ls (head_of p a).0 (Some l)) ≡ open_count ls → IsLabel p ws s (set ls (head_of p a).0 (Some l)) (head_of p a).0 l
+new-label p ws limit s t ls stop arcs i a l h g open_ same = record {
   steps_within = omega (arith, h.steps, g.steps, same);
   length_within =
       let old = (h.labels.each stop.node.0 stop.label h.here).length_within in
@@ -171,33 +169,50 @@ at_most-kept ls v l w bound within better h = elim (same_or_not w v) [
   | inr other ↦ record { label = h.label; is = kept ls v l w h.label other h.is; within = h.within }
 ]
 
-relaxed-kept : (p : Parts) (ws : Weights) (ls : Labels) (v : ℕ) (l : Label) (b : ArcId) → v < length ls → is_better l (label_at ls v) ≡ true → l.settled ≡ false → IsRelaxed p ws ls b → IsRelaxed p ws (set ls v (Some l)) b
-relaxed-kept p ws ls v l b within better open_l h = λ m at settled. elim (new_or_old ls v l (tail_of p b).0 m within at) [
+-- what is wanted was wanted before the target's label got shorter
+wanted-before : (limit : Option ℕ) (t : NodeId) (ls : Labels) (v : ℕ) (l : Label) (n : ℕ) → v < length ls → is_better l (label_at ls v) ≡ true → IsWanted limit t (set ls v (Some l)) n → IsWanted limit t ls n
+wanted-before limit t ls v l n within better w = record {
+  below = w.below;
+  shorter = λ m at. elim (same_or_not t.0 v) [
+    | inl here ↦
+        let less = shorter l (label_at ls v) m better (subst (λ (k : ℕ). label_at ls k ≡ Some m) here at) in
+        let now = w.shorter l (subst (λ (k : ℕ). label_at (set ls v (Some l)) k ≡ Some l) (sym here) (get_or-set_same ls v (Some l) None within)) in
+        omega (arith, less, now)
+    | inr other ↦ w.shorter m (kept ls v l t.0 m other at)
+  ];
+}
+
+relaxed-kept : (p : Parts) (ws : Weights) (limit : Option ℕ) (t : NodeId) (ls : Labels) (v : ℕ) (l : Label) (b : ArcId) → v < length ls → is_better l (label_at ls v) ≡ true → l.settled ≡ false → IsRelaxed p ws limit t ls b → IsRelaxed p ws limit t (set ls v (Some l)) b
+relaxed-kept p ws limit t ls v l b within better open_l h = λ m at settled wanted. elim (new_or_old ls v l (tail_of p b).0 m within at) [
   | inl is ↦ absurd (let bad : true ≡ false = sym settled ∙ subst (λ (y : Label). y.settled ≡ false) is.same open_l in cc)
-  | inr is ↦ at_most-kept ls v l (head_of p b).0 (m.length + weight_at ws b) within better (h m is.is settled)
+  | inr is ↦ at_most-kept ls v l (head_of p b).0 (m.length + weight_at ws b) within better (h m is.is settled (wanted-before limit t ls v l (m.length + weight_at ws b) within better wanted))
 ]
 
 -- the arc is relaxed where its head has a label that is short enough
-relaxed-now : (p : Parts) (ws : Weights) (ls : Labels) (stop : Stop) (a : ArcId) (bound : ℕ) → (tail_of p a).0 ≡ stop.node.0 → label_at ls stop.node.0 ≡ Some stop.label → bound ≡ stop.label.length + weight_at ws a → HasAtMost ls (head_of p a).0 bound → IsRelaxed p ws ls a
-relaxed-now p ws ls stop a bound tail here is h = λ m at settled.
+relaxed-now : (p : Parts) (ws : Weights) (limit : Option ℕ) (t : NodeId) (ls : Labels) (stop : Stop) (a : ArcId) (bound : ℕ) → (tail_of p a).0 ≡ stop.node.0 → label_at ls stop.node.0 ≡ Some stop.label → bound ≡ stop.label.length + weight_at ws a → IsServed p limit t ls a bound → IsRelaxed p ws limit t ls a
+relaxed-now p ws limit t ls stop a bound tail here is h = λ m at settled.
     let same : stop.label ≡ m = some_same (label_at ls stop.node.0) stop.label m here (subst (λ (k : ℕ). label_at ls k ≡ Some m) tail at) in
-    subst (λ (x : Label). HasAtMost ls (head_of p a).0 (x.length + weight_at ws a)) same (subst (HasAtMost ls (head_of p a).0) is h)
+    subst (λ (x : Label). IsServed p limit t ls a (x.length + weight_at ws a)) same (subst (IsServed p limit t ls a) is h)
 
-pub done-more : (p : Parts) (ws : Weights) (ls : Labels) (arcs : List ArcId) (i : ℕ) → ((j : ℕ) → j < i → IsUsable p ws (arc_at arcs j) → IsRelaxed p ws ls (arc_at arcs j)) → (IsUsable p ws (arc_at arcs i) → IsRelaxed p ws ls (arc_at arcs i)) → (j : ℕ) → j < suc i → IsUsable p ws (arc_at arcs j) → IsRelaxed p ws ls (arc_at arcs j)
-done-more p ws ls arcs i before now j below = elim (below_cases j i below) [
+pub done-more : (p : Parts) (ws : Weights) (limit : Option ℕ) (t : NodeId) (ls : Labels) (arcs : List ArcId) (i : ℕ) → ((j : ℕ) → j < i → IsUsable p ws (arc_at arcs j) → IsRelaxed p ws limit t ls (arc_at arcs j)) → (IsUsable p ws (arc_at arcs i) → IsRelaxed p ws limit t ls (arc_at arcs i)) → (j : ℕ) → j < suc i → IsUsable p ws (arc_at arcs j) → IsRelaxed p ws limit t ls (arc_at arcs j)
+done-more p ws limit t ls arcs i before now j below = elim (below_cases j i below) [
   | inl early ↦ before j early
-  | inr here ↦ subst (λ (k : ℕ). IsUsable p ws (arc_at arcs k) → IsRelaxed p ws ls (arc_at arcs k)) (sym here) now
+  | inr here ↦ subst (λ (k : ℕ). IsUsable p ws (arc_at arcs k) → IsRelaxed p ws limit t ls (arc_at arcs k)) (sym here) now
 ]
 
 -- a better label is taken
-spread-taken : (p : Parts) (ws : Weights) (s t : NodeId) (ls : Labels) (stop : Stop) (arcs : List ArcId) (i : ℕ) (a : ArcId) (l : Label) → arc_at arcs i ≡ a → IsSpread p ws s t ls stop arcs i → GoesOn p ws ls stop a l → is_better l (label_at ls (head_of p a).0) ≡ true → IsSpread p ws s t (set ls (head_of p a).0 (Some l)) stop arcs (suc i)
-spread-taken p ws s t ls stop arcs i a l number h g better =
+spread-taken : (p : Parts) (ws : Weights) (limit : Option ℕ) (s t : NodeId) (ls : Labels) (stop : Stop) (arcs : List ArcId) (i : ℕ) (a : ArcId) (l : Label) → arc_at arcs i ≡ a → IsSpread p ws limit s t ls stop arcs i → GoesOn p ws limit ls stop a l → is_better l (label_at ls (head_of p a).0) ≡ true → IsSpread p ws limit s t (set ls (head_of p a).0 (Some l)) stop arcs (suc i)
+spread-taken p ws limit s t ls stop arcs i a l number h g better =
     let v = (head_of p a).0 in
-    let open_ = open-head p ws s t ls stop arcs i a l h g better in
+    let open_ = open-head p ws limit s t ls stop arcs i a l h g better in
     let same = open_count-offered ls v l g.head g.settled open_ in
     let here = kept ls v l stop.node.0 stop.label (settled-other ls v stop.node.0 stop.label open_ h.here h.settled) h.here in
     record {
-      labels = replaced-labels p ws s t ls v l g.head h.labels open_ better g.settled (λ w m at settled. omega (arith, h.latest w m at settled, g.length_is)) same (new-label p ws s t ls stop arcs i a l h g open_ same);
+      labels = replaced-labels p ws s t ls v l g.head h.labels open_ better g.settled (λ w m at settled. omega (arith, h.latest w m at settled, g.length_is)) same (new-label p ws limit s t ls stop arcs i a l h g open_ same);
+      below = λ w m at. elim (new_or_old ls v l w m g.head at) [
+        | inl is ↦ subst (λ (y : Label). IsBelow limit y.length) is.same g.below
+        | inr is ↦ h.below w m is.is
+      ];
       here = here;
       settled = h.settled;
       latest = λ w m at settled. elim (new_or_old ls v l w m g.head at) [
@@ -205,47 +220,52 @@ spread-taken p ws s t ls stop arcs i a l number h g better =
         | inr is ↦ h.latest w m is.is settled
       ];
       steps = omega (arith, h.steps, same);
-      others = λ b usable other. relaxed-kept p ws ls v l b g.head better g.settled (h.others b usable other);
-      done = done-more p ws (set ls v (Some l)) arcs i (λ j below usable. relaxed-kept p ws ls v l (arc_at arcs j) g.head better g.settled (h.done j below usable))
-          (λ usable. subst (IsRelaxed p ws (set ls v (Some l))) (sym number) (relaxed-now p ws (set ls v (Some l)) stop a l.length g.tail here g.length_is (record { label = l; is = get_or-set_same ls v (Some l) None g.head; within = omega arith })));
+      others = λ b usable other. relaxed-kept p ws limit t ls v l b g.head better g.settled (h.others b usable other);
+      done = done-more p ws limit t (set ls v (Some l)) arcs i (λ j below usable. relaxed-kept p ws limit t ls v l (arc_at arcs j) g.head better g.settled (h.done j below usable))
+          (λ usable. subst (IsRelaxed p ws limit t (set ls v (Some l))) (sym number) (relaxed-now p ws limit t (set ls v (Some l)) stop a l.length g.tail here g.length_is (λ wanted. record { label = l; is = get_or-set_same ls v (Some l) None g.head; within = omega arith })));
     }
 
 -- where the arc asks for no change
-pub spread-same : (p : Parts) (ws : Weights) (s t : NodeId) (ls : Labels) (stop : Stop) (arcs : List ArcId) (i : ℕ) → IsSpread p ws s t ls stop arcs i → (IsUsable p ws (arc_at arcs i) → IsRelaxed p ws ls (arc_at arcs i)) → IsSpread p ws s t ls stop arcs (suc i)
-spread-same p ws s t ls stop arcs i h now = record {
+pub spread-same : (p : Parts) (ws : Weights) (limit : Option ℕ) (s t : NodeId) (ls : Labels) (stop : Stop) (arcs : List ArcId) (i : ℕ) → IsSpread p ws limit s t ls stop arcs i → (IsUsable p ws (arc_at arcs i) → IsRelaxed p ws limit t ls (arc_at arcs i)) → IsSpread p ws limit s t ls stop arcs (suc i)
+spread-same p ws limit s t ls stop arcs i h now = record {
   labels = h.labels;
+  below = h.below;
   here = h.here;
   settled = h.settled;
   latest = h.latest;
   steps = h.steps;
   others = h.others;
-  done = done-more p ws ls arcs i h.done now;
+  done = done-more p ws limit t ls arcs i h.done now;
 }
 
-spread-left : (p : Parts) (ws : Weights) (s t : NodeId) (ls : Labels) (stop : Stop) (arcs : List ArcId) (i : ℕ) (a : ArcId) (l : Label) → arc_at arcs i ≡ a → IsSpread p ws s t ls stop arcs i → GoesOn p ws ls stop a l → is_better l (label_at ls (head_of p a).0) ≡ false → IsSpread p ws s t ls stop arcs (suc i)
-spread-left p ws s t ls stop arcs i a l number h g worse = spread-same p ws s t ls stop arcs i h (λ usable.
+spread-left : (p : Parts) (ws : Weights) (limit : Option ℕ) (s t : NodeId) (ls : Labels) (stop : Stop) (arcs : List ArcId) (i : ℕ) (a : ArcId) (l : Label) → arc_at arcs i ≡ a → IsSpread p ws limit s t ls stop arcs i → GoesOn p ws limit ls stop a l → is_better l (label_at ls (head_of p a).0) ≡ false → IsSpread p ws limit s t ls stop arcs (suc i)
+spread-left p ws limit s t ls stop arcs i a l number h g worse = spread-same p ws limit s t ls stop arcs i h (λ usable.
     let known = no_longer l (label_at ls (head_of p a).0) worse in
-    subst (IsRelaxed p ws ls) (sym number) (relaxed-now p ws ls stop a l.length g.tail h.here g.length_is (record { label = known.label; is = known.is; within = known.within })))
+    subst (IsRelaxed p ws limit t ls) (sym number) (relaxed-now p ws limit t ls stop a l.length g.tail h.here g.length_is (λ wanted. record { label = known.label; is = known.is; within = known.within })))
 
-pub spread-offered : (p : Parts) (ws : Weights) (s t : NodeId) (ls : Labels) (stop : Stop) (arcs : List ArcId) (i : ℕ) (a : ArcId) (l : Label) → arc_at arcs i ≡ a → IsSpread p ws s t ls stop arcs i → GoesOn p ws ls stop a l → IsSpread p ws s t (offered ls (head_of p a).0 l) stop arcs (suc i)
-spread-offered p ws s t ls stop arcs i a l number h g = elim (decide (is_better l (label_at ls (head_of p a).0))) [
-  | inl better ↦ subst (λ (x : Labels). IsSpread p ws s t x stop arcs (suc i)) (sym (offered-better ls (head_of p a).0 l better)) (spread-taken p ws s t ls stop arcs i a l number h g better)
-  | inr worse ↦ subst (λ (x : Labels). IsSpread p ws s t x stop arcs (suc i)) (sym (offered-worse ls (head_of p a).0 l worse)) (spread-left p ws s t ls stop arcs i a l number h g worse)
+pub spread-offered : (p : Parts) (ws : Weights) (limit : Option ℕ) (s t : NodeId) (ls : Labels) (stop : Stop) (arcs : List ArcId) (i : ℕ) (a : ArcId) (l : Label) → arc_at arcs i ≡ a → IsSpread p ws limit s t ls stop arcs i → GoesOn p ws limit ls stop a l → IsSpread p ws limit s t (offered ls (head_of p a).0 l) stop arcs (suc i)
+spread-offered p ws limit s t ls stop arcs i a l number h g = elim (decide (is_better l (label_at ls (head_of p a).0))) [
+  | inl better ↦ subst (λ (x : Labels). IsSpread p ws limit s t x stop arcs (suc i)) (sym (offered-better ls (head_of p a).0 l better)) (spread-taken p ws limit s t ls stop arcs i a l number h g better)
+  | inr worse ↦ subst (λ (x : Labels). IsSpread p ws limit s t x stop arcs (suc i)) (sym (offered-worse ls (head_of p a).0 l worse)) (spread-left p ws limit s t ls stop arcs i a l number h g worse)
 ]
 
-pub count-offered : (p : Parts) (ws : Weights) (s t : NodeId) (ls : Labels) (stop : Stop) (arcs : List ArcId) (i : ℕ) (a : ArcId) (l : Label) → IsSpread p ws s t ls stop arcs i → GoesOn p ws ls stop a l → open_count (offered ls (head_of p a).0 l) ≡ open_count ls
-count-offered p ws s t ls stop arcs i a l h g = elim (decide (is_better l (label_at ls (head_of p a).0))) [
-  | inl better ↦ ap open_count (offered-better ls (head_of p a).0 l better) ∙ open_count-offered ls (head_of p a).0 l g.head g.settled (open-head p ws s t ls stop arcs i a l h g better)
+pub count-offered : (p : Parts) (ws : Weights) (limit : Option ℕ) (s t : NodeId) (ls : Labels) (stop : Stop) (arcs : List ArcId) (i : ℕ) (a : ArcId) (l : Label) → IsSpread p ws limit s t ls stop arcs i → GoesOn p ws limit ls stop a l → open_count (offered ls (head_of p a).0 l) ≡ open_count ls
+count-offered p ws limit s t ls stop arcs i a l h g = elim (decide (is_better l (label_at ls (head_of p a).0))) [
+  | inl better ↦ ap open_count (offered-better ls (head_of p a).0 l better) ∙ open_count-offered ls (head_of p a).0 l g.head g.settled (open-head p ws limit s t ls stop arcs i a l h g better)
   | inr worse ↦ ap open_count (offered-worse ls (head_of p a).0 l worse)
 ]
 
--- the head of an arc that is settled asks for no change
-pub relaxed-settled : (p : Parts) (ws : Weights) (s t : NodeId) (ls : Labels) (stop : Stop) (arcs : List ArcId) (i : ℕ) (a : ArcId) → IsSpread p ws s t ls stop arcs i → (tail_of p a).0 ≡ stop.node.0 → IsSettledAt ls (head_of p a).0 → IsRelaxed p ws ls a
-relaxed-settled p ws s t ls stop arcs i a h tail is =
-    let early = h.latest (head_of p a).0 is.label is.is is.settled in
-    relaxed-now p ws ls stop a (stop.label.length + weight_at ws a) tail h.here refl (record { label = is.label; is = is.is; within = omega (arith, early) })
+-- an arc that asks for no change is relaxed
+pub relaxed-idle : (p : Parts) (ws : Weights) (limit : Option ℕ) (s t : NodeId) (ls : Labels) (stop : Stop) (arcs : List ArcId) (i : ℕ) (a : ArcId) → IsSpread p ws limit s t ls stop arcs i → (tail_of p a).0 ≡ stop.node.0 → IsIdle p ws limit t ls stop a → IsUsable p ws a → IsRelaxed p ws limit t ls a
+relaxed-idle p ws limit s t ls stop arcs i a h tail idle usable = relaxed-now p ws limit t ls stop a (stop.label.length + weight_at ws a) tail h.here refl (idle usable)
 
-pub spread-next : (p : Parts) (ws : Weights) (s t : NodeId) (ls : Labels) (stop : Stop) (arcs : List ArcId) (i : ℕ) → IsSpread p ws s t ls stop arcs (suc i) → IsSpread p ws s t ls stop arcs (i + 1)
-spread-next p ws s t ls stop arcs i h =
+-- an arc asks for no change where its head is no farther than its tail
+pub near-idle : (p : Parts) (ws : Weights) (limit : Option ℕ) (t : NodeId) (ls : Labels) (stop : Stop) (a : ArcId) → is_better stop.label (label_at ls (head_of p a).0) ≡ false → IsIdle p ws limit t ls stop a
+near-idle p ws limit t ls stop a worse = λ usable wanted.
+    let known = no_longer stop.label (label_at ls (head_of p a).0) worse in
+    record { label = known.label; is = known.is; within = omega (arith, known.within) }
+
+pub spread-next : (p : Parts) (ws : Weights) (limit : Option ℕ) (s t : NodeId) (ls : Labels) (stop : Stop) (arcs : List ArcId) (i : ℕ) → IsSpread p ws limit s t ls stop arcs (suc i) → IsSpread p ws limit s t ls stop arcs (i + 1)
+spread-next p ws limit s t ls stop arcs i h =
     let e : suc i ≡ i + 1 = omega arith in
-    subst (λ (k : ℕ). IsSpread p ws s t ls stop arcs k) e h
+    subst (λ (k : ℕ). IsSpread p ws limit s t ls stop arcs k) e h

@@ -10,8 +10,8 @@ use Rattle.plan_base.specs.Arcs.{tail_of, head_of}
 use Rattle.plan_base.specs.Leaving.{AreLeaving}
 use Rattle.least_path.specs.declared.label.Label.{Label}
 use Rattle.least_path.specs.declared.label.Stop.{Stop}
-use Rattle.least_path.specs.Paths.{Weights, weight_at, IsUsable}
-use Rattle.least_path.specs.Labels.{Labels, label_at, open_one, open_count, IsNearest, IsLabel, AreLabels, HasAtMost, IsRelaxed, IsSearch, IsSpread, first_label_of, first_labels_of}
+use Rattle.least_path.specs.Paths.{Weights, weight_at, IsUsable, IsBelow}
+use Rattle.least_path.specs.Labels.{Labels, label_at, open_one, open_count, IsNearest, IsLabel, AreLabels, HasAtMost, IsWanted, IsRelaxed, IsSearch, IsSpread, first_label_of, first_labels_of}
 use Rattle.least_path.proofs.NearestLaws.{same_or_not, label_within, some_same}
 use Rattle.least_path.proofs.OfferLaws.{new_or_old, kept, reached-kept, old-label, open_one-unsettled}
 
@@ -108,13 +108,24 @@ at_most-settled ls stop w bound near h =
       | inr other ↦ record { label = h.label; is = kept ls stop.node.0 (settled_label stop.label) w h.label other h.is; within = h.within }
     ]
 
-pub spread-start : (p : Parts) (ws : Weights) (s t : NodeId) (ls : Labels) (stop : Stop) → IsSearch p ws s t ls → IsNearest ls stop → stop.node.0 ≢ t.0 → IsSpread p ws s t (settled_in ls stop) (settled_stop stop) [] 0
-spread-start p ws s t ls stop h near other =
+-- settling another node leaves the target's label
+wanted-kept : (limit : Option ℕ) (t : NodeId) (ls : Labels) (stop : Stop) (n : ℕ) → stop.node.0 ≢ t.0 → IsWanted limit t (settled_in ls stop) n → IsWanted limit t ls n
+wanted-kept limit t ls stop n other w = record {
+  below = w.below;
+  shorter = λ m at. w.shorter m (kept ls stop.node.0 (settled_label stop.label) t.0 m (λ same. other (sym same)) at);
+}
+
+pub spread-start : (p : Parts) (ws : Weights) (limit : Option ℕ) (s t : NodeId) (ls : Labels) (stop : Stop) → IsSearch p ws limit s t ls → IsNearest ls stop → stop.node.0 ≢ t.0 → IsSpread p ws limit s t (settled_in ls stop) (settled_stop stop) [] 0
+spread-start p ws limit s t ls stop h near other =
     let v = stop.node.0 in
     let l = settled_label stop.label in
     let within = label_within ls v stop.label near.is in
     record {
       labels = settled-labels p ws s t ls stop h.labels near other;
+      below = λ w m at. elim (new_or_old ls v l w m within at) [
+        | inl is ↦ subst (λ (y : Label). IsBelow limit y.length) is.same (h.below v stop.label near.is)
+        | inr is ↦ h.below w m is.is
+      ];
       here = get_or-set_same ls v (Some l) None within;
       settled = refl;
       latest = λ w m at settled. elim (new_or_old ls v l w m within at) [
@@ -122,16 +133,17 @@ spread-start p ws s t ls stop h near other =
         | inr is ↦ h.labels.ordered w v m stop.label is.is near.is settled near.unsettled
       ];
       steps = omega (arith, (h.labels.each v stop.label near.is).steps_within, count-settled ls stop near);
-      others = λ a usable elsewhere. λ m at settled. elim (new_or_old ls v l (tail_of p a).0 m within at) [
+      others = λ a usable elsewhere. λ m at settled wanted. elim (new_or_old ls v l (tail_of p a).0 m within at) [
         | inl is ↦ absurd (elsewhere is.here)
-        | inr is ↦ at_most-settled ls stop (head_of p a).0 (m.length + weight_at ws a) near (h.relaxed a usable m is.is settled)
+        | inr is ↦ at_most-settled ls stop (head_of p a).0 (m.length + weight_at ws a) near (h.relaxed a usable m is.is settled (wanted-kept limit t ls stop (m.length + weight_at ws a) other wanted))
       ];
       done = λ j below. absurd (omega arith);
     }
 
-pub spread-arcs : (p : Parts) (ws : Weights) (s t : NodeId) (ls : Labels) (stop : Stop) (arcs : List ArcId) → IsSpread p ws s t ls stop [] 0 → IsSpread p ws s t ls stop arcs 0
-spread-arcs p ws s t ls stop arcs h = record {
+pub spread-arcs : (p : Parts) (ws : Weights) (limit : Option ℕ) (s t : NodeId) (ls : Labels) (stop : Stop) (arcs : List ArcId) → IsSpread p ws limit s t ls stop [] 0 → IsSpread p ws limit s t ls stop arcs 0
+spread-arcs p ws limit s t ls stop arcs h = record {
   labels = h.labels;
+  below = h.below;
   here = h.here;
   settled = h.settled;
   latest = h.latest;
@@ -141,13 +153,14 @@ spread-arcs p ws s t ls stop arcs h = record {
 }
 
 -- all arcs that leave the node are done
-pub spread-end : (p : Parts) (ws : Weights) (s t : NodeId) (ls : Labels) (stop : Stop) (arcs : List ArcId) → AreLeaving p stop.node.0 arcs → IsSpread p ws s t ls stop arcs (length arcs) → IsSearch p ws s t ls
-spread-end p ws s t ls stop arcs leaving h = record {
+pub spread-end : (p : Parts) (ws : Weights) (limit : Option ℕ) (s t : NodeId) (ls : Labels) (stop : Stop) (arcs : List ArcId) → AreLeaving p stop.node.0 arcs → IsSpread p ws limit s t ls stop arcs (length arcs) → IsSearch p ws limit s t ls
+spread-end p ws limit s t ls stop arcs leaving h = record {
   labels = h.labels;
+  below = h.below;
   relaxed = λ a usable. elim (same_or_not (tail_of p a).0 stop.node.0) [
     | inl here ↦
         let stands = leaving.complete a usable.is_an_arc here in
-        subst (IsRelaxed p ws ls) stands.is (h.done stands.place stands.within (subst (IsUsable p ws) (sym stands.is) usable))
+        subst (IsRelaxed p ws limit t ls) stands.is (h.done stands.place stands.within (subst (IsUsable p ws) (sym stands.is) usable))
     | inr other ↦ h.others a usable other
   ];
 }
@@ -186,8 +199,8 @@ first-only n s w m within at = elim (new_or_old (replicate n None) s first_label
 first-open : (m : Label) → first_label_of ≡ m → m.settled ≡ false
 first-open m same = subst (λ (x : Label). x.settled ≡ false) same refl
 
-pub first-search : (p : Parts) (ws : Weights) (s t : NodeId) → s.0 < p.nodes → IsSearch p ws s t (first_labels_of p.nodes s.0)
-first-search p ws s t within =
+pub first-search : (p : Parts) (ws : Weights) (limit : Option ℕ) (s t : NodeId) → s.0 < p.nodes → IsBelow limit 0 → IsSearch p ws limit s t (first_labels_of p.nodes s.0)
+first-search p ws limit s t within some =
     let ls = first_labels_of p.nodes s.0 in
     let count : length ls ≡ p.nodes = length-set (replicate p.nodes None) s.0 (Some first_label_of) ∙ length-replicate p.nodes None in
     record {
@@ -208,5 +221,6 @@ first-search p ws s t within =
         ordered = λ w x m k at_w at_x settled unsettled. absurd (let bad : true ≡ false = sym settled ∙ first-open m (first-only p.nodes s.0 w m within at_w).same in cc);
         target_open = λ m at. first-open m (first-only p.nodes s.0 t.0 m within at).same;
       };
+      below = λ v m at. subst (λ (x : Label). IsBelow limit x.length) (first-only p.nodes s.0 v m within at).same some;
       relaxed = λ a usable m at settled. absurd (let bad : true ≡ false = sym settled ∙ first-open m (first-only p.nodes s.0 (tail_of p a).0 m within at).same in cc);
     }

@@ -1,82 +1,50 @@
 -- What a tree's labels say: a way of least weight to each node that is reached, and none to the others.
-use Rattle.std.proofs.Common.{◌≡◌, ℕ, suc, ◌+◌, ◌<◌, ◌≤◌, inl, inr, false, Bool, List, [], ◌∷◌, ◌++◌, length, get_or, map, reverse, Option, Some, None, IfSome, IfNone, arith, refl, sym, ◌∙◌, ap, subst, if◌then◌else◌}
+use Rattle.std.proofs.Common.{◌≡◌, ℕ, suc, ◌+◌, ◌<◌, ◌≤◌, inl, inr, Bool, List, [], ◌∷◌, ◌++◌, length, get_or, map, reverse, Option, Some, None, IfSome, IfNone, arith, refl, sym, ◌∙◌, ap, subst, if◌then◌else◌}
 use Rattle.std.specs.Option.{unwrap_or}
-use Rattle.std.proofs.lemmas.List.{append-nil, get_or-map, length-map, get_or_past}
+use Rattle.std.proofs.lemmas.List.{append-nil, get_or_past}
 use Rattle.plan_base.specs.declared.ids.NodeId.{NodeId}
 use Rattle.plan_base.specs.declared.ids.ArcId.{ArcId}
 use Rattle.plan_base.specs.declared.parts.Parts.{Parts}
 use Rattle.plan_base.specs.Facts.{IsInstance}
-use Rattle.plan_base.specs.Arcs.{tail_of, head_of}
+use Rattle.plan_base.specs.Arcs.{tail_of}
 use Rattle.least_path.specs.declared.label.Label.{Label}
 use Rattle.least_path.specs.declared.label.Stop.{Stop}
-use Rattle.least_path.specs.Paths.{Weights, weight_at, IsUsable, IsLeastPath, ArePotentials, IsClosedSet, HasNoUsablePath}
+use Rattle.least_path.specs.Paths.{Weights, IsLeastPath, ArePotentials, HasNoUsablePath}
 use Rattle.least_path.specs.Labels.{Labels, label_at, way, is_labelled, potential_of, HasNoOpen, IsSearch, IsNearest}
 use Rattle.least_path.specs.Trees.{IsTree, length_of_label, length_at, label_before, AreLengths, RiseAlong}
 use Rattle.least_path.proofs.NearestLaws.{label_within, lt_or_le, below_cases, some_same}
-use Rattle.least_path.proofs.FoundLaws.{least, head-within, tail-within, potential-at_most, potential-at, potential-label, in-label, label-in, closed-no_path}
+use Rattle.least_path.proofs.FoundLaws.{IsDoneBelow, done-all, all-along, all-shown, least, potential-label, closed-no_path, reached-closed}
 use Rattle.least_path.proofs.WayLaws.{IsReadBack, way-path, back-more, back-end, back-reached}
 
 -- a search that met no open node has a tree
-pub all-settled : (p : Parts) (ws : Weights) (s outside : NodeId) (ls : Labels) (found : Option Stop) → outside.0 ≡ p.nodes → IsSearch p ws s outside ls → IfSome found (IsNearest ls) → IfSome found (λ last. last.node.0 ≡ outside.0) → IfNone found (HasNoOpen ls) → IsTree p ws s ls
+pub all-settled : (p : Parts) (ws : Weights) (s outside : NodeId) (ls : Labels) (found : Option Stop) → outside.0 ≡ p.nodes → IsSearch p ws None s outside ls → IfSome found (IsNearest ls) → IfSome found (λ last. last.node.0 ≡ outside.0) → IfNone found (HasNoOpen ls) → IsTree p ws s ls
 all-settled p ws s outside ls None out h near at none = record {
-  search = subst (λ (n : ℕ). IsSearch p ws s (record { 0 = n }) ls) out h;
+  search = subst (λ (n : ℕ). IsSearch p ws None s (record { 0 = n }) ls) out h;
   done = none;
 }
 all-settled p ws s outside ls (Some stop) out h near at none =
     absurd (omega (arith, out, at, h.labels.count, label_within ls stop.node.0 stop.label near.is))
 
--- along an arc whose tail has this label
-along-arc : (p : Parts) (ws : Weights) (s : NodeId) (ls : Labels) (weight : ℕ) (a : ArcId) (known : Option Label) → IsTree p ws s ls → IsUsable p ws a → label_at ls (tail_of p a).0 ≡ known → (head_of p a).0 < length ls → (tail_of p a).0 < length ls → get_or (map (potential_of weight) ls) (head_of p a).0 0 ≤ get_or (map (potential_of weight) ls) (tail_of p a).0 0 + weight_at ws a
-along-arc p ws s ls weight a None h usable is head tail =
-    let at_tail : get_or (map (potential_of weight) ls) (tail_of p a).0 0 ≡ weight = potential-at ls weight (tail_of p a).0 tail ∙ ap (potential_of weight) is in
-    omega (arith, at_tail, potential-at ls weight (head_of p a).0 head, potential-at_most weight (label_at ls (head_of p a).0))
-along-arc p ws s ls weight a (Some l) h usable is head tail =
-    let at_tail = potential-label ls weight (tail_of p a).0 l is in
-    let reached = h.search.relaxed a usable l is (h.done (tail_of p a).0 l is) in
-    let at_head = potential-label ls weight (head_of p a).0 reached.label reached.is in
-    omega (arith, at_tail, at_head, reached.within)
-
-pub rises : (p : Parts) (ws : Weights) (s : NodeId) (ls : Labels) (weight : ℕ) → IsInstance p → IsTree p ws s ls → RiseAlong p ws (map (potential_of weight) ls)
-rises p ws s ls weight inst h = λ a usable. along-arc p ws s ls weight a (label_at ls (tail_of p a).0) h usable refl
-    (omega (arith, head-within p a inst usable.is_an_arc, h.search.labels.count))
-    (omega (arith, tail-within p a inst usable.is_an_arc, h.search.labels.count))
+-- nothing is left out below any weight
+tree-done : (p : Parts) (ws : Weights) (s : NodeId) (ls : Labels) (weight : ℕ) → IsTree p ws s ls → IsDoneBelow None (record { 0 = p.nodes }) ls weight
+tree-done p ws s ls weight h = done-all p ws None s (record { 0 = p.nodes }) ls weight h.search h.done (λ n less. tt)
 
 pub tree_rises : (p : Parts) (ws : Weights) (s : NodeId) (ls : Labels) (weight : ℕ) (lengths : List ℕ) → lengths ≡ map (potential_of weight) ls → IsInstance p → IsTree p ws s ls → RiseAlong p ws lengths
-tree_rises p ws s ls weight lengths are inst h = subst (RiseAlong p ws) (sym are) (rises p ws s ls weight inst h)
+tree_rises p ws s ls weight lengths are inst h = subst (RiseAlong p ws) (sym are) (all-along p ws None s (record { 0 = p.nodes }) ls weight inst h.search (tree-done p ws s ls weight h))
 
 pub tree_least : (p : Parts) (ws : Weights) (s t : NodeId) (ls : Labels) (l : Label) → IsInstance p → IsTree p ws s ls → label_at ls t.0 ≡ Some l → IsLeastPath p ws s t (way p ls l.steps l) l.length
 tree_least p ws s t ls l inst h is =
     let path = way-path p ws s (record { 0 = p.nodes }) t ls t.0 l h.search.labels is refl in
-    let shown : ArePotentials p ws s t l.length (map (potential_of l.length) ls) = record {
-      count = length-map ls (potential_of l.length) ∙ h.search.labels.count;
-      at_source = let at = potential-label ls l.length s.0 h.search.labels.source_label h.search.labels.source_is in omega (arith, at, h.search.labels.source_length);
-      at_target = let at = potential-label ls l.length t.0 l is in omega (arith, at);
-      along = rises p ws s ls l.length inst h;
-    } in
+    let at = potential-label ls l.length t.0 l is in
+    let shown : ArePotentials p ws s t l.length (map (potential_of l.length) ls) = all-shown p ws None s (record { 0 = p.nodes }) t ls l.length inst h.search (tree-done p ws s ls l.length h) (omega (arith, at)) in
     record {
       path = path.path;
       weight_is = path.weight;
       least = least p ws s t l.length (map (potential_of l.length) ls) shown;
     }
 
-lacks : (ls : Labels) (v : ℕ) → label_at ls v ≡ None → get_or (map is_labelled ls) v false ≡ false
-lacks ls v none = elim (lt_or_le v (length ls)) [
-  | inl within ↦ get_or-map is_labelled ls v None false within ∙ ap (λ (x : Option Label). is_labelled x) none
-  | inr past ↦ get_or_past (map is_labelled ls) v false (omega (arith, past, length-map {A = Option Label} {B = Bool} ls is_labelled))
-]
-
 pub tree_none : (p : Parts) (ws : Weights) (s t : NodeId) (ls : Labels) → IsTree p ws s ls → label_at ls t.0 ≡ None → HasNoUsablePath p ws s t
-tree_none p ws s t ls h none =
-    let set : IsClosedSet p ws s t (map is_labelled ls) = record {
-      count = length-map ls is_labelled ∙ h.search.labels.count;
-      has_source = label-in ls s.0 h.search.labels.source_label h.search.labels.source_is;
-      lacks_target = lacks ls t.0 none;
-      closed = λ a usable inside.
-          let from = in-label ls (tail_of p a).0 inside in
-          let to = h.search.relaxed a usable from.label from.is (h.done (tail_of p a).0 from.label from.is) in
-          label-in ls (head_of p a).0 to.label to.is;
-    } in
-    closed-no_path p ws s t (map is_labelled ls) set
+tree_none p ws s t ls h none = closed-no_path p ws s t (map is_labelled ls) (reached-closed p ws s (record { 0 = p.nodes }) t ls h.search h.done none)
 
 -- reading a way back, of which so many arcs are read
 pub record IsReadTo (p : Parts) (ls : Labels) (last here : Label) (arcs : List ArcId) (n : ℕ) : Type 0 where

@@ -9,7 +9,7 @@ use Rattle.plan_base.specs.Paths.{arc_at}
 use Rattle.least_path.specs.declared.label.Label.{Label}
 use Rattle.least_path.specs.declared.label.Stop.{Stop}
 use Rattle.least_path.specs.declared.limits.TheConstants.{MAX_WEIGHT}
-use Rattle.least_path.specs.Paths.{Weights, weight_at, IsUsable}
+use Rattle.least_path.specs.Paths.{Weights, weight_at, IsUsable, IsBelow}
 
 -- one label for each node that is reached
 abbrev pub Labels : Type 0
@@ -27,11 +27,6 @@ is_better l (Some old) = nat_lt l.length old.length
 -- the labels after this one is offered to the node of number v
 unfoldable pub offered : Labels → ℕ → Label → Labels
 offered ls v l = if is_better l (label_at ls v) then slice_set ls v (Some l) else ls
-
--- the node has a label that is settled
-abbrev pub is_settled_label : Option Label → Bool
-is_settled_label None = false
-is_settled_label (Some l) = l.settled
 
 -- the label is not settled, and nearer than what was found
 abbrev pub is_nearer_than : Label → Option Stop → Bool
@@ -110,14 +105,13 @@ pub record HasAtMost (ls : Labels) (v : ℕ) (bound : ℕ) : Type 0 where
   pub is : label_at ls v ≡ Some label
   pub within : label.length ≤ bound
 
--- the node is settled
-pub record IsSettledAt (ls : Labels) (v : ℕ) : Type 0 where
-  pub label : Label
-  pub is : label_at ls v ≡ Some label
-  pub settled : label.settled ≡ true
+-- a way of this length may be part of a path that is asked for: it is below the limit, and shorter than the way that the target has
+pub record IsWanted (limit : Option ℕ) (t : NodeId) (ls : Labels) (n : ℕ) : Type 0 where
+  pub below : IsBelow limit n
+  pub shorter : (l : Label) → label_at ls t.0 ≡ Some l → n < l.length
 
--- a label that goes on from a node along a usable arc that leaves it
-pub record GoesOn (p : Parts) (ws : Weights) (ls : Labels) (stop : Stop) (a : ArcId) (l : Label) : Type 0 where
+-- a label below the limit that goes on from a node along a usable arc that leaves it
+pub record GoesOn (p : Parts) (ws : Weights) (limit : Option ℕ) (ls : Labels) (stop : Stop) (a : ArcId) (l : Label) : Type 0 where
   pub usable : IsUsable p ws a
   pub tail : (tail_of p a).0 ≡ stop.node.0
   pub head : (head_of p a).0 < length ls
@@ -126,25 +120,40 @@ pub record GoesOn (p : Parts) (ws : Weights) (ls : Labels) (stop : Stop) (a : Ar
   pub steps : l.steps ≡ stop.label.steps + 1
   pub via : l.via ≡ a
   pub settled : l.settled ≡ false
+  pub below : IsBelow limit l.length
 
--- where the arc's tail is settled, its head has a label that is no longer than the way along the arc
-abbrev pub IsRelaxed : Parts → Weights → Labels → ArcId → Type 0
-IsRelaxed p ws ls a = (l : Label) → label_at ls (tail_of p a).0 ≡ Some l → l.settled ≡ true → HasAtMost ls (head_of p a).0 (l.length + weight_at ws a)
+-- the arc's head has a label of at most this length, where a way of it is wanted
+abbrev pub IsServed : Parts → Option ℕ → NodeId → Labels → ArcId → ℕ → Type 0
+IsServed p limit t ls a n = IsWanted limit t ls n → HasAtMost ls (head_of p a).0 n
+
+-- an arc that leaves a node asks for no change
+abbrev pub IsIdle : Parts → Weights → Option ℕ → NodeId → Labels → Stop → ArcId → Type 0
+IsIdle p ws limit t ls stop a = IsUsable p ws a → IsServed p limit t ls a (stop.label.length + weight_at ws a)
+
+-- where the arc's tail is settled, its head has a label that is no longer than the way along the arc, if that is wanted
+abbrev pub IsRelaxed : Parts → Weights → Option ℕ → NodeId → Labels → ArcId → Type 0
+IsRelaxed p ws limit t ls a = (l : Label) → label_at ls (tail_of p a).0 ≡ Some l → l.settled ≡ true → IsServed p limit t ls a (l.length + weight_at ws a)
+
+-- no label has a length at the limit or beyond
+abbrev pub AreBelow : Option ℕ → Labels → Type 0
+AreBelow limit ls = (v : ℕ) (l : Label) → label_at ls v ≡ Some l → IsBelow limit l.length
 
 -- the search has gone on from each settled node
-pub record IsSearch (p : Parts) (ws : Weights) (s t : NodeId) (ls : Labels) : Type 0 where
+pub record IsSearch (p : Parts) (ws : Weights) (limit : Option ℕ) (s t : NodeId) (ls : Labels) : Type 0 where
   pub labels : AreLabels p ws s t ls
-  pub relaxed : (a : ArcId) → IsUsable p ws a → IsRelaxed p ws ls a
+  pub below : AreBelow limit ls
+  pub relaxed : (a : ArcId) → IsUsable p ws a → IsRelaxed p ws limit t ls a
 
 -- the search has gone on from each settled node but the last one, and from that one along its first i arcs
-pub record IsSpread (p : Parts) (ws : Weights) (s t : NodeId) (ls : Labels) (stop : Stop) (arcs : List ArcId) (i : ℕ) : Type 0 where
+pub record IsSpread (p : Parts) (ws : Weights) (limit : Option ℕ) (s t : NodeId) (ls : Labels) (stop : Stop) (arcs : List ArcId) (i : ℕ) : Type 0 where
   pub labels : AreLabels p ws s t ls
+  pub below : AreBelow limit ls
   pub here : label_at ls stop.node.0 ≡ Some stop.label
   pub settled : stop.label.settled ≡ true
   pub latest : (v : ℕ) (l : Label) → label_at ls v ≡ Some l → l.settled ≡ true → l.length ≤ stop.label.length
   pub steps : suc stop.label.steps + open_count ls ≤ p.nodes
-  pub others : (a : ArcId) → IsUsable p ws a → (tail_of p a).0 ≢ stop.node.0 → IsRelaxed p ws ls a
-  pub done : (j : ℕ) → j < i → IsUsable p ws (arc_at arcs j) → IsRelaxed p ws ls (arc_at arcs j)
+  pub others : (a : ArcId) → IsUsable p ws a → (tail_of p a).0 ≢ stop.node.0 → IsRelaxed p ws limit t ls a
+  pub done : (j : ℕ) → j < i → IsUsable p ws (arc_at arcs j) → IsRelaxed p ws limit t ls (arc_at arcs j)
 
 -- what is read where a node has no label
 abbrev pub no_label : Label

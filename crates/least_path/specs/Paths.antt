@@ -1,5 +1,5 @@
 -- Paths of least weight, where each arc has a weight or may not be used.
-use Rattle.std.specs.Prelude.{Bool, true, false, ℕ, ◌≡◌, ◌<◌, ◌≤◌, ◌+◌, ◌*◌, List, length, Option, None, IsTrue, IsSome, slice_index, slice_index_or, sum_by, All}
+use Rattle.std.specs.Prelude.{Bool, true, false, ℕ, ◌≡◌, ◌<◌, ◌≤◌, ◌+◌, ◌*◌, List, length, Option, Some, None, IsTrue, IsSome, IfSome, slice_index, slice_index_or, sum_by, All}
 use Rattle.std.specs.Option.{unwrap_or}
 use Rattle.plan_base.specs.declared.ids.NodeId.{NodeId}
 use Rattle.plan_base.specs.declared.ids.ArcId.{ArcId}
@@ -69,6 +69,15 @@ pub record IsClosedSet (p : Parts) (ws : Weights) (s t : NodeId) (reached : List
 -- there is no usable path
 abbrev pub HasNoUsablePath : Parts → Weights → NodeId → NodeId → Type 0
 HasNoUsablePath p ws s t = (arcs : List ArcId) → IsUsablePath p ws s t arcs → ⊥
+
+-- the number is below the limit, where there is one
+abbrev pub IsBelow : Option ℕ → ℕ → Type 0
+IsBelow limit n = IfSome limit (λ most. n < most)
+
+-- no usable path weighs less than the limit; without one, there is no usable path
+abbrev pub HasNoneBelow : Parts → Weights → NodeId → NodeId → Option ℕ → Type 0
+HasNoneBelow p ws s t None = HasNoUsablePath p ws s t
+HasNoneBelow p ws s t (Some limit) = (arcs : List ArcId) → IsUsablePath p ws s t arcs → limit ≤ weight_of ws arcs
 
 -- a path is least and its potentials show it; no path means that there is none, and the set shows it
 abbrev pub IsFound : Parts → Weights → NodeId → NodeId → Search → Type 0

@@ -10,7 +10,7 @@ use Rattle.least_path.specs.Labels.{Labels, label_at, HasNoOpen, IsSearch}
 
 -- the labels of a search from the source that went on until no node was left
 pub record IsTree (p : Parts) (ws : Weights) (s : NodeId) (ls : Labels) : Type 0 where
-  pub search : IsSearch p ws s (record { 0 = p.nodes }) ls
+  pub search : IsSearch p ws None s (record { 0 = p.nodes }) ls
   pub done : HasNoOpen ls
 
 -- the length that a node's label tells, if it has one

@@ -2,7 +2,7 @@
 
 ghost use Rattle.std.specs.Prelude.{◌≡◌, ◌<◌, ◌≤◌, length, MatchOption};
 ghost use Rattle.plan_base.specs.declared.limits.TheConstants.{MAX_NODES};
-ghost use Rattle.least_path.specs.Labels.{label_at, is_settled_label, is_better, offered, is_nearer_than, nearer_of, HasNoOpen, IsNearest};
+ghost use Rattle.least_path.specs.Labels.{label_at, is_better, offered, is_nearer_than, nearer_of, HasNoOpen, IsNearest};
 
 use plan_base::{ArcId, NodeId};
 
@@ -63,13 +63,13 @@ pub fn nearest(labels: &[Option<Label>]) -> Option<Stop>
     found
 }
 
-/// Whether the node is settled.
-pub fn is_settled(labels: &[Option<Label>], node: NodeId) -> bool
-    ensures { result ≡ is_settled_label (label_at labels.now node.0) }
+/// The label of the node, where it is reached.
+pub fn known_label(labels: &[Option<Label>], node: NodeId) -> Option<Label>
+    ensures { result ≡ label_at labels.now node.0 }
 {
     match labels.get(node.0 as usize) {
-        Some(Some(label)) => label.settled,
-        _ => false,
+        Some(known) => *known,
+        None => None,
     }
 }
 

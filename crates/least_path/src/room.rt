@@ -1,11 +1,11 @@
 //! Searches that take no memory.
 
 ghost use Rattle.std.specs.Prelude.{◌≡◌, ◌<◌, ◌*◌, [], length, IfOk, IfSome, IfNone};
-ghost use Rattle.least_path.specs.Paths.{AreWeights, IsLeastPath, HasNoUsablePath};
+ghost use Rattle.least_path.specs.Paths.{AreWeights, IsLeastPath, IsBelow, HasNoUsablePath, HasNoneBelow};
 
 use crate::label::Label;
 use crate::queue::Queue;
-use crate::spread::{Query, begin, most_waits};
+use crate::spread::{Query, begin, is_below, most_waits};
 use crate::weigher::{Listed, Weigher};
 use plan_base::{Instance, NodeId, Path};
 use std::alloc::{AllocError, Global};
@@ -44,12 +44,57 @@ impl Room {
         })
     }
 
-    /// Puts a path of least weight from the source to the target into the room, and gives its weight; None where there
-    /// is no path of usable arcs.
+    /// Puts a path of least weight from the source to the target into the room, and gives its weight, where that is below
+    /// the limit; None where no path of usable arcs weighs less than that.
     ///
-    /// - Takes: what the arcs weigh.
+    /// - Takes: what the arcs weigh; the limit in the unit of the weights, or none.
     /// - Errors: want of memory alone. None where the room was made for the instance, and the path that was in it has
     ///   memory for as many arcs as there are nodes.
+    /// - Rule: docs/METHOD.md, "Least paths".
+    /// - Time: as `search`, without potentials. Nodes at the limit or beyond are not looked at.
+    pub fn search_below<W: Weigher>(
+        &mut self,
+        inst: &Instance,
+        weigher: &W,
+        source: NodeId,
+        target: NodeId,
+        limit: Option<u128>,
+    ) -> Result<Option<u128>, AllocError>
+        requires fits { W.fits weigher.now }
+        requires count { length (W.weights weigher.now) ≡ 2 * length inst.now.links }
+        requires source { source.0 < inst.now.nodes }
+        requires target { target.0 < inst.now.nodes }
+        ensures path { IfOk result (λ found. IfSome found (IsLeastPath inst.now (W.weights weigher.now) source target self.new)) }
+        ensures below { IfOk result (λ found. IfSome found (IsBelow limit)) }
+        ensures none { IfOk result (λ found. IfNone found (HasNoneBelow inst.now (W.weights weigher.now) source target limit)) }
+        ensures kept { IfOk result (λ found. IfNone found (self.new ≡ self.old)) }
+    {
+        inst.lawful();
+        if !is_below(0, limit) {
+            return Ok(None);
+        }
+        let query = Query {
+            inst,
+            weigher,
+            source,
+            target,
+            limit,
+        };
+        begin(&mut self.labels, &mut self.queue, inst.nodes(), source)?;
+        let found = query.go_out(&mut self.labels, &mut self.queue)?;
+        let Some(last) = found else {
+            return Ok(None);
+        };
+        let empty = Path::from_vec(Vec::new(*self.labels.allocator()));
+        let memory = mem::replace(&mut self.path, empty).into_vec();
+        self.path = query.way_to(&self.labels, &last, memory)?;
+        Ok(Some(last.label.length))
+    }
+
+    /// The same without a limit: None where there is no path of usable arcs.
+    ///
+    /// - Takes: what the arcs weigh.
+    /// - Errors: as `search_below`.
     /// - Rule: docs/METHOD.md, "Least paths".
     /// - Time: as `search`, without potentials.
     pub fn search_by<W: Weigher>(
@@ -67,22 +112,7 @@ impl Room {
         ensures none { IfOk result (λ found. IfNone found (HasNoUsablePath inst.now (W.weights weigher.now) source target)) }
         ensures kept { IfOk result (λ found. IfNone found (self.new ≡ self.old)) }
     {
-        inst.lawful();
-        let query = Query {
-            inst,
-            weigher,
-            source,
-            target,
-        };
-        begin(&mut self.labels, &mut self.queue, inst.nodes(), source)?;
-        let found = query.go_out(&mut self.labels, &mut self.queue)?;
-        let Some(last) = found else {
-            return Ok(None);
-        };
-        let empty = Path::from_vec(Vec::new(*self.labels.allocator()));
-        let memory = mem::replace(&mut self.path, empty).into_vec();
-        self.path = query.way_to(&self.labels, &last, memory)?;
-        Ok(Some(last.label.length))
+        self.search_below(inst, weigher, source, target, None)
     }
 
     /// The same as `search_by`, of weights that stand in a list.

@@ -1,14 +1,14 @@
 //! The search: nodes are settled in the order of their lengths, which a heap of those that wait tells.
 
-ghost use Rattle.std.specs.Prelude.{◌≡◌, ◌≢◌, ◌<◌, ◌≤◌, ◌*◌, [], length, IfOk, OnOk, IfNone, IfSome, IsTrue, Option};
+ghost use Rattle.std.specs.Prelude.{◌≡◌, ◌≢◌, ◌<◌, ◌≤◌, ◌*◌, ◌↔◌, [], length, IfOk, OnOk, IfNone, IfSome, IsTrue, None};
 ghost use Rattle.plan_base.specs.Facts.{IsInstance};
-ghost use Rattle.plan_base.specs.Arcs.{is_arc, tail_of, head_of};
-ghost use Rattle.least_path.specs.Paths.{AreWeights, IsUsable, IsFound};
-ghost use Rattle.least_path.specs.Labels.{GoesOn, IsSettledAt, IsSearch, IsNearest, IsSpread, HasNoOpen, open_count, first_label_of, first_labels_of};
+ghost use Rattle.plan_base.specs.Arcs.{is_arc, tail_of};
+ghost use Rattle.least_path.specs.Paths.{AreWeights, IsBelow, IsFound};
+ghost use Rattle.least_path.specs.Labels.{IsWanted, GoesOn, IsIdle, IsSearch, IsNearest, IsSpread, HasNoOpen, open_count, first_label_of, first_labels_of};
 ghost use Rattle.least_path.specs.Waits.{AllWait, OthersWait};
 
 use crate::answer::Search;
-use crate::label::{Label, Stop, is_settled};
+use crate::label::{Label, Stop, is_better, known_label};
 use crate::limits::MAX_WEIGHT;
 use crate::queue::{Queue, next, offer};
 use crate::way::reached_nodes;
@@ -23,11 +23,31 @@ pub struct Query<'a, W> {
     pub weigher: &'a W,
     pub source: NodeId,
     pub target: NodeId,
+    /// What the path's weight is below, where that is asked for.
+    pub limit: Option<u128>,
+}
+
+/// Whether the length is below the limit, where there is one.
+pub fn is_below(length: u128, limit: Option<u128>) -> bool
+    ensures { IsTrue result ↔ IsBelow limit length }
+{
+    match limit {
+        Some(most) => length < most,
+        None => true,
+    }
 }
 
 impl<W: Weigher> Query<'_, W> {
-    /// The label of the way that goes on from a node along an arc that leaves it; None where the arc may not be used, or
-    /// where its head is settled, so that no shorter way to it is to come.
+    /// Whether a way of this label may be part of the path that is asked for: it is below the limit, and shorter than the
+    /// way that the target has.
+    fn is_wanted(&self, labels: &[Option<Label>], label: &Label) -> bool
+        ensures { IsTrue result ↔ IsWanted self.now.limit self.now.target labels.now label.now.length }
+    {
+        is_below(label.length, self.limit) && is_better(label, known_label(labels, self.target))
+    }
+
+    /// The label of the way that goes on from a node along an arc that leaves it; None where that asks for no change: the
+    /// arc may not be used, its head is no farther than the node, or the way is not wanted.
     pub fn way_along(&self, labels: &[Option<Label>], here: &Stop, arc: ArcId) -> Option<Label>
         requires lawful { IsInstance self.now.inst.now }
         requires fits { W.fits self.now.weigher.now }
@@ -37,19 +57,24 @@ impl<W: Weigher> Query<'_, W> {
         requires short { here.now.label.length ≤ here.now.label.steps * MAX_WEIGHT }
         requires arc { IsTrue (is_arc self.now.inst.now arc) }
         requires tail { (tail_of self.now.inst.now arc).0 ≡ here.now.node.0 }
-        ensures on { IfSome result (GoesOn self.now.inst.now (W.weights self.now.weigher.now) labels.now here.now arc) }
-        ensures none { IfNone result (IsUsable self.now.inst.now (W.weights self.now.weigher.now) arc → IsSettledAt labels.now (head_of self.now.inst.now arc).0) }
+        ensures on { IfSome result (GoesOn self.now.inst.now (W.weights self.now.weigher.now) self.now.limit labels.now here.now arc) }
+        ensures none { IfNone result (IsIdle self.now.inst.now (W.weights self.now.weigher.now) self.now.limit self.now.target labels.now here.now arc) }
     {
-        if is_settled(labels, self.inst.head(arc)) {
+        if !is_better(&here.label, known_label(labels, self.inst.head(arc))) {
             return None;
         }
         let weight = self.weigher.weight(arc)?;
-        Some(Label {
+        let label = Label {
             length: here.label.length + weight,
             steps: here.label.steps + 1,
             via: arc,
             settled: false,
-        })
+        };
+        if self.is_wanted(labels, &label) {
+            Some(label)
+        } else {
+            None
+        }
     }
 
     /// Offers the way through a settled node to each node that a usable arc leads to.
@@ -62,9 +87,9 @@ impl<W: Weigher> Query<'_, W> {
         requires lawful { IsInstance self.now.inst.now }
         requires fits { W.fits self.now.weigher.now }
         requires count { length (W.weights self.now.weigher.now) ≡ 2 * length self.now.inst.now.links }
-        requires start { IsSpread self.now.inst.now (W.weights self.now.weigher.now) self.now.source self.now.target labels.old.items here.now [] 0 }
+        requires start { IsSpread self.now.inst.now (W.weights self.now.weigher.now) self.now.limit self.now.source self.now.target labels.old.items here.now [] 0 }
         requires waits { AllWait labels.old.items queue.old }
-        ensures search { OnOk result (IsSearch self.now.inst.now (W.weights self.now.weigher.now) self.now.source self.now.target labels.new.items) }
+        ensures search { OnOk result (IsSearch self.now.inst.now (W.weights self.now.weigher.now) self.now.limit self.now.source self.now.target labels.new.items) }
         ensures open { OnOk result (open_count labels.new.items ≡ open_count labels.old.items) }
         ensures waits { OnOk result (AllWait labels.new.items queue.new) }
     {
@@ -86,11 +111,11 @@ impl<W: Weigher> Query<'_, W> {
         requires lawful { IsInstance self.now.inst.now }
         requires fits { W.fits self.now.weigher.now }
         requires count { length (W.weights self.now.weigher.now) ≡ 2 * length self.now.inst.now.links }
-        requires search { IsSearch self.now.inst.now (W.weights self.now.weigher.now) self.now.source self.now.target labels.old.items }
+        requires search { IsSearch self.now.inst.now (W.weights self.now.weigher.now) self.now.limit self.now.source self.now.target labels.old.items }
         requires nearest { IsNearest labels.old.items here.now }
         requires other { here.now.node.0 ≢ self.now.target.0 }
         requires wait { OthersWait labels.old.items queue.old here.now.node.0 }
-        ensures search { OnOk result (IsSearch self.now.inst.now (W.weights self.now.weigher.now) self.now.source self.now.target labels.new.items) }
+        ensures search { OnOk result (IsSearch self.now.inst.now (W.weights self.now.weigher.now) self.now.limit self.now.source self.now.target labels.new.items) }
         ensures fewer { OnOk result (open_count labels.new.items < open_count labels.old.items) }
         ensures waits { OnOk result (AllWait labels.new.items queue.new) }
     {
@@ -115,9 +140,9 @@ impl<W: Weigher> Query<'_, W> {
         requires lawful { IsInstance self.now.inst.now }
         requires fits { W.fits self.now.weigher.now }
         requires count { length (W.weights self.now.weigher.now) ≡ 2 * length self.now.inst.now.links }
-        requires search { IsSearch self.now.inst.now (W.weights self.now.weigher.now) self.now.source self.now.target labels.old.items }
+        requires search { IsSearch self.now.inst.now (W.weights self.now.weigher.now) self.now.limit self.now.source self.now.target labels.old.items }
         requires waits { AllWait labels.old.items queue.old }
-        ensures search { OnOk result (IsSearch self.now.inst.now (W.weights self.now.weigher.now) self.now.source self.now.target labels.new.items) }
+        ensures search { OnOk result (IsSearch self.now.inst.now (W.weights self.now.weigher.now) self.now.limit self.now.source self.now.target labels.new.items) }
         ensures nearest { IfOk result (λ found. IfSome found (IsNearest labels.new.items)) }
         ensures at_target { IfOk result (λ found. IfSome found (λ last. last.node.0 ≡ self.now.target.0)) }
         ensures none { IfOk result (λ found. IfNone found (HasNoOpen labels.new.items)) }
@@ -138,7 +163,8 @@ impl<W: Weigher> Query<'_, W> {
         requires count { length (W.weights self.now.weigher.now) ≡ 2 * length self.now.inst.now.links }
         requires lawful { IsInstance self.now.inst.now }
         requires source { self.now.source.0 < self.now.inst.now.nodes }
-        ensures search { IfOk result (λ out. IsSearch self.now.inst.now (W.weights self.now.weigher.now) self.now.source self.now.target out.0.items) }
+        requires unlimited { self.now.limit ≡ None }
+        ensures search { IfOk result (λ out. IsSearch self.now.inst.now (W.weights self.now.weigher.now) self.now.limit self.now.source self.now.target out.0.items) }
         ensures nearest { IfOk result (λ out. IfSome out.1 (IsNearest out.0.items)) }
         ensures at_target { IfOk result (λ out. IfSome out.1 (λ last. last.node.0 ≡ self.now.target.0)) }
         ensures none { IfOk result (λ out. IfNone out.1 (HasNoOpen out.0.items)) }
@@ -159,7 +185,8 @@ impl<W: Weigher> Query<'_, W> {
     ) -> Result<Search, AllocError>
         requires lawful { IsInstance self.now.inst.now }
         requires target { self.now.target.0 < self.now.inst.now.nodes }
-        requires search { IsSearch self.now.inst.now (W.weights self.now.weigher.now) self.now.source self.now.target labels.now }
+        requires unlimited { self.now.limit ≡ None }
+        requires search { IsSearch self.now.inst.now (W.weights self.now.weigher.now) self.now.limit self.now.source self.now.target labels.now }
         requires nearest { IfSome found (IsNearest labels.now) }
         requires at_target { IfSome found (λ last. last.node.0 ≡ self.now.target.0) }
         requires none { IfNone found (HasNoOpen labels.now) }
@@ -180,6 +207,7 @@ impl<W: Weigher> Query<'_, W> {
         requires lawful { IsInstance self.now.inst.now }
         requires source { self.now.source.0 < self.now.inst.now.nodes }
         requires target { self.now.target.0 < self.now.inst.now.nodes }
+        requires unlimited { self.now.limit ≡ None }
         ensures { IfOk result (IsFound self.now.inst.now (W.weights self.now.weigher.now) self.now.source self.now.target) }
     {
         let (labels, found) = self.reach(alloc)?;
@@ -277,6 +305,7 @@ pub fn search(
         weigher: &Listed { weights },
         source,
         target,
+        limit: None,
     };
     query.answer(alloc)
 }

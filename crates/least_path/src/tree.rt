@@ -9,7 +9,7 @@ ghost use Rattle.least_path.specs.Paths.{Weights, AreWeights, IsLeastPath, HasNo
 ghost use Rattle.least_path.specs.Labels.{label_at};
 ghost use Rattle.least_path.specs.Trees.{IsTree, length_of_label, length_at, label_before, AreLengths, RiseAlong};
 
-use crate::label::Label;
+use crate::label::{Label, known_label};
 use crate::spread::Query;
 use crate::way::potentials;
 use crate::weigher::Listed;
@@ -81,6 +81,7 @@ impl Tree {
             weigher: &Listed { weights },
             source,
             target: outside,
+            limit: None,
         };
         let (labels, _last) = query.reach(alloc)?;
         Ok(Tree { labels })
@@ -90,10 +91,7 @@ impl Tree {
     fn label(&self, node: NodeId) -> Option<Label>
         ensures { result ≡ label_at self.now node.0 }
     {
-        match self.labels.get(node.0 as usize) {
-            Some(known) => *known,
-            None => None,
-        }
+        known_label(&self.labels, node)
     }
 
     /// The label of the node that a label's last arc leaves.

@@ -1,6 +1,6 @@
 //! The search by a walk over all nodes for the nearest one: plain, and slower on large networks.
 
-ghost use Rattle.std.specs.Prelude.{◌≡◌, ◌≢◌, ◌<◌, ◌*◌, [], length, IfOk, IfNone, IfSome};
+ghost use Rattle.std.specs.Prelude.{◌≡◌, ◌≢◌, ◌<◌, ◌*◌, [], length, IfOk, IfNone, IfSome, None};
 ghost use Rattle.plan_base.specs.Facts.{IsInstance};
 ghost use Rattle.least_path.specs.Paths.{AreWeights, IsFound};
 ghost use Rattle.least_path.specs.Labels.{IsSearch, IsNearest, IsSpread, HasNoOpen, open_count};
@@ -18,8 +18,8 @@ impl<W: Weigher> Query<'_, W> {
         requires lawful { IsInstance self.now.inst.now }
         requires fits { W.fits self.now.weigher.now }
         requires count { length (W.weights self.now.weigher.now) ≡ 2 * length self.now.inst.now.links }
-        requires start { IsSpread self.now.inst.now (W.weights self.now.weigher.now) self.now.source self.now.target labels.old.items here.now [] 0 }
-        ensures search { IsSearch self.now.inst.now (W.weights self.now.weigher.now) self.now.source self.now.target labels.new.items }
+        requires start { IsSpread self.now.inst.now (W.weights self.now.weigher.now) self.now.limit self.now.source self.now.target labels.old.items here.now [] 0 }
+        ensures search { IsSearch self.now.inst.now (W.weights self.now.weigher.now) self.now.limit self.now.source self.now.target labels.new.items }
         ensures open { open_count labels.new.items ≡ open_count labels.old.items }
     {
         for arc in self.inst.leaving(here.node) {
@@ -34,10 +34,10 @@ impl<W: Weigher> Query<'_, W> {
         requires lawful { IsInstance self.now.inst.now }
         requires fits { W.fits self.now.weigher.now }
         requires count { length (W.weights self.now.weigher.now) ≡ 2 * length self.now.inst.now.links }
-        requires search { IsSearch self.now.inst.now (W.weights self.now.weigher.now) self.now.source self.now.target labels.old.items }
+        requires search { IsSearch self.now.inst.now (W.weights self.now.weigher.now) self.now.limit self.now.source self.now.target labels.old.items }
         requires nearest { IsNearest labels.old.items here.now }
         requires other { here.now.node.0 ≢ self.now.target.0 }
-        ensures search { IsSearch self.now.inst.now (W.weights self.now.weigher.now) self.now.source self.now.target labels.new.items }
+        ensures search { IsSearch self.now.inst.now (W.weights self.now.weigher.now) self.now.limit self.now.source self.now.target labels.new.items }
         ensures fewer { open_count labels.new.items < open_count labels.old.items }
     {
         let settled = Stop {
@@ -56,8 +56,8 @@ impl<W: Weigher> Query<'_, W> {
         requires lawful { IsInstance self.now.inst.now }
         requires fits { W.fits self.now.weigher.now }
         requires count { length (W.weights self.now.weigher.now) ≡ 2 * length self.now.inst.now.links }
-        requires search { IsSearch self.now.inst.now (W.weights self.now.weigher.now) self.now.source self.now.target labels.old.items }
-        ensures search { IsSearch self.now.inst.now (W.weights self.now.weigher.now) self.now.source self.now.target labels.new.items }
+        requires search { IsSearch self.now.inst.now (W.weights self.now.weigher.now) self.now.limit self.now.source self.now.target labels.old.items }
+        ensures search { IsSearch self.now.inst.now (W.weights self.now.weigher.now) self.now.limit self.now.source self.now.target labels.new.items }
         ensures nearest { IfSome result (IsNearest labels.new.items) }
         ensures at_target { IfSome result (λ last. last.node.0 ≡ self.now.target.0) }
         ensures none { IfNone result (HasNoOpen labels.new.items) }
@@ -78,6 +78,7 @@ impl<W: Weigher> Query<'_, W> {
         requires lawful { IsInstance self.now.inst.now }
         requires source { self.now.source.0 < self.now.inst.now.nodes }
         requires target { self.now.target.0 < self.now.inst.now.nodes }
+        requires unlimited { self.now.limit ≡ None }
         ensures { IfOk result (IsFound self.now.inst.now (W.weights self.now.weigher.now) self.now.source self.now.target) }
     {
         let mut labels = first_labels(alloc, self.inst.nodes(), self.source)?;
@@ -109,6 +110,7 @@ pub fn search_slow(
         weigher: &Listed { weights },
         source,
         target,
+        limit: None,
     };
     query.answer_slow(alloc)
 }

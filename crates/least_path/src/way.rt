@@ -71,7 +71,7 @@ impl<W: Weigher> Query<'_, W> {
         last: &Stop,
         memory: Vec<ArcId>,
     ) -> Result<Path, AllocError>
-        requires search { IsSearch self.now.inst.now (W.weights self.now.weigher.now) self.now.source self.now.target labels.now }
+        requires search { IsSearch self.now.inst.now (W.weights self.now.weigher.now) self.now.limit self.now.source self.now.target labels.now }
         requires last { label_at labels.now last.now.node.0 ≡ Some last.now.label }
         ensures { IfOk result (λ path. path ≡ way self.now.inst.now labels.now last.now.label.steps last.now.label) }
     {
@@ -94,7 +94,7 @@ impl<W: Weigher> Query<'_, W> {
         last: &Stop,
     ) -> Result<Search, AllocError>
         requires lawful { IsInstance self.now.inst.now }
-        requires search { IsSearch self.now.inst.now (W.weights self.now.weigher.now) self.now.source self.now.target labels.now }
+        requires search { IsSearch self.now.inst.now (W.weights self.now.weigher.now) self.now.limit self.now.source self.now.target labels.now }
         requires nearest { IsNearest labels.now last.now }
         requires at_target { last.now.node.0 ≡ self.now.target.0 }
         ensures { IfOk result (IsFound self.now.inst.now (W.weights self.now.weigher.now) self.now.source self.now.target) }

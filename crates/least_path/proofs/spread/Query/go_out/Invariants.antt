@@ -4,7 +4,7 @@ use Rattle.least_path.proofs.spread.Query.go_out.Given as goal
 
 abbrev pub invariant-loop-here : goal.invariant-loop-here
 invariant-loop-here g l = record {
-  search : IsSearch l.self.inst.now (g.W.Weigher.weights l.self.weigher.now) l.self.source l.self.target l.labels.items;
+  search : IsSearch l.self.inst.now (g.W.Weigher.weights l.self.weigher.now) l.self.limit l.self.source l.self.target l.labels.items;
   waits : AllWait l.labels.items l.queue;
 }
 

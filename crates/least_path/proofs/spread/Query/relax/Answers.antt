@@ -1,10 +1,9 @@
-use Rattle.std.proofs.Common.{arith, refl, subst, sym, ap, ◌≡◌, ◌+◌, ◌∙◌, ◌<◌, Option, IfSome, IfNone, get_or, length, Vec, Global}
+use Rattle.std.proofs.Common.{arith, refl, subst, sym, ap, ◌≡◌, ◌+◌, ◌∙◌, Option, IfSome, IfNone, get_or, Vec, Global}
 use Rattle.plan_base.specs.Arcs.{no_arc, head_of}
 use Rattle.plan_base.specs.declared.ids.NodeId.{NodeId}
 use Rattle.least_path.specs.declared.label.Label.{Label}
-use Rattle.least_path.specs.Paths.{IsUsable}
-use Rattle.least_path.specs.Labels.{Labels, GoesOn, IsSettledAt, IsSpread, open_count, offered}
-use Rattle.least_path.proofs.OfferLaws.{spread-offered, count-offered, spread-same, spread-next, relaxed-settled}
+use Rattle.least_path.specs.Labels.{Labels, GoesOn, IsIdle, IsSpread, open_count, offered}
+use Rattle.least_path.proofs.OfferLaws.{spread-offered, count-offered, spread-same, spread-next, relaxed-idle}
 use Rattle.least_path.proofs.spread.Query.relax.Goals as goal
 use Rattle.least_path.proofs.spread.Query.relax.Goals.{in-Some+in_ok-offer, in_default}
 
@@ -24,6 +23,7 @@ pub loop-arc-preserved : goal.loop-arc-preserved
 loop-arc-preserved g c =
     let p = c.args.self.now.inst.now in
     let ws = g.W.Weigher.weights c.args.self.now.weigher.now in
+    let limit = c.args.self.now.limit in
     let s = c.args.self.now.source in
     let t = c.args.self.now.target in
     let stop = c.args.here.now in
@@ -35,19 +35,19 @@ loop-arc-preserved g c =
     elim c.match-way_along.branch [
       | in-Some+in_ok-offer w ↦
           let l = w.in-Some.label in
-          let on : GoesOn p ws ls stop a l = subst (λ (x : Option Label). IfSome x (GoesOn p ws ls stop a)) w.in-Some.is (subst (λ (xs : Labels). IfSome c.way_along.result (GoesOn p ws xs stop a)) c.deref.ensures.value c.way_along.ensures.on) in
+          let on : GoesOn p ws limit ls stop a l = subst (λ (x : Option Label). IfSome x (GoesOn p ws limit ls stop a)) w.in-Some.is (subst (λ (xs : Labels). IfSome c.way_along.result (GoesOn p ws limit xs stop a)) c.deref.ensures.value c.way_along.ensures.on) in
           let items : c.match-way_along.labels.items ≡ offered ls (head_of p a).0 l = ap (λ (v : Vec (Option Label) Global). v.items) w.labels-is ∙ w.in_ok-offer.ensures.labels ∙ ap (λ (v : NodeId). offered ls v.0 l) w.head.ensures.value in
           record {
-            spread = subst (λ (x : Labels). IsSpread p ws s t x stop arcs (i + 1)) (sym items) (spread-next p ws s t (offered ls (head_of p a).0 l) stop arcs i (spread-offered p ws s t ls stop arcs i a l refl spread on));
-            open_same = ap open_count items ∙ count-offered p ws s t ls stop arcs i a l spread on ∙ c.loop-arc.invariant.open_same;
+            spread = subst (λ (x : Labels). IsSpread p ws limit s t x stop arcs (i + 1)) (sym items) (spread-next p ws limit s t (offered ls (head_of p a).0 l) stop arcs i (spread-offered p ws limit s t ls stop arcs i a l refl spread on));
+            open_same = ap open_count items ∙ count-offered p ws limit s t ls stop arcs i a l spread on ∙ c.loop-arc.invariant.open_same;
             waits = rw (w.labels-is, w.queue-is) w.in_ok-offer.ensures.waits;
           }
       | in_default w ↦
           let items : c.match-way_along.labels.items ≡ ls = ap (λ (v : Vec (Option Label) Global). v.items) w.labels-is in
-          let none : IsUsable p ws a → IsSettledAt ls (head_of p a).0 = subst (λ (x : Option Label). IfNone x (IsUsable p ws a → IsSettledAt ls (head_of p a).0)) w.in_default.is (subst (λ (xs : Labels). IfNone c.way_along.result (IsUsable p ws a → IsSettledAt xs (head_of p a).0)) c.deref.ensures.value c.way_along.ensures.none) in
+          let idle : IsIdle p ws limit t ls stop a = subst (λ (x : Option Label). IfNone x (IsIdle p ws limit t ls stop a)) w.in_default.is (subst (λ (xs : Labels). IfNone c.way_along.result (IsIdle p ws limit t xs stop a)) c.deref.ensures.value c.way_along.ensures.none) in
           let tail = c.leaving-arc-items.ensures.value.leave i (omega arith) in
           record {
-            spread = subst (λ (x : Labels). IsSpread p ws s t x stop arcs (i + 1)) (sym items) (spread-next p ws s t ls stop arcs i (spread-same p ws s t ls stop arcs i spread (λ usable. relaxed-settled p ws s t ls stop arcs i a spread tail (none usable))));
+            spread = subst (λ (x : Labels). IsSpread p ws limit s t x stop arcs (i + 1)) (sym items) (spread-next p ws limit s t ls stop arcs i (spread-same p ws limit s t ls stop arcs i spread (relaxed-idle p ws limit s t ls stop arcs i a spread tail idle)));
             open_same = ap open_count items ∙ c.loop-arc.invariant.open_same;
             waits = rw (w.labels-is, w.queue-is) c.loop-arc.invariant.waits;
           }
