@@ -1,5 +1,5 @@
 -- Paths that are found without a limit, or with one, are what a demand with a limit asks for.
-use Rattle.std.proofs.Common.{◌≡◌, ℕ, ◌+◌, ◌*◌, ◌<◌, ◌≤◌, List, [], ◌∷◌, ◌++◌, length, take, slice_index_or, Option, Some, None, sym, subst, ap, ◌∙◌}
+use Rattle.std.proofs.Common.{◌≡◌, ℕ, ◌+◌, ◌*◌, ◌<◌, ◌≤◌, List, [], ◌∷◌, ◌++◌, length, take, slice_index_or, Option, Some, None, arith, sym, subst, ap, ◌∙◌}
 use Rattle.std.specs.List.{All}
 use Rattle.std.specs.Option.{unwrap_or}
 use Rattle.std.proofs.lemmas.List.{take_more, take_all}
@@ -9,9 +9,9 @@ use Rattle.plan_base.specs.declared.parts.Parts.{Parts}
 use Rattle.plan_base.specs.Designs.{KeepsLimit}
 use Rattle.plan_base.specs.Paths.{IsSimplePath}
 use Rattle.least_path.specs.declared.limits.TheConstants.{MAX_WEIGHT}
-use Rattle.least_path.specs.Paths.{Weights, AreWeights, IsLeastPath, HasNoUsablePath}
+use Rattle.least_path.specs.Paths.{Weights, AreWeights, IsLeastPath, HasNoneBelow}
 use Rattle.limited_path.specs.Within.{IsLeastWithin, HasNoneWithin}
-use Rattle.demand_routing.specs.Kept.{IsLeastKept, HasNoneKept}
+use Rattle.demand_routing.specs.Kept.{IsLeastKept, HasNoneKept, HasNoneKeptBelow}
 
 -- one weight more is listed
 pub weights_more : (ws listed new : Weights) (n : ℕ) (w : Option ℕ) → n < length ws → listed ≡ take n ws → w ≡ slice_index_or ws n None → new ≡ listed ++ w ∷ [] → new ≡ take (n + 1) ws
@@ -46,9 +46,19 @@ unlimited_kept p ws k arcs weight is h = kept_where p ws k arcs weight (subst (�
 pub short_kept : (p : Parts) (ws : Weights) (k : Demand) (limit : ℕ) (arcs : List ArcId) (weight : ℕ) → k.hops ≡ Some limit → length arcs ≤ limit → IsLeastPath p ws k.source k.target arcs weight → IsLeastKept p ws k arcs weight
 short_kept p ws k limit arcs weight is short h = kept_where p ws k arcs weight (keeps k limit arcs is short) h
 
--- no path at all
-pub none_kept : (p : Parts) (ws : Weights) (k : Demand) → HasNoUsablePath p ws k.source k.target → HasNoneKept p ws k
-none_kept p ws k none = λ arcs kept. none arcs kept.path
+-- no path below the bound
+pub none_below_kept : (p : Parts) (ws : Weights) (k : Demand) (bound : Option ℕ) → HasNoneBelow p ws k.source k.target bound → HasNoneKeptBelow p ws k bound
+none_below_kept p ws k None none = λ arcs kept. none arcs kept.path
+none_below_kept p ws k (Some bound) none = λ arcs kept. none arcs kept.path
+
+-- no path that keeps the limit
+pub none_kept : (p : Parts) (ws : Weights) (k : Demand) (bound : Option ℕ) → HasNoneKept p ws k → HasNoneKeptBelow p ws k bound
+none_kept p ws k None none = none
+none_kept p ws k (Some bound) none = λ arcs kept. absurd (none arcs kept)
+
+-- a least one that is not below the bound
+pub least_not_below : (p : Parts) (ws : Weights) (k : Demand) (arcs : List ArcId) (weight bound : ℕ) → IsLeastKept p ws k arcs weight → bound ≤ weight → HasNoneKeptBelow p ws k (Some bound)
+least_not_below p ws k arcs weight bound h beyond = λ other kept. omega (arith, beyond, h.least other kept)
 
 -- a least path within the limit
 pub within_kept : (p : Parts) (ws : Weights) (k : Demand) (limit : ℕ) (arcs : List ArcId) (weight : ℕ) → k.hops ≡ Some limit → IsLeastWithin p ws k.source k.target limit arcs weight → IsLeastKept p ws k arcs weight

@@ -1,5 +1,5 @@
 -- One arc more is added, removed or weighed.
-use Rattle.std.proofs.Common.{◌≡◌, ℕ, ◌+◌, ◌*◌, ◌-◌, ◌<◌, inl, inr, min, Bool, true, false, cond, if◌then◌else◌, ◌==◌, List, [], ◌∷◌, ◌++◌, length, get_or, slice_index, take, sum_by, sym, ◌∙◌, arith, length-append}
+use Rattle.std.proofs.Common.{◌≡◌, ℕ, ◌+◌, ◌*◌, ◌-◌, ◌<◌, inl, inr, min, Bool, true, false, cond, if◌then◌else◌, ◌==◌, List, [], ◌∷◌, ◌++◌, length, get_or, slice_index, take, sum_by, Option, Some, None, IfSome, IfNone, sym, ◌∙◌, arith, length-append}
 use Rattle.std.proofs.lemmas.List.{get_or-take, get_or_append_left, get_or_push, length-take-le}
 use Rattle.std.proofs.lemmas.List.Sums.{sum_by_more, sum_by_push}
 use Rattle.plan_base.specs.declared.ids.ArcId.{ArcId}
@@ -8,7 +8,7 @@ use Rattle.plan_base.specs.Arcs.{no_arc}
 use Rattle.plan_base.specs.Places.{place_of}
 use Rattle.plan_base.specs.Paths.{arc_at}
 use Rattle.link_steps.proofs.Order.{before_or_last}
-use Rattle.demand_routing.specs.Traffic.{arcs_along, IsRise, AreRises}
+use Rattle.demand_routing.specs.Traffic.{arcs_along, IsRise, AreRises, HasTooMuch, IsRiseAlong}
 
 -- how many arcs are of a place, with one arc more
 along-next : (p : Parts) (q : ℕ) (arcs : List ArcId) (i : ℕ) (d : ArcId) → i < length arcs → arcs_along p q (take (i + 1) arcs) ≡ arcs_along p q (take i arcs) + cond (place_of p (get_or arcs i d) == q) 1 0
@@ -62,3 +62,8 @@ rises-next p loads load most sum more now i arcs a within is before rise step =
   where
     capped : (sum more most now old new : ℕ) → new ≡ old + more → sum ≡ min old most → now ≡ min (sum + more) most → now ≡ min new most
     capped sum more most now old new total is step = omega arith
+
+-- what the arcs of a path add together, or none
+pub rise_told : (p : Parts) (loads : List ℕ) (load : ℕ) (arcs : List ArcId) (rise : Option ℕ) → IfSome rise (AreRises p loads load arcs 340282366920938463463374607431768211455) → IfNone rise (HasTooMuch p loads load arcs) → IsRiseAlong p loads load arcs rise
+rise_told p loads load arcs (Some rise) some none = some
+rise_told p loads load arcs None some none = none

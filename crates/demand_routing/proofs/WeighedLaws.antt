@@ -1,13 +1,13 @@
 -- The weights of all arcs are what loads add.
-use Rattle.std.proofs.Common.{◌≡◌, ℕ, ◌*◌, ◌<◌, List, length, slice_index, slice_index_or, Option, None, sym, subst}
+use Rattle.std.proofs.Common.{◌≡◌, ℕ, ◌*◌, ◌<◌, List, length, slice_index, slice_index_or, Option, Some, None, IfNone, sym, subst}
 use Rattle.plan_base.specs.declared.ids.ArcId.{ArcId}
 use Rattle.plan_base.specs.declared.parts.Demand.{Demand}
 use Rattle.plan_base.specs.declared.parts.Parts.{Parts}
 use Rattle.plan_base.specs.Paths.{IsSimplePath}
-use Rattle.demand_routing.specs.Kept.{IsLeastKept, HasNoneKept}
+use Rattle.demand_routing.specs.Kept.{IsLeastKept, HasNoneKept, HasNoneKeptBelow}
 use Rattle.demand_routing.specs.Traffic.{place_at, IsAddedCost, IsFarCost}
 use Rattle.demand_routing.specs.Weighed.{added_cost, far_cost, added_costs, far_costs}
-use Rattle.demand_routing.specs.Routings.{IsCheapestWay, HasNoWay, IsLeastWay, HasNoFarWay}
+use Rattle.demand_routing.specs.Routings.{IsCheapestWay, HasNoWay, HasNoCheaperWay, IsLeastWay, HasNoFarWay}
 use Rattle.demand_routing.proofs.KeptLaws.{kept_simple}
 use Rattle.demand_routing.proofs.AddedCosts.{added-is, far-is, listed-at, listed-length}
 
@@ -36,8 +36,12 @@ far-at p loads load far n below =
 pub cheapest_way : (p : Parts) (loads : List ℕ) (k : Demand) (arcs : List ArcId) (rise : ℕ) → IsLeastKept p (added_costs p loads k.load) k arcs rise → IsCheapestWay p loads k arcs rise
 cheapest_way p loads k arcs rise least = record { weights = added_costs p loads k.load; added = λ n within below. added-at p loads k.load n within; least = least }
 
-pub no_way : (p : Parts) (loads : List ℕ) (k : Demand) → HasNoneKept p (added_costs p loads k.load) k → HasNoWay p loads k
-no_way p loads k none = record { weights = added_costs p loads k.load; added = λ n within below. added-at p loads k.load n within; none = none }
+pub no_cheaper_way : (p : Parts) (loads : List ℕ) (k : Demand) (own : Option ℕ) → HasNoneKeptBelow p (added_costs p loads k.load) k own → HasNoCheaperWay p loads k own
+no_cheaper_way p loads k own none = record { weights = added_costs p loads k.load; added = λ n within below. added-at p loads k.load n within; none = none }
+
+pub no_way : (p : Parts) (loads : List ℕ) (k : Demand) (own : Option ℕ) → HasNoCheaperWay p loads k own → IfNone own (HasNoWay p loads k)
+no_way p loads k None h = record { weights = h.weights; added = h.added; none = h.none }
+no_way p loads k (Some own) h = tt
 
 pub least_way : (p : Parts) (loads : List ℕ) (k : Demand) (far : ℕ) (arcs : List ArcId) (weight : ℕ) → IsLeastKept p (far_costs p loads k.load far) k arcs weight → IsLeastWay p loads k far arcs weight
 least_way p loads k far arcs weight least = record { weights = far_costs p loads k.load far; far_costs = λ n within below. far-at p loads k.load far n within; least = least }

@@ -1,5 +1,5 @@
 -- Paths of least weight among those that keep a demand's limit.
-use Rattle.std.specs.Prelude.{ℕ, ◌≡◌, ◌≤◌, List, length}
+use Rattle.std.specs.Prelude.{ℕ, ◌≡◌, ◌≤◌, List, length, Option, Some, None}
 use Rattle.plan_base.specs.declared.ids.ArcId.{ArcId}
 use Rattle.plan_base.specs.declared.parts.Demand.{Demand}
 use Rattle.plan_base.specs.declared.parts.Parts.{Parts}
@@ -20,3 +20,8 @@ pub record IsLeastKept (p : Parts) (ws : Weights) (k : Demand) (arcs : List ArcI
 -- there is no such path
 abbrev pub HasNoneKept : Parts → Weights → Demand → Type 0
 HasNoneKept p ws k = (arcs : List ArcId) → IsKeptPath p ws k arcs → ⊥
+
+-- no such path weighs less than the bound; without one, there is no such path
+abbrev pub HasNoneKeptBelow : Parts → Weights → Demand → Option ℕ → Type 0
+HasNoneKeptBelow p ws k None = HasNoneKept p ws k
+HasNoneKeptBelow p ws k (Some bound) = (arcs : List ArcId) → IsKeptPath p ws k arcs → bound ≤ weight_of ws arcs

@@ -1,5 +1,6 @@
 -- Paths of all demands, what the places carry with them, and the ways that a demand may be laid on.
-use Rattle.std.specs.Prelude.{ℕ, ◌≡◌, ◌<◌, Bool, false, List, length, Option, IfSome, slice_index, slice_index_or, if◌then◌else◌}
+use Rattle.std.specs.Prelude.{ℕ, ◌≡◌, ◌<◌, ◌+◌, ◌-◌, ◌^◌, min, Bool, true, false, List, length, Option, None, IfSome, slice_index, slice_index_or, slice_set, if◌then◌else◌}
+use Rattle.std.specs.Option.{unwrap_or}
 use Rattle.plan_base.specs.declared.ids.ArcId.{ArcId}
 use Rattle.plan_base.specs.declared.parts.Demand.{Demand}
 use Rattle.plan_base.specs.declared.parts.Parts.{Parts}
@@ -7,12 +8,12 @@ use Rattle.plan_base.specs.declared.limits.TheConstants.{MAX_PLACES}
 use Rattle.plan_base.specs.Arcs.{demand_at}
 use Rattle.plan_base.specs.Places.{places}
 use Rattle.plan_base.specs.Sums.{sum_below}
-use Rattle.plan_base.specs.Designs.{load_from}
+use Rattle.plan_base.specs.Designs.{path_at, load_from}
 use Rattle.least_path.specs.Paths.{Weights}
 use Rattle.completions.specs.Completions.{with_paths, ArePaths}
 use Rattle.demand_routing.specs.declared.routing.Routing.{Routing}
-use Rattle.demand_routing.specs.Kept.{IsLeastKept, HasNoneKept}
-use Rattle.demand_routing.specs.Traffic.{AreAddedCosts, AreFarCosts}
+use Rattle.demand_routing.specs.Kept.{IsLeastKept, HasNoneKept, HasNoneKeptBelow}
+use Rattle.demand_routing.specs.Traffic.{IsRiseAlong, AreAddedCosts, AreFarCosts}
 
 -- whether the demand of this number is marked
 abbrev pub is_marked : List Bool → ℕ → Bool
@@ -37,6 +38,27 @@ pub record HasSameRoutes (r s : Routing) : Type 0 where
   pub paths : r.paths ≡ s.paths
   pub laid : r.laid ≡ s.laid
   pub loads : r.loads.value ≡ s.loads.value
+
+-- the cost after a load is laid on a path, where places carry these loads without it: the cost before and what the arcs of the path add, up to the greatest number; that number where a link cannot carry the load
+pub record IsCostWith (p : Parts) (loads : List ℕ) (load : ℕ) (arcs : List ArcId) (before after : ℕ) : Type 0 where
+  pub rise : Option ℕ
+  pub is_rise : IsRiseAlong p loads load arcs rise
+  pub is_cost : after ≡ min (before + unwrap_or rise (2 ^ 128 - 1)) (2 ^ 128 - 1)
+
+-- the loads and the cost without a demand: the cost less what the arcs of its path add to these loads, where it is laid and their links can carry that
+pub record IsCostWithout (p : Parts) (r : Routing) (k : ℕ) (loads : List ℕ) (cost : ℕ) : Type 0 where
+  pub fall : Option ℕ
+  pub are_loads : AreLoads p r.paths.items (slice_set r.laid.items k false) loads
+  pub is_fall : is_marked r.laid.items k ≡ true → IsRiseAlong p loads (demand_at p k).load (path_at (with_paths r.paths.items) k) fall
+  pub no_fall : is_marked r.laid.items k ≡ false → fall ≡ None
+  pub is_cost : cost ≡ r.cost - unwrap_or fall 0
+
+-- the cost after a demand is moved is that without it, and then with it on the path that it has after
+pub record IsMoved (p : Parts) (k : ℕ) (before after : Routing) : Type 0 where
+  pub loads : List ℕ
+  pub cost : ℕ
+  pub without : IsCostWithout p before k loads cost
+  pub laid : IsCostWith p loads (demand_at p k).load (path_at (with_paths after.paths.items) k) cost after.cost
 
 -- a path of the demand within its limit that raises the step costs by so much where its load comes to what the places carry, and none within it raises them by less
 pub record IsCheapestWay (p : Parts) (loads : List ℕ) (k : Demand) (arcs : List ArcId) (rise : ℕ) : Type 0 where
@@ -67,6 +89,12 @@ pub record HasNoWay (p : Parts) (loads : List ℕ) (k : Demand) : Type 0 where
   pub weights : Weights
   pub added : AreAddedCosts p loads k.load (places p) weights
   pub none : HasNoneKept p weights k
+
+-- no path of the demand within its limit raises the step costs by less than this; where no rise is given, no such path has links that can all carry its load
+pub record HasNoCheaperWay (p : Parts) (loads : List ℕ) (k : Demand) (own : Option ℕ) : Type 0 where
+  pub weights : Weights
+  pub added : AreAddedCosts p loads k.load (places p) weights
+  pub none : HasNoneKeptBelow p weights k own
 
 -- some demands are laid, and one that is not has no path within its limit whose links can carry it
 pub record IsStuck (p : Parts) : Type 0 where

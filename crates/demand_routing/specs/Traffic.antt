@@ -1,5 +1,5 @@
 -- What places carry and what arcs weigh while demands are rerouted. No public contract cites it.
-use Rattle.std.specs.Prelude.{ℕ, ◌≡◌, ◌<◌, ◌≤◌, ◌+◌, ◌*◌, ◌-◌, ◌/◌, min, max, ◌⊎◌, List, Option, Some, None, length, slice_index, slice_index_or, ◌==◌, sum_by, if◌then◌else◌}
+use Rattle.std.specs.Prelude.{ℕ, ◌≡◌, ◌<◌, ◌≤◌, ◌+◌, ◌*◌, ◌-◌, ◌/◌, ◌^◌, min, max, ◌⊎◌, List, Option, Some, None, length, slice_index, slice_index_or, ◌==◌, sum_by, if◌then◌else◌}
 use Rattle.std.specs.List.{count_by}
 use Rattle.plan_base.specs.declared.ids.ArcId.{ArcId}
 use Rattle.plan_base.specs.declared.parts.Parts.{Parts}
@@ -91,6 +91,11 @@ pub record HasTooMuch (p : Parts) (loads : List ℕ) (load : ℕ) (arcs : List A
   pub within : place < length arcs
   pub too_much : place_of p (arc_at arcs place) < places p
       → IsTooMuch p (with_more (slice_index loads) (place_of p (arc_at arcs place)) load) (link_of_place p (place_of p (arc_at arcs place)))
+
+-- what the arcs of a path add together, in cost grains; none where the load is too much for the link of one of them
+abbrev pub IsRiseAlong : Parts → List ℕ → ℕ → List ArcId → Option ℕ → Type 0
+IsRiseAlong p loads load arcs (Some rise) = AreRises p loads load arcs (2 ^ 128 - 1) rise
+IsRiseAlong p loads load arcs None = HasTooMuch p loads load arcs
 
 -- how many arcs of a list are of this place
 abbrev pub arcs_along : Parts → ℕ → List ArcId → ℕ

@@ -1,8 +1,8 @@
 //! Least paths among those that keep a demand's limit.
 
 ghost use Rattle.std.specs.Prelude.{◌≡◌, ◌<◌, ◌*◌, length, Some, IfOk, OnOk, IfSome, IfNone};
-ghost use Rattle.least_path.specs.Paths.{AreWeights};
-ghost use Rattle.demand_routing.specs.Kept.{IsLeastKept, HasNoneKept};
+ghost use Rattle.least_path.specs.Paths.{AreWeights, IsBelow};
+ghost use Rattle.demand_routing.specs.Kept.{IsLeastKept, HasNoneKept, HasNoneKeptBelow};
 
 use least_path::{Room, Weigher};
 use plan_base::{ArcId, Demand, Instance, Path};
@@ -98,30 +98,32 @@ impl LimitedRoom {
         Ok(found)
     }
 
-    /// Puts a path of least weight among those that keep the demand's limit into the room, and gives its weight; None
-    /// where no path of usable arcs keeps it.
+    /// Puts a path of least weight among those that keep the demand's limit into the room, and gives its weight, where
+    /// that is below a bound; None where no path of usable arcs that keeps the limit weighs less than that.
     ///
-    /// - Takes: what the arcs weigh.
+    /// - Takes: what the arcs weigh; the bound in the unit of the weights, or none.
     /// - Errors: want of memory alone.
-    /// - Time: that of `Room::search_by`, where the path that it finds keeps the limit; else also that of
+    /// - Time: that of `Room::search_below`, where the path that it finds keeps the limit; else also that of
     ///   `limited_path::Room::search_within`.
-    #[tactic(auto, using(crate::proofs::KeptLaws::unlimited_kept, crate::proofs::KeptLaws::short_kept, crate::proofs::KeptLaws::none_kept))]
-    pub fn search<W: Weigher>(
+    #[tactic(auto, using(crate::proofs::KeptLaws::unlimited_kept, crate::proofs::KeptLaws::short_kept, crate::proofs::KeptLaws::none_below_kept, crate::proofs::KeptLaws::none_kept, crate::proofs::KeptLaws::least_not_below))]
+    pub fn search_below<W: Weigher>(
         &mut self,
         inst: &Instance,
         weigher: &W,
         demand: &Demand,
+        bound: Option<u128>,
     ) -> Result<Option<u128>, AllocError>
         requires fits { W.fits weigher.now }
         requires count { length (W.weights weigher.now) ≡ 2 * length inst.now.links }
         requires source { demand.now.source.0 < inst.now.nodes }
         requires target { demand.now.target.0 < inst.now.nodes }
         ensures path { IfOk result (λ found. IfSome found (IsLeastKept inst.now (W.weights weigher.now) demand.now self.new)) }
-        ensures none { IfOk result (λ found. IfNone found (HasNoneKept inst.now (W.weights weigher.now) demand.now)) }
+        ensures below { IfOk result (λ found. IfSome found (IsBelow bound)) }
+        ensures none { IfOk result (λ found. IfNone found (HasNoneKeptBelow inst.now (W.weights weigher.now) demand.now bound)) }
     {
         let Some(weight) = self
             .room
-            .search_by(inst, weigher, demand.source, demand.target)?
+            .search_below(inst, weigher, demand.source, demand.target, bound)?
         else {
             return Ok(None);
         };
@@ -131,7 +133,13 @@ impl LimitedRoom {
         if self.room.path().as_slice().len() as u64 <= limit {
             return Ok(Some(weight));
         }
-        self.search_by_rounds(inst, weigher, demand, limit)
+        let Some(weight) = self.search_by_rounds(inst, weigher, demand, limit)? else {
+            return Ok(None);
+        };
+        match bound {
+            Some(bound) if bound <= weight => Ok(None),
+            _ => Ok(Some(weight)),
+        }
     }
 
     /// Changes the path in the room for another one, each with its memory.

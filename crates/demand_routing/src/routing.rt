@@ -1,12 +1,13 @@
 //! Paths of all demands, what the places carry and what the links cost with them.
 
-ghost use Rattle.std.specs.Prelude.{◌≡◌, ◌<◌, ◌≤◌, ◌+◌, ◌-◌, ◌^◌, min, true, false, length, IfOk, OnOk, IfSome, IfNone, IsTrue, IsFalse};
+ghost use Rattle.std.specs.Prelude.{ℕ, ◌≡◌, ◌<◌, ◌≤◌, ◌+◌, ◌-◌, ◌^◌, min, true, false, length, slice_set, IfOk, OnOk, IfSome, IfNone, IsTrue, IsFalse};
 ghost use Rattle.std.specs.Option.{unwrap_or};
 ghost use Rattle.plan_base.specs.Arcs.{demand_at};
 ghost use Rattle.plan_base.specs.Designs.{path_at};
 ghost use Rattle.plan_base.specs.Paths.{IsSimplePath};
+ghost use Rattle.least_path.specs.Paths.{IsBelow};
 ghost use Rattle.completions.specs.Completions.{ArePaths, with_paths};
-ghost use Rattle.demand_routing.specs.Routings.{IsRouting, HasSameRoutes, IsCheapestWay, IsCheaperWay, IsLeastWay, HasNoWay, HasNoFarWay, IsStuck, is_marked};
+ghost use Rattle.demand_routing.specs.Routings.{IsRouting, HasSameRoutes, IsCheapestWay, IsCheaperWay, IsLeastWay, HasNoWay, HasNoCheaperWay, HasNoFarWay, IsStuck, IsCostWith, IsCostWithout, IsMoved, is_marked};
 ghost use Rattle.demand_routing.specs.Traffic.{AreRises, HasTooMuch};
 
 use crate::copies::set_path;
@@ -41,6 +42,8 @@ impl Routing {
         requires { ArePaths inst.now paths.items }
         ensures routing { IfOk result (IsRouting inst.now) }
         ensures paths { IfOk result (λ routing. routing.paths.items ≡ paths.items) }
+        ensures off { IfOk result (λ routing. (k : ℕ) → k < length inst.now.demands → is_marked routing.laid.items k ≡ false) }
+        ensures cost { IfOk result (λ routing. routing.cost ≡ 0) }
     {
         Ok(Routing {
             paths,
@@ -62,7 +65,7 @@ impl Routing {
         ensures paths { self.new.paths ≡ self.old.paths }
         ensures on { is_marked self.new.laid.items demand.0 ≡ true }
         ensures searches { self.new.searches ≡ self.old.searches }
-        ensures cost { self.old.cost ≤ self.new.cost }
+        ensures cost { is_marked self.old.laid.items demand.0 ≡ false → IsCostWith inst.now self.old.loads.value (demand_at inst.now demand.0).load (path_at (with_paths self.new.paths.items) demand.0) self.old.cost self.new.cost }
         ensures laid { is_marked self.old.laid.items demand.0 ≡ true → self.new.cost ≡ self.old.cost }
     {
         inst.lawful();
@@ -91,6 +94,7 @@ impl Routing {
         ensures cost { self.new.cost ≡ self.old.cost - unwrap_or result 0 }
         ensures fall { IfSome result (λ fall. AreRises inst.now self.new.loads.value (demand_at inst.now demand.0).load (path_at (with_paths self.old.paths.items) demand.0) u128.MAX fall) }
         ensures none { is_marked self.old.laid.items demand.0 ≡ true → IfNone result (HasTooMuch inst.now self.new.loads.value (demand_at inst.now demand.0).load (path_at (with_paths self.old.paths.items) demand.0)) }
+        ensures without { IsCostWithout inst.now self.old demand.0 self.new.loads.value self.new.cost }
     {
         inst.lawful();
         let place = demand.0 as usize;
@@ -107,13 +111,14 @@ impl Routing {
     }
 
     /// Searches for a path within the demand's limit that raises the step costs least, puts it into the room, and gives the
-    /// rise in cost grains.
-    #[tactic(auto, using(crate::proofs::WeighedLaws::added_count, crate::proofs::WeighedLaws::cheapest_way, crate::proofs::WeighedLaws::no_way))]
+    /// rise in cost grains, where that is less than this one.
+    #[tactic(auto, using(crate::proofs::WeighedLaws::added_count, crate::proofs::WeighedLaws::cheapest_way, crate::proofs::WeighedLaws::no_cheaper_way))]
     fn search(
         &mut self,
         inst: &Instance,
         table: &StepTable,
         demand: DemandId,
+        own: Option<u128>,
     ) -> Result<Option<u128>, AllocError>
         requires table { table.now ≡ inst.now }
         requires demand { demand.0 < length inst.now.demands }
@@ -124,7 +129,8 @@ impl Routing {
         ensures no_fewer { self.old.searches ≤ self.new.searches }
         ensures cost { self.new.cost ≡ self.old.cost }
         ensures cheapest { IfOk result (λ found. IfSome found (IsCheapestWay inst.now self.new.loads.value (demand_at inst.now demand.0) self.new.room)) }
-        ensures none { IfOk result (λ found. IfNone found (HasNoWay inst.now self.new.loads.value (demand_at inst.now demand.0))) }
+        ensures below { IfOk result (λ found. IfSome found (IsBelow own)) }
+        ensures none { IfOk result (λ found. IfNone found (HasNoCheaperWay inst.now self.new.loads.value (demand_at inst.now demand.0) own)) }
     {
         let demand = inst.demand(demand);
         self.searches = self.searches.saturating_add(1);
@@ -135,7 +141,7 @@ impl Routing {
             nears: &self.nears,
             load: demand.load,
         };
-        self.room.search(inst, &rises, demand)
+        self.room.search_below(inst, &rises, demand, own)
     }
 
     /// Searches for a path of least weight within the demand's limit, where far more load is looked at too, and puts it
@@ -168,7 +174,7 @@ impl Routing {
             load: demand.load,
         };
         let far_rises = FarRises { rises, far };
-        self.room.search(inst, &far_rises, demand)
+        self.room.search_below(inst, &far_rises, demand, None)
     }
 
     /// Gives a demand that is off the path in the room.
@@ -190,7 +196,7 @@ impl Routing {
 
     /// Searches for a path within the limit that raises the step costs by less than this, and gives it to the demand, which
     /// is off.
-    #[tactic(auto, using(crate::proofs::WeighedLaws::cheapest_simple))]
+    #[tactic(auto, using(crate::proofs::WeighedLaws::cheapest_simple, crate::proofs::WeighedLaws::no_way))]
     fn take_cheaper(
         &mut self,
         inst: &Instance,
@@ -204,6 +210,7 @@ impl Routing {
         requires off { is_marked self.old.laid.items demand.0 ≡ false }
         ensures routing { IsRouting inst.now self.new }
         ensures laid { self.new.laid ≡ self.old.laid }
+        ensures loads { self.new.loads.value ≡ self.old.loads.value }
         ensures cost { self.new.cost ≡ self.old.cost }
         ensures no_fewer { self.old.searches ≤ self.new.searches }
         ensures one_more { self.new.searches ≤ self.old.searches + 1 }
@@ -215,16 +222,11 @@ impl Routing {
         if let Some(0) = own {
             return Ok(false);
         }
-        let Some(rise) = self.search(inst, table, demand)? else {
+        let Some(_rise) = self.search(inst, table, demand, own)? else {
             return Ok(false);
         };
-        match own {
-            Some(own) if own <= rise => Ok(false),
-            _ => {
-                self.take_path(inst, demand);
-                Ok(true)
-            }
-        }
+        self.take_path(inst, demand);
+        Ok(true)
     }
 
     /// Moves a demand to the path within its limit that raises the step costs least, where that is cheaper than its own.
@@ -239,6 +241,7 @@ impl Routing {
         requires routing { IsRouting inst.now self.old }
         ensures routing { IsRouting inst.now self.new }
         ensures on { OnOk result (is_marked self.new.laid.items demand.0 ≡ true) }
+        ensures cost { OnOk result (IsMoved inst.now demand.0 self.old self.new) }
         ensures kept { IfOk result (λ helps. IsFalse helps → self.new.paths ≡ self.old.paths) }
         ensures no_fewer { self.old.searches ≤ self.new.searches }
         ensures one_more { self.new.searches ≤ self.old.searches + 1 }
@@ -263,6 +266,8 @@ impl Routing {
         ensures routing { IsRouting inst.now self.new }
         ensures searches { self.new.searches ≡ min (self.old.searches + 1) (2 ^ 32 - 1) }
         ensures on { IfOk result (λ found. IsTrue found → is_marked self.new.laid.items demand.0 ≡ true) }
+        ensures cost { IfOk result (λ found. IsTrue found → IsMoved inst.now demand.0 self.old self.new) }
+        ensures without { IfOk result (λ found. IsFalse found → IsCostWithout inst.now self.old demand.0 self.new.loads.value self.new.cost) }
         ensures stuck { IfOk result (λ found. IsFalse found → IsStuck inst.now) }
     {
         let _fall = self.take_off(inst, table, demand);
@@ -289,6 +294,8 @@ impl Routing {
         ensures searches { self.new.searches ≡ min (self.old.searches + 1) (2 ^ 32 - 1) }
         ensures on { IfOk result (λ found. IsTrue found → is_marked self.new.laid.items demand.0 ≡ true) }
         ensures off { IfOk result (λ found. IsFalse found → is_marked self.new.laid.items demand.0 ≡ false) }
+        ensures cost { IfOk result (λ found. IsTrue found → IsMoved inst.now demand.0 self.old self.new) }
+        ensures without { IfOk result (λ found. IsFalse found → IsCostWithout inst.now self.old demand.0 self.new.loads.value self.new.cost) }
     {
         let _fall = self.take_off(inst, table, demand);
         let Some(_weight) = self.search_far(inst, table, demand, far)? else {
@@ -314,6 +321,8 @@ impl Routing {
         ensures routing { OnOk result (IsRouting inst.now self.new) }
         ensures searches { self.new.searches ≡ self.old.searches }
         ensures on { OnOk result (is_marked self.new.laid.items demand.0 ≡ true) }
+        ensures cost { OnOk result (IsMoved inst.now demand.0 self.old self.new) }
+        ensures path { OnOk result (self.new.paths.items ≡ slice_set self.old.paths.items demand.0 path.now) }
     {
         let _fall = self.take_off(inst, table, demand);
         set_path(&mut self.paths, demand, path)?;

@@ -16,3 +16,8 @@ returns-clause-routing c =
           subst (AreLoads p c.args.paths.items c.in_ok-vec.field-0.items) (sym c.in_ok-new.ensures.ok)
           (subst (λ (laid : List Bool). AreLoads p c.args.paths.items laid (replicate MAX_PLACES 0)) (sym items) (loads-none p c.args.paths.items c.demands.result (replicate MAX_PLACES 0) c.demands.ensures.value (λ e below. get_or-replicate MAX_PLACES e 0 0 below)));
     }
+
+pub returns-clause-off : goal.returns-clause-off
+returns-clause-off c = λ k within.
+    let items : c.in_ok-vec.field-0.items ≡ replicate c.demands.result false = c.in_ok-vec.ensures.items_if_clones_equal (λ y is. search rules) in
+    rw items (get_or-replicate c.demands.result k false false (omega (arith, c.demands.ensures.value, within)))
