@@ -1,8 +1,9 @@
 -- Loads times least prices, demand by demand.
-use Rattle.std.proofs.Common.{◌≡◌, ℕ, zero, suc, ◌+◌, ◌*◌, ◌/◌, ◌<◌, ◌≤◌, ◌⊎◌, inl, inr, max, List, length, take, refl, arith, add-one}
+use Rattle.std.proofs.Common.{◌≡◌, ℕ, zero, suc, ◌+◌, ◌*◌, ◌/◌, ◌<◌, ◌≤◌, ◌⊎◌, inl, inr, max, List, length, take, slice_index_or, Option, None, refl, sym, subst, ◌∙◌, arith, add-one}
 use Rattle.std.specs.List.{sum_by}
 use Rattle.std.proofs.Math.Nat.{mul-le-mul_left, div-mul-le_self}
 use Rattle.std.proofs.lemmas.Nat.{le-div}
+use Rattle.std.proofs.lemmas.List.{get_or_default}
 use Rattle.std.proofs.lemmas.List.Sums.{sum_by_more, sum_by-take-le}
 use Rattle.plan_base.specs.declared.parts.Demand.{Demand}
 use Rattle.plan_base.specs.declared.parts.Parts.{Parts}
@@ -12,8 +13,16 @@ use Rattle.plan_base.specs.Sums.{sum_below}
 use Rattle.plan_base.specs.Arcs.{demand_at, no_demand}
 use Rattle.arc_restrict.specs.Restrictions.{Forbidden}
 use Rattle.arc_restrict.specs.Prices.{IsLeastPrice}
+use Rattle.verifier_paths.specs.Labels.{label_at}
+use Rattle.verifier_paths.specs.Sources.{IsPriceOf, ArePricesOf}
 use Rattle.cert_verifier.specs.Totals.{IsPriceTotal}
 use Rattle.cert_verifier.proofs.Terms.{HasSum, HasSum-none, HasSum-next}
+
+-- the price of a demand, among those of all
+pub price_at : (p : Parts) (r : Forbidden) (prices : List ℕ) (found : List (Option ℕ)) (k : ℕ) (item price : Option ℕ) → ArePricesOf p r prices found → k < length p.demands → item ≡ slice_index_or found k item → item ≡ price → IsPriceOf p r prices k price
+price_at p r prices found k item price are within read is =
+    let at : price ≡ label_at found k = sym is ∙ read ∙ get_or_default found k item None (let inside = are.count in omega (arith, within, inside)) in
+    subst (IsPriceOf p r prices k) (sym at) (are.each k within)
 
 -- the loads of the first demands
 abbrev pub loads_to : Parts → ℕ → ℕ

@@ -13,7 +13,7 @@ use link_steps::StepTable;
 use plan_base::limits::{MAX_LINKS, MAX_PRICED_LOAD};
 use plan_base::{DemandId, Instance, Prices};
 use std::alloc::{AllocError, Global};
-use verifier_paths::{Forbidden, least_price};
+use verifier_paths::{Forbidden, prices_of_demands};
 
 /// The sum of loads times least prices over the demands, in thousandths of a cost grain, and none where a demand has no
 /// permitted path.
@@ -29,11 +29,11 @@ pub(crate) fn price_total(
     ensures none { IfOk result (λ total. IfNone total (HavePaths inst.now (forbidden_by forbidden.now) → ⊥)) }
     ensures within { IfOk result (λ total. IfSome total (λ total. total ≤ MAX_WAY_ARCS * MAX_PRICED_LOAD)) }
 {
+    let found = prices_of_demands(alloc, inst, forbidden, prices)?;
     let mut total = 0;
     for place in 0..inst.demands() {
-        let demand = DemandId(place);
-        match least_price(alloc, inst, forbidden, demand, prices)? {
-            Some(price) => total += inst.demand(demand).load * price,
+        match found[place as usize] {
+            Some(price) => total += inst.demand(DemandId(place)).load * price,
             None => return Ok(None),
         }
     }

@@ -117,8 +117,8 @@ fn check_plan(
 ///   kind first, then the rules of a split or of a leaf), an undecided plan without an open leaf, the count of examined
 ///   nodes, the budget, the bound.
 /// - Rule: docs/FORMATS.md, "Rules of a plan".
-/// - Time: linear in the tree, but for each leaf: demands times nodes times arcs to price it, and as often the arcs of
-///   the paths where the leaf is closed by them.
+/// - Time: linear in the tree, but for each leaf: nodes times arcs to price it, for each source of a demand and for each
+///   demand that is forbidden an arc; and where it is closed by its paths, for each demand and each arc of its path.
 pub fn verify(
     alloc: Global,
     inst: &Instance,

@@ -5,3 +5,4 @@ mod Rounding
 mod LeastPrices
 mod StepsBack
 mod LeftOut
+mod SourcePrices

@@ -1,14 +1,15 @@
 -- What marks forbid, arc by arc, and what becomes of it when a mark is set or taken away.
-use Rattle.std.proofs.Common.{◌≡◌, ◌≢◌, ℕ, ◌*◌, ◌+◌, ◌<◌, ◌≤◌, inl, inr, Bool, true, false, ◌==◌, ◌&&◌, ◌||◌, not, List, [], ◌∷◌, length, get_or, set, replicate, slice_index_or, nat_lt, if◌then◌else◌, refl, sym, ap, ◌∙◌, arith, All}
+use Rattle.std.proofs.Common.{◌≡◌, ◌≢◌, ℕ, suc, ◌*◌, ◌+◌, ◌<◌, ◌≤◌, inl, inr, Bool, true, false, ◌==◌, ◌&&◌, ◌||◌, not, List, [], ◌∷◌, length, get_or, set, replicate, slice_index_or, nat_lt, if◌then◌else◌, refl, sym, ap, ◌∙◌, arith, All}
 use Rattle.std.proofs.Math.Path.{fun_ext}
 use Rattle.std.proofs.lemmas.Bool.{lt-ltb, le-ltb, eq-eqb, ne_eqb, eqb-true, and_left, and_right, and_parts, and_from, or_right, cases_lt, cases_eq}
 use Rattle.std.proofs.lemmas.List.{get_or-set_same, get_or-set_other, get_or-replicate, get_or_past, length-replicate}
 use Rattle.std.proofs.lemmas.List.Folds.{Any-from_list_any}
+use Rattle.std.proofs.Math.Nat.{mul-le-mul}
 use Rattle.std.proofs.lemmas.Nat.{same_from_place, mul-add-lt}
 use Rattle.plan_base.specs.declared.ids.ArcId.{ArcId}
 use Rattle.plan_base.specs.declared.ids.DemandId.{DemandId}
 use Rattle.arc_restrict.specs.Restrictions.{Forbidden, is_among, none_forbidden, with_forbidden}
-use Rattle.verifier_paths.specs.Kept.{Marks, forbidden_by, AreKept, without_forbidden}
+use Rattle.verifier_paths.specs.Kept.{Marks, forbidden_by, AreKept, AreClear, IsUnrestricted, without_forbidden}
 
 pub past_demands : (rows : Marks) (k : ℕ) (a : ArcId) → rows.demands ≤ k → forbidden_by rows k a ≡ false
 unfolding forbidden_by
@@ -28,6 +29,23 @@ within_rows rows k a demand arc =
 -- a mark is kept below the count of marks
 pub mark_within : (demands arcs k : ℕ) (a : ArcId) (marks : List Bool) → AreKept demands arcs marks → k < demands → a.0 < arcs → k * arcs + a.0 < length marks
 mark_within demands arcs k a marks kept demand arc = omega (arith, mul-add-lt k arcs a.0 demands demand arc, kept.whole)
+
+-- a row is kept within the marks
+pub row_within : (demands arcs k : ℕ) (marks : List Bool) → AreKept demands arcs marks → k < demands → k * arcs + arcs ≤ length marks
+row_within demands arcs k marks kept demand =
+    let one : suc k * arcs ≤ demands * arcs = mul-le-mul (let le : suc k ≤ demands = omega (arith, demand) in le) (let le : arcs ≤ arcs = omega arith in le) in
+    let split : suc k * arcs ≡ k * arcs + arcs = grind arith in
+    omega (arith, one, split, kept.whole)
+
+-- a row with no mark set forbids nothing
+pub unrestricted_row : (rows : Marks) (k : ℕ) → k < rows.demands → AreClear rows.marks (k * rows.arcs) rows.arcs → IsUnrestricted (forbidden_by rows) k
+unrestricted_row rows k here clear a = elim (cases_lt a.0 rows.arcs) [
+  | inl there ↦ within_rows rows k a here there ∙ clear a.0 there
+  | inr past ↦ past_arcs rows k a past
+]
+
+pub clear_row : (rows : Marks) (k : ℕ) → k < rows.demands → IsUnrestricted (forbidden_by rows) k → AreClear rows.marks (k * rows.arcs) rows.arcs
+clear_row rows k here unrestricted i within = sym (within_rows rows k (record { 0 = i }) here within) ∙ unrestricted (record { 0 = i })
 
 -- each arc is among the one arc exactly where it is that arc
 is_among-one : (a b : ArcId) → is_among (a ∷ []) b ≡ (a.0 == b.0)
@@ -136,6 +154,10 @@ forbidden_by-none demands arcs n = fun_ext (λ k. fun_ext (λ a. at k a))
             | inl there ↦ within_rows rows k a here there ∙ false_at (k * arcs + a.0)
           ]
         ]
+
+-- no rows forbid nothing
+pub forbidden_by-no_rows : (arcs : ℕ) (marks : List Bool) → forbidden_by (record { demands = 0; arcs = arcs; marks = marks }) ≡ none_forbidden
+forbidden_by-no_rows arcs marks = fun_ext (λ k. fun_ext (λ a. past_demands (record { demands = 0; arcs = arcs; marks = marks }) k a (omega arith)))
 
 -- arcs that were free are free again once they are no more forbidden
 pub undo_forbid : (r : Forbidden) (id : DemandId) (arcs : List ArcId) → All (λ a. r id.0 a ≡ false) arcs → without_forbidden (with_forbidden r id arcs) id arcs ≡ r

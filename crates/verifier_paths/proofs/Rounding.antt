@@ -19,9 +19,9 @@ use Rattle.plan_base.proofs.Bools.{and-first}
 use Rattle.plan_base.proofs.PathLaws.{length-IsSimplePath}
 use Rattle.plan_base.proofs.PriceLaws.{price_limit_le}
 use Rattle.arc_restrict.specs.Prices.{price_of, AreWithinLimit}
-use Rattle.verifier_paths.specs.Labels.{label_at, first_labels, IsAtMost, AreSmall, IsWay, HasWay, AreLeastWithin, IsRound, AreLeast}
+use Rattle.verifier_paths.specs.Labels.{label_at, first_labels, IsAtMost, AreSmall, IsWay, HasWay, AreLeastWithin, AreLeast, IsAlong, AreOffered, LeavesBelow, HasOffered}
 use Rattle.verifier_paths.proofs.Ways.{way_on, has_last, price-push, route_of_way, simple_of_way}
-use Rattle.verifier_paths.proofs.Offers.{known, at_most, at_most-le, AreOffered, IsAlong}
+use Rattle.verifier_paths.proofs.Offers.{known, at_most, at_most-le}
 
 -- arcs that may be taken exist
 abbrev pub TakesArcs : Parts → (ArcId → Bool) → Type 0
@@ -45,15 +45,20 @@ number-within p a is = half-below a.0 (length p.links) (ltb-true (link_of a) (le
 
 -- ---- one round
 
+-- a round: from least costs of at most so many arcs to those of one arc more
+abbrev pub IsRound : Parts → (ArcId → Bool) → (List ArcId → ℕ) → List (Option ℕ) → List (Option ℕ) → Type 0
+IsRound p takes cost old new = (source most : ℕ)
+    → AreLeastWithin p takes cost source most old → AreLeastWithin p takes cost source (suc most) new
+
 offered-way : (p : Parts) (takes : ArcId → Bool) (prices : List ℕ) (old new : List (Option ℕ)) (source most v : ℕ) (arcs : List ArcId) → IsInstance p → TakesArcs p takes
-    → AreOffered p takes prices old (2 * length p.links) new → AreLeastWithin p takes (price_of p prices) source most old
+    → AreOffered p takes prices old (LeavesBelow p p.nodes) old new → AreLeastWithin p takes (price_of p prices) source most old
     → v < p.nodes → IsWay p takes source v arcs → length arcs ≤ suc most → IsAtMost (label_at new v) (price_of p prices arcs)
 offered-way p takes prices old new source most v [] inst are h least within way few = h.kept v 0 ((least.each v within).least [] way (omega arith))
 offered-way p takes prices old new source most v (b ∷ arcs) inst are h least within way few =
     let l = has_last p takes source v b arcs way in
     let size : length (b ∷ arcs) ≡ length l.front + 1 = ap length l.is ∙ length-append l.front (l.last ∷ []) in
     let tail = known _ _ ((least.each (tail_of p l.last).0 (tail-within p l.last inst (are l.last l.taken))).least l.front l.way (omega (arith, size, few))) in
-    let offer = h.offered l.last tail.price (number-within p l.last (are l.last l.taken)) l.taken tail.is in
+    let offer = h.offered l.last tail.price (tail-within p l.last inst (are l.last l.taken)) l.taken tail.is in
     let sum : price_of p prices (b ∷ arcs) ≡ price_of p prices l.front + slice_index prices (place_of p l.last) = ap (price_of p prices) l.is ∙ price-push p prices l.front l.last in
     subst (λ (w : ℕ). IsAtMost (label_at new w) (price_of p prices (b ∷ arcs))) l.leads (at_most-le _ _ _ offer (omega (arith, sum, tail.within)))
 
@@ -72,9 +77,9 @@ along-way p takes prices old source most v price inst are least along =
 
 -- where all arcs were offered, the round is done
 pub round_law : (p : Parts) (takes : ArcId → Bool) (prices : List ℕ) (old new : List (Option ℕ)) → IsInstance p → TakesArcs p takes
-    → length new ≡ length old → AreOffered p takes prices old (2 * length p.links) new → IsRound p takes (price_of p prices) old new
-round_law p takes prices old new inst are same h source most least = record {
-  count = same ∙ least.count;
+    → AreOffered p takes prices old (LeavesBelow p p.nodes) old new → IsRound p takes (price_of p prices) old new
+round_law p takes prices old new inst are h source most least = record {
+  count = h.count ∙ least.count;
   each = λ v within. record {
     attained = λ price is. elim (h.from v price is) [
       | inl was ↦ (
@@ -86,7 +91,18 @@ round_law p takes prices old new inst are same h source most least = record {
   };
 }
 
+-- then no arc offers less any more from the old prices
+pub round_offers : (p : Parts) (takes : ArcId → Bool) (prices : List ℕ) (old new : List (Option ℕ)) → IsInstance p → TakesArcs p takes
+    → AreOffered p takes prices old (LeavesBelow p p.nodes) old new → HasOffered p takes prices old new
+round_offers p takes prices old new inst are h = λ a price taken tail. h.offered a price (tail-within p a inst (are a taken)) taken tail
+
 -- ---- the first prices
+
+-- where no price is known, none is offered
+pub none_offers : (p : Parts) (takes : ArcId → Bool) (prices : List ℕ) (old : List (Option ℕ)) → IsInstance p → TakesArcs p takes → HasOffered p takes prices (replicate p.nodes None) old
+none_offers p takes prices old inst are = λ a price taken tail.
+    let none : label_at (replicate p.nodes None) (tail_of p a).0 ≡ None = get_or-replicate p.nodes (tail_of p a).0 None None (tail-within p a inst (are a taken)) in
+    absurd (let bad : None ≡ Some price = sym none ∙ tail in cc)
 
 pub first_least : (p : Parts) (takes : ArcId → Bool) (prices : List ℕ) (source : ℕ) → source < p.nodes → AreLeastWithin p takes (price_of p prices) source 0 (first_labels p.nodes source)
 first_least p takes prices source within = record {

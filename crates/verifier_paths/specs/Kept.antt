@@ -1,5 +1,5 @@
 -- How the restriction of a place in a tree is kept: for each demand a row of marks, one for each arc.
-use Rattle.std.specs.Prelude.{ℕ, ◌≡◌, ◌≤◌, ◌*◌, ◌+◌, ◌==◌, ◌&&◌, Bool, false, not, List, length, slice_index_or, nat_lt}
+use Rattle.std.specs.Prelude.{ℕ, ◌≡◌, ◌<◌, ◌≤◌, ◌*◌, ◌+◌, ◌==◌, ◌&&◌, Bool, false, not, List, length, slice_index_or, nat_lt}
 use Rattle.plan_base.specs.declared.ids.ArcId.{ArcId}
 use Rattle.plan_base.specs.declared.ids.DemandId.{DemandId}
 use Rattle.plan_base.specs.declared.parts.Parts.{Parts}
@@ -26,6 +26,14 @@ pub record AreKept (demands arcs : ℕ) (marks : List Bool) : Type 0 where
   pub few_demands : demands ≤ MAX_DEMANDS
   pub few_arcs : arcs ≤ 2 * MAX_LINKS
   pub whole : length marks ≡ demands * arcs
+
+-- none of so many marks is set, from this place on
+abbrev pub AreClear : List Bool → ℕ → ℕ → Type 0
+AreClear marks start count = (i : ℕ) → i < count → slice_index_or marks (start + i) false ≡ false
+
+-- no arc is forbidden to the demand
+abbrev pub IsUnrestricted : Forbidden → ℕ → Type 0
+IsUnrestricted r k = (a : ArcId) → r k a ≡ false
 
 -- the restriction that does not forbid these arcs to one demand
 abbrev pub without_forbidden : Forbidden → DemandId → List ArcId → Forbidden

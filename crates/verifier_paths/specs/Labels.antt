@@ -1,5 +1,5 @@
 -- Costs of ways from one node, as rounds of relaxing find them.
-use Rattle.std.specs.Prelude.{ℕ, suc, ◌≡◌, ◌<◌, ◌≤◌, ◌+◌, ◌*◌, ◌==◌, ◌&&◌, Bool, false, not, List, [], ◌∷◌, length, slice_index, slice_index_or, slice_set, replicate, IsTrue, All, Option, Some, None, MatchOption, IfSome, if◌then◌else◌, nat_le}
+use Rattle.std.specs.Prelude.{ℕ, ◌≡◌, ◌<◌, ◌≤◌, ◌+◌, ◌*◌, ◌==◌, ◌&&◌, ◌⊎◌, Bool, false, not, List, [], ◌∷◌, length, slice_index, slice_index_or, slice_set, replicate, IsTrue, All, Option, Some, None, MatchOption, IfSome, if◌then◌else◌, nat_le}
 use Rattle.plan_base.specs.declared.ids.ArcId.{ArcId}
 use Rattle.plan_base.specs.declared.parts.Parts.{Parts}
 use Rattle.plan_base.specs.Arcs.{is_arc, tail_of, head_of}
@@ -37,13 +37,42 @@ abbrev pub IsRelaxed : Parts → (ArcId → Bool) → List ℕ → List (Option 
 IsRelaxed p takes prices old a before after =
     after ≡ (if takes a then offered_to p prices a (label_at old (tail_of p a).0) before else before)
 
--- the prices before the first round: that of the source alone is known
-abbrev pub first_labels : ℕ → ℕ → List (Option ℕ)
-first_labels nodes source = slice_set (replicate nodes None) source (Some 0)
-
 -- there is a price, and it is at most the bound
 abbrev pub IsAtMost : Option ℕ → ℕ → Type 0
 IsAtMost label bound = MatchOption label ⊥ (λ price. price ≤ bound)
+
+-- a price of a node: that of the arc's tail and the arc's own
+pub record IsAlong (p : Parts) (takes : ArcId → Bool) (prices : List ℕ) (old : List (Option ℕ)) (v price : ℕ) : Type 0 where
+  pub arc : ArcId
+  pub taken : IsTrue (takes arc)
+  pub leads : (head_of p arc).0 ≡ v
+  pub before : ℕ
+  pub tail : label_at old (tail_of p arc).0 ≡ Some before
+  pub sum : before + slice_index prices (place_of p arc) ≡ price
+
+-- prices are what they were, or lower ones along arcs; and all arcs of this kind were offered to their heads
+pub record AreOffered (p : Parts) (takes : ArcId → Bool) (prices : List ℕ) (old : List (Option ℕ)) (kind : ArcId → Type 0) (before after : List (Option ℕ)) : Type 0 where
+  pub count : length after ≡ length before
+  pub from : (v price : ℕ) → label_at after v ≡ Some price → (label_at before v ≡ Some price) ⊎ IsAlong p takes prices old v price
+  pub kept : (v bound : ℕ) → IsAtMost (label_at before v) bound → IsAtMost (label_at after v) bound
+  pub offered : (a : ArcId) (price : ℕ) → kind a → IsTrue (takes a) → label_at old (tail_of p a).0 ≡ Some price → IsAtMost (label_at after (head_of p a).0) (price + slice_index prices (place_of p a))
+
+-- the arc leaves the node of this number
+abbrev pub Leaves : Parts → ℕ → ArcId → Type 0
+Leaves p v a = (tail_of p a).0 ≡ v
+
+-- the arc leaves a node of a number below this one
+abbrev pub LeavesBelow : Parts → ℕ → ArcId → Type 0
+LeavesBelow p n a = (tail_of p a).0 < n
+
+-- no arc offers to its head, from the earlier prices, less than what is known
+abbrev pub HasOffered : Parts → (ArcId → Bool) → List ℕ → List (Option ℕ) → List (Option ℕ) → Type 0
+HasOffered p takes prices earlier old = (a : ArcId) (price : ℕ) → IsTrue (takes a) → label_at earlier (tail_of p a).0 ≡ Some price
+    → IsAtMost (label_at old (head_of p a).0) (price + slice_index prices (place_of p a))
+
+-- the prices before the first round: that of the source alone is known
+abbrev pub first_labels : ℕ → ℕ → List (Option ℕ)
+first_labels nodes source = slice_set (replicate nodes None) source (Some 0)
 
 -- no price is above that of a way of the most arcs at the greatest price limit that an instance can have
 abbrev pub AreSmall : List (Option ℕ) → Type 0
@@ -70,11 +99,6 @@ pub record IsLeastTo (p : Parts) (takes : ArcId → Bool) (cost : List ArcId →
 pub record AreLeastWithin (p : Parts) (takes : ArcId → Bool) (cost : List ArcId → ℕ) (source most : ℕ) (labels : List (Option ℕ)) : Type 0 where
   pub count : length labels ≡ p.nodes
   pub each : (v : ℕ) → v < p.nodes → IsLeastTo p takes cost source most v (label_at labels v)
-
--- a round: from least costs of at most so many arcs to those of one arc more
-abbrev pub IsRound : Parts → (ArcId → Bool) → (List ArcId → ℕ) → List (Option ℕ) → List (Option ℕ) → Type 0
-IsRound p takes cost old new = (source most : ℕ)
-    → AreLeastWithin p takes cost source most old → AreLeastWithin p takes cost source (suc most) new
 
 -- each node has the least cost of all ways to it, and a way of no more arcs than there are nodes costs that
 pub record AreLeast (p : Parts) (takes : ArcId → Bool) (cost : List ArcId → ℕ) (source : ℕ) (labels : List (Option ℕ)) : Type 0 where

@@ -1,12 +1,25 @@
 //! The restriction of a place in a tree, in marks that can be taken back.
 
-ghost use Rattle.std.specs.Prelude.{◌≡◌, ◌<◌, ◌+◌, ◌*◌, ◌∷◌, [], true, false, length, IfOk, All, if◌then◌else◌};
+ghost use Rattle.std.specs.Prelude.{◌≡◌, ◌↔◌, ◌<◌, ◌≤◌, ◌+◌, ◌*◌, ◌∷◌, [], true, false, length, IsTrue, IfOk, All, if◌then◌else◌};
 ghost use Rattle.arc_restrict.specs.Restrictions.{none_forbidden, with_forbidden};
-ghost use Rattle.verifier_paths.specs.Kept.{forbidden_by, HasRows, without_forbidden};
+ghost use Rattle.verifier_paths.specs.Kept.{forbidden_by, AreClear, HasRows, IsUnrestricted, without_forbidden};
 
 use plan_base::{ArcId, DemandId, Instance};
 use std::alloc::{AllocError, Global};
 use std::marker::Model;
+
+/// Whether none of so many marks is set, from this place on.
+fn are_clear(marks: &[bool], start: usize, count: usize) -> bool
+    requires { start + count ≤ length marks.now }
+    ensures { IsTrue result ↔ AreClear marks.now start count }
+{
+    for place in 0..count {
+        if marks[start + place] {
+            return false;
+        }
+    }
+    true
+}
 
 /// For each demand a mark for each arc that is forbidden to it.
 ///
@@ -49,6 +62,17 @@ impl Forbidden {
         })
     }
 
+    /// Forbids nothing, and has no rows.
+    pub(crate) fn nothing(alloc: Global) -> Forbidden
+        ensures { forbidden_by result ≡ none_forbidden }
+    {
+        Forbidden {
+            demands: 0,
+            arcs: 0,
+            marks: Vec::new(alloc),
+        }
+    }
+
     /// The place of the mark of an arc in the row of a demand.
     fn place_of(&self, demand: DemandId, arc: ArcId) -> usize
         requires demand { demand.0 < self.now.demands }
@@ -70,6 +94,17 @@ impl Forbidden {
             return false;
         }
         self.marks[self.place_of(demand, arc)]
+    }
+
+    /// Whether no arc is forbidden to the demand.
+    pub(crate) fn is_unrestricted(&self, demand: DemandId) -> bool
+        ensures { IsTrue result ↔ IsUnrestricted (forbidden_by self.now) demand.0 }
+    {
+        if demand.0 >= self.demands {
+            return true;
+        }
+        let arcs = self.arcs as usize;
+        are_clear(&self.marks, demand.0 as usize * arcs, arcs)
     }
 
     /// Sets the mark of one arc.

@@ -1,6 +1,6 @@
 //! Least prices by rounds of relaxing: after each round the prices of the ways of one arc more are counted.
 
-ghost use Rattle.std.specs.Prelude.{◌≡◌, ◌≤◌, ◌<◌, ◌*◌, true, length, IfOk, IfSome, MatchOption, None};
+ghost use Rattle.std.specs.Prelude.{◌≡◌, ◌↔◌, ◌≤◌, ◌<◌, ◌*◌, true, length, replicate, IsFalse, IfOk, IfSome, MatchOption, None};
 ghost use Rattle.plan_base.specs.Arcs.{demand_at};
 ghost use Rattle.plan_base.specs.Facts.{IsInstance, total_load};
 ghost use Rattle.plan_base.specs.Places.{places};
@@ -9,7 +9,7 @@ ghost use Rattle.arc_restrict.specs.Restrictions.{HasNoPath, IsFewest};
 ghost use Rattle.arc_restrict.specs.Prices.{price_of, AreWithinLimit, IsLeastPrice};
 ghost use Rattle.verifier_paths.specs.declared.limits.TheConstants.{MAX_WAY_ARCS};
 ghost use Rattle.verifier_paths.specs.Kept.{forbidden_by};
-ghost use Rattle.verifier_paths.specs.Labels.{may_take, AreLeast, AreSmall, IsRelaxed, IsRound, lower_of, first_labels};
+ghost use Rattle.verifier_paths.specs.Labels.{label_at, may_take, AreLeast, AreSmall, IsRelaxed, AreOffered, HasOffered, Leaves, LeavesBelow, lower_of, first_labels};
 ghost use Rattle.verifier_paths.specs.OnlyPaths.{AreOnes};
 
 use crate::marks::Forbidden;
@@ -74,21 +74,73 @@ fn relax_arc(
     }
 }
 
-/// One round: each node's price by one arc more, in the new list.
-fn relax_all(ways: &Ways, prices: &[u128], old: &[Option<u128>], new: &mut Vec<Option<u128>>)
+/// Offers the ways along the arcs that leave one node to their heads.
+fn relax_from(
+    ways: &Ways,
+    prices: &[u128],
+    node: NodeId,
+    old: &[Option<u128>],
+    new: &mut Vec<Option<u128>>,
+)
+    requires node { node.0 < ways.now.inst.now.nodes }
     requires count { length prices.now ≡ places ways.now.inst.now }
     requires limit { AreWithinLimit ways.now.inst.now prices.now }
     requires old { length old.now ≡ ways.now.inst.now.nodes }
     requires small { AreSmall old.now }
-    requires same { new.old.items ≡ old.now }
-    ensures round { IsRound ways.now.inst.now
+    requires new { length new.old.items ≡ ways.now.inst.now.nodes }
+    ensures { AreOffered ways.now.inst.now
         (may_take ways.now.inst.now (forbidden_by ways.now.forbidden.now) ways.now.demand.0 ways.now.left_out)
-        (price_of ways.now.inst.now prices.now) old.now new.new.items }
-    ensures count { length new.new.items ≡ length old.now }
+        prices.now old.now (Leaves ways.now.inst.now node.0) new.old.items new.new.items }
 {
-    for arc in 0..ways.inst.arcs() {
-        relax_arc(ways, prices, ArcId(arc), old, new);
+    ways.inst.lawful();
+    for arc in ways.inst.leaving(node) {
+        relax_arc(ways, prices, *arc, old, new);
     }
+}
+
+/// Whether the node has another price than a round earlier.
+fn is_changed(earlier: &[Option<u128>], old: &[Option<u128>], node: NodeId) -> bool
+    requires earlier { node.0 < length earlier.now }
+    requires old { node.0 < length old.now }
+    ensures { IsFalse result ↔ (label_at earlier.now node.0 ≡ label_at old.now node.0) }
+{
+    earlier[node.0 as usize] != old[node.0 as usize]
+}
+
+/// One round: each node's price by one arc more, in the new list. Arcs from a node whose price is that of a round earlier
+/// offer nothing that was not offered then.
+fn relax_all(
+    ways: &Ways,
+    prices: &[u128],
+    earlier: &[Option<u128>],
+    old: &[Option<u128>],
+    new: &mut Vec<Option<u128>>,
+)
+    requires count { length prices.now ≡ places ways.now.inst.now }
+    requires limit { AreWithinLimit ways.now.inst.now prices.now }
+    requires earlier { length earlier.now ≡ ways.now.inst.now.nodes }
+    requires old { length old.now ≡ ways.now.inst.now.nodes }
+    requires small { AreSmall old.now }
+    requires offered { HasOffered ways.now.inst.now
+        (may_take ways.now.inst.now (forbidden_by ways.now.forbidden.now) ways.now.demand.0 ways.now.left_out)
+        prices.now earlier.now old.now }
+    requires same { new.old.items ≡ old.now }
+    ensures { AreOffered ways.now.inst.now
+        (may_take ways.now.inst.now (forbidden_by ways.now.forbidden.now) ways.now.demand.0 ways.now.left_out)
+        prices.now old.now (LeavesBelow ways.now.inst.now ways.now.inst.now.nodes) old.now new.new.items }
+{
+    for node in 0..ways.inst.nodes() {
+        if is_changed(earlier, old, NodeId(node)) {
+            relax_from(ways, prices, NodeId(node), old, new);
+        }
+    }
+}
+
+/// The prices where no node is reached.
+fn no_prices(alloc: Global, nodes: u32) -> Result<Vec<Option<u128>>, AllocError>
+    ensures { IfOk result (λ labels. labels.items ≡ replicate nodes None) }
+{
+    vec![in alloc; None; nodes as usize]
 }
 
 /// The prices before the first round: the source alone is reached, at no cost.
@@ -96,7 +148,7 @@ fn first_prices(alloc: Global, nodes: u32, source: NodeId) -> Result<Vec<Option<
     requires { source.0 < nodes }
     ensures { IfOk result (λ labels. labels.items ≡ first_labels nodes source.0) }
 {
-    let mut labels = vec![in alloc; None; nodes as usize]?;
+    let mut labels = no_prices(alloc, nodes)?;
     labels[source.0 as usize] = Some(0);
     Ok(labels)
 }
@@ -135,13 +187,15 @@ pub(crate) fn least_prices(
     ways.inst.lawful();
     let nodes = ways.inst.nodes();
     let source = ways.inst.demand(ways.demand).source;
+    let mut earlier = no_prices(alloc, nodes)?;
     let mut old = first_prices(alloc, nodes, source)?;
     let mut new = Vec::from_slice(alloc, &old)?;
     for _round in 1..nodes {
-        relax_all(ways, prices, &old, &mut new);
+        relax_all(ways, prices, &earlier, &old, &mut new);
         if are_same(&old, &new) {
             return Ok(old);
         }
+        replace_prices(&mut earlier, &old);
         replace_prices(&mut old, &new);
     }
     Ok(old)

@@ -1,12 +1,24 @@
-use Rattle.std.proofs.Common.{◌≡◌, ℕ, ◌+◌, ◌*◌, ◌<◌, length, ap, subst, arith, rules}
+use Rattle.std.proofs.Common.{◌≡◌, ℕ, ◌+◌, ◌*◌, ◌<◌, length, Some, None, ap, subst, arith, rules}
 use Rattle.plan_base.specs.declared.parts.Demand.{Demand}
 use Rattle.plan_base.specs.Arcs.{demand_at}
 use Rattle.verifier_paths.specs.Kept.{forbidden_by}
-use Rattle.cert_verifier.proofs.PriceTotals.{ArePriced, priced_none, priced_next, priced-within, priced_all}
+use Rattle.cert_verifier.proofs.PriceTotals.{ArePriced, price_at, priced_none, priced_next, priced-within, priced_all}
 use Rattle.cert_verifier.proofs.bounds.price_total.Goals as goal
 
 pub loop-place-init : goal.loop-place-init
 loop-place-init c = priced_none c.args.inst.now (forbidden_by c.args.forbidden.now) c.args.prices.now
+
+pub overflow_mul-total : goal.overflow_mul-total
+overflow_mul-total c =
+    let p = c.args.inst.now in
+    let r = forbidden_by c.args.forbidden.now in
+    let place = c.loop-place.place in
+    let load : c.demand.result.now.load ≡ (demand_at p place).load = ap (λ (k : Demand). k.load) c.demand.ensures.value in
+    let here : place < length p.demands = omega arith in
+    let priced = price_at p r c.args.prices.now c.in_ok-found.found.items place c.index.result.now (Some c.in-Some.price) c.in_ok-found.ensures here c.index.ensures c.in-Some.is in
+    let next = priced_next p r c.args.prices.now place c.loop-place.total c.in-Some.price here c.loop-place.invariant priced.is_least priced.is_small in
+    let within = priced-within p r c.args.prices.now (place + 1) (c.loop-place.total + (demand_at p place).load * c.in-Some.price) (omega (arith, here)) next in
+    rw load (omega (arith, within))
 
 pub overflow_add-total : goal.overflow_add-total
 overflow_add-total c =
@@ -14,18 +26,18 @@ overflow_add-total c =
     let r = forbidden_by c.args.forbidden.now in
     let place = c.loop-place.place in
     let load : c.demand.result.now.load ≡ (demand_at p place).load = ap (λ (k : Demand). k.load) c.demand.ensures.value in
-    let is = rw c.in-Some.is at c.in_ok-price.ensures.value in
-    let small = rw c.in-Some.is at c.in_ok-price.ensures.within in
     let here : place < length p.demands = omega arith in
-    let next = priced_next p r c.args.prices.now place c.loop-place.total c.in-Some.price here c.loop-place.invariant is small in
+    let priced = price_at p r c.args.prices.now c.in_ok-found.found.items place c.index.result.now (Some c.in-Some.price) c.in_ok-found.ensures here c.index.ensures c.in-Some.is in
+    let next = priced_next p r c.args.prices.now place c.loop-place.total c.in-Some.price here c.loop-place.invariant priced.is_least priced.is_small in
     let within = priced-within p r c.args.prices.now (place + 1) (c.loop-place.total + (demand_at p place).load * c.in-Some.price) (omega (arith, here)) next in
     rw load (omega (arith, within))
 
 pub returns-in-None-clause-none : goal.returns-in-None-clause-none
 returns-in-None-clause-none c = λ have.
-    let none = rw c.in-None.is at c.in_ok-price.ensures.value in
-    let path = have c.loop-place.place (omega arith) in
-    none path.0 path.1
+    let here : c.loop-place.place < length c.args.inst.now.demands = omega arith in
+    let priced = price_at c.args.inst.now (forbidden_by c.args.forbidden.now) c.args.prices.now c.in_ok-found.found.items c.loop-place.place c.index.result.now None c.in_ok-found.ensures here c.index.ensures c.in-None.is in
+    let path = have c.loop-place.place here in
+    priced.is_least path.0 path.1
 
 pub loop-place-preserved : goal.loop-place-preserved
 loop-place-preserved c =
@@ -33,10 +45,9 @@ loop-place-preserved c =
     let r = forbidden_by c.args.forbidden.now in
     let place = c.loop-place.place in
     let load : c.demand.result.now.load ≡ (demand_at p place).load = ap (λ (k : Demand). k.load) c.demand.ensures.value in
-    let is = rw c.in-Some.is at c.in_ok-price.ensures.value in
-    let small = rw c.in-Some.is at c.in_ok-price.ensures.within in
     let here : place < length p.demands = omega arith in
-    rw load (priced_next p r c.args.prices.now place c.loop-place.total c.in-Some.price here c.loop-place.invariant is small)
+    let priced = price_at p r c.args.prices.now c.in_ok-found.found.items place c.index.result.now (Some c.in-Some.price) c.in_ok-found.ensures here c.index.ensures c.in-Some.is in
+    rw load (priced_next p r c.args.prices.now place c.loop-place.total c.in-Some.price here c.loop-place.invariant priced.is_least priced.is_small)
 
 pub returns-clause-total : goal.returns-clause-total
 returns-clause-total c =

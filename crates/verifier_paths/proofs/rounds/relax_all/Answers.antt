@@ -1,33 +1,34 @@
-use Rattle.std.proofs.Common.{◌≡◌, ◌*◌, length, subst, ◌∙◌, arith, rules}
-use Rattle.plan_base.proofs.PathLaws.{head-within}
+use Rattle.std.proofs.Common.{◌≡◌, ◌+◌, ℕ, List, Option, ap, sym, arith, subst, rules}
 use Rattle.verifier_paths.specs.Kept.{forbidden_by}
-use Rattle.verifier_paths.specs.Labels.{may_take}
-use Rattle.verifier_paths.proofs.Offers.{AreOffered, offered-more}
-use Rattle.verifier_paths.proofs.Rounding.{round_law}
-use Rattle.verifier_paths.proofs.LeastPrices.{takes_arcs}
+use Rattle.verifier_paths.specs.Labels.{may_take, AreOffered, LeavesBelow}
+use Rattle.verifier_paths.proofs.Offers.{offered-none, offered-node, offered-over}
 use Rattle.verifier_paths.proofs.rounds.relax_all.Goals as goal
+use Rattle.verifier_paths.proofs.rounds.relax_all.Goals.{then-is_changed, else-is_changed}
 
-pub loop-arc-preserved : goal.loop-arc-preserved
-loop-arc-preserved c =
+pub loop-node-init : goal.loop-node-init
+loop-node-init c =
     let p = c.args.ways.now.inst.now in
-    let r = forbidden_by c.args.ways.now.forbidden.now in
-    let k = c.args.ways.now.demand.0 in
-    let out = c.args.ways.now.left_out in
-    let place = c.loop-arc.arc in (
-      c.relax_arc.ensures.count ∙ c.loop-arc.invariant.0,
-      offered-more p (may_take p r k out) c.args.prices.now c.args.old.now place c.loop-arc.new.items c.relax_arc.new.new.items
-          (λ taken. let inside = head-within p (record { 0 = place }) c.arcs-arc-end.ensures.lawful (takes_arcs p r k out (record { 0 = place }) taken) in omega (arith, inside, c.loop-arc.invariant.0, c.requires.old))
-          c.relax_arc.ensures.relaxed
-          c.loop-arc.invariant.1,
-    )
+    let takes = may_take p (forbidden_by c.args.ways.now.forbidden.now) c.args.ways.now.demand.0 c.args.ways.now.left_out in
+    subst (λ (xs : List (Option ℕ)). AreOffered p takes c.args.prices.now c.args.old.now (LeavesBelow p 0) c.args.old.now xs) (sym c.requires.same)
+    (offered-none p takes c.args.prices.now c.args.old.now c.args.old.now (LeavesBelow p 0) (λ a below. omega (arith, below)))
 
-pub returns-clause-round : goal.returns-clause-round
-returns-clause-round c =
+pub loop-node-preserved : goal.loop-node-preserved
+loop-node-preserved c =
     let p = c.args.ways.now.inst.now in
-    let r = forbidden_by c.args.ways.now.forbidden.now in
-    let k = c.args.ways.now.demand.0 in
-    let out = c.args.ways.now.left_out in
-    let end : c.loop-arc.arc ≡ 2 * length p.links = search rules in
-    round_law p (may_take p r k out) c.args.prices.now c.args.old.now c.loop-arc.new.items c.arcs-arc-end.ensures.lawful (takes_arcs p r k out)
-    c.loop-arc.invariant.0
-    (subst (λ n. AreOffered p (may_take p r k out) c.args.prices.now c.args.old.now n c.loop-arc.new.items) end c.loop-arc.invariant.1)
+    let takes = may_take p (forbidden_by c.args.ways.now.forbidden.now) c.args.ways.now.demand.0 c.args.ways.now.left_out in
+    let prices = c.args.prices.now in
+    let old = c.args.old.now in
+    let n = c.loop-node.node in
+    elim c.if-is_changed.branch [
+      | then-is_changed w ↦ subst (AreOffered p takes prices old (LeavesBelow p (n + 1)) old) (sym (ap (λ v. v.items) w.new-is))
+          (offered-node p takes prices old n old c.loop-node.new.items w.relax_from.new.new.items w.relax_from.ensures c.loop-node.invariant)
+      | else-is_changed w ↦ subst (AreOffered p takes prices old (LeavesBelow p (n + 1)) old) (sym (ap (λ v. v.items) w.new-is))
+          (offered-over p takes prices c.args.earlier.now old n c.loop-node.new.items c.requires.offered (c.is_changed.ensures.0 w.if-is_changed.false) c.loop-node.invariant)
+    ]
+
+pub returns : goal.returns
+returns c =
+    let p = c.args.ways.now.inst.now in
+    let takes = may_take p (forbidden_by c.args.ways.now.forbidden.now) c.args.ways.now.demand.0 c.args.ways.now.left_out in
+    let end : c.loop-node.node ≡ p.nodes = search rules in
+    subst (λ (n : ℕ). AreOffered p takes c.args.prices.now c.args.old.now (LeavesBelow p n) c.args.old.now c.loop-node.new.items) end c.loop-node.invariant

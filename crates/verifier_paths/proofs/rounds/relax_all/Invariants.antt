@@ -1,11 +1,8 @@
-use Rattle.std.proofs.Common.{◌≡◌, length}
 use Rattle.verifier_paths.specs.Kept.{forbidden_by}
-use Rattle.verifier_paths.specs.Labels.{may_take}
-use Rattle.verifier_paths.proofs.Offers.{AreOffered}
+use Rattle.verifier_paths.specs.Labels.{may_take, AreOffered, LeavesBelow}
 use Rattle.verifier_paths.proofs.rounds.relax_all.Given as goal
 
--- the arcs before this one have been offered
-abbrev pub invariant-loop-arc : goal.invariant-loop-arc
-invariant-loop-arc l =
-    (length l.new.items ≡ length l.old)
-    × AreOffered l.ways.inst.now (may_take l.ways.inst.now (forbidden_by l.ways.forbidden.now) l.ways.demand.0 l.ways.left_out) l.prices l.old l.arc l.new.items
+-- the arcs from the nodes before this one have been offered
+abbrev pub invariant-loop-node : goal.invariant-loop-node
+invariant-loop-node l =
+    AreOffered l.ways.inst.now (may_take l.ways.inst.now (forbidden_by l.ways.forbidden.now) l.ways.demand.0 l.ways.left_out) l.prices l.old (LeavesBelow l.ways.inst.now l.node) l.old l.new.items
