@@ -1,1 +1,2 @@
 mod EntryLaws
+mod LimitLaws
