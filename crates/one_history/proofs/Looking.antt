@@ -1,4 +1,4 @@
-use Rattle.std.proofs.Common.{◌≡◌, ◌≢◌, ℕ, false, [], ◌∷◌, length, set, ◌⊎◌, inl, inr, refl, ap, sym, subst, ◌∙◌, arith, Option, Some}
+use Rattle.std.proofs.Common.{◌≡◌, ◌≢◌, ℕ, false, [], ◌∷◌, length, get_or, set, ◌⊎◌, inl, inr, refl, ap, sym, subst, ◌∙◌, arith, Option, Some}
 use mathlib.Core.Logic.{dite}
 use mathlib.Core.Option.{some, none}
 use native.Mathlib.Decide.{ℕ_discrete}
@@ -10,7 +10,7 @@ use Rattle.one_history.specs.declared.view.Stage.TheVariants.{Idle, Waiting, Hol
 use Rattle.one_history.specs.declared.view.View.{View}
 use Rattle.one_history.specs.Histories.{Leading}
 use Rattle.one_history.specs.Rules.{TableState, ticket_of, StageFits, Fits, IsHome, IsOut, Kept}
-use Rattle.one_history.specs.Steps.{Knowing, with_seen, IsServed, LooksAt, Looks, Hears}
+use Rattle.one_history.specs.Steps.{Knowing, with_seen, IsServed, Glances, LooksAt, Looks, Hears}
 use Rattle.one_history.proofs.ViewLists.{prefix_self, each_set, at_inside, held_set}
 use Rattle.one_history.proofs.Keeping.{any_step, GoesAt, idle_holds_none, apart_set, place_set, learned, holder_view, stays_apart, draws_stay, parts_stay}
 
@@ -118,6 +118,19 @@ module _ {D C : Type 0} (leads : Leading D C) where
   -- a look without one
   pub hears : (callers slots id : ℕ) (m : Knowing D C) → m.0.stage ≡ Idle → Allows (Kept leads callers) slots id m 1 (λ n. n) (Hears leads any_step m)
   hears callers slots id m is s k _ at _ = subst (λ words. GoesAt leads callers s words id m 1 (λ n. n) (Hears leads any_step m)) (sym k.words) (hears_at leads callers id m s k at is)
+
+  -- a glance at a word, which changes nothing
+  pub glances : (callers slots id : ℕ) (m : Knowing D C) (i : ℕ) → ((a b c : ℕ) → set (a ∷ b ∷ c ∷ []) i (get_or (a ∷ b ∷ c ∷ []) i 0) ≡ a ∷ b ∷ c ∷ [])
+      → Allows (Kept leads callers) slots id m i (λ n. n) (Glances any_step m)
+  glances callers slots id m i stays s k _ at _ =
+      subst (λ words. GoesAt leads callers s words id m i (λ n. n) (Glances any_step m)) (sym k.words) (
+        m.0,
+        keeps,
+        tt,
+        subst (λ vs. Kept leads callers record { words = set (k.tickets ∷ k.serving ∷ length k.history ∷ []) i (get_or (k.tickets ∷ k.serving ∷ length k.history ∷ []) i 0); homes = s.homes; views = vs }) (sym (set_again s.views id m.0 at))
+            (subst (λ words. Kept leads callers record { words = words; homes = s.homes; views = s.views }) (k.words ∙ sym (stays k.tickets k.serving (length k.history))) k),
+        refl,
+      )
 
   pub served_after : (m new : Knowing D C) (t n : ℕ) → LooksAt leads m.0.stage m n new → m.0.stage ≡ Waiting t → n ≡ t → IsServed leads t m new
   served_after m new t n l is e = (subst (λ stage. LooksAt leads stage m n new) is l).0 e

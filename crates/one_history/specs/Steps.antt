@@ -81,6 +81,10 @@ pub record Learns {D C : Type 0} (leads : Leading D C) (v : View C) (history : L
 abbrev pub Draws : {D C : Type 0} → Step (Option D) → Knowing D C → ℕ → Knowing D C → Type 0
 Draws step old found new = new ≡ (drawing old.0 found, old.1)
 
+-- a pass looks at a word
+abbrev pub Glances : {D C : Type 0} → Step (Option D) → Knowing D C → ℕ → Knowing D C → Type 0
+Glances step old found new = new ≡ old
+
 -- the ticket is served: the pass has the slot, with a value to which the whole history leads
 pub record IsServed {D C : Type 0} (leads : Leading D C) (ticket : ℕ) (old new : Knowing D C) : Type 0 where
   pub history : List (Entry C)

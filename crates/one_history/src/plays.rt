@@ -28,6 +28,15 @@ impl<D, C> Play<Option<D>, View<C>> for Draw {
     ghost then = { Draws };
 }
 
+/// A pass looks at a word, and goes on as it was.
+pub(crate) struct Glance;
+
+impl<D, C> Play<Option<D>, View<C>> for Glance {
+    ghost use Rattle.one_history.specs.Steps.{Glances};
+
+    ghost then = { Glances };
+}
+
 /// A pass with a ticket looks which one is served, and takes the slot where it is its own.
 pub(crate) struct Look<M> {
     of: PhantomData<M>,

@@ -7,7 +7,7 @@ ghost use Rattle.one_history.specs.Passes.{IsIdle, IsReady, IsInside, IsMaker, I
 
 use crate::limits::MAX_CALLERS;
 use crate::meaning::{Meaning, Said};
-use crate::plays::{Copied, Draw, Hear, Law, Look, NewCaller, Raise, Serve, Together};
+use crate::plays::{Copied, Draw, Glance, Hear, Law, Look, NewCaller, Raise, Serve, Together};
 use crate::view::View;
 use atomic_table::{Seat, Table};
 use crossbeam_utils::Backoff;
@@ -28,6 +28,9 @@ const COUNT: usize = 2;
 
 /// The slot of the value.
 const SLOT: usize = 0;
+
+/// How often a caller looks whether another one has a ticket, before it draws its own all the same.
+const LOOKS: u32 = 256;
 
 /// A value in a slot, and tickets for it.
 #[derive(Drop)]
@@ -78,12 +81,25 @@ impl<D: Drop, C, M: Meaning<D, C>> Turns<D, C, M> {
         self.table.shared.split_seat::<NewCaller>(maker)
     }
 
-    /// Draws a ticket, waits until it is served, and takes the value out of the slot. Takes no memory.
-    ///
-    /// - Takes: the pass of a caller that has calls left, between two turns.
-    /// - Gives: the value, to which the history leads that the pass has now seen.
-    /// - Rule: docs/DEFINITIONS.md, "Histories".
-    pub fn enter<R: Wait>(&self, rt: &R, pass: &mut Pass<D, C>) -> D
+    /// Looks until no caller has a ticket, or it has looked often enough. Who has a ticket may be kept from running where
+    /// there are more callers than processors, and whoever draws behind it waits for it.
+    fn hold_back(&self, pass: &mut Pass<D, C>)
+        requires { pass.old.table_id ≡ self.now.table.shared.table_id }
+        ensures { (pass.new.table_id ≡ pass.old.table_id) × (pass.new.id ≡ pass.old.id) × (pass.new.me ≡ pass.old.me) }
+    {
+        let shared = &self.table.shared;
+        let backoff = Backoff::new();
+        for _ in 0..LOOKS {
+            let drawn = shared.load::<Glance>(pass, TICKETS);
+            if shared.load::<Glance>(pass, SERVING) == drawn {
+                return;
+            }
+            backoff.snooze();
+        }
+    }
+
+    /// Draws a ticket, waits until it is served, and takes the value out of the slot.
+    fn take_turn<R: Wait>(&self, rt: &R, pass: &mut Pass<D, C>) -> D
         requires table { pass.old.table_id ≡ self.now.table.shared.table_id }
         requires ready { IsReady pass.old }
         ensures same { (pass.new.table_id ≡ pass.old.table_id) × (pass.new.id ≡ pass.old.id) }
@@ -103,6 +119,22 @@ impl<D: Drop, C, M: Meaning<D, C>> Turns<D, C, M> {
             backoff.snooze();
         }
         unreachable!()
+    }
+
+    /// Draws a ticket, waits until it is served, and takes the value out of the slot. Takes no memory.
+    ///
+    /// - Takes: the pass of a caller that has calls left, between two turns.
+    /// - Gives: the value, to which the history leads that the pass has now seen.
+    /// - Rule: docs/DEFINITIONS.md, "Histories".
+    pub fn enter<R: Wait>(&self, rt: &R, pass: &mut Pass<D, C>) -> D
+        requires table { pass.old.table_id ≡ self.now.table.shared.table_id }
+        requires ready { IsReady pass.old }
+        ensures same { (pass.new.table_id ≡ pass.old.table_id) × (pass.new.id ≡ pass.old.id) }
+        ensures entered { HasEntered M.leads pass.old.me pass.new.me result }
+        ensures inside { IsInside pass.new }
+    {
+        self.hold_back(pass);
+        self.take_turn(rt, pass)
     }
 
     /// Adds the call to the history, puts the value back into the slot, and serves the next ticket. Takes no memory.

@@ -1,7 +1,7 @@
 use Rattle.std.proofs.Common.{rules, ap, ◌∙◌, Some}
 use Rattle.one_history.proofs.Drawing.{draws}
 use Rattle.one_history.proofs.Looking.{looks, served_after, has_slot}
-use Rattle.one_history.proofs.turns.Turns.enter.Goals as goal
+use Rattle.one_history.proofs.turns.Turns.take_turn.Goals as goal
 
 pub fetch_add-ticket-requires : goal.fetch_add-ticket-requires
 fetch_add-ticket-requires g c = let r = c.requires.ready in (search rules, search rules, draws _ _ _ _ _ r.0.0 r.1 r.2 r.3)
