@@ -1,0 +1,81 @@
+//! What a worker prices by: it came out of the lock, and was tested.
+
+ghost use Rattle.std.specs.Prelude.{◌≡◌, ◌<◌, ◌↔◌, length, IsTrue, IfOk, IfSome, IsSome, None};
+ghost use Rattle.std.specs.Arc.{arc_value};
+ghost use Rattle.arc_restrict.specs.Rows.{forbids, HasSizeOf};
+ghost use Rattle.path_pricing.specs.Priced.{ArePrices};
+ghost use Rattle.path_pricing.specs.Faults.{priced_fault};
+
+use crate::search::Search;
+use arc_restrict::Restriction;
+use dual_versions::Published;
+use leaf_work::{Guide, copy_of};
+use path_pricing::Priced;
+use plan_base::{BranchId, DemandId, Instance};
+use std::alloc::AllocError;
+use std::marker::PhantomData;
+use std::sync::Arc;
+
+/// The prices of one version of a node, and what is forbidden at the node. Both fit the instance of the search.
+#[derive(Drop)]
+pub struct Ground<N: Search> {
+    published: Published,
+    rows: Arc<Restriction>,
+    of: PhantomData<N>,
+    ghost prices_fit: { ArePrices N.problem published.prices },
+    ghost rows_fit: { HasSizeOf N.problem (arc_value rows) },
+}
+
+impl<N: Search> Ground<N> {
+    /// What came out of the lock, where it fits the instance.
+    pub fn tested(
+        inst: &Instance,
+        published: Published,
+        rows: Arc<Restriction>,
+    ) -> Option<Ground<N>>
+        requires { inst.now ≡ N.problem }
+        ensures some { IsSome result ↔ ArePrices inst.now published.prices × HasSizeOf inst.now (arc_value rows) }
+        ensures published { IfSome result (λ ground. ground.published ≡ published) }
+        ensures rows { IfSome result (λ ground. ground.rows ≡ rows) }
+    {
+        if !published.prices.fits(inst) {
+            return None;
+        }
+        if !rows.fits(inst) {
+            return None;
+        }
+        Some(Ground {
+            published,
+            rows,
+            of: PhantomData,
+        })
+    }
+
+    /// Whether this is of the version of the node.
+    pub fn is_of(&self, node: BranchId, version: u64) -> bool
+        ensures { IsTrue result ↔ (self.now.published.node ≡ node) × (self.now.published.version ≡ version) }
+    {
+        self.published.node == node && self.published.version == version
+    }
+
+    /// What the demand finds here, which the guide keeps to be tried again.
+    ///
+    /// - Errors: want of memory alone.
+    pub fn found(
+        &self,
+        inst: &Instance,
+        demand: DemandId,
+        guide: &mut Guide,
+    ) -> Result<Priced, AllocError>
+        requires inst { inst.now ≡ N.problem }
+        requires demand { demand.0 < length inst.now.demands }
+        ensures { IfOk result (λ found. priced_fault inst.now self.now.published.prices demand.0
+            (forbids (arc_value self.now.rows)) found ≡ None) }
+    {
+        let version = self.published.version;
+        let known = guide.find(inst, version, &self.published.prices, demand, &*self.rows)?;
+        let found = copy_of(&*known)?;
+        guide.keep(demand, known)?;
+        Ok(found)
+    }
+}
