@@ -1,0 +1,11 @@
+//! What threads may hand over.
+
+use crate::desk::Desk;
+use pool_work::Search;
+use std::sync::Wait;
+
+fn is_sent<T: Send>(_value: &T) {}
+
+fn is_desk_sent<N: Search + Send + Sync, R: Wait + Sync>(desk: &Desk<N, &R>) {
+    is_sent(desk);
+}
