@@ -1,1 +1,2 @@
-mod PathLists
+mod Counts
+mod Done

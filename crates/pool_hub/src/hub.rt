@@ -20,8 +20,8 @@ ghost use Rattle.pool_machine.specs.Tasks.{IsLawfulTask, IsSearchState};
 ghost use Rattle.pool_core.specs.Views.{IsPublishedAt, design_of};
 ghost use Rattle.pool_core.specs.Foretold.{IfPublished, IfRefused};
 ghost use Rattle.pool_hub.specs.States.{HasState, HasStep};
-ghost use Rattle.pool_hub.specs.Standings.{standing_of};
-ghost use Rattle.pool_hub.specs.Shown.{HasFirst, HasEntry};
+ghost use Rattle.pool_desk.specs.Standings.{standing_of};
+ghost use Rattle.pool_desk.specs.Shown.{HasFirst, HasEntry};
 ghost use Rattle.plan_io.specs.declared.gate.TheConstants.{MAX_WORKERS};
 
 use crate::kept::Kept;
@@ -36,6 +36,7 @@ use pool_core::{
     Better, Closing, ExamineFault, Examined, Gather, Offer, Offered, Opened, Pool, Publish,
     RoundFault, Settle, Task,
 };
+use pool_desk::Desk;
 use std::alloc::{AllocError, Global};
 use std::sync::ledger::{Blank, Share};
 use std::sync::{Arc, Mutex, Wait};
@@ -162,8 +163,7 @@ impl<N: Naming, R: Wait + Drop> Hub<N, R> {
         let (offers, all) = blank.open::<N>();
         let (seats, problem, table) = seats_beside(alloc, &pool, all, workers, readers)?;
         let kept = Kept {
-            pool,
-            board: writer,
+            desk: Desk::new(pool, writer),
             offers,
         };
         Ok((Hub::of(kept, problem, table), seats))
@@ -186,7 +186,7 @@ impl<N: Naming, R: Wait + Drop> Hub<N, R> {
         ensures answer { HasState N.problem N.budget (λ s. IsLawfulTask s result) }
         ensures seat { seat.new ≡ seat.old }
     {
-        self.kept.lock(rt).task(seat.number)
+        self.kept.lock(rt).desk.task(seat.number)
     }
 
     /// What may be done next, and how far the search is then.
@@ -195,8 +195,8 @@ impl<N: Naming, R: Wait + Drop> Hub<N, R> {
         ensures seat { seat.new ≡ seat.old }
     {
         let mut kept = self.kept.lock(rt);
-        let standing = kept.standing();
-        (kept.task(seat.number), standing)
+        let standing = kept.desk.standing();
+        (kept.desk.task(seat.number), standing)
     }
 
     /// A copy of what is published of the slot.
@@ -212,7 +212,7 @@ impl<N: Naming, R: Wait + Drop> Hub<N, R> {
         ensures seat { seat.new ≡ seat.old }
     {
         let _seat = seat;
-        self.kept.lock(rt).prices(slot)
+        self.kept.lock(rt).desk.prices(slot)
     }
 
     /// A copy of the best design so far.
@@ -227,7 +227,7 @@ impl<N: Naming, R: Wait + Drop> Hub<N, R> {
         ensures seat { seat.new ≡ seat.old }
     {
         let _seat = seat;
-        self.kept.lock(rt).best_design()
+        self.kept.lock(rt).desk.best_design()
     }
 
     /// What is forbidden at an open leaf, shared.
@@ -244,13 +244,14 @@ impl<N: Naming, R: Wait + Drop> Hub<N, R> {
         ensures seat { seat.new ≡ seat.old }
     {
         let _seat = seat;
-        self.kept.lock(rt).ground(node)
+        self.kept.lock(rt).desk.ground(node)
     }
 
     /// Gives a node a round, as `Pool::open_round` says, with its prices on the board. The seat sees them there from then
     /// on, or later ones.
     ///
     /// - Errors: want of memory alone. Then nothing changed.
+    #[tactic(auto, using(crate::proofs::Counts::open_counts))]
     pub fn open<W: Wait>(
         &self,
         rt: &W,
@@ -264,7 +265,7 @@ impl<N: Naming, R: Wait + Drop> Hub<N, R> {
         ensures unchanged { OnErr result (seat.new.reader ≡ seat.old.reader) }
         ensures seat { (seat.new.number ≡ seat.old.number) × (seat.new.share ≡ seat.old.share) }
     {
-        self.kept.lock(rt).open(rt, node, &mut seat.reader)
+        self.kept.lock(rt).desk.open(rt, node, &mut seat.reader)
     }
 
     /// Takes what a demand has found, as `Pool::offer` says, and books it in the seat's share where it is accepted.
@@ -292,13 +293,14 @@ impl<N: Naming, R: Wait + Drop> Hub<N, R> {
         ensures seat { seat.new ≡ seat.old }
     {
         let _seat = seat;
-        self.kept.lock(rt).gather(node, version)
+        self.kept.lock(rt).desk.gather(node, version)
     }
 
     /// Gives the round of a node further prices, as `Pool::publish` says, and shows them on the board. The seat sees them
     /// there from then on, or later ones.
     ///
     /// - Errors: want of memory alone. Then nothing changed.
+    #[tactic(auto, using(crate::proofs::Counts::publish_counts))]
     pub fn publish<W: Wait>(
         &self,
         rt: &W,
@@ -316,6 +318,7 @@ impl<N: Naming, R: Wait + Drop> Hub<N, R> {
     {
         self.kept
             .lock(rt)
+            .desk
             .publish(rt, node, seen, prices, &mut seat.reader)
     }
 
@@ -331,7 +334,7 @@ impl<N: Naming, R: Wait + Drop> Hub<N, R> {
         ensures seat { seat.new ≡ seat.old }
     {
         let _seat = seat;
-        self.kept.lock(rt).settle(node, version)
+        self.kept.lock(rt).desk.settle(node, version)
     }
 
     /// Closes a leaf, as `Pool::close_by_bound` says. Takes no memory.
@@ -340,7 +343,7 @@ impl<N: Naming, R: Wait + Drop> Hub<N, R> {
         ensures seat { seat.new ≡ seat.old }
     {
         let _seat = seat;
-        self.kept.lock(rt).close(node)
+        self.kept.lock(rt).desk.close(node)
     }
 
     /// Closes or divides a leaf, as `Pool::examine` says.
@@ -354,7 +357,7 @@ impl<N: Naming, R: Wait + Drop> Hub<N, R> {
         ensures seat { seat.new ≡ seat.old }
     {
         let _seat = seat;
-        self.kept.lock(rt).examine(node)
+        self.kept.lock(rt).desk.examine(node)
     }
 
     /// Takes a cheaper design, as `Pool::better` says. Takes no memory.
@@ -368,7 +371,7 @@ impl<N: Naming, R: Wait + Drop> Hub<N, R> {
         ensures seat { seat.new ≡ seat.old }
     {
         let _seat = seat;
-        self.kept.lock(rt).better(design)
+        self.kept.lock(rt).desk.better(design)
     }
 
     /// The pool: a sound state of this search, which has accepted what all seats have booked. The board has ended. Takes no

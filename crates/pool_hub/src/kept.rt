@@ -1,281 +1,49 @@
 //! What lies under the lock.
 
-ghost use Rattle.std.specs.Prelude.{◌≡◌, ◌+◌, ◌<◌, ◌↔◌, ◌∷◌, true, [], length, IfOk, OnOk, OnErr, IfSome, IsSome, slice_get};
-ghost use Rattle.std.specs.Arc.{arc_value};
-ghost use Rattle.plan_base.specs.Places.{places};
-ghost use Rattle.arc_restrict.specs.Rows.{forbids};
-ghost use Rattle.dual_versions.specs.Boards.{Begins};
-ghost use Rattle.pool_machine.specs.declared.limits.TheConstants.{MAX_ROUNDS};
-ghost use Rattle.pool_machine.specs.declared.task.Task.{Task};
-ghost use Rattle.pool_machine.specs.State.{state_of, restriction_of};
-ghost use Rattle.pool_machine.specs.Changes.{is_open_state};
-ghost use Rattle.pool_machine.specs.Opening.{OpenStep};
+ghost use Rattle.std.specs.Prelude.{◌≡◌, ◌+◌, ◌<◌};
 ghost use Rattle.pool_machine.specs.Offering.{OfferStep, accepted_by};
-ghost use Rattle.pool_machine.specs.Gathering.{GatherStep};
-ghost use Rattle.pool_machine.specs.Publishing.{PublishStep};
-ghost use Rattle.pool_machine.specs.Settling.{SettleStep};
-ghost use Rattle.pool_machine.specs.Closing.{CloseStep};
-ghost use Rattle.pool_machine.specs.Examining.{ExamineStep};
-ghost use Rattle.pool_machine.specs.Bettering.{BetterStep};
-ghost use Rattle.pool_machine.specs.PlanOf.{is_done};
-ghost use Rattle.pool_machine.specs.Tasks.{IsLawfulTask, IsSearchState};
-ghost use Rattle.pool_core.specs.Views.{IsPublishedAt, design_of};
-ghost use Rattle.pool_core.specs.Foretold.{IfPublished, IfRefused};
-ghost use Rattle.pool_hub.specs.Shown.{entry_for, with_entry, ShowsFirst, HasFirst, HasEntry};
+ghost use Rattle.pool_machine.specs.Tasks.{IsSearchState};
 
 use crate::naming::Naming;
-use arc_restrict::Restriction;
-use dual_versions::{BoardReader, BoardWriter, Published};
-use plan_base::{BranchId, Design, DesignFault, Prices};
-use pool_core::{
-    Better, Closing, ExamineFault, Examined, Gather, Offer, Offered, Opened, Pool, Publish,
-    RoundFault, Settle, Task,
-};
-use std::alloc::AllocError;
+use pool_core::{Offer, Offered, Pool};
+use pool_desk::Desk;
+use std::sync::Wait;
 use std::sync::ledger::{Book, Share};
-use std::sync::{Arc, Wait};
 
-/// A pool of the search that the type names, the writer of a board whose entries fit it and on which nothing is pending,
-/// and the book of all paths that the pool accepted.
-///
-/// Each call is one event of the pool, or none where it only tells something. The board is written by `open` and
-/// `publish` alone.
+/// A desk of the search that the type names, and the book of all paths that its pool accepted.
 #[derive(Drop)]
 pub struct Kept<N: Naming, R: Wait + Drop> {
-    pub(crate) pool: Pool,
-    pub(crate) board: BoardWriter<R>,
+    pub(crate) desk: Desk<N, R>,
     pub(crate) offers: Book<N>,
-    ghost counted: { pool.accepted ≡ offers.total },
-    ghost problem_is: { pool.problem ≡ N.problem },
-    ghost budget_is: { pool.budget ≡ N.budget },
-    ghost slots: { board.slots ≡ MAX_ROUNDS },
-    ghost prices: { board.prices ≡ places N.problem },
-    ghost none_pending: { board.pending ≡ [] },
-}
-
-/// Makes the entry of a version of a node pending on a board on which nothing else is, and gives a copy of it.
-fn put_entry<R: Wait + Drop>(
-    board: &mut BoardWriter<R>,
-    slot: u32,
-    node: BranchId,
-    version: u64,
-    prices: &Prices,
-) -> Result<Published, AllocError>
-    requires slot { slot < board.old.slots }
-    requires prices { length prices.now ≡ board.old.prices }
-    requires none_pending { board.old.pending ≡ [] }
-    ensures entry { IfOk result (λ shown. shown ≡ entry_for node version prices.now) }
-    ensures pending { OnOk result (board.new ≡ record board.old { pending = (slot, entry_for node version prices.now) ∷ [] }) }
-    ensures kept { OnErr result (board.new ≡ board.old) }
-{
-    let shown = Published {
-        node,
-        version,
-        prices: prices.copy()?,
-    };
-    board.put(slot, shown.copy()?)?;
-    Ok(shown)
+    ghost counted: { desk.pool.accepted ≡ offers.total },
 }
 
 impl<N: Naming, R: Wait + Drop> Kept<N, R> {
-    /// Whoever looks knows that the pool's state is one of the search.
-    fn look(&self)
-        ensures { IsSearchState N.problem N.budget self.now.pool }
-    {
-        let _inst = self.pool.instance();
-    }
-
-    /// What may be done next.
-    pub fn task(&mut self, worker: u32) -> Task
-        ensures search { IsSearchState N.problem N.budget self.old.pool }
-        ensures unchanged { (self.new.pool ≡ self.old.pool) × (self.new.board ≡ self.old.board) }
-        ensures lawful { IsLawfulTask self.old.pool result }
-        ensures done { (result ≡ Task.Done) ↔ (is_done self.old.pool ≡ true) }
-    {
-        self.look();
-        self.pool.next_task(worker)
-    }
-
-    /// A copy of what is published of the slot.
-    pub fn prices(&self, slot: u32) -> Result<Option<Published>, AllocError>
-        ensures search { IsSearchState N.problem N.budget self.now.pool }
-        ensures published { IfOk result (IsPublishedAt self.now.pool slot) }
-    {
-        self.look();
-        self.pool.prices(slot)
-    }
-
-    /// A copy of the best design so far; None exactly where there is none.
-    pub fn best_design(&self) -> Result<Option<Design>, AllocError>
-        ensures search { IsSearchState N.problem N.budget self.now.pool }
-        ensures design { IfOk result (λ found. found ≡ design_of self.now.pool) }
-    {
-        self.look();
-        self.pool.best_design()
-    }
-
-    /// What is forbidden at an open leaf, shared; None exactly where the node is none.
-    pub fn ground(&self, node: BranchId) -> Result<Option<Arc<Restriction>>, AllocError>
-        ensures search { IsSearchState N.problem N.budget self.now.pool }
-        ensures leaf { IfOk result (λ found. IsSome found ↔ (is_open_state (state_of self.now.pool node) ≡ true)) }
-        ensures value { IfOk result (λ found. IfSome found (λ rows. IfSome (slice_get self.now.pool.nodes node.0)
-            (λ x. forbids (arc_value rows) ≡ restriction_of x))) }
-    {
-        self.look();
-        match self.pool.restriction(node) {
-            Some(rows) => Ok(Some(rows.clone()?)),
-            None => Ok(None),
-        }
-    }
-
-    /// An opening, which shows the node's first prices on the board. The reader then sees them there.
-    ///
-    /// - Errors: want of memory alone. Then nothing changed.
-    pub fn open<W: Wait>(
-        &mut self,
-        rt: &W,
-        node: BranchId,
-        reader: &mut BoardReader,
-    ) -> Result<Result<Opened, RoundFault>, AllocError>
-        ensures search { IsSearchState N.problem N.budget self.old.pool }
-        ensures event { IfOk result (λ answer. OpenStep self.old.pool node answer self.new.pool) }
-        ensures shows { IfOk result (λ answer. IfOk answer (λ opened. ShowsFirst self.old.pool node self.old.board opened self.new.board)) }
-        ensures refused { IfOk result (λ answer. OnErr answer ((self.new.board ≡ self.old.board) × (reader.new ≡ reader.old))) }
-        ensures unchanged { OnErr result ((self.new.pool ≡ self.old.pool) × (self.new.board ≡ self.old.board) × (reader.new ≡ reader.old)) }
-        ensures later { Begins reader.old reader.new }
-        ensures seen { IfOk result (λ answer. IfOk answer (HasFirst self.old.pool node reader.new)) }
-    {
-        self.look();
-        let opened = match self.pool.open_answer(node) {
-            Ok(opened) => opened,
-            Err(fault) => return Ok(Err(fault)),
-        };
-        let Some(prices) = self.pool.first_prices(node) else {
-            unreachable!()
-        };
-        let shown = put_entry(&mut self.board, opened.slot, node, opened.version, prices)?;
-        let answer = self.pool.open_round(node);
-        self.board.show();
-        reader.reach(rt, opened.slot, &shown);
-        Ok(answer)
-    }
-
     /// An offer, which is booked in the share where it is accepted.
     pub fn offer(&mut self, offer: Offer, mine: &mut Share<N>) -> Offered
         requires part { 0 < mine.old.parts }
-        ensures search { IsSearchState N.problem N.budget self.old.pool }
-        ensures event { OfferStep self.old.pool offer result self.new.pool }
-        ensures board { self.new.board ≡ self.old.board }
+        ensures search { IsSearchState N.problem N.budget self.old.desk.pool }
+        ensures event { OfferStep self.old.desk.pool offer result self.new.desk.pool }
+        ensures board { self.new.desk.board ≡ self.old.desk.board }
         ensures booked { mine.new.amount ≡ mine.old.amount + accepted_by result }
         ensures parts { mine.new.parts ≡ mine.old.parts }
     {
-        self.look();
-        let answer = self.pool.offer(offer);
+        let answer = self.desk.offer(offer);
         if let Offered::Accepted { left: _left } = answer {
             self.offers.add(mine, 1);
         }
         answer
     }
 
-    /// A gathering.
-    pub fn gather(&mut self, node: BranchId, version: u64) -> Result<Gather, AllocError>
-        ensures search { IsSearchState N.problem N.budget self.old.pool }
-        ensures event { GatherStep self.old.pool node version result self.new.pool }
-        ensures board { self.new.board ≡ self.old.board }
-    {
-        self.look();
-        self.pool.gather(node, version)
-    }
-
-    /// A publishing, which shows the prices on the board. The reader then sees them there.
-    ///
-    /// - Errors: want of memory alone. Then nothing changed.
-    pub fn publish<W: Wait>(
-        &mut self,
-        rt: &W,
-        node: BranchId,
-        seen: u64,
-        prices: &Prices,
-        reader: &mut BoardReader,
-    ) -> Result<Publish, AllocError>
-        ensures search { IsSearchState N.problem N.budget self.old.pool }
-        ensures event { IfOk result (λ answer. PublishStep self.old.pool node seen prices.now answer self.new.pool) }
-        ensures shows { IfOk result (λ answer. IfPublished answer (λ slot version. self.new.board ≡ with_entry self.old.board slot (entry_for node version prices.now))) }
-        ensures refused { IfOk result (λ answer. IfRefused answer ((self.new.board ≡ self.old.board) × (reader.new ≡ reader.old))) }
-        ensures unchanged { OnErr result ((self.new.pool ≡ self.old.pool) × (self.new.board ≡ self.old.board) × (reader.new ≡ reader.old)) }
-        ensures later { Begins reader.old reader.new }
-        ensures seen { IfOk result (λ answer. IfPublished answer (HasEntry reader.new node prices.now)) }
-    {
-        self.look();
-        let next = match self.pool.following(node, seen, prices) {
-            Ok(next) => next,
-            Err(refusal) => return Ok(refusal),
-        };
-        let shown = put_entry(&mut self.board, next.slot, node, next.version, prices)?;
-        self.pool.publish_following(node, seen, prices, next);
-        self.board.show();
-        reader.reach(rt, next.slot, &shown);
-        Ok(Publish::Published {
-            slot: next.slot,
-            version: next.version,
-        })
-    }
-
-    /// A settling.
-    pub fn settle(&mut self, node: BranchId, version: u64) -> Settle
-        ensures search { IsSearchState N.problem N.budget self.old.pool }
-        ensures event { SettleStep self.old.pool node version result self.new.pool }
-        ensures board { self.new.board ≡ self.old.board }
-    {
-        self.look();
-        self.pool.settle(node, version)
-    }
-
-    /// A closing.
-    pub fn close(&mut self, node: BranchId) -> Closing
-        ensures search { IsSearchState N.problem N.budget self.old.pool }
-        ensures event { CloseStep self.old.pool node result self.new.pool }
-        ensures board { self.new.board ≡ self.old.board }
-    {
-        self.look();
-        self.pool.close_by_bound(node)
-    }
-
-    /// An examination.
-    pub fn examine(&mut self, node: BranchId) -> Result<Examined, ExamineFault>
-        ensures search { IsSearchState N.problem N.budget self.old.pool }
-        ensures event { ExamineStep self.old.pool node result self.new.pool }
-        ensures board { self.new.board ≡ self.old.board }
-    {
-        self.look();
-        self.pool.examine(node)
-    }
-
-    /// A design that may be better.
-    pub fn better(&mut self, design: Design) -> Result<Better, DesignFault>
-        ensures search { IsSearchState N.problem N.budget self.old.pool }
-        ensures event { BetterStep self.old.pool design result self.new.pool }
-        ensures board { self.new.board ≡ self.old.board }
-    {
-        self.look();
-        self.pool.better(design)
-    }
-
     /// The pool, which has accepted what the whole share says. The board has ended.
     pub fn end(self, mut all: Share<N>) -> Pool
         requires whole { all.parts ≡ N.parts }
-        ensures pool { result ≡ self.pool }
+        ensures pool { result ≡ self.desk.pool }
         ensures accepted { result.accepted ≡ all.amount }
         ensures search { IsSearchState N.problem N.budget result }
     {
-        self.look();
-        let Kept {
-            pool,
-            board,
-            mut offers,
-        } = self;
+        let Kept { desk, mut offers } = self;
         offers.audit(&mut all);
-        board.end();
-        pool
+        desk.end()
     }
 }

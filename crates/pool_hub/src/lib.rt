@@ -4,20 +4,17 @@
 //! the lock is free the pool is in a sound state of the search that the hub's type names, in which each answer was given;
 //! and that the pool of an ended hub has accepted just what all seats have booked. Of a worker that ends, and not for want
 //! of memory, it says that some state of that search has nothing left to do, which is no fact about this hub's pool. Begin
-//! at `Hub`, what lies under its lock is `Kept`. Stands on `pool_core` for what a call does, and on `leaf_work` for what a
-//! task computes, which no lock covers. That workers run at the same time, and that a wait ends, no contract says.
+//! at `Hub`, what lies under its lock is `Kept`. Stands on `pool_desk` for what a call does, and on `pool_work` for what a
+//! worker does, which no lock covers. That workers run at the same time, and that a wait ends, no contract says.
 #![tactic(auto)]
 
-mod bench;
-mod ground;
 mod hub;
 mod kept;
 mod naming;
+mod office;
 mod running;
 mod seat;
 mod shared;
-mod standing;
-mod told;
 mod working;
 
 pub use hub::Hub;
