@@ -1,0 +1,5 @@
+mod Callers
+pub mod Answering
+mod Ending
+mod WorkedCalls
+mod LedTo

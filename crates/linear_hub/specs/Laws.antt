@@ -1,0 +1,29 @@
+-- What calls make of a seat, one row of calls behind the other.
+use Rattle.std.proofs.Common.{◌≡◌, List, [], ◌∷◌, ◌++◌, refl, sym, ap, ◌∙◌, append_assoc, append-nil}
+use Rattle.atomic_table.specs.Seated.{TableId}
+use Rattle.one_history.specs.declared.view.Entry.{Entry}
+use Rattle.one_history.specs.declared.view.View.{View}
+use Rattle.linear_hub.specs.Calls.{Call}
+use Rattle.linear_hub.specs.Works.{HaveNoPricing, HasWorked}
+
+both : (xs ys : List (Entry Call)) → HaveNoPricing xs → HaveNoPricing ys → HaveNoPricing (xs ++ ys)
+both [] ys p q = q
+both (x ∷ xs) ys p q = (p.0, both xs ys p.1 q)
+
+pub worked_same : (v : View Call) → HasWorked v v
+worked_same v = record { added = []; mine = sym (append-nil v.mine); no_pricing = tt; role = refl }
+
+pub worked_more : (u v w : View Call) → HasWorked u v → HasWorked v w → HasWorked u w
+worked_more u v w p q = record {
+  added = p.added ++ q.added;
+  mine = q.mine ∙ ap (λ l. l ++ q.added) p.mine ∙ append_assoc u.mine p.added q.added;
+  no_pricing = both p.added q.added p.no_pricing q.no_pricing;
+  role = q.role ∙ p.role;
+}
+
+-- the seat stays of its table
+pub seat_same : (v : View Call) (t : TableId) → (t ≡ t) × HasWorked v v
+seat_same v t = (refl, worked_same v)
+
+pub seat_more : (u v w : View Call) (r s t : TableId) → (s ≡ r) × HasWorked u v → (t ≡ s) × HasWorked v w → (t ≡ r) × HasWorked u w
+seat_more u v w r s t p q = (q.0 ∙ p.0, worked_more u v w p.1 q.1)

@@ -1,0 +1,5 @@
+pub mod Calls
+pub mod Histories
+pub mod Seats
+pub mod Works
+pub mod Laws

@@ -1,0 +1,32 @@
+//! A worker at a hub whose calls stand in one history.
+
+ghost use Rattle.std.specs.Prelude.{◌≡◌, OnOk};
+ghost use Rattle.one_history.specs.Passes.{view_of};
+ghost use Rattle.linear_hub.specs.Works.{HasWorked, HasEndedWell};
+
+use crate::hub::{LinearHub, LinearSeat};
+use crate::naming::Naming;
+use plan_io::Gate;
+use pool_work::work;
+use std::alloc::{AllocError, Global};
+use std::sync::Wait;
+
+/// Does tasks until none is left, or the seat may make no further call. Other seats' versions are priced by what the board
+/// shows alone: a task whose version the seat does not see there is dropped.
+///
+/// - Takes: a hub, a seat of it, and a gate, which is passed between the taking of a task and its work.
+/// - Errors: want of memory alone. Then the seat is as the calls made so far left it.
+pub fn work_linear<N: Naming, R: Wait + Drop, T: Wait, G: Gate>(
+    rt: &T,
+    alloc: Global,
+    hub: &LinearHub<N, R>,
+    seat: &mut LinearSeat<N, R>,
+    gate: &G,
+) -> Result<(), AllocError>
+    requires hub { seat.old.pass.table_id ≡ hub.now.turns.table.shared.table_id }
+    ensures hub { seat.new.pass.table_id ≡ seat.old.pass.table_id }
+    ensures worked { HasWorked (view_of seat.old.pass) (view_of seat.new.pass) }
+    ensures done { OnOk result (HasEndedWell seat.new.calls (view_of seat.new.pass)) }
+{
+    work::<N, LinearHub<N, R>, T, G>(rt, alloc, hub, seat, gate)
+}
