@@ -4,7 +4,7 @@
 //! that the words give, so that what it claims is so; that exactly the valid plans are accepted; that each
 //! other answer has its cause; and that the sink holds exactly the text of the answer. Begin at `run`, whose
 //! words are in `specs/Runs.antt`. Stands on `command_words`, which reads the words, on `plan_texts`, which reads,
-//! refuses and verifies texts, and on the pool; how the search goes is left to `pool_core` and `pool_hub`.
+//! refuses and verifies texts, and on the pool; how the search goes is left to `pool_core` and `linear_hub`.
 #![tactic(auto)]
 
 mod commands;

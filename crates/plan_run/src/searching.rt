@@ -76,6 +76,6 @@ pub fn search<R: Threads + Wait + Sync, G: Gate>(
     ensures fits { IfOk result IsSpellable }
 {
     let opened = Pool::new(alloc, inst, table, budget)?;
-    let pool = pool_hub::search(rt, alloc, opened, workers, gate)?;
+    let pool = linear_hub::search(rt, alloc, opened, workers, gate)?;
     finished_plan(pool)
 }

@@ -9,6 +9,6 @@ returns-clause-searched g c =
     let opened = c.in_ok-opened.opened in
     let worked = c.in_ok-pool.pool in
     searched-for p worked.problem c.args.budget worked.budget c.finished_plan.result
-    (c.in_ok-pool.ensures.problem ∙ opening-problem p c.args.budget opened c.in_ok-opened.ensures.opening)
-    (c.in_ok-pool.ensures.budget_is ∙ opening-budget p c.args.budget opened c.in_ok-opened.ensures.opening)
+    (c.in_ok-pool.ensures.search.problem ∙ opening-problem p c.args.budget opened c.in_ok-opened.ensures.opening)
+    (c.in_ok-pool.ensures.search.budget_is ∙ opening-budget p c.args.budget opened c.in_ok-opened.ensures.opening)
     c.finished_plan.ensures.searched
