@@ -1,5 +1,5 @@
 -- The picture of a valid plan.
-use Rattle.std.specs.Prelude.{ℕ, zero, suc, ◌≡◌, ◌<◌, List, [], ◌++◌, length, codes, drop, slice_index, slice_index_or, flat_map, Bool, false, ◌||◌, ◌==◌, if◌then◌else◌, Option, Some, None, IfSome}
+use Rattle.std.specs.Prelude.{ℕ, zero, suc, ◌≡◌, ◌<◌, List, [], ◌∷◌, ◌++◌, length, codes, drop, nat_eq, slice_index, flat_map, Bool, false, ◌||◌, ◌==◌, if◌then◌else◌, Option, Some, None, IfSome}
 use Rattle.std.specs.List.{range_with_len}
 use Rattle.plan_base.specs.declared.limits.TheConstants.{MAX_PLACES}
 use Rattle.plan_base.specs.declared.parts.Orient.{Orient}
@@ -7,9 +7,10 @@ use Rattle.plan_base.specs.declared.parts.Orient.TheVariants.{Directed, Undirect
 use Rattle.plan_base.specs.declared.parts.Parts.{Parts}
 use Rattle.plan_base.specs.declared.path.Design.{Design}
 use Rattle.plan_base.specs.Arcs.{demand_at}
-use Rattle.plan_base.specs.Designs.{load_at}
+use Rattle.plan_base.specs.Designs.{path_at, load_at}
 use Rattle.snd_network.specs.declared.file.NetworkFile.{NetworkFile}
 use Rattle.proof_tree.specs.declared.plan.Plan.{Plan}
+use Rattle.plan_report.specs.Lines.{numbers}
 use Rattle.plan_report.specs.Reports.{node_name, link_name, demand_name, trial_line}
 use Rattle.mark_places.specs.declared.looks.Spot.{Spot}
 use Rattle.mark_places.specs.declared.looks.Looks.{Looks}
@@ -101,14 +102,28 @@ abbrev pub path_words : Option (ℕ × Design) → List ℕ
 path_words None = codes "no path of "
 path_words (Some design) = codes "the path of "
 
--- what is told of the demand of this name
-unfoldable pub path_text : Option (ℕ × Design) → List ℕ → List ℕ
-path_text design name = codes "<text class='legend' x='60' y='820'>" ++ path_words design ++ escaped name ++ codes "</text>\n"
+-- what stands between the number of a path's links and the limit
+abbrev pub link_words : ℕ → List ℕ
+link_words arcs = if nat_eq arcs 1 then codes " link of at most" else codes " links of at most"
+
+-- how many links a path has, and how many it may have, where there is a limit
+unfoldable pub limit_text : Option ℕ → ℕ → List ℕ
+limit_text None arcs = []
+limit_text (Some limit) arcs = codes ":" ++ numbers (arcs ∷ []) ++ link_words arcs ++ numbers (limit ∷ [])
+
+-- how many links the path of the demand of this number has, and how many it may have, where it has a path and a limit
+unfoldable pub count_text : Parts → Option (ℕ × Design) → ℕ → List ℕ
+count_text p None k = []
+count_text p (Some design) k = limit_text (demand_at p k).hops (length (path_at design.1 k))
+
+-- what is told of the demand of this name and this number
+unfoldable pub path_text : Parts → Option (ℕ × Design) → List ℕ → ℕ → List ℕ
+path_text p design name k = codes "<text class='legend' x='60' y='820'>" ++ path_words design ++ escaped name ++ count_text p design k ++ codes "</text>\n"
 
 -- what is told of the demand that is to be lit
-abbrev pub lit_text : NetworkFile → Option (ℕ × Design) → Option ℕ → List ℕ
-lit_text net design None = []
-lit_text net design (Some k) = path_text design (demand_name net k)
+abbrev pub lit_text : NetworkFile → Parts → Option (ℕ × Design) → Option ℕ → List ℕ
+lit_text net p design None = []
+lit_text net p design (Some k) = path_text p design (demand_name net k) k
 
 -- the sizes of the instance and what the plan claims: the line of a trial without its first word
 unfoldable pub claim_text : Parts → Plan → List ℕ
@@ -126,7 +141,7 @@ body_text net p plan lit looks =
     ++ link_labels net looks (length p.links)
     ++ all_figures p plan.design lit looks (length p.links)
     ++ node_marks net p lit looks p.nodes
-    ++ lit_text net plan.design lit ++ claim_text p plan ++ keys
+    ++ lit_text net p plan.design lit ++ claim_text p plan ++ keys
 
 -- a picture of the plan: each node and each link has its mark and its name, wherever they stand and however wide they are; figures are those of their links
 pub record IsPicture (net : NetworkFile) (p : Parts) (plan : Plan) (lit : Option ℕ) (bytes : List ℕ) : Type 0 where

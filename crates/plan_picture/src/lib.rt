@@ -7,6 +7,7 @@
 #![tactic(auto)]
 
 mod coordinates;
+mod lit;
 mod names;
 mod picture;
 mod sites;

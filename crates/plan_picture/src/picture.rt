@@ -4,13 +4,14 @@ ghost use Rattle.std.specs.Prelude.{◌≡◌, ◌<◌, ◌++◌, length, option
 ghost use Rattle.proof_tree.specs.Plans.{IsValidPlan};
 ghost use Rattle.plan_report.specs.Reports.{IsReadFrom, HasNames};
 ghost use Rattle.mark_places.specs.Places.{HasLooks};
-ghost use Rattle.plan_picture.specs.Pictures.{HasLoads, ends_at, is_end, node_mark, node_marks, link_mark, link_marks, link_label, link_labels, figures_at, link_figures, all_figures, encoding, head, group, path_words, path_text, lit_text, claim_text, body_text, IsPicture};
+ghost use Rattle.plan_picture.specs.Pictures.{HasLoads, ends_at, is_end, node_mark, node_marks, link_mark, link_marks, link_label, link_labels, figures_at, link_figures, all_figures, encoding, head, group, claim_text, body_text, IsPicture};
 
+use crate::lit::push_lit;
 use crate::names::are_utf8;
 use crate::sites::looks_of_plan;
 use crate::traffic::{loads_of_plan, traffic_of};
 use mark_places::{Looks, Spot};
-use picture_marks::{push_escaped, push_figures, push_label, push_link, push_node};
+use picture_marks::{push_figures, push_label, push_link, push_node};
 use plan_base::limits::MAX_PLACES;
 use plan_base::{DemandId, Instance, LinkId, Orient};
 use plan_report::trial_line;
@@ -324,46 +325,6 @@ fn push_all_figures(
     Ok(())
 }
 
-/// What stands before the name of the demand that is to be lit: whether the plan has a path of it.
-fn path_words(plan: &Plan) -> &'static [u8]
-    ensures { result.now ≡ path_words plan.now.design }
-{
-    match plan.design {
-        None => b"no path of ",
-        Some(_) => b"the path of ",
-    }
-}
-
-/// Writes whose path is lit, or that the plan has none.
-fn push_path_name(text: &mut Vec<u8>, plan: &Plan, name: &[u8]) -> Result<(), AllocError>
-    ensures { OnOk result (text.new.items ≡ text.old.items ++ path_text plan.now.design name.now) }
-{
-    text.extend_from_slice(b"<text class='legend' x='60' y='820'>")?;
-    text.extend_from_slice(path_words(plan))?;
-    push_escaped(text, name)?;
-    text.extend_from_slice(b"</text>\n")?;
-    Ok(())
-}
-
-/// Writes what is told of the demand that is to be lit.
-fn push_lit(
-    text: &mut Vec<u8>,
-    net: &NetworkFile,
-    plan: &Plan,
-    lit: Option<DemandId>,
-) -> Result<(), AllocError>
-    requires { IfSome lit (λ k. k.0 < length net.now.demands) }
-    ensures { OnOk result (text.new.items ≡ text.old.items ++ lit_text net.now plan.now.design (option_map (λ k. k.0) lit)) }
-{
-    match lit {
-        None => Ok(()),
-        Some(demand) => {
-            let record = &net.demands.as_slice()[demand.0 as usize];
-            push_path_name(text, plan, record.name.as_slice())
-        }
-    }
-}
-
 /// Writes the claim of a plan: its line without its first word.
 #[tactic(auto, using(crate::proofs::Claims::long_line))]
 fn push_claim(
@@ -405,7 +366,7 @@ fn push_body(
     push_link_labels(text, net, looks)?;
     push_all_figures(alloc, text, inst, plan, lit, looks, &loads)?;
     push_nodes(text, net, inst, lit, looks)?;
-    push_lit(text, net, plan, lit)?;
+    push_lit(text, net, inst, plan, lit)?;
     push_claim(alloc, text, inst, plan)?;
     text.extend_from_slice(KEYS)?;
     Ok(())
