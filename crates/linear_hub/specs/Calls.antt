@@ -77,16 +77,19 @@ Moves old (Pricing slot (Err wanting)) new = new ≡ old
 Moves old (Learning (Ok found)) new = (found ≡ design_of old) × (new ≡ old)
 Moves old (Learning (Err wanting)) new = new ≡ old
 
--- what stands for a state, an offer, a design and a call that none has picked
+-- what stands for a state that none has picked
 abbrev pub no_state : State
 no_state = record { problem = no_problem; nodes = []; columns = no_columns no_problem; incumbent = None; examined = 0; budget = 0; next_version = 0; accepted = 0 }
 
+-- what stands for an offer that none has picked
 abbrev pub no_offer : Offer
 no_offer = record { node = record { 0 = 0 }; version = 0; demand = record { 0 = 0 }; found = priced.NoPath [] }
 
+-- what stands for a design that none has picked
 abbrev pub no_design : Design
 no_design = record { paths = []; counts = [] }
 
+-- what stands for a call that none has picked
 abbrev pub no_call : Call
 no_call = Tasking task.Done
 

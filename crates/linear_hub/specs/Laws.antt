@@ -10,9 +10,11 @@ both : (xs ys : List (Entry Call)) → HaveNoPricing xs → HaveNoPricing ys →
 both [] ys p q = q
 both (x ∷ xs) ys p q = (p.0, both xs ys p.1 q)
 
+-- where no call is made, a seat's calls grew by none
 pub worked_same : (v : View Call) → HasWorked v v
 worked_same v = record { added = []; mine = sym (append-nil v.mine); no_pricing = tt; role = refl }
 
+-- what grew twice grew by both, one behind the other
 pub worked_more : (u v w : View Call) → HasWorked u v → HasWorked v w → HasWorked u w
 worked_more u v w p q = record {
   added = p.added ++ q.added;
@@ -25,5 +27,6 @@ worked_more u v w p q = record {
 pub seat_same : (v : View Call) (t : TableId) → (t ≡ t) × HasWorked v v
 seat_same v t = (refl, worked_same v)
 
+-- the same behind calls that follow others
 pub seat_more : (u v w : View Call) (r s t : TableId) → (s ≡ r) × HasWorked u v → (t ≡ s) × HasWorked v w → (t ≡ r) × HasWorked u w
 seat_more u v w r s t p q = (q.0 ∙ p.0, worked_more u v w p.1 q.1)
