@@ -1,5 +1,5 @@
 -- What a design and a completion say of their paths.
-use Rattle.std.proofs.Common.{ℕ, ◌≡◌, List, [], length, slice_index_or, sym, subst}
+use Rattle.std.proofs.Common.{ℕ, List, [], length, slice_index_or, sym, subst}
 use Rattle.plan_base.specs.declared.ids.ArcId.{ArcId}
 use Rattle.plan_base.specs.declared.parts.Parts.{Parts}
 use Rattle.plan_base.specs.declared.path.Design.{Design}

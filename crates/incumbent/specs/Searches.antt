@@ -1,12 +1,12 @@
--- How many searches there are, when they are due, and what they leave. Of another crate only `Guide::new` cites it.
-use Rattle.std.specs.Prelude.{ℕ, ◌≡◌, ◌<◌, ◌≤◌, ◌+◌, ◌-◌, ◌*◌, ◌/◌, ◌^◌, ◌==◌, max, min, length, slice_get, Option, None, IfSome, IsSomeAnd, if◌then◌else◌}
+-- How many searches there are, when they are due, and what they leave.
+use Rattle.std.specs.Prelude.{ℕ, ◌≡◌, ◌<◌, ◌≤◌, ◌+◌, ◌-◌, ◌*◌, ◌/◌, ◌^◌, ◌==◌, ◌||◌, nat_lt, max, min, length, slice_get, Option, None, IfSome, IsSomeAnd, if◌then◌else◌}
 use Rattle.plan_base.specs.declared.parts.Parts.{Parts}
 use Rattle.plan_base.specs.declared.path.Design.{Design}
 use Rattle.plan_base.specs.Designs.{cost_of, IsGoodDesign}
 use Rattle.plan_base.specs.Facts.{total_load}
 use Rattle.incumbent.specs.declared.cooling.TheConstants.{WORK, MOST_SEARCHES, LEAST_SEARCHES, SEARCHES_A_DEMAND}
 use Rattle.incumbent.specs.declared.ration.DesignSearch.{DesignSearch}
-use Rattle.incumbent.specs.declared.ration.TheConstants.{DUE}
+use Rattle.incumbent.specs.declared.ration.TheConstants.{DUE, PARTS, MOST_SHARES, LATER_SHARES, MARGIN}
 
 -- how many steps one search may take, nodes by nodes and arcs
 abbrev pub search_work : Parts → ℕ
@@ -20,9 +20,17 @@ search_limit p = min (min (max (WORK / max (search_work p) 1) LEAST_SEARCHES) (S
 abbrev pub IsDue : ℕ → ℕ → Type 0
 IsDue place examined = IsSomeAnd (slice_get DUE place) (λ due. due ≤ examined)
 
--- the place of the search that a seat makes after one at this place: all make the first one, and the others are dealt out in turn
-abbrev pub next_place : ℕ → ℕ → ℕ → ℕ
-next_place seat seats place = min (if place == 0 then seat + 1 else place + seats) (2 ^ 32 - 1)
+-- how many parts the first search of each of so many seats has: one seat makes it whole
+abbrev pub parts_of : ℕ → ℕ
+parts_of seats = if seats == 1 then 1 else PARTS
+
+-- how many equal shares of the searches for paths there are, of which the next search spends one: only parts of the first search spend less than all, a later part a fourth of the first one
+abbrev pub shares_of : DesignSearch → ℕ
+shares_of s = if (s.seats == 1) || nat_lt 0 s.place then 1 else (if s.searches == 0 then min s.seats MOST_SHARES else LATER_SHARES * min s.seats MOST_SHARES)
+
+-- the place of the search that a seat makes after one at this place, once it has made so many: all make their parts of the first one, and the others are dealt out in turn
+abbrev pub next_place : ℕ → ℕ → ℕ → ℕ → ℕ
+next_place seat seats searches place = if nat_lt searches (parts_of seats) then place else min (if place == 0 then seat + 1 else place + seats) (2 ^ 32 - 1)
 
 -- no design was asked for yet, at this seat of so many
 pub record IsOpening (number count : ℕ) (s : DesignSearch) : Type 0 where
@@ -36,7 +44,7 @@ pub record IsOpening (number count : ℕ) (s : DesignSearch) : Type 0 where
 -- a search was due and is made, and the next one has the place after it
 pub record HasSearched (old : DesignSearch) (examined : ℕ) (new : DesignSearch) : Type 0 where
   pub was_due : IsDue old.place examined
-  pub place : new.place ≡ next_place old.seat old.seats old.place
+  pub place : new.place ≡ next_place old.seat old.seats new.searches old.place
   pub searches : new.searches ≡ min (old.searches + 1) (2 ^ 32 - 1)
 
 -- no search is made
@@ -49,6 +57,10 @@ pub record HasWaited (old new : DesignSearch) : Type 0 where
 pub record IsCheaper (p : Parts) (design : Design) (best : Option Design) : Type 0 where
   pub good : IsGoodDesign p design
   pub less : IfSome best (λ best. IsGoodDesign p best → cost_of p design < cost_of p best)
+
+-- there is a design, and where it is good, and so is another one, its cost without one part in so many is less than the cost of that
+abbrev pub IsWorth : Parts → Option Design → Option Design → Type 0
+IsWorth p design other = IsSomeAnd design (λ design. IsGoodDesign p design → IfSome other (λ other. IsGoodDesign p other → cost_of p design - cost_of p design / MARGIN < cost_of p other))
 
 -- how far more load is looked at: 2, 4, 8 or 16 times the mean load of a demand, as drawn, in load grains
 abbrev pub far_load : Parts → ℕ → ℕ

@@ -15,7 +15,7 @@ const LEAST_SEARCHES: u32 = 2_000;
 const SEARCHES_A_DEMAND: u32 = 1_000;
 
 /// How many steps all searches may take, nodes by nodes and arcs.
-const WORK: u32 = 500_000_000;
+const WORK: u32 = 2_500_000_000;
 
 /// The first slack is the cost over so many times the count of demands.
 const COOL: u32 = 6;
@@ -42,12 +42,12 @@ fn search_limit(inst: &Instance) -> u32
 }
 
 impl Cooling {
-    /// The cooling that begins with this cost, in cost grains.
-    pub fn new(inst: &Instance, cost: u128) -> Cooling
-        ensures limit { result.limit ≡ search_limit inst.now }
-        ensures step { result.step ≡ cost / (COOL * max (length inst.now.demands) 1) / max (search_limit inst.now) 1 }
+    /// The cooling that begins with this cost, in cost grains, for one of so many equal shares of the searches.
+    pub fn new(inst: &Instance, cost: u128, shares: u32) -> Cooling
+        ensures limit { result.limit ≡ search_limit inst.now / max shares 1 }
+        ensures step { result.step ≡ cost / (COOL * max (length inst.now.demands) 1) / max (search_limit inst.now / max shares 1) 1 }
     {
-        let limit = search_limit(inst);
+        let limit = search_limit(inst) / shares.max(1);
         let first = cost / u128::from(COOL * inst.demands().max(1));
         Cooling {
             limit,

@@ -19,6 +19,7 @@ fn searched(
     table: &StepTable,
     design: &Design,
     seed: u32,
+    shares: u32,
 ) -> Result<Items<Path>, AllocError>
     requires table { table.now ≡ inst.now }
     requires design { IsDesign inst.now design.now }
@@ -26,7 +27,7 @@ fn searched(
 {
     let paths = roomy_copies(alloc, inst, design.paths.as_slice())?;
     let mut rounds = Rounds::new(alloc, inst, table, paths, seed)?;
-    rounds.run(inst, table)?;
+    rounds.run(inst, table, shares)?;
     Ok(rounds.into_best())
 }
 
@@ -85,7 +86,25 @@ pub fn improve_seeded(
     ensures cost { IfOk result (λ better. better.0 ≡ cost_of inst.now better.1) }
     ensures not_dearer { IfOk result (λ better. better.0 ≤ cost_of inst.now design) }
 {
-    let paths = searched(alloc, inst, table, &design, seed)?;
+    improve_share(alloc, inst, table, design, seed, 1)
+}
+
+/// As `improve_seeded`, with one of so many equal shares of its searches.
+pub(crate) fn improve_share(
+    alloc: Global,
+    inst: &Instance,
+    table: &StepTable,
+    design: Design,
+    seed: u32,
+    shares: u32,
+) -> Result<(u128, Design), AllocError>
+    requires table { table.now ≡ inst.now }
+    requires design { IsGoodDesign inst.now design }
+    ensures good { IfOk result (λ better. IsGoodDesign inst.now better.1) }
+    ensures cost { IfOk result (λ better. better.0 ≡ cost_of inst.now better.1) }
+    ensures not_dearer { IfOk result (λ better. better.0 ≤ cost_of inst.now design) }
+{
+    let paths = searched(alloc, inst, table, &design, seed, shares)?;
     let completed = complete(alloc, inst, table, paths)?;
     Ok(cheaper(inst, design, completed))
 }

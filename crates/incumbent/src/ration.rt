@@ -5,9 +5,9 @@ ghost use Rattle.plan_base.specs.Arcs.{demand_at};
 ghost use Rattle.plan_base.specs.Paths.{IsSimplePath};
 ghost use Rattle.plan_base.specs.Designs.{cost_of, IsDesign, KeepsLimits, IsGoodDesign};
 ghost use Rattle.completions.specs.Completions.{with_paths, ArePaths, HasOverfull};
-ghost use Rattle.incumbent.specs.Searches.{IsDue, IsOpening, IsCheaper, next_place, HasSearched, HasWaited};
+ghost use Rattle.incumbent.specs.Searches.{IsDue, IsOpening, IsCheaper, IsWorth, parts_of, shares_of, next_place, HasSearched, HasWaited};
 
-use crate::improving::improve_seeded;
+use crate::improving::improve_share;
 use crate::laying::lay_all;
 use crate::negotiating::negotiated;
 use completions::complete;
@@ -22,6 +22,19 @@ const DUE: [u32; 7] = [0, 0, 4, 16, 64, 256, 1_024];
 /// How many seeds a seat has: one for each of its searches.
 const SEEDS: u32 = 7;
 
+/// How many parts of the first search each seat makes, where there are several seats.
+const PARTS: u32 = 2;
+
+/// The searches for paths of the first search are shared out to at most so many seats: each one more makes as many as
+/// these do.
+const MOST_SHARES: u32 = 8;
+
+/// A later part of the first search has so many times fewer searches for paths than its first part.
+const LATER_SHARES: u32 = 4;
+
+/// A search is spent on a dearer design than another one only where its cost, without one part in so many, is less.
+const MARGIN: u128 = 6;
+
 /// While the paths give no design to begin with, demands are laid one by one, and where that gives none their paths are
 /// negotiated, at the first asking and at each one so many later.
 const LAYING_TURN: u32 = 16;
@@ -29,14 +42,14 @@ const LAYING_TURN: u32 = 16;
 /// How many demands are tried for another path at most.
 const MOST_TRIES: u32 = 64;
 
-/// Searches for better designs, each of which takes some tenths of a second: so there are few of them. The first two
-/// begin with two different designs, and each later one with the cheapest design so far, where one demand has another
-/// path.
+/// Searches for better designs, each of which takes some tenths of a second: so there are few of them. The first one
+/// begins with the paths that it is given, the second one with paths that are laid one by one, where these are not much
+/// dearer, and each later one with the cheapest design so far, where one demand has another path.
 ///
-/// Where several search at once, each has a seat of its own, and may learn the cheapest design of all. Every seat makes
-/// the first search, and the others are dealt out: together the seats make each of them once. So that they go to
-/// different designs, searches at different seats draw differently, and the first one of an odd seat begins as the
-/// second one of a single seat does.
+/// Where several search at once, each has a seat of its own, and may learn the cheapest design of all. They share the
+/// first search out, in two parts each: the second part goes on from the cheapest design. The other searches are dealt
+/// out: together the seats make each of them once. So that they go to different designs, searches at different seats
+/// draw differently, and the first part of seat 1 begins as the second search does.
 #[derive(Debug, Drop)]
 pub struct DesignSearch {
     /// The number of the seat.
@@ -53,11 +66,21 @@ pub struct DesignSearch {
     best: Option<Design>,
 }
 
-/// The place of the search that a seat makes after one at this place: all seats make the first search, and the others
-/// are dealt out to them in turn.
-fn place_after(seat: u32, seats: u32, place: u32) -> u32
-    ensures { result ≡ next_place seat seats place }
+/// How many parts the first search of a seat has.
+fn parts_of(seats: u32) -> u32
+    ensures { result ≡ parts_of seats }
 {
+    if seats == 1 { 1 } else { PARTS }
+}
+
+/// The place of the search that a seat makes after one at this place, once it has made so many: all seats make their
+/// parts of the first search, and the others are dealt out to them in turn.
+fn place_after(seat: u32, seats: u32, searches: u32, place: u32) -> u32
+    ensures { result ≡ next_place seat seats searches place }
+{
+    if searches < parts_of(seats) {
+        return place;
+    }
     if place == 0 {
         return seat.saturating_add(1);
     }
@@ -213,6 +236,20 @@ fn is_less(inst: &Instance, cost: u128, best: &Option<Design>) -> bool
     }
 }
 
+/// Whether there is a design, and a search that begins with it is worth its time: where there is another one, and both
+/// are good, it may be dearer by the margin, and no more.
+fn is_worth(inst: &Instance, design: &Option<Design>, other: &Option<Design>) -> bool
+    ensures { IsTrue result ↔ IsWorth inst.now design.now other.now }
+{
+    let Some(design) = design else {
+        return false;
+    };
+    match check_design(inst, design) {
+        Ok(cost) => is_less(inst, cost - cost / MARGIN, other),
+        Err(_) => true,
+    }
+}
+
 /// Whether a design is a good one, and cheaper than another, where there is one and it is good.
 fn is_cheaper(inst: &Instance, design: &Design, best: &Option<Design>) -> bool
     ensures { IsTrue result ↔ IsCheaper inst.now design.now best.now }
@@ -260,13 +297,28 @@ impl DesignSearch {
         self.asked % LAYING_TURN == 1
     }
 
-    /// Whether the next search begins with paths that are laid one by one: the second one of all does, and the first one
-    /// of an odd seat.
+    /// Whether the next search may begin with paths that are laid one by one: the second one of all may, and the first
+    /// part of seat 1.
     fn begins_laid(&self) -> bool {
         if self.place == 0 {
-            return self.seat % 2 == 1 && self.is_laying_turn();
+            return self.seat == 1 && self.is_laying_turn();
         }
         self.place == 1
+    }
+
+    /// How many equal shares of the searches for paths that a network is worth there are: the next search spends one.
+    fn shares(&self) -> u32
+        ensures { result ≡ shares_of self.now }
+    {
+        if self.seats == 1 || self.place > 0 {
+            return 1;
+        }
+        let shares = self.seats.min(MOST_SHARES);
+        if self.searches == 0 {
+            shares
+        } else {
+            LATER_SHARES * shares
+        }
     }
 
     /// A design to begin with: that of these paths and that of paths laid one by one, in this order or the other one.
@@ -298,6 +350,72 @@ impl DesignSearch {
         laid(alloc, inst, table, paths, true)
     }
 
+    /// The cheapest design so far, where one demand has another path, one of these.
+    fn varied_best(
+        &self,
+        alloc: Global,
+        inst: &Instance,
+        table: &StepTable,
+        paths: &Items<Path>,
+    ) -> Result<Option<Design>, AllocError>
+        requires table { table.now ≡ inst.now }
+        requires paths { ArePaths inst.now paths.now }
+        ensures { IfOk result (λ found. IfSome found (IsGoodDesign inst.now)) }
+    {
+        let Some(best) = &self.best else {
+            return Ok(None);
+        };
+        if check_design(inst, best).is_err() {
+            return Ok(None);
+        }
+        varied(alloc, inst, table, best, paths, self.asked)
+    }
+
+    /// A design with paths that are laid one by one, where a search from it is worth its time beside another design: in
+    /// the first search that of these paths, and later the cheapest one so far. Else that other one, which is varied
+    /// where it was searched from.
+    fn laid_or_other(
+        &self,
+        alloc: Global,
+        inst: &Instance,
+        table: &StepTable,
+        paths: &Items<Path>,
+    ) -> Result<Option<Design>, AllocError>
+        requires table { table.now ≡ inst.now }
+        requires paths { ArePaths inst.now paths.now }
+        ensures { IfOk result (λ found. IfSome found (IsGoodDesign inst.now)) }
+    {
+        let laid = self.fresh(alloc, inst, table, paths, true)?;
+        if self.place == 0 {
+            let other = completed(alloc, inst, table, paths)?;
+            return Ok(if is_worth(inst, &laid, &other) {
+                laid
+            } else {
+                other
+            });
+        }
+        if is_worth(inst, &laid, &self.best) {
+            return Ok(laid);
+        }
+        match self.varied_best(alloc, inst, table, paths)? {
+            Some(varied) => Ok(Some(varied)),
+            None => Ok(laid),
+        }
+    }
+
+    /// A copy of the cheapest design so far, where it is good.
+    fn copied_best(&self, inst: &Instance) -> Result<Option<Design>, AllocError>
+        ensures { IfOk result (λ found. IfSome found (IsGoodDesign inst.now)) }
+    {
+        let Some(best) = &self.best else {
+            return Ok(None);
+        };
+        if check_design(inst, best).is_err() {
+            return Ok(None);
+        }
+        Ok(Some(best.copy()?))
+    }
+
     /// The design that the next search begins with.
     fn start(
         &self,
@@ -310,16 +428,16 @@ impl DesignSearch {
         requires paths { ArePaths inst.now paths.now }
         ensures { IfOk result (λ found. IfSome found (IsGoodDesign inst.now)) }
     {
-        if self.place < 2 {
-            return self.fresh(alloc, inst, table, paths, self.begins_laid());
+        if self.place > 1 {
+            return self.varied_best(alloc, inst, table, paths);
         }
-        let Some(best) = &self.best else {
-            return Ok(None);
-        };
-        if check_design(inst, best).is_err() {
-            return Ok(None);
+        if self.place == 0 && self.searches > 0 {
+            return self.copied_best(inst);
         }
-        varied(alloc, inst, table, best, paths, self.asked)
+        if self.begins_laid() {
+            return self.laid_or_other(alloc, inst, table, paths);
+        }
+        self.fresh(alloc, inst, table, paths, false)
     }
 
     /// Holds a copy of the design, where it is cheaper than the one that is held: the later searches begin with it.
@@ -372,11 +490,12 @@ impl DesignSearch {
         let Some(start) = self.start(alloc, inst, table, paths)? else {
             return Ok(None);
         };
+        let shares = self.shares();
         self.searches = self.searches.saturating_add(1);
-        self.place = place_after(self.seat, self.seats, self.place);
+        self.place = place_after(self.seat, self.seats, self.searches, self.place);
         // No two searches share a seed, whichever seats they are of.
         let seed = self.seat.wrapping_mul(SEEDS).wrapping_add(self.searches);
-        let (_cost, design) = improve_seeded(alloc, inst, table, start, seed)?;
+        let (_cost, design) = improve_share(alloc, inst, table, start, seed, shares)?;
         self.learn(inst, &design)?;
         Ok(Some(design))
     }

@@ -9,7 +9,7 @@ ghost use Rattle.incumbent.specs.Searches.{far_load};
 
 use crate::cooling::Cooling;
 use crate::draws::Draws;
-use crate::group::draw_group;
+use crate::group::{draw_group, group_size};
 use crate::held::Held;
 use demand_routing::{Routing, set_path};
 use link_steps::StepTable;
@@ -315,19 +315,26 @@ impl Rounds {
         )
     }
 
-    /// One round.
+    /// One round, which takes at most so many demands off.
     fn round(
         &mut self,
         inst: &Instance,
         table: &StepTable,
         cooling: &Cooling,
+        most: usize,
     ) -> Result<(), AllocError>
         requires table { table.now ≡ inst.now }
         requires search { IsSearch inst.now self.old }
         requires some { 0 < length inst.now.demands }
         ensures search { OnOk result (IsSearch inst.now self.new) }
     {
-        draw_group(inst, &self.now.paths, &mut self.draws, &mut self.group)?;
+        draw_group(
+            inst,
+            &self.now.paths,
+            most,
+            &mut self.draws,
+            &mut self.group,
+        )?;
         if !self.try_group(inst, table)? {
             return self.take_back(inst, table);
         }
@@ -339,25 +346,36 @@ impl Rounds {
         }
     }
 
-    /// Rounds until the searches are spent.
-    fn spend_searches(&mut self, inst: &Instance, table: &StepTable) -> Result<(), AllocError>
+    /// Rounds until one of so many equal shares of the searches is spent.
+    fn spend_searches(
+        &mut self,
+        inst: &Instance,
+        table: &StepTable,
+        shares: u32,
+    ) -> Result<(), AllocError>
         requires table { table.now ≡ inst.now }
         requires search { IsSearch inst.now self.old }
         requires some { 0 < length inst.now.demands }
         ensures search { OnOk result (IsSearch inst.now self.new) }
     {
-        let cooling = Cooling::new(inst, self.now.cost);
+        let cooling = Cooling::new(inst, self.now.cost, shares);
+        let most = group_size(inst, cooling.limit());
         for _round in 0..cooling.limit() {
             if self.now.searches >= cooling.limit() {
                 break;
             }
-            self.round(inst, table, &cooling)?;
+            self.round(inst, table, &cooling, most)?;
         }
         Ok(())
     }
 
-    /// Rounds until the searches are spent; none where there are no demands.
-    pub(crate) fn run(&mut self, inst: &Instance, table: &StepTable) -> Result<(), AllocError>
+    /// Rounds until one of so many equal shares of the searches is spent; none where there are no demands.
+    pub(crate) fn run(
+        &mut self,
+        inst: &Instance,
+        table: &StepTable,
+        shares: u32,
+    ) -> Result<(), AllocError>
         requires table { table.now ≡ inst.now }
         requires search { IsSearch inst.now self.old }
         ensures search { OnOk result (IsSearch inst.now self.new) }
@@ -365,7 +383,7 @@ impl Rounds {
         if inst.demands() == 0 {
             return Ok(());
         }
-        self.spend_searches(inst, table)
+        self.spend_searches(inst, table, shares)
     }
 
     /// The paths of the cheapest design met.
