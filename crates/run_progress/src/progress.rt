@@ -25,8 +25,9 @@ const ANEW: &[u8] = b"\r\x1b[K";
 /// Cuts what is too long for the line of a terminal, where it would go on in the next one.
 const CUT: &[u8] = b"\x1b[?7l";
 
-/// Lets lines go on in the next one again.
-const UNCUT: &[u8] = b"\x1b[?7h";
+/// Wipes the last place of a line that was cut, which holds the end of what is too long; and lets lines go on in the next
+/// one again.
+const UNCUT: &[u8] = b"\x1b[K\x1b[?7h";
 
 /// A gate that shows how far a run is, in one line that is written anew again and again.
 ///
