@@ -1,8 +1,8 @@
 -- From a drawn plan to how a run ends.
-use Rattle.std.proofs.Common.{map, ◌≡◌, ◌≢◌, ◌+◌, ◌≤◌, ◌<◌, ◌⊎◌, ℕ, Bool, not, true, false, true≢false, List, [], ◌∷◌, length, get_or, Option, Some, None, Result, refl, sym, ◌∙◌, subst, arith, inl, inr, codes}
-use Rattle.std.specs.Prelude.{IfOk, IfErr, IsSomeAnd}
+use Rattle.std.proofs.Common.{◌≡◌, ◌≢◌, ◌+◌, ◌≤◌, ◌<◌, ◌⊎◌, ℕ, true, false, true≢false, List, Option, Some, None, option_map, Result, sym, ◌∙◌, subst, arith, inl, inr}
+use Rattle.std.specs.Prelude.{option_and_then, IfOk, IfErr, IsSomeAnd}
 use Rattle.std.specs.Str.{bytes_eq}
-use Rattle.std.proofs.lemmas.Bool.{cases_lt, not-true, not-false}
+use Rattle.std.proofs.lemmas.Bool.{cases_lt}
 use Rattle.std.proofs.lemmas.Slice.Eq.{bytes_eq-Decides}
 use Rattle.plan_base.specs.declared.parts.Parts.{Parts}
 use Rattle.snd_network.specs.declared.file.NetworkFile.{NetworkFile}
@@ -11,13 +11,12 @@ use Rattle.plan_texts.specs.declared.answer.Answer.{Answer}
 use Rattle.plan_texts.specs.declared.status.Status.{Status}
 use Rattle.plan_texts.specs.declared.stop.Stop.{Stop}
 use Rattle.plan_texts.specs.declared.stop.Stop.TheVariants as stops
-use Rattle.plan_texts.specs.Texts.{Name, Told, Texts, three, HoldsOfTexts}
+use Rattle.plan_texts.specs.Texts.{Name, Told, Texts, HoldsOfTexts}
 use Rattle.plan_texts.specs.Refusals.{IsProblem, Counts}
 use Rattle.run_ends.specs.Ends.{IsUsage}
 use Rattle.run_ends.specs.Found.{EndsSo, IsFound}
-use Rattle.run_ends.proofs.Items.{three_items, five_items}
 use Rattle.run_ends.proofs.Finding.{found_misread}
-use Rattle.picture_runs.specs.PictureRuns.{usage_line, names_in, lit_in, IsDrawnSo, drawn, unnamed, undrawn, IsDrawn, IsEndOfDrawing}
+use Rattle.picture_runs.specs.PictureRuns.{usage_line, Asked, IsDrawnSo, drawn, unnamed, undrawn, IsDrawn, IsEndOfDrawing}
 
 -- ---- names
 
@@ -52,47 +51,17 @@ drawn_ends name = record { ends = λ texts status bytes done. drawn-ends name do
 
 -- ---- words
 
--- what is found for three words
-pub found_three : {A : Type 0} (name : A → Name) (words : List A) (one two third : A) (network model plan : Name) (shelf : Told) (counts : Counts) (before now : ℕ) (result : Result Answer Stop)
-    → 3 ≤ length words → length words < 4 → one ≡ get_or words 0 one → two ≡ get_or words 1 two → third ≡ get_or words 2 third → network ≡ name one → model ≡ name two → plan ≡ name third
-    → IsFound usage_line (IsDrawn None) (Some (three network model plan)) shelf counts before now result
-    → IsFound usage_line (IsDrawn (lit_in (map name words))) (names_in (map name words)) shelf counts before now result
-found_three name words one two third network model plan shelf counts before now result least most a b c n m p found =
-    let named : IsFound usage_line (IsDrawn None) (Some (three (name one) (name two) (name third))) shelf counts before now result = rw (← n, ← m, ← p) found in
-    rw (three_items words one two third least most a b c) named
+-- what is found for words that ask for a drawing
+pub found_asked : (asked : Option Asked) (names : Texts) (name : Option Name) (shelf : Told) (counts : Counts) (before now : ℕ) (result : Result Answer Stop) → Some (names, name) ≡ asked
+    → IsFound usage_line (IsDrawn name) (Some names) shelf counts before now result
+    → IsFound usage_line (IsDrawn (option_and_then (λ a. a.1) asked)) (option_map (λ a. a.0) asked) shelf counts before now result
+found_asked asked names name shelf counts before now result is found =
+    subst (λ (a : Option Asked). IsFound usage_line (IsDrawn (option_and_then (λ a. a.1) a)) (option_map (λ a. a.0) a) shelf counts before now result) is found
 
--- what is found for five words
-pub found_five : {A : Type 0} (name : A → Name) (words : List A) (one two third option_ lit_ : A) (network model plan option lit : Name) (differs : Bool) (shelf : Told) (counts : Counts) (before now : ℕ) (result : Result Answer Stop)
-    → 5 ≤ length words → length words < 6 → one ≡ get_or words 0 one → two ≡ get_or words 1 two → third ≡ get_or words 2 third → option_ ≡ get_or words 3 option_ → lit_ ≡ get_or words 4 lit_
-    → network ≡ name one → model ≡ name two → plan ≡ name third → option ≡ name option_ → lit ≡ name lit_ → differs ≡ not (bytes_eq option (codes "--demand")) → differs ≡ false
-    → IsFound usage_line (IsDrawn (Some lit)) (Some (three network model plan)) shelf counts before now result
-    → IsFound usage_line (IsDrawn (lit_in (map name words))) (names_in (map name words)) shelf counts before now result
-found_five name words one two third option_ lit_ network model plan option lit differs shelf counts before now result least most a b c d e n m p o l same alike found =
-    let is : bytes_eq (name option_) (codes "--demand") ≡ true = rw (← o) (not-false (bytes_eq option (codes "--demand")) (sym same ∙ alike)) in
-    let named : IsFound usage_line (IsDrawn (Some (name lit_))) (Some (three (name one) (name two) (name third))) shelf counts before now result = rw (← n, ← m, ← p, ← l) found in
-    rw (five_items words one two third option_ lit_ least most a b c d e, is) named
-
--- words that are neither three nor five name no texts
-no-names : {A : Type 0} (name : A → Name) (words : List A) → (length words ≡ 3 → ⊥) → (length words ≡ 5 → ⊥) → names_in (map name words) ≡ None
-no-names name [] three five = refl
-no-names name (_ ∷ []) three five = refl
-no-names name (_ ∷ _ ∷ []) three five = refl
-no-names name (_ ∷ _ ∷ _ ∷ []) three five = absurd (three refl)
-no-names name (_ ∷ _ ∷ _ ∷ _ ∷ []) three five = refl
-no-names name (_ ∷ _ ∷ _ ∷ _ ∷ _ ∷ []) three five = absurd (five refl)
-no-names name (_ ∷ _ ∷ _ ∷ _ ∷ _ ∷ _ ∷ words) three five = refl
-
--- what is found for words that are neither three nor five
-pub found_other_count : {A : Type 0} (name : A → Name) (lit : Option Name) (words : List A) (shelf : Told) (counts : Counts) (before : ℕ) (result : Result Answer Stop) → (length words ≡ 3 → ⊥)
-    → (length words ≡ 5 → ⊥) → IfOk result (λ answer. IsUsage usage_line answer.status answer.text.items) → IfErr result (λ stop. stop ≡ stops.OutOfMemory)
-    → IsFound usage_line (IsDrawn lit) (names_in (map name words)) shelf counts before before result
-found_other_count name lit words shelf counts before result three five is wanting = rw (no-names name words three five) (found_misread usage_line (IsDrawn lit) shelf counts before result is wanting)
-
--- what is found for five words with another option
-pub found_other_option : {A : Type 0} (name : A → Name) (lit : Option Name) (words : List A) (one two third option_ lit_ : A) (option : Name) (differs : Bool) (shelf : Told) (counts : Counts) (before : ℕ) (result : Result Answer Stop)
-    → 5 ≤ length words → length words < 6 → one ≡ get_or words 0 one → two ≡ get_or words 1 two → third ≡ get_or words 2 third → option_ ≡ get_or words 3 option_ → lit_ ≡ get_or words 4 lit_
-    → option ≡ name option_ → differs ≡ not (bytes_eq option (codes "--demand")) → differs ≡ true → IfOk result (λ answer. IsUsage usage_line answer.status answer.text.items)
-    → IfErr result (λ stop. stop ≡ stops.OutOfMemory) → IsFound usage_line (IsDrawn lit) (names_in (map name words)) shelf counts before before result
-found_other_option name lit words one two third option_ lit_ option differs shelf counts before result least most a b c d e o same other is wanting =
-    let no : bytes_eq (name option_) (codes "--demand") ≡ false = rw (← o) (not-true (bytes_eq option (codes "--demand")) (sym same ∙ other)) in
-    rw (five_items words one two third option_ lit_ least most a b c d e, no) (found_misread usage_line (IsDrawn lit) shelf counts before result is wanting)
+-- what is found for words that are not read
+pub found_unasked : (asked : Option Asked) (lit : Option Name) (shelf : Told) (counts : Counts) (before : ℕ) (result : Result Answer Stop) → None ≡ asked
+    → IfOk result (λ answer. IsUsage usage_line answer.status answer.text.items) → IfErr result (λ stop. stop ≡ stops.OutOfMemory)
+    → IsFound usage_line (IsDrawn lit) (option_map (λ a. a.0) asked) shelf counts before before result
+found_unasked asked lit shelf counts before result is usage wanting =
+    subst (λ (a : Option Asked). IsFound usage_line (IsDrawn lit) (option_map (λ a. a.0) a) shelf counts before before result) is
+    (found_misread usage_line (IsDrawn lit) shelf counts before result usage wanting)

@@ -1,6 +1,7 @@
 -- The main statement of the program that draws plans: picture_run of src/running.rt has it as its contract.
-use Rattle.std.specs.Prelude.{ℕ, ◌≡◌, ◌≢◌, ◌<◌, ◌⊎◌, List, [], ◌∷◌, length, codes, if◌then◌else◌, Option, Some, None, IsSomeAnd}
-use Rattle.std.specs.Str.{bytes_eq}
+use Rattle.std.specs.Prelude.{ℕ, ◌≡◌, ◌≢◌, ◌<◌, ◌⊎◌, List, [], ◌∷◌, length, codes, option_map, option_and_then, Option, Some, None, IsSomeAnd}
+use Rattle.std.specs.Borrow.{Bor}
+use Rattle.given_words.specs.Given.{told}
 use Rattle.plan_base.specs.declared.parts.Parts.{Parts}
 use Rattle.snd_network.specs.declared.file.NetworkFile.{NetworkFile}
 use Rattle.proof_tree.specs.declared.plan.Plan.{Plan}
@@ -18,16 +19,30 @@ use Rattle.plan_picture.specs.Pictures.{IsPicture}
 abbrev pub usage_line : List ℕ
 usage_line = codes "usage: sndpicture NET MODEL PLAN [--demand NAME]\n"
 
--- the names that the words give: those of a network, a model and a plan
+-- what is asked for: the names of a network, a model and a plan, and perhaps that of a demand to be lit
+abbrev pub Asked : Type 0
+Asked = Texts × Option Name
+
+-- what the names of the texts and the option are given
+unfoldable pub asked_of : List (Option Name) → Option Asked
+asked_of (Some network ∷ Some model ∷ Some plan ∷ name ∷ []) = Some (three network model plan, name)
+asked_of _ = None
+
+-- what the words ask for, where they can be read so
+abbrev pub asked_in : List Name → Option Asked
+asked_in words = option_and_then asked_of (told (codes "network" ∷ codes "model" ∷ codes "plan" ∷ []) (codes "demand" ∷ []) words)
+
+-- the names of texts that the words give
 abbrev pub names_in : List Name → Option Texts
-names_in (network ∷ model ∷ plan ∷ []) = Some (three network model plan)
-names_in (network ∷ model ∷ plan ∷ option ∷ name ∷ []) = if bytes_eq option (codes "--demand") then Some (three network model plan) else None
-names_in _ = None
+names_in words = option_map (λ asked. asked.0) (asked_in words)
 
 -- the name of the demand that the words ask to be lit
 abbrev pub lit_in : List Name → Option Name
-lit_in (network ∷ model ∷ plan ∷ option ∷ name ∷ []) = Some name
-lit_in _ = None
+lit_in words = option_and_then (λ asked. asked.1) (asked_in words)
+
+-- what the words behind references ask for
+abbrev pub asked_now : Bor Name × Bor Name × Bor Name × Option (Bor Name) → Asked
+asked_now asked = (three asked.0.now asked.1.now asked.2.now, option_map (λ name. name.now) asked.3)
 
 -- the demand of this number is the one to be lit, and none is where none is named
 abbrev pub IsLit : NetworkFile → Parts → Option Name → Option ℕ → Type 0

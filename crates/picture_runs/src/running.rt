@@ -13,6 +13,7 @@ ghost use Rattle.run_ends.specs.Found.{IsFound};
 ghost use Rattle.plan_picture.specs.Pictures.{IsPicture};
 ghost use Rattle.picture_runs.specs.PictureRuns.{usage_line, names_in, lit_in, IsMissing, IsDrawnSo, IsDrawn, IsPictureRun, IsEndOfDrawing};
 
+use crate::words::asked_in;
 use cert_verifier::{Rejected, verify};
 use plan_base::{DemandId, Instance};
 use plan_io::{Shelf, Sink};
@@ -145,7 +146,7 @@ fn draw_plan<S: Shelf>(
 }
 
 /// What a run of these words has to say.
-#[tactic(auto, using(crate::proofs::Drawing::found_other_count))]
+#[tactic(auto, using(run_ends::proofs::Finding::found_wanting, crate::proofs::Drawing::found_unasked))]
 fn answer_to<S: Shelf>(alloc: Global, words: &[String], shelf: &mut S) -> Result<Answer, Stop>
     ensures found { IsFound usage_line (IsDrawn (lit_in (map string_bytes words.now)))
         (names_in (map string_bytes words.now)) (S.text shelf.old)
@@ -153,39 +154,21 @@ fn answer_to<S: Shelf>(alloc: Global, words: &[String], shelf: &mut S) -> Result
         (S.begins shelf.old) (S.begins shelf.new) result }
     ensures later { S.faults shelf.old ≤ S.faults shelf.new }
 {
-    match words {
-        [network, model, plan] => {
-            draw_plan(
-                alloc,
-                network.as_str(),
-                model.as_str(),
-                plan.as_str(),
-                None,
-                shelf,
-            )
-        }
-        [network, model, plan, option, name] => {
-            if option.as_str() != "--demand" {
-                return misread(alloc, USAGE_LINE);
-            }
-            draw_plan(
-                alloc,
-                network.as_str(),
-                model.as_str(),
-                plan.as_str(),
-                Some(name.as_str()),
-                shelf,
-            )
-        }
-        _ => misread(alloc, USAGE_LINE),
+    let asked = match asked_in(alloc, words) {
+        Ok(asked) => asked,
+        Err(AllocError) => return Err(Stop::OutOfMemory),
+    };
+    match asked {
+        Some((network, model, plan, name)) => draw_plan(alloc, network, model, plan, name, shelf),
+        None => misread(alloc, USAGE_LINE),
     }
 }
 
 /// Draws the plan that these words name, and writes the picture. Nothing is written before the whole output is made.
 ///
-/// - Takes: the words after the program's name: the names of a network text, a model text and a plan text, and perhaps
-///   `--demand` with the name of a demand whose path is lit; a shelf that has the texts; the sink that the answer goes
-///   to.
+/// - Takes: the words after the program's name: the names of a network text, a model text and a plan text, and at any
+///   place perhaps `--demand NAME` or `--demand=NAME`, with the name of a demand whose path is lit; a shelf that has the
+///   texts; the sink that the answer goes to.
 /// - Gives: how the run ended.
 /// - Rule: docs/FORMATS.md, "Pictures".
 /// - Time: that of `plan_texts::verify_plan`, and that of drawing the plan.
