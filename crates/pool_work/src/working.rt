@@ -1,266 +1,18 @@
-//! What a worker does: it takes a task, does it while it holds nothing of the hub, and hands in the result. Before each
-//! call it asks whether the seat may make one.
+//! What a worker does until nothing is left: tasks alone, or blocks of demands and tasks.
 
-ghost use Rattle.std.specs.Prelude.{OnOk, IfOk};
-ghost use Rattle.completions.specs.Completions.{ArePaths};
+ghost use Rattle.std.specs.Prelude.{◌≡◌, true, OnOk, IfOk};
+ghost use Rattle.block_deques.specs.Decks.{IsSameDeck};
 
 use crate::bench::Bench;
+use crate::blocks::{drop_blocks, next_block, price_block, put_blocks};
 use crate::office::Office;
 use crate::search::Search;
-use crate::told::Told;
-use leaf_work::{keep_limits, next_prices};
-use plan_base::{BranchId, DemandId, Items, Path};
+use crate::tasks::{Left, do_task, seek_design};
+use block_deques::{Block, Deck};
 use plan_io::Gate;
-use pool_machine::{ExamineFault, Gather, Task};
+use pool_machine::Task;
 use std::alloc::{AllocError, Global};
 use std::sync::Wait;
-
-/// Takes the prices of a version from the board and what is forbidden at its node out of the pool, where the bench has not
-/// got them: once for each version, not for each demand.
-fn turn_to<N: Search, H: Office<N>, T: Wait>(
-    rt: &T,
-    hub: &H,
-    seat: &mut H::Seat,
-    bench: &mut Bench<N>,
-    node: BranchId,
-    slot: u32,
-    version: u64,
-) -> Result<(), AllocError>
-    requires of { H.of hub.now seat.old }
-    ensures of { H.of hub.now seat.new }
-    ensures keeps { H.keeps seat.old seat.new }
-{
-    if bench.has(node, version) {
-        return Ok(());
-    }
-    let Some(published) = hub.published(rt, seat, node, slot, version)? else {
-        return Ok(());
-    };
-    let Ok(()) = hub.may_call(seat) else {
-        return Ok(());
-    };
-    let Some(rows) = hub.ground(rt, seat, published.node)? else {
-        return Ok(());
-    };
-    bench.put(&**hub.instance(), published, rows);
-    Ok(())
-}
-
-/// Prices a demand, and hands in what it finds.
-fn price<N: Search, H: Office<N>, T: Wait>(
-    rt: &T,
-    hub: &H,
-    seat: &mut H::Seat,
-    bench: &mut Bench<N>,
-    node: BranchId,
-    version: u64,
-    demand: DemandId,
-) -> Result<(), AllocError>
-    requires of { H.of hub.now seat.old }
-    ensures of { H.of hub.now seat.new }
-    ensures keeps { H.keeps seat.old seat.new }
-{
-    if let Some(offer) = bench.offer(&**hub.instance(), node, version, demand)? {
-        let Ok(()) = hub.may_call(seat) else {
-            return Ok(());
-        };
-        let _answer = hub.offer(rt, seat, offer);
-    }
-    Ok(())
-}
-
-/// What a master step is told of a complete version, where it is the node's still.
-fn told_of<N: Search, H: Office<N>, T: Wait>(
-    rt: &T,
-    hub: &H,
-    seat: &mut H::Seat,
-    node: BranchId,
-    version: u64,
-) -> Result<Option<Told<N>>, AllocError>
-    requires of { H.of hub.now seat.old }
-    ensures of { H.of hub.now seat.new }
-    ensures keeps { H.keeps seat.old seat.new }
-{
-    let Ok(()) = hub.may_call(seat) else {
-        return Ok(None);
-    };
-    match hub.gather(rt, seat, node, version)? {
-        Gather::Taken(brief) => Ok(Told::tested(&**hub.instance(), brief)),
-        _ => Ok(None),
-    }
-}
-
-/// Publishes the prices that follow, or settles the node. What is refused is dropped.
-fn go_on<N: Search, H: Office<N>, T: Wait>(
-    rt: &T,
-    alloc: Global,
-    hub: &H,
-    seat: &mut H::Seat,
-    told: &Told<N>,
-    node: BranchId,
-    version: u64,
-) -> Result<(), AllocError>
-    requires of { H.of hub.now seat.old }
-    ensures of { H.of hub.now seat.new }
-    ensures keeps { H.keeps seat.old seat.new }
-{
-    match next_prices(alloc, &**hub.instance(), &**hub.table(), told.brief())? {
-        Some(prices) => {
-            let Ok(()) = hub.may_call(seat) else {
-                return Ok(());
-            };
-            let _answer = hub.publish(rt, seat, node, version, &prices)?;
-            Ok(())
-        }
-        None => {
-            let Ok(()) = hub.may_call(seat) else {
-                return Ok(());
-            };
-            let _answer = hub.settle(rt, seat, node, version);
-            Ok(())
-        }
-    }
-}
-
-/// Tells the bench of the cheapest design of all workers.
-fn learn_best<N: Search, H: Office<N>, T: Wait>(
-    rt: &T,
-    hub: &H,
-    seat: &mut H::Seat,
-    bench: &mut Bench<N>,
-) -> Result<(), AllocError>
-    requires of { H.of hub.now seat.old }
-    ensures of { H.of hub.now seat.new }
-    ensures keeps { H.keeps seat.old seat.new }
-{
-    let Ok(()) = hub.may_call(seat) else {
-        return Ok(());
-    };
-    match hub.best_design(rt, seat)? {
-        Some(best) => bench.learn(&**hub.instance(), &best),
-        None => Ok(()),
-    }
-}
-
-/// The least paths of a version. Where some have more arcs than their demands' limits, what is forbidden at the node is
-/// taken out of the pool, and they are replaced as far as it permits others.
-fn start_paths<N: Search, H: Office<N>, T: Wait>(
-    rt: &T,
-    alloc: Global,
-    hub: &H,
-    seat: &mut H::Seat,
-    told: &Told<N>,
-) -> Result<Items<Path>, AllocError>
-    requires of { H.of hub.now seat.old }
-    ensures of { H.of hub.now seat.new }
-    ensures keeps { H.keeps seat.old seat.new }
-    ensures paths { IfOk result (ArePaths N.problem) }
-{
-    let inst = &**hub.instance();
-    let paths = told.least_paths(alloc, inst)?;
-    if keep_limits(inst, &paths) {
-        return Ok(paths);
-    }
-    let Ok(()) = hub.may_call(seat) else {
-        return Ok(paths);
-    };
-    match hub.ground(rt, seat, told.node())? {
-        Some(rows) => told.paths_within(alloc, inst, &*rows, paths),
-        None => Ok(paths),
-    }
-}
-
-/// Searches for a design, where one is due, and hands it in. A search that begins with a design begins with the cheapest
-/// one of all workers.
-fn seek_design<N: Search, H: Office<N>, T: Wait>(
-    rt: &T,
-    alloc: Global,
-    hub: &H,
-    seat: &mut H::Seat,
-    bench: &mut Bench<N>,
-    told: &Told<N>,
-) -> Result<(), AllocError>
-    requires of { H.of hub.now seat.old }
-    ensures of { H.of hub.now seat.new }
-    ensures keeps { H.keeps seat.old seat.new }
-{
-    if !bench.is_design_due(told) {
-        return Ok(());
-    }
-    learn_best(rt, hub, seat, bench)?;
-    let paths = start_paths(rt, alloc, hub, seat, told)?;
-    if let Some(design) = bench.design(&**hub.instance(), &**hub.table(), told, &paths)? {
-        let Ok(()) = hub.may_call(seat) else {
-            return Ok(());
-        };
-        let _answer = hub.better(rt, seat, design);
-    }
-    Ok(())
-}
-
-/// Goes on with a complete version, and only then searches for a design, so that no other worker waits for it.
-fn advance<N: Search, H: Office<N>, T: Wait>(
-    rt: &T,
-    alloc: Global,
-    hub: &H,
-    seat: &mut H::Seat,
-    bench: &mut Bench<N>,
-    node: BranchId,
-    version: u64,
-) -> Result<(), AllocError>
-    requires of { H.of hub.now seat.old }
-    ensures of { H.of hub.now seat.new }
-    ensures keeps { H.keeps seat.old seat.new }
-{
-    let Some(told) = told_of(rt, hub, seat, node, version)? else {
-        return Ok(());
-    };
-    go_on(rt, alloc, hub, seat, &told, node, version)?;
-    seek_design(rt, alloc, hub, seat, bench, &told)
-}
-
-/// Does a task.
-fn do_task<N: Search, H: Office<N>, T: Wait>(
-    rt: &T,
-    alloc: Global,
-    hub: &H,
-    seat: &mut H::Seat,
-    bench: &mut Bench<N>,
-    task: Task,
-) -> Result<(), AllocError>
-    requires of { H.of hub.now seat.old }
-    ensures of { H.of hub.now seat.new }
-    ensures keeps { H.keeps seat.old seat.new }
-{
-    let Ok(()) = hub.may_call(seat) else {
-        return Ok(());
-    };
-    match task {
-        Task::Open { node } => {
-            let _answer = hub.open(rt, seat, node)?;
-            Ok(())
-        }
-        Task::Price {
-            node,
-            slot,
-            version,
-            demand,
-        } => {
-            turn_to(rt, hub, seat, bench, node, slot, version)?;
-            price(rt, hub, seat, bench, node, version, demand)
-        }
-        Task::Master { node, version } => advance(rt, alloc, hub, seat, bench, node, version),
-        Task::Close { node } => {
-            let _answer = hub.close(rt, seat, node);
-            Ok(())
-        }
-        Task::Examine { node } => match hub.examine(rt, seat, node) {
-            Err(ExamineFault::OutOfMemory) => Err(AllocError),
-            _ => Ok(()),
-        },
-        Task::Done => Ok(()),
-    }
-}
 
 /// Does tasks on a bench until none is left.
 fn do_tasks<N: Search, H: Office<N>, T: Wait, G: Gate>(
@@ -289,7 +41,8 @@ fn do_tasks<N: Search, H: Office<N>, T: Wait, G: Gate>(
         gate.pass(number, turn);
         gate.stand(standing);
         turn = turn.saturating_add(1);
-        do_task(rt, alloc, hub, seat, bench, task)?;
+        let left = do_task(rt, alloc, hub, seat, bench, task)?;
+        let _taken = seek_design(rt, alloc, hub, seat, bench, &left.told)?;
     }
     unreachable!()
 }
@@ -313,4 +66,143 @@ pub fn work<N: Search, H: Office<N>, T: Wait, G: Gate>(
     let (number, workers) = hub.place(seat);
     let mut bench = Bench::new(alloc, number, workers);
     do_tasks(rt, alloc, hub, seat, &mut bench, gate)
+}
+
+/// Prices a block. Where its version is over, the blocks that are left on the worker's own deck are of the same version, and
+/// are dropped.
+fn do_block<N: Search, H: Office<N>, T: Wait>(
+    rt: &T,
+    hub: &H,
+    seat: &mut H::Seat,
+    deck: &mut Deck,
+    bench: &mut Bench<N>,
+    block: Block,
+) -> Result<(), AllocError>
+    requires of { H.of hub.now seat.old }
+    ensures of { H.of hub.now seat.new }
+    ensures keeps { H.keeps seat.old seat.new }
+    ensures deck { IsSameDeck deck.old deck.new }
+{
+    if price_block(rt, hub, seat, bench, block)? {
+        drop_blocks(deck);
+    }
+    Ok(())
+}
+
+/// Does what a task leaves: puts the demands of a version on the deck, and searches for a design. A design that is taken may
+/// close the node, so whatever is then left on the deck is dropped: tasks give the demands that are still to be priced.
+fn do_rest<N: Search, H: Office<N>, T: Wait>(
+    rt: &T,
+    alloc: Global,
+    hub: &H,
+    seat: &mut H::Seat,
+    deck: &mut Deck,
+    bench: &mut Bench<N>,
+    left: Left<N>,
+) -> Result<(), AllocError>
+    requires of { H.of hub.now seat.old }
+    ensures of { H.of hub.now seat.new }
+    ensures keeps { H.keeps seat.old seat.new }
+    ensures deck { IsSameDeck deck.old deck.new }
+{
+    if let Some(shown) = left.shown {
+        put_blocks(deck, hub.instance().demands(), shown);
+    }
+    if seek_design(rt, alloc, hub, seat, bench, &left.told)? {
+        drop_blocks(deck);
+    }
+    Ok(())
+}
+
+/// One turn of a worker that has a deck: it takes a block, or else a task.
+///
+/// - Gives: whether nothing is left to do.
+fn take_turn<N: Search, H: Office<N>, T: Wait, G: Gate>(
+    rt: &T,
+    alloc: Global,
+    hub: &H,
+    seat: &mut H::Seat,
+    deck: &mut Deck,
+    bench: &mut Bench<N>,
+    gate: &G,
+    number: u32,
+    turn: u64,
+) -> Result<bool, AllocError>
+    requires of { H.of hub.now seat.old }
+    requires free { H.free seat.old }
+    ensures of { H.of hub.now seat.new }
+    ensures keeps { H.keeps seat.old seat.new }
+    ensures done { IfOk result (λ done. done ≡ true → H.ended hub.now seat.new) }
+    ensures deck { IsSameDeck deck.old deck.new }
+{
+    if let Some(block) = next_block(rt, deck) {
+        gate.pass(number, turn);
+        do_block(rt, hub, seat, deck, bench, block)?;
+        return Ok(false);
+    }
+    let (task, standing) = hub.standing_task(rt, seat);
+    if let Task::Done = task {
+        return Ok(true);
+    }
+    gate.pass(number, turn);
+    gate.stand(standing);
+    let left = do_task(rt, alloc, hub, seat, bench, task)?;
+    do_rest(rt, alloc, hub, seat, deck, bench, left)?;
+    Ok(false)
+}
+
+/// Does blocks and tasks on a bench until no task is left.
+fn do_blocks<N: Search, H: Office<N>, T: Wait, G: Gate>(
+    rt: &T,
+    alloc: Global,
+    hub: &H,
+    seat: &mut H::Seat,
+    deck: &mut Deck,
+    bench: &mut Bench<N>,
+    gate: &G,
+) -> Result<(), AllocError>
+    requires of { H.of hub.now seat.old }
+    ensures of { H.of hub.now seat.new }
+    ensures keeps { H.keeps seat.old seat.new }
+    ensures done { OnOk result (H.ended hub.now seat.new) }
+    ensures deck { IsSameDeck deck.old deck.new }
+{
+    let (number, _workers) = hub.place(seat);
+    let mut turn: u64 = 0;
+    for _ in rt.forever() {
+        let Ok(()) = hub.may_call(seat) else {
+            return Ok(());
+        };
+        if take_turn(rt, alloc, hub, seat, deck, bench, gate, number, turn)? {
+            return Ok(());
+        }
+        turn = turn.saturating_add(1);
+    }
+    unreachable!()
+}
+
+/// Does what `work` does, and lets other workers steal the demands of a version that this one opened or published: they go
+/// onto its deck in blocks. Each turn takes a block of its own, else one of another deck, in the order of their numbers,
+/// else a task. Blocks of a version that is over are dropped, and so is one for which memory is wanting on a deck: tasks give
+/// its demands.
+///
+/// - Takes: besides, a deck of one making with those of the other workers. The gate is passed once for each block or task.
+/// - Errors: want of memory alone. Then seat and deck are as the calls made so far left them.
+pub fn work_blocks<N: Search, H: Office<N>, T: Wait, G: Gate>(
+    rt: &T,
+    alloc: Global,
+    hub: &H,
+    seat: &mut H::Seat,
+    deck: &mut Deck,
+    gate: &G,
+) -> Result<(), AllocError>
+    requires of { H.of hub.now seat.old }
+    ensures of { H.of hub.now seat.new }
+    ensures keeps { H.keeps seat.old seat.new }
+    ensures done { OnOk result (H.ended hub.now seat.new) }
+    ensures deck { IsSameDeck deck.old deck.new }
+{
+    let (number, workers) = hub.place(seat);
+    let mut bench = Bench::new(alloc, number, workers);
+    do_blocks(rt, alloc, hub, seat, deck, &mut bench, gate)
 }

@@ -1,0 +1,323 @@
+//! What a worker does with a task, while it holds nothing of the hub. Before each call it asks whether the seat may make
+//! one.
+
+ghost use Rattle.std.specs.Prelude.{IfOk};
+ghost use Rattle.completions.specs.Completions.{ArePaths};
+
+use crate::bench::Bench;
+use crate::office::Office;
+use crate::search::Search;
+use crate::told::Told;
+use leaf_work::{keep_limits, next_prices};
+use plan_base::{BranchId, DemandId, Items, Path};
+use pool_machine::{Better, ExamineFault, Gather, Offered, Opened, Publish, Task};
+use std::alloc::{AllocError, Global};
+use std::sync::Wait;
+
+/// A version that was opened or published, and its slot.
+#[derive(Clone, Copy)]
+pub(crate) struct Shown {
+    pub(crate) slot: u32,
+    pub(crate) node: BranchId,
+    pub(crate) version: u64,
+}
+
+/// What a task leaves to do: a version whose demands are to be priced, and what a search for a design begins with.
+#[derive(Drop)]
+pub(crate) struct Left<N: Search> {
+    pub(crate) shown: Option<Shown>,
+    pub(crate) told: Option<Told<N>>,
+}
+
+impl<N: Search> Left<N> {
+    /// Nothing is left.
+    fn nothing() -> Left<N> {
+        Left {
+            shown: None,
+            told: None,
+        }
+    }
+}
+
+/// Takes the prices of a version from the board and what is forbidden at its node out of the pool, where the bench has not
+/// got them: once for each version, not for each demand.
+pub(crate) fn turn_to<N: Search, H: Office<N>, T: Wait>(
+    rt: &T,
+    hub: &H,
+    seat: &mut H::Seat,
+    bench: &mut Bench<N>,
+    node: BranchId,
+    slot: u32,
+    version: u64,
+) -> Result<(), AllocError>
+    requires of { H.of hub.now seat.old }
+    ensures of { H.of hub.now seat.new }
+    ensures keeps { H.keeps seat.old seat.new }
+{
+    if bench.has(node, version) {
+        return Ok(());
+    }
+    let Some(published) = hub.published(rt, seat, node, slot, version)? else {
+        return Ok(());
+    };
+    let Ok(()) = hub.may_call(seat) else {
+        return Ok(());
+    };
+    let Some(rows) = hub.ground(rt, seat, published.node)? else {
+        return Ok(());
+    };
+    bench.put(&**hub.instance(), published, rows);
+    Ok(())
+}
+
+/// Prices a demand, and hands in what it finds.
+///
+/// - Gives: what becomes of it; None where the bench has not got the version, there is no such demand, or the seat may make
+///   no further call.
+pub(crate) fn price<N: Search, H: Office<N>, T: Wait>(
+    rt: &T,
+    hub: &H,
+    seat: &mut H::Seat,
+    bench: &mut Bench<N>,
+    node: BranchId,
+    version: u64,
+    demand: DemandId,
+) -> Result<Option<Offered>, AllocError>
+    requires of { H.of hub.now seat.old }
+    ensures of { H.of hub.now seat.new }
+    ensures keeps { H.keeps seat.old seat.new }
+{
+    let Some(offer) = bench.offer(&**hub.instance(), node, version, demand)? else {
+        return Ok(None);
+    };
+    let Ok(()) = hub.may_call(seat) else {
+        return Ok(None);
+    };
+    Ok(Some(hub.offer(rt, seat, offer)))
+}
+
+/// What a master step is told of a complete version, where it is the node's still.
+fn told_of<N: Search, H: Office<N>, T: Wait>(
+    rt: &T,
+    hub: &H,
+    seat: &mut H::Seat,
+    node: BranchId,
+    version: u64,
+) -> Result<Option<Told<N>>, AllocError>
+    requires of { H.of hub.now seat.old }
+    ensures of { H.of hub.now seat.new }
+    ensures keeps { H.keeps seat.old seat.new }
+{
+    let Ok(()) = hub.may_call(seat) else {
+        return Ok(None);
+    };
+    match hub.gather(rt, seat, node, version)? {
+        Gather::Taken(brief) => Ok(Told::tested(&**hub.instance(), brief)),
+        _ => Ok(None),
+    }
+}
+
+/// Publishes the prices that follow, or settles the node. What is refused is dropped.
+fn go_on<N: Search, H: Office<N>, T: Wait>(
+    rt: &T,
+    alloc: Global,
+    hub: &H,
+    seat: &mut H::Seat,
+    told: &Told<N>,
+    node: BranchId,
+    version: u64,
+) -> Result<Option<Shown>, AllocError>
+    requires of { H.of hub.now seat.old }
+    ensures of { H.of hub.now seat.new }
+    ensures keeps { H.keeps seat.old seat.new }
+{
+    let next = next_prices(alloc, &**hub.instance(), &**hub.table(), told.brief())?;
+    let Ok(()) = hub.may_call(seat) else {
+        return Ok(None);
+    };
+    let Some(prices) = next else {
+        let _answer = hub.settle(rt, seat, node, version);
+        return Ok(None);
+    };
+    match hub.publish(rt, seat, node, version, &prices)? {
+        Publish::Published { slot, version } => Ok(Some(Shown {
+            slot,
+            node,
+            version,
+        })),
+        _ => Ok(None),
+    }
+}
+
+/// Tells the bench of the cheapest design of all workers.
+fn learn_best<N: Search, H: Office<N>, T: Wait>(
+    rt: &T,
+    hub: &H,
+    seat: &mut H::Seat,
+    bench: &mut Bench<N>,
+) -> Result<(), AllocError>
+    requires of { H.of hub.now seat.old }
+    ensures of { H.of hub.now seat.new }
+    ensures keeps { H.keeps seat.old seat.new }
+{
+    let Ok(()) = hub.may_call(seat) else {
+        return Ok(());
+    };
+    match hub.best_design(rt, seat)? {
+        Some(best) => bench.learn(&**hub.instance(), &best),
+        None => Ok(()),
+    }
+}
+
+/// The least paths of a version. Where some have more arcs than their demands' limits, what is forbidden at the node is
+/// taken out of the pool, and they are replaced as far as it permits others.
+fn start_paths<N: Search, H: Office<N>, T: Wait>(
+    rt: &T,
+    alloc: Global,
+    hub: &H,
+    seat: &mut H::Seat,
+    told: &Told<N>,
+) -> Result<Items<Path>, AllocError>
+    requires of { H.of hub.now seat.old }
+    ensures of { H.of hub.now seat.new }
+    ensures keeps { H.keeps seat.old seat.new }
+    ensures paths { IfOk result (ArePaths N.problem) }
+{
+    let inst = &**hub.instance();
+    let paths = told.least_paths(alloc, inst)?;
+    if keep_limits(inst, &paths) {
+        return Ok(paths);
+    }
+    let Ok(()) = hub.may_call(seat) else {
+        return Ok(paths);
+    };
+    match hub.ground(rt, seat, told.node())? {
+        Some(rows) => told.paths_within(alloc, inst, &*rows, paths),
+        None => Ok(paths),
+    }
+}
+
+/// Searches for a design, where a complete version was worked on and one is due, and hands it in. A search that begins with
+/// a design begins with the cheapest one of all workers.
+///
+/// - Gives: whether the design is taken.
+pub(crate) fn seek_design<N: Search, H: Office<N>, T: Wait>(
+    rt: &T,
+    alloc: Global,
+    hub: &H,
+    seat: &mut H::Seat,
+    bench: &mut Bench<N>,
+    told: &Option<Told<N>>,
+) -> Result<bool, AllocError>
+    requires of { H.of hub.now seat.old }
+    ensures of { H.of hub.now seat.new }
+    ensures keeps { H.keeps seat.old seat.new }
+{
+    let Some(told) = told else {
+        return Ok(false);
+    };
+    if !bench.is_design_due(told) {
+        return Ok(false);
+    }
+    learn_best(rt, hub, seat, bench)?;
+    let paths = start_paths(rt, alloc, hub, seat, told)?;
+    let Some(design) = bench.design(&**hub.instance(), &**hub.table(), told, &paths)? else {
+        return Ok(false);
+    };
+    let Ok(()) = hub.may_call(seat) else {
+        return Ok(false);
+    };
+    match hub.better(rt, seat, design) {
+        Ok(Better::Taken { cost: _cost }) => Ok(true),
+        _ => Ok(false),
+    }
+}
+
+/// Opens a node.
+fn open<N: Search, H: Office<N>, T: Wait>(
+    rt: &T,
+    hub: &H,
+    seat: &mut H::Seat,
+    node: BranchId,
+) -> Result<Option<Shown>, AllocError>
+    requires of { H.of hub.now seat.old }
+    requires free { H.free seat.old }
+    ensures of { H.of hub.now seat.new }
+    ensures keeps { H.keeps seat.old seat.new }
+{
+    match hub.open(rt, seat, node)? {
+        Ok(Opened { slot, version }) => Ok(Some(Shown {
+            slot,
+            node,
+            version,
+        })),
+        Err(_refused) => Ok(None),
+    }
+}
+
+/// Goes on with a complete version. A search for a design comes only after that, so that no other worker waits for it.
+fn advance<N: Search, H: Office<N>, T: Wait>(
+    rt: &T,
+    alloc: Global,
+    hub: &H,
+    seat: &mut H::Seat,
+    node: BranchId,
+    version: u64,
+) -> Result<Left<N>, AllocError>
+    requires of { H.of hub.now seat.old }
+    ensures of { H.of hub.now seat.new }
+    ensures keeps { H.keeps seat.old seat.new }
+{
+    let Some(told) = told_of(rt, hub, seat, node, version)? else {
+        return Ok(Left::nothing());
+    };
+    let shown = go_on(rt, alloc, hub, seat, &told, node, version)?;
+    Ok(Left {
+        shown,
+        told: Some(told),
+    })
+}
+
+/// Does a task, but for the search for a design that may follow.
+pub(crate) fn do_task<N: Search, H: Office<N>, T: Wait>(
+    rt: &T,
+    alloc: Global,
+    hub: &H,
+    seat: &mut H::Seat,
+    bench: &mut Bench<N>,
+    task: Task,
+) -> Result<Left<N>, AllocError>
+    requires of { H.of hub.now seat.old }
+    ensures of { H.of hub.now seat.new }
+    ensures keeps { H.keeps seat.old seat.new }
+{
+    let Ok(()) = hub.may_call(seat) else {
+        return Ok(Left::nothing());
+    };
+    match task {
+        Task::Open { node } => {
+            let shown = open(rt, hub, seat, node)?;
+            Ok(Left { shown, told: None })
+        }
+        Task::Price {
+            node,
+            slot,
+            version,
+            demand,
+        } => {
+            turn_to(rt, hub, seat, bench, node, slot, version)?;
+            let _answer = price(rt, hub, seat, bench, node, version, demand)?;
+            Ok(Left::nothing())
+        }
+        Task::Master { node, version } => advance(rt, alloc, hub, seat, node, version),
+        Task::Close { node } => {
+            let _answer = hub.close(rt, seat, node);
+            Ok(Left::nothing())
+        }
+        Task::Examine { node } => match hub.examine(rt, seat, node) {
+            Err(ExamineFault::OutOfMemory) => Err(AllocError),
+            _ => Ok(Left::nothing()),
+        },
+        Task::Done => Ok(Left::nothing()),
+    }
+}
