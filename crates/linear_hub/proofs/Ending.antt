@@ -1,5 +1,5 @@
 -- Seats as they are made, and as they are taken in.
-use Rattle.std.proofs.Common.{◌≡◌, ℕ, List, [], ◌∷◌, ◌++◌, length, ◌⊎◌, inl, ⊎_elim, sym, subst, Some, slice_get}
+use Rattle.std.proofs.Common.{◌≡◌, ℕ, List, [], ◌∷◌, ◌++◌, length, inl, ⊎_elim, sym, subst, Some, slice_get}
 use mathlib.Core.List.{IsPrefix}
 use Rattle.one_history.specs.declared.view.Entry.{Entry}
 use Rattle.one_history.specs.declared.view.View.{View}

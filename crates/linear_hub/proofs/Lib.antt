@@ -3,3 +3,4 @@ pub mod Answering
 mod Ending
 mod WorkedCalls
 mod LedTo
+mod WorkerLists

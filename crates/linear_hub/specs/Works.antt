@@ -1,5 +1,5 @@
 -- What a worker's calls make of its view.
-use Rattle.std.specs.Prelude.{ℕ, ◌≡◌, ◌⊎◌, ⊤, List, [], ◌∷◌, ◌++◌}
+use Rattle.std.specs.Prelude.{ℕ, ◌≡◌, ◌⊎◌, ◌<◌, ⊤, List, [], ◌∷◌, ◌++◌, length, slice_index_or}
 use Rattle.one_history.specs.declared.limits.TheConstants.{MAX_CALLS}
 use Rattle.one_history.specs.declared.view.Entry.{Entry}
 use Rattle.one_history.specs.declared.view.View.{View}
@@ -45,3 +45,7 @@ pub record HasSeenDone (w : View Call) : Type 0 where
 -- the seat has made all its calls, or was told that nothing is left
 abbrev pub HasEndedWell : ℕ → View Call → Type 0
 HasEndedWell calls w = (calls ≡ MAX_CALLS) ⊎ HasSeenDone w
+
+-- this holds of the items at each place of two lists
+abbrev pub AreRelated : {W : Type 0} → (W → W → Type 0) → List W → List W → Type 0
+AreRelated {W} Relation before after = (k : ℕ) (d : W) → k < length before → Relation (slice_index_or before k d) (slice_index_or after k d)

@@ -1,16 +1,21 @@
 //! A search by several workers.
 
-ghost use Rattle.std.specs.Prelude.{◌≡◌, ◌≤◌, ◌<◌, [], length, All, IfOk};
+ghost use Rattle.std.specs.Prelude.{◌≡◌, ◌≤◌, ◌<◌, [], length, map, reverse, All, IfOk, vec_capacity};
 ghost use Rattle.plan_base.specs.Places.{places};
+ghost use Rattle.block_deques.specs.Decks.{deck_id};
+ghost use Rattle.block_deques.specs.Wholes.{AreOneMaking};
 ghost use Rattle.one_history.specs.declared.limits.TheConstants.{MAX_CALLERS};
 ghost use Rattle.pool_machine.specs.declared.limits.TheConstants.{MAX_ROUNDS};
 ghost use Rattle.pool_machine.specs.Tasks.{IsSearchState};
 ghost use Rattle.linear_hub.specs.Histories.{IsLedTo};
+ghost use Rattle.linear_hub.specs.Works.{AreRelated};
 ghost use Rattle.plan_io.specs.declared.gate.TheConstants.{MAX_WORKERS};
 
-use crate::hub::{LinearHub, LinearSeat};
+use crate::hub::LinearHub;
 use crate::naming::Naming;
-use crate::working::work_linear;
+use crate::workers::{Crew, Worker, put_together, take_apart};
+use crate::working::work_blocks;
+use block_deques::{Deck, decks, gather_decks};
 use dual_versions::{BoardReader, BoardWriter, board};
 use plan_io::Gate;
 use pool_core::Pool;
@@ -24,7 +29,7 @@ use std::thread::Threads;
 /// Works on a pool by so many workers at once, until nothing is left to do or memory is wanting. What they leave is for
 /// `Pool::finish`.
 ///
-/// - Takes: a pool; 1 to 64 workers; a gate that each worker passes with each task.
+/// - Takes: a pool; 1 to 64 workers; a gate that each worker passes with each block or task.
 /// - Gives: a pool to which a legal history leads from the one that was handed in, so one of the same search.
 /// - Errors: want of memory before the work alone. A worker that stops for want of memory leaves the pool whole.
 pub fn search<R: Threads + Wait + Sync, G: Gate>(
@@ -40,64 +45,108 @@ pub fn search<R: Threads + Wait + Sync, G: Gate>(
 {
     let places = pool.instance().places();
     let (writer, readers) = board(rt, alloc, MAX_ROUNDS, workers, places)?;
-    search_as::<Brand, R, G>(rt, alloc, pool, workers, writer, readers, gate)
+    let decks = decks(alloc, workers)?;
+    search_as::<Brand, R, G>(rt, alloc, pool, decks, writer, readers, gate)
 }
 
-/// Lets each seat work, in threads at once.
+/// Lets each worker work, in threads at once.
 fn work_all<
     N: Naming + Send + Sync,
     R: Wait + Drop + Send + Sync,
     T: Threads + Wait + Sync,
     G: Gate,
->(
-    rt: &T,
-    alloc: Global,
-    hub: &LinearHub<N, R>,
-    seats: &mut [LinearSeat<N, R>],
-    workers: u32,
-    gate: &G,
-)
-    requires workers { 0 < workers }
-    requires of { All (λ s. s.pass.table_id ≡ hub.now.turns.table.shared.table_id) seats.old }
-    ensures of { All (λ s. s.pass.table_id ≡ hub.now.turns.table.shared.table_id) seats.new }
+>(rt: &T, alloc: Global, hub: &LinearHub<N, R>, workers: &mut [Worker<N, R>], gate: &G)
+    requires some { 0 < length workers.old }
+    requires of { All (λ w. w.seat.pass.table_id ≡ hub.now.turns.table.shared.table_id) workers.old }
+    ensures of { All (λ w. w.seat.pass.table_id ≡ hub.now.turns.table.shared.table_id) workers.new }
+    ensures decks { AreRelated (λ v w. deck_id w.deck ≡ deck_id v.deck) workers.old workers.new }
 {
+    let threads = workers.len();
     thread::for_each_mut(
         rt,
-        seats,
-        workers as usize,
-        &|_, seat: &mut LinearSeat<N, R>|
-            requires { seat.old.pass.table_id ≡ hub.now.turns.table.shared.table_id }
-            ensures { seat.new.pass.table_id ≡ seat.old.pass.table_id }
+        workers,
+        threads,
+        &|_, worker: &mut Worker<N, R>|
+            requires { worker.old.seat.pass.table_id ≡ hub.now.turns.table.shared.table_id }
+            ensures seat { worker.new.seat.pass.table_id ≡ worker.old.seat.pass.table_id }
+            ensures deck { deck_id worker.new.deck ≡ deck_id worker.old.deck }
         {
-            let _done = work_linear(rt, alloc, hub, seat, gate);
+            let Worker { seat, deck } = worker;
+            let _done = work_blocks(rt, alloc, hub, seat, deck, gate);
         },
     );
 }
 
-/// `search`, of what the type names.
-///
-/// - Takes: besides, a board of which nothing was shown or put yet.
-#[tactic(auto, using(crate::proofs::LedTo::led))]
-fn search_as<'a, N: Naming + Send + Sync, R: Threads + Wait + Sync, G: Gate>(
-    rt: &'a R,
+/// A hub for the pool, and its workers, one for each deck.
+fn begin<N: Naming, R: Wait + Drop>(
     alloc: Global,
     pool: Pool,
-    workers: u32,
-    writer: BoardWriter<&'a R>,
+    decks: Vec<Deck>,
+    writer: BoardWriter<R>,
     readers: Vec<BoardReader>,
-    gate: &G,
-) -> Result<Pool, AllocError>
-    requires workers { (1 ≤ workers) × (workers ≤ MAX_CALLERS) }
+) -> Result<(LinearHub<N, R>, Crew<N, R>), AllocError>
+    requires workers { (1 ≤ length decks.items) × (length decks.items ≤ MAX_CALLERS) }
+    requires decks { AreOneMaking decks.items }
     requires opening { pool ≡ N.opening }
     requires search { (pool.problem ≡ N.problem) × (pool.budget ≡ N.budget) }
     requires slots { writer.slots ≡ MAX_ROUNDS }
     requires prices { writer.prices ≡ places pool.problem }
     requires none_pending { writer.pending ≡ [] }
-    requires readers { length readers.items ≡ workers }
+    requires readers { length readers.items ≡ length decks.items }
+    ensures some { IfOk result (λ r. 0 < length r.1.workers.items) }
+    ensures count { IfOk result (λ r. r.0.turns.callers ≡ length r.1.workers.items) }
+    ensures of { IfOk result (λ r. All (λ w. w.seat.pass.table_id ≡ r.0.turns.table.shared.table_id) r.1.workers.items) }
+    ensures decks { IfOk result (λ r. AreOneMaking (reverse (map (λ w. w.deck) r.1.workers.items))) }
+    ensures empty { IfOk result (λ r. (r.1.seats.items ≡ []) × (r.1.decks.items ≡ [])) }
+    ensures room { IfOk result (λ r. (length r.1.workers.items ≤ vec_capacity r.1.seats) × (length r.1.workers.items ≤ vec_capacity r.1.decks)) }
+{
+    let count = decks.len() as u32;
+    let (hub, seats) = LinearHub::new(alloc, pool, count, writer, readers)?;
+    let crew = put_together(alloc, seats, decks)?;
+    Ok((hub, crew))
+}
+
+/// The pool that the workers leave. What is left on their decks is dropped.
+#[tactic(auto, using(crate::proofs::LedTo::led))]
+fn finish<N: Naming, R: Wait + Drop>(alloc: Global, hub: LinearHub<N, R>, crew: Crew<N, R>) -> Pool
+    requires some { 0 < length crew.workers.items }
+    requires count { hub.turns.callers ≡ length crew.workers.items }
+    requires of { All (λ w. w.seat.pass.table_id ≡ hub.turns.table.shared.table_id) crew.workers.items }
+    requires decks { AreOneMaking (reverse (map (λ w. w.deck) crew.workers.items)) }
+    requires empty { (crew.seats.items ≡ []) × (crew.decks.items ≡ []) }
+    requires room { (length crew.workers.items ≤ vec_capacity crew.seats) × (length crew.workers.items ≤ vec_capacity crew.decks) }
+    ensures search { IsSearchState N.problem N.budget result }
+    ensures led { IsLedTo N.opening result }
+{
+    let (seats, decks) = take_apart(crew);
+    let _left = gather_decks(alloc, decks);
+    hub.end(seats)
+}
+
+/// `search`, of what the type names.
+///
+/// - Takes: besides, a board of which nothing was shown or put yet, and a new deck for each worker.
+fn search_as<'a, N: Naming + Send + Sync, R: Threads + Wait + Sync, G: Gate>(
+    rt: &'a R,
+    alloc: Global,
+    pool: Pool,
+    decks: Vec<Deck>,
+    writer: BoardWriter<&'a R>,
+    readers: Vec<BoardReader>,
+    gate: &G,
+) -> Result<Pool, AllocError>
+    requires workers { (1 ≤ length decks.items) × (length decks.items ≤ MAX_CALLERS) }
+    requires decks { AreOneMaking decks.items }
+    requires opening { pool ≡ N.opening }
+    requires search { (pool.problem ≡ N.problem) × (pool.budget ≡ N.budget) }
+    requires slots { writer.slots ≡ MAX_ROUNDS }
+    requires prices { writer.prices ≡ places pool.problem }
+    requires none_pending { writer.pending ≡ [] }
+    requires readers { length readers.items ≡ length decks.items }
     ensures search { IfOk result (IsSearchState N.problem N.budget) }
     ensures led { IfOk result (IsLedTo N.opening) }
 {
-    let (hub, mut seats) = LinearHub::<N, &R>::new(alloc, pool, workers, writer, readers)?;
-    work_all(rt, alloc, &hub, seats.as_mut_slice(), workers, gate);
-    Ok(hub.end(seats))
+    let (hub, mut crew) = begin::<N, &R>(alloc, pool, decks, writer, readers)?;
+    work_all(rt, alloc, &hub, crew.workers.as_mut_slice(), gate);
+    Ok(finish(alloc, hub, crew))
 }

@@ -1,13 +1,14 @@
 //! A worker at a hub whose calls stand in one history.
 
 ghost use Rattle.std.specs.Prelude.{◌≡◌, OnOk};
+ghost use Rattle.block_deques.specs.Decks.{IsSameDeck};
 ghost use Rattle.one_history.specs.Passes.{view_of};
 ghost use Rattle.linear_hub.specs.Works.{HasWorked, HasEndedWell};
 
 use crate::hub::{LinearHub, LinearSeat};
 use crate::naming::Naming;
+use block_deques::Deck;
 use plan_io::Gate;
-use pool_work::work;
 use std::alloc::{AllocError, Global};
 use std::sync::Wait;
 
@@ -28,5 +29,27 @@ pub fn work_linear<N: Naming, R: Wait + Drop, T: Wait, G: Gate>(
     ensures worked { HasWorked (view_of seat.old.pass) (view_of seat.new.pass) }
     ensures done { OnOk result (HasEndedWell seat.new.calls (view_of seat.new.pass)) }
 {
-    work::<N, LinearHub<N, R>, T, G>(rt, alloc, hub, seat, gate)
+    pool_work::work::<N, LinearHub<N, R>, T, G>(rt, alloc, hub, seat, gate)
+}
+
+/// Does what `work_linear` does, and lets other workers steal the demands of the versions that this one opened or published,
+/// as `pool_work::work_blocks` says.
+///
+/// - Takes: besides, a deck of one making with those of the other workers. The gate is passed once for each block or task.
+/// - Errors: want of memory alone. Then seat and deck are as the calls made so far left them.
+pub fn work_blocks<N: Naming, R: Wait + Drop, T: Wait, G: Gate>(
+    rt: &T,
+    alloc: Global,
+    hub: &LinearHub<N, R>,
+    seat: &mut LinearSeat<N, R>,
+    deck: &mut Deck,
+    gate: &G,
+) -> Result<(), AllocError>
+    requires hub { seat.old.pass.table_id ≡ hub.now.turns.table.shared.table_id }
+    ensures hub { seat.new.pass.table_id ≡ seat.old.pass.table_id }
+    ensures worked { HasWorked (view_of seat.old.pass) (view_of seat.new.pass) }
+    ensures done { OnOk result (HasEndedWell seat.new.calls (view_of seat.new.pass)) }
+    ensures deck { IsSameDeck deck.old deck.new }
+{
+    pool_work::work_blocks::<N, LinearHub<N, R>, T, G>(rt, alloc, hub, seat, deck, gate)
 }
