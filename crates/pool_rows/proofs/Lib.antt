@@ -1,1 +1,2 @@
 mod Makings
+mod Seats

@@ -1,13 +1,15 @@
-//! Calls of a hub by several seats in turns, and of a board, and what each is answered.
+//! Calls of hubs by several seats in turns, and of a board, and what each is answered.
 //!
-//! The file of rows has small networks and dialogues: each begins with a hub on a network and its seats, goes on with
-//! calls, each by one seat, and ends with the plan of the pool that the ended hub gives; or it begins with a board and its
-//! readers. What the pool alone answers to a call stands in `pools`, and that workers run at once in `run_rows`. To add a
-//! call, write it there in the form that the head of the file explains, and its answer, worked out by hand, at the same
-//! place of the file `stdout`. Begin at `tell_dialogue`.
+//! The file of rows has small networks and dialogues: each begins with a hub of either kind on a network and its seats,
+//! goes on with calls, each by one seat, and ends with the plan of the pool that the ended hub gives; or it begins with a
+//! board and its readers. What the pool alone answers to a call stands in `pools`, and that workers run at once in
+//! `run_rows`. To add a call, write it there in the form that the head of the file explains, and its answer, worked out by
+//! hand, at the same place of the file `stdout`. Begin at `tell_dialogue`.
 
 mod boards;
 mod calls;
+mod ends;
+mod linear;
 mod turns;
 
 use row_networks::{Network, network_of};
@@ -30,6 +32,7 @@ fn tell_dialogue<R: Wait>(
     let (kind, words) = first.split_once(' ')?;
     match kind {
         "hub" => turns::tell_dialogue(rt, alloc, networks, words, calls, text),
+        "linear" => linear::tell_dialogue(rt, alloc, networks, words, calls, text),
         "board" => boards::tell_dialogue(rt, alloc, words, calls, text),
         _ => None,
     }

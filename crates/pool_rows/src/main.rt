@@ -1,9 +1,11 @@
-//! Makes calls of the pool, of a hub by several seats, of a board and of decks, and writes what each is answered.
+//! Makes calls of the pool, of both hubs by several seats, of a board and of decks, and writes what each is answered.
 //!
-//! Three parts one after the other: a pool (`pools`), a hub and a board (`hubs`), decks (`decks`). The head of each tells
+//! Three parts one after the other: a pool (`pools`), hubs and a board (`hubs`), decks (`decks`). The head of each tells
 //! how a case is added. The program's words are the files of rows of the first two. What both speak of stands in `calling`.
-//! Stands on `pool_core`, `pool_hub`, `dual_versions`, `block_deques` and on what makes their arguments; promises nothing
-//! of its own.
+//! What a seat has seen of a history has no bytes, so no row shows it: that it has the seat's calls, each once and in their
+//! order, and after a meeting all that the other had seen, the clauses `called` and `met` of `linear_hub` alone say. Stands
+//! on `pool_core`, `pool_hub`, `linear_hub`, `dual_versions`, `block_deques` and on what makes their arguments; promises
+//! nothing of its own.
 #![tactic(auto)]
 
 mod calling;

@@ -4,11 +4,12 @@ ghost use Rattle.std.specs.Prelude.{◌≡◌, ◌≤◌};
 ghost use Rattle.plan_io.specs.declared.gate.TheConstants.{MAX_WORKERS};
 
 use super::calls::Common;
-use crate::calling::{first_number, pool_of};
+use super::ends::tell_plan;
+use crate::calling::{first_number, pool_of, tell_published};
 use dual_versions::board;
-use plan_io::MAX_WORKERS;
+use plan_io::{MAX_WORKERS, NoGate};
 use pool_core::Pool;
-use pool_hub::{Hub, Naming, Seat};
+use pool_hub::{Hub, Naming, Seat, work};
 use pool_machine::limits::MAX_ROUNDS;
 use row_networks::Network;
 use std::alloc::Global;
@@ -16,41 +17,46 @@ use std::marker::Brand;
 use std::sync::Wait;
 use std::sync::ledger::Blank;
 
-/// Makes the call of a row by the seat whose number the row begins with, and adds the row and the answer.
-fn tell_call<N: Naming, R: Wait>(
-    common: &Common<N, R>,
-    seats: &mut [Seat<N>],
-    row: &str,
+/// Makes a call by a seat, and adds the answer. None where it is no call, and where memory is wanting.
+fn tell_seat<N: Naming, R: Wait, W: Wait + Drop>(
+    common: &Common<R>,
+    hub: &Hub<N, W>,
+    seat: &mut Seat<N>,
+    call: &str,
     text: &mut String,
 ) -> Option<()> {
-    let (number, call) = first_number(row)?;
-    let seat = seats.get_mut(number as usize)?;
-    write!(text, "{row}:").ok()?;
-    common.tell(seat, call, text)?;
-    text.push_str("\n").ok()
+    let (kind, rest) = call.split_once(' ').unwrap_or((call, ""));
+    match kind {
+        "prices" => {
+            let slot = rest.parse::<u32>().ok()?;
+            tell_published(hub.prices(common.rt, seat, slot).ok()?, text)
+        }
+        "read" => tell_published(seat.read(rest.parse::<u32>().ok()?).ok()?, text),
+        "work" => {
+            work(common.rt, common.alloc, hub, seat, &NoGate).ok()?;
+            text.push_str(" done").ok()
+        }
+        _ => common.tell::<N, Hub<N, W>>(hub, seat, kind, rest, text),
+    }
 }
 
-/// Makes the calls of rows one after the other.
-fn tell_calls<N: Naming, R: Wait>(
-    common: &Common<N, R>,
+/// Makes the calls of rows one after the other, each by the seat whose number the row begins with, and adds the rows and
+/// the answers.
+fn tell_calls<N: Naming, R: Wait, W: Wait + Drop>(
+    common: &Common<R>,
+    hub: &Hub<N, W>,
     seats: &mut [Seat<N>],
     rows: &[&str],
     text: &mut String,
 ) -> Option<()> {
     for row in rows {
-        tell_call(common, seats, row, text)?;
+        let (number, call) = first_number(row)?;
+        let seat = seats.get_mut(number as usize)?;
+        write!(text, "{row}:").ok()?;
+        tell_seat(common, hub, seat, call, text)?;
+        text.push_str("\n").ok()?;
     }
     Some(())
-}
-
-/// Adds whether the search of an ended hub is done, and what its plan claims.
-fn tell_plan(pool: Pool, text: &mut String) -> Option<()> {
-    let mut pool = pool;
-    write!(text, "end: done {}", pool.is_done()).ok()?;
-    pool.finish().ok()?;
-    let plan = pool.into_plan().ok()?;
-    let cost = plan.design.as_ref().map(|found| found.0);
-    write!(text, " plan {:?} cost {cost:?}\n", plan.status).ok()
 }
 
 /// Makes the calls of a dialogue on a pool, by so many seats.
@@ -79,9 +85,8 @@ fn take_turns<N: Naming, R: Wait>(
         alloc,
         demands,
         arcs,
-        hub: &hub,
     };
-    tell_calls(&common, seats.as_mut_slice(), rows, text)?;
+    tell_calls(&common, &hub, seats.as_mut_slice(), rows, text)?;
     // A hub ends with all its seats.
     if seats.len() != workers as usize {
         return None;
