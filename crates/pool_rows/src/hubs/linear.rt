@@ -139,7 +139,9 @@ fn take_turns<N: Naming, R: Wait>(
     let arcs = pool.instance().arcs();
     let places = pool.instance().places();
     let (writer, readers) = board(rt, alloc, MAX_ROUNDS, 2, places).ok()?;
-    let (hub, seats) = LinearHub::<N, &R>::new(alloc, pool, 2, writer, readers).ok()?;
+    let Ok((hub, seats)) = LinearHub::<N, &R>::new(alloc, pool, 2, writer, readers) else {
+        return None;
+    };
     let (mut first, mut second) = two_seats(&hub, seats)?;
     let common = Common {
         rt,
