@@ -14,6 +14,11 @@ pub mod Counted
 pub mod Tables
 pub mod Prices
 pub mod Made
+pub mod FirstBest
 pub mod BestEnds
+pub mod HullValue
+pub mod StepEnds
+pub mod WholeRanges
+pub mod DivisorLaws
 pub mod Units
 pub mod ValueTotals

@@ -1,30 +1,30 @@
 -- What prices give to a link, told by its steps.
-use Rattle.std.proofs.Common.{◌≡◌, ℕ, ◌+◌, ◌-◌, ◌*◌, ◌/◌, ◌<◌, ◌≤◌, inl, inr, Bool, true, false, min, max, List, [], ◌∷◌, ◌++◌, length, slice_index, if◌then◌else◌, Option, Some, None, refl, sym, ap, arith}
+use Rattle.std.proofs.Common.{◌≡◌, ℕ, ◌+◌, ◌*◌, ◌/◌, ◌<◌, ◌≤◌, inl, inr, Bool, true, false, min, max, List, [], ◌∷◌, ◌++◌, length, slice_index, if◌then◌else◌, Option, Some, None, refl, sym, ap, arith}
 use Rattle.std.specs.Prelude.{ℤ, pos, ◌-ℤ◌, ◌≤ℤ◌}
 use Rattle.std.proofs.Math.Seq.{get_or-append_seam}
 use Rattle.std.proofs.lemmas.List.{get_or_append_left}
 use Rattle.std.proofs.Math.Nat.{mul-le-mul, mul-le-mul_left, div-mul-le_self}
 use Rattle.std.proofs.lemmas.Int.{ints}
 use Rattle.std.proofs.lemmas.Nat.{le-div}
-use Rattle.plan_base.specs.declared.parts.CountLaw.{CountLaw}
 use Rattle.plan_base.specs.declared.parts.Link.{Link}
 use Rattle.plan_base.specs.declared.parts.Parts.{Parts}
-use Rattle.plan_base.specs.declared.limits.TheConstants.{MODULE_COST_BOUND, MAX_PRICED_LOAD}
+use Rattle.plan_base.specs.declared.limits.TheConstants.{MODULE_COST_BOUND, MAX_ROUTING_COST, MAX_PRICED_LOAD}
 use Rattle.link_steps.specs.declared.limits.TheConstants.{MAX_STEPS}
-use Rattle.plan_base.specs.Arcs.{link_at}
-use Rattle.plan_base.specs.Facts.{total_load, top_load, price_limit}
+use Rattle.plan_base.specs.Arcs.{link_at, no_link}
+use Rattle.plan_base.specs.Facts.{total_load, top_load, price_limit, IsInstance}
 use Rattle.link_steps.specs.declared.step.Step.{Step}
 use Rattle.link_steps.specs.declared.ends.End.{End}
-use Rattle.link_steps.specs.Costs.{IsLeastModuleCostOn, IsStepCostOn}
-use Rattle.link_steps.specs.Values.{top_back, value_at, GiveValue, IsLinkValue, AreFirstLoads, share, IsLeastUnitPrice, IsStartPrice}
+use Rattle.link_steps.specs.Costs.{IsLeastModuleCostOn}
+use Rattle.link_steps.specs.declared.range.LinkRanges.{LinkRanges}
+use Rattle.link_steps.specs.Values.{top_back, IsLinkValue, AreLinkRanges, share, IsLeastUnitPrice, IsStartPrice}
 use Rattle.plan_base.specs.Places.{is_two_way, link_of_place}
-use Rattle.link_steps.specs.Steps.{step_at, AreSteps, AreAllSteps, end_in, AreEndsOf, IsBestEnd, unit_at, IsUnitOf, IsLeastUnit}
-use Rattle.link_steps.proofs.Order.{either_way, before_or_last}
+use Rattle.link_steps.specs.Candidates.{AreSmall}
+use Rattle.link_steps.specs.Steps.{step_at, AreSteps, AreAllSteps, end_in, AreEndsOf, unit_at, IsUnitOf, IsLeastUnit}
+use Rattle.link_steps.proofs.Order.{before_or_last}
 use Rattle.link_steps.proofs.Reached.{CarriesOn-less, IsFirstReaching, first-least, least-unique}
-use Rattle.plan_base.proofs.CountSums.{none_of_each, cost-none}
 use Rattle.link_steps.proofs.Counted.{carried-reached}
 use Rattle.plan_base.proofs.TopLoads.{top-le}
-use Rattle.link_steps.proofs.Carrying.{none-carries_pre, carried-le-top, top-can_carry}
+use Rattle.link_steps.proofs.Carrying.{carried-le-top, top-can_carry}
 
 -- a load that a later step reaches is carried, so each step but the last one ends below the top load
 pub below-top : (p : Parts) (l : Link) (steps : List Step) (i j : ℕ) → AreSteps p.law (total_load p) l steps → j < i → i < length steps → (step_at steps j).reach < top_load p l
@@ -56,254 +56,6 @@ cost-of : (p : Parts) (l : Link) (steps : List Step) (load cost : ℕ) → AreAl
 cost-of p l steps load cost are within least =
     let found = carried-reached (total_load p) l steps load least.counts are (omega (arith, top-le p l)) least.carries in
     record { place = found.0; first = found.1; is = least-unique l load _ _ least (first-least (total_load p) l steps load found.0 are.are_steps found.1) }
-
-difference-le : (a b c d : ℕ) → a + d ≤ c + b → (pos a -ℤ pos b) ≤ℤ (pos c -ℤ pos d)
-difference-le a b c d h = omega (arith, ints)
-
-difference-back : (a b c d : ℕ) → (pos c -ℤ pos d) ≡ (pos a -ℤ pos b) → c + b ≡ a + d
-difference-back a b c d h = omega (arith, ints)
-
-difference-same : (a b c d : ℕ) → a + d ≡ c + b → (pos a -ℤ pos b) ≡ (pos c -ℤ pos d)
-difference-same a b c d h = omega (arith, ints)
-
--- the load of a place: the whole load where its price is above the routing costs, else none
-pub record IsLoadAt (slope whole load : ℕ) : Type 0 where
-  pub sloping : 0 < slope → load ≡ whole
-  pub level : slope ≡ 0 → load ≡ 0
-
--- what is left of a price above the routing costs
-abbrev pub IsSlope : ℕ → ℕ → ℕ → Type 0
-IsSlope routing price slope = slope ≡ price - 1000 * routing
-
--- the price of a load is at most its routing costs and what is left of the price times any larger load
-place-le : (routing price slope load whole : ℕ) → IsSlope routing price slope → load ≤ whole → price * load ≤ 1000 * (routing * load) + slope * whole
-place-le routing price slope load whole is le =
-    let less : price ≤ 1000 * routing + slope = (let same : slope ≡ price - 1000 * routing = is in omega arith) in
-    let priced : load * price ≤ load * (1000 * routing + slope) = mul-le-mul_left load less in
-    let larger : slope * load ≤ slope * whole = mul-le-mul_left slope le in
-    omega arith
-
--- it is less where something is left and the load is smaller
-place-lt : (routing price slope load whole : ℕ) → IsSlope routing price slope → 0 < slope → load < whole → price * load < 1000 * (routing * load) + slope * whole
-place-lt routing price slope load whole is positive lt =
-    let less : price ≤ 1000 * routing + slope = (let same : slope ≡ price - 1000 * routing = is in omega arith) in
-    let priced : load * price ≤ load * (1000 * routing + slope) = mul-le-mul_left load less in
-    let larger : slope * (load + 1) ≤ slope * whole = mul-le-mul_left slope (let le : load + 1 ≤ whole = omega arith in le) in
-    omega arith
-
--- it is as much at the load of the place
-place-same : (routing price slope load whole : ℕ) → IsSlope routing price slope → IsLoadAt slope whole load → price * load ≡ 1000 * (routing * load) + slope * whole
-place-same routing price slope load whole is at =
-    elim (either_way slope 0) [
-      | inl none ↦
-          (let level : slope ≡ 0 = omega arith in
-          let no_load : load ≡ 0 = at.level level in
-          rw (no_load, level) (omega arith))
-      | inr some ↦
-          (let whole_is : load ≡ whole = at.sloping some in
-          let price_is : price ≡ 1000 * routing + slope = (let same : slope ≡ price - 1000 * routing = is in omega arith) in
-          rw (whole_is, price_is) (omega arith))
-    ]
-
--- the loads of two places of which one has the whole load
-larger-whole : (slope back_slope whole load back : ℕ) → 0 < slope + back_slope → IsLoadAt slope whole load → IsLoadAt back_slope whole back → max load back ≡ whole
-larger-whole slope back_slope whole load back positive at at_back =
-    elim (either_way slope 0) [
-      | inl none ↦
-          (let no_load : load ≡ 0 = at.level (omega arith) in
-          let back_is : back ≡ whole = at_back.sloping (omega arith) in
-          rw (no_load, back_is) (omega arith))
-      | inr some ↦
-          (let load_is : load ≡ whole = at.sloping some in
-          elim (either_way back_slope 0) [
-            | inl none ↦ (let no_back : back ≡ 0 = at_back.level (omega arith) in rw (load_is, no_back) (omega arith))
-            | inr also ↦ (let back_is : back ≡ whole = at_back.sloping also in rw (load_is, back_is) (omega arith))
-          ])
-    ]
-
-module _ (p : Parts) (l : Link) (steps : List Step) (price back_price slope back_slope load back : ℕ) (best : End)
-    (are : AreAllSteps p.law (total_load p) l steps) (is_slope : IsSlope l.routing price slope) (is_back : IsSlope l.routing back_price back_slope)
-    (positive : 0 < slope + back_slope) (one_way : is_two_way p.orient ≡ false → back_price ≡ 0)
-    (is_best : IsBestEnd steps (top_load p l) (slope + back_slope) best) (at : IsLoadAt slope best.load load) (at_back : IsLoadAt back_slope best.load back) where
-  cost_is : best.cost ≡ (step_at steps is_best.is_end_of.place).cost
-  cost_is = ap (λ (e : End). e.cost) is_best.is_end_of.is_end
-
-  load_is : best.load ≡ min (step_at steps is_best.is_end_of.place).reach (top_load p l)
-  load_is = ap (λ (e : End). e.load) is_best.is_end_of.is_end
-
-  larger_is : max load back ≡ best.load
-  larger_is = larger-whole slope back_slope best.load load back positive at at_back
-
-  back-within : back ≤ top_back p l
-  back-within = by_cases (is_two_way p.orient) refl
-    where
-      by_cases : (b : Bool) → is_two_way p.orient ≡ b → back ≤ (if b then top_load p l else 0)
-      by_cases true is = omega (arith, larger_is, load_is)
-      by_cases false is =
-          let no_price : back_price ≡ 0 = one_way is in
-          let level : back_slope ≡ 0 = (let same : back_slope ≡ back_price - 1000 * l.routing = is_back in omega arith) in
-          omega (arith, at_back.level level)
-
-  best-least : IsLeastModuleCostOn p.law l (max load back) best.cost
-  best-least = rw (larger_is, cost_is, load_is) (end-least p l steps is_best.is_end_of.place are.are_steps is_best.is_end_of.within)
-
-  value : ℤ
-  value = pos (1000 * best.cost) -ℤ pos ((slope + back_slope) * best.load)
-
-  give-best : GiveValue p l price back_price (pos (1000 * best.cost) -ℤ pos ((slope + back_slope) * best.load)) load back
-  give-best = record {
-    within = omega (arith, larger_is, load_is);
-    back_within = back-within;
-    cost = l.routing * (load + back) + best.cost;
-    is_cost = record { module_cost = best.cost; is_least = best-least; is_sum = refl };
-    attained =
-        (let one = place-same l.routing price slope load best.load is_slope at in
-        let other = place-same l.routing back_price back_slope back best.load is_back at_back in
-        difference-same (1000 * (l.routing * (load + back) + best.cost)) (price * load + back_price * back) (1000 * best.cost) ((slope + back_slope) * best.load) (omega arith));
-  }
-
-  -- where the larger of two loads is carried, the best end is no worse than at the larger load
-  at_larger : (whole cost : ℕ) → whole ≤ top_load p l → IsLeastModuleCostOn p.law l whole cost → 1000 * best.cost + (slope + back_slope) * whole ≤ 1000 * cost + (slope + back_slope) * best.load
-  at_larger whole cost within least =
-      let found = cost-of p l steps whole cost are within least in
-      let here = found.first.here in
-      let at_end : (slope + back_slope) * whole ≤ (slope + back_slope) * min (step_at steps found.place).reach (top_load p l) =
-      mul-le-mul_left (slope + back_slope) (let le : whole ≤ min (step_at steps found.place).reach (top_load p l) = omega arith in le) in
-      let no_more = (is_best.outdoes found.place found.first.within).no_more in
-      rw found.is (omega arith)
-
-  -- it is better where the larger load is smaller than at the best end
-  at_smaller : (whole cost : ℕ) → whole ≤ top_load p l → IsLeastModuleCostOn p.law l whole cost → whole < best.load → 1000 * best.cost + (slope + back_slope) * whole < 1000 * cost + (slope + back_slope) * best.load
-  at_smaller whole cost within least before =
-      let found = cost-of p l steps whole cost are within least in
-      let here = found.first.here in
-      let outdoes = is_best.outdoes found.place found.first.within in
-      let no_more = outdoes.no_more in
-      rw found.is (elim (either_way best.load (min (step_at steps found.place).reach (top_load p l))) [
-        | inl far ↦
-            (let more : (slope + back_slope) * (whole + 1) ≤ (slope + back_slope) * min (step_at steps found.place).reach (top_load p l) =
-            mul-le-mul_left (slope + back_slope) (let le : whole + 1 ≤ min (step_at steps found.place).reach (top_load p l) = omega arith in le) in
-            omega arith)
-        | inr near ↦
-            (let less = outdoes.less near in
-            let at_end : (slope + back_slope) * whole ≤ (slope + back_slope) * min (step_at steps found.place).reach (top_load p l) =
-            mul-le-mul_left (slope + back_slope) (let le : whole ≤ min (step_at steps found.place).reach (top_load p l) = omega arith in le) in
-            omega arith)
-      ])
-
-  top-larger : (x y : ℕ) → x ≤ top_load p l → y ≤ top_back p l → max x y ≤ top_load p l
-  top-larger x y within = by_cases (is_two_way p.orient)
-    where
-      by_cases : (b : Bool) → y ≤ (if b then top_load p l else 0) → max x y ≤ top_load p l
-      by_cases true back_within = omega arith
-      by_cases false back_within = omega arith
-
-  no-less : (x y c : ℕ) → x ≤ top_load p l → y ≤ top_back p l → IsStepCostOn p.law l x y c → (pos (1000 * best.cost) -ℤ pos ((slope + back_slope) * best.load)) ≤ℤ value_at price back_price x y c
-  no-less x y c within back_within is_cost =
-      let one = place-le l.routing price slope x (max x y) is_slope (omega arith) in
-      let other = place-le l.routing back_price back_slope y (max x y) is_back (omega arith) in
-      let whole = at_larger (max x y) is_cost.module_cost (top-larger x y within back_within) is_cost.is_least in
-      rw is_cost.is_sum (difference-le (1000 * best.cost) ((slope + back_slope) * best.load) (1000 * (l.routing * (x + y) + is_cost.module_cost)) (price * x + back_price * y) (omega arith))
-
-  pub IsLinkValue-best : IsLinkValue p l price back_price (pos (1000 * best.cost) -ℤ pos ((slope + back_slope) * best.load))
-  IsLinkValue-best = record { load = load; back = back; give = give-best; least = no-less }
-
-  -- loads that give the value, in whole numbers
-  given : (x y : ℕ) (give : GiveValue p l price back_price (pos (1000 * best.cost) -ℤ pos ((slope + back_slope) * best.load)) x y)
-      → 1000 * (l.routing * (x + y) + give.is_cost.module_cost) + (slope + back_slope) * best.load ≡ 1000 * best.cost + (price * x + back_price * y)
-  given x y give =
-      let sum = give.is_cost.is_sum in
-      let attained : value_at price back_price x y (l.routing * (x + y) + give.is_cost.module_cost) ≡ (pos (1000 * best.cost) -ℤ pos ((slope + back_slope) * best.load)) = rw sum at give.attained in
-      difference-back (1000 * best.cost) ((slope + back_slope) * best.load) (1000 * (l.routing * (x + y) + give.is_cost.module_cost)) (price * x + back_price * y) attained
-
-  none-smaller : (x y : ℕ) → GiveValue p l price back_price (pos (1000 * best.cost) -ℤ pos ((slope + back_slope) * best.load)) x y → max load back ≤ max x y
-  none-smaller x y give =
-      elim (either_way best.load (max x y)) [
-        | inl le ↦ omega (arith, larger_is)
-        | inr lt ↦
-            (let one = place-le l.routing price slope x (max x y) is_slope (omega arith) in
-            let other = place-le l.routing back_price back_slope y (max x y) is_back (omega arith) in
-            let more = at_smaller (max x y) give.is_cost.module_cost (top-larger x y give.within give.back_within) give.is_cost.is_least lt in
-            let same = given x y give in
-            absurd (omega arith))
-      ]
-
-  no_less-load : (x y : ℕ) → GiveValue p l price back_price (pos (1000 * best.cost) -ℤ pos ((slope + back_slope) * best.load)) x y → max x y ≡ max load back → load ≤ x
-  no_less-load x y give at_whole =
-      elim (either_way load x) [
-        | inl le ↦ le
-        | inr lt ↦
-            (let some : 0 < slope = elim (either_way slope 0) [ inl none ↦ absurd (let level : slope ≡ 0 = omega arith in omega (arith, at.level level)) | inr some ↦ some ] in
-            let one = place-lt l.routing price slope x (max x y) is_slope some (omega (arith, larger_is)) in
-            let other = place-le l.routing back_price back_slope y (max x y) is_back (omega arith) in
-            let more = at_larger (max x y) give.is_cost.module_cost (top-larger x y give.within give.back_within) give.is_cost.is_least in
-            let same = given x y give in
-            absurd (omega arith))
-      ]
-
-  no_less-back : (x y : ℕ) → GiveValue p l price back_price (pos (1000 * best.cost) -ℤ pos ((slope + back_slope) * best.load)) x y → max x y ≡ max load back → back ≤ y
-  no_less-back x y give at_whole =
-      elim (either_way back y) [
-        | inl le ↦ le
-        | inr lt ↦
-            (let some : 0 < back_slope = elim (either_way back_slope 0) [ inl none ↦ absurd (let level : back_slope ≡ 0 = omega arith in omega (arith, at_back.level level)) | inr some ↦ some ] in
-            let one = place-le l.routing price slope x (max x y) is_slope (omega arith) in
-            let other = place-lt l.routing back_price back_slope y (max x y) is_back some (omega (arith, larger_is)) in
-            let more = at_larger (max x y) give.is_cost.module_cost (top-larger x y give.within give.back_within) give.is_cost.is_least in
-            let same = given x y give in
-            absurd (omega arith))
-      ]
-
-  pub AreFirstLoads-best : AreFirstLoads p l price back_price (pos (1000 * best.cost) -ℤ pos ((slope + back_slope) * best.load)) load back
-  AreFirstLoads-best = record {
-    give = give-best;
-    larger = none-smaller;
-    each = λ x y give at_whole. (no_less-load x y give at_whole, no_less-back x y give at_whole);
-  }
-
--- carrying nothing costs nothing, whatever the steps
-no_load-cost : (law : CountLaw) (l : Link) → IsStepCostOn law l 0 0 0
-no_load-cost law l =
-    record {
-      module_cost = 0;
-      is_least = record {
-        counts = none_of_each l;
-        carries = none-carries_pre law l 0 (omega arith);
-        attained = cost-none l;
-        least = λ others carries. omega arith;
-      };
-      is_sum = omega arith;
-    }
-
--- where the routing cost is no less than the prices, carrying nothing is best
-give-nothing : (p : Parts) (l : Link) (price back_price : ℕ) → GiveValue p l price back_price (pos 0) 0 0
-give-nothing p l price back_price = record {
-  within = omega arith;
-  back_within = omega arith;
-  cost = 0;
-  is_cost = no_load-cost p.law l;
-  attained = difference-same (1000 * 0) (price * 0 + back_price * 0) 0 0 (omega arith);
-}
-
-pub IsLinkValue-nothing : (p : Parts) (l : Link) (price back_price : ℕ) → price ≤ 1000 * l.routing → back_price ≤ 1000 * l.routing → IsLinkValue p l price back_price (pos 0)
-IsLinkValue-nothing p l price back_price low back_low =
-    record {
-      load = 0;
-      back = 0;
-      give = give-nothing p l price back_price;
-      least = λ x y c within back_within is_cost.
-          (let is_sum = is_cost.is_sum in
-          let le : x * price ≤ x * (1000 * l.routing) = mul-le-mul_left x low in
-          let back_le : y * back_price ≤ y * (1000 * l.routing) = mul-le-mul_left y back_low in
-          difference-le 0 0 (1000 * c) (price * x + back_price * y) (rw is_sum (omega arith)));
-    }
-
-pub AreFirstLoads-nothing : (p : Parts) (l : Link) (price back_price : ℕ) → AreFirstLoads p l price back_price (pos 0) 0 0
-AreFirstLoads-nothing p l price back_price = record {
-  give = give-nothing p l price back_price;
-  larger = λ x y give. omega arith;
-  each = λ x y give same. (omega arith, omega arith);
-}
 
 -- a larger load has no larger quotient
 quotient-le : (n small large : ℕ) → 0 < small → small ≤ large → n / large ≤ n / small
@@ -368,29 +120,49 @@ slope-within p l price slope load limit less within =
     let product : slope * load ≤ price_limit p * max (total_load p) 1 = mul-le-mul (let le : slope ≤ price_limit p = omega arith in le) most in
     omega (arith, product, div-mul-le_self (MAX_PRICED_LOAD) (max (total_load p) 1))
 
--- a link value is not positive
-pub IsLinkValue-not_positive : (p : Parts) (l : Link) (price back_price : ℕ) (value : ℤ) → IsLinkValue p l price back_price value → value ≤ℤ pos 0
-IsLinkValue-not_positive p l price back_price value is = at_nothing (price * 0 + back_price * 0) value (omega arith) (is.least 0 0 0 (omega arith) (omega arith) (no_load-cost p.law l))
-  where
-    at_nothing : (nothing : ℕ) (v : ℤ) → nothing ≡ 0 → v ≤ℤ (pos (1000 * 0) -ℤ pos nothing) → v ≤ℤ pos 0
-    at_nothing nothing v none le = omega (arith, ints)
-
 -- a load back is at most the top load
-back-top : (p : Parts) (l : Link) (back : ℕ) → back ≤ top_back p l → back ≤ top_load p l
-back-top p l back = by_cases (is_two_way p.orient)
+pub back-top : (p : Parts) (e : ℕ) → top_back p e ≤ top_load p (link_at p e)
+back-top p e = by_cases (is_two_way p.orient)
   where
-    by_cases : (b : Bool) → back ≤ (if b then top_load p l else 0) → back ≤ top_load p l
-    by_cases true within = within
-    by_cases false within = omega arith
+    by_cases : (b : Bool) → (if b then top_load p (link_at p e) else 0) ≤ top_load p (link_at p e)
+    by_cases true = omega arith
+    by_cases false = omega arith
 
 -- at prices up to the limit, a link value is not far below 0
-pub IsLinkValue-bounded : (p : Parts) (l : Link) (price back_price : ℕ) (value : ℤ) → price ≤ price_limit p → back_price ≤ price_limit p → IsLinkValue p l price back_price value → (pos 0 -ℤ pos (2 * MAX_PRICED_LOAD)) ≤ℤ value
-IsLinkValue-bounded p l price back_price value limit back_limit is =
+pub IsLinkValue-bounded : (p : Parts) (e : ℕ) (ranges : LinkRanges) (price back_price : ℕ) (value : ℤ) → AreLinkRanges p e ranges → price ≤ price_limit p → back_price ≤ price_limit p → IsLinkValue p e ranges price back_price value
+    → (pos 0 -ℤ pos (2 * MAX_PRICED_LOAD)) ≤ℤ value
+IsLinkValue-bounded p e ranges price back_price value in_ranges limit back_limit is =
+    let l = link_at p e in
+    let load_top : is.load ≤ top_load p l = omega (arith, is.give.in_range.few, in_ranges.there.carried) in
+    let back_within : is.back ≤ top_load p l = omega (arith, is.give.back_in_range.few, in_ranges.other.carried, back-top p e) in
     rw (← is.give.attained) (above (1000 * is.give.cost) (price * is.load + back_price * is.back)
-    (omega (arith, slope-within p l price price is.load limit (omega arith) is.give.within, slope-within p l back_price back_price is.back back_limit (omega arith) (back-top p l is.back is.give.back_within))))
+    (omega (arith, slope-within p l price price is.load limit (omega arith) load_top, slope-within p l back_price back_price is.back back_limit (omega arith) back_within)))
   where
     above : (cost priced : ℕ) → priced ≤ 2 * MAX_PRICED_LOAD → (pos 0 -ℤ pos (2 * MAX_PRICED_LOAD)) ≤ℤ (pos cost -ℤ pos priced)
     above cost priced le = omega (arith, ints)
+
+-- what a link costs by routing is small
+pub routing-within : (p : Parts) (e load : ℕ) → IsInstance p → e < length p.links → load ≤ top_load p (link_at p e) → (link_at p e).routing * load ≤ MAX_ROUTING_COST
+routing-within p e load lawful within few =
+    let whole : (link_at p e).routing * total_load p ≤ MAX_ROUTING_COST = lawful.routing e no_link within in
+    let product : (link_at p e).routing * load ≤ (link_at p e).routing * total_load p = mul-le-mul_left (link_at p e).routing (let le : load ≤ total_load p = omega (arith, few, top-le p (link_at p e)) in le) in
+    omega (arith, whole, product)
+
+-- a link value is not far above 0: a thousand step costs are small
+pub IsLinkValue-not_above : (p : Parts) (e : ℕ) (ranges : LinkRanges) (price back_price : ℕ) (steps : List Step) (value : ℤ) → IsInstance p → e < length p.links → AreAllSteps p.law (total_load p) (link_at p e) steps
+    → AreLinkRanges p e ranges → IsLinkValue p e ranges price back_price value → value ≤ℤ pos MAX_PRICED_LOAD
+IsLinkValue-not_above p e ranges price back_price steps value lawful within are in_ranges is =
+    let l = link_at p e in
+    let load_top : is.load ≤ top_load p l = omega (arith, is.give.in_range.few, in_ranges.there.carried) in
+    let back_within : is.back ≤ top_load p l = omega (arith, is.give.back_in_range.few, in_ranges.other.carried, back-top p e) in
+    let found = cost-of p l steps (max is.load is.back) is.give.is_cost.module_cost are (omega arith) is.give.is_cost.is_least in
+    let cheap = are.are_steps.in_order.cheap found.place found.first.within in
+    let small : is.give.cost ≤ 2 * MAX_ROUTING_COST + MAX_STEPS * MODULE_COST_BOUND =
+    omega (arith, is.give.is_cost.is_sum, found.is, cheap, found.first.within, are.within, routing-within p e is.load lawful within load_top, routing-within p e is.back lawful within back_within) in
+    rw (← is.give.attained) (below (1000 * is.give.cost) (price * is.load + back_price * is.back) (omega (arith, small)))
+  where
+    below : (cost priced : ℕ) → cost ≤ MAX_PRICED_LOAD → (pos cost -ℤ pos priced) ≤ℤ pos MAX_PRICED_LOAD
+    below cost priced le = omega (arith, ints)
 
 -- both slopes together, too, are small enough with any load up to the top load
 pub slopes-within : (p : Parts) (l : Link) (price back_price slope back_slope load : ℕ) → price ≤ price_limit p → back_price ≤ price_limit p → slope ≤ price → back_slope ≤ back_price → load ≤ top_load p l → (slope + back_slope) * load ≤ 2 * MAX_PRICED_LOAD
@@ -414,3 +186,12 @@ AreEndsOf-low p l ends i are within =
     let each = are.are_best.each i within in
     let load_is : (end_in ends i).load ≡ min (step_at are.steps each.place).reach (top_load p l) = ap (λ (e : End). e.load) each.is_end in
     omega (arith, load_is)
+
+-- loads in the ranges cost little
+pub AreSmall-ranges : (p : Parts) (e : ℕ) (ranges : LinkRanges) (price back_price : ℕ) → IsInstance p → e < length p.links → AreLinkRanges p e ranges → price ≤ price_limit p → back_price ≤ price_limit p → AreSmall (link_at p e) ranges price back_price
+AreSmall-ranges p e ranges price back_price lawful within in_ranges limit back_limit =
+    let back_few : ranges.back.most ≤ top_load p (link_at p e) = omega (arith, in_ranges.other.carried, back-top p e) in
+    record {
+      there = record { some = in_ranges.there.some; routing = routing-within p e _ lawful within in_ranges.there.carried; priced = slope-within p (link_at p e) price price _ limit (omega arith) in_ranges.there.carried };
+      other = record { some = in_ranges.other.some; routing = routing-within p e _ lawful within back_few; priced = slope-within p (link_at p e) back_price back_price _ back_limit (omega arith) back_few };
+    }

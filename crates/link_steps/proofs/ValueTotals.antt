@@ -9,8 +9,8 @@ use Rattle.plan_base.specs.declared.parts.Parts.{Parts}
 use Rattle.plan_base.specs.declared.limits.TheConstants.{MAX_LINKS, MAX_PRICED_LOAD}
 use Rattle.plan_base.specs.Sums.{int_sum_below}
 use Rattle.plan_base.specs.Places.{there_of, back_of}
-use Rattle.plan_base.specs.Arcs.{link_at}
-use Rattle.link_steps.specs.Values.{IsLinkValue, HasValueTotal, IsValueTotal}
+use Rattle.link_steps.specs.declared.range.LoadRange.{LoadRange}
+use Rattle.link_steps.specs.Values.{ranges_of_link, IsLinkValue, HasValueTotal, IsValueTotal}
 
 -- the values with one at a place
 abbrev pub with_value : (ℕ → ℤ) → ℕ → ℤ → ℕ → ℤ
@@ -30,8 +30,8 @@ either_way : (x y : ℕ) → (x ≤ y) ⊎ (y < x)
 either_way x y = grind arith
 
 -- the value of one link more
-has_next : (p : Parts) (prices : List ℕ) (place : ℕ) (total value : ℤ) → HasValueTotal p prices place total → IsLinkValue p (link_at p place) (there_of p (slice_index prices) place) (back_of p (slice_index prices) place) value → HasValueTotal p prices (suc place) (total +ℤ value)
-has_next p prices place total value has is =
+has_next : (p : Parts) (ranges : List LoadRange) (prices : List ℕ) (place : ℕ) (total value : ℤ) → HasValueTotal p ranges prices place total → IsLinkValue p place (ranges_of_link p ranges place) (there_of p (slice_index prices) place) (back_of p (slice_index prices) place) value → HasValueTotal p ranges prices (suc place) (total +ℤ value)
+has_next p ranges prices place total value has is =
     record {
       values = with_value has.values place value;
       are_values = λ e below. elim (either_way place e) [
@@ -45,35 +45,39 @@ has_next p prices place total value has is =
 down : (count : ℕ) (total value : ℤ) → (pos 0 -ℤ pos (count * (2 * MAX_PRICED_LOAD))) ≤ℤ total → (pos 0 -ℤ pos (2 * MAX_PRICED_LOAD)) ≤ℤ value → (pos 0 -ℤ pos (suc count * (2 * MAX_PRICED_LOAD))) ≤ℤ (total +ℤ value)
 down count total value before here = omega (arith, ints)
 
-up : (total value : ℤ) → total ≤ℤ pos 0 → value ≤ℤ pos 0 → (total +ℤ value) ≤ℤ pos 0
-up total value before here = omega (arith, ints)
+up : (count : ℕ) (total value : ℤ) → total ≤ℤ pos (count * MAX_PRICED_LOAD) → value ≤ℤ pos MAX_PRICED_LOAD → (total +ℤ value) ≤ℤ pos (suc count * MAX_PRICED_LOAD)
+up count total value before here = omega (arith, ints)
 
-pub total_next : (p : Parts) (prices : List ℕ) (place : ℕ) (total value : ℤ) → IsValueTotal p prices place total → IsLinkValue p (link_at p place) (there_of p (slice_index prices) place) (back_of p (slice_index prices) place) value
-    → value ≤ℤ pos 0 → (pos 0 -ℤ pos (2 * MAX_PRICED_LOAD)) ≤ℤ value → IsValueTotal p prices (place + 1) (total +ℤ value)
-total_next p prices place total value before is not_positive bounded =
+pub total_next : (p : Parts) (ranges : List LoadRange) (prices : List ℕ) (place : ℕ) (total value : ℤ) → IsValueTotal p ranges prices place total
+    → IsLinkValue p place (ranges_of_link p ranges place) (there_of p (slice_index prices) place) (back_of p (slice_index prices) place) value
+    → value ≤ℤ pos MAX_PRICED_LOAD → (pos 0 -ℤ pos (2 * MAX_PRICED_LOAD)) ≤ℤ value → IsValueTotal p ranges prices (place + 1) (total +ℤ value)
+total_next p ranges prices place total value before is not_above bounded =
     rw add-one (record {
-      has = has_next p prices place total value before.has is;
-      not_positive = up total value before.not_positive not_positive;
+      has = has_next p ranges prices place total value before.has is;
+      not_above = up place total value before.not_above not_above;
       bounded = down place total value before.bounded bounded;
     })
 
-pub total_none : (p : Parts) (prices : List ℕ) → IsValueTotal p prices 0 (pos 0)
-total_none p prices =
+pub total_none : (p : Parts) (ranges : List LoadRange) (prices : List ℕ) → IsValueTotal p ranges prices 0 (pos 0)
+total_none p ranges prices =
     record {
       has = record { values = λ e. pos 0; are_values = λ e below. absurd (omega arith); is_sum = refl };
-      not_positive = omega (arith, ints);
+      not_above = omega (arith, ints);
       bounded = omega (arith, ints);
     }
 
--- a whole number not far below 0 fits
-low-fits : (z : ℤ) → z ≤ℤ pos 0 → (pos 0 -ℤ pos (MAX_LINKS * (2 * MAX_PRICED_LOAD))) ≤ℤ z → SFits w128 z
-low-fits (pos n) high low = record { sfits = omega (arith, ints) }
-low-fits (negsuc n) high low = record { sfits = omega (arith, ints) }
+-- a whole number neither far above 0 nor far below fits
+near-fits : (z : ℤ) → z ≤ℤ pos (MAX_LINKS * MAX_PRICED_LOAD) → (pos 0 -ℤ pos (MAX_LINKS * (2 * MAX_PRICED_LOAD))) ≤ℤ z → SFits w128 z
+near-fits (pos n) high low = record { sfits = omega (arith, ints) }
+near-fits (negsuc n) high low = record { sfits = omega (arith, ints) }
+
+higher : (place : ℕ) (total value : ℤ) → place < MAX_LINKS → total ≤ℤ pos (place * MAX_PRICED_LOAD) → value ≤ℤ pos MAX_PRICED_LOAD → (total +ℤ value) ≤ℤ pos (MAX_LINKS * MAX_PRICED_LOAD)
+higher place total value few before here = omega (arith, ints)
 
 lower : (place : ℕ) (total value : ℤ) → place < MAX_LINKS → (pos 0 -ℤ pos (place * (2 * MAX_PRICED_LOAD))) ≤ℤ total → (pos 0 -ℤ pos (2 * MAX_PRICED_LOAD)) ≤ℤ value → (pos 0 -ℤ pos (MAX_LINKS * (2 * MAX_PRICED_LOAD))) ≤ℤ (total +ℤ value)
 lower place total value few before here = omega (arith, ints)
 
 -- so does the sum with one link more
-pub next-fits : (place : ℕ) (total value : ℤ) → place < MAX_LINKS → total ≤ℤ pos 0 → (pos 0 -ℤ pos (place * (2 * MAX_PRICED_LOAD))) ≤ℤ total → value ≤ℤ pos 0 → (pos 0 -ℤ pos (2 * MAX_PRICED_LOAD)) ≤ℤ value
-    → SFits w128 (total +ℤ value)
-next-fits place total value few high low here_high here_low = low-fits (total +ℤ value) (up total value high here_high) (lower place total value few low here_low)
+pub next-fits : (place : ℕ) (total value : ℤ) → place < MAX_LINKS → total ≤ℤ pos (place * MAX_PRICED_LOAD) → (pos 0 -ℤ pos (place * (2 * MAX_PRICED_LOAD))) ≤ℤ total → value ≤ℤ pos MAX_PRICED_LOAD
+    → (pos 0 -ℤ pos (2 * MAX_PRICED_LOAD)) ≤ℤ value → SFits w128 (total +ℤ value)
+next-fits place total value few high low here_high here_low = near-fits (total +ℤ value) (higher place total value few high here_high) (lower place total value few low here_low)

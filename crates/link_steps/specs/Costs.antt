@@ -66,6 +66,29 @@ AreLeastCounts p e = AreLeastCountsOn p.law (link_at p e)
 abbrev pub IsStepCost : Parts → ℕ → ℕ → ℕ → ℕ → Type 0
 IsStepCost p e = IsStepCostOn p.law (link_at p e)
 
+-- a step of the link ends at the load: it is carried, and one load grain more costs more, or is not carried
+pub record IsStepEnd (p : Parts) (e load : ℕ) : Type 0 where
+  pub cost : ℕ
+  pub is_least : IsLeastModuleCost p e load cost
+  pub next : (more : ℕ) → IsLeastModuleCost p e (load + 1) more → cost < more
+
+-- of the loads below this one where a step of the link ends it is the greatest
+pub record IsStepEndBelow (p : Parts) (e load end : ℕ) : Type 0 where
+  pub is_end : IsStepEnd p e end
+  pub below : end < load
+  pub greatest : (other : ℕ) → IsStepEnd p e other → other < load → other ≤ end
+
+-- no step of the link ends at a load from the first to below the second
+abbrev pub EndsNoStep : Parts → ℕ → ℕ → ℕ → Type 0
+EndsNoStep p e from to = (load : ℕ) → from ≤ load → load < to → IsStepEnd p e load → ⊥
+
+-- a step of the link ends at it, from the first load to below the second, and none ends before
+pub record IsFirstStepEnd (p : Parts) (e from to end : ℕ) : Type 0 where
+  pub is_end : IsStepEnd p e end
+  pub enough : from ≤ end
+  pub below : end < to
+  pub first : EndsNoStep p e from end
+
 -- it is the least module cost of a load from 0 to the total load
 pub record IsCostWithin (law : CountLaw) (total : ℕ) (l : Link) (cost : ℕ) : Type 0 where
   pub load : ℕ

@@ -8,7 +8,7 @@ ghost use Rattle.link_steps.specs.Steps.{AreAllSteps};
 
 use crate::step::Step;
 use explicit_steps::{Choice, ChoiceStep, choice_steps};
-use plan_base::limits::{CAPACITY_BOUND, MAX_MODULES, MAX_TOTAL_LOAD};
+use plan_base::limits::{CAPACITY_BOUND, MAX_MODULES};
 use plan_base::{Link, Module};
 use std::alloc::{AllocError, Global};
 

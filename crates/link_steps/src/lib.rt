@@ -12,12 +12,17 @@ mod ends;
 pub mod laws;
 pub mod limits;
 mod making;
+mod range;
 mod reading;
 mod shared;
 mod step;
 mod step_fault;
 mod table;
+mod unit;
+mod value;
 
+pub use range::{LinkRanges, LoadRange, Ranges};
 pub use reading::{LinkValue, PlacedCost};
 pub use step_fault::StepFault;
 pub use table::StepTable;
+pub use unit::cost_unit;

@@ -2,20 +2,24 @@
 
 ghost use Rattle.std.specs.Prelude.{ℕ, false, ◌≡◌, ◌<◌, ◌≤◌, ◌-◌, ◌*◌, ◌-ℤ◌, ◌≤ℤ◌, pos, length, All, IfOk, IfErr, IfSome, IfNone};
 ghost use Rattle.plan_base.specs.declared.parts.CountLaw.TheVariants.{AtMostOne};
-ghost use Rattle.plan_base.specs.Facts.{total_load, top_load, price_limit};
+ghost use Rattle.plan_base.specs.Facts.{total_load, price_limit};
 ghost use Rattle.plan_base.specs.Arcs.{link_at};
 ghost use Rattle.plan_base.specs.Designs.{AreCountsInShape};
-ghost use Rattle.link_steps.specs.Costs.{CannotCarry, IsLeastModuleCost, AreLeastCounts, HasSteps, HasAtMostSteps, IsFaultOf};
+ghost use Rattle.link_steps.specs.Costs.{CannotCarry, IsLeastModuleCost, AreLeastCounts, IsStepEndBelow, IsFirstStepEnd, EndsNoStep, HasSteps, HasAtMostSteps, IsFaultOf};
 ghost use Rattle.link_steps.specs.declared.step_fault.StepFault.TheVariants.{OutOfMemory};
-ghost use Rattle.link_steps.specs.Values.{share, top_back, IsLinkValue, IsValueTotal, AreFirstLoads, IsStartPrice, AreStartPrices};
+ghost use Rattle.link_steps.specs.Candidates.{whole_link};
+ghost use Rattle.link_steps.specs.Ranges.{AreRanges};
+ghost use Rattle.link_steps.specs.Values.{share, IsLinkValue, AreLinkRanges, IsValueTotal, AreFirstLoads, IsStartPrice, AreStartPrices};
 ghost use Rattle.plan_base.specs.Places.{is_two_way, places};
 
 use crate::ends::{End, best_end, best_ends, least_unit, value_of};
 use crate::limits::MAX_STEPS;
 use crate::making::steps_of;
+use crate::range::{LinkRanges, LoadRange, Ranges};
 use crate::reading::{LinkValue, PlacedCost, counts_of, first_reaching, first_reaching_near};
 use crate::step::Step;
 use crate::step_fault::StepFault;
+use crate::value::{are_within, first_best};
 use plan_base::limits::{MAX_PRICED_LOAD, MODULE_COST_BOUND};
 use plan_base::{Instance, Items, LinkId, Prices};
 use std::alloc::{AllocError, Global};
@@ -185,26 +189,14 @@ impl StepTable {
         self.steps_of_link(link).len() as u32
     }
 
-    /// The least that prices leave of the step costs of a link: of a thousand step costs less the prices times the
-    /// loads, over the loads of its places from 0 to the top load. Takes no memory.
-    ///
-    /// - Takes: a link of the instance; the prices of its places, each of at most the price limit, in thousandths of a
-    ///   cost grain per load grain, the second 0 where it has one place.
-    /// - Gives: that value, in thousandths of a cost grain, and of the loads that give it those whose larger one is
-    ///   smallest, and then each as small as possible, in load grains.
-    /// - Rule: docs/DEFINITIONS.md, "Link value".
-    /// - Time: the number of corners of the lower hull of the ends of steps, which are few.
-    pub fn link_value(&self, link: LinkId, price: u128, back: u128) -> LinkValue
+    /// What `link_value` gives where the places of the link may have all loads.
+    fn whole_value(&self, link: LinkId, price: u128, back: u128) -> LinkValue
         requires link { link.0 < length self.now.links }
         requires price { price ≤ price_limit self.now }
         requires back { back ≤ price_limit self.now }
         requires one_way { is_two_way self.now.orient ≡ false → back ≡ 0 }
-        ensures value { IsLinkValue self.now (link_at self.now link.0) price back result.value }
-        ensures loads { AreFirstLoads self.now (link_at self.now link.0) price back result.value result.load result.back }
-        ensures load_within { result.load ≤ top_load self.now (link_at self.now link.0) }
-        ensures back_within { result.back ≤ top_back self.now (link_at self.now link.0) }
-        ensures not_positive { result.value ≤ℤ pos 0 }
-        ensures bounded { (pos 0 -ℤ pos (2 * MAX_PRICED_LOAD)) ≤ℤ result.value }
+        ensures value { IsLinkValue self.now link.0 (whole_link self.now link.0) price back result.value }
+        ensures loads { AreFirstLoads self.now link.0 (whole_link self.now link.0) price back result.value result.load result.back }
     {
         let ends = self.ends_of_link(link);
         let routing = 1000 * u128::from(self.inst.link(link).routing);
@@ -226,24 +218,134 @@ impl StepTable {
         }
     }
 
+    /// What `link_value` gives, found among the steps that the ranges meet.
+    fn ranged_value(
+        &self,
+        link: LinkId,
+        steps: &[Step],
+        ranges: LinkRanges,
+        price: u128,
+        back: u128,
+    ) -> LinkValue
+        requires link { link.0 < length self.now.links }
+        requires steps { AreAllSteps self.now.law (total_load self.now) (link_at self.now link.0) steps.now }
+        requires ranges { AreLinkRanges self.now link.0 ranges }
+        requires price { price ≤ price_limit self.now }
+        requires back { back ≤ price_limit self.now }
+        ensures value { IsLinkValue self.now link.0 ranges price back result.value }
+        ensures loads { AreFirstLoads self.now link.0 ranges price back result.value result.load result.back }
+    {
+        self.inst.lawful();
+        let from = first_reaching(steps, ranges.there.least.max(ranges.back.least));
+        let last = first_reaching(steps, ranges.there.most.max(ranges.back.most));
+        first_best(
+            self.inst.link(link),
+            steps,
+            from,
+            last + 1,
+            ranges,
+            price,
+            back,
+        )
+    }
+
+    /// The least that prices leave of the step costs of a link: of a thousand step costs less the prices times the
+    /// loads, over the loads of its places in their ranges. Takes no memory.
+    ///
+    /// - Takes: a link of the instance; the ranges of its places; the prices of its places, each of at most the price
+    ///   limit, in thousandths of a cost grain per load grain, the second 0 where it has one place.
+    /// - Gives: that value, in thousandths of a cost grain, and of the loads that give it those whose larger one is
+    ///   smallest, and then each as small as possible, in load grains.
+    /// - Rule: docs/DEFINITIONS.md, "Link value".
+    /// - Time: the number of corners of the lower hull of the ends of steps, which are few; and where the loads that are best
+    ///   over whole ranges are outside the ranges and a price is above the routing costs, the number of steps that the
+    ///   ranges meet.
+    pub fn link_value(&self, link: LinkId, ranges: LinkRanges, price: u128, back: u128) -> LinkValue
+        requires link { link.0 < length self.now.links }
+        requires ranges { AreLinkRanges self.now link.0 ranges }
+        requires price { price ≤ price_limit self.now }
+        requires back { back ≤ price_limit self.now }
+        requires one_way { is_two_way self.now.orient ≡ false → back ≡ 0 }
+        ensures value { IsLinkValue self.now link.0 ranges price back result.value }
+        ensures loads { AreFirstLoads self.now link.0 ranges price back result.value result.load result.back }
+        ensures not_above { result.value ≤ℤ pos MAX_PRICED_LOAD }
+        ensures bounded { (pos 0 -ℤ pos (2 * MAX_PRICED_LOAD)) ≤ℤ result.value }
+    {
+        self.inst.lawful();
+        let steps = self.steps_of_link(link);
+        let whole = self.whole_value(link, price, back);
+        if are_within(ranges, whole) {
+            whole
+        } else {
+            self.ranged_value(link, steps, ranges, price, back)
+        }
+    }
+
     /// The sum of the values of all links at these prices. Takes no memory.
     ///
-    /// - Takes: one price for each place, of at most the price limit, in thousandths of a cost grain per load grain.
-    /// - Gives: thousandths of a cost grain; never more than 0.
+    /// - Takes: one range for each place; one price for each place, of at most the price limit, in thousandths of a cost
+    ///   grain per load grain.
+    /// - Gives: thousandths of a cost grain.
     /// - Rule: docs/DEFINITIONS.md, "Link value".
     /// - Time: one link value for each link.
-    pub fn value_total(&self, prices: &Prices) -> i128
+    pub fn value_total(&self, ranges: &Ranges, prices: &Prices) -> i128
+        requires ranges { AreRanges self.now ranges.now }
         requires count { length prices.now ≡ places self.now }
         requires limit { All (λ price. price ≤ price_limit self.now) prices.now }
-        ensures { IsValueTotal self.now prices.now (length self.now.links) result }
+        ensures { IsValueTotal self.now ranges.now prices.now (length self.now.links) result }
     {
         let mut total = 0;
         for place in 0..self.inst.links() {
             let link = LinkId(place);
             let priced = prices.of_link(&self.inst, link);
-            total += self.link_value(link, priced.there, priced.back).value;
+            let ranged = ranges.of_link(&self.inst, link);
+            total += self
+                .link_value(link, ranged, priced.there, priced.back)
+                .value;
         }
         total
+    }
+
+    /// The greatest load below this one where a step of the link ends. Takes no memory.
+    ///
+    /// - Takes: a link of the instance; a load of at most the total load, in load grains.
+    /// - Gives: load grains; None exactly where no step ends below the load.
+    /// - Rule: docs/DEFINITIONS.md, "Steps of a link".
+    /// - Time: the logarithm of the number of steps.
+    pub fn step_below(&self, link: LinkId, load: u64) -> Option<u64>
+        requires link { link.0 < length self.now.links }
+        requires load { load ≤ total_load self.now }
+        ensures end { IfSome result (IsStepEndBelow self.now link.0 load) }
+        ensures none { IfNone result (EndsNoStep self.now link.0 0 load) }
+    {
+        let steps = self.steps_of_link(link);
+        let place = first_reaching(steps, load);
+        if place > 0 {
+            Some(steps[place - 1].reach)
+        } else {
+            None
+        }
+    }
+
+    /// The first load of a range, but its most, where a step of the link ends. Takes no memory.
+    ///
+    /// - Takes: a link of the instance; a range of loads of at most the total load.
+    /// - Gives: load grains; None exactly where no step ends from the least load to below the most.
+    /// - Rule: docs/DEFINITIONS.md, "Steps of a link".
+    /// - Time: the logarithm of the number of steps.
+    pub fn first_step_end(&self, link: LinkId, range: LoadRange) -> Option<u64>
+        requires link { link.0 < length self.now.links }
+        requires range { range.most ≤ total_load self.now }
+        ensures end { IfSome result (IsFirstStepEnd self.now link.0 range.least range.most) }
+        ensures none { IfNone result (EndsNoStep self.now link.0 range.least range.most) }
+    {
+        let steps = self.steps_of_link(link);
+        let place = first_reaching(steps, range.least);
+        if place < steps.len() && steps[place].reach < range.most {
+            Some(steps[place].reach)
+        } else {
+            None
+        }
     }
 
     /// The thousandths of a module cost that the price of each place of a link has to bear.

@@ -1,88 +1,26 @@
-use Rattle.std.proofs.Common.{◌≡◌, ◌-◌, ◌*◌, ap, ◌∙◌, arith, rules}
-use Rattle.std.proofs.lemmas.Int.{to_z-of_z}
-use mir.Syntax.{w128}
-use mir.Val.{SFits}
-use Rattle.plan_base.specs.declared.parts.Link.{Link}
-use Rattle.plan_base.specs.Arcs.{link_at}
-use Rattle.link_steps.proofs.BestEnds.{IsBestEnd-ends}
-use Rattle.link_steps.proofs.Prices.{IsLoadAt, IsLinkValue-nothing, AreFirstLoads-nothing, IsLinkValue-best, AreFirstLoads-best, IsLinkValue-not_positive, IsLinkValue-bounded, slopes-within, AreEndsOf-some, AreEndsOf-cheap, AreEndsOf-low}
+use Rattle.link_steps.proofs.Prices.{IsLinkValue-bounded, IsLinkValue-not_above}
+use Rattle.link_steps.proofs.HullValue.{best-within}
 use Rattle.link_steps.proofs.table.StepTable.link_value.Goals as goal
 
-pub best_end-end-requires-clause-some : goal.best_end-end-requires-clause-some
-best_end-end-requires-clause-some c = AreEndsOf-some c.args.self.now (link_at c.args.self.now c.args.link.0) c.ends_of_link-ends.result.now c.ends_of_link-ends.ensures
-
-pub best_end-end-requires-clause-rising : goal.best_end-end-requires-clause-rising
-best_end-end-requires-clause-rising c = c.ends_of_link-ends.ensures.are_best.rising
-
-pub best_end-end-requires-clause-cost : goal.best_end-end-requires-clause-cost
-best_end-end-requires-clause-cost c = λ i within. AreEndsOf-cheap c.args.self.now (link_at c.args.self.now c.args.link.0) c.ends_of_link-ends.result.now i c.ends_of_link-ends.ensures within
-
-pub best_end-end-requires-clause-slope : goal.best_end-end-requires-clause-slope
-best_end-end-requires-clause-slope c = λ i within.
-    slopes-within c.args.self.now (link_at c.args.self.now c.args.link.0) c.args.price c.args.back c.saturating_sub-slope.result c.saturating_sub-back_slope.result _ c.requires.price c.requires.back (omega arith) (omega arith)
-    (AreEndsOf-low c.args.self.now (link_at c.args.self.now c.args.link.0) c.ends_of_link-ends.result.now i c.ends_of_link-ends.ensures within)
-
-pub value_of-requires-clause-cost : goal.value_of-requires-clause-cost
-value_of-requires-clause-cost c =
-    let is_end = c.best_end-end.ensures.is_end in
-    rw is_end (AreEndsOf-cheap c.args.self.now (link_at c.args.self.now c.args.link.0) c.ends_of_link-ends.result.now c.best_end-end.ensures.place c.ends_of_link-ends.ensures c.best_end-end.ensures.within)
-
-pub value_of-requires-clause-slope : goal.value_of-requires-clause-slope
-value_of-requires-clause-slope c =
-    let is_end = c.best_end-end.ensures.is_end in
-    slopes-within c.args.self.now (link_at c.args.self.now c.args.link.0) c.args.price c.args.back c.saturating_sub-slope.result c.saturating_sub-back_slope.result c.best_end-end.result.load c.requires.price c.requires.back (omega arith) (omega arith)
-    (rw is_end (AreEndsOf-low c.args.self.now (link_at c.args.self.now c.args.link.0) c.ends_of_link-ends.result.now c.best_end-end.ensures.place c.ends_of_link-ends.ensures c.best_end-end.ensures.within))
-
-pub returns-then-whole-eq0-clause-value : goal.returns-then-whole-eq0-clause-value
-returns-then-whole-eq0-clause-value c =
+pub returns-then-are_within : goal.returns-then-are_within
+returns-then-are_within c =
     let p = c.args.self.now in
-    let l = link_at p c.args.link.0 in
-    let routing : c.from-routing.result ≡ l.routing = c.from-routing.ensures ∙ ap (λ (x : Link). x.routing) (rw c.self.view_is at c.link.ensures.value) in
-    let is_slope : c.saturating_sub-slope.result ≡ c.args.price - 1000 * l.routing = omega (arith, c.saturating_sub-slope.ensures, routing) in
-    let is_back : c.saturating_sub-back_slope.result ≡ c.args.back - 1000 * l.routing = omega (arith, c.saturating_sub-back_slope.ensures, routing) in
-    IsLinkValue-nothing p l c.args.price c.args.back (omega arith) (omega arith)
+    let e = c.args.link.0 in
+    let found = c.whole_value-whole.result in
+    let best = best-within p e c.args.ranges c.args.price c.args.back c.requires.ranges found (c.are_within.ensures.there c.if-are_within.true) (c.are_within.ensures.back c.if-are_within.true)
+    (record { value = c.whole_value-whole.ensures.value; loads = c.whole_value-whole.ensures.loads }) in
+    record {
+      value = best.value;
+      loads = best.loads;
+      not_above = IsLinkValue-not_above p e c.args.ranges c.args.price c.args.back c.steps_of_link-steps.result.now found.value (rw c.self.view_is at c.lawful.ensures) c.requires.link c.steps_of_link-steps.ensures c.requires.ranges best.value;
+      bounded = IsLinkValue-bounded p e c.args.ranges c.args.price c.args.back found.value c.requires.ranges c.requires.price c.requires.back best.value;
+    }
 
-pub returns-then-whole-eq0-clause-loads : goal.returns-then-whole-eq0-clause-loads
-returns-then-whole-eq0-clause-loads c = AreFirstLoads-nothing c.args.self.now (link_at c.args.self.now c.args.link.0) c.args.price c.args.back
+pub returns-else-are_within-clause-not_above : goal.returns-else-are_within-clause-not_above
+returns-else-are_within-clause-not_above c =
+    IsLinkValue-not_above c.args.self.now c.args.link.0 c.args.ranges c.args.price c.args.back c.steps_of_link-steps.result.now c.ranged_value.result.value (rw c.self.view_is at c.lawful.ensures) c.requires.link
+    c.steps_of_link-steps.ensures c.requires.ranges c.ranged_value.ensures.value
 
-pub returns-clause-value : goal.returns-clause-value
-returns-clause-value c =
-    let p = c.args.self.now in
-    let l = link_at p c.args.link.0 in
-    let routing : c.from-routing.result ≡ l.routing = c.from-routing.ensures ∙ ap (λ (x : Link). x.routing) (rw c.self.view_is at c.link.ensures.value) in
-    let is_slope : c.saturating_sub-slope.result ≡ c.args.price - 1000 * l.routing = omega (arith, c.saturating_sub-slope.ensures, routing) in
-    let is_back : c.saturating_sub-back_slope.result ≡ c.args.back - 1000 * l.routing = omega (arith, c.saturating_sub-back_slope.ensures, routing) in
-    let at : IsLoadAt c.saturating_sub-slope.result c.best_end-end.result.load c.load_at_slope.result = record { sloping = c.load_at_slope.ensures.sloping; level = c.load_at_slope.ensures.level } in
-    let at_back : IsLoadAt c.saturating_sub-back_slope.result c.best_end-end.result.load c.load_at_slope-2.result = record { sloping = c.load_at_slope-2.ensures.sloping; level = c.load_at_slope-2.ensures.level } in
-    let fits : SFits w128 c.value_of.result = search rules in
-    rw (to_z-of_z w128 c.value_of.result fits, c.value_of.ensures)
-    (IsLinkValue-best p l c.ends_of_link-ends.ensures.steps c.args.price c.args.back c.saturating_sub-slope.result c.saturating_sub-back_slope.result c.load_at_slope.result c.load_at_slope-2.result c.best_end-end.result
-    c.ends_of_link-ends.ensures.are_all is_slope is_back (omega arith) c.requires.one_way
-    (IsBestEnd-ends _ _ _ c.ends_of_link-ends.result.now c.best_end-end.result c.ends_of_link-ends.ensures.are_best c.best_end-end.ensures) at at_back)
-
-pub returns-clause-loads : goal.returns-clause-loads
-returns-clause-loads c =
-    let p = c.args.self.now in
-    let l = link_at p c.args.link.0 in
-    let routing : c.from-routing.result ≡ l.routing = c.from-routing.ensures ∙ ap (λ (x : Link). x.routing) (rw c.self.view_is at c.link.ensures.value) in
-    let is_slope : c.saturating_sub-slope.result ≡ c.args.price - 1000 * l.routing = omega (arith, c.saturating_sub-slope.ensures, routing) in
-    let is_back : c.saturating_sub-back_slope.result ≡ c.args.back - 1000 * l.routing = omega (arith, c.saturating_sub-back_slope.ensures, routing) in
-    let at : IsLoadAt c.saturating_sub-slope.result c.best_end-end.result.load c.load_at_slope.result = record { sloping = c.load_at_slope.ensures.sloping; level = c.load_at_slope.ensures.level } in
-    let at_back : IsLoadAt c.saturating_sub-back_slope.result c.best_end-end.result.load c.load_at_slope-2.result = record { sloping = c.load_at_slope-2.ensures.sloping; level = c.load_at_slope-2.ensures.level } in
-    let fits : SFits w128 c.value_of.result = search rules in
-    rw (to_z-of_z w128 c.value_of.result fits, c.value_of.ensures)
-    (AreFirstLoads-best p l c.ends_of_link-ends.ensures.steps c.args.price c.args.back c.saturating_sub-slope.result c.saturating_sub-back_slope.result c.load_at_slope.result c.load_at_slope-2.result c.best_end-end.result
-    c.ends_of_link-ends.ensures.are_all is_slope is_back (omega arith) c.requires.one_way
-    (IsBestEnd-ends _ _ _ c.ends_of_link-ends.result.now c.best_end-end.result c.ends_of_link-ends.ensures.are_best c.best_end-end.ensures) at at_back)
-
-pub returns-clause-load_within : goal.returns-clause-load_within
-returns-clause-load_within c = (returns-clause-loads c).give.within
-
-pub returns-clause-back_within : goal.returns-clause-back_within
-returns-clause-back_within c = (returns-clause-loads c).give.back_within
-
-pub returns-clause-not_positive : goal.returns-clause-not_positive
-returns-clause-not_positive c = IsLinkValue-not_positive c.args.self.now (link_at c.args.self.now c.args.link.0) c.args.price c.args.back _ (returns-clause-value c)
-
-pub returns-clause-bounded : goal.returns-clause-bounded
-returns-clause-bounded c = IsLinkValue-bounded c.args.self.now (link_at c.args.self.now c.args.link.0) c.args.price c.args.back _ c.requires.price c.requires.back (returns-clause-value c)
+pub returns-else-are_within-clause-bounded : goal.returns-else-are_within-clause-bounded
+returns-else-are_within-clause-bounded c =
+    IsLinkValue-bounded c.args.self.now c.args.link.0 c.args.ranges c.args.price c.args.back c.ranged_value.result.value c.requires.ranges c.requires.price c.requires.back c.ranged_value.ensures.value
