@@ -1,5 +1,6 @@
--- Each design lies in a leaf: a split loses no design, since a simple path leaves a node at most once.
+-- Each feasible design lies in a leaf: a split loses no design, since a simple path leaves a node at most once and a place has one load.
 use Rattle.std.proofs.Common.{◌≡◌, ℕ, suc, ◌<◌, ◌⊎◌, inl, inr, Bool, true, false, ◌&&◌, ◌==◌, List, [], ◌∷◌, length, get_or, Option, All, refl, sym, ap, subst, ◌∙◌, arith}
+use Rattle.std.specs.Prelude.{⊤}
 use Rattle.std.specs.List.{list_any, Any}
 use Rattle.std.proofs.lemmas.Bool.{eqb-true}
 use Rattle.std.proofs.lemmas.List.{get_or_default}
@@ -12,15 +13,19 @@ use Rattle.plan_base.specs.declared.parts.Parts.{Parts}
 use Rattle.plan_base.specs.declared.path.Design.{Design}
 use Rattle.plan_base.specs.Arcs.{tail_of, demand_at, no_arc}
 use Rattle.plan_base.specs.Paths.{arc_at}
-use Rattle.plan_base.specs.Designs.{path_at, IsDesign}
+use Rattle.plan_base.specs.Designs.{path_at, IsDesign, IsFeasible}
 use Rattle.plan_base.proofs.Bools.{or-false_both, or-both_false, list_any-false_at}
-use Rattle.arc_restrict.specs.Restrictions.{Forbidden, none_forbidden, is_among, with_forbidden, LiesIn}
+use Rattle.arc_restrict.specs.Restrictions.{Forbidden, is_among, with_forbidden, LiesIn}
 use Rattle.plan_base.proofs.SimplePaths.{leaves_node-once}
 use Rattle.proof_tree.specs.declared.tree.TreeNode.{TreeNode}
-use Rattle.proof_tree.specs.declared.tree.TreeNode.TheVariants.{Split, Leaf}
+use Rattle.proof_tree.specs.declared.tree.TreeNode.TheVariants.{Split, Loads, Leaf}
+use Rattle.link_steps.specs.Ranges.{AreRanges}
+use Rattle.proof_tree.specs.Regions.{Region, whole, with_arcs, up_to, above, LiesWithin}
 use Rattle.proof_tree.specs.Splits.{IsSide, IsSplit}
 use Rattle.proof_tree.specs.Evidence.{HasEvidence}
 use Rattle.proof_tree.specs.Trees.{AreValidTrees, LeafAt, leaves_at, leaves_of, IsValidTree}
+use Rattle.link_steps.proofs.WholeRanges.{AreRanges-whole}
+use Rattle.proof_tree.proofs.RangeLaws.{AreRanges-up_to, AreRanges-above, in_one_range, lies-whole}
 
 arc-same : (a b : ArcId) → b.0 ≡ a.0 → b ≡ a
 arc-same a b h = ap (λ (n : ℕ). let c : ArcId = record { 0 = n } in c) h
@@ -84,44 +89,78 @@ Any-here P x xs h = (0, x, omega arith, refl, h)
 Any-there : {X : Type 0} (P : X → Type 0) (x : X) (xs : List X) → Any P xs → Any P (x ∷ xs)
 Any-there P x xs h = (suc h.0, h.1, (let below = h.2 in omega arith), h.3, h.4)
 
--- the design lies in one of the restrictions
-abbrev LiesInOne : Parts → Design → List Forbidden → Type 0
-LiesInOne p d [] = ⊥
-LiesInOne p d (r ∷ rs) = LiesIn p d r ⊎ LiesInOne p d rs
+-- a design in a region lies in a child of each split of it
+in_one_side : (p : Parts) (g : Region) (id : DemandId) (node : NodeId) (left right : List ArcId) (d : Design) → IsSplit p g.forbidden id node left right → IsDesign p d → LiesWithin p d g
+    → LiesWithin p d (with_arcs g id left) ⊎ LiesWithin p d (with_arcs g id right)
+in_one_side p g id node left right d split design lies = elim (in_one_child p g.forbidden id node left right d split design lies.paths) [
+  | inl paths ↦ inl (record { paths = paths; loads = lies.loads })
+  | inr paths ↦ inr (record { paths = paths; loads = lies.loads })
+]
 
-covers : (p : Parts) (cost : Option ℕ) (d : Design) → IsDesign p d → (rs : List Forbidden) (records : List TreeNode) → AreValidTrees p cost rs records → LiesInOne p d rs → Any (λ leaf. LiesIn p d leaf.restriction) (leaves_at rs records)
+-- the design lies in one of the regions
+abbrev LiesInOne : Parts → Design → List Region → Type 0
+LiesInOne p d [] = ⊥
+LiesInOne p d (g ∷ gs) = LiesWithin p d g ⊎ LiesInOne p d gs
+
+covers : (p : Parts) (cost : Option ℕ) (d : Design) → IsDesign p d → (gs : List Region) (records : List TreeNode) → AreValidTrees p cost gs records → LiesInOne p d gs → Any (λ leaf. LiesWithin p d leaf.region) (leaves_at gs records)
 covers p cost d design [] records trees lies = absurd lies
-covers p cost d design (r ∷ rs) [] trees lies = absurd trees
-covers p cost d design (r ∷ rs) (Leaf evidence ∷ records) trees lies =
+covers p cost d design (g ∷ gs) [] trees lies = absurd trees
+covers p cost d design (g ∷ gs) (Leaf evidence ∷ records) trees lies =
     elim lies [
-      | inl here ↦ Any-here (λ leaf. LiesIn p d leaf.restriction) _ _ here
-      | inr later ↦ Any-there (λ leaf. LiesIn p d leaf.restriction) _ _ (covers p cost d design rs records trees.1 later)
+      | inl here ↦ Any-here (λ leaf. LiesWithin p d leaf.region) _ _ here
+      | inr later ↦ Any-there (λ leaf. LiesWithin p d leaf.region) _ _ (covers p cost d design gs records trees.1 later)
     ]
-covers p cost d design (r ∷ rs) (Split id node left right ∷ records) trees lies =
-    covers p cost d design (with_forbidden r id left ∷ with_forbidden r id right ∷ rs) records trees.1
+covers p cost d design (g ∷ gs) (Split id node left right ∷ records) trees lies =
+    covers p cost d design (with_arcs g id left ∷ with_arcs g id right ∷ gs) records trees.1
     (elim lies [
-      | inl here ↦ elim (in_one_child p r id node left right d trees.0 design here) [ inl in_left ↦ inl in_left | inr in_right ↦ inr (inl in_right) ]
+      | inl here ↦ elim (in_one_side p g id node left right d trees.0 design here) [ inl in_left ↦ inl in_left | inr in_right ↦ inr (inl in_right) ]
+      | inr later ↦ inr (inr later)
+    ])
+covers p cost d design (g ∷ gs) (Loads place load ∷ records) trees lies =
+    covers p cost d design (up_to g place load ∷ above g place load ∷ gs) records trees.1
+    (elim lies [
+      | inl here ↦ elim (in_one_range p d g place load trees.0 here) [ inl in_left ↦ inl in_left | inr in_right ↦ inr (inl in_right) ]
       | inr later ↦ inr (inr later)
     ])
 
--- each design lies in a leaf of a valid tree
-pub tree-covers : (p : Parts) (cost : Option ℕ) (records : List TreeNode) (d : Design) → IsValidTree p cost records → IsDesign p d → Any (λ leaf. LiesIn p d leaf.restriction) (leaves_of records)
-tree-covers p cost records d valid design =
-    covers p cost d design (none_forbidden ∷ []) records valid (inl (λ k below i dflt within. refl))
+-- each feasible design lies in a leaf of a valid tree
+pub tree-covers : (p : Parts) (cost : Option ℕ) (records : List TreeNode) (d : Design) → IsValidTree p cost records → IsDesign p d → IsFeasible p d → Any (λ leaf. LiesWithin p d leaf.region) (leaves_of p records)
+tree-covers p cost records d valid design feasible =
+    covers p cost d design (whole p ∷ []) records valid (inl (lies-whole p d design feasible))
 
 -- each leaf of valid trees has its evidence
-pub leaves-evidence : (p : Parts) (cost : Option ℕ) (rs : List Forbidden) (records : List TreeNode) → AreValidTrees p cost rs records → All (λ leaf. HasEvidence p cost leaf.restriction leaf.evidence) (leaves_at rs records)
-leaves-evidence p cost [] records trees = All-nil (λ (leaf : LeafAt). HasEvidence p cost leaf.restriction leaf.evidence)
-leaves-evidence p cost (r ∷ rs) [] trees = absurd trees
-leaves-evidence p cost (r ∷ rs) (Leaf evidence ∷ records) trees = All-cons (λ (leaf : LeafAt). HasEvidence p cost leaf.restriction leaf.evidence) _ _ trees.0 (leaves-evidence p cost rs records trees.1)
-leaves-evidence p cost (r ∷ rs) (Split id node left right ∷ records) trees = leaves-evidence p cost (with_forbidden r id left ∷ with_forbidden r id right ∷ rs) records trees.1
+pub leaves-evidence : (p : Parts) (cost : Option ℕ) (gs : List Region) (records : List TreeNode) → AreValidTrees p cost gs records → All (λ leaf. HasEvidence p cost leaf.region leaf.evidence) (leaves_at gs records)
+leaves-evidence p cost [] records trees = All-nil (λ (leaf : LeafAt). HasEvidence p cost leaf.region leaf.evidence)
+leaves-evidence p cost (g ∷ gs) [] trees = absurd trees
+leaves-evidence p cost (g ∷ gs) (Leaf evidence ∷ records) trees = All-cons (λ (leaf : LeafAt). HasEvidence p cost leaf.region leaf.evidence) _ _ trees.0 (leaves-evidence p cost gs records trees.1)
+leaves-evidence p cost (g ∷ gs) (Split id node left right ∷ records) trees = leaves-evidence p cost (with_arcs g id left ∷ with_arcs g id right ∷ gs) records trees.1
+leaves-evidence p cost (g ∷ gs) (Loads place load ∷ records) trees = leaves-evidence p cost (up_to g place load ∷ above g place load ∷ gs) records trees.1
+
+-- the ranges of these regions are ranges
+abbrev HaveRanges : Parts → List Region → Type 0
+HaveRanges p [] = ⊤
+HaveRanges p (g ∷ gs) = AreRanges p g.ranges × HaveRanges p gs
+
+leaves-have_ranges : (p : Parts) (cost : Option ℕ) (gs : List Region) (records : List TreeNode) → AreValidTrees p cost gs records → HaveRanges p gs → All (λ leaf. AreRanges p leaf.region.ranges) (leaves_at gs records)
+leaves-have_ranges p cost [] records trees have = All-nil (λ (leaf : LeafAt). AreRanges p leaf.region.ranges)
+leaves-have_ranges p cost (g ∷ gs) [] trees have = absurd trees
+leaves-have_ranges p cost (g ∷ gs) (Leaf evidence ∷ records) trees have = All-cons (λ (leaf : LeafAt). AreRanges p leaf.region.ranges) _ _ have.0 (leaves-have_ranges p cost gs records trees.1 have.1)
+leaves-have_ranges p cost (g ∷ gs) (Split id node left right ∷ records) trees have = leaves-have_ranges p cost (with_arcs g id left ∷ with_arcs g id right ∷ gs) records trees.1 (have.0, (have.0, have.1))
+leaves-have_ranges p cost (g ∷ gs) (Loads place load ∷ records) trees have =
+    leaves-have_ranges p cost (up_to g place load ∷ above g place load ∷ gs) records trees.1 (AreRanges-up_to p g place load trees.0 have.0, (AreRanges-above p g place load trees.0 have.0, have.1))
+
+-- the ranges of each leaf of a valid tree are ranges
+pub leaves-ranges : (p : Parts) (cost : Option ℕ) (records : List TreeNode) → IsValidTree p cost records → All (λ leaf. AreRanges p leaf.region.ranges) (leaves_of p records)
+leaves-ranges p cost records valid = leaves-have_ranges p cost (whole p ∷ []) records valid (AreRanges-whole p, tt)
 
 -- where no record passes a test, no leaf does
-pub leaves-fail : (test : TreeNode → Bool) (rs : List Forbidden) (records : List TreeNode) → list_any test records ≡ false → All (λ leaf. test (Leaf leaf.evidence) ≡ false) (leaves_at rs records)
+pub leaves-fail : (test : TreeNode → Bool) (gs : List Region) (records : List TreeNode) → list_any test records ≡ false → All (λ leaf. test (Leaf leaf.evidence) ≡ false) (leaves_at gs records)
 leaves-fail test [] records none = All-nil (λ (leaf : LeafAt). test (Leaf leaf.evidence) ≡ false)
-leaves-fail test (r ∷ rs) [] none = All-nil (λ (leaf : LeafAt). test (Leaf leaf.evidence) ≡ false)
-leaves-fail test (r ∷ rs) (Leaf evidence ∷ records) none =
+leaves-fail test (g ∷ gs) [] none = All-nil (λ (leaf : LeafAt). test (Leaf leaf.evidence) ≡ false)
+leaves-fail test (g ∷ gs) (Leaf evidence ∷ records) none =
     let both = or-false_both (test (Leaf evidence)) (list_any test records) none in
-    All-cons (λ (leaf : LeafAt). test (Leaf leaf.evidence) ≡ false) _ _ both.0 (leaves-fail test rs records both.1)
-leaves-fail test (r ∷ rs) (Split id node left right ∷ records) none =
-    leaves-fail test (with_forbidden r id left ∷ with_forbidden r id right ∷ rs) records (or-false_both (test (Split id node left right)) (list_any test records) none).1
+    All-cons (λ (leaf : LeafAt). test (Leaf leaf.evidence) ≡ false) _ _ both.0 (leaves-fail test gs records both.1)
+leaves-fail test (g ∷ gs) (Split id node left right ∷ records) none =
+    leaves-fail test (with_arcs g id left ∷ with_arcs g id right ∷ gs) records (or-false_both (test (Split id node left right)) (list_any test records) none).1
+leaves-fail test (g ∷ gs) (Loads place load ∷ records) none =
+    leaves-fail test (up_to g place load ∷ above g place load ∷ gs) records (or-false_both (test (Loads place load)) (list_any test records) none).1

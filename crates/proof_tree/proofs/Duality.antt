@@ -1,29 +1,27 @@
--- A bound is at most the cost of each feasible design in its restriction.
-use Rattle.std.proofs.Common.{◌≡◌, ℕ, ◌+◌, ◌*◌, ◌<◌, ◌≤◌, max, Bool, true, false, List, length, slice_index, if◌then◌else◌, refl, sym, ap, ◌∙◌, arith}
+-- A bound is at most the cost of each feasible design in its region.
+use Rattle.std.proofs.Common.{◌≡◌, ℕ, ◌+◌, ◌*◌, ◌<◌, ◌≤◌, Bool, true, false, List, length, slice_index, if◌then◌else◌, refl, sym, ap, ◌∙◌, arith}
 use Rattle.std.specs.Prelude.{ℤ, pos, ◌+ℤ◌, ◌-ℤ◌, ◌*ℤ◌, ◌≤ℤ◌}
 use Rattle.std.proofs.Math.Nat.{mul-le-mul_left}
 use Rattle.std.proofs.lemmas.Int.{ints}
-use Rattle.plan_base.specs.declared.parts.Link.{Link}
 use Rattle.plan_base.specs.declared.parts.Parts.{Parts}
 use Rattle.plan_base.specs.declared.path.Design.{Design}
 use Rattle.plan_base.specs.Sums.{sum_below, int_sum_below}
-use Rattle.plan_base.specs.Facts.{top_load}
 use Rattle.plan_base.specs.Arcs.{link_at, demand_at}
 use Rattle.plan_base.specs.Paths.{uses_place, IsSimplePath}
-use Rattle.plan_base.specs.Places.{is_two_way, places, there_of, back_of}
+use Rattle.plan_base.specs.Places.{places, there_of, back_of}
 use Rattle.plan_base.specs.Designs.{path_at, counts_at, load_from, load_at, need, link_cost, module_cost_with, cost_of, IsDesign, IsFeasible}
-use Rattle.plan_base.proofs.LoadLaws.{need-le-total}
 use Rattle.plan_base.proofs.PlaceSums.{sum_places, back-times}
-use Rattle.link_steps.specs.Costs.{Carries}
-use Rattle.link_steps.specs.Values.{top_back, value_at, IsLinkValue}
-use Rattle.link_steps.proofs.Carrying.{carried-le-top}
+use Rattle.link_steps.specs.declared.range.LoadRange.{LoadRange}
+use Rattle.link_steps.specs.Values.{ranges_of_link, value_at, IsLinkValue}
 use Rattle.link_steps.proofs.LeastCosts.{least_cost-exists}
 use Rattle.arc_restrict.specs.Restrictions.{Forbidden, IsPermittedPath, LiesIn}
 use Rattle.arc_restrict.specs.Prices.{price_of, IsLeastPrice}
 use Rattle.arc_restrict.proofs.PathPrices.{price_of-places}
+use Rattle.proof_tree.specs.Regions.{Region, AreInRange, LiesWithin}
 use Rattle.proof_tree.specs.Bounds.{AreLeastPrices, price_total, IsBound}
 use Rattle.plan_base.proofs.SumsBelow.{sum_below-same, sum_below-le, sum_below-times, sum_below-swap}
 use Rattle.proof_tree.proofs.SignedSums.{int_sum_below-le}
+use Rattle.proof_tree.proofs.RangeLaws.{Carries-feasible, loads-in_range}
 
 -- what a demand's load at the price of a link comes to, where its path uses the link
 priced_load : (p : Parts) (d : Design) (price q k : ℕ) → (demand_at p k).load * (if uses_place p q (path_at d k) then price else 0) ≡ price * load_from p d q k
@@ -89,54 +87,34 @@ carried-by_link p prices d =
     sum_places p (λ q. slice_index prices q * load_at p d q)
     ∙ sum_below-same _ _ (length p.links) (λ e below. ap (λ (n : ℕ). there_of p (λ q. slice_index prices q * load_at p d q) e + n) (back-times p (slice_index prices) (load_at p d) e))
 
-Carries-feasible : (p : Parts) (d : Design) (e : ℕ) → IsDesign p d → IsFeasible p d → e < length p.links → Carries p e (need p d e) (counts_at d e)
-Carries-feasible p d e design feasible within = record { count = design.counts e within; lawful = design.lawful e within; enough = feasible.carried e within }
-
--- what a link's place back carries is at most its top load
-back-within-top : (p : Parts) (l : Link) (loads : ℕ → ℕ) (e : ℕ) → back_of p loads e ≤ top_load p l → back_of p loads e ≤ top_back p l
-back-within-top p l loads e = by_cases (is_two_way p.orient)
-  where
-    by_cases : (b : Bool) → (if b then loads (2 * e + 1) else 0) ≤ top_load p l → (if b then loads (2 * e + 1) else 0) ≤ (if b then top_load p l else 0)
-    by_cases true le = le
-    by_cases false le = omega arith
-
 -- a link's value is at most a thousand times its cost less the prices of its loads
-link_value-le : (p : Parts) (d : Design) (e price back_price : ℕ) (value : ℤ) → IsDesign p d → IsFeasible p d → e < length p.links → IsLinkValue p (link_at p e) price back_price value
+link_value-le : (p : Parts) (ranges : List LoadRange) (d : Design) (e price back_price : ℕ) (value : ℤ) → IsDesign p d → IsFeasible p d → e < length p.links → AreInRange p ranges d e → IsLinkValue p e (ranges_of_link p ranges e) price back_price value
     → value ≤ℤ (pos (1000 * link_cost p d e) -ℤ pos (price * there_of p (load_at p d) e + back_price * back_of p (load_at p d) e))
-link_value-le p d e price back_price value design feasible within is_value =
+link_value-le p ranges d e price back_price value design feasible within in_range is_value =
     let l = link_at p e in
     let load = there_of p (load_at p d) e in
     let back = back_of p (load_at p d) e in
     let carries = Carries-feasible p d e design feasible within in
-    let in_range : need p d e ≤ top_load p l = carried-le-top p l (need p d e) (need-le-total p d e) (counts_at d e, carries) in
-    let there_in : load ≤ top_load p l = larger-first load back (top_load p l) in_range in
-    let back_in : back ≤ top_back p l = back-within-top p l (load_at p d) e (larger-second load back (top_load p l) in_range) in
     let found = least_cost-exists l (need p d e) (counts_at d e, carries) in
     let cheaper : found.0 ≤ module_cost_with l (counts_at d e) = found.1.least (counts_at d e) carries in
     let valued : value ≤ℤ value_at price back_price load back (l.routing * (load + back) + found.0) =
-    is_value.least load back (l.routing * (load + back) + found.0) there_in back_in (record { module_cost = found.0; is_least = found.1; is_sum = refl }) in
+    is_value.least load back (l.routing * (load + back) + found.0) in_range.there in_range.back (record { module_cost = found.0; is_least = found.1; is_sum = refl }) in
     within_value (l.routing * (load + back)) found.0 (module_cost_with l (counts_at d e)) (price * load + back_price * back) value cheaper valued
   where
-    larger-first : (x y top : ℕ) → max x y ≤ top → x ≤ top
-    larger-first x y top le = omega arith
-
-    larger-second : (x y top : ℕ) → max x y ≤ top → y ≤ top
-    larger-second x y top le = omega arith
-
     within_value : (routing cost module_cost priced : ℕ) (v : ℤ) → cost ≤ module_cost → v ≤ℤ (pos (1000 * (routing + cost)) -ℤ pos priced) → v ≤ℤ (pos (1000 * (routing + module_cost)) -ℤ pos priced)
     within_value routing cost module_cost priced v cheaper valued = omega (arith, ints)
 
 total-le : (priced carried cost : ℕ) (values : ℤ) → priced ≤ carried → values ≤ℤ (pos (1000 * cost) -ℤ pos carried) → (pos priced +ℤ values) ≤ℤ (pos 1000 *ℤ pos cost)
 total-le priced carried cost values le below = omega (arith, ints)
 
--- a bound is at most the cost of each feasible design in the restriction
-pub bound-le-cost : (p : Parts) (r : Forbidden) (prices : List ℕ) (bound : ℤ) (d : Design) → IsBound p r prices bound → IsDesign p d → IsFeasible p d → LiesIn p d r → bound ≤ℤ pos (cost_of p d)
-bound-le-cost p r prices bound d is_bound design feasible lies =
+-- a bound is at most the cost of each feasible design in the region
+pub bound-le-cost : (p : Parts) (g : Region) (prices : List ℕ) (bound : ℤ) (d : Design) → IsBound p g prices bound → IsDesign p d → IsFeasible p d → LiesWithin p d g → bound ≤ℤ pos (cost_of p d)
+bound-le-cost p g prices bound d is_bound design feasible lies =
     let n = length p.links in
     let carried = sum_below (λ e. there_of p (slice_index prices) e * there_of p (load_at p d) e + back_of p (slice_index prices) e * back_of p (load_at p d) e) n in
     let by_links = carried-by_link p prices d in
-    let priced : price_total p is_bound.least_prices ≤ carried = omega (arith, price_total-le p r prices is_bound.least_prices d is_bound.are_least design lies, by_links) in
+    let priced : price_total p is_bound.least_prices ≤ carried = omega (arith, price_total-le p g.forbidden prices is_bound.least_prices d is_bound.are_least design lies.paths, by_links) in
     let values = int_sum_below-le is_bound.values (λ e. 1000 * link_cost p d e) (λ e. there_of p (slice_index prices) e * there_of p (load_at p d) e + back_of p (slice_index prices) e * back_of p (load_at p d) e) n
-    (λ e within. link_value-le p d e (there_of p (slice_index prices) e) (back_of p (slice_index prices) e) (is_bound.values e) design feasible within (is_bound.are_values e within)) in
+    (λ e within. link_value-le p g.ranges d e (there_of p (slice_index prices) e) (back_of p (slice_index prices) e) (is_bound.values e) design feasible within (loads-in_range p d g e within lies) (is_bound.are_values e within)) in
     let times : sum_below (λ e. 1000 * link_cost p d e) n ≡ 1000 * cost_of p d = sum_below-times 1000 (link_cost p d) n in
     is_bound.rounded.least (pos (cost_of p d)) (total-le (price_total p is_bound.least_prices) carried (cost_of p d) (int_sum_below is_bound.values n) priced (rw times at values))

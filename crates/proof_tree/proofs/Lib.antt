@@ -1,3 +1,5 @@
+pub mod RangeLaws
+pub mod UnitLaws
 pub mod Covering
 pub mod SignedSums
 pub mod Duality
@@ -9,4 +11,6 @@ pub mod TwoNodesLaws
 pub mod LimitLaws
 pub mod Farness
 pub mod OpeningLaws
+pub mod OneLinkLaws
+pub mod WholeLaws
 pub mod ShapeLaws

@@ -1,15 +1,16 @@
--- A restriction has at most one bound at given prices.
+-- A region has at most one bound at given prices.
 use Rattle.std.proofs.Common.{◌≡◌, ℕ, zero, suc, ◌*◌, ◌<◌, List, length, slice_index, refl, sym, ap, subst, ◌∙◌, arith}
 use Rattle.std.specs.Prelude.{ℤ, pos, ◌+ℤ◌, ◌≤ℤ◌}
 use Rattle.std.proofs.lemmas.Int.{ints}
-use Rattle.plan_base.specs.declared.parts.Link.{Link}
 use Rattle.plan_base.specs.declared.parts.Parts.{Parts}
-use Rattle.plan_base.specs.Arcs.{link_at, demand_at}
+use Rattle.plan_base.specs.Arcs.{demand_at}
 use Rattle.plan_base.specs.Places.{there_of, back_of}
-use Rattle.link_steps.specs.Values.{IsLinkValue}
+use Rattle.link_steps.specs.declared.range.LinkRanges.{LinkRanges}
+use Rattle.link_steps.specs.Values.{ranges_of_link, IsLinkValue}
 use Rattle.arc_restrict.specs.Restrictions.{Forbidden}
 use Rattle.arc_restrict.specs.Prices.{IsLeastPrice}
 use Rattle.plan_base.specs.Sums.{int_sum_below}
+use Rattle.proof_tree.specs.Regions.{Region}
 use Rattle.proof_tree.specs.Bounds.{IsThousandthUp, price_total, IsBound}
 use Rattle.plan_base.proofs.SumsBelow.{sum_below-same}
 
@@ -22,11 +23,11 @@ least_price-unique p r prices k a b ha hb =
 antisymmetric : (v w : ℤ) → v ≤ℤ w → w ≤ℤ v → v ≡ w
 antisymmetric v w h k = omega (arith, ints)
 
-pub link_value-unique : (p : Parts) (l : Link) (price back_price : ℕ) (v w : ℤ) → IsLinkValue p l price back_price v → IsLinkValue p l price back_price w → v ≡ w
-link_value-unique p l price back_price v w hv hw =
+pub link_value-unique : (p : Parts) (e : ℕ) (ranges : LinkRanges) (price back_price : ℕ) (v w : ℤ) → IsLinkValue p e ranges price back_price v → IsLinkValue p e ranges price back_price w → v ≡ w
+link_value-unique p e ranges price back_price v w hv hw =
     antisymmetric v w
-    (subst (λ (x : ℤ). v ≤ℤ x) hw.give.attained (hv.least hw.load hw.back hw.give.cost hw.give.within hw.give.back_within hw.give.is_cost))
-    (subst (λ (x : ℤ). w ≤ℤ x) hv.give.attained (hw.least hv.load hv.back hv.give.cost hv.give.within hv.give.back_within hv.give.is_cost))
+    (subst (λ (x : ℤ). v ≤ℤ x) hw.give.attained (hv.least hw.load hw.back hw.give.cost hw.give.in_range hw.give.back_in_range hw.give.is_cost))
+    (subst (λ (x : ℤ). w ≤ℤ x) hv.give.attained (hw.least hv.load hv.back hv.give.cost hv.give.in_range hv.give.back_in_range hv.give.is_cost))
 
 pub int_sum_below-same : (f g : ℕ → ℤ) (n : ℕ) → ((i : ℕ) → i < n → f i ≡ g i) → int_sum_below f n ≡ int_sum_below g n
 int_sum_below-same f g zero h = refl
@@ -35,12 +36,12 @@ int_sum_below-same f g (suc n) h = ap (λ x. x +ℤ f n) (int_sum_below-same f g
 thousandth-unique : (total v w : ℤ) → IsThousandthUp total v → IsThousandthUp total w → v ≡ w
 thousandth-unique total v w hv hw = antisymmetric v w (hv.least w hw.reaches) (hw.least v hv.reaches)
 
-pub bound-unique : (p : Parts) (r : Forbidden) (prices : List ℕ) (v w : ℤ) → IsBound p r prices v → IsBound p r prices w → v ≡ w
-bound-unique p r prices v w hv hw =
+pub bound-unique : (p : Parts) (g : Region) (prices : List ℕ) (v w : ℤ) → IsBound p g prices v → IsBound p g prices w → v ≡ w
+bound-unique p g prices v w hv hw =
     let priced : price_total p hv.least_prices ≡ price_total p hw.least_prices =
     sum_below-same (λ k. (demand_at p k).load * hv.least_prices k) (λ k. (demand_at p k).load * hw.least_prices k) (length p.demands)
-    (λ k below. ap (λ x. (demand_at p k).load * x) (least_price-unique p r prices k _ _ (hv.are_least k below) (hw.are_least k below))) in
-    let valued = int_sum_below-same hv.values hw.values (length p.links) (λ e below. link_value-unique p (link_at p e) (there_of p (slice_index prices) e) (back_of p (slice_index prices) e) _ _ (hv.are_values e below) (hw.are_values e below)) in
+    (λ k below. ap (λ x. (demand_at p k).load * x) (least_price-unique p g.forbidden prices k _ _ (hv.are_least k below) (hw.are_least k below))) in
+    let valued = int_sum_below-same hv.values hw.values (length p.links) (λ e below. link_value-unique p e (ranges_of_link p g.ranges e) (there_of p (slice_index prices) e) (back_of p (slice_index prices) e) _ _ (hv.are_values e below) (hw.are_values e below)) in
     let totals : (pos (price_total p hv.least_prices) +ℤ int_sum_below hv.values (length p.links)) ≡ (pos (price_total p hw.least_prices) +ℤ int_sum_below hw.values (length p.links)) =
     ap (λ x. pos x +ℤ int_sum_below hv.values (length p.links)) priced ∙ ap (λ x. pos (price_total p hw.least_prices) +ℤ x) valued in
     thousandth-unique _ v w hv.rounded (subst (λ (total : ℤ). IsThousandthUp total w) (sym totals) hw.rounded)

@@ -1,3 +1,4 @@
+pub mod Regions
 pub mod Splits
 pub mod Bounds
 pub mod Evidence
@@ -7,3 +8,4 @@ pub mod Plans
 pub mod Spellings
 pub mod Triangle
 pub mod TwoNodes
+pub mod OneLink

@@ -6,7 +6,6 @@ use Rattle.plan_base.specs.declared.parts.Parts.{Parts}
 use Rattle.plan_base.specs.declared.path.Design.{Design}
 use Rattle.plan_base.specs.Places.{is_two_way}
 use Rattle.plan_base.specs.Designs.{IsDesign, IsFeasible, IsGoodDesign, cost_of}
-use Rattle.arc_restrict.specs.Restrictions.{Forbidden}
 use Rattle.proof_tree.specs.declared.tree.Evidence.{Evidence}
 use Rattle.proof_tree.specs.declared.tree.Evidence.TheVariants.{Bound, Routed, Open}
 use Rattle.proof_tree.specs.declared.tree.TreeNode.{TreeNode}
@@ -15,6 +14,7 @@ use Rattle.proof_tree.specs.declared.plan.PlanStatus.{PlanStatus}
 use Rattle.proof_tree.specs.declared.plan.PlanStatus.TheVariants.{Optimal, Infeasible, Undecided}
 use Rattle.proof_tree.specs.declared.plan.Plan.{Plan}
 use Rattle.plan_base.specs.Claims.{IsOptimal, HasNoDesign}
+use Rattle.proof_tree.specs.Regions.{Region}
 use Rattle.proof_tree.specs.Bounds.{IsBound}
 use Rattle.proof_tree.specs.Trees.{leaves_of, IsValidTree}
 
@@ -58,16 +58,16 @@ pub record IsInfeasiblePlan (plan : Plan) : Type 0 where
   pub without_cost : list_any needs_cost plan.tree ≡ false
   pub within_budget : plan.examined ≤ plan.budget
 
--- the bound of an open leaf with this restriction
-abbrev pub IsOpenBound : Parts → Forbidden → Evidence → ℤ → Type 0
-IsOpenBound p r (Open prices) bound = IsBound p r prices bound
-IsOpenBound p r _ bound = ⊥
+-- the bound of an open leaf with this region
+abbrev pub IsOpenBound : Parts → Region → Evidence → ℤ → Type 0
+IsOpenBound p g (Open prices) bound = IsBound p g prices bound
+IsOpenBound p g _ bound = ⊥
 
 -- the stated cost, or the bound of an open leaf: an undecided plan's bound is the least of these
 abbrev pub IsCandidate : Parts → Plan → ℤ → Type 0
 IsCandidate p plan bound =
     IsSomeAnd (stated_cost plan) (λ cost. pos cost ≡ bound)
-    ⊎ Any (λ leaf. IsOpenBound p leaf.restriction leaf.evidence bound) (leaves_of plan.tree)
+    ⊎ Any (λ leaf. IsOpenBound p leaf.region leaf.evidence bound) (leaves_of p plan.tree)
 
 -- the least candidate
 pub record IsLeastCandidate (p : Parts) (plan : Plan) (bound : ℤ) : Type 0 where

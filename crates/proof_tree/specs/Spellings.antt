@@ -8,7 +8,7 @@ use Rattle.proof_tree.specs.declared.limits.TheConstants.{MAX_BUDGET, MAX_RECORD
 use Rattle.proof_tree.specs.declared.tree.Evidence.{Evidence}
 use Rattle.proof_tree.specs.declared.tree.Evidence.TheVariants.{Bound, Routed, Overfull, Cut, Far, Crowd, Open}
 use Rattle.proof_tree.specs.declared.tree.TreeNode.{TreeNode}
-use Rattle.proof_tree.specs.declared.tree.TreeNode.TheVariants.{Split, Leaf}
+use Rattle.proof_tree.specs.declared.tree.TreeNode.TheVariants.{Split, Loads, Leaf}
 use Rattle.proof_tree.specs.declared.plan.PlanStatus.{PlanStatus}
 use Rattle.proof_tree.specs.declared.plan.PlanStatus.TheVariants.{Optimal, Infeasible, Undecided}
 use Rattle.proof_tree.specs.declared.plan.Plan.{Plan}
@@ -40,6 +40,7 @@ FitsEvidence nodes places (Open prices) = length prices ≡ places
 -- a record that can stand in a text of these counts of nodes and places
 abbrev pub FitsRecord : ℕ → ℕ → TreeNode → Type 0
 FitsRecord nodes places (Split demand at left right) = IsWrittenSide left × IsWrittenSide right
+FitsRecord nodes places (Loads place load) = ⊤
 FitsRecord nodes places (Leaf evidence) = FitsEvidence nodes places evidence
 
 -- few enough records, each of which can stand there

@@ -60,6 +60,7 @@ fn fits_record(nodes: u32, places: usize, node: &TreeNode) -> bool
     match node {
         TreeNode::Split { left, right, .. } => is_side(left.as_slice())
             && is_side(right.as_slice()),
+        TreeNode::Loads { .. } => true,
         TreeNode::Leaf(evidence) => fits_evidence(nodes, places, evidence),
     }
 }

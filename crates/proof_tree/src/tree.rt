@@ -11,12 +11,13 @@ use std::marker::Model;
 /// - Rule: docs/DEFINITIONS.md, "Evidence of a leaf".
 #[derive(Debug, Drop)]
 pub enum Evidence {
-    /// At these prices the leaf's bound is at least the cost of the plan's design. Prices are in
-    /// thousandths of a cost grain per load grain, one for each link.
+    /// At these prices the leaf's bound is above the cost of the plan's design less the unit of costs. Prices are in
+    /// thousandths of a cost grain per load grain, one for each place.
     Bound(Prices),
     /// Each demand has one path left, within its limit on arcs, and these paths cost at least as much as the plan's design.
     Routed,
-    /// Each demand has one path left, and the link cannot carry the load of these paths.
+    /// Each demand has one path left, and the link cannot carry the load of these paths, or the load of a place of it is
+    /// outside its range.
     Overfull {
         /// The link.
         link: LinkId,
@@ -33,8 +34,8 @@ pub enum Evidence {
         /// The demand.
         demand: DemandId,
     },
-    /// At these prices the demands ask for more than the pre-installed capacities give. Prices are
-    /// as for `Bound`, and 0 on each link that has a module of positive capacity.
+    /// At these prices the demands ask for more than ranges and pre-installed capacities give. Prices are as for `Bound`,
+    /// and 0 on each place of a link that has a module of positive capacity, where its range ends at the top load.
     Crowd(Prices),
     /// The leaf may hold any design, and these prices give its bound. Prices are as for `Bound`.
     Open(Prices),
@@ -54,6 +55,13 @@ pub enum TreeNode {
         left: Items<ArcId>,
         /// The arcs that the right child forbids.
         right: Items<ArcId>,
+    },
+    /// The left child carries at most this load on the place, and the right child more. The left child comes first.
+    Loads {
+        /// The place.
+        place: u32,
+        /// The load, in load grains.
+        load: u64,
     },
     /// A leaf.
     Leaf(Evidence),
@@ -97,7 +105,7 @@ fn is_leaf(node: &TreeNode) -> bool
 {
     match node {
         TreeNode::Leaf(_) => true,
-        TreeNode::Split { .. } => false,
+        TreeNode::Split { .. } | TreeNode::Loads { .. } => false,
     }
 }
 
