@@ -16,11 +16,11 @@ use Rattle.proof_tree.specs.declared.plan.PlanStatus.{PlanStatus}
 use Rattle.proof_tree.specs.declared.plan.PlanStatus.TheVariants.{Optimal, Infeasible, Undecided}
 use Rattle.cert_format.specs.declared.bodies.Sizes.{Sizes}
 use Rattle.cert_format.specs.declared.form.Form.{Form}
-use Rattle.cert_format.specs.declared.form.Form.TheVariants.{First, Second}
+use Rattle.cert_format.specs.declared.form.Form.TheVariants.{First, Second, Third}
 use Rattle.cert_format.specs.Lists.{is_among}
 use Rattle.plan_words.specs.Words.{◌>>=◌, numerals, row, behind, before, each, numbers_of, grains_of, row_of}
-use Rattle.cert_format.specs.Grammar.{header_line, both_text, count_line, size_line, status_line, number_line, cost_line, signed_text, bound_line, arc_numbers, counted, path_line, modules_line, price_line, CanTell, AreArcs, IsBoundField}
-use Rattle.cert_format.specs.Bodies.{only_if, choose, fixed_of, one_in, number_row, sizes_with, sizes_in, count_row, with_both, size_row, form_of, status_of, none_or, cost_allowed, cost_of, positive, negative, signed_of, bound_of, numbered_arc, arc_of, count_of, uncounted, path_of, modules_of, list_row}
+use Rattle.cert_format.specs.Grammar.{header_line, both_word, count_line, size_line, status_line, number_line, cost_line, signed_text, bound_line, arc_numbers, counted, path_line, modules_line, price_line, CanTell, AreArcs, IsBoundField}
+use Rattle.cert_format.specs.Bodies.{only_if, choose, fixed_of, one_in, number_row, sizes_with, sizes_in, count_row, with_both, both_row, size_row, form_of, status_of, none_or, cost_allowed, cost_of, positive, negative, signed_of, bound_of, numbered_arc, arc_of, count_of, uncounted, path_of, modules_of, list_row}
 use Rattle.plan_words.proofs.NumberWords.{then-some, map-some, behind_found, behind_takes, numbers_found, numbers_takes, each_takes, each_found}
 use Rattle.plan_words.proofs.Digits.{grains_found, grains_takes, grains_first}
 
@@ -153,11 +153,37 @@ size-of form x = size_line form x.nodes x.links x.demands x.both
 abbrev pub sizes_at : ℕ → ℕ → ℕ → Bool → Sizes
 sizes_at n l d both = record { nodes = n; links = l; demands = d; both = both }
 
-second-takes : (both : Bool) (rest body : List ℕ) (x : Sizes) → body ≡ rest ++ both_text Second both → option_map (with_both both) (count_row rest) ≡ Some x → AreTold Second x × (body ≡ size-of Second x)
-second-takes both rest body x line e =
+-- the sizes, with the word behind them that tells whether each direction of a link has a price of its own
+record AreWorded (body : List ℕ) (x : Sizes) : Type 0 where
+  sizes : AreSizes (x.nodes, x.links, x.demands)
+  line : body ≡ count_line x.nodes x.links x.demands ++ both_word x.both
+
+worded-takes : (both : Bool) (rest body : List ℕ) (x : Sizes) → body ≡ rest ++ both_word both → option_map (with_both both) (count_row rest) ≡ Some x → AreWorded body x
+worded-takes both rest body x line e =
     let (counts, found, is) = map-some (count_row rest) (with_both both) x e in
     let c = count-takes-line rest counts found in
-    subst (λ (y : Sizes). AreTold Second y × (body ≡ size-of Second y)) is (record { sizes = c.0; told = tt }, line ∙ ap (λ xs. xs ++ both_text Second both) c.1)
+    subst (λ (y : Sizes). AreWorded body y) is (record { sizes = c.0; line = line ∙ ap (λ xs. xs ++ both_word both) c.1 })
+
+both-takes : (body : List ℕ) (x : Sizes) → both_row body ≡ Some x → AreWorded body x
+unfolding both_row
+both-takes body x e =
+    elim (chosen (before (codes " ONE") body) (λ rest. option_map (with_both false) (count_row rest)) (choose (before (codes " BOTH") body) (λ rest. option_map (with_both true) (count_row rest)) None) x e) [
+      | inl (rest, first, later) ↦ worded-takes false rest body x (before-takes (codes " ONE") body rest first) later
+      | inr other ↦ elim (chosen (before (codes " BOTH") body) (λ rest. option_map (with_both true) (count_row rest)) None x other) [
+        | inl (rest, first, later) ↦ worded-takes true rest body x (before-takes (codes " BOTH") body rest first) later
+        | inr none ↦ absurd cc
+      ]
+    ]
+
+both-again : (n l d : ℕ) (both : Bool) → AreSizes (n, l, d) → both_row (count_line n l d ++ both_word both) ≡ Some (sizes_at n l d both)
+unfolding both_row
+both-again n l d false s =
+    ap (λ o. choose o (λ rest. option_map (with_both false) (count_row rest)) (choose (before (codes " BOTH") (count_line n l d ++ codes " ONE")) (λ rest. option_map (with_both true) (count_row rest)) None)) (before-found (codes " ONE") (count_line n l d))
+    ∙ ap (option_map (with_both false)) (count-again-line n l d s)
+both-again n l d true s =
+    ap (λ o. choose o (λ rest. option_map (with_both false) (count_row rest)) (choose (before (codes " BOTH") (count_line n l d ++ codes " BOTH")) (λ rest. option_map (with_both true) (count_row rest)) None)) (before-other (count_line n l d))
+    ∙ ap (λ o. choose o (λ rest. option_map (with_both true) (count_row rest)) None) (before-found (codes " BOTH") (count_line n l d))
+    ∙ ap (option_map (with_both true)) (count-again-line n l d s)
 
 pub size_takes : (form : Form) (body : List ℕ) (x : Sizes) → size_row form body ≡ Some x → AreTold form x × (body ≡ size_line form x.nodes x.links x.demands x.both)
 unfolding size_row
@@ -165,26 +191,15 @@ size_takes First body x e =
     let (counts, found, is) = map-some (count_row body) (with_both false) x e in
     let c = count-takes-line body counts found in
     subst (λ (y : Sizes). AreTold First y × (body ≡ size-of First y)) is (record { sizes = c.0; told = refl }, c.1 ∙ sym (append-nil (count_line counts.0 counts.1 counts.2)))
-size_takes Second body x e =
-    elim (chosen (before (codes " ONE") body) (λ rest. option_map (with_both false) (count_row rest)) (choose (before (codes " BOTH") body) (λ rest. option_map (with_both true) (count_row rest)) None) x e) [
-      | inl (rest, first, later) ↦ second-takes false rest body x (before-takes (codes " ONE") body rest first) later
-      | inr other ↦ elim (chosen (before (codes " BOTH") body) (λ rest. option_map (with_both true) (count_row rest)) None x other) [
-        | inl (rest, first, later) ↦ second-takes true rest body x (before-takes (codes " BOTH") body rest first) later
-        | inr none ↦ absurd cc
-      ]
-    ]
+size_takes Second body x e = (let w = both-takes body x e in (record { sizes = w.sizes; told = tt }, w.line))
+size_takes Third body x e = (let w = both-takes body x e in (record { sizes = w.sizes; told = tt }, w.line))
 
 pub size_again : (form : Form) (n l d : ℕ) (both : Bool) → AreTold form (sizes_at n l d both) → size_row form (size_line form n l d both) ≡ Some (sizes_at n l d both)
 unfolding size_row
 size_again First n l d both t =
     ap (λ bs. option_map (with_both false) (count_row bs)) (append-nil (count_line n l d)) ∙ ap (option_map (with_both false)) (count-again-line n l d t.sizes) ∙ ap (λ b. Some (sizes_at n l d b)) (sym t.told)
-size_again Second n l d false t =
-    ap (λ o. choose o (λ rest. option_map (with_both false) (count_row rest)) (choose (before (codes " BOTH") (count_line n l d ++ codes " ONE")) (λ rest. option_map (with_both true) (count_row rest)) None)) (before-found (codes " ONE") (count_line n l d))
-    ∙ ap (option_map (with_both false)) (count-again-line n l d t.sizes)
-size_again Second n l d true t =
-    ap (λ o. choose o (λ rest. option_map (with_both false) (count_row rest)) (choose (before (codes " BOTH") (count_line n l d ++ codes " BOTH")) (λ rest. option_map (with_both true) (count_row rest)) None)) (before-other (count_line n l d))
-    ∙ ap (λ o. choose o (λ rest. option_map (with_both true) (count_row rest)) None) (before-found (codes " BOTH") (count_line n l d))
-    ∙ ap (option_map (with_both true)) (count-again-line n l d t.sizes)
+size_again Second n l d both t = both-again n l d both t.sizes
+size_again Third n l d both t = both-again n l d both t.sizes
 
 -- ---- the version and the status
 
@@ -199,11 +214,14 @@ told print body one s t is = (bytes_eq-Decides body (print one)).0 t ∙ ap prin
 pub form_takes : (body : List ℕ) (form : Form) → form_of body ≡ Some form → body ≡ header_line form
 unfolding form_of
 form_takes body form e =
-    elim (two-ways (bytes_eq body (header_line First)) First (cond (bytes_eq body (header_line Second)) (Some Second) None) form e) [
+    elim (two-ways (bytes_eq body (header_line First)) First (cond (bytes_eq body (header_line Second)) (Some Second) (cond (bytes_eq body (header_line Third)) (Some Third) None)) form e) [
       | inl (t, is) ↦ told header_line body First form t is
-      | inr f ↦ elim (two-ways (bytes_eq body (header_line Second)) Second None form f) [
+      | inr f ↦ elim (two-ways (bytes_eq body (header_line Second)) Second (cond (bytes_eq body (header_line Third)) (Some Third) None) form f) [
         | inl (t, is) ↦ told header_line body Second form t is
-        | inr g ↦ absurd cc
+        | inr g ↦ elim (two-ways (bytes_eq body (header_line Third)) Third None form g) [
+          | inl (t, is) ↦ told header_line body Third form t is
+          | inr h ↦ absurd cc
+        ]
       ]
     ]
 
@@ -211,6 +229,7 @@ pub form_again : (form : Form) → form_of (header_line form) ≡ Some form
 unfolding form_of
 form_again First = refl
 form_again Second = refl
+form_again Third = refl
 
 pub status_takes : (body : List ℕ) (s : PlanStatus) → status_of body ≡ Some s → body ≡ status_line s
 unfolding status_of

@@ -12,7 +12,7 @@ use Rattle.plan_base.specs.declared.path.Design.{Design}
 use Rattle.proof_tree.specs.declared.tree.Evidence.{Evidence}
 use Rattle.proof_tree.specs.declared.tree.Evidence.TheVariants.{Bound, Routed, Overfull, Cut, Far, Crowd, Open}
 use Rattle.proof_tree.specs.declared.tree.TreeNode.{TreeNode}
-use Rattle.proof_tree.specs.declared.tree.TreeNode.TheVariants.{Split, Leaf}
+use Rattle.proof_tree.specs.declared.tree.TreeNode.TheVariants.{Split, Loads, Leaf}
 use Rattle.proof_tree.specs.declared.plan.PlanStatus.{PlanStatus}
 use Rattle.proof_tree.specs.declared.plan.PlanStatus.TheVariants.{Optimal, Infeasible, Undecided}
 use Rattle.proof_tree.specs.declared.plan.Plan.{Plan}
@@ -21,12 +21,12 @@ use Rattle.proof_tree.specs.declared.limits.TheConstants.{MAX_PATH_ARCS}
 use Rattle.proof_tree.specs.Spellings.{FitsEvidence, FitsRecord, FitsDesign, IsSpellable}
 use Rattle.proof_tree.specs.Spellings.{places_in}
 use Rattle.cert_format.specs.declared.form.Form.{Form}
-use Rattle.cert_format.specs.declared.form.Form.TheVariants.{First, Second}
+use Rattle.cert_format.specs.declared.form.Form.TheVariants.{First, Second, Third}
 use Rattle.cert_format.specs.declared.limits.TheConstants.{MAX_LISTS}
 use Rattle.cert_format.specs.Lists.{lists_in, shown, width}
-use Rattle.cert_format.specs.Drafts.{AreListed}
+use Rattle.cert_format.specs.Drafts.{AreStated, AreListed}
 use Rattle.plan_words.specs.Words.{numerals, row}
-use Rattle.cert_format.specs.Grammar.{header_line, both_text, count_line, status_line, signed_text, path_line, modules_line, leaf_line, record_line, end_line, head_lines, design_lines, bound_lines, price_line, price_lines, front_lines, tree_lines, plan_lines, arc_numbers, counted, members, AreArcs, HasLeafFields, HasRecordFields, HasDesignFields, IsBoundField, HasLines, HasFields}
+use Rattle.cert_format.specs.Grammar.{header_line, both_word, both_text, count_line, status_line, signed_text, path_line, modules_line, leaf_line, record_line, end_line, head_lines, design_lines, bound_lines, cuts_line, cut_lines, price_line, list_lines, price_lines, front_lines, tree_lines, plan_lines, arc_numbers, counted, members, AreArcs, HasLeafFields, HasRecordFields, HasDesignFields, IsBoundField, HasFields}
 use Rattle.plan_words.specs.Cuts.{Lacks}
 use Rattle.plan_words.proofs.Cutting.{lacks-append}
 use Rattle.plan_words.proofs.NumberWords.{digits-lack, decimal_digits}
@@ -79,14 +79,19 @@ rec-map : {A : Type 0} (P : A → Type 0) (print : A → List ℕ) → ((x : A) 
 rec-map P print law [] h = tt
 rec-map P print law (x ∷ xs) h = (law x h.0, rec-map P print law xs h.1)
 
+word-lacks : (both : Bool) → Lacks 10 (both_word both)
+word-lacks true = lacks-by (codes " BOTH") refl
+word-lacks false = lacks-by (codes " ONE") refl
+
 both-lacks : (form : Form) (both : Bool) → Lacks 10 (both_text form both)
 both-lacks First both = tt
-both-lacks Second true = lacks-by (codes " BOTH") refl
-both-lacks Second false = lacks-by (codes " ONE") refl
+both-lacks Second both = word-lacks both
+both-lacks Third both = word-lacks both
 
 header-lacks : (form : Form) → Lacks 10 (header_line form)
 header-lacks First = lacks-by (header_line First) refl
 header-lacks Second = lacks-by (header_line Second) refl
+header-lacks Third = lacks-by (header_line Third) refl
 
 head-lacks : (form : Form) (plan : Plan) → IsSpellable plan → HasFields plan → AllByRecursion (Lacks 10) (head_lines form plan)
 unfolding head_lines
@@ -151,31 +156,43 @@ unfolding record_line
 record-lacks nodes links few (Split demand at left right) h =
     row-lacks (codes "SPLIT") (demand.0 ∷ at.0 ∷ (counted (arc_numbers left) ++ counted (arc_numbers right))) refl
     (omega (arith, h.1.0), (omega (arith, h.1.1), small_append (counted (arc_numbers left)) (counted (arc_numbers right)) (side_small left h.0.0 h.1.2) (side_small right h.0.1 h.1.3)))
+record-lacks nodes links few (Loads place load) h = row-lacks (codes "LOADS") (place ∷ load ∷ []) refl (omega (arith, h.1.0), (omega (arith, h.1.1), tt))
 record-lacks nodes links few (Leaf e) h = leaf-lacks nodes links e few h.0 h.1
 
-prices-lack : (form : Form) (places : ℕ) (lists : List (List ℕ)) → AreListed form places (length lists) lists → AllByRecursion (Lacks 10) (price_lines form (length lists) lists)
-unfolding price_lines
-prices-lack First places lists h = tt
-prices-lack Second places lists h = (
+cuts-lack : (form : Form) → AllByRecursion (Lacks 10) (cut_lines form)
+unfolding cut_lines
+cuts-lack First = tt
+cuts-lack Second = tt
+cuts-lack Third = (lacks-by cuts_line refl, tt)
+
+lists-lack : (places : ℕ) (lists : List (List ℕ)) → AreStated places (length lists) lists → AllByRecursion (Lacks 10) (list_lines (length lists) lists)
+lists-lack places lists h = (
   row-lacks (codes "PRICES") (length lists ∷ []) refl (let few : length lists ≤ MAX_LISTS = h.0 in omega (arith, few), tt),
   rec-map AreSmall price_line (λ list small. row-lacks (codes "P") list refl small) lists (lists_small places [] lists h.2),
 )
 
-pub plan_lacks : (form : Form) (plan : Plan) → IsSpellable plan → HasFields plan → HasLines form plan.tree → AreReady form (places_in plan.both plan.links) plan.tree → AllByRecursion (Lacks 10) (plan_lines form plan)
+prices-lack : (form : Form) (places : ℕ) (lists : List (List ℕ)) → AreListed form places (length lists) lists → AllByRecursion (Lacks 10) (price_lines form (length lists) lists)
+unfolding price_lines
+prices-lack First places lists h = tt
+prices-lack Second places lists h = lists-lack places lists h
+prices-lack Third places lists h = lists-lack places lists h
+
+pub plan_lacks : (form : Form) (plan : Plan) → IsSpellable plan → HasFields plan → AreReady form (places_in plan.both plan.links) plan.tree → AllByRecursion (Lacks 10) (plan_lines form plan)
 unfolding front_lines
-plan_lacks form plan s f lines r =
+plan_lacks form plan s f r =
     let lists : List (List ℕ) = lists_in form plan.tree in
     let places : ℕ = places_in plan.both plan.links in
     let prices : List (List ℕ) = price_lines form (length lists) lists in
     let fit = pair_of (FitsRecord plan.nodes places) HasRecordFields plan.tree (recursion_from_All (FitsRecord plan.nodes places) plan.tree s.records.each) f.record_fields in
     rec-append (front_lines form (length lists) lists plan) (tree_lines form lists (length plan.tree) plan.tree ++ end_line ∷ [])
-    (rec-append (head_lines form plan) (design_lines plan.design ++ (bound_lines plan.status plan.bound ++ prices)) (head-lacks form plan s f)
-    (rec-append (design_lines plan.design) (bound_lines plan.status plan.bound ++ prices) (design-lacks plan.demands plan.links plan.design s.design f.design_fields)
-    (rec-append (bound_lines plan.status plan.bound) prices (bound-lacks plan.status plan.bound f.bound_field) (prices-lack form places lists r.listed))))
+    (rec-append (head_lines form plan) (design_lines plan.design ++ (bound_lines plan.status plan.bound ++ (cut_lines form ++ prices))) (head-lacks form plan s f)
+    (rec-append (design_lines plan.design) (bound_lines plan.status plan.bound ++ (cut_lines form ++ prices)) (design-lacks plan.demands plan.links plan.design s.design f.design_fields)
+    (rec-append (bound_lines plan.status plan.bound) (cut_lines form ++ prices) (bound-lacks plan.status plan.bound f.bound_field)
+    (rec-append (cut_lines form) prices (cuts-lack form) (prices-lack form places lists r.listed)))))
     (rec-append (tree_lines form lists (length plan.tree) plan.tree) (end_line ∷ []) (
       row-lacks (codes "TREE") (length plan.tree ∷ []) refl (omega (arith, s.records.few), tt),
       rec-map (λ node. FitsRecord plan.nodes (width form places) (shown form lists node) × HasRecordFields (shown form lists node)) (λ node. record_line (shown form lists node))
           (λ node. record-lacks plan.nodes (width form places) s.sizes.nodes (shown form lists node)) plan.tree
-          (shown_all form lists 0 plan.nodes places plan.tree (good_listed form places (length lists) lists r.listed) fit (r.named lines)),
+          (shown_all form lists 0 plan.nodes places plan.tree (good_listed form places (length lists) lists r.listed) fit r.named),
     )
     (lacks-by end_line refl, tt))

@@ -5,7 +5,7 @@ use Rattle.std.specs.Cmp.Lexicographic.{pointwise}
 use Rattle.std.proofs.lemmas.Slice.Eq.{bytes_eq-Decides}
 use Rattle.proof_tree.specs.declared.tree.Evidence.TheVariants.{Bound, Routed, Overfull, Cut, Far, Crowd, Open}
 use Rattle.proof_tree.specs.declared.tree.TreeNode.{TreeNode}
-use Rattle.proof_tree.specs.declared.tree.TreeNode.TheVariants.{Split, Leaf}
+use Rattle.proof_tree.specs.declared.tree.TreeNode.TheVariants.{Split, Loads, Leaf}
 use Rattle.cert_format.specs.Lists.{is_among, with_list, with_some, prices_at, gathered, lists_of}
 use Rattle.cert_format.specs.Grammar.{AreWithin, HasRecordFields}
 use Rattle.cert_format.specs.Written.{HasShownFields}
@@ -51,6 +51,7 @@ all-kept lists (node ∷ nodes) h = kept lists (prices_at node) (all-kept (with_
 
 record-fields : (all lists : List (List ℕ)) (node : TreeNode) → HasShownFields all node → AreInFields (with_some lists (prices_at node)) → HasRecordFields node
 record-fields all lists (Split demand at left right) h k = h
+record-fields all lists (Loads place load) h k = h
 record-fields all lists (Leaf (Bound ps)) h k = in-by lists ps k
 record-fields all lists (Leaf Routed) h k = tt
 record-fields all lists (Leaf (Overfull link)) h k = h

@@ -9,15 +9,15 @@ use Rattle.std.proofs.lemmas.Slice.Eq.{bytes_eq-Decides}
 use Rattle.proof_tree.specs.declared.limits.TheConstants.{MAX_RECORDS}
 use Rattle.proof_tree.specs.declared.tree.Evidence.TheVariants.{Bound, Routed, Overfull, Cut, Far, Crowd, Open}
 use Rattle.proof_tree.specs.declared.tree.TreeNode.{TreeNode}
-use Rattle.proof_tree.specs.declared.tree.TreeNode.TheVariants.{Split, Leaf}
+use Rattle.proof_tree.specs.declared.tree.TreeNode.TheVariants.{Split, Loads, Leaf}
 use Rattle.proof_tree.specs.Shapes.{are_trees}
 use Rattle.proof_tree.specs.Spellings.{FitsRecord}
 use Rattle.cert_format.specs.declared.limits.TheConstants.{MAX_LISTS}
 use Rattle.cert_format.specs.declared.form.Form.{Form}
-use Rattle.cert_format.specs.declared.form.Form.TheVariants.{First, Second}
+use Rattle.cert_format.specs.declared.form.Form.TheVariants.{First, Second, Third}
 use Rattle.cert_format.specs.Lists.{is_among, number_in, with_list, prices_at, with_some, gathered, lists_of, lists_in, is_list, named_by, named_behind, named_from, IsNext, AreNamed, AreNew}
-use Rattle.cert_format.specs.Grammar.{HasLines, HasRecordFields}
-use Rattle.cert_format.specs.Drafts.{AreListed}
+use Rattle.cert_format.specs.Grammar.{HasRecordFields}
+use Rattle.cert_format.specs.Drafts.{AreStated, AreListed}
 use Rattle.cert_format.proofs.BodyLaws.{AreSmall}
 
 is-same : (ps list : List ℕ) → pointwise nat_eq ps list ≡ true → ps ≡ list
@@ -171,6 +171,7 @@ lists_named w lists nodes new h ends =
 
 prices-good : (nodes w : ℕ) (node : TreeNode) (ps : List ℕ) → prices_at node ≡ Some ps → FitsRecord nodes w node → HasRecordFields node → (length ps ≡ w) × AreSmall ps
 prices-good nodes w (Split demand at left right) ps e fits fields = absurd cc
+prices-good nodes w (Loads place load) ps e fits fields = absurd cc
 prices-good nodes w (Leaf (Bound qs)) ps e fits fields = subst (λ xs. (length xs ≡ w) × AreSmall xs) (some-same qs ps e) (fits, fields)
 prices-good nodes w (Leaf Routed) ps e fits fields = absurd cc
 prices-good nodes w (Leaf (Overfull link)) ps e fits fields = absurd cc
@@ -261,6 +262,7 @@ abbrev pub leaves : List TreeNode → ℕ
 leaves [] = 0
 leaves (Leaf evidence ∷ nodes) = suc (leaves nodes)
 leaves (Split demand at left right ∷ nodes) = leaves nodes
+leaves (Loads place load ∷ nodes) = leaves nodes
 
 with-few : (lists : List (List ℕ)) (o : Option (List ℕ)) → length (with_some lists o) ≤ suc (length lists)
 with-few lists None = omega arith
@@ -274,6 +276,7 @@ few-gathered : (lists : List (List ℕ)) (nodes : List TreeNode) → length (gat
 unfolding gathered
 few-gathered lists [] = omega arith
 few-gathered lists (Split demand at left right ∷ nodes) = few-gathered lists nodes
+few-gathered lists (Loads place load ∷ nodes) = few-gathered lists nodes
 few-gathered lists (Leaf evidence ∷ nodes) = omega (arith, few-gathered (with_some lists (prices_at (Leaf evidence))) nodes, with-few lists (prices_at (Leaf evidence)))
 
 pub half_leaves : (nodes : List TreeNode) (trees : ℕ) → are_trees trees nodes ≡ true → 2 * leaves nodes ≡ length nodes + trees
@@ -282,6 +285,7 @@ half_leaves [] (suc n) e = absurd (true≢false (sym e))
 half_leaves (node ∷ nodes) zero e = absurd (true≢false (sym e))
 half_leaves (Leaf evidence ∷ nodes) (suc n) e = omega (arith, half_leaves nodes n e)
 half_leaves (Split demand at left right ∷ nodes) (suc n) e = omega (arith, half_leaves nodes (suc (suc n)) e)
+half_leaves (Loads place load ∷ nodes) (suc n) e = omega (arith, half_leaves nodes (suc (suc n)) e)
 
 few-lists : (nodes : List TreeNode) → are_trees 1 nodes ≡ true → length nodes ≤ MAX_RECORDS → length (lists_of nodes) ≤ MAX_LISTS
 few-lists nodes e few = omega (arith, few, few-gathered [] nodes, half_leaves nodes 1 e)
@@ -289,16 +293,24 @@ few-lists nodes e few = omega (arith, few, few-gathered [] nodes, half_leaves no
 -- ---- the lists of a version
 
 -- lists that numbers can stand for
+abbrev pub AreNumbered : ℕ → List (List ℕ) → Type 0
+AreNumbered places lists = (length lists ≤ MAX_LISTS) × AreNew places [] lists
+
 abbrev pub AreGood : Form → ℕ → List (List ℕ) → Type 0
 AreGood First places lists = ⊤
-AreGood Second places lists = (length lists ≤ MAX_LISTS) × AreNew places [] lists
+AreGood Second places lists = AreNumbered places lists
+AreGood Third places lists = AreNumbered places lists
 
-pub good_listed : (form : Form) (places stated : ℕ) (lists : List (List ℕ)) → AreListed form places stated lists → AreGood form places lists
-good_listed First places stated lists h = tt
-good_listed Second places stated lists h =
+numbered-stated : (places stated : ℕ) (lists : List (List ℕ)) → AreStated places stated lists → AreNumbered places lists
+numbered-stated places stated lists h =
     let few : stated ≤ MAX_LISTS = h.0 in
     let within : length lists ≤ stated = h.1 in
     (omega (arith, few, within), h.2)
+
+pub good_listed : (form : Form) (places stated : ℕ) (lists : List (List ℕ)) → AreListed form places stated lists → AreGood form places lists
+good_listed First places stated lists h = tt
+good_listed Second places stated lists h = numbered-stated places stated lists h
+good_listed Third places stated lists h = numbered-stated places stated lists h
 
 -- in a text of the first version no list is named
 first-ends : (lists : List (List ℕ)) (named : ℕ) (nodes : List TreeNode) → named_from First lists named nodes ≡ named
@@ -306,38 +318,54 @@ unfolding named_from
 first-ends lists named [] = refl
 first-ends lists named (node ∷ nodes) = first-ends lists named nodes
 
-first-named : (lists : List (List ℕ)) (named : ℕ) (nodes : List TreeNode) → HasLines First nodes → AreNamed First lists named nodes
+first-named : (lists : List (List ℕ)) (named : ℕ) (nodes : List TreeNode) → AreNamed First lists named nodes
 unfolding AreNamed
-first-named lists named [] h = tt
-first-named lists named (node ∷ nodes) h = (h.0, first-named lists named nodes h.1)
+first-named lists named [] = tt
+first-named lists named (node ∷ nodes) = (tt, first-named lists named nodes)
 
--- and each record has a line where it stands
-pub named-lines : (form : Form) (lists : List (List ℕ)) (named : ℕ) (nodes : List TreeNode) → AreNamed form lists named nodes → HasLines form nodes
+-- in a text of the third version lists are named as in one of the second
+third-ends : (lists : List (List ℕ)) (named : ℕ) (nodes : List TreeNode) → named_from Third lists named nodes ≡ named_from Second lists named nodes
+unfolding named_from
+third-ends lists named [] = refl
+third-ends lists named (node ∷ nodes) = third-ends lists (named_by lists named (prices_at node)) nodes
+
+third-named : (lists : List (List ℕ)) (named : ℕ) (nodes : List TreeNode) → AreNamed Second lists named nodes → AreNamed Third lists named nodes
 unfolding AreNamed
-named-lines First lists named [] h = tt
-named-lines First lists named (node ∷ nodes) h = (h.0, named-lines First lists named nodes h.1)
-named-lines Second lists named nodes h = tt
+third-named lists named [] h = tt
+third-named lists named (node ∷ nodes) h = (h.0, third-named lists (named_by lists named (prices_at node)) nodes h.1)
+
+second-named : (lists : List (List ℕ)) (named : ℕ) (nodes : List TreeNode) → AreNamed Third lists named nodes → AreNamed Second lists named nodes
+unfolding AreNamed
+second-named lists named [] h = tt
+second-named lists named (node ∷ nodes) h = (h.0, second-named lists (named_by lists named (prices_at node)) nodes h.1)
 
 -- the lists of a tree are those of a text
 pub record AreReady (form : Form) (places : ℕ) (nodes : List TreeNode) : Type 0 where
   pub listed : AreListed form places (length (lists_in form nodes)) (lists_in form nodes)
-  pub named : HasLines form nodes → AreNamed form (lists_in form nodes) 0 nodes
+  pub named : AreNamed form (lists_in form nodes) 0 nodes
   pub ends : named_from form (lists_in form nodes) 0 nodes ≡ length (lists_in form nodes)
 
-pub lists_ready : (form : Form) (count places : ℕ) (nodes : List TreeNode) → IsTrue (are_trees 1 nodes) → length nodes ≤ MAX_RECORDS → AllByRecursion (λ node. FitsRecord count places node × HasRecordFields node) nodes → AreReady form places nodes
-lists_ready First count places nodes whole few h = record { listed = (refl, refl); named = first-named [] 0 nodes; ends = first-ends [] 0 nodes }
-lists_ready Second count places nodes whole few h =
+second-ready : (count places : ℕ) (nodes : List TreeNode) → IsTrue (are_trees 1 nodes) → length nodes ≤ MAX_RECORDS → AllByRecursion (λ node. FitsRecord count places node × HasRecordFields node) nodes → AreReady Second places nodes
+second-ready count places nodes whole few h =
     let g = gathering count places [] nodes h in
     record {
       listed = (few-lists nodes whole few, omega arith, subst (AreNew places []) (sym g.all_is) g.new);
-      named = λ lines. subst (λ ls. AreNamed Second ls 0 nodes) (sym g.all_is) g.named;
+      named = subst (λ ls. AreNamed Second ls 0 nodes) (sym g.all_is) g.named;
       ends = subst (λ ls. named_from Second ls 0 nodes ≡ length ls) (sym g.all_is) g.ends;
     }
+
+pub lists_ready : (form : Form) (count places : ℕ) (nodes : List TreeNode) → IsTrue (are_trees 1 nodes) → length nodes ≤ MAX_RECORDS → AllByRecursion (λ node. FitsRecord count places node × HasRecordFields node) nodes → AreReady form places nodes
+lists_ready First count places nodes whole few h = record { listed = (refl, refl); named = first-named [] 0 nodes; ends = first-ends [] 0 nodes }
+lists_ready Second count places nodes whole few h = second-ready count places nodes whole few h
+lists_ready Third count places nodes whole few h =
+    let r = second-ready count places nodes whole few h in
+    record { listed = r.listed; named = third-named (lists_of nodes) 0 nodes r.named; ends = third-ends (lists_of nodes) 0 nodes ∙ r.ends }
 
 -- the lists that a whole text tells are those of its tree
 pub lists_told : (form : Form) (places stated : ℕ) (lists : List (List ℕ)) (nodes : List TreeNode) → AreListed form places stated lists → AreNamed form lists 0 nodes → named_from form lists 0 nodes ≡ length lists → lists ≡ lists_in form nodes
 lists_told First places stated lists nodes h named ends = h.1
 lists_told Second places stated lists nodes h named ends = sym (lists_named places lists nodes h.2 named ends)
+lists_told Third places stated lists nodes h named ends = sym (lists_named places lists nodes h.2 (second-named lists 0 nodes named) (sym (third-ends lists 0 nodes) ∙ ends))
 
 -- ---- one record more
 

@@ -41,7 +41,7 @@ spelt-begun text plan s = record {
   states = stated_by s.form plan;
   more = [];
   draft = spelled_draft s.form plan s.spellable s.fields s.told s.lines;
-  begins = plan_drafted s.form plan s.spellable s.fields ∙ sym (plan_text_lines s.form plan s.spellable s.fields s.lines) ∙ ap lines_of (sym s.is_text) ∙ sym (append-nil (lines_of text));
+  begins = plan_drafted s.form plan s.spellable s.fields s.asked ∙ sym (plan_text_lines s.form plan s.spellable s.fields) ∙ ap lines_of (sym s.is_text) ∙ sym (append-nil (lines_of text));
 }
 
 pub no_fault : (text : List ℕ) (plan : Plan) (fault : PlanFault) → SpellsPlan text plan → IsFault text fault → fault ≡ faults.OutOfMemory

@@ -1,6 +1,6 @@
 -- A text that spells no plan is told at its first line that cannot stand.
 use Rattle.std.proofs.Common.{◌≡◌, ℕ, ◌-◌, ◌<◌, ◌≤◌, ◌==◌, ◌⊎◌, inl, inr, nat_lt, Bool, true, false, cond, List, [], ◌∷◌, ◌++◌, length, map, Option, Some, None, refl, sym, ap, subst, ◌∙◌, append_assoc, length-append, arith}
-use Rattle.std.specs.Prelude.{Result, Ok, Err}
+use Rattle.std.specs.Prelude.{Result, Ok, Err, IsTrue}
 use Rattle.std.proofs.lemmas.List.{append-nil}
 use Rattle.std.proofs.lemmas.List.Concat.{flat_map-append}
 use Rattle.std.proofs.lemmas.Bool.{cases_Bool, ltb-true, ltb-false, ne_eqb, eq-eqb}
@@ -13,10 +13,11 @@ use Rattle.cert_format.specs.declared.fault.PlanFault.{PlanFault}
 use Rattle.cert_format.specs.declared.fault.PlanFault.TheVariants as faults
 use Rattle.plan_words.specs.Lines.{Line, whole, unfinished, line_text, text_of, lines_of}
 use Rattle.cert_format.specs.declared.form.Form.{Form}
-use Rattle.cert_format.specs.declared.form.Form.TheVariants.{First, Second}
+use Rattle.cert_format.specs.declared.form.Form.TheVariants.{First, Second, Third}
 use Rattle.cert_format.specs.declared.numbering.Ground.{Ground}
+use Rattle.cert_format.specs.Versions.{has_line}
 use Rattle.cert_format.specs.Lists.{Names, AreNamed, AreNew}
-use Rattle.cert_format.specs.Grammar.{price_line, end_line, design_lines, bound_lines}
+use Rattle.cert_format.specs.Grammar.{price_line, end_line, design_lines, bound_lines, cut_lines}
 use Rattle.cert_format.specs.Drafts.{IsGrown, left_open, Stated, AreListed, IsDraft, IsBegun, IsMisplaced, IsUnfinished, is_complete, front_of, tree_of, closing, draft_lines}
 use Rattle.cert_format.specs.Bodies.{fixed_of}
 use Rattle.cert_format.specs.Reading.{◌>>=◌, done, judged, one, opening, lists, tree, stated_on, before_end, last_line, ending, whole_plan, place_of, read_as, plan_of}
@@ -45,6 +46,7 @@ tail_of s = cond (length s.lists == s.stated) (tree_of s ++ closing s) []
 few-by : (form : Form) (places n : ℕ) (found : List (List ℕ)) → AreListed form places n found → length found ≤ n
 few-by First places n found h = (let none : length found ≡ 0 = ap length h.1 in omega (arith, none))
 few-by Second places n found h = h.1
+few-by Third places n found h = h.1
 
 draft-read : (s : Stated) → IsDraft s → (before_end (draft_lines s) ≡ Ok (s, closing s)) ⊎ (before_end (draft_lines s) ≡ Err [])
 draft-read s g =
@@ -91,11 +93,17 @@ stopped ls front bad is s g more begins alone = record {
 -- a tree of one leaf fits each ground
 leaf-read : (g : Ground) → IsTreeRead g 1 (Leaf Routed ∷ [])
 unfolding IsGrown left_open AreNamed
-leaf-read g = record { some = omega arith; few = omega arith; grown = refl; each = ((tt, tt), tt); names = (by g.form, tt) }
+leaf-read g = record { some = omega arith; few = omega arith; grown = refl; each = ((tt, tt), tt); has_lines = (line g.form, tt); names = (by g.form, tt) }
   where
+    line : (form : Form) → IsTrue (has_line form (Leaf Routed))
+    line First = refl
+    line Second = refl
+    line Third = refl
+
     by : (form : Form) → Names form g.lists 0 (Leaf Routed)
-    by First = refl
+    by First = tt
     by Second = tt
+    by Third = tt
 
 -- what the lines of the front are
 front-lines : (front' : List Line) (f : Front) → Holds opening front' f → IsFront f × (front' ≡ front_text f [])
@@ -105,19 +113,21 @@ none-listed : (form : Form) (places n : ℕ) → IsListCount form n → AreListe
 unfolding AreNew
 none-listed First places n h = (h, refl)
 none-listed Second places n h = (h, omega arith, tt)
+none-listed Third places n h = (h, omega arith, tt)
 
 some-listed : (form : Form) (places n : ℕ) (more : List (List ℕ)) → IsListCount form n → length more < n → AreNew places [] more → AreListed form places n more
 some-listed First places n more h few new = (let zero_is : n ≡ 0 = h in absurd (omega (arith, zero_is, few)))
 some-listed Second places n more h few new = (h, omega (arith, few), new)
+some-listed Third places n more h few new = (h, omega (arith, few), new)
 
 -- lines of the front, and of price lists, are the front of a draft
 behind-front : (front' : List Line) (f : Front) (found : List (List ℕ)) (t : ℕ × List TreeNode) → front' ≡ front_text f [] → IsListCount f.0.form f.3 → AreListed f.0.form (places_on f) f.3 found → front_of (stated_on f found t) ≡ front' ++ map whole (map price_line found)
 behind-front front' f found t is count listed =
-    sym (ap (λ us. us ++ map whole (map price_line found)) is ∙ regroup (map whole (lines_of_head f.0)) (map whole (design_lines f.1)) (map whole (bound_lines f.0.status f.2)) (map whole (count_lines f.0.form f.3)) (map whole (map price_line found))
+    sym (ap (λ us. us ++ map whole (map price_line found)) is ∙ regroup (map whole (lines_of_head f.0)) (map whole (design_lines f.1)) (map whole (bound_lines f.0.status f.2)) (map whole (cut_lines f.0.form)) (map whole (count_lines f.0.form f.3)) (map whole (map price_line found))
     ∙ front_same f found t [] count listed ∙ append-nil (front_of (stated_on f found t)))
   where
-    regroup : (a b c d e : List Line) → (a ++ (b ++ (c ++ (d ++ [])))) ++ e ≡ a ++ (b ++ (c ++ (d ++ (e ++ []))))
-    regroup a b c d e = simp (append_assoc, append-nil)
+    regroup : (a b c d e f : List Line) → (a ++ (b ++ (c ++ (d ++ (e ++ []))))) ++ f ≡ a ++ (b ++ (c ++ (d ++ (e ++ (f ++ [])))))
+    regroup a b c d e f = simp (append_assoc, append-nil)
 
 -- it stops before the price lists
 early : (ls bad : List Line) → Stuck opening ls bad → StopsWell ls bad

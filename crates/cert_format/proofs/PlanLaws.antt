@@ -1,5 +1,5 @@
 -- All lines before the last, the whole text, and what a text is read as.
-use Rattle.std.proofs.Common.{◌≡◌, ℕ, ◌^◌, ◌<◌, ◌≤◌, ◌==◌, Bool, true, false, cond, List, [], ◌∷◌, ◌++◌, length, map, codes, Option, Some, None, refl, sym, ap, subst, ◌∙◌, append_assoc, ℤ, arith}
+use Rattle.std.proofs.Common.{◌≡◌, ℕ, ◌^◌, ◌<◌, ◌≤◌, ◌==◌, ◌&&◌, Bool, true, false, cond, List, [], ◌∷◌, ◌++◌, length, map, codes, Option, Some, None, refl, sym, ap, subst, ◌∙◌, append_assoc, ℤ, arith}
 use Rattle.std.specs.Prelude.{Result, Ok, Err, IfSome, IsNone, IsTrue}
 use Rattle.std.specs.List.{AllByRecursion}
 use Rattle.std.proofs.lemmas.Bool.{and_parts, and_from, eqb-true, eq-eqb}
@@ -15,19 +15,20 @@ use Rattle.proof_tree.specs.declared.plan.Plan.{Plan}
 use Rattle.proof_tree.specs.Shapes.{are_trees}
 use Rattle.proof_tree.specs.Spellings.{places_in, FitsRecord, FitsDesign, FitsStatus, IsSpellable}
 use Rattle.cert_format.specs.declared.form.Form.{Form}
-use Rattle.cert_format.specs.declared.form.Form.TheVariants.{First, Second}
+use Rattle.cert_format.specs.declared.form.Form.TheVariants.{First, Second, Third}
 use Rattle.cert_format.specs.declared.limits.TheConstants.{MAX_LISTS}
 use Rattle.cert_format.specs.declared.numbering.Ground.{Ground}
 use Rattle.cert_format.specs.declared.reading.Head.{Head}
 use Rattle.plan_words.specs.Lines.{Line, whole, text_of, lines_of}
+use Rattle.cert_format.specs.Versions.{HasLines, is_asked}
 use Rattle.cert_format.specs.Lists.{lists_in, named_from, AreNamed, AreNew}
-use Rattle.cert_format.specs.Grammar.{number_line, cost_line, bound_line, price_line, end_line, head_lines, design_lines, bound_lines, price_lines, front_lines, tree_lines, lines_with, plan_lines, plan_text, CanTell, HasLines, HasRecordFields, HasDesignFields, IsBoundField, HasFields, SpellsPlan}
+use Rattle.cert_format.specs.Grammar.{number_line, cost_line, bound_line, price_line, cuts_line, end_line, head_lines, design_lines, bound_lines, cut_lines, price_lines, front_lines, tree_lines, lines_with, plan_lines, plan_text, CanTell, HasRecordFields, HasDesignFields, IsBoundField, HasFields, SpellsPlan}
 use Rattle.cert_format.specs.Drafts.{IsGrown, Stated, AreListed, IsDraft, has_counts, is_complete, front_of, tree_of, closing, draft_lines}
 use Rattle.cert_format.specs.Bodies.{fixed_of, number_row, cost_allowed, cost_of, bound_of}
-use Rattle.cert_format.specs.Reading.{Reader, ◌>>=◌, bind, done, one, head, design_of, design, bound, list_count, front_with, opening, lists, records, tree, tree_with, ground_with, stated_on, before_end, last_line, ending, whole_plan, read_as, plan_of}
+use Rattle.cert_format.specs.Reading.{Reader, ◌>>=◌, bind, done, one, head, design_of, design, bound, no_cuts, list_count, front_with, opening, lists, records, tree, tree_with, ground_with, stated_on, before_end, last_line, ending, whole_plan, read_as, plan_of}
 use Rattle.plan_words.proofs.Cutting.{text_of_lines, lines_of_text}
 use Rattle.cert_format.proofs.BodyLaws.{IsCost, fixed_takes, fixed_again, number_row_takes, number_row_again, cost_takes, cost_again, bound_takes, bound_again}
-use Rattle.cert_format.proofs.ListLaws.{AreReady, named-lines, good_listed, lists_ready, lists_told}
+use Rattle.cert_format.proofs.ListLaws.{AreReady, good_listed, lists_ready, lists_told}
 use Rattle.cert_format.proofs.ReadingLaws.{read_one, bind_ok, taken, and_then, done_parts, done_is, one_line, one_again, IsHead, lines_of_head, head_takes, head_again, after_cost, cost_in, IsDesignIn, design_of_takes, design_of_again, lists_take, lists_again, lists_short, IsGround, FitsGround, line_on, grown_takes, grown_again, grown_whole}
 use Rattle.cert_format.proofs.Lacking.{plan_lacks}
 
@@ -97,6 +98,7 @@ pub record IsTreeRead (g : Ground) (count : ℕ) (nodes : List TreeNode) : Type 
   pub few : count ≤ MAX_RECORDS
   pub grown : IsGrown count 1 nodes
   pub each : AllByRecursion (FitsGround g) nodes
+  pub has_lines : HasLines g.form nodes
   pub names : AreNamed g.form g.lists 0 nodes
 
 abbrev pub lines_of_tree : Ground → ℕ → List TreeNode → List (List ℕ)
@@ -112,7 +114,7 @@ tree_takes g good ls x rest e =
     let n = number_row_takes (codes "TREE") 1 MAX_RECORDS body count read in
     let t = grown_takes g good 0 count 1 us nodes vs e2 in
     subst (λ (x : ℕ × List TreeNode). IsTreeRead g x.0 x.1 × (ls ≡ map whole (lines_of_tree g x.0 x.1) ++ rest)) p.0 (
-      record { some = n.0; few = n.1; grown = t.grown; each = t.each; names = t.names },
+      record { some = n.0; few = n.1; grown = t.grown; each = t.each; has_lines = t.has_lines; names = t.names },
       line ∙ ap (λ bs. whole bs ∷ us) n.2 ∙ ap (λ us. whole (number_line (codes "TREE") count) ∷ us) (t.lines ∙ ap (λ ws. map whole (map (line_on g) nodes) ++ ws) p.1),
     )
 
@@ -122,30 +124,56 @@ tree_again g good small count nodes rest t =
     and_then (one (number_row (codes "TREE") 1 MAX_RECORDS)) (λ count. bind (records g 0 count 1) λ nodes. done (tree_with count nodes)) (whole (number_line (codes "TREE") count) ∷ (map whole (map (line_on g) nodes) ++ rest)) count (map whole (map (line_on g) nodes) ++ rest) (Ok ((count, nodes), rest))
     (one_again (number_row (codes "TREE") 1 MAX_RECORDS) (number_line (codes "TREE") count) count (map whole (map (line_on g) nodes) ++ rest) (number_row_again (codes "TREE") 1 MAX_RECORDS count (omega arith) t.some t.few))
     (and_then (records g 0 count 1) (λ nodes. done (tree_with count nodes)) (map whole (map (line_on g) nodes) ++ rest) nodes rest (Ok ((count, nodes), rest))
-    (grown_again g good small 0 count 1 nodes rest t.grown t.each t.names) (done_is (tree_with count nodes) rest))
+    (grown_again g good small 0 count 1 nodes rest t.grown t.each t.has_lines t.names) (done_is (tree_with count nodes) rest))
+
+-- ---- that there are no cuts
+
+no-cuts-takes : (form : Form) (ls : List Line) (x : Unit {0}) (rest : List Line) → no_cuts form ls ≡ read_one x rest → ls ≡ map whole (cut_lines form) ++ rest
+unfolding no_cuts cut_lines
+no-cuts-takes First ls x rest e = (done_parts tt x ls rest e).1
+no-cuts-takes Second ls x rest e = (done_parts tt x ls rest e).1
+no-cuts-takes Third ls x rest e =
+    let (body, line, read) = one_line (fixed_of cuts_line) ls x rest e in
+    line ∙ ap (λ bs. whole bs ∷ rest) (fixed_takes cuts_line body x read)
+
+no-cuts-again : (form : Form) (rest : List Line) → no_cuts form (map whole (cut_lines form) ++ rest) ≡ Ok (tt, rest)
+unfolding no_cuts cut_lines
+no-cuts-again First rest = done_is tt rest
+no-cuts-again Second rest = done_is tt rest
+no-cuts-again Third rest = one_again (fixed_of cuts_line) cuts_line tt rest (fixed_again cuts_line)
 
 -- ---- how many price lists are stated
 
 abbrev pub IsListCount : Form → ℕ → Type 0
 IsListCount First stated = stated ≡ 0
 IsListCount Second stated = stated ≤ MAX_LISTS
+IsListCount Third stated = stated ≤ MAX_LISTS
 
 abbrev pub count_lines : Form → ℕ → List (List ℕ)
 count_lines First stated = []
 count_lines Second stated = number_line (codes "PRICES") stated ∷ []
+count_lines Third stated = number_line (codes "PRICES") stated ∷ []
 
-list-count-takes : (form : Form) (ls : List Line) (n : ℕ) (rest : List Line) → list_count form ls ≡ read_one n rest → IsListCount form n × (ls ≡ map whole (count_lines form n) ++ rest)
-unfolding list_count
-list-count-takes First ls n rest e = (let p = done_parts 0 n ls rest e in (sym p.0, p.1))
-list-count-takes Second ls n rest e =
+count-takes : (ls : List Line) (n : ℕ) (rest : List Line) → one (number_row (codes "PRICES") 0 MAX_LISTS) ls ≡ read_one n rest → (n ≤ MAX_LISTS) × (ls ≡ whole (number_line (codes "PRICES") n) ∷ rest)
+count-takes ls n rest e =
     let (body, line, read) = one_line (number_row (codes "PRICES") 0 MAX_LISTS) ls n rest e in
     let r = number_row_takes (codes "PRICES") 0 MAX_LISTS body n read in
     (r.1, line ∙ ap (λ bs. whole bs ∷ rest) r.2)
 
+count-again : (n : ℕ) (rest : List Line) → n ≤ MAX_LISTS → one (number_row (codes "PRICES") 0 MAX_LISTS) (whole (number_line (codes "PRICES") n) ∷ rest) ≡ Ok (n, rest)
+count-again n rest h = one_again (number_row (codes "PRICES") 0 MAX_LISTS) (number_line (codes "PRICES") n) n rest (number_row_again (codes "PRICES") 0 MAX_LISTS n (omega arith) (omega arith) h)
+
+list-count-takes : (form : Form) (ls : List Line) (n : ℕ) (rest : List Line) → list_count form ls ≡ read_one n rest → IsListCount form n × (ls ≡ map whole (count_lines form n) ++ rest)
+unfolding list_count
+list-count-takes First ls n rest e = (let p = done_parts 0 n ls rest e in (sym p.0, p.1))
+list-count-takes Second ls n rest e = count-takes ls n rest e
+list-count-takes Third ls n rest e = count-takes ls n rest e
+
 list-count-again : (form : Form) (n : ℕ) (rest : List Line) → IsListCount form n → list_count form (map whole (count_lines form n) ++ rest) ≡ Ok (n, rest)
 unfolding list_count
 list-count-again First n rest h = done_is 0 rest ∙ ap (λ k. read_one k rest) (sym h)
-list-count-again Second n rest h = one_again (number_row (codes "PRICES") 0 MAX_LISTS) (number_line (codes "PRICES") n) n rest (number_row_again (codes "PRICES") 0 MAX_LISTS n (omega arith) (omega arith) h)
+list-count-again Second n rest h = count-again n rest h
+list-count-again Third n rest h = count-again n rest h
 
 -- ---- all lines before the price lists
 
@@ -153,8 +181,11 @@ list-count-again Second n rest h = one_again (number_row (codes "PRICES") 0 MAX_
 abbrev pub Front : Type 0
 Front = Head × Option (ℕ × Design) × Option ℤ × ℕ
 
+abbrev pub front4 : Head → Option (ℕ × Design) → Option ℤ → Reader Front
+front4 h d b = bind (list_count h.form) λ stated. done (front_with h d b stated)
+
 abbrev pub front3 : Head → Option (ℕ × Design) → Option ℤ → Reader Front
-front3 h d b = bind (list_count h.form) λ stated. done (front_with h d b stated)
+front3 h d b = bind (no_cuts h.form) λ _. front4 h d b
 
 abbrev pub front2 : Head → Option (ℕ × Design) → Reader Front
 front2 h d = bind (bound h.status) λ b. front3 h d b
@@ -170,7 +201,7 @@ pub record IsFront (f : Front) : Type 0 where
 
 -- whole lines of the front, with lines behind
 abbrev pub front_text : Front → List Line → List Line
-front_text f rest = map whole (lines_of_head f.0) ++ (map whole (design_lines f.1) ++ (map whole (bound_lines f.0.status f.2) ++ (map whole (count_lines f.0.form f.3) ++ rest)))
+front_text f rest = map whole (lines_of_head f.0) ++ (map whole (design_lines f.1) ++ (map whole (bound_lines f.0.status f.2) ++ (map whole (cut_lines f.0.form) ++ (map whole (count_lines f.0.form f.3) ++ rest))))
 
 pub front_takes : (ls : List Line) (f : Front) (rest : List Line) → opening ls ≡ read_one f rest → IsFront f × (ls ≡ front_text f rest)
 unfolding opening
@@ -178,15 +209,17 @@ front_takes ls f rest e =
     let (h, us, e1, f1) = taken head (λ h. front1 h) ls f rest e in
     let (d, vs, e2, f2) = taken (design h) (λ d. front2 h d) us f rest f1 in
     let (b, ws, e3, f3) = taken (bound h.status) (λ b. front3 h d b) vs f rest f2 in
-    let (n, zs, e4, f4) = taken (list_count h.form) (λ stated. done (front_with h d b stated)) ws f rest f3 in
-    let p = done_parts (front_with h d b n) f zs rest f4 in
+    let (x, ys, e4, f4) = taken (no_cuts h.form) (λ _. front4 h d b) ws f rest f3 in
+    let (n, zs, e5, f5) = taken (list_count h.form) (λ stated. done (front_with h d b stated)) ys f rest f4 in
+    let p = done_parts (front_with h d b n) f zs rest f5 in
     let hh = head_takes ls h us e1 in
     let dd = design_takes h us d vs e2 in
     let bb = bound_read_takes h.status vs b ws e3 in
-    let nn = list-count-takes h.form ws n zs e4 in
+    let cut = no-cuts-takes h.form ws x ys e4 in
+    let nn = list-count-takes h.form ys n zs e5 in
     subst (λ (f : Front). IsFront f × (ls ≡ front_text f rest)) p.0 (
       record { head_is = hh.0; design_is = dd.0; bound_is = bb.0; count_is = nn.0 },
-      hh.1 ∙ ap (λ us. map whole (lines_of_head h) ++ us) (dd.1 ∙ ap (λ vs. map whole (design_lines d) ++ vs) (bb.1 ∙ ap (λ ws. map whole (bound_lines h.status b) ++ ws) (nn.1 ∙ ap (λ zs. map whole (count_lines h.form n) ++ zs) p.1))),
+      hh.1 ∙ ap (λ us. map whole (lines_of_head h) ++ us) (dd.1 ∙ ap (λ vs. map whole (design_lines d) ++ vs) (bb.1 ∙ ap (λ ws. map whole (bound_lines h.status b) ++ ws) (cut ∙ ap (λ ys. map whole (cut_lines h.form) ++ ys) (nn.1 ∙ ap (λ zs. map whole (count_lines h.form n) ++ zs) p.1)))),
     )
 
 pub front_again : (f : Front) (rest : List Line) → IsFront f → opening (front_text f rest) ≡ Ok (f, rest)
@@ -194,14 +227,16 @@ unfolding opening
 front_again f rest g =
     let h : Head = f.0 in
     let o : Result (Front × List Line) (List Line) = Ok (f, rest) in
-    let ws : List Line = map whole (count_lines h.form f.3) ++ rest in
+    let ys : List Line = map whole (count_lines h.form f.3) ++ rest in
+    let ws : List Line = map whole (cut_lines h.form) ++ ys in
     let vs : List Line = map whole (bound_lines h.status f.2) ++ ws in
     let us : List Line = map whole (design_lines f.1) ++ vs in
     and_then head (λ h. front1 h) (map whole (lines_of_head h) ++ us) h us o (head_again h us g.head_is)
     (and_then (design h) (λ d. front2 h d) us f.1 vs o (design_again h f.1 vs g.design_is)
     (and_then (bound h.status) (λ b. front3 h f.1 b) vs f.2 ws o (bound_read_again h.status f.2 ws g.bound_is)
-    (and_then (list_count h.form) (λ stated. done (front_with h f.1 f.2 stated)) ws f.3 rest o (list-count-again h.form f.3 rest g.count_is)
-    (done_is (front_with h f.1 f.2 f.3) rest))))
+    (and_then (no_cuts h.form) (λ _. front4 h f.1 f.2) ws tt ys o (no-cuts-again h.form ys)
+    (and_then (list_count h.form) (λ stated. done (front_with h f.1 f.2 stated)) ys f.3 rest o (list-count-again h.form f.3 rest g.count_is)
+    (done_is (front_with h f.1 f.2 f.3) rest)))))
 
 -- ---- all lines before the last
 
@@ -217,20 +252,21 @@ prices-split : (form : Form) (places n : ℕ) (found : List (List ℕ)) (rest : 
 unfolding price_lines
 prices-split First places n found rest h = ap (λ ls. map whole (map price_line ls) ++ rest) (sym h.1)
 prices-split Second places n found rest h = refl
+prices-split Third places n found rest h = refl
 
 -- the lines of a draft's front are those that are read
 pub front_same : (f : Front) (found : List (List ℕ)) (t : ℕ × List TreeNode) (rest : List Line) → IsListCount f.0.form f.3 → AreListed f.0.form (places_on f) f.3 found
     → front_text f (map whole (map price_line found) ++ rest) ≡ front_of (stated_on f found t) ++ rest
 unfolding front_lines head_lines
 front_same f found t rest count listed =
-    sym (ap (λ ws. ws ++ rest) (five (lines_of_head f.0) (design_lines f.1) (bound_lines f.0.status f.2) (price_lines f.0.form f.3 found)) ∙ regroup (map whole (lines_of_head f.0)) (map whole (design_lines f.1)) (map whole (bound_lines f.0.status f.2)) (map whole (price_lines f.0.form f.3 found)) rest
-    ∙ ap (λ ws. map whole (lines_of_head f.0) ++ (map whole (design_lines f.1) ++ (map whole (bound_lines f.0.status f.2) ++ ws))) (prices-split f.0.form (places_on f) f.3 found rest listed))
+    sym (ap (λ ws. ws ++ rest) (five (lines_of_head f.0) (design_lines f.1) (bound_lines f.0.status f.2) (cut_lines f.0.form) (price_lines f.0.form f.3 found)) ∙ regroup (map whole (lines_of_head f.0)) (map whole (design_lines f.1)) (map whole (bound_lines f.0.status f.2)) (map whole (cut_lines f.0.form)) (map whole (price_lines f.0.form f.3 found)) rest
+    ∙ ap (λ ws. map whole (lines_of_head f.0) ++ (map whole (design_lines f.1) ++ (map whole (bound_lines f.0.status f.2) ++ (map whole (cut_lines f.0.form) ++ ws)))) (prices-split f.0.form (places_on f) f.3 found rest listed))
   where
-    five : (a b c d : List (List ℕ)) → map whole (a ++ (b ++ (c ++ d))) ≡ map whole a ++ (map whole b ++ (map whole c ++ map whole d))
-    five a b c d = map-append whole a (b ++ (c ++ d)) ∙ ap (λ ws. map whole a ++ ws) (map-append whole b (c ++ d) ∙ ap (λ ws. map whole b ++ ws) (map-append whole c d))
+    five : (a b c d e : List (List ℕ)) → map whole (a ++ (b ++ (c ++ (d ++ e)))) ≡ map whole a ++ (map whole b ++ (map whole c ++ (map whole d ++ map whole e)))
+    five a b c d e = map-append whole a (b ++ (c ++ (d ++ e))) ∙ ap (λ ws. map whole a ++ ws) (map-append whole b (c ++ (d ++ e)) ∙ ap (λ ws. map whole b ++ ws) (map-append whole c (d ++ e) ∙ ap (λ ws. map whole c ++ ws) (map-append whole d e)))
 
-    regroup : (a b c d rest : List Line) → (a ++ (b ++ (c ++ d))) ++ rest ≡ a ++ (b ++ (c ++ (d ++ rest)))
-    regroup a b c d rest = simp append_assoc
+    regroup : (a b c d e rest : List Line) → (a ++ (b ++ (c ++ (d ++ e)))) ++ rest ≡ a ++ (b ++ (c ++ (d ++ (e ++ rest))))
+    regroup a b c d e rest = simp append_assoc
 
 -- the parts of a draft that states all its price lists
 pub record AreParts (f : Front) (found : List (List ℕ)) (t : ℕ × List TreeNode) : Type 0 where
@@ -242,6 +278,7 @@ pub listed_from : (form : Form) (places n : ℕ) (found : List (List ℕ)) → I
 listed_from First places n [] count long new = (count, refl)
 listed_from First places n (list ∷ found) count long new = (let zero_is : n ≡ 0 = count in absurd (omega (arith, zero_is, long)))
 listed_from Second places n found count long new = (count, omega (arith, long), new)
+listed_from Third places n found count long new = (count, omega (arith, long), new)
 
 abbrev pub before2 : Front → List (List ℕ) → Reader Stated
 before2 f found = bind (tree (ground_on f found)) λ t. done (stated_on f found t)
@@ -276,6 +313,7 @@ new-from : (form : Form) (places n : ℕ) (found : List (List ℕ)) → AreListe
 unfolding AreNew
 new-from First places n found h = subst (AreNew places []) (sym h.1) tt
 new-from Second places n found h = h.2
+new-from Third places n found h = h.2
 
 pub parts_again : (f : Front) (found : List (List ℕ)) (t : ℕ × List TreeNode) (rest : List Line) → AreParts f found t → length found ≡ f.3
     → before_end (front_of (stated_on f found t) ++ (tree_of (stated_on f found t) ++ rest)) ≡ Ok (stated_on f found t, rest)
@@ -357,6 +395,7 @@ draft_from f found t g =
       few = g.tree_is.few;
       grown = g.tree_is.grown;
       records = each.0;
+      lines = g.tree_is.has_lines;
       named = g.tree_is.names;
     }
 
@@ -390,6 +429,7 @@ design-in demands links (Some x) h k = (h, k.arcs, k.counts_within)
 count-by : (form : Form) (places n : ℕ) (found : List (List ℕ)) → AreListed form places n found → IsListCount form n
 count-by First places n found h = h.0
 count-by Second places n found h = h.0
+count-by Third places n found h = h.0
 
 pub parts_from : (s : Stated) → IsDraft s → AreParts (front_parts s) s.lists (s.count, s.plan.tree)
 parts_from s g =
@@ -402,7 +442,7 @@ parts_from s g =
         count_is = count-by s.form (places_in plan.both plan.links) s.stated s.lists g.listed;
       };
       listed = g.listed;
-      tree_is = record { some = g.some; few = g.few; grown = g.grown; each = seconds plan.nodes (places_in plan.both plan.links) plan.tree g.records g.fields.record_fields; names = g.named };
+      tree_is = record { some = g.some; few = g.few; grown = g.grown; each = seconds plan.nodes (places_in plan.both plan.links) plan.tree g.records g.fields.record_fields; has_lines = g.lines; names = g.named };
     }
 
 pub draft_takes : (ls : List Line) (s : Stated) (rest : List Line) → before_end ls ≡ read_one s rest → IsDraft s × (length s.lists ≡ s.stated) × (ls ≡ front_of s ++ (tree_of s ++ rest))
@@ -425,6 +465,7 @@ pub record IsToldBy (ls : List Line) (plan : Plan) : Type 0 where
   pub form : Form
   pub told : CanTell form plan.both
   pub has_lines : HasLines form plan.tree
+  pub asked : IsTrue (is_asked form plan.tree)
   pub lines : ls ≡ map whole (plan_lines form plan)
 
 -- the lines of a whole text
@@ -444,8 +485,9 @@ whole_takes ls plan e =
     let g = draft_takes ls s d.1 first in
     let (complete, last) = when_err (is_complete s) (last_line s.plan (one (fixed_of end_line) d.1)) d.1 plan later in
     let (same, end) = last-takes s.plan d.1 plan last in
-    let parts = and_parts (are_trees 1 s.plan.tree) (has_counts s) complete in
-    let counts = and_parts (length s.plan.tree == s.count) (named_from s.form s.lists 0 s.plan.tree == length s.lists) parts.1 in
+    let parts = and_parts (are_trees 1 s.plan.tree) (has_counts s && is_asked s.form s.plan.tree) complete in
+    let met = and_parts (has_counts s) (is_asked s.form s.plan.tree) parts.1 in
+    let counts = and_parts (length s.plan.tree == s.count) (named_from s.form s.lists 0 s.plan.tree == length s.lists) met.0 in
     let count : length s.plan.tree ≡ s.count = eqb-true (length s.plan.tree) s.count counts.0 in
     let places : ℕ = places_in s.plan.both s.plan.links in
     let lists_are : s.lists ≡ lists_in s.form s.plan.tree = lists_told s.form places s.stated s.lists s.plan.tree g.0.listed g.0.named (eqb-true (named_from s.form s.lists 0 s.plan.tree) (length s.lists) counts.1) in
@@ -460,7 +502,8 @@ whole_takes ls plan e =
       fields = g.0.fields;
       form = s.form;
       told = g.0.told;
-      has_lines = named-lines s.form s.lists 0 s.plan.tree g.0.named;
+      has_lines = g.0.lines;
+      asked = subst IsTrue (sym met.1) refl;
       lines = g.2 ∙ ap (λ us. front_of s ++ (tree_of s ++ us)) end ∙ whole-lines s g.1 lists_are count;
     })
   where
@@ -499,7 +542,8 @@ spelled_draft form plan s f told lines =
       few = s.records.few;
       grown = grown_whole plan.tree 1 (true-is (are_trees 1 plan.tree) s.whole);
       records = recursion_from_All (FitsRecord plan.nodes (places_in plan.both plan.links)) plan.tree s.records.each;
-      named = r.named lines;
+      lines = lines;
+      named = r.named;
     }
   where
     true-is : (b : Bool) → IsTrue b → b ≡ true
@@ -509,28 +553,29 @@ spelled_draft form plan s f told lines =
     some [] h = absurd (let bad : false ≡ true = h in cc)
     some (n ∷ ns) h = omega arith
 
-plan-complete : (form : Form) (plan : Plan) → IsSpellable plan → HasFields plan → is_complete (stated_by form plan) ≡ true
-plan-complete form plan s f =
+plan-complete : (form : Form) (plan : Plan) → IsSpellable plan → HasFields plan → IsTrue (is_asked form plan.tree) → is_complete (stated_by form plan) ≡ true
+plan-complete form plan s f asked =
     let lists : List (List ℕ) = lists_in form plan.tree in
     let r = plan_ready form plan s f in
-    and_from (are_trees 1 plan.tree) (has_counts (stated_by form plan)) s.whole
-    (and_from (length plan.tree == length plan.tree) (named_from form lists 0 plan.tree == length lists) (eq-eqb (length plan.tree) (length plan.tree) refl) (eq-eqb (named_from form lists 0 plan.tree) (length lists) r.ends))
+    and_from (are_trees 1 plan.tree) (has_counts (stated_by form plan) && is_asked form plan.tree) s.whole
+    (and_from (has_counts (stated_by form plan)) (is_asked form plan.tree)
+    (and_from (length plan.tree == length plan.tree) (named_from form lists 0 plan.tree == length lists) (eq-eqb (length plan.tree) (length plan.tree) refl) (eq-eqb (named_from form lists 0 plan.tree) (length lists) r.ends)) asked)
 
 -- the lines of what the text of a plan states are those of the plan
-pub plan_drafted : (form : Form) (plan : Plan) → IsSpellable plan → HasFields plan → draft_lines (stated_by form plan) ≡ map whole (plan_lines form plan)
-plan_drafted form plan s f =
+pub plan_drafted : (form : Form) (plan : Plan) → IsSpellable plan → HasFields plan → IsTrue (is_asked form plan.tree) → draft_lines (stated_by form plan) ≡ map whole (plan_lines form plan)
+plan_drafted form plan s f asked =
     let x : Stated = stated_by form plan in
     ap (λ b. front_of x ++ cond b (tree_of x ++ closing x) []) (eq-eqb (length x.lists) x.stated refl)
-    ∙ ap (λ b. front_of x ++ (tree_of x ++ cond b (whole end_line ∷ []) [])) (plan-complete form plan s f)
+    ∙ ap (λ b. front_of x ++ (tree_of x ++ cond b (whole end_line ∷ []) [])) (plan-complete form plan s f asked)
     ∙ whole-lines x refl refl refl
 
-pub whole_again : (form : Form) (plan : Plan) → IsSpellable plan → HasFields plan → CanTell form plan.both → HasLines form plan.tree → whole_plan (map whole (plan_lines form plan)) ≡ Ok plan
+pub whole_again : (form : Form) (plan : Plan) → IsSpellable plan → HasFields plan → CanTell form plan.both → HasLines form plan.tree → IsTrue (is_asked form plan.tree) → whole_plan (map whole (plan_lines form plan)) ≡ Ok plan
 unfolding whole_plan
-whole_again form plan s f told lines =
+whole_again form plan s f told lines asked =
     let x : Stated = stated_by form plan in
     ap (λ ls. before_end ls >>= ending) (sym (whole-lines x refl refl refl))
     ∙ ap (λ r. r >>= ending) (draft_again x (whole end_line ∷ []) (spelled_draft form plan s f told lines) refl)
-    ∙ ap (λ t. cond t (last_line plan (one (fixed_of end_line) (whole end_line ∷ []))) (Err (whole end_line ∷ []))) (plan-complete form plan s f)
+    ∙ ap (λ t. cond t (last_line plan (one (fixed_of end_line) (whole end_line ∷ []))) (Err (whole end_line ∷ []))) (plan-complete form plan s f asked)
     ∙ ap (last_line plan) (one_again (fixed_of end_line) end_line tt [] (fixed_again end_line))
 
 -- ---- texts
@@ -539,7 +584,7 @@ pub spells_takes : (text : List ℕ) (plan : Plan) → plan_of text ≡ Ok plan 
 unfolding plan_of plan_text
 spells_takes text plan e =
     let w = whole_takes (lines_of text) plan (read-ok (whole_plan (lines_of text)) plan e) in
-    record { spellable = w.spellable; fields = w.fields; form = w.form; told = w.told; lines = w.has_lines; is_text = sym (text_of_lines text) ∙ ap text_of w.lines }
+    record { spellable = w.spellable; fields = w.fields; form = w.form; told = w.told; lines = w.has_lines; asked = w.asked; is_text = sym (text_of_lines text) ∙ ap text_of w.lines }
   where
     read-ok : (r : Result Plan (List Line)) (plan : Plan) → read_as (length text) r ≡ Ok plan → r ≡ Ok plan
     read-ok (Ok p) plan e = (let same : p ≡ plan = cc in ap (λ (p : Plan). Ok p) same)
@@ -549,13 +594,13 @@ nil-lines : (ls : List Line) → ls ++ lines_of [] ≡ ls
 unfolding lines_of
 nil-lines ls = append-nil ls
 
-pub plan_text_lines : (form : Form) (plan : Plan) → IsSpellable plan → HasFields plan → HasLines form plan.tree → lines_of (plan_text form plan) ≡ map whole (plan_lines form plan)
+pub plan_text_lines : (form : Form) (plan : Plan) → IsSpellable plan → HasFields plan → lines_of (plan_text form plan) ≡ map whole (plan_lines form plan)
 unfolding plan_text
-plan_text_lines form plan s f lines =
-    ap lines_of (sym (append-nil (text_of (map whole (plan_lines form plan))))) ∙ lines_of_text (plan_lines form plan) [] (plan_lacks form plan s f lines (plan_ready form plan s f)) ∙ nil-lines (map whole (plan_lines form plan))
+plan_text_lines form plan s f =
+    ap lines_of (sym (append-nil (text_of (map whole (plan_lines form plan))))) ∙ lines_of_text (plan_lines form plan) [] (plan_lacks form plan s f (plan_ready form plan s f)) ∙ nil-lines (map whole (plan_lines form plan))
 
 pub spells_again : (text : List ℕ) (plan : Plan) → SpellsPlan text plan → plan_of text ≡ Ok plan
 unfolding plan_of
 spells_again text plan s =
-    ap (λ ls. read_as (length text) (whole_plan ls)) (ap lines_of s.is_text ∙ plan_text_lines s.form plan s.spellable s.fields s.lines)
-    ∙ ap (read_as (length text)) (whole_again s.form plan s.spellable s.fields s.told s.lines)
+    ap (λ ls. read_as (length text) (whole_plan ls)) (ap lines_of s.is_text ∙ plan_text_lines s.form plan s.spellable s.fields)
+    ∙ ap (read_as (length text)) (whole_again s.form plan s.spellable s.fields s.told s.lines s.asked)

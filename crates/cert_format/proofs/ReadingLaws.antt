@@ -9,7 +9,7 @@ use Rattle.plan_base.specs.declared.path.Design.{Design}
 use Rattle.plan_base.specs.declared.limits.TheConstants.{MAX_NODES, MAX_MODULES}
 use Rattle.proof_tree.specs.declared.limits.TheConstants.{MAX_BUDGET, MAX_PATH_ARCS}
 use Rattle.proof_tree.specs.declared.tree.TreeNode.{TreeNode}
-use Rattle.proof_tree.specs.declared.tree.TreeNode.TheVariants.{Split, Leaf}
+use Rattle.proof_tree.specs.declared.tree.TreeNode.TheVariants.{Split, Loads, Leaf}
 use Rattle.proof_tree.specs.declared.plan.PlanStatus.{PlanStatus}
 use Rattle.proof_tree.specs.Shapes.{are_trees}
 use Rattle.proof_tree.specs.Spellings.{FitsRecord, FitsDesign}
@@ -18,6 +18,7 @@ use Rattle.cert_format.specs.declared.form.Form.{Form}
 use Rattle.cert_format.specs.declared.numbering.Ground.{Ground}
 use Rattle.cert_format.specs.declared.reading.Head.{Head}
 use Rattle.plan_words.specs.Lines.{Line, whole, unfinished}
+use Rattle.cert_format.specs.Versions.{HasLines}
 use Rattle.cert_format.specs.Lists.{shown, named_behind, AreNamed, AreNew}
 use Rattle.cert_format.specs.Grammar.{header_line, size_line, status_line, number_line, path_line, modules_line, price_line, record_line, AreArcs, HasRecordFields, HasDesignFields}
 use Rattle.cert_format.specs.Drafts.{IsGrown, left_open}
@@ -326,13 +327,14 @@ named_on g named node = named_behind g.form g.lists named node
 pub record AreGrown (g : Ground) (named left trees : ℕ) (ns : List TreeNode) (ls rest : List Line) : Type 0 where
   pub grown : IsGrown left trees ns
   pub each : AllByRecursion (FitsGround g) ns
+  pub has_lines : HasLines g.form ns
   pub names : AreNamed g.form g.lists named ns
   pub lines : ls ≡ map whole (map (line_on g) ns) ++ rest
 
 pub grown_takes : (g : Ground) → IsGround g → (named left trees : ℕ) (ls : List Line) (ns : List TreeNode) (rest : List Line) → records g named left trees ls ≡ read_one ns rest → AreGrown g named left trees ns ls rest
 unfolding records IsGrown AreNamed
-grown_takes g good named zero trees ls ns rest e = (let p = done_parts {A = List TreeNode} [] ns ls rest e in subst (λ (ns : List TreeNode). AreGrown g named 0 trees ns ls rest) p.0 (record { grown = refl; each = tt; names = tt; lines = p.1 }))
-grown_takes g good named (suc left) zero ls ns rest e = (let p = done_parts {A = List TreeNode} [] ns ls rest e in subst (λ (ns : List TreeNode). AreGrown g named (suc left) 0 ns ls rest) p.0 (record { grown = refl; each = tt; names = tt; lines = p.1 }))
+grown_takes g good named zero trees ls ns rest e = (let p = done_parts {A = List TreeNode} [] ns ls rest e in subst (λ (ns : List TreeNode). AreGrown g named 0 trees ns ls rest) p.0 (record { grown = refl; each = tt; has_lines = tt; names = tt; lines = p.1 }))
+grown_takes g good named (suc left) zero ls ns rest e = (let p = done_parts {A = List TreeNode} [] ns ls rest e in subst (λ (ns : List TreeNode). AreGrown g named (suc left) 0 ns ls rest) p.0 (record { grown = refl; each = tt; has_lines = tt; names = tt; lines = p.1 }))
 grown_takes g good named (suc left) (suc others) ls ns rest e =
     let (node, us, e1, f1) = taken (one (record_on g named)) (λ node. bind (records g (named_on g named node) left (left_open node others)) λ more. done (node ∷ more)) ls ns rest e in
     let (more, vs, e2, f2) = taken (records g (named_on g named node) left (left_open node others)) (λ more. done (node ∷ more)) us ns rest f1 in
@@ -343,23 +345,24 @@ grown_takes g good named (suc left) (suc others) ls ns rest e =
     subst (λ (ns : List TreeNode). AreGrown g named (suc left) (suc others) ns ls rest) p.0 (record {
       grown = there.grown;
       each = ((here.fits, here.fields), there.each);
+      has_lines = (here.has, there.has_lines);
       names = (here.names, there.names);
       lines = line ∙ ap (λ bs. whole bs ∷ us) here.line ∙ ap (λ us. whole (line_on g node) ∷ us) (there.lines ∙ ap (λ ws. map whole (map (line_on g) more) ++ ws) p.1);
     })
 
-pub grown_again : (g : Ground) → IsGround g → g.nodes ≤ MAX_NODES → (named left trees : ℕ) (ns : List TreeNode) (rest : List Line) → IsGrown left trees ns → AllByRecursion (FitsGround g) ns → AreNamed g.form g.lists named ns
+pub grown_again : (g : Ground) → IsGround g → g.nodes ≤ MAX_NODES → (named left trees : ℕ) (ns : List TreeNode) (rest : List Line) → IsGrown left trees ns → AllByRecursion (FitsGround g) ns → HasLines g.form ns → AreNamed g.form g.lists named ns
     → records g named left trees (map whole (map (line_on g) ns) ++ rest) ≡ Ok (ns, rest)
 unfolding records IsGrown AreNamed
-grown_again g good few named zero trees [] rest grown h k = done_is {A = List TreeNode} [] rest
-grown_again g good few named zero trees (node ∷ ns) rest grown h k = absurd (omega (arith, ap length grown))
-grown_again g good few named (suc left) zero [] rest grown h k = done_is {A = List TreeNode} [] rest
-grown_again g good few named (suc left) zero (node ∷ ns) rest grown h k = absurd (omega (arith, ap length grown))
-grown_again g good few named (suc left) (suc others) [] rest grown h k = absurd grown
-grown_again g good few named (suc left) (suc others) (node ∷ ns) rest grown h k =
+grown_again g good few named zero trees [] rest grown h has k = done_is {A = List TreeNode} [] rest
+grown_again g good few named zero trees (node ∷ ns) rest grown h has k = absurd (omega (arith, ap length grown))
+grown_again g good few named (suc left) zero [] rest grown h has k = done_is {A = List TreeNode} [] rest
+grown_again g good few named (suc left) zero (node ∷ ns) rest grown h has k = absurd (omega (arith, ap length grown))
+grown_again g good few named (suc left) (suc others) [] rest grown h has k = absurd grown
+grown_again g good few named (suc left) (suc others) (node ∷ ns) rest grown h has k =
     and_then (one (record_on g named)) (λ node. bind (records g (named_on g named node) left (left_open node others)) λ more. done (node ∷ more)) (whole (line_on g node) ∷ (map whole (map (line_on g) ns) ++ rest)) node (map whole (map (line_on g) ns) ++ rest) (Ok (node ∷ ns, rest))
-    (one_again (record_on g named) (line_on g node) node (map whole (map (line_on g) ns) ++ rest) (record_in_again g.form g.lists named g.nodes g.places node few good h.0.0 h.0.1 k.0))
+    (one_again (record_on g named) (line_on g node) node (map whole (map (line_on g) ns) ++ rest) (record_in_again g.form g.lists named g.nodes g.places node few good h.0.0 h.0.1 has.0 k.0))
     (and_then (records g (named_on g named node) left (left_open node others)) (λ more. done (node ∷ more)) (map whole (map (line_on g) ns) ++ rest) ns rest (Ok (node ∷ ns, rest))
-    (grown_again g good few (named_on g named node) left (left_open node others) ns rest grown h.1 k.1) (done_is (node ∷ ns) rest))
+    (grown_again g good few (named_on g named node) left (left_open node others) ns rest grown h.1 has.1 k.1) (done_is (node ∷ ns) rest))
 
 -- a whole tree is grown where as many records are stated
 pub grown_whole : (ns : List TreeNode) (trees : ℕ) → are_trees trees ns ≡ true → IsGrown (length ns) trees ns
@@ -368,3 +371,4 @@ grown_whole [] trees e = refl
 grown_whole (node ∷ ns) zero e = absurd (true≢false (sym e))
 grown_whole (Leaf evidence ∷ ns) (suc others) e = grown_whole ns others e
 grown_whole (Split demand at left right ∷ ns) (suc others) e = grown_whole ns (suc (suc others)) e
+grown_whole (Loads place load ∷ ns) (suc others) e = grown_whole ns (suc (suc others)) e

@@ -11,11 +11,11 @@ use Rattle.proof_tree.specs.declared.limits.TheConstants.{MAX_SIDE_ARCS}
 use Rattle.proof_tree.specs.declared.tree.Evidence.{Evidence}
 use Rattle.proof_tree.specs.declared.tree.Evidence.TheVariants.{Bound, Routed, Overfull, Cut, Far, Crowd, Open}
 use Rattle.proof_tree.specs.declared.tree.TreeNode.{TreeNode}
-use Rattle.proof_tree.specs.declared.tree.TreeNode.TheVariants.{Split, Leaf}
+use Rattle.proof_tree.specs.declared.tree.TreeNode.TheVariants.{Split, Loads, Leaf}
 use Rattle.proof_tree.specs.Spellings.{IsAscending, IsWrittenSide, FitsEvidence, FitsRecord}
 use Rattle.plan_words.specs.Words.{◌>>=◌, numerals, row, behind, each, numbers_of}
 use Rattle.cert_format.specs.Grammar.{arc_numbers, counted, members, leaf_line, record_line, AreArcs, HasLeafFields, HasRecordFields}
-use Rattle.cert_format.specs.Bodies.{only_if, choose, fixed_of, one_in, arc_of, uncounted, ascends, side_arcs, with_rest, side_of, two_sides, right_side, behind_left, sides_of, split_with, split_in, cut_with, overfull_with, far_with, lone_number, behind_number, flags_of, cut_in, prices_of, priced_of, leaf_of, record_of}
+use Rattle.cert_format.specs.Bodies.{only_if, choose, fixed_of, one_in, arc_of, uncounted, ascends, side_arcs, with_rest, side_of, two_sides, right_side, behind_left, sides_of, split_with, split_in, loads_in, cut_with, overfull_with, far_with, lone_number, behind_number, flags_of, cut_in, prices_of, priced_of, leaf_of, record_of}
 use Rattle.plan_words.proofs.NumberWords.{then-some, map-some, behind_found, behind_takes, numbers_found, numbers_takes, each_takes, each_found, no-length}
 use Rattle.cert_format.proofs.BodyLaws.{AreSmall, only_true, chosen, fixed_takes, one_takes, one_again, uncounted_takes, uncounted_again, arc_takes, arc_again, arcs_small}
 
@@ -137,6 +137,18 @@ split-takes nodes links (d ∷ v ∷ ns) node e body line =
       fields = (ltb-true d (2 ^ 32) both.0, ltb-true v (2 ^ 32) both.1, sides.left_fields, sides.right_fields);
       line = line ∙ ap (λ xs. row (codes "SPLIT") (d ∷ v ∷ xs)) sides.numbers;
     })
+
+-- ---- a load split
+
+loads-takes : (nodes links : ℕ) (ns : List ℕ) (node : TreeNode) → loads_in ns ≡ Some node → (body : List ℕ) → body ≡ row (codes "LOADS") ns → IsRecordLine nodes links node body
+unfolding loads_in record_line
+loads-takes nodes links [] node e body line = absurd cc
+loads-takes nodes links (q ∷ []) node e body line = absurd cc
+loads-takes nodes links (q ∷ c ∷ []) node e body line =
+    let (test, is) = cond_some (nat_lt q (2 ^ 32) && nat_lt c (2 ^ 64)) (Loads q c) node e in
+    let both = and_parts (nat_lt q (2 ^ 32)) (nat_lt c (2 ^ 64)) test in
+    subst (λ (n : TreeNode). IsRecordLine nodes links n body) is (record { fits = tt; fields = (ltb-true q (2 ^ 32) both.0, ltb-true c (2 ^ 64) both.1); line = line })
+loads-takes nodes links (q ∷ c ∷ n ∷ ns) node e body line = absurd cc
 
 -- ---- the nodes of a cut
 
@@ -319,17 +331,29 @@ leaf_takes nodes links body e h =
       ]
     ]
 
+-- the line of a leaf, or of a load split
+abbrev from_leaf : ℕ → ℕ → List ℕ → Option TreeNode
+from_leaf nodes links body = option_map (λ evidence. Leaf evidence) (leaf_of nodes links body)
+
+abbrev from_loads : ℕ → ℕ → List ℕ → Option TreeNode
+from_loads nodes links body = choose (behind (codes "LOADS") body) (λ rest. numbers_of rest >>= loads_in) (from_leaf nodes links body)
+
 pub record_takes : (nodes links : ℕ) (body : List ℕ) (node : TreeNode) → record_of nodes links body ≡ Some node → IsRecordLine nodes links node body
 unfolding record_of record_line
 record_takes nodes links body node h =
-    elim (chosen (behind (codes "SPLIT") body) (λ rest. numbers_of rest >>= split_in) (option_map (λ evidence. Leaf evidence) (leaf_of nodes links body)) node h) [
+    elim (chosen (behind (codes "SPLIT") body) (λ rest. numbers_of rest >>= split_in) (from_loads nodes links body) node h) [
       | inl (rest, first, later) ↦
           (let (ns, numbers, found) = then-some (numbers_of rest) split_in node later in
           split-takes nodes links ns node found body (behind_takes (codes "SPLIT") body rest first ∙ ap (λ bs. codes "SPLIT" ++ bs) (numbers_takes rest ns numbers).1))
-      | inr more ↦
-          (let (e, found, is) = map-some (leaf_of nodes links body) (λ (evidence : Evidence). Leaf evidence) node more in
-          let l = leaf_takes nodes links body e found in
-          subst (λ (n : TreeNode). IsRecordLine nodes links n body) is (record { fits = l.fits; fields = l.fields; line = l.line }))
+      | inr more ↦ elim (chosen (behind (codes "LOADS") body) (λ rest. numbers_of rest >>= loads_in) (from_leaf nodes links body) node more) [
+        | inl (rest, first, later) ↦
+            (let (ns, numbers, found) = then-some (numbers_of rest) loads_in node later in
+            loads-takes nodes links ns node found body (behind_takes (codes "LOADS") body rest first ∙ ap (λ bs. codes "LOADS" ++ bs) (numbers_takes rest ns numbers).1))
+        | inr last ↦
+            (let (e, found, is) = map-some (leaf_of nodes links body) (λ (evidence : Evidence). Leaf evidence) node last in
+            let l = leaf_takes nodes links body e found in
+            subst (λ (n : TreeNode). IsRecordLine nodes links n body) is (record { fits = l.fits; fields = l.fields; line = l.line }))
+      ]
     ]
 
 -- ---- written records are read again
@@ -368,7 +392,18 @@ leaf_again nodes links (Far demand) small fits fields = ap (option_map far_with)
 leaf_again nodes links (Crowd ps) small fits fields = ap (option_map (λ prices. Crowd prices)) (prices-again links ps fits fields)
 leaf_again nodes links (Open ps) small fits fields = ap (option_map (λ prices. Open prices)) (prices-again links ps fits fields)
 
--- a leaf's line is no split's
+-- a leaf's line is no load split's
+no-loads : (e : Evidence) → behind (codes "LOADS") (leaf_line e) ≡ None
+unfolding behind leaf_line
+no-loads (Bound ps) = refl
+no-loads Routed = refl
+no-loads (Overfull link) = refl
+no-loads (Cut demand reached) = refl
+no-loads (Far demand) = refl
+no-loads (Crowd ps) = refl
+no-loads (Open ps) = refl
+
+-- and no split's
 no-split : (e : Evidence) → behind (codes "SPLIT") (leaf_line e) ≡ None
 unfolding behind leaf_line
 no-split (Bound ps) = refl
@@ -386,15 +421,31 @@ small_append (x ∷ xs) ys h k = (h.0, small_append xs ys h.1 k)
 pub side_small : (arcs : List ArcId) → IsWrittenSide arcs → AreArcs arcs → AreSmall (counted (arc_numbers arcs))
 side_small arcs s h = (omega (arith, s.few, length-map arcs (λ (a : ArcId). a.0)), arcs_small arcs h)
 
+no-split-loads : (ns : List ℕ) → behind (codes "SPLIT") (row (codes "LOADS") ns) ≡ None
+unfolding behind
+no-split-loads ns = refl
+
+loads-again : (q c : ℕ) → q < 2 ^ 32 → c < 2 ^ 64 → (numbers_of (numerals (q ∷ c ∷ [])) >>= loads_in) ≡ Some (Loads q c)
+unfolding loads_in
+loads-again q c small low =
+    ap (λ o. o >>= loads_in) (numbers_found (q ∷ c ∷ []) (omega (arith, small), (omega (arith, low), tt)))
+    ∙ only_true (nat_lt q (2 ^ 32) && nat_lt c (2 ^ 64)) (Loads q c) (and_from (nat_lt q (2 ^ 32)) (nat_lt c (2 ^ 64)) (lt-ltb q (2 ^ 32) small) (lt-ltb c (2 ^ 64) low))
+
 pub record_again : (nodes links : ℕ) (node : TreeNode) → nodes ≤ MAX_NODES → FitsRecord nodes links node → HasRecordFields node → record_of nodes links (record_line node) ≡ Some node
 unfolding record_of record_line split_in
 record_again nodes links (Split demand at left right) small fits fields =
     let ns : List ℕ = demand.0 ∷ at.0 ∷ (counted (arc_numbers left) ++ counted (arc_numbers right)) in
     let below : AreSmall ns = (omega (arith, fields.0), (omega (arith, fields.1), small_append (counted (arc_numbers left)) (counted (arc_numbers right)) (side_small left fits.0 fields.2) (side_small right fits.1 fields.3))) in
-    ap (λ o. choose o (λ rest. numbers_of rest >>= split_in) (option_map (λ (evidence : Evidence). Leaf evidence) (leaf_of nodes links (row (codes "SPLIT") ns)))) (behind_found (codes "SPLIT") (numerals ns))
+    ap (λ o. choose o (λ rest. numbers_of rest >>= split_in) (from_loads nodes links (row (codes "SPLIT") ns))) (behind_found (codes "SPLIT") (numerals ns))
     ∙ ap (λ o. o >>= split_in) (numbers_found ns below)
     ∙ ap (λ t. cond t (option_map (split_with demand.0 at.0) (sides_of (counted (arc_numbers left) ++ counted (arc_numbers right)))) None) (and_from (nat_lt demand.0 (2 ^ 32)) (nat_lt at.0 (2 ^ 32)) (lt-ltb demand.0 (2 ^ 32) fields.0) (lt-ltb at.0 (2 ^ 32) fields.1))
     ∙ ap (option_map (split_with demand.0 at.0)) (sides-again left right fits.0 fits.1 fields.2 fields.3)
+record_again nodes links (Loads place load) small fits fields =
+    let ns : List ℕ = place ∷ load ∷ [] in
+    ap (λ o. choose o (λ rest. numbers_of rest >>= split_in) (from_loads nodes links (row (codes "LOADS") ns))) (no-split-loads ns)
+    ∙ ap (λ o. choose o (λ rest. numbers_of rest >>= loads_in) (from_leaf nodes links (row (codes "LOADS") ns))) (behind_found (codes "LOADS") (numerals ns))
+    ∙ loads-again place load fields.0 fields.1
 record_again nodes links (Leaf e) small fits fields =
-    ap (λ o. choose o (λ rest. numbers_of rest >>= split_in) (option_map (λ (evidence : Evidence). Leaf evidence) (leaf_of nodes links (leaf_line e)))) (no-split e)
+    ap (λ o. choose o (λ rest. numbers_of rest >>= split_in) (from_loads nodes links (leaf_line e))) (no-split e)
+    ∙ ap (λ o. choose o (λ rest. numbers_of rest >>= loads_in) (from_leaf nodes links (leaf_line e))) (no-loads e)
     ∙ ap (option_map (λ (evidence : Evidence). Leaf evidence)) (leaf_again nodes links e small fits fields)

@@ -14,18 +14,23 @@ use Rattle.proof_tree.specs.declared.limits.TheConstants.{MAX_RECORDS, MAX_PATH_
 use Rattle.proof_tree.specs.declared.tree.Evidence.{Evidence}
 use Rattle.proof_tree.specs.declared.tree.Evidence.TheVariants.{Bound, Routed, Overfull, Cut, Far, Crowd, Open}
 use Rattle.proof_tree.specs.declared.tree.TreeNode.{TreeNode}
-use Rattle.proof_tree.specs.declared.tree.TreeNode.TheVariants.{Split, Leaf}
+use Rattle.proof_tree.specs.declared.tree.TreeNode.TheVariants.{Split, Loads, Leaf}
 use Rattle.proof_tree.specs.declared.plan.PlanStatus.{PlanStatus}
 use Rattle.proof_tree.specs.declared.plan.PlanStatus.TheVariants.{Optimal, Infeasible, Undecided}
 use Rattle.proof_tree.specs.declared.plan.Plan.{Plan}
 use Rattle.proof_tree.specs.Shapes.{are_trees}
 use Rattle.proof_tree.specs.Spellings.{places_in, FitsRecord, FitsDesign, IsWrittenSide, IsSpellable}
 use Rattle.cert_format.specs.declared.limits.TheConstants.{MAX_PLAN_BYTES, MAX_LISTS}
-use Rattle.cert_format.specs.declared.form.Form.TheVariants.{Second}
+use Rattle.cert_format.specs.declared.form.Form.{Form}
+use Rattle.cert_format.specs.declared.form.Form.TheVariants.{First, Second, Third}
 use Rattle.plan_words.specs.Lines.{whole, text_of}
-use Rattle.cert_format.specs.Lists.{lists_of, numbered, shown, AreNew}
+use Rattle.cert_format.specs.Versions.{has_loads, written_form}
+use Rattle.cert_format.specs.Lists.{lists_of, numbered, with_number, AreNew}
+use Rattle.cert_format.specs.Drafts.{AreStated}
+use Rattle.cert_format.specs.Written.{numbered_lines}
 use Rattle.plan_words.specs.Words.{numerals, row}
-use Rattle.cert_format.specs.Grammar.{both_text, count_line, status_line, number_line, cost_line, signed_text, arc_numbers, counted, path_line, modules_line, members, leaf_line, record_line, design_lines, bound_lines, price_line, price_lines, head_lines, front_lines, end_line, plan_text, AreArcs, HasLeafFields, HasRecordFields, HasDesignFields, IsBoundField, HasFields}
+use Rattle.cert_format.specs.Grammar.{header_line, both_word, both_text, count_line, status_line, number_line, cost_line, signed_text, arc_numbers, counted, path_line, modules_line, members, leaf_line, record_line, design_lines, bound_lines, cut_lines, price_line, list_lines, price_lines, head_lines, front_lines, end_line, plan_text, written_text, AreArcs, HasLeafFields, HasRecordFields, HasDesignFields, IsBoundField, HasFields}
+use Rattle.cert_format.proofs.VersionLaws.{not_first}
 use Rattle.cert_format.proofs.BodyLaws.{AreSmall}
 use Rattle.plan_words.proofs.Digits.{grains_scaled}
 use Rattle.cert_format.proofs.RecordLaws.{members_few}
@@ -138,22 +143,32 @@ status-most Optimal = omega arith
 status-most Infeasible = omega arith
 status-most Undecided = omega arith
 
-both-most : (both : Bool) → length (both_text Second both) ≤ 5
-both-most true = omega arith
-both-most false = omega arith
+word-most : (both : Bool) → length (both_word both) ≤ 5
+word-most true = omega arith
+word-most false = omega arith
+
+both-most : (form : Form) (both : Bool) → length (both_text form both) ≤ 5
+both-most First both = omega arith
+both-most Second both = word-most both
+both-most Third both = word-most both
+
+header-most : (form : Form) → length (header_line form) ≤ 9
+header-most First = omega arith
+header-most Second = omega arith
+header-most Third = omega arith
 
 number-most : (word : List ℕ) (n : ℕ) → length word ≤ 8 → n < 10 ^ 10 → suc (length (number_line word n)) ≤ 20
 number-most word n few small = row-ids word (n ∷ []) 1 few (omega arith) (small, tt)
 
-head-most : (plan : Plan) → IsSpellable plan → HasFields plan → bytes_of (head_lines Second plan) ≤ 500
+head-most : (form : Form) (plan : Plan) → IsSpellable plan → HasFields plan → bytes_of (head_lines form plan) ≤ 500
 unfolding head_lines
-head-most plan s f =
+head-most form plan s f =
     let counts : List ℕ = count_line plan.nodes plan.links plan.demands in
     let sizes : suc (length counts) ≤ 9 + 3 * 11 = row-ids (codes "SIZE") (plan.nodes ∷ plan.links ∷ plan.demands ∷ []) 3 (omega arith) (omega arith) (omega (arith, s.sizes.nodes), (omega (arith, s.sizes.links), (omega (arith, s.sizes.demands), tt))) in
-    bytes-most 100 (head_lines Second plan) (
-      omega arith,
+    bytes-most 100 (head_lines form plan) (
+      omega (arith, header-most form),
       (
-        omega (arith, sizes, length-append counts (both_text Second plan.both), both-most plan.both),
+        omega (arith, sizes, length-append counts (both_text form plan.both), both-most form plan.both),
         (
           omega (arith, status-most plan.status),
           (
@@ -188,16 +203,21 @@ bound-most Infeasible b h = omega arith
 bound-most Undecided None h = omega arith
 bound-most Undecided (Some b) h = omega (arith, length-append (codes "BOUND ") (signed_text b), signed-most b h)
 
+cuts-most : (form : Form) → bytes_of (cut_lines form) ≤ 100
+unfolding cut_lines
+cuts-most First = omega arith
+cuts-most Second = omega arith
+cuts-most Third = omega arith
+
 new-prices : (places : ℕ) (before lists : List (List ℕ)) → AreNew places before lists → AllByRecursion (λ list. (length list ≡ places) × AreSmall list) lists
 unfolding AreNew
 new-prices places before [] h = tt
 new-prices places before (x ∷ lists) h = ((h.0, h.1), new-prices places (before ++ x ∷ []) lists h.3)
 
-prices-most : (places : ℕ) → places ≤ 2048 → (lists : List (List ℕ)) → length lists ≤ MAX_LISTS → AreNew places [] lists → bytes_of (price_lines Second (length lists) lists) ≤ 335700000
-unfolding price_lines
+prices-most : (places : ℕ) → places ≤ 2048 → (lists : List (List ℕ)) → length lists ≤ MAX_LISTS → AreNew places [] lists → bytes_of (list_lines (length lists) lists) ≤ 335700000
 prices-most places small lists few new =
     let each : bytes_of (map price_line lists) ≤ length (map price_line lists) * 81922 = bytes-most 81922 (map price_line lists) (shown-most (λ list. (length list ≡ places) × AreSmall list) price_line 81922 (price-most places small) lists (new-prices places [] lists new)) in
-    let all : bytes_of (price_lines Second (length lists) lists) ≡ suc (length (number_line (codes "PRICES") (length lists))) + bytes_of (map price_line lists) = bytes-cons (number_line (codes "PRICES") (length lists)) (map price_line lists) in
+    let all : bytes_of (list_lines (length lists) lists) ≡ suc (length (number_line (codes "PRICES") (length lists))) + bytes_of (map price_line lists) = bytes-cons (number_line (codes "PRICES") (length lists)) (map price_line lists) in
     omega (arith, few, all, each, length-map lists price_line, number-most (codes "PRICES") (length lists) (omega arith) (omega (arith, few)))
 
 -- ---- the tree
@@ -206,11 +226,13 @@ abbrev splits : List TreeNode → ℕ
 splits [] = 0
 splits (Leaf evidence ∷ nodes) = splits nodes
 splits (Split demand at left right ∷ nodes) = suc (splits nodes)
+splits (Loads place load ∷ nodes) = suc (splits nodes)
 
 parts-count : (nodes : List TreeNode) → splits nodes + leaves nodes ≡ length nodes
 parts-count [] = refl
 parts-count (Leaf evidence ∷ nodes) = omega (arith, parts-count nodes)
 parts-count (Split demand at left right ∷ nodes) = omega (arith, parts-count nodes)
+parts-count (Loads place load ∷ nodes) = omega (arith, parts-count nodes)
 
 ids-append : (xs ys : List ℕ) → AllByRecursion (λ n. n < 10 ^ 10) xs → AllByRecursion (λ n. n < 10 ^ 10) ys → AllByRecursion (λ n. n < 10 ^ 10) (xs ++ ys)
 ids-append [] ys h k = k
@@ -238,6 +260,11 @@ split-most demand at left right d a l r lf rf =
     let long : length (demand ∷ at ∷ sides) ≤ 2052 = omega (arith, left_few, right_few, length-append (counted (arc_numbers left)) (counted (arc_numbers right))) in
     omega (arith, row-ids (codes "SPLIT") (demand ∷ at ∷ sides) 2052 (omega arith) long (omega (arith, d), (omega (arith, a), ids-append (counted (arc_numbers left)) (counted (arc_numbers right)) ls.1 rs.1)))
 
+loads-most : (place load : ℕ) → place < 2 ^ 32 → load < 2 ^ 64 → suc (length (row (codes "LOADS") (place ∷ load ∷ []))) ≤ 22600
+loads-most place load p l =
+    let ns : List ℕ = place ∷ load ∷ [] in
+    omega (arith, length-append (codes "LOADS") (numerals ns), numerals-counts ns (omega (arith, p), (omega (arith, l), tt)))
+
 priced-most : (word ps : List ℕ) → length word ≤ 8 → length ps ≡ 1 → AreSmall ps → suc (length (row word ps)) ≤ 5700
 priced-most word ps few long small = omega (arith, few, long, length-append word (numerals ps), numerals-prices ps small)
 
@@ -256,16 +283,19 @@ leaf-most nodes (Crowd ps) few h k = priced-most (codes "CROWD") ps (omega arith
 leaf-most nodes (Open ps) few h k = priced-most (codes "OPEN") ps (omega arith) h k
 
 -- records, each with what stands for its prices
-tree-most : (nodes : ℕ) (lists : List (List ℕ)) → nodes ≤ MAX_NODES → (ns : List TreeNode) → AllByRecursion (λ node. FitsRecord nodes 1 (shown Second lists node) × HasRecordFields (shown Second lists node)) ns
-    → bytes_of (map (λ node. record_line (shown Second lists node)) ns) ≤ splits ns * 22600 + leaves ns * 5700
+tree-most : (nodes : ℕ) (lists : List (List ℕ)) → nodes ≤ MAX_NODES → (ns : List TreeNode) → AllByRecursion (λ node. FitsRecord nodes 1 (with_number lists node) × HasRecordFields (with_number lists node)) ns
+    → bytes_of (numbered_lines lists ns) ≤ splits ns * 22600 + leaves ns * 5700
 unfolding record_line
 tree-most nodes lists few [] h = omega arith
 tree-most nodes lists few (Leaf e ∷ ns) h =
     let here : suc (length (leaf_line (numbered lists e))) ≤ 5700 = leaf-most nodes (numbered lists e) few h.0.0 h.0.1 in
-    omega (arith, here, bytes-cons (leaf_line (numbered lists e)) (map (λ node. record_line (shown Second lists node)) ns), tree-most nodes lists few ns h.1)
+    omega (arith, here, bytes-cons (leaf_line (numbered lists e)) (numbered_lines lists ns), tree-most nodes lists few ns h.1)
 tree-most nodes lists few (Split demand at left right ∷ ns) h =
     let here : suc (length (record_line (Split demand at left right))) ≤ 22600 = split-most demand.0 at.0 left right h.0.1.0 h.0.1.1 h.0.0.0 h.0.0.1 h.0.1.2 h.0.1.3 in
-    omega (arith, here, bytes-cons (record_line (Split demand at left right)) (map (λ node. record_line (shown Second lists node)) ns), tree-most nodes lists few ns h.1)
+    omega (arith, here, bytes-cons (record_line (Split demand at left right)) (numbered_lines lists ns), tree-most nodes lists few ns h.1)
+tree-most nodes lists few (Loads place load ∷ ns) h =
+    let here : suc (length (record_line (Loads place load))) ≤ 22600 = loads-most place load h.0.1.0 h.0.1.1 in
+    omega (arith, here, bytes-cons (record_line (Loads place load)) (numbered_lines lists ns), tree-most nodes lists few ns h.1)
 
 -- ---- the whole text
 
@@ -273,22 +303,21 @@ places-few : (both : Bool) (links : ℕ) → links ≤ MAX_LINKS → places_in b
 places-few true links few = omega (arith, few)
 places-few false links few = omega (arith, few)
 
-pub text_within : (plan : Plan) → IsSpellable plan → HasFields plan → length (plan_text Second plan) ≤ MAX_PLAN_BYTES
-unfolding plan_text front_lines
-text_within plan s f =
-    let lists : List (List ℕ) = lists_of plan.tree in
-    let places : ℕ = places_in plan.both plan.links in
-    let r = plan_ready Second plan s f in
-    let few : length lists ≤ MAX_LISTS = r.listed.0 in
+-- the lines of a plan with these price lists, where records show their numbers
+abbrev all-lines : Form → List (List ℕ) → Plan → List (List ℕ)
+all-lines form lists plan = (head_lines form plan ++ (design_lines plan.design ++ (bound_lines plan.status plan.bound ++ (cut_lines form ++ list_lines (length lists) lists)))) ++ ((number_line (codes "TREE") (length plan.tree) ∷ numbered_lines lists plan.tree) ++ end_line ∷ [])
+
+lines-most : (form : Form) (lists : List (List ℕ)) (plan : Plan) → IsSpellable plan → HasFields plan → AreStated (places_in plan.both plan.links) (length lists) lists
+    → AllByRecursion (λ node. FitsRecord plan.nodes 1 (with_number lists node) × HasRecordFields (with_number lists node)) plan.tree → bytes_of (all-lines form lists plan) ≤ MAX_PLAN_BYTES
+lines-most form lists plan s f stated each =
+    let few : length lists ≤ MAX_LISTS = stated.0 in
     let d : List (List ℕ) = design_lines plan.design in
     let b : List (List ℕ) = bound_lines plan.status plan.bound in
-    let p : List (List ℕ) = price_lines Second (length lists) lists in
-    let h : List (List ℕ) = head_lines Second plan in
-    let n : List (List ℕ) = map (λ node. record_line (shown Second lists node)) plan.tree in
+    let c : List (List ℕ) = cut_lines form in
+    let p : List (List ℕ) = list_lines (length lists) lists in
+    let h : List (List ℕ) = head_lines form plan in
+    let n : List (List ℕ) = numbered_lines lists plan.tree in
     let t : List ℕ = number_line (codes "TREE") (length plan.tree) in
-    let fit = pair_of (FitsRecord plan.nodes places) HasRecordFields plan.tree (recursion_from_All (FitsRecord plan.nodes places) plan.tree s.records.each) f.record_fields in
-    let each = shown_all Second lists 0 plan.nodes places plan.tree (few, r.listed.2) fit (r.named tt) in
-    let all : length (plan_text Second plan) ≡ bytes_of ((h ++ (d ++ (b ++ p))) ++ ((t ∷ n) ++ end_line ∷ [])) = text-bytes ((h ++ (d ++ (b ++ p))) ++ ((t ∷ n) ++ end_line ∷ [])) in
     let whole_tree : are_trees 1 plan.tree ≡ true = s.whole in
     let most : length plan.tree ≤ MAX_RECORDS = s.records.few in
     omega (
@@ -296,17 +325,41 @@ text_within plan s f =
       most,
       half_leaves plan.tree 1 whole_tree,
       parts-count plan.tree,
-      head-most plan s f,
+      head-most form plan s f,
       design-most plan.demands plan.links s.sizes.demands s.sizes.links plan.design s.design f.design_fields,
       bound-most plan.status plan.bound f.bound_field,
-      prices-most places (places-few plan.both plan.links s.sizes.links) lists few r.listed.2,
+      cuts-most form,
+      prices-most (places_in plan.both plan.links) (places-few plan.both plan.links s.sizes.links) lists few stated.2,
       tree-most plan.nodes lists s.sizes.nodes plan.tree each,
       number-most (codes "TREE") (length plan.tree) (omega arith) (omega (arith, most)),
-      all,
       bytes-cons t n,
-      bytes-append (h ++ (d ++ (b ++ p))) ((t ∷ n) ++ end_line ∷ []),
-      bytes-append h (d ++ (b ++ p)),
-      bytes-append d (b ++ p),
-      bytes-append b p,
+      bytes-append (h ++ (d ++ (b ++ (c ++ p)))) ((t ∷ n) ++ end_line ∷ []),
+      bytes-append h (d ++ (b ++ (c ++ p))),
+      bytes-append d (b ++ (c ++ p)),
+      bytes-append b (c ++ p),
+      bytes-append c p,
       bytes-append (t ∷ n) (end_line ∷ []),
     )
+
+-- the records of a plan that fits
+fit-records : (plan : Plan) → IsSpellable plan → HasFields plan → AllByRecursion (λ node. FitsRecord plan.nodes (places_in plan.both plan.links) node × HasRecordFields node) plan.tree
+fit-records plan s f =
+    let fits : TreeNode → Type 0 = FitsRecord plan.nodes (places_in plan.both plan.links) in
+    pair_of fits HasRecordFields plan.tree (recursion_from_All fits plan.tree s.records.each) f.record_fields
+
+numbered-within : (form : Form) (plan : Plan) → (form ≡ First → ⊥) → IsSpellable plan → HasFields plan → length (plan_text form plan) ≤ MAX_PLAN_BYTES
+unfolding plan_text front_lines price_lines
+numbered-within First plan other s f = absurd (other refl)
+numbered-within Second plan other s f =
+    let lists : List (List ℕ) = lists_of plan.tree in
+    let r = plan_ready Second plan s f in
+    let each = shown_all Second lists 0 plan.nodes (places_in plan.both plan.links) plan.tree (r.listed.0, r.listed.2) (fit-records plan s f) r.named in
+    omega (arith, text-bytes (all-lines Second lists plan), lines-most Second lists plan s f r.listed each)
+numbered-within Third plan other s f =
+    let lists : List (List ℕ) = lists_of plan.tree in
+    let r = plan_ready Third plan s f in
+    let each = shown_all Third lists 0 plan.nodes (places_in plan.both plan.links) plan.tree (r.listed.0, r.listed.2) (fit-records plan s f) r.named in
+    omega (arith, text-bytes (all-lines Third lists plan), lines-most Third lists plan s f r.listed each)
+
+pub text_within : (plan : Plan) → IsSpellable plan → HasFields plan → length (written_text plan) ≤ MAX_PLAN_BYTES
+text_within plan s f = numbered-within (written_form plan.tree) plan (not_first (has_loads plan.tree)) s f

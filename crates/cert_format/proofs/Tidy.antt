@@ -7,20 +7,20 @@ use Rattle.proof_tree.specs.declared.tree.TreeNode.TheVariants.{Leaf}
 use Rattle.proof_tree.specs.declared.plan.PlanStatus.{PlanStatus}
 use Rattle.proof_tree.specs.declared.plan.PlanStatus.TheVariants.{Optimal, Infeasible, Undecided}
 use Rattle.cert_format.specs.declared.form.Form.{Form}
-use Rattle.cert_format.specs.declared.form.Form.TheVariants.{First, Second}
+use Rattle.cert_format.specs.declared.form.Form.TheVariants.{First, Second, Third}
 use Rattle.cert_format.specs.declared.limits.TheConstants.{MAX_LISTS}
 use Rattle.cert_format.specs.declared.numbering.Ground.{Ground}
 use Rattle.cert_format.specs.declared.reading.Head.{Head}
 use Rattle.plan_words.specs.Lines.{Line, whole, unfinished}
 use Rattle.cert_format.specs.Lists.{resolved, AreNew}
-use Rattle.cert_format.specs.Grammar.{header_line, size_line, status_line, number_line, cost_line, bound_line, path_line, modules_line, price_line, CanTell}
+use Rattle.cert_format.specs.Grammar.{header_line, size_line, status_line, number_line, cost_line, bound_line, path_line, modules_line, cuts_line, price_line, CanTell}
 use Rattle.plan_words.specs.Words.{behind}
 use Rattle.cert_format.specs.Bodies.{fixed_of, form_of, number_row, size_row, status_of, cost_of, bound_of, path_of, modules_of, leaf_of, record_of, record_in, list_row}
-use Rattle.cert_format.specs.Reading.{Reader, ◌>>=◌, bind, done, judged, one, many, head, design_of, design, bound, list_count, front_with, opening, lists, record_on, records, tree, head_with, design_with, tree_with}
+use Rattle.cert_format.specs.Reading.{Reader, ◌>>=◌, bind, done, judged, one, many, head, design_of, design, bound, no_cuts, list_count, front_with, opening, lists, record_on, records, tree, head_with, design_with, tree_with}
 use Rattle.cert_format.specs.Drafts.{left_open}
-use Rattle.cert_format.proofs.BodyLaws.{AreTold, sizes_at, form_again, number_row_again, size_again, status_again, cost_again, bound_again, path_again, modules_again, list_takes, list_again}
+use Rattle.cert_format.proofs.BodyLaws.{AreTold, sizes_at, form_again, number_row_again, size_again, status_again, fixed_again, cost_again, bound_again, path_again, modules_again, list_takes, list_again}
 use Rattle.cert_format.proofs.ReadingLaws.{read_one, taken, and_then, done_parts, done_is, one_line, one_again, head1, head2, head3, head4, named_on}
-use Rattle.cert_format.proofs.PlanLaws.{front1, front2, front3}
+use Rattle.cert_format.proofs.PlanLaws.{front1, front2, front3, front4}
 
 -- the lines behind play no part in where the reader stops
 abbrev pub Local : {A : Type 0} → Reader A → List Line → List Line → Type 0
@@ -186,6 +186,7 @@ routed-by : (form : Form) (known : List (List ℕ)) (named nodes places : ℕ) �
 unfolding record_in record_of leaf_of fixed_of behind resolved
 routed-by First known named nodes places = refl
 routed-by Second known named nodes places = refl
+routed-by Third known named nodes places = refl
 
 routed : (g : Ground) (named : ℕ) → record_on g named (codes "ROUTED") ≡ Some (Leaf Routed)
 routed g named = routed-by g.form g.lists named g.nodes g.places
@@ -207,6 +208,7 @@ no-nodes form = record { sizes = record { nodes = omega arith; links = omega ari
     by : (form : Form) → CanTell form false
     by First = refl
     by Second = tt
+    by Third = tt
 
 pub tidy_head : Tidy head
 unfolding head
@@ -252,6 +254,13 @@ tidy_count : (form : Form) → Tidy (list_count form)
 unfolding list_count
 tidy_count First = tidy_done 0
 tidy_count Second = tidy_number (codes "PRICES") 0 MAX_LISTS (omega arith) (omega arith)
+tidy_count Third = tidy_number (codes "PRICES") 0 MAX_LISTS (omega arith) (omega arith)
+
+tidy_no_cuts : (form : Form) → Tidy (no_cuts form)
+unfolding no_cuts
+tidy_no_cuts First = tidy_done tt
+tidy_no_cuts Second = tidy_done tt
+tidy_no_cuts Third = tidy_one (fixed_of cuts_line) cuts_line tt (fixed_again cuts_line)
 
 pub tidy_opening : Tidy opening
 unfolding opening
@@ -259,6 +268,7 @@ tidy_opening =
     tidy_bind head (λ h. front1 h) tidy_head λ h.
     tidy_bind (design h) (λ d. front2 h d) (tidy_design h) λ d.
     tidy_bind (bound h.status) (λ b. front3 h d b) (tidy_bound h.status) λ b.
+    tidy_bind (no_cuts h.form) (λ _. front4 h d b) (tidy_no_cuts h.form) λ _.
     tidy_bind (list_count h.form) (λ stated. done (front_with h d b stated)) (tidy_count h.form) λ stated.
     tidy_done (front_with h d b stated)
 

@@ -7,12 +7,15 @@ use Rattle.proof_tree.specs.declared.plan.Plan.{Plan}
 use Rattle.std.specs.Prelude.{slice_get}
 use Rattle.std.specs.List.{AllByRecursion}
 use Rattle.proof_tree.specs.declared.tree.TreeNode.{TreeNode}
-use Rattle.cert_format.specs.declared.form.Form.TheVariants.{Second}
+use Rattle.cert_format.specs.declared.form.Form.{Form}
+use Rattle.cert_format.specs.declared.form.Form.TheVariants.{First, Second, Third}
 use Rattle.plan_words.specs.Lines.{whole, line_text, text_of}
-use Rattle.cert_format.specs.Lists.{lists_of, shown}
+use Rattle.cert_format.specs.Versions.{has_loads, written_form}
+use Rattle.cert_format.specs.Lists.{lists_of}
 use Rattle.plan_words.specs.Words.{numerals, row}
-use Rattle.cert_format.specs.Grammar.{header_line, size_line, status_line, cost_line, path_line, modules_line, price_line, members, record_line, design_lines, bound_lines, head_lines, price_lines, front_lines, tree_lines, plan_text}
-use Rattle.cert_format.specs.Written.{lines_text, written_tree}
+use Rattle.cert_format.specs.Grammar.{header_line, size_line, status_line, cost_line, path_line, modules_line, price_line, members, design_lines, bound_lines, cut_lines, head_lines, list_lines, price_lines, front_lines, end_line, plan_text, written_text}
+use Rattle.cert_format.specs.Written.{lines_text, numbered_lines, written_tree}
+use Rattle.cert_format.proofs.VersionLaws.{not_first}
 
 numerals-append : (ns ms : List ℕ) → numerals (ns ++ ms) ≡ numerals ns ++ numerals ms
 numerals-append [] ms = refl
@@ -76,10 +79,10 @@ regroup-head o a b c d e = simp (append_assoc, append-nil)
 pub size_pieces : (old word tail : List ℕ) (ns : List ℕ) → ((old ++ word) ++ numerals ns) ++ line_text (whole tail) ≡ old ++ line_text (whole (row word ns ++ tail))
 size_pieces old word tail ns = simp append_assoc
 
-pub head_pieces : (old : List ℕ) (plan : Plan) → ((((old ++ line_text (whole (header_line Second))) ++ line_text (whole (size_line Second plan.nodes plan.links plan.demands plan.both))) ++ line_text (whole (status_line plan.status)))
-    ++ line_text (whole (row (codes "BUDGET") (plan.budget ∷ [])))) ++ line_text (whole (row (codes "EXAMINED") (plan.examined ∷ []))) ≡ old ++ lines_text (head_lines Second plan)
+pub head_pieces : (form : Form) (old : List ℕ) (plan : Plan) → ((((old ++ line_text (whole (header_line form))) ++ line_text (whole (size_line form plan.nodes plan.links plan.demands plan.both))) ++ line_text (whole (status_line plan.status)))
+    ++ line_text (whole (row (codes "BUDGET") (plan.budget ∷ [])))) ++ line_text (whole (row (codes "EXAMINED") (plan.examined ∷ []))) ≡ old ++ lines_text (head_lines form plan)
 unfolding head_lines
-head_pieces old plan = regroup-head old (line_text (whole (header_line Second))) (line_text (whole (size_line Second plan.nodes plan.links plan.demands plan.both))) (line_text (whole (status_line plan.status)))
+head_pieces form old plan = regroup-head old (line_text (whole (header_line form))) (line_text (whole (size_line form plan.nodes plan.links plan.demands plan.both))) (line_text (whole (status_line plan.status)))
     (line_text (whole (row (codes "BUDGET") (plan.budget ∷ [])))) (line_text (whole (row (codes "EXAMINED") (plan.examined ∷ []))))
 
 -- ---- price lists and the tree
@@ -115,36 +118,49 @@ taken_all (x ∷ lists) (suc n) e = ap (λ ls. x ∷ ls) (taken_all lists n e)
 pub fields_all : (P : List ℕ → Type 0) (lists : List (List ℕ)) (n : ℕ) → None ≡ slice_get lists n → AllByRecursion P (take n lists) → AllByRecursion P lists
 fields_all P lists n e all = subst (AllByRecursion P) (taken_all lists n e) all
 
-pub lists_all : (old : List ℕ) (lists : List (List ℕ)) (n : ℕ) → None ≡ slice_get lists n → (old ++ line_text (whole (row (codes "PRICES") (length lists ∷ [])))) ++ lines_text (map price_line (take n lists)) ≡ old ++ lines_text (price_lines Second (length lists) lists)
-unfolding price_lines
+pub lists_all : (old : List ℕ) (lists : List (List ℕ)) (n : ℕ) → None ≡ slice_get lists n → (old ++ line_text (whole (row (codes "PRICES") (length lists ∷ [])))) ++ lines_text (map price_line (take n lists)) ≡ old ++ lines_text (list_lines (length lists) lists)
 lists_all old lists n e =
     ap (λ ls. (old ++ line_text (whole (row (codes "PRICES") (length lists ∷ [])))) ++ lines_text (map price_line ls)) (taken_all lists n e)
     ∙ append_assoc old (line_text (whole (row (codes "PRICES") (length lists ∷ [])))) (lines_text (map price_line lists))
 
 pub tree_pieces : (old : List ℕ) (nodes : List TreeNode) (lists : List (List ℕ)) (count : ℕ) → lists ≡ lists_of nodes → count ≡ length nodes
-    → ((old ++ lines_text (price_lines Second (length lists) lists)) ++ line_text (whole (row (codes "TREE") (count ∷ [])))) ++ lines_text (map (λ node. record_line (shown Second lists node)) nodes) ≡ old ++ lines_text (written_tree nodes)
+    → ((old ++ lines_text (list_lines (length lists) lists)) ++ line_text (whole (row (codes "TREE") (count ∷ [])))) ++ lines_text (numbered_lines lists nodes) ≡ old ++ lines_text (written_tree nodes)
 tree_pieces old nodes lists count same is =
-    let pieces : List (List ℕ) → ℕ → List ℕ = λ ls n. ((old ++ lines_text (price_lines Second (length ls) ls)) ++ line_text (whole (row (codes "TREE") (n ∷ [])))) ++ lines_text (map (λ node. record_line (shown Second ls node)) nodes) in
+    let pieces : List (List ℕ) → ℕ → List ℕ = λ ls n. ((old ++ lines_text (list_lines (length ls) ls)) ++ line_text (whole (row (codes "TREE") (n ∷ [])))) ++ lines_text (numbered_lines ls nodes) in
     let all : List (List ℕ) = lists_of nodes in
+    let tree : List ℕ = row (codes "TREE") (length nodes ∷ []) in
     ap (λ ls. pieces ls count) same ∙ ap (pieces all) is
-    ∙ append_assoc (old ++ lines_text (price_lines Second (length all) all)) (line_text (whole (row (codes "TREE") (length nodes ∷ [])))) (lines_text (map (λ node. record_line (shown Second all node)) nodes))
-    ∙ append_assoc old (lines_text (price_lines Second (length all) all)) (lines_text (tree_lines Second all (length nodes) nodes))
-    ∙ ap (λ bs. old ++ bs) (sym (lines-append (price_lines Second (length all) all) (tree_lines Second all (length nodes) nodes)))
+    ∙ append_assoc (old ++ lines_text (list_lines (length all) all)) (line_text (whole tree)) (lines_text (numbered_lines all nodes))
+    ∙ append_assoc old (lines_text (list_lines (length all) all)) (lines_text (tree ∷ numbered_lines all nodes))
+    ∙ ap (λ bs. old ++ bs) (sym (lines-append (list_lines (length all) all) (tree ∷ numbered_lines all nodes)))
 
-pub plan_pieces : (plan : Plan) → (((([] ++ lines_text (head_lines Second plan)) ++ lines_text (design_lines plan.design)) ++ lines_text (bound_lines plan.status plan.bound)) ++ lines_text (written_tree plan.tree)) ++ line_text (whole (codes "END")) ≡ plan_text Second plan
-unfolding plan_text front_lines
-plan_pieces plan =
-    let h : List (List ℕ) = head_lines Second plan in
-    let d : List (List ℕ) = design_lines plan.design in
-    let b : List (List ℕ) = bound_lines plan.status plan.bound in
-    let p : List (List ℕ) = price_lines Second (length (lists_of plan.tree)) (lists_of plan.tree) in
-    let t : List (List ℕ) = tree_lines Second (lists_of plan.tree) (length plan.tree) plan.tree in
-    let e : List ℕ = codes "END" in
-    ap (λ bs. (((lines_text h ++ lines_text d) ++ lines_text b) ++ bs) ++ line_text (whole e)) (lines-append p t)
-    ∙ sym (lines-append (h ++ (d ++ (b ++ p))) (t ++ e ∷ [])
-    ∙ ap (λ bs. bs ++ lines_text (t ++ e ∷ [])) (lines-append h (d ++ (b ++ p)) ∙ ap (λ bs. lines_text h ++ bs) (lines-append d (b ++ p) ∙ ap (λ bs. lines_text d ++ bs) (lines-append b p)))
-    ∙ ap (λ bs. (lines_text h ++ (lines_text d ++ (lines_text b ++ lines_text p))) ++ bs) (lines-append t (e ∷ []))
-    ∙ regroup (lines_text h) (lines_text d) (lines_text b) (lines_text p) (lines_text t) (line_text (whole e)))
-  where
-    regroup : (h d b p t e : List ℕ) → (h ++ (d ++ (b ++ p))) ++ (t ++ (e ++ [])) ≡ (((h ++ d) ++ b) ++ (p ++ t)) ++ e
-    regroup h d b p t e = simp (append_assoc, append-nil)
+-- the lines of a plan, piece by piece, where these stand for its price lists and its tree
+module _ (form : Form) (plan : Plan) where
+  abbrev pieces : List (List ℕ) → List ℕ
+  pieces tree = ((((([] ++ lines_text (head_lines form plan)) ++ lines_text (design_lines plan.design)) ++ lines_text (bound_lines plan.status plan.bound)) ++ lines_text (cut_lines form)) ++ lines_text tree) ++ line_text (whole (codes "END"))
+
+  joined-pieces : (p t : List (List ℕ)) → pieces (p ++ t) ≡ lines_text ((head_lines form plan ++ (design_lines plan.design ++ (bound_lines plan.status plan.bound ++ (cut_lines form ++ p)))) ++ (t ++ end_line ∷ []))
+  joined-pieces p t =
+      let h : List (List ℕ) = head_lines form plan in
+      let d : List (List ℕ) = design_lines plan.design in
+      let b : List (List ℕ) = bound_lines plan.status plan.bound in
+      let c : List (List ℕ) = cut_lines form in
+      let e : List ℕ = end_line in
+      ap (λ bs. ((((lines_text h ++ lines_text d) ++ lines_text b) ++ lines_text c) ++ bs) ++ line_text (whole e)) (lines-append p t)
+      ∙ sym (lines-append (h ++ (d ++ (b ++ (c ++ p)))) (t ++ e ∷ [])
+      ∙ ap (λ bs. bs ++ lines_text (t ++ e ∷ [])) (lines-append h (d ++ (b ++ (c ++ p))) ∙ ap (λ bs. lines_text h ++ bs) (lines-append d (b ++ (c ++ p)) ∙ ap (λ bs. lines_text d ++ bs) (lines-append b (c ++ p) ∙ ap (λ bs. lines_text b ++ bs) (lines-append c p))))
+      ∙ ap (λ bs. (lines_text h ++ (lines_text d ++ (lines_text b ++ (lines_text c ++ lines_text p)))) ++ bs) (lines-append t (e ∷ []))
+      ∙ regroup (lines_text h) (lines_text d) (lines_text b) (lines_text c) (lines_text p) (lines_text t) (line_text (whole e)))
+    where
+      regroup : (h d b c p t e : List ℕ) → (h ++ (d ++ (b ++ (c ++ p)))) ++ (t ++ (e ++ [])) ≡ ((((h ++ d) ++ b) ++ c) ++ (p ++ t)) ++ e
+      regroup h d b c p t e = simp (append_assoc, append-nil)
+
+numbered-pieces : (form : Form) (plan : Plan) → (form ≡ First → ⊥) → pieces form plan (written_tree plan.tree) ≡ plan_text form plan
+unfolding plan_text front_lines price_lines
+numbered-pieces First plan other = absurd (other refl)
+numbered-pieces Second plan other = joined-pieces Second plan (list_lines (length (lists_of plan.tree)) (lists_of plan.tree)) (row (codes "TREE") (length plan.tree ∷ []) ∷ numbered_lines (lists_of plan.tree) plan.tree)
+numbered-pieces Third plan other = joined-pieces Third plan (list_lines (length (lists_of plan.tree)) (lists_of plan.tree)) (row (codes "TREE") (length plan.tree ∷ []) ∷ numbered_lines (lists_of plan.tree) plan.tree)
+
+pub plan_pieces : (form : Form) (plan : Plan) → form ≡ written_form plan.tree
+    → ((((([] ++ lines_text (head_lines form plan)) ++ lines_text (design_lines plan.design)) ++ lines_text (bound_lines plan.status plan.bound)) ++ lines_text (cut_lines form)) ++ lines_text (written_tree plan.tree)) ++ line_text (whole (codes "END")) ≡ written_text plan
+plan_pieces form plan is = numbered-pieces form plan (λ first. not_first (has_loads plan.tree) (sym is ∙ first)) ∙ ap (λ f. plan_text f plan) is

@@ -8,12 +8,12 @@ use Rattle.proof_tree.specs.declared.limits.TheConstants.{MAX_PATH_ARCS, MAX_SID
 use Rattle.proof_tree.specs.declared.tree.Evidence.{Evidence}
 use Rattle.proof_tree.specs.declared.tree.Evidence.TheVariants.{Bound, Routed, Overfull, Cut, Far, Crowd, Open}
 use Rattle.proof_tree.specs.declared.tree.TreeNode.{TreeNode}
-use Rattle.proof_tree.specs.declared.tree.TreeNode.TheVariants.{Split, Leaf}
+use Rattle.proof_tree.specs.declared.tree.TreeNode.TheVariants.{Split, Loads, Leaf}
 use Rattle.proof_tree.specs.declared.plan.PlanStatus.{PlanStatus}
 use Rattle.proof_tree.specs.declared.plan.PlanStatus.TheVariants.{Optimal, Infeasible, Undecided}
 use Rattle.cert_format.specs.declared.bodies.Sizes.{Sizes}
 use Rattle.cert_format.specs.declared.form.Form.{Form}
-use Rattle.cert_format.specs.declared.form.Form.TheVariants.{First, Second}
+use Rattle.cert_format.specs.declared.form.Form.TheVariants.{First, Second, Third}
 use Rattle.cert_format.specs.Lists.{is_among, width, resolved}
 use Rattle.plan_words.specs.Words.{◌>>=◌, behind, before, each, numbers_of, grains_of, row_of}
 
@@ -57,18 +57,24 @@ count_row body = row_of (codes "SIZE") body >>= sizes_in
 abbrev pub with_both : Bool → ℕ × ℕ × ℕ → Sizes
 with_both both counts = record { nodes = counts.0; links = counts.1; demands = counts.2; both = both }
 
+-- the counts, and behind them whether each direction of a link has a price of its own
+unfoldable pub both_row : List ℕ → Option Sizes
+both_row body =
+    choose (before (codes " ONE") body) (λ rest. option_map (with_both false) (count_row rest))
+    (choose (before (codes " BOTH") body) (λ rest. option_map (with_both true) (count_row rest)) None)
+
 -- the sizes
 unfoldable pub size_row : Form → List ℕ → Option Sizes
 size_row First body = option_map (with_both false) (count_row body)
-size_row Second body =
-    choose (before (codes " ONE") body) (λ rest. option_map (with_both false) (count_row rest))
-    (choose (before (codes " BOTH") body) (λ rest. option_map (with_both true) (count_row rest)) None)
+size_row Second body = both_row body
+size_row Third body = both_row body
 
 -- the version
 unfoldable pub form_of : List ℕ → Option Form
 form_of body =
     if bytes_eq body (codes "SNDPLAN 1") then Some First else
-    if bytes_eq body (codes "SNDPLAN 2") then Some Second else None
+    if bytes_eq body (codes "SNDPLAN 2") then Some Second else
+    if bytes_eq body (codes "SNDPLAN 3") then Some Third else None
 
 -- the status
 unfoldable pub status_of : List ℕ → Option PlanStatus
@@ -183,6 +189,13 @@ split_in (demand ∷ []) = None
 split_in (demand ∷ at ∷ ns) = if nat_lt demand (2 ^ 32) && nat_lt at (2 ^ 32)
     then option_map (split_with demand at) (sides_of ns) else None
 
+-- the numbers of a load split
+unfoldable pub loads_in : List ℕ → Option TreeNode
+loads_in [] = None
+loads_in (place ∷ []) = None
+loads_in (place ∷ load ∷ []) = only_if (nat_lt place (2 ^ 32) && nat_lt load (2 ^ 64)) (Loads place load)
+loads_in (place ∷ load ∷ n ∷ ns) = None
+
 -- the numbers behind the first, where that is this one
 unfoldable pub behind_number : ℕ → List ℕ → Option (List ℕ)
 behind_number at [] = None
@@ -239,7 +252,8 @@ leaf_of nodes count body =
 unfoldable pub record_of : ℕ → ℕ → List ℕ → Option TreeNode
 record_of nodes count body =
     choose (behind (codes "SPLIT") body) (λ rest. numbers_of rest >>= split_in)
-    (option_map (λ evidence. Leaf evidence) (leaf_of nodes count body))
+    (choose (behind (codes "LOADS") body) (λ rest. numbers_of rest >>= loads_in)
+    (option_map (λ evidence. Leaf evidence) (leaf_of nodes count body)))
 
 -- a record that names no list which is not there, and leaves none out
 unfoldable pub record_in : Form → List (List ℕ) → ℕ → ℕ → ℕ → List ℕ → Option TreeNode

@@ -3,14 +3,15 @@ use Rattle.std.specs.Prelude.{ℕ, zero, suc, ◌≡◌, ◌≤◌, Bool, if◌t
 use Rattle.std.specs.List.{AllByRecursion}
 use Rattle.proof_tree.specs.declared.limits.TheConstants.{MAX_RECORDS}
 use Rattle.proof_tree.specs.declared.tree.TreeNode.{TreeNode}
-use Rattle.proof_tree.specs.declared.tree.TreeNode.TheVariants.{Split, Leaf}
+use Rattle.proof_tree.specs.declared.tree.TreeNode.TheVariants.{Split, Loads, Leaf}
 use Rattle.proof_tree.specs.declared.plan.Plan.{Plan}
 use Rattle.proof_tree.specs.Shapes.{are_trees}
 use Rattle.proof_tree.specs.Spellings.{places_in, FitsRecord, FitsDesign, FitsStatus, FitsSizes}
 use Rattle.cert_format.specs.declared.form.Form.{Form}
-use Rattle.cert_format.specs.declared.form.Form.TheVariants.{First, Second}
+use Rattle.cert_format.specs.declared.form.Form.TheVariants.{First, Second, Third}
 use Rattle.cert_format.specs.declared.limits.TheConstants.{MAX_LISTS}
 use Rattle.plan_words.specs.Lines.{Line, whole, text_of, lines_of}
+use Rattle.cert_format.specs.Versions.{HasLines, is_asked}
 use Rattle.cert_format.specs.Lists.{named_from, AreNamed, AreNew}
 use Rattle.cert_format.specs.Grammar.{front_lines, tree_lines, end_line, CanTell, HasFields, SpellsPlan}
 
@@ -18,6 +19,7 @@ use Rattle.cert_format.specs.Grammar.{front_lines, tree_lines, end_line, CanTell
 unfoldable pub left_open : TreeNode → ℕ → ℕ
 left_open (Leaf evidence) others = others
 left_open (Split demand at left right) others = suc (suc others)
+left_open (Loads place load) others = suc (suc others)
 
 -- records, of which so many are stated, where so many trees are to come: they end with the last of these trees or as many as stated
 unfoldable pub IsGrown : ℕ → ℕ → List TreeNode → Type 0
@@ -34,10 +36,15 @@ pub record Stated : Type 0 where
   pub count : ℕ
   pub plan : Plan
 
--- price lists as the version has them: none, or different ones with a price for each place, and no more than stated
+-- different price lists with a price for each place, and no more than stated
+abbrev pub AreStated : ℕ → ℕ → List (List ℕ) → Type 0
+AreStated places stated lists = (stated ≤ MAX_LISTS) × (length lists ≤ stated) × AreNew places [] lists
+
+-- price lists as the version has them: the first one has none
 abbrev pub AreListed : Form → ℕ → ℕ → List (List ℕ) → Type 0
 AreListed First places stated lists = (stated ≡ 0) × (lists ≡ [])
-AreListed Second places stated lists = (stated ≤ MAX_LISTS) × (length lists ≤ stated) × AreNew places [] lists
+AreListed Second places stated lists = AreStated places stated lists
+AreListed Third places stated lists = AreStated places stated lists
 
 -- a plan that a text can spell, but that its tree may be cut off or shorter than the count that is stated, and price lists may lack
 pub record IsDraft (s : Stated) : Type 0 where
@@ -51,15 +58,16 @@ pub record IsDraft (s : Stated) : Type 0 where
   pub few : s.count ≤ MAX_RECORDS
   pub grown : IsGrown s.count 1 s.plan.tree
   pub records : AllByRecursion (FitsRecord s.plan.nodes (places_in s.plan.both s.plan.links)) s.plan.tree
+  pub lines : HasLines s.form s.plan.tree
   pub named : AreNamed s.form s.lists 0 s.plan.tree
 
 -- there are as many records as stated, and each price list is named
 abbrev pub has_counts : Stated → Bool
 has_counts s = length s.plan.tree == s.count && named_from s.form s.lists 0 s.plan.tree == length s.lists
 
--- the tree is whole and has as many records as stated, and each price list is named
+-- the tree is whole and has as many records as stated, each price list is named, and the records ask for the version
 abbrev pub is_complete : Stated → Bool
-is_complete s = are_trees 1 s.plan.tree && has_counts s
+is_complete s = are_trees 1 s.plan.tree && (has_counts s && is_asked s.form s.plan.tree)
 
 -- the lines before the tree
 abbrev pub front_of : Stated → List Line
@@ -69,7 +77,7 @@ front_of s = map whole (front_lines s.form s.stated s.lists s.plan)
 abbrev pub tree_of : Stated → List Line
 tree_of s = map whole (tree_lines s.form s.lists s.count s.plan.tree)
 
--- the last line, which stands only where the tree is whole and as long as stated, and each price list is named
+-- the last line, which stands only where the tree is whole and as long as stated, each price list is named, and the records ask for the version
 abbrev pub closing : Stated → List Line
 closing s = if is_complete s then whole end_line ∷ [] else []
 

@@ -6,28 +6,35 @@ use Rattle.plan_base.specs.declared.path.Design.{Design}
 use Rattle.proof_tree.specs.declared.tree.Evidence.{Evidence}
 use Rattle.proof_tree.specs.declared.tree.Evidence.TheVariants.{Bound, Routed, Overfull, Cut, Far, Crowd, Open}
 use Rattle.proof_tree.specs.declared.tree.TreeNode.{TreeNode}
-use Rattle.proof_tree.specs.declared.tree.TreeNode.TheVariants.{Split, Leaf}
+use Rattle.proof_tree.specs.declared.tree.TreeNode.TheVariants.{Split, Loads, Leaf}
 use Rattle.proof_tree.specs.declared.plan.PlanStatus.{PlanStatus}
 use Rattle.proof_tree.specs.declared.plan.PlanStatus.TheVariants.{Optimal, Infeasible, Undecided}
 use Rattle.proof_tree.specs.declared.plan.Plan.{Plan}
 use Rattle.proof_tree.specs.Spellings.{IsSpellable}
 use Rattle.scaled_numbers.specs.Canonical.{grains_text}
 use Rattle.cert_format.specs.declared.form.Form.{Form}
-use Rattle.cert_format.specs.declared.form.Form.TheVariants.{First, Second}
+use Rattle.cert_format.specs.declared.form.Form.TheVariants.{First, Second, Third}
 use Rattle.plan_words.specs.Lines.{whole, text_of}
 use Rattle.plan_words.specs.Words.{row}
-use Rattle.cert_format.specs.Lists.{has_first_line, lists_in, shown}
+use Rattle.cert_format.specs.Versions.{HasLines, is_asked, written_form}
+use Rattle.cert_format.specs.Lists.{lists_in, shown}
 
 -- the first line
 abbrev pub header_line : Form → List ℕ
 header_line First = codes "SNDPLAN 1"
 header_line Second = codes "SNDPLAN 2"
+header_line Third = codes "SNDPLAN 3"
 
--- whether each direction of a link has a price of its own, which the first version does not tell
+-- whether each direction of a link has a price of its own
+abbrev pub both_word : Bool → List ℕ
+both_word true = codes " BOTH"
+both_word false = codes " ONE"
+
+-- the same, which the first version does not tell
 abbrev pub both_text : Form → Bool → List ℕ
 both_text First both = []
-both_text Second true = codes " BOTH"
-both_text Second false = codes " ONE"
+both_text Second both = both_word both
+both_text Third both = both_word both
 
 -- the counts of nodes, links and demands
 abbrev pub count_line : ℕ → ℕ → ℕ → List ℕ
@@ -97,6 +104,7 @@ leaf_line (Open prices) = row (codes "OPEN") prices
 -- a record of the tree
 unfoldable pub record_line : TreeNode → List ℕ
 record_line (Split demand at left right) = row (codes "SPLIT") (demand.0 ∷ at.0 ∷ (counted (arc_numbers left) ++ counted (arc_numbers right)))
+record_line (Loads place load) = row (codes "LOADS") (place ∷ load ∷ [])
 record_line (Leaf evidence) = leaf_line evidence
 
 -- the cost, and with it a line for each path and each list of counts
@@ -110,14 +118,29 @@ bound_lines Optimal bound = []
 bound_lines Infeasible bound = []
 bound_lines Undecided bound = bound_line bound ∷ []
 
+-- how many cuts there are: none
+abbrev pub cuts_line : List ℕ
+cuts_line = codes "CUTS 0"
+
+-- the third version tells how many cuts there are
+unfoldable pub cut_lines : Form → List (List ℕ)
+cut_lines First = []
+cut_lines Second = []
+cut_lines Third = cuts_line ∷ []
+
 -- a price list
 abbrev pub price_line : List ℕ → List ℕ
 price_line prices = row (codes "P") prices
 
--- the price lists, where so many are stated
+-- how many price lists are stated, and the lists
+abbrev pub list_lines : ℕ → List (List ℕ) → List (List ℕ)
+list_lines stated lists = number_line (codes "PRICES") stated ∷ map price_line lists
+
+-- the price lists, where so many are stated: the first version has none
 unfoldable pub price_lines : Form → ℕ → List (List ℕ) → List (List ℕ)
 price_lines First stated lists = []
-price_lines Second stated lists = number_line (codes "PRICES") stated ∷ map price_line lists
+price_lines Second stated lists = list_lines stated lists
+price_lines Third stated lists = list_lines stated lists
 
 -- the five lines that begin each text
 unfoldable pub head_lines : Form → Plan → List (List ℕ)
@@ -126,7 +149,7 @@ head_lines form plan = header_line form ∷ size_line form plan.nodes plan.links
 
 -- the lines before the tree, where so many price lists are stated
 unfoldable pub front_lines : Form → ℕ → List (List ℕ) → Plan → List (List ℕ)
-front_lines form stated lists plan = head_lines form plan ++ (design_lines plan.design ++ (bound_lines plan.status plan.bound ++ price_lines form stated lists))
+front_lines form stated lists plan = head_lines form plan ++ (design_lines plan.design ++ (bound_lines plan.status plan.bound ++ (cut_lines form ++ price_lines form stated lists)))
 
 -- the lines of a tree, where so many records are stated
 abbrev pub tree_lines : Form → List (List ℕ) → ℕ → List TreeNode → List (List ℕ)
@@ -148,15 +171,15 @@ plan_lines form plan = lines_with form (lists_in form plan.tree) plan
 unfoldable pub plan_text : Form → Plan → List ℕ
 plan_text form plan = text_of (map whole (plan_lines form plan))
 
+-- the text that is written of a plan: of the third version where it has a load split, else of the second
+abbrev pub written_text : Plan → List ℕ
+written_text plan = plan_text (written_form plan.tree) plan
+
 -- the version can tell whether each direction of a link has a price of its own: in the first one it has not
 abbrev pub CanTell : Form → Bool → Type 0
 CanTell First both = both ≡ false
 CanTell Second both = ⊤
-
--- the version has a line for each record
-abbrev pub HasLines : Form → List TreeNode → Type 0
-HasLines First nodes = AllByRecursion (λ node. IsTrue (has_first_line node)) nodes
-HasLines Second nodes = ⊤
+CanTell Third both = ⊤
 
 -- ---- the numbers of a plan, within their fields
 
@@ -181,6 +204,7 @@ HasLeafFields (Open prices) = AreWithin 128 prices
 -- the numbers of a record
 abbrev pub HasRecordFields : TreeNode → Type 0
 HasRecordFields (Split demand at left right) = (demand.0 < 2 ^ 32) × (at.0 < 2 ^ 32) × AreArcs left × AreArcs right
+HasRecordFields (Loads place load) = (place < 2 ^ 32) × (load < 2 ^ 64)
 HasRecordFields (Leaf evidence) = HasLeafFields evidence
 
 -- the numbers of a design and its cost
@@ -208,4 +232,5 @@ pub record SpellsPlan (text : List ℕ) (plan : Plan) : Type 0 where
   pub form : Form
   pub told : CanTell form plan.both
   pub lines : HasLines form plan.tree
+  pub asked : IsTrue (is_asked form plan.tree)
   pub is_text : text ≡ plan_text form plan

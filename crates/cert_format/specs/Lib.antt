@@ -1,3 +1,4 @@
+pub mod Versions
 pub mod Lists
 pub mod Grammar
 pub mod Bodies

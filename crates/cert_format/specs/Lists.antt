@@ -1,14 +1,15 @@
 -- Price lists of a plan text: the lists of a tree, their numbers, and records that name lists by number.
-use Rattle.std.specs.Prelude.{ℕ, suc, ◌≡◌, ◌<◌, ◌≤◌, ◌^◌, nat_le, nat_eq, Bool, true, false, if◌then◌else◌, IsTrue, List, [], ◌∷◌, ◌++◌, length, ⊤, Option, Some, None, IfSome, slice_get, position}
+use Rattle.std.specs.Prelude.{ℕ, suc, ◌≡◌, ◌<◌, ◌≤◌, ◌^◌, nat_le, nat_eq, Bool, false, if◌then◌else◌, List, [], ◌∷◌, ◌++◌, length, ⊤, Option, Some, None, IfSome, slice_get, position}
 use Rattle.std.specs.List.{list_any, position_or_len, AllByRecursion}
 use Rattle.std.specs.Option.{option_map}
 use Rattle.std.specs.Cmp.Lexicographic.{pointwise}
 use Rattle.proof_tree.specs.declared.tree.Evidence.{Evidence}
 use Rattle.proof_tree.specs.declared.tree.Evidence.TheVariants.{Bound, Routed, Overfull, Cut, Far, Crowd, Open}
 use Rattle.proof_tree.specs.declared.tree.TreeNode.{TreeNode}
-use Rattle.proof_tree.specs.declared.tree.TreeNode.TheVariants.{Split, Leaf}
+use Rattle.proof_tree.specs.declared.tree.TreeNode.TheVariants.{Split, Loads, Leaf}
 use Rattle.cert_format.specs.declared.form.Form.{Form}
-use Rattle.cert_format.specs.declared.form.Form.TheVariants.{First, Second}
+use Rattle.cert_format.specs.declared.form.Form.TheVariants.{First, Second, Third}
+use Rattle.cert_format.specs.Versions.{has_line}
 
 -- it is one of these lists
 abbrev pub is_among : List (List ℕ) → List ℕ → Bool
@@ -41,6 +42,7 @@ prices_in (Open prices) = Some prices
 -- the prices of a record
 abbrev pub prices_at : TreeNode → Option (List ℕ)
 prices_at (Split demand at left right) = None
+prices_at (Loads place load) = None
 prices_at (Leaf evidence) = prices_in evidence
 
 -- the lists with these prices, where there are some
@@ -61,6 +63,7 @@ lists_of nodes = gathered [] nodes
 abbrev pub lists_in : Form → List TreeNode → List (List ℕ)
 lists_in First nodes = []
 lists_in Second nodes = lists_of nodes
+lists_in Third nodes = lists_of nodes
 
 -- ---- records with numbers of lists
 
@@ -74,16 +77,23 @@ numbered lists (Far demand) = Far demand
 numbered lists (Crowd prices) = Crowd (number_in lists prices ∷ [])
 numbered lists (Open prices) = Open (number_in lists prices ∷ [])
 
+-- the record with the number of its list in place of the prices
+abbrev pub with_number : List (List ℕ) → TreeNode → TreeNode
+with_number lists (Split demand at left right) = Split demand at left right
+with_number lists (Loads place load) = Loads place load
+with_number lists (Leaf evidence) = Leaf (numbered lists evidence)
+
 -- the record as its line shows it: with its prices, or with the number of their list
 abbrev pub shown : Form → List (List ℕ) → TreeNode → TreeNode
 shown First lists node = node
-shown Second lists (Split demand at left right) = Split demand at left right
-shown Second lists (Leaf evidence) = Leaf (numbered lists evidence)
+shown Second lists node = with_number lists node
+shown Third lists node = with_number lists node
 
 -- how many numbers stand for the prices of a record
 abbrev pub width : Form → ℕ → ℕ
 width First places = places
 width Second places = 1
+width Third places = 1
 
 -- there is a list, and it is this one
 abbrev pub is_list : List ℕ → Option (List ℕ) → Bool
@@ -99,6 +109,7 @@ named_by lists named (Some prices) = if is_list prices (slice_get lists named) t
 abbrev pub named_behind : Form → List (List ℕ) → ℕ → TreeNode → ℕ
 named_behind First lists named node = named
 named_behind Second lists named node = named_by lists named (prices_at node)
+named_behind Third lists named node = named_by lists named (prices_at node)
 
 -- how many lists are named behind records, where so many were named before them
 unfoldable pub named_from : Form → List (List ℕ) → ℕ → List TreeNode → ℕ
@@ -110,15 +121,11 @@ pub record IsNext (lists : List (List ℕ)) (named : ℕ) (prices : List ℕ) : 
   pub listed : number_in lists prices < length lists
   pub in_order : number_in lists prices ≤ named
 
--- the first version has a line for the record: it has none for a leaf where a demand is far
-abbrev pub has_first_line : TreeNode → Bool
-has_first_line (Leaf (Far demand)) = false
-has_first_line _ = true
-
--- the record can stand where so many lists are named before it
+-- where the version has price lists, the record names one that is named already, or the next one
 abbrev pub Names : Form → List (List ℕ) → ℕ → TreeNode → Type 0
-Names First lists named node = IsTrue (has_first_line node)
+Names First lists named node = ⊤
 Names Second lists named node = IfSome (prices_at node) (IsNext lists named)
+Names Third lists named node = IfSome (prices_at node) (IsNext lists named)
 
 -- each record names a list that is named already, or the next one, where so many are named before them
 unfoldable pub AreNamed : Form → List (List ℕ) → ℕ → List TreeNode → Type 0
@@ -148,8 +155,18 @@ priced lists named (Far demand) = Some (Far demand)
 priced lists named (Crowd ns) = option_map (λ prices. Crowd prices) (listed lists named ns)
 priced lists named (Open ns) = option_map (λ prices. Open prices) (listed lists named ns)
 
+-- the record with the prices that its number stands for
+abbrev pub with_prices : List (List ℕ) → ℕ → TreeNode → Option TreeNode
+with_prices lists named (Split demand at left right) = Some (Split demand at left right)
+with_prices lists named (Loads place load) = Some (Loads place load)
+with_prices lists named (Leaf evidence) = option_map (λ found. Leaf found) (priced lists named evidence)
+
 -- the record that is shown so
+abbrev pub meant : Form → List (List ℕ) → ℕ → TreeNode → Option TreeNode
+meant First lists named node = Some node
+meant Second lists named node = with_prices lists named node
+meant Third lists named node = with_prices lists named node
+
+-- the record that is shown so, where the version has a line for it
 unfoldable pub resolved : Form → List (List ℕ) → ℕ → TreeNode → Option TreeNode
-resolved First lists named node = if has_first_line node then Some node else None
-resolved Second lists named (Split demand at left right) = Some (Split demand at left right)
-resolved Second lists named (Leaf evidence) = option_map (λ found. Leaf found) (priced lists named evidence)
+resolved form lists named node = if has_line form node then meant form lists named node else None

@@ -12,13 +12,13 @@ use Rattle.cert_format.specs.declared.fault.PlanFault.TheVariants as faults
 use Rattle.proof_tree.specs.Spellings.{places_in}
 use Rattle.cert_format.specs.declared.bodies.Sizes.{Sizes}
 use Rattle.cert_format.specs.declared.form.Form.{Form}
-use Rattle.cert_format.specs.declared.form.Form.TheVariants.{First, Second}
+use Rattle.cert_format.specs.declared.form.Form.TheVariants.{First, Second, Third}
 use Rattle.cert_format.specs.declared.limits.TheConstants.{MAX_LISTS}
 use Rattle.cert_format.specs.declared.reading.Head.{Head}
 use Rattle.cert_format.specs.declared.numbering.Ground.{Ground}
 use Rattle.plan_words.specs.Lines.{Line, whole, unfinished, text_of, lines_of}
 use Rattle.cert_format.specs.Lists.{named_behind}
-use Rattle.cert_format.specs.Grammar.{end_line}
+use Rattle.cert_format.specs.Grammar.{cuts_line, end_line}
 use Rattle.cert_format.specs.Drafts.{left_open, Stated, is_complete}
 use Rattle.cert_format.specs.Bodies.{fixed_of, form_of, number_row, size_row, status_of, cost_of, bound_of, path_of, modules_of, record_in, list_row}
 
@@ -91,10 +91,17 @@ bound Optimal = done None
 bound Infeasible = done None
 bound Undecided = one bound_of
 
+-- that there are no cuts, which the third version tells
+unfoldable pub no_cuts : Form → Reader (Unit {0})
+no_cuts First = done tt
+no_cuts Second = done tt
+no_cuts Third = one (fixed_of cuts_line)
+
 -- how many price lists are stated
 unfoldable pub list_count : Form → Reader ℕ
 list_count First = done 0
 list_count Second = one (number_row (codes "PRICES") 0 MAX_LISTS)
+list_count Third = one (number_row (codes "PRICES") 0 MAX_LISTS)
 
 -- what stands before the price lists
 abbrev pub front_with : Head → Option (ℕ × Design) → Option ℤ → ℕ → Head × Option (ℕ × Design) × Option ℤ × ℕ
@@ -102,7 +109,7 @@ front_with h d b stated = (h, d, b, stated)
 
 -- all lines before the price lists
 unfoldable pub opening : Reader (Head × Option (ℕ × Design) × Option ℤ × ℕ)
-opening = bind head λ h. bind (design h) λ d. bind (bound h.status) λ b. bind (list_count h.form) λ stated. done (front_with h d b stated)
+opening = bind head λ h. bind (design h) λ d. bind (bound h.status) λ b. bind (no_cuts h.form) λ _. bind (list_count h.form) λ stated. done (front_with h d b stated)
 
 -- reads so many price lists, each different from those before it
 unfoldable pub lists : ℕ → ℕ → List (List ℕ) → Reader (List (List ℕ))
@@ -173,7 +180,7 @@ abbrev pub last_line : Plan → Result ((Unit {0}) × List Line) (List Line) →
 last_line plan (Ok p) = nothing_behind plan p.1
 last_line plan (Err ls) = Err ls
 
--- the end of the text, which only a whole tree may have that names each price list
+-- the end of the text, which only a whole tree may have that names each price list and asks for the version
 abbrev pub ending : Stated × List Line → Result Plan (List Line)
 ending d = if is_complete d.0 then last_line d.0.plan (one (fixed_of end_line) d.1) else Err d.1
 

@@ -3,7 +3,7 @@
 ghost use Rattle.std.specs.Prelude.{◌≡◌, ◌<◌, Some, None, IfOk};
 ghost use Rattle.std.specs.Option.{option_map};
 ghost use Rattle.plan_words.specs.Words.{each, grains_of};
-ghost use Rattle.cert_format.specs.Bodies.{fixed_of, one_in, number_row, sizes_in, count_row, with_both, size_row, form_of, status_of, none_or, cost_allowed, cost_of, positive, negative, signed_of, bound_of, arc_of, count_of, uncounted, path_of, modules_of, list_row};
+ghost use Rattle.cert_format.specs.Bodies.{fixed_of, one_in, number_row, sizes_in, count_row, with_both, both_row, size_row, form_of, status_of, none_or, cost_allowed, cost_of, positive, negative, signed_of, bound_of, arc_of, count_of, uncounted, path_of, modules_of, list_row};
 ghost use Rattle.plan_words.specs.Cuts.{found_now, items_of};
 
 use crate::form::Form;
@@ -91,6 +91,9 @@ pub(crate) fn form(body: &[u8]) -> Option<Form>
     if are_same(body, b"SNDPLAN 2") {
         return Some(Form::Second);
     }
+    if are_same(body, b"SNDPLAN 3") {
+        return Some(Form::Third);
+    }
     None
 }
 
@@ -120,22 +123,28 @@ fn counts_with(alloc: Global, both: bool, bytes: &[u8]) -> Result<Option<Sizes>,
     }
 }
 
-/// The sizes: the counts, and whether each direction of a link has a price of its own.
+/// The counts, and behind them whether each direction of a link has a price of its own.
+#[tactic(auto, unfolding(crate::specs::Bodies::both_row))]
+fn both_row(alloc: Global, body: &[u8]) -> Result<Option<Sizes>, AllocError>
+    ensures { IfOk result (λ found. found ≡ both_row body.now) }
+{
+    if let Some(bytes) = before(b" ONE", body) {
+        return counts_with(alloc, false, bytes);
+    }
+    match before(b" BOTH", body) {
+        Some(bytes) => counts_with(alloc, true, bytes),
+        None => Ok(None),
+    }
+}
+
+/// The sizes.
 #[tactic(auto, unfolding(crate::specs::Bodies::size_row))]
 pub(crate) fn size_row(alloc: Global, form: Form, body: &[u8]) -> Result<Option<Sizes>, AllocError>
     ensures { IfOk result (λ found. found ≡ size_row form body.now) }
 {
     match form {
         Form::First => counts_with(alloc, false, body),
-        Form::Second => {
-            if let Some(bytes) = before(b" ONE", body) {
-                return counts_with(alloc, false, bytes);
-            }
-            match before(b" BOTH", body) {
-                Some(bytes) => counts_with(alloc, true, bytes),
-                None => Ok(None),
-            }
-        }
+        Form::Second | Form::Third => both_row(alloc, body),
     }
 }
 

@@ -1,4 +1,9 @@
-//! The versions of plan texts.
+//! The versions of plan texts: which records each has a line for, and which is written.
+
+ghost use Rattle.std.specs.Prelude.{◌≡◌};
+ghost use Rattle.cert_format.specs.Versions.{is_loads, is_far, has_loads, has_line, is_asked, written_form};
+
+use proof_tree::{Evidence, TreeNode};
 
 /// The version of a plan text.
 ///
@@ -9,4 +14,59 @@ pub enum Form {
     First,
     /// The different price lists stand before the tree, and records show their numbers.
     Second,
+    /// As the second, with the count of cuts before the price lists, and with load splits.
+    Third,
+}
+
+/// Whether the record is a load split.
+fn is_loads(node: &TreeNode) -> bool
+    ensures { result ≡ is_loads node.now }
+{
+    matches!(node, TreeNode::Loads { .. })
+}
+
+/// Whether the record is a leaf where a demand is far.
+fn is_far(node: &TreeNode) -> bool
+    ensures { result ≡ is_far node.now }
+{
+    matches!(node, TreeNode::Leaf(Evidence::Far { .. }))
+}
+
+/// Whether some record is a load split.
+fn has_loads(nodes: &[TreeNode]) -> bool
+    ensures { result ≡ has_loads nodes.now }
+{
+    nodes.iter().any(is_loads)
+}
+
+/// Whether the version has a line for the record.
+pub(crate) fn has_line(form: Form, node: &TreeNode) -> bool
+    ensures { result ≡ has_line form node.now }
+{
+    match form {
+        Form::First => !is_loads(node) && !is_far(node),
+        Form::Second => !is_loads(node),
+        Form::Third => true,
+    }
+}
+
+/// Whether the records ask for the version: a text of the third one has a load split.
+pub(crate) fn is_asked(form: Form, nodes: &[TreeNode]) -> bool
+    ensures { result ≡ is_asked form nodes.now }
+{
+    match form {
+        Form::First | Form::Second => true,
+        Form::Third => has_loads(nodes),
+    }
+}
+
+/// The version in which a plan with these records is written.
+pub(crate) fn written_form(nodes: &[TreeNode]) -> Form
+    ensures { result ≡ written_form nodes.now }
+{
+    if has_loads(nodes) {
+        Form::Third
+    } else {
+        Form::Second
+    }
 }

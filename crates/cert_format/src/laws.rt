@@ -1,13 +1,14 @@
 //! Laws of plan texts. The contract of each function is its law; the functions do nothing.
 
-ghost use Rattle.std.specs.Prelude.{◌≡◌, ◌≤◌, ◌⊎◌, ℕ, false, length, List};
+ghost use Rattle.std.specs.Prelude.{◌≡◌, ◌≤◌, ◌⊎◌, ◌↔◌, ℕ, false, length, List, IsTrue};
 ghost use Rattle.proof_tree.specs.declared.plan.Plan.{Plan as AnyPlan};
 ghost use Rattle.cert_format.specs.declared.fault.PlanFault.{PlanFault};
 ghost use Rattle.cert_format.specs.declared.fault.PlanFault.TheVariants.{OutOfMemory};
 ghost use Rattle.cert_format.specs.declared.limits.TheConstants.{MAX_PLAN_BYTES};
-ghost use Rattle.cert_format.specs.declared.form.Form.TheVariants.{First, Second};
+ghost use Rattle.cert_format.specs.declared.form.Form.TheVariants.{First, Second, Third};
 ghost use Rattle.proof_tree.specs.Spellings.{IsSpellable};
-ghost use Rattle.cert_format.specs.Grammar.{plan_text, HasLines, HasFields, SpellsPlan};
+ghost use Rattle.cert_format.specs.Versions.{has_loads, HasLines};
+ghost use Rattle.cert_format.specs.Grammar.{plan_text, written_text, HasFields, SpellsPlan};
 ghost use Rattle.cert_format.specs.Faults.{IsFault};
 
 /// No text spells two plans.
@@ -20,10 +21,16 @@ pub fn one_text_for_a_plan()
     ensures { (one other : List ℕ) (plan : AnyPlan) (s : SpellsPlan one plan) (t : SpellsPlan other plan) → s.form ≡ t.form → one ≡ other }
 {}
 
-/// A plan that fits has a text of the second version, and one of the first where no link has two prices and no leaf has a
-/// demand that is far.
+/// A text is of the third version exactly where its plan has a load split.
+pub fn third_for_loads()
+    ensures { (text : List ℕ) (plan : AnyPlan) (s : SpellsPlan text plan) → (s.form ≡ Third) ↔ IsTrue (has_loads plan.tree) }
+{}
+
+/// A plan that fits has a text of the third version where it has a load split, else one of the second, and one of the
+/// first where also no link has two prices and no leaf has a demand that is far.
 pub fn a_text_for_a_plan()
-    ensures second { (plan : AnyPlan) → IsSpellable plan → HasFields plan → SpellsPlan (plan_text Second plan) plan }
+    ensures third { (plan : AnyPlan) → IsSpellable plan → HasFields plan → IsTrue (has_loads plan.tree) → SpellsPlan (plan_text Third plan) plan }
+    ensures second { (plan : AnyPlan) → IsSpellable plan → HasFields plan → has_loads plan.tree ≡ false → SpellsPlan (plan_text Second plan) plan }
     ensures first { (plan : AnyPlan) → IsSpellable plan → HasFields plan → plan.both ≡ false → HasLines First plan.tree → SpellsPlan (plan_text First plan) plan }
 {}
 
@@ -39,5 +46,5 @@ pub fn one_fault_for_a_text()
 
 /// The text that is written of a plan that fits is within the limit of bytes.
 pub fn text_within_limit()
-    ensures { (plan : AnyPlan) → IsSpellable plan → HasFields plan → length (plan_text Second plan) ≤ MAX_PLAN_BYTES }
+    ensures { (plan : AnyPlan) → IsSpellable plan → HasFields plan → length (written_text plan) ≤ MAX_PLAN_BYTES }
 {}

@@ -1,11 +1,11 @@
 //! Records with prices, and with the numbers of price lists in their place.
 
-ghost use Rattle.std.specs.Prelude.{if◌then◌else◌, ◌≡◌, ◌≤◌, ◌<◌, ◌+◌, ◌^◌, nat_eq, IfOk};
+ghost use Rattle.std.specs.Prelude.{◌≡◌, ◌≤◌, ◌<◌, ◌+◌, ◌^◌, nat_eq, IfOk};
 ghost use Rattle.std.specs.Cmp.Lexicographic.{pointwise};
-ghost use Rattle.cert_format.specs.Lists.{prices_in, prices_at, lists_of, named_by, named_behind, has_first_line, listed, priced, resolved};
+ghost use Rattle.cert_format.specs.Lists.{prices_in, prices_at, lists_of, named_by, named_behind, listed, priced, with_prices, meant, resolved};
 ghost use Rattle.plan_words.specs.Cuts.{found_now};
 
-use crate::form::Form;
+use crate::form::{Form, has_line};
 use crate::lists::Lists;
 use plan_base::Prices;
 use proof_tree::{Evidence, TreeNode};
@@ -40,7 +40,7 @@ fn prices_at(node: &TreeNode) -> Option<&[u128]>
     ensures { found_now result ≡ prices_at node.now }
 {
     match node {
-        TreeNode::Split { .. } => None,
+        TreeNode::Split { .. } | TreeNode::Loads { .. } => None,
         TreeNode::Leaf(evidence) => prices_in(evidence),
     }
 }
@@ -93,7 +93,7 @@ pub(crate) fn named_behind(ground: &Ground, named: u32, node: &TreeNode) -> u32
 {
     match ground.form {
         Form::First => named,
-        Form::Second => named_by(&ground.lists, named, prices_at(node)),
+        Form::Second | Form::Third => named_by(&ground.lists, named, prices_at(node)),
     }
 }
 
@@ -144,25 +144,40 @@ fn priced(
     }
 }
 
-/// Whether the first version has a line for the record: it has none for a leaf where a demand is far.
-fn has_first_line(node: &TreeNode) -> bool
-    ensures { result ≡ has_first_line node.now }
+/// The record with the prices that its number stands for, where so many lists are named before it.
+fn with_prices(
+    alloc: Global,
+    lists: &Lists,
+    named: u32,
+    node: TreeNode,
+) -> Result<Option<TreeNode>, AllocError>
+    ensures { IfOk result (λ found. found ≡ with_prices lists.now named node) }
 {
-    !matches!(node, TreeNode::Leaf(Evidence::Far { .. }))
-}
-
-/// The record of the first version that is shown so, where that version has a line for it.
-fn first_record(node: TreeNode) -> Option<TreeNode>
-    ensures { result ≡ if has_first_line node then Some node else None }
-{
-    if has_first_line(&node) {
-        Some(node)
-    } else {
-        None
+    match node {
+        TreeNode::Split { .. } | TreeNode::Loads { .. } => Ok(Some(node)),
+        TreeNode::Leaf(evidence) => match priced(alloc, lists, named, evidence)? {
+            Some(evidence) => Ok(Some(TreeNode::Leaf(evidence))),
+            None => Ok(None),
+        },
     }
 }
 
 /// The record that is shown so, where so many lists are named before it.
+fn meant(
+    alloc: Global,
+    ground: &Ground,
+    named: u32,
+    node: TreeNode,
+) -> Result<Option<TreeNode>, AllocError>
+    ensures { IfOk result (λ found. found ≡ meant ground.now.form ground.now.lists named node) }
+{
+    match ground.form {
+        Form::First => Ok(Some(node)),
+        Form::Second | Form::Third => with_prices(alloc, &ground.lists, named, node),
+    }
+}
+
+/// The record that is shown so, where the version has a line for it.
 #[tactic(auto, unfolding(crate::specs::Lists::resolved))]
 pub(crate) fn resolve(
     alloc: Global,
@@ -172,16 +187,8 @@ pub(crate) fn resolve(
 ) -> Result<Option<TreeNode>, AllocError>
     ensures { IfOk result (λ found. found ≡ resolved ground.now.form ground.now.lists named node) }
 {
-    match ground.form {
-        Form::First => Ok(first_record(node)),
-        Form::Second => match node {
-            TreeNode::Split { .. } => Ok(Some(node)),
-            TreeNode::Leaf(evidence) => {
-                match priced(alloc, &ground.lists, named, evidence)? {
-                    Some(evidence) => Ok(Some(TreeNode::Leaf(evidence))),
-                    None => Ok(None),
-                }
-            }
-        },
+    if !has_line(ground.form, &node) {
+        return Ok(None);
     }
+    meant(alloc, ground, named, node)
 }

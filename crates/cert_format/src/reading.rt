@@ -7,7 +7,7 @@ ghost use Rattle.cert_format.specs.Grammar.{end_line, SpellsPlan};
 ghost use Rattle.cert_format.specs.Faults.{IsFault, OnlyPlan, OnlyFault};
 ghost use Rattle.cert_format.specs.Lists.{named_from};
 ghost use Rattle.cert_format.specs.Bodies.{fixed_of, form_of, number_row, size_row, status_of, cost_of, bound_of, path_of, modules_of, list_row};
-ghost use Rattle.cert_format.specs.Reading.{one, many, head, design_of, design, bound, list_count, opening, lists, record_on, records, tree, before_end, last_line, ending, whole_plan, place_of, plan_of};
+ghost use Rattle.cert_format.specs.Reading.{one, many, head, design_of, design, bound, no_cuts, list_count, opening, lists, record_on, records, tree, before_end, last_line, ending, whole_plan, place_of, plan_of};
 ghost use Rattle.cert_format.specs.Drafts.{left_open};
 ghost use Rattle.cert_format.specs.Answers.{Reads, Gives, seen, seen_items, seen_records, seen_tree, seen_draft, drafted, IsCounted};
 ghost use Rattle.proof_tree.specs.Spellings.{places_in};
@@ -16,7 +16,7 @@ ghost use Rattle.cert_format.specs.declared.limits.TheConstants.{MAX_PLAN_BYTES}
 
 use crate::bodies::Sizes;
 use crate::fault::PlanFault;
-use crate::form::Form;
+use crate::form::{Form, is_asked};
 use crate::limits::{MAX_LISTS, MAX_PLAN_BYTES};
 use crate::lines::accept;
 use crate::lists::Lists;
@@ -287,7 +287,18 @@ fn left_open(node: &TreeNode, others: u32) -> u32
 {
     match node {
         TreeNode::Leaf(_) => others,
-        TreeNode::Split { .. } => others + 2,
+        TreeNode::Split { .. } | TreeNode::Loads { .. } => others + 2,
+    }
+}
+
+/// The line of the third version that there are no cuts.
+#[tactic(auto, unfolding(crate::specs::Reading::no_cuts, crate::specs::Reading::done))]
+fn read_no_cuts(form: Form, text: &[u8]) -> Result<((), &[u8]), Stop>
+    ensures { Reads seen result (no_cuts form (lines_of text.now)) }
+{
+    match form {
+        Form::First | Form::Second => Ok(((), text)),
+        Form::Third => fixed_line(b"CUTS 0", text),
     }
 }
 
@@ -298,7 +309,7 @@ fn read_list_count(alloc: Global, form: Form, text: &[u8]) -> Result<(u32, &[u8]
 {
     match form {
         Form::First => Ok((0, text)),
-        Form::Second => number_line(alloc, b"PRICES", 0, MAX_LISTS as u32, text),
+        Form::Second | Form::Third => number_line(alloc, b"PRICES", 0, MAX_LISTS as u32, text),
     }
 }
 
@@ -313,6 +324,7 @@ fn read_opening(
     let (head, text) = read_head(alloc, text)?;
     let (design, text) = read_design(alloc, head, text)?;
     let (bound, text) = read_bound(alloc, head.status, text)?;
+    let (_, text) = read_no_cuts(head.form, text)?;
     let (stated, text) = read_list_count(alloc, head.form, text)?;
     Ok(((head, design, bound, stated), text))
 }
@@ -438,12 +450,12 @@ impl Draft {
         self.records.len() == self.count as usize && self.named as usize == self.ground.lists.len()
     }
 
-    /// The plan, where the tree is whole, has as many records as stated and names each price list.
+    /// The plan, where the tree is whole, has as many records as stated, names each price list and asks for the version.
     fn into_plan(self) -> Option<Plan>
         requires counted { IsCounted self }
         ensures { result ≡ only_if (is_complete (drafted self)) (drafted self).plan }
     {
-        if !self.has_counts() {
+        if !self.has_counts() || !is_asked(self.head.form, self.records.as_slice()) {
             return None;
         }
         match Tree::from_nodes(self.records) {
@@ -477,7 +489,8 @@ fn read_end(plan: Plan, text: &[u8]) -> Result<Plan, Stop>
     }
 }
 
-/// The last line, which only a whole tree may have that names each price list, and nothing behind it.
+/// The last line, which only a whole tree may have that names each price list and asks for the version, and nothing
+/// behind it.
 fn read_ending(draft: Draft, text: &[u8]) -> Result<Plan, Stop>
     requires counted { IsCounted draft }
     ensures { Reads (λ plan. plan) result (ending (drafted draft, lines_of text.now)) }
@@ -500,7 +513,7 @@ fn whole_plan(alloc: Global, text: &[u8]) -> Result<Plan, Stop>
 /// Reads the plan that a text spells.
 ///
 /// - Takes: a text of at most `MAX_PLAN_BYTES` bytes.
-/// - Gives: the plan, from a text of either version; whether it is valid is not asked.
+/// - Gives: the plan, from a text of any version; whether it is valid is not asked.
 /// - Errors: `Line`, exactly where a line cannot stand where it stands, at the first such line, a last
 ///   line without its end too; `Ended`, exactly where all lines can stand and a further one must
 ///   follow; `OutOfMemory` may stand in place of any answer.

@@ -2,7 +2,7 @@
 
 ghost use Rattle.std.specs.Prelude.{◌≡◌, Some, None, IfOk, option_and_then};
 ghost use Rattle.plan_words.specs.Words.{numbers_of};
-ghost use Rattle.cert_format.specs.Bodies.{ascends, side_of, sides_of, split_in, record_of, record_in};
+ghost use Rattle.cert_format.specs.Bodies.{ascends, side_of, sides_of, split_in, loads_in, record_of, record_in};
 ghost use Rattle.cert_format.specs.Lists.{width};
 ghost use Rattle.cert_format.specs.Answers.{side_view, sides_view};
 
@@ -96,6 +96,30 @@ fn split(alloc: Global, bytes: &[u8]) -> Result<Option<TreeNode>, AllocError>
     }
 }
 
+/// The numbers of a load split.
+#[tactic(auto, unfolding(crate::specs::Bodies::loads_in))]
+fn loads_in(numbers: &[u128]) -> Option<TreeNode>
+    ensures { result ≡ loads_in numbers.now }
+{
+    match numbers {
+        [place, load] if *place < 1 << 32 && *load < 1 << 64 => Some(TreeNode::Loads {
+            place: *place as u32,
+            load: *load as u64,
+        }),
+        _ => None,
+    }
+}
+
+/// A load split, behind its word.
+fn loads(alloc: Global, bytes: &[u8]) -> Result<Option<TreeNode>, AllocError>
+    ensures { IfOk result (λ found. found ≡ option_and_then loads_in (numbers_of bytes.now)) }
+{
+    match numbers(alloc, bytes)? {
+        Some(numbers) => Ok(loads_in(numbers.as_slice())),
+        None => Ok(None),
+    }
+}
+
 /// A record, where so many numbers stand for prices.
 #[tactic(auto, unfolding(crate::specs::Bodies::record_of))]
 fn record(
@@ -109,6 +133,9 @@ fn record(
     if let Some(rest) = behind(b"SPLIT", body) {
         return split(alloc, rest);
     }
+    if let Some(rest) = behind(b"LOADS", body) {
+        return loads(alloc, rest);
+    }
     match leaf(alloc, nodes, count, body)? {
         Some(evidence) => Ok(Some(TreeNode::Leaf(evidence))),
         None => Ok(None),
@@ -121,7 +148,7 @@ fn width(form: Form, places: usize) -> usize
 {
     match form {
         Form::First => places,
-        Form::Second => 1,
+        Form::Second | Form::Third => 1,
     }
 }
 

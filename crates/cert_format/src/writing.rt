@@ -4,13 +4,14 @@ ghost use Rattle.std.specs.Prelude.{◌≡◌, ◌<◌, ◌≤◌, ◌^◌, ◌+
 ghost use Rattle.std.specs.List.{AllByRecursion};
 ghost use Rattle.proof_tree.specs.Spellings.{IsSpellable, FitsStatus};
 ghost use Rattle.cert_format.specs.declared.limits.TheConstants.{MAX_PLAN_BYTES};
-ghost use Rattle.cert_format.specs.declared.form.Form.TheVariants.{Second};
-ghost use Rattle.cert_format.specs.Lists.{number_in, numbered, shown};
+ghost use Rattle.cert_format.specs.Versions.{written_form};
+ghost use Rattle.cert_format.specs.Lists.{number_in, numbered, with_number};
 ghost use Rattle.plan_words.specs.Lines.{whole, line_text};
 ghost use Rattle.plan_words.specs.Words.{numerals, row};
-ghost use Rattle.cert_format.specs.Grammar.{arc_numbers, counted, both_text, size_line, status_line, cost_line, signed_text, bound_line, path_line, modules_line, members, leaf_line, record_line, design_lines, bound_lines, head_lines, price_line, price_lines, AreWithin, AreArcs, HasLeafFields, HasRecordFields, HasDesignFields, IsBoundField, HasFields, SpellsPlan, plan_text};
-ghost use Rattle.cert_format.specs.Written.{lines_text, written_tree, HasShownFields, Appends};
+ghost use Rattle.cert_format.specs.Grammar.{arc_numbers, counted, header_line, both_text, size_line, status_line, cost_line, signed_text, bound_line, path_line, modules_line, members, leaf_line, record_line, design_lines, bound_lines, cut_lines, head_lines, price_line, list_lines, AreWithin, AreArcs, HasLeafFields, HasRecordFields, HasDesignFields, IsBoundField, HasFields, SpellsPlan, written_text};
+ghost use Rattle.cert_format.specs.Written.{lines_text, numbered_lines, written_tree, HasShownFields, Appends};
 
+use crate::form::{Form, written_form};
 use crate::lists::Lists;
 use crate::numbering::lists_of;
 use itoa::Buffer;
@@ -155,18 +156,32 @@ fn push_bound_line(bound: Option<i128>, out: &mut Vec<u8>) -> Result<(), AllocEr
     Ok(())
 }
 
-/// Whether each direction of a link has a price of its own.
-fn both_text(both: bool) -> &'static [u8]
-    ensures { result.now ≡ both_text Second both }
+/// The line of the version.
+fn header_line(form: Form) -> &'static [u8]
+    ensures { result.now ≡ header_line form }
 {
-    if both { b" BOTH" } else { b" ONE" }
+    match form {
+        Form::First => b"SNDPLAN 1",
+        Form::Second => b"SNDPLAN 2",
+        Form::Third => b"SNDPLAN 3",
+    }
+}
+
+/// Whether each direction of a link has a price of its own, as the version tells it.
+fn both_text(form: Form, both: bool) -> &'static [u8]
+    ensures { result.now ≡ both_text form both }
+{
+    match form {
+        Form::First => b"",
+        Form::Second | Form::Third => { if both { b" BOTH" } else { b" ONE" } }
+    }
 }
 
 /// Appends the line of the sizes.
 #[tactic(auto, using(crate::proofs::WrittenPieces::size_pieces))]
-fn push_sizes(plan: &Plan, out: &mut Vec<u8>) -> Result<(), AllocError>
+fn push_sizes(form: Form, plan: &Plan, out: &mut Vec<u8>) -> Result<(), AllocError>
     ensures { Appends result out.old.items out.new.items
-        (line_text (whole (size_line Second plan.now.nodes plan.now.links plan.now.demands plan.now.both))) }
+        (line_text (whole (size_line form plan.now.nodes plan.now.links plan.now.demands plan.now.both))) }
 {
     let sizes = [
         u128::from(plan.nodes),
@@ -175,17 +190,17 @@ fn push_sizes(plan: &Plan, out: &mut Vec<u8>) -> Result<(), AllocError>
     ];
     out.extend_from_slice(b"SIZE")?;
     push_numbers(&sizes, out)?;
-    push_fixed(both_text(plan.both), out)
+    push_fixed(both_text(form, plan.both), out)
 }
 
 /// Appends the five lines that begin each text.
 #[tactic(auto, using(crate::proofs::WrittenPieces::head_pieces))]
-fn push_head(plan: &Plan, out: &mut Vec<u8>) -> Result<(), AllocError>
-    ensures text { Appends result out.old.items out.new.items (lines_text (head_lines Second plan.now)) }
+fn push_head(form: Form, plan: &Plan, out: &mut Vec<u8>) -> Result<(), AllocError>
+    ensures text { Appends result out.old.items out.new.items (lines_text (head_lines form plan.now)) }
     ensures fields { OnOk result (plan.now.examined < 2 ^ 32) }
 {
-    push_fixed(b"SNDPLAN 2", out)?;
-    push_sizes(plan, out)?;
+    push_fixed(header_line(form), out)?;
+    push_sizes(form, plan, out)?;
     push_status(plan.status, out)?;
     push_number_row(b"BUDGET", plan.budget, out)?;
     push_number_row(b"EXAMINED", plan.examined, out)
@@ -280,6 +295,17 @@ fn push_bound(plan: &Plan, out: &mut Vec<u8>) -> Result<(), AllocError>
     }
 }
 
+/// Appends the line of the third version that there are no cuts.
+#[tactic(auto, unfolding(crate::specs::Grammar::cut_lines))]
+fn push_no_cuts(form: Form, out: &mut Vec<u8>) -> Result<(), AllocError>
+    ensures { Appends result out.old.items out.new.items (lines_text (cut_lines form)) }
+{
+    match form {
+        Form::First | Form::Second => Ok(()),
+        Form::Third => push_fixed(b"CUTS 0", out),
+    }
+}
+
 /// Appends the line of a cut.
 fn push_cut(
     alloc: Global,
@@ -310,7 +336,7 @@ fn push_list(list: &[u128], out: &mut Vec<u8>) -> Result<(), AllocError>
 #[tactic(auto, using(crate::proofs::WrittenPieces::lists_more, crate::proofs::WrittenPieces::lists_all, crate::proofs::WrittenPieces::fields_all))]
 fn push_lists(lists: &Lists, out: &mut Vec<u8>) -> Result<(), AllocError>
     ensures text { Appends result out.old.items out.new.items
-        (lines_text (price_lines Second (length lists.now) lists.now)) }
+        (lines_text (list_lines (length lists.now) lists.now)) }
     ensures fields { OnOk result (AllByRecursion (AreWithin 128) lists.now) }
 {
     push_row(b"PRICES", &[lists.len() as u128], out)?;
@@ -379,6 +405,14 @@ fn push_split(
     push_row(b"SPLIT", numbers.as_slice(), out)
 }
 
+/// Appends the line of a load split.
+fn push_loads(place: u32, load: u64, out: &mut Vec<u8>) -> Result<(), AllocError>
+    ensures text { Appends result out.old.items out.new.items (line_text (whole (row (codes "LOADS") (place ∷ load ∷ [])))) }
+    ensures fields { OnOk result ((place < 2 ^ 32) × (load < 2 ^ 64)) }
+{
+    push_row(b"LOADS", &[u128::from(place), u128::from(load)], out)
+}
+
 /// Appends the line of a record.
 #[tactic(auto, unfolding(crate::specs::Grammar::record_line))]
 fn push_record(
@@ -387,7 +421,7 @@ fn push_record(
     node: &TreeNode,
     out: &mut Vec<u8>,
 ) -> Result<(), AllocError>
-    ensures text { Appends result out.old.items out.new.items (line_text (whole (record_line (shown Second lists.now node.now)))) }
+    ensures text { Appends result out.old.items out.new.items (line_text (whole (record_line (with_number lists.now node.now)))) }
     ensures fields { OnOk result (HasShownFields lists.now node.now) }
 {
     match node {
@@ -403,6 +437,7 @@ fn push_record(
             right.as_slice(),
             out,
         ),
+        TreeNode::Loads { place, load } => push_loads(*place, *load, out),
         TreeNode::Leaf(evidence) => push_leaf(alloc, lists, evidence, out),
     }
 }
@@ -415,7 +450,7 @@ fn push_records(
     nodes: &[TreeNode],
     out: &mut Vec<u8>,
 ) -> Result<(), AllocError>
-    ensures text { Appends result out.old.items out.new.items (lines_text (map (λ node. record_line (shown Second lists.now node)) nodes.now)) }
+    ensures text { Appends result out.old.items out.new.items (lines_text (numbered_lines lists.now nodes.now)) }
     ensures fields { OnOk result (AllByRecursion (HasShownFields lists.now) nodes.now) }
 {
     for node in nodes {
@@ -436,7 +471,7 @@ fn push_tree(alloc: Global, nodes: &[TreeNode], out: &mut Vec<u8>) -> Result<(),
     push_records(alloc, &lists, nodes, out)
 }
 
-/// Writes the text of a plan, in the second version.
+/// Writes the text of a plan, in the third version where it has a load split, else in the second.
 ///
 /// - Takes: a plan whose `fits` holds.
 /// - Gives: the lines of the plan, each with its line end; `read_plan` answers this plan for them.
@@ -444,10 +479,10 @@ fn push_tree(alloc: Global, nodes: &[TreeNode], out: &mut Vec<u8>) -> Result<(),
 /// - Rule: docs/FORMATS.md, "Plan texts".
 /// - Time: linear in the text and in the prices of all records. Each clash of two price lists in their hash adds a
 ///   comparison of them; the hash has a fixed seed, so a plan can be made for clashes.
-#[tactic(auto, using(crate::proofs::TextBound::text_within))]
+#[tactic(auto, using(crate::proofs::TextBound::text_within, crate::proofs::VersionLaws::written_spells))]
 pub fn write_plan(alloc: Global, plan: &Plan) -> Result<Vec<u8>, AllocError>
     requires fits { IsSpellable plan.now }
-    ensures text { IfOk result (λ text. text.items ≡ plan_text Second plan.now) }
+    ensures text { IfOk result (λ text. text.items ≡ written_text plan.now) }
     // It spells the plan.
     ensures spelt { IfOk result (λ text. SpellsPlan text.items plan.now) }
     // It is within the limit.
@@ -460,14 +495,17 @@ pub fn write_plan(alloc: Global, plan: &Plan) -> Result<Vec<u8>, AllocError>
 #[tactic(auto, using(crate::proofs::WrittenPieces::plan_pieces))]
 fn whole_text(alloc: Global, plan: &Plan) -> Result<Vec<u8>, AllocError>
     requires fits { IsSpellable plan.now }
-    ensures text { IfOk result (λ text. text.items ≡ plan_text Second plan.now) }
+    ensures text { IfOk result (λ text. text.items ≡ written_text plan.now) }
     ensures fields { IfOk result (λ text. HasFields plan.now) }
 {
+    let nodes = plan.tree.nodes();
+    let form = written_form(nodes);
     let mut out = Vec::new(alloc);
-    push_head(plan, &mut out)?;
+    push_head(form, plan, &mut out)?;
     push_design_lines(alloc, plan, &mut out)?;
     push_bound(plan, &mut out)?;
-    push_tree(alloc, plan.tree.nodes(), &mut out)?;
+    push_no_cuts(form, &mut out)?;
+    push_tree(alloc, nodes, &mut out)?;
     push_fixed(b"END", &mut out)?;
     Ok(out)
 }

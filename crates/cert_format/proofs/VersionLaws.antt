@@ -1,0 +1,65 @@
+-- Which records each version has a line for, and which version is written.
+use Rattle.std.proofs.Common.{◌≡◌, ℕ, ◌||◌, Bool, true, false, true≢false, not, cond, List, [], ◌∷◌, refl, sym, ap, ◌∙◌}
+use Rattle.std.specs.Prelude.{◌↔◌, IsTrue}
+use Rattle.std.proofs.lemmas.Bool.{and_parts}
+use Rattle.proof_tree.specs.declared.tree.TreeNode.{TreeNode}
+use Rattle.proof_tree.specs.declared.plan.Plan.{Plan}
+use Rattle.proof_tree.specs.Spellings.{IsSpellable}
+use Rattle.cert_format.specs.declared.form.Form.{Form}
+use Rattle.cert_format.specs.declared.form.Form.TheVariants.{First, Second, Third}
+use Rattle.cert_format.specs.Versions.{is_loads, is_far, has_loads, HasLines, is_asked, written_form}
+use Rattle.cert_format.specs.Grammar.{written_text, CanTell, HasFields, SpellsPlan}
+
+neither : (a b : Bool) → (a || b) ≡ false → (a ≡ false) × (b ≡ false)
+neither true b e = absurd (true≢false e)
+neither false b e = (refl, e)
+
+not-true : (b : Bool) → not b ≡ true → b ≡ false
+not-true true e = absurd (true≢false (sym e))
+not-true false e = refl
+
+-- the first version is not written
+pub not_first : (some : Bool) → cond some Third Second ≡ First → ⊥
+not_first true e = cc
+not_first false e = cc
+
+pub lines_of_third : (nodes : List TreeNode) → HasLines Third nodes
+lines_of_third [] = tt
+lines_of_third (node ∷ nodes) = (refl, lines_of_third nodes)
+
+pub lines_without_loads : (nodes : List TreeNode) → has_loads nodes ≡ false → HasLines Second nodes
+lines_without_loads [] e = tt
+lines_without_loads (node ∷ nodes) e = (let p = neither (is_loads node) (has_loads nodes) e in (ap not p.0, lines_without_loads nodes p.1))
+
+-- where the first or the second version has a line for each record, none is a load split
+none-in-second : (nodes : List TreeNode) → HasLines Second nodes → has_loads nodes ≡ false
+none-in-second [] h = refl
+none-in-second (node ∷ nodes) h = ap (λ b. b || has_loads nodes) (not-true (is_loads node) h.0) ∙ none-in-second nodes h.1
+
+second-by-first : (nodes : List TreeNode) → HasLines First nodes → HasLines Second nodes
+second-by-first [] h = tt
+second-by-first (node ∷ nodes) h = ((and_parts (not (is_loads node)) (not (is_far node)) h.0).0, second-by-first nodes h.1)
+
+pub third_exactly : (form : Form) (nodes : List TreeNode) → HasLines form nodes → IsTrue (is_asked form nodes) → (form ≡ Third) ↔ IsTrue (has_loads nodes)
+third_exactly First nodes h asked = (λ e. absurd cc, λ t. absurd (true≢false (sym t ∙ none-in-second nodes (second-by-first nodes h))))
+third_exactly Second nodes h asked = (λ e. absurd cc, λ t. absurd (true≢false (sym t ∙ none-in-second nodes h)))
+third_exactly Third nodes h asked = (λ e. asked, λ t. refl)
+
+-- a version that can tell of two prices, has a line for each record and is asked for
+record IsFor (form : Form) (both : Bool) (nodes : List TreeNode) : Type 0 where
+  told : CanTell form both
+  lines : HasLines form nodes
+  asked : IsTrue (is_asked form nodes)
+
+written-for : (both : Bool) (nodes : List TreeNode) → IsFor (written_form nodes) both nodes
+written-for both nodes = by (has_loads nodes) refl
+  where
+    by : (some : Bool) → has_loads nodes ≡ some → IsFor (cond some Third Second) both nodes
+    by true e = record { told = tt; lines = lines_of_third nodes; asked = e }
+    by false e = record { told = tt; lines = lines_without_loads nodes e; asked = refl }
+
+-- the text that is written spells the plan
+pub written_spells : (text : List ℕ) (plan : Plan) → text ≡ written_text plan → IsSpellable plan → HasFields plan → SpellsPlan text plan
+written_spells text plan is s f =
+    let w = written-for plan.both plan.tree in
+    record { spellable = s; fields = f; form = written_form plan.tree; told = w.told; lines = w.lines; asked = w.asked; is_text = is }
