@@ -7,6 +7,7 @@ use Rattle.link_steps.specs.Costs.{Carries}
 use Rattle.arc_restrict.specs.Restrictions.{Forbidden}
 use Rattle.proof_tree.specs.declared.tree.Evidence.{Evidence}
 use Rattle.proof_tree.specs.declared.tree.Evidence.TheVariants.{Bound, Routed, Overfull, Cut, Far, Crowd, Open}
+use Rattle.proof_tree.specs.Regions.{Region}
 use Rattle.proof_tree.specs.Bounds.{AreLeastPrices}
 use Rattle.proof_tree.specs.Evidence.{AreOnlyPaths, HasEvidence}
 use Rattle.verifier_paths.specs.OnlyPaths.{HavePaths}
@@ -17,26 +18,26 @@ use Rattle.cert_verifier.proofs.OnlyLoads.{only_need}
 use Rattle.cert_verifier.proofs.RuleLaws.{then_by-none, FindsOne, unless-one, then_by-one}
 
 -- where no rule is broken the leaf has its evidence
-pub leaf_found_none : (p : Parts) (cost : Option ℕ) (r : Forbidden) (index : ℕ) (evidence : Evidence) → LeafFinds p cost r index evidence None → HasEvidence p cost r evidence
+pub leaf_found_none : (p : Parts) (cost : Option ℕ) (g : Region) (index : ℕ) (evidence : Evidence) → LeafFinds p cost g index evidence None → HasEvidence p cost g evidence
 unfolding LeafFinds
-leaf_found_none p cost r index (Bound prices) h = unless-none _ _ (then_by-none (then_by-none h).1).1
-leaf_found_none p cost r index Routed h = unless-none _ _ (then_by-none (then_by-none (then_by-none (then_by-none h).1).1).1).1
-leaf_found_none p cost r index (Overfull link) h = unless-none _ _ (then_by-none (then_by-none (then_by-none h).1).1).1
-leaf_found_none p cost r index (Cut demand reached) h = unless-none _ _ (then_by-none (then_by-none (then_by-none h).1).1).1
-leaf_found_none p cost r index (Far demand) h = unless-none _ _ (then_by-none h).1
-leaf_found_none p cost r index (Crowd prices) h = unless-none _ _ (then_by-none (then_by-none (then_by-none h).1).1).1
-leaf_found_none p cost r index (Open prices) h = unless-none _ _ h
+leaf_found_none p cost g index (Bound prices) h = unless-none _ _ (then_by-none (then_by-none h).1).1
+leaf_found_none p cost g index Routed h = unless-none _ _ (then_by-none (then_by-none (then_by-none (then_by-none h).1).1).1).1
+leaf_found_none p cost g index (Overfull link) h = unless-none _ _ (then_by-none (then_by-none (then_by-none h).1).1).1
+leaf_found_none p cost g index (Cut demand reached) h = unless-none _ _ (then_by-none (then_by-none (then_by-none h).1).1).1
+leaf_found_none p cost g index (Far demand) h = unless-none _ _ (then_by-none h).1
+leaf_found_none p cost g index (Crowd prices) h = unless-none _ _ (then_by-none (then_by-none (then_by-none h).1).1).1
+leaf_found_none p cost g index (Open prices) h = unless-none _ _ h
 
 -- and the prices of an open leaf are within the limit
-pub leaf_found_none-open : (p : Parts) (cost : Option ℕ) (r : Forbidden) (index : ℕ) (evidence : Evidence) → LeafFinds p cost r index evidence None → IsOpenWithin p evidence
+pub leaf_found_none-open : (p : Parts) (cost : Option ℕ) (g : Region) (index : ℕ) (evidence : Evidence) → LeafFinds p cost g index evidence None → IsOpenWithin p evidence
 unfolding LeafFinds
-leaf_found_none-open p cost r index (Bound prices) h = tt
-leaf_found_none-open p cost r index Routed h = tt
-leaf_found_none-open p cost r index (Overfull link) h = tt
-leaf_found_none-open p cost r index (Cut demand reached) h = tt
-leaf_found_none-open p cost r index (Far demand) h = tt
-leaf_found_none-open p cost r index (Crowd prices) h = tt
-leaf_found_none-open p cost r index (Open prices) h = unless-none _ _ h
+leaf_found_none-open p cost g index (Bound prices) h = tt
+leaf_found_none-open p cost g index Routed h = tt
+leaf_found_none-open p cost g index (Overfull link) h = tt
+leaf_found_none-open p cost g index (Cut demand reached) h = tt
+leaf_found_none-open p cost g index (Far demand) h = tt
+leaf_found_none-open p cost g index (Crowd prices) h = tt
+leaf_found_none-open p cost g index (Open prices) h = unless-none _ _ h
 
 least_prices-paths : (p : Parts) (r : Forbidden) (prices : List ℕ) (least_prices : ℕ → ℕ) → AreLeastPrices p r prices least_prices → HavePaths p r
 least_prices-paths p r prices least_prices h k within = ((h k within).path, (h k within).permitted)
@@ -45,44 +46,44 @@ only-paths : (p : Parts) (r : Forbidden) (d : Design) → AreOnlyPaths p r d →
 only-paths p r d h k within = (_, (h k within).permitted)
 
 -- a leaf of a cost that has its evidence breaks no rule
-bound_rules : (p : Parts) (cost : Option ℕ) (r : Forbidden) (index : ℕ) (prices : List ℕ) → HasEvidence p cost r (Bound prices) → LeafFinds p cost r index (Bound prices) None
+bound_rules : (p : Parts) (cost : Option ℕ) (g : Region) (index : ℕ) (prices : List ℕ) → HasEvidence p cost g (Bound prices) → LeafFinds p cost g index (Bound prices) None
 unfolding LeafFinds
-bound_rules p None r index prices h = absurd h
-bound_rules p (Some c) r index prices h =
-    inr (inl (h.within_limit, refl), inr (inl (least_prices-paths p r prices _ h.is_bound.are_least, refl), inl (h, refl)))
+bound_rules p None g index prices h = absurd h
+bound_rules p (Some c) g index prices h =
+    inr (inl (h.within_limit, refl), inr (inl (least_prices-paths p g.forbidden prices _ h.is_bound.are_least, refl), inl (h, refl)))
 
-routed_rules : (p : Parts) (cost : Option ℕ) (r : Forbidden) (index : ℕ) → HasEvidence p cost r Routed → LeafFinds p cost r index Routed None
+routed_rules : (p : Parts) (cost : Option ℕ) (g : Region) (index : ℕ) → HasEvidence p cost g Routed → LeafFinds p cost g index Routed None
 unfolding LeafFinds
-routed_rules p None r index h = absurd h
-routed_rules p (Some c) r index h =
-    let carries : CanCarryAll p r = λ d only e within.
+routed_rules p None g index h = absurd h
+routed_rules p (Some c) g index h =
+    let carries : CanCarryAll p g.forbidden = λ d only e within.
     let least = (h.costs.are_costs e within).is_least in
-    (least.counts, subst (λ (load : ℕ). Carries p e load least.counts) (only_need p r h.costs.routing d e within h.costs.only only) least.carries) in
-    inr (inl (only-paths p r h.costs.routing h.costs.only, refl), inr (inl ((h.costs.routing, h.costs.only), refl), inr (inl (carries, refl), inr (inl (h.costs, refl), inl (h, refl)))))
+    (least.counts, subst (λ (load : ℕ). Carries p e load least.counts) (only_need p g.forbidden h.costs.routing d e within h.costs.only only) least.carries) in
+    inr (inl (only-paths p g.forbidden h.costs.routing h.costs.only, refl), inr (inl ((h.costs.routing, h.costs.only), refl), inr (inl (carries, refl), inr (inl (h.costs, refl), inl (h, refl)))))
 
 -- a demand of which each path is too long has a limit
 has_limit : (hops : Option ℕ) (Q : ℕ → Type 0) → IsSomeAnd hops Q → IsSome hops
 has_limit None Q h = absurd h
 has_limit (Some limit) Q h = refl
 
-pub leaf_finds_none : (p : Parts) (cost : Option ℕ) (r : Forbidden) (index : ℕ) (evidence : Evidence) → HasEvidence p cost r evidence → LeafFinds p cost r index evidence None
+pub leaf_finds_none : (p : Parts) (cost : Option ℕ) (g : Region) (index : ℕ) (evidence : Evidence) → HasEvidence p cost g evidence → LeafFinds p cost g index evidence None
 unfolding LeafFinds
-leaf_finds_none p cost r index (Bound prices) h = bound_rules p cost r index prices h
-leaf_finds_none p cost r index Routed h = routed_rules p cost r index h
-leaf_finds_none p cost r index (Overfull link) h =
-    inr (inl (h.is_link, refl), inr (inl (only-paths p r h.routing h.only, refl), inr (inl ((h.routing, h.only), refl), inl (h, refl))))
-leaf_finds_none p cost r index (Cut demand reached) h = inr (inl (h.demand, refl), inr (inl (h.source, refl), inr (inl (h.target, refl), inl (h, refl))))
-leaf_finds_none p cost r index (Far demand) h = inr (inl (record { demand = h.demand; limit = has_limit _ _ h.far }, refl), inl (h, refl))
-leaf_finds_none p cost r index (Crowd prices) h =
-    inr (inl (h.within_limit, refl), inr (inl (h.free, refl), inr (inl (least_prices-paths p r prices _ h.are_least, refl), inl (h, refl))))
-leaf_finds_none p cost r index (Open prices) h = inl (h, refl)
+leaf_finds_none p cost g index (Bound prices) h = bound_rules p cost g index prices h
+leaf_finds_none p cost g index Routed h = routed_rules p cost g index h
+leaf_finds_none p cost g index (Overfull link) h =
+    inr (inl (h.is_link, refl), inr (inl (only-paths p g.forbidden h.routing h.only, refl), inr (inl ((h.routing, h.only), refl), inl (h, refl))))
+leaf_finds_none p cost g index (Cut demand reached) h = inr (inl (h.demand, refl), inr (inl (h.source, refl), inr (inl (h.target, refl), inl (h, refl))))
+leaf_finds_none p cost g index (Far demand) h = inr (inl (record { demand = h.demand; limit = has_limit _ _ h.far }, refl), inl (h, refl))
+leaf_finds_none p cost g index (Crowd prices) h =
+    inr (inl (h.within_limit, refl), inr (inl (h.free, refl), inr (inl (least_prices-paths p g.forbidden prices _ h.are_least, refl), inl (h, refl))))
+leaf_finds_none p cost g index (Open prices) h = inl (h, refl)
 
-pub leaf_finds_one : (p : Parts) (cost : Option ℕ) (r : Forbidden) (index : ℕ) (evidence : Evidence) → FindsOne (LeafFinds p cost r index evidence)
+pub leaf_finds_one : (p : Parts) (cost : Option ℕ) (g : Region) (index : ℕ) (evidence : Evidence) → FindsOne (LeafFinds p cost g index evidence)
 unfolding LeafFinds
-leaf_finds_one p cost r index (Bound prices) = then_by-one _ _ (unless-one _ _) (then_by-one _ _ (unless-one _ _) (unless-one _ _))
-leaf_finds_one p cost r index Routed = then_by-one _ _ (unless-one _ _) (then_by-one _ _ (unless-one _ _) (then_by-one _ _ (unless-one _ _) (then_by-one _ _ (unless-one _ _) (unless-one _ _))))
-leaf_finds_one p cost r index (Overfull link) = then_by-one _ _ (unless-one _ _) (then_by-one _ _ (unless-one _ _) (then_by-one _ _ (unless-one _ _) (unless-one _ _)))
-leaf_finds_one p cost r index (Cut demand reached) = then_by-one _ _ (unless-one _ _) (then_by-one _ _ (unless-one _ _) (then_by-one _ _ (unless-one _ _) (unless-one _ _)))
-leaf_finds_one p cost r index (Far demand) = then_by-one _ _ (unless-one _ _) (unless-one _ _)
-leaf_finds_one p cost r index (Crowd prices) = then_by-one _ _ (unless-one _ _) (then_by-one _ _ (unless-one _ _) (then_by-one _ _ (unless-one _ _) (unless-one _ _)))
-leaf_finds_one p cost r index (Open prices) = unless-one _ _
+leaf_finds_one p cost g index (Bound prices) = then_by-one _ _ (unless-one _ _) (then_by-one _ _ (unless-one _ _) (unless-one _ _))
+leaf_finds_one p cost g index Routed = then_by-one _ _ (unless-one _ _) (then_by-one _ _ (unless-one _ _) (then_by-one _ _ (unless-one _ _) (then_by-one _ _ (unless-one _ _) (unless-one _ _))))
+leaf_finds_one p cost g index (Overfull link) = then_by-one _ _ (unless-one _ _) (then_by-one _ _ (unless-one _ _) (then_by-one _ _ (unless-one _ _) (unless-one _ _)))
+leaf_finds_one p cost g index (Cut demand reached) = then_by-one _ _ (unless-one _ _) (then_by-one _ _ (unless-one _ _) (then_by-one _ _ (unless-one _ _) (unless-one _ _)))
+leaf_finds_one p cost g index (Far demand) = then_by-one _ _ (unless-one _ _) (unless-one _ _)
+leaf_finds_one p cost g index (Crowd prices) = then_by-one _ _ (unless-one _ _) (then_by-one _ _ (unless-one _ _) (then_by-one _ _ (unless-one _ _) (unless-one _ _)))
+leaf_finds_one p cost g index (Open prices) = unless-one _ _

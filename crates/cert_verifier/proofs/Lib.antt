@@ -4,7 +4,7 @@ pub mod SplitLaws
 pub mod Terms
 pub mod PriceTotals
 pub mod BoundOfTotals
-pub mod Capacities
+pub mod Rooms
 pub mod CostTotals
 pub mod OnlyLoads
 pub mod RoutingLaws

@@ -10,11 +10,11 @@ use Rattle.plan_base.proofs.Bools.{or-false_both}
 use Rattle.plan_base.specs.declared.path.Design.{Design}
 use Rattle.plan_base.specs.DesignFaults.{design_fault}
 use Rattle.plan_base.proofs.DesignLaws.{IsGoodDesign-design_fault, design_fault-IsGoodDesign}
-use Rattle.arc_restrict.specs.Restrictions.{none_forbidden}
 use Rattle.proof_tree.specs.declared.tree.TreeNode.{TreeNode}
 use Rattle.proof_tree.specs.declared.plan.PlanStatus.{PlanStatus}
 use Rattle.proof_tree.specs.declared.plan.PlanStatus.TheVariants.{Optimal, Infeasible, Undecided}
 use Rattle.proof_tree.specs.declared.plan.Plan.{Plan}
+use Rattle.proof_tree.specs.Regions.{whole}
 use Rattle.proof_tree.specs.Plans.{is_open, needs_cost, IsStatedDesign, HasStatus, IsValidPlan}
 use Rattle.proof_tree.specs.Spellings.{IsSpellable, FitsStatus}
 use Rattle.cert_verifier.specs.declared.rejected.Rejected.{Rejected}
@@ -141,7 +141,7 @@ none_is_valid p plan spelled h =
     let d = then_by-none c.1 in
     let e = then_by-none d.0 in
     let f = then_by-none e.1 in
-    let tree = records_found_none p plan plan.tree (none_forbidden ∷ []) 0 spelled.whole c.0 in
+    let tree = records_found_none p plan plan.tree (whole p ∷ []) 0 spelled.whole c.0 in
     record {
       sizes = unless-none _ _ a.0;
       examined = unless-none _ _ f.0;
@@ -159,7 +159,7 @@ valid_is_none p plan h =
       inr (
         stated_finds_none p plan.design h.design,
         inr (
-          records_find_none p plan plan.tree (none_forbidden ∷ []) 0 h.tree (status-kinds p plan plan.status h.status),
+          records_find_none p plan plan.tree (whole p ∷ []) 0 h.tree (status-kinds p plan plan.status h.status),
           inr (
             inr (inl (status-open p plan plan.status h.status, refl), inr (inl (h.examined, refl), inl (status-budget p plan plan.status h.status, refl))),
             status-bound p plan plan.status h.status,
@@ -174,6 +174,6 @@ unfolding PlanFinds
 one_found p plan =
     then_by-one _ _ (unless-one _ _)
     (then_by-one _ _ (stated_finds_one p plan.design)
-    (then_by-one _ _ (records_find_one p plan plan.tree (none_forbidden ∷ []) 0)
+    (then_by-one _ _ (records_find_one p plan plan.tree (whole p ∷ []) 0)
     (then_by-one _ _ (then_by-one _ _ (unless-one _ _) (then_by-one _ _ (unless-one _ _) (unless-one _ _)))
     (bound_finds_one p plan plan.status))))

@@ -1,5 +1,5 @@
 -- Only paths, what they load, and what that costs.
-use Rattle.std.proofs.Common.{◌≡◌, ℕ, ◌<◌, ◌≤◌, max, List, length, slice_index, sym, ap, subst, ◌∙◌, arith}
+use Rattle.std.proofs.Common.{◌≡◌, ℕ, ◌<◌, ◌≤◌, inl, inr, max, List, length, slice_index, sym, ap, subst, ◌∙◌, arith}
 use Rattle.plan_base.specs.declared.ids.ArcId.{ArcId}
 use Rattle.plan_base.specs.declared.ids.LinkId.{LinkId}
 use Rattle.plan_base.specs.declared.parts.Parts.{Parts}
@@ -10,11 +10,13 @@ use Rattle.plan_base.specs.Designs.{path_at, load_at, need, KeepsLimit, KeepsLim
 use Rattle.plan_base.proofs.SumsBelow.{sum_below-same}
 use Rattle.plan_base.proofs.PlaceSums.{there-same, back-same}
 use Rattle.link_steps.specs.Costs.{Carries, CannotCarry, IsLeastModuleCost, IsStepCost}
+use Rattle.link_steps.specs.Ranges.{range_there, range_back, IsIn}
 use Rattle.arc_restrict.specs.Restrictions.{Forbidden}
+use Rattle.proof_tree.specs.Regions.{Region, AreInRange}
 use Rattle.proof_tree.specs.Evidence.{AreOnlyPaths, CostEnough, ClosedByOverfull}
 use Rattle.verifier_paths.specs.OnlyPaths.{HavePaths, HasSecond}
 use Rattle.cert_verifier.specs.LeafRules.{HaveOnlyPaths, CanCarryAll}
-use Rattle.cert_verifier.specs.Routings.{needed, IsCostOfLoads, HasOverfull}
+use Rattle.cert_verifier.specs.Routings.{needed, IsCostOfLoads, HasOverfull, AreLoadsInRange, IsOverfull}
 use Rattle.cert_verifier.proofs.OnlyLoads.{only_there, only_back, only_need}
 
 -- these loads are those of the design
@@ -89,15 +91,39 @@ pub only_limits : (p : Parts) (r : Forbidden) (d other : Design) → AreOnlyPath
 only_limits p r d other only only_other keeps k within =
     subst (λ (arcs : List ArcId). KeepsLimit (demand_at p k).hops (length arcs)) (sym ((only_other k within).only (path_at d k) (only k within).permitted)) (keeps k within)
 
-pub overfull_closes : (p : Parts) (r : Forbidden) (d : Design) (loads : List ℕ) (link : LinkId) → AreOnlyPaths p r d → AreLoadsOf p d loads → link.0 < length p.links → CannotCarry p link.0 (needed p loads link.0) → ClosedByOverfull p r link
-overfull_closes p r d loads link only are_loads within cannot =
+-- the loads of a link's places are in their ranges where those of the design are, and so the other way round
+in_range : (p : Parts) (g : Region) (d : Design) (loads : List ℕ) (e : ℕ) → e < length p.links → AreLoadsOf p d loads → AreInRange p g.ranges d e
+    → AreLoadsInRange p g.ranges loads e
+in_range p g d loads e within are_loads h =
+    (subst (λ (x : ℕ). IsIn (range_there p g.ranges e) x) (sym (there_is p d loads e within are_loads)) h.there, subst (λ (x : ℕ). IsIn (range_back p g.ranges e) x) (sym (back_is p d loads e within are_loads)) h.back)
+
+from_range : (p : Parts) (g : Region) (d : Design) (loads : List ℕ) (e : ℕ) → e < length p.links → AreLoadsOf p d loads
+    → AreLoadsInRange p g.ranges loads e → AreInRange p g.ranges d e
+from_range p g d loads e within are_loads h =
+    record { there = subst (λ (x : ℕ). IsIn (range_there p g.ranges e) x) (there_is p d loads e within are_loads) h.0; back = subst (λ (x : ℕ). IsIn (range_back p g.ranges e) x) (back_is p d loads e within are_loads) h.1 }
+
+-- another design of the only paths has the same loads, so they are in range too
+only_in_range : (p : Parts) (g : Region) (one other : Design) (e : ℕ) → e < length p.links → AreOnlyPaths p g.forbidden one → AreOnlyPaths p g.forbidden other → AreInRange p g.ranges one e → AreInRange p g.ranges other e
+only_in_range p g one other e within first second h = record {
+  there = subst (λ (x : ℕ). IsIn (range_there p g.ranges e) x) (only_there p g.forbidden one other e within first second) h.there;
+  back = subst (λ (x : ℕ). IsIn (range_back p g.ranges e) x) (only_back p g.forbidden one other e within first second) h.back;
+}
+
+pub overfull_closes : (p : Parts) (g : Region) (d : Design) (loads : List ℕ) (link : LinkId) → AreOnlyPaths p g.forbidden d → AreLoadsOf p d loads → link.0 < length p.links → IsOverfull p g.ranges loads link.0 → ClosedByOverfull p g link
+overfull_closes p g d loads link only are_loads within over =
     record {
       routing = d;
       only = only;
       is_link = within;
-      overfull = subst (λ (load : ℕ). CannotCarry p link.0 load) (need_is p d loads link.0 within are_loads) cannot;
+      overfull = elim over [
+        | inl cannot ↦ inl (subst (λ (load : ℕ). CannotCarry p link.0 load) (need_is p d loads link.0 within are_loads) cannot)
+        | inr outside ↦ inr (λ h. outside (in_range p g d loads link.0 within are_loads h))
+      ];
     }
 
-pub carried_stays : (p : Parts) (r : Forbidden) (d : Design) (loads : List ℕ) (link : LinkId) (cost : ℕ) → AreOnlyPaths p r d → AreLoadsOf p d loads → IsLeastModuleCost p link.0 (needed p loads link.0) cost → ClosedByOverfull p r link → ⊥
-carried_stays p r d loads link cost only are_loads least closed =
-    closed.overfull least.counts (subst (λ (load : ℕ). Carries p link.0 load least.counts) (need_is p d loads link.0 closed.is_link are_loads ∙ only_need p r d closed.routing link.0 closed.is_link only closed.only) least.carries)
+-- and what closes it shows in the loads of any only paths
+pub closed-overfull : (p : Parts) (g : Region) (d : Design) (loads : List ℕ) (link : LinkId) → AreOnlyPaths p g.forbidden d → AreLoadsOf p d loads → ClosedByOverfull p g link → IsOverfull p g.ranges loads link.0
+closed-overfull p g d loads link only are_loads closed = elim closed.overfull [
+  | inl cannot ↦ inl (subst (λ (load : ℕ). CannotCarry p link.0 load) (sym (need_is p d loads link.0 closed.is_link are_loads ∙ only_need p g.forbidden d closed.routing link.0 closed.is_link only closed.only)) cannot)
+  | inr outside ↦ inr (λ h. outside (only_in_range p g d closed.routing link.0 closed.is_link only closed.only (from_range p g d loads link.0 closed.is_link are_loads h)))
+]

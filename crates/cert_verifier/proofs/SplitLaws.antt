@@ -1,13 +1,17 @@
--- A split breaks no rule exactly where it is one of the restriction.
+-- A split breaks no rule exactly where it is one of the region.
 use Rattle.std.proofs.Common.{None, inl, inr, refl}
 use Rattle.plan_base.specs.declared.ids.NodeId.{NodeId}
 use Rattle.plan_base.specs.declared.ids.ArcId.{ArcId}
 use Rattle.plan_base.specs.declared.ids.DemandId.{DemandId}
 use Rattle.plan_base.specs.declared.parts.Parts.{Parts}
-use Rattle.std.specs.Prelude.{ℕ, List}
+use Rattle.plan_base.specs.Places.{places}
+use Rattle.std.specs.Prelude.{ℕ, ◌<◌, List}
+use Rattle.link_steps.specs.declared.range.LoadRange.{LoadRange}
+use Rattle.link_steps.specs.Ranges.{range_at}
 use Rattle.arc_restrict.specs.Restrictions.{Forbidden}
+use Rattle.proof_tree.specs.Regions.{IsLoadSplit}
 use Rattle.proof_tree.specs.Splits.{IsSplit}
-use Rattle.cert_verifier.specs.SplitRules.{SplitFinds, Exist, HaveArcs, Leave, AreApart, AreFree}
+use Rattle.cert_verifier.specs.SplitRules.{SplitFinds, Exist, HaveArcs, Leave, AreApart, AreFree, HasBothSides, LoadsFind}
 use Rattle.cert_verifier.proofs.FirstRules.{unless-none}
 use Rattle.cert_verifier.proofs.RuleLaws.{then_by-none, FindsOne, unless-one, then_by-one}
 
@@ -53,3 +57,19 @@ pub split_finds_one : (p : Parts) (r : Forbidden) (index : ℕ) (id : DemandId) 
 unfolding SplitFinds
 split_finds_one p r index id at left right =
     then_by-one _ _ (unless-one _ _) (then_by-one _ _ (unless-one _ _) (then_by-one _ _ (unless-one _ _) (then_by-one _ _ (unless-one _ _) (unless-one _ _))))
+
+pub loads_found_none : (p : Parts) (ranges : List LoadRange) (index place load : ℕ) → LoadsFind p ranges index place load None → IsLoadSplit p ranges place load
+unfolding LoadsFind
+loads_found_none p ranges index place load h =
+    let both = then_by-none h in
+    let exists : place < places p = unless-none _ _ both.0 in
+    let sides : HasBothSides (range_at ranges place) load = unless-none _ _ both.1 in
+    record { is_place = exists; some_left = sides.some_left; some_right = sides.some_right }
+
+pub loads_find_none : (p : Parts) (ranges : List LoadRange) (index place load : ℕ) → IsLoadSplit p ranges place load → LoadsFind p ranges index place load None
+unfolding LoadsFind
+loads_find_none p ranges index place load h = inr (inl (h.is_place, refl), inl (record { some_left = h.some_left; some_right = h.some_right }, refl))
+
+pub loads_find_one : (p : Parts) (ranges : List LoadRange) (index place load : ℕ) → FindsOne (LoadsFind p ranges index place load)
+unfolding LoadsFind
+loads_find_one p ranges index place load = then_by-one _ _ (unless-one _ _) (unless-one _ _)

@@ -1,5 +1,5 @@
 -- How the place moves: up from a child of a split, and on from a record to the next.
-use Rattle.std.proofs.Common.{◌≡◌, ℕ, ◌<◌, ◌*◌, ◌/◌, Bool, true, false, not, List, [], ◌∷◌, ◌++◌, length, reverse, get_or, Some, refl, sym, ap, subst, ◌∙◌, arith, All}
+use Rattle.std.proofs.Common.{◌≡◌, ℕ, ◌+◌, ◌*◌, ◌/◌, ◌<◌, Bool, true, false, List, [], ◌∷◌, ◌++◌, length, reverse, get_or, Some, refl, sym, ap, ap₂, subst, ◌∙◌, arith, All}
 use Rattle.std.specs.Prelude.{IsTrue, slice_get}
 use Rattle.std.proofs.lemmas.Bool.{ltb-true, and_parts}
 use Rattle.std.proofs.lemmas.List.{reverse-append}
@@ -10,15 +10,20 @@ use Rattle.plan_base.specs.declared.ids.ArcId.{ArcId}
 use Rattle.plan_base.specs.declared.ids.DemandId.{DemandId}
 use Rattle.plan_base.specs.declared.parts.Parts.{Parts}
 use Rattle.plan_base.specs.Arcs.{is_arc}
+use Rattle.plan_base.specs.Places.{places}
+use Rattle.link_steps.specs.declared.range.LoadRange.{LoadRange}
+use Rattle.link_steps.specs.Ranges.{range_at, ends_at, begins_at, with_range, AreRanges}
 use Rattle.arc_restrict.specs.Restrictions.{Forbidden, with_forbidden}
 use Rattle.proof_tree.specs.declared.tree.TreeNode.{TreeNode}
-use Rattle.proof_tree.specs.declared.tree.TreeNode.TheVariants.{Split, Leaf}
+use Rattle.proof_tree.specs.declared.tree.TreeNode.TheVariants.{Split, Loads, Leaf}
+use Rattle.proof_tree.specs.Regions.{Region, with_arcs, up_to, above}
 use Rattle.proof_tree.specs.Splits.{IsSplit, IsSide}
-use Rattle.verifier_paths.specs.Kept.{without_forbidden}
+use Rattle.proof_tree.specs.Trees.{children_at}
+use Rattle.proof_tree.proofs.RangeLaws.{AreRanges-up_to, AreRanges-above, with_range-back, with_range-twice}
+use Rattle.verifier_paths.specs.Kept.{Marks, forbidden_by, without_forbidden, HasRows}
 use Rattle.verifier_paths.proofs.MarkLaws.{undo_forbid}
 use Rattle.cert_verifier.specs.declared.walk.Turn.{Turn}
-use Rattle.cert_verifier.specs.RecordRules.{after_record}
-use Rattle.cert_verifier.specs.Walks.{side_of, left_after, IsPlace, StandsAt, AreLeft}
+use Rattle.cert_verifier.specs.Walks.{region_by, Splits, IsWithin, child_of, left_after, IsPlace, StandsAt, AreLeft}
 
 -- an arc that exists has a number below twice the count of links
 pub arc_within : (p : Parts) (a : ArcId) → IsTrue (is_arc p a) → a.0 < 2 * length p.links
@@ -36,120 +41,184 @@ side_within p r id at arcs side = All-weaker (λ a. IsTrue (is_arc p a)) (λ a. 
 pub split-within : (p : Parts) (r : Forbidden) (id : DemandId) (at : NodeId) (left right : List ArcId) → IsSplit p r id at left right → AreWithin p id left right
 split-within p r id at left right h = record { demand = h.demand; left_within = side_within p r id at left h.left_side; right_within = side_within p r id at right h.right_side }
 
--- where the record is a split, its numbers are within the instance
-abbrev pub IsSplitWithin : Parts → TreeNode → Type 0
-IsSplitWithin p (Split id at left right) = AreWithin p id left right
-IsSplitWithin p (Leaf evidence) = ⊥
+-- the numbers of a split are within the instance
+splits-within : (p : Parts) (parent : Region) (node : TreeNode) (range : LoadRange) → Splits p parent node range → IsWithin (length p.demands) (2 * length p.links) (places p) range node
+splits-within p parent (Split id at left right) range h = let within = split-within p parent.forbidden id at left right h in (within.demand, within.left_within, within.right_within)
+splits-within p parent (Loads place load) range h = (h.0.is_place, subst (λ (x : LoadRange). load < x.most) (sym h.1) h.0.some_right)
+splits-within p parent (Leaf evidence) range h = absurd h
+
+-- two children that are the same two
+both_same : (a b c d : Region) → (a ∷ b ∷ []) ≡ (c ∷ d ∷ []) → (a ≡ c) × (b ≡ d)
+both_same a b c d h = (cc, cc)
+
+-- what holds of both children holds of either
+either_child : (P : Region → Type 0) (is_right : Bool) (left right : Region) → P left → P right → P (child_of is_right left right)
+either_child P true left right l r = r
+either_child P false left right l r = l
+
+child-ranges : (p : Parts) (parent : Region) (node : TreeNode) (range : LoadRange) (is_right : Bool) (left right : Region) → Splits p parent node range → children_at parent node ≡ left ∷ right ∷ [] → AreRanges p parent.ranges → AreRanges p (child_of is_right left right).ranges
+child-ranges p parent (Split id at l r) range is_right left right splits children are =
+    let same = both_same (with_arcs parent id l) (with_arcs parent id r) left right children in
+    let P : Region → Type 0 = λ g. AreRanges p g.ranges in
+    either_child P is_right left right (subst P same.0 are) (subst P same.1 are)
+child-ranges p parent (Loads place load) range is_right left right splits children are =
+    let same = both_same (up_to parent place load) (above parent place load) left right children in
+    let P : Region → Type 0 = λ g. AreRanges p g.ranges in
+    either_child P is_right left right (subst P same.0 (AreRanges-up_to p parent place load splits.0 are)) (subst P same.1 (AreRanges-above p parent place load splits.0 are))
+child-ranges p parent (Leaf evidence) range is_right left right splits children are = absurd splits
+
+-- at each place of the tree ranges have loads
+pub place-ranges : (p : Parts) (nodes : List TreeNode) (turns : List Turn) (g : Region) (gs : List Region) → IsPlace p nodes turns g gs → AreRanges p g.ranges
+place-ranges p nodes [] g gs h = h.1
+place-ranges p nodes (turn ∷ turns) g gs h =
+    subst (λ (x : Region). AreRanges p x.ranges) (sym h.child)
+    (child-ranges p h.parent h.split turn.range turn.is_right h.left h.right h.splits h.children (place-ranges p nodes turns h.parent h.more h.above))
+
+pub stands-ranges : (p : Parts) (nodes : List TreeNode) (turns : List Turn) (g : Region) → StandsAt p nodes turns g → AreRanges p g.ranges
+stands-ranges p nodes turns g stands = place-ranges p nodes turns g stands.rest stands.is_place
 
 -- what is in equal options is equal
 pub some_same : {A : Type 0} (x y : A) → Some x ≡ Some y → x ≡ y
 some_same x y h = cc
 
 -- the record of the last turn is a split within the instance
-pub turn-split : (p : Parts) (nodes : List TreeNode) (turn : Turn) (turns : List Turn) (r : Forbidden) (node : TreeNode) → slice_get nodes turn.split ≡ Some node → StandsAt p nodes (turn ∷ turns) r → IsSplitWithin p node
-turn-split p nodes turn turns r node is stands =
+pub turn-within : (p : Parts) (nodes : List TreeNode) (turn : Turn) (turns : List Turn) (marks : Marks) (ranges : List LoadRange) (node : TreeNode) → slice_get nodes turn.split ≡ Some node → HasRows p marks
+    → StandsAt p nodes (turn ∷ turns) (region_by marks ranges) → IsWithin marks.demands marks.arcs (length ranges) turn.range node
+turn-within p nodes turn turns marks ranges node is rows stands =
     let h = stands.is_place in
-    subst (IsSplitWithin p) (some_same _ _ (sym h.is_record ∙ is)) (split-within p h.parent h.demand h.at h.left h.right h.is_split)
+    let are : AreRanges p ranges = stands-ranges p nodes (turn ∷ turns) (region_by marks ranges) stands in
+    let within = subst (IsWithin (length p.demands) (2 * length p.links) (places p) turn.range) (some_same _ _ (sym h.is_record ∙ is)) (splits-within p h.parent h.split turn.range h.splits) in
+    subst (λ (n : ℕ). IsWithin n marks.arcs (length ranges) turn.range node) (sym rows.demands)
+    (subst (λ (n : ℕ). IsWithin (length p.demands) n (length ranges) turn.range node) (sym rows.arcs)
+    (subst (λ (n : ℕ). IsWithin (length p.demands) (2 * length p.links) n turn.range node) (sym are.count) within))
 
 -- the record that the last turn reads is the one at its place
-pub turn-read : (p : Parts) (nodes read : List TreeNode) (turn : Turn) (turns : List Turn) (r : Forbidden) → StandsAt p nodes (turn ∷ turns) r → read ≡ nodes → (node : TreeNode) → node ≡ get_or read turn.split node → slice_get nodes turn.split ≡ Some node
-turn-read p nodes read turn turns r stands same node is =
+pub turn-read : (p : Parts) (nodes read : List TreeNode) (turn : Turn) (turns : List Turn) (g : Region) → StandsAt p nodes (turn ∷ turns) g → read ≡ nodes → (node : TreeNode) → node ≡ get_or read turn.split node → slice_get nodes turn.split ≡ Some node
+turn-read p nodes read turn turns g stands same node is =
     let h = stands.is_place in
-    let there : get_or nodes turn.split node ≡ Split h.demand h.at h.left h.right = get_or_from_slice_get nodes turn.split (Split h.demand h.at h.left h.right) node h.is_record in
+    let there : get_or nodes turn.split node ≡ h.split = get_or_from_slice_get nodes turn.split h.split node h.is_record in
     let here : node ≡ get_or nodes turn.split node = is ∙ ap (λ ns. get_or ns turn.split node) same in
     h.is_record ∙ ap (λ (x : TreeNode). Some x) (sym (here ∙ there))
 
--- the parts of the turn's split, where its record is known
-record IsChild (p : Parts) (nodes : List TreeNode) (turn : Turn) (turns : List Turn) (r : Forbidden) (rs : List Forbidden) (id : DemandId) (at : NodeId) (left right : List ArcId) : Type 0 where
-  parent : Forbidden
-  more : List Forbidden
-  is_split : IsSplit p parent id at left right
-  child : r ≡ with_forbidden parent id (side_of turn.is_right left right)
-  rest : rs ≡ left_after turn.is_right (with_forbidden parent id right) more
-  above : IsPlace p nodes turns parent more
-
-abbrev IsChildOf : Parts → List TreeNode → Turn → List Turn → Forbidden → List Forbidden → TreeNode → Type 0
-IsChildOf p nodes turn turns r rs (Split id at left right) = IsChild p nodes turn turns r rs id at left right
-IsChildOf p nodes turn turns r rs (Leaf evidence) = ⊥
-
-below-child : (p : Parts) (nodes : List TreeNode) (turn : Turn) (turns : List Turn) (r : Forbidden) (rs : List Forbidden) (node : TreeNode) → slice_get nodes turn.split ≡ Some node → IsPlace p nodes (turn ∷ turns) r rs → IsChildOf p nodes turn turns r rs node
-below-child p nodes turn turns r rs node is h =
-    subst (IsChildOf p nodes turn turns r rs) (some_same _ _ (sym h.is_record ∙ is))
-    (record { parent = h.parent; more = h.more; is_split = h.is_split; child = h.child; rest = h.rest; above = h.above })
-
 -- up from the right child to its split
-pub leave_right : (p : Parts) (nodes : List TreeNode) (turn : Turn) (turns : List Turn) (r : Forbidden) (rs : List Forbidden) (id : DemandId) (at : NodeId) (left right : List ArcId)
-    → slice_get nodes turn.split ≡ Some (Split id at left right) → turn.is_right ≡ true → IsPlace p nodes (turn ∷ turns) r rs → IsPlace p nodes turns (without_forbidden r id right) rs
-leave_right p nodes turn turns r rs id at left right is right_one h =
-    let c = below-child p nodes turn turns r rs (Split id at left right) is h in
-    let child : r ≡ with_forbidden c.parent id right = c.child ∙ ap (λ b. with_forbidden c.parent id (side_of b left right)) right_one in
-    let up : without_forbidden r id right ≡ c.parent = ap (λ (s : Forbidden). without_forbidden s id right) child ∙ undo_forbid c.parent id right c.is_split.right_side.permitted in
-    let rest : rs ≡ c.more = c.rest ∙ ap (λ b. left_after b (with_forbidden c.parent id right) c.more) right_one in
-    subst (λ s. IsPlace p nodes turns s rs) (sym up) (subst (λ more. IsPlace p nodes turns c.parent more) (sym rest) c.above)
+pub leave_right : (p : Parts) (nodes : List TreeNode) (turn : Turn) (turns : List Turn) (g g_after : Region) (gs : List Region) (node : TreeNode) → slice_get nodes turn.split ≡ Some node → turn.is_right ≡ true
+    → ((parent left : Region) → Splits p parent node turn.range → children_at parent node ≡ left ∷ g ∷ [] → g_after ≡ parent)
+    → IsPlace p nodes (turn ∷ turns) g gs → IsPlace p nodes turns g_after gs
+leave_right p nodes turn turns g g_after gs node is right_one up h =
+    let same : h.split ≡ node = some_same _ _ (sym h.is_record ∙ is) in
+    let child : g ≡ h.right = h.child ∙ ap (λ b. child_of b h.left h.right) right_one in
+    let rest : gs ≡ h.more = h.rest ∙ ap (λ b. left_after b h.right h.more) right_one in
+    let children : children_at h.parent node ≡ h.left ∷ g ∷ [] = ap (children_at h.parent) (sym same) ∙ h.children ∙ ap (λ x. h.left ∷ x ∷ []) (sym child) in
+    let to_parent : g_after ≡ h.parent = up h.parent h.left (subst (λ n. Splits p h.parent n turn.range) same h.splits) children in
+    subst (λ x. IsPlace p nodes turns x gs) (sym to_parent) (subst (IsPlace p nodes turns h.parent) (sym rest) h.above)
+
+-- the same turn, to the right child
+abbrev pub to_right : Turn → Turn
+to_right turn = record turn { is_right = true }
 
 -- from the left child into the right one
-pub leave_left : (p : Parts) (nodes : List TreeNode) (turn next : Turn) (turns : List Turn) (r : Forbidden) (rs : List Forbidden) (id : DemandId) (at : NodeId) (left right : List ArcId)
-    → slice_get nodes turn.split ≡ Some (Split id at left right) → turn.is_right ≡ false → next.split ≡ turn.split → next.is_right ≡ true → IsPlace p nodes (turn ∷ turns) r rs
-    → AreLeft p nodes (next ∷ turns) (with_forbidden (without_forbidden r id left) id right) rs
-leave_left p nodes turn next turns r rs id at left right is left_one same right_one h =
-    let c = below-child p nodes turn turns r rs (Split id at left right) is h in
-    let child : r ≡ with_forbidden c.parent id left = c.child ∙ ap (λ b. with_forbidden c.parent id (side_of b left right)) left_one in
-    let up : without_forbidden r id left ≡ c.parent = ap (λ (s : Forbidden). without_forbidden s id left) child ∙ undo_forbid c.parent id left c.is_split.left_side.permitted in
-    let new : with_forbidden (without_forbidden r id left) id right ≡ with_forbidden c.parent id right = ap (λ (s : Forbidden). with_forbidden s id right) up in
-    let rest : rs ≡ (with_forbidden c.parent id right ∷ c.more) = c.rest ∙ ap (λ b. left_after b (with_forbidden c.parent id right) c.more) left_one in
-    let below : IsPlace p nodes (next ∷ turns) (with_forbidden (without_forbidden r id left) id right) c.more = record {
-      demand = id;
-      at = at;
-      left = left;
-      right = right;
-      parent = c.parent;
-      more = c.more;
-      is_record = ap (slice_get nodes) same ∙ is;
-      is_split = c.is_split;
-      child = new ∙ ap (λ b. with_forbidden c.parent id (side_of b left right)) (sym right_one);
-      rest = ap (λ b. left_after b (with_forbidden c.parent id right) c.more) (sym right_one);
-      above = c.above;
+pub leave_left : (p : Parts) (nodes : List TreeNode) (turn : Turn) (turns : List Turn) (g g_after : Region) (gs : List Region) (node : TreeNode) → slice_get nodes turn.split ≡ Some node → turn.is_right ≡ false
+    → ((parent right : Region) → Splits p parent node turn.range → children_at parent node ≡ g ∷ right ∷ [] → g_after ≡ right)
+    → IsPlace p nodes (turn ∷ turns) g gs → AreLeft p nodes (to_right turn ∷ turns) g_after gs
+leave_left p nodes turn turns g g_after gs node is left_one over h =
+    let same : h.split ≡ node = some_same _ _ (sym h.is_record ∙ is) in
+    let child : g ≡ h.left = h.child ∙ ap (λ b. child_of b h.left h.right) left_one in
+    let rest : gs ≡ h.right ∷ h.more = h.rest ∙ ap (λ b. left_after b h.right h.more) left_one in
+    let children : children_at h.parent node ≡ g ∷ h.right ∷ [] = ap (children_at h.parent) (sym same) ∙ h.children ∙ ap (λ x. x ∷ h.right ∷ []) (sym child) in
+    let to_other : g_after ≡ h.right = over h.parent h.right (subst (λ n. Splits p h.parent n turn.range) same h.splits) children in
+    let below : IsPlace p nodes (to_right turn ∷ turns) g_after h.more = record {
+      split = h.split;
+      parent = h.parent;
+      left = h.left;
+      right = h.right;
+      more = h.more;
+      is_record = h.is_record;
+      splits = h.splits;
+      children = h.children;
+      child = to_other;
+      rest = refl;
+      above = h.above;
     } in
-    subst (AreLeft p nodes (next ∷ turns) (with_forbidden (without_forbidden r id left) id right)) (sym rest) (new, below)
+    subst (AreLeft p nodes (to_right turn ∷ turns) g_after) (sym rest) (to_other, below)
 
--- from a split into its left child
-pub enter_left : (p : Parts) (nodes : List TreeNode) (next : Turn) (turns : List Turn) (r : Forbidden) (rs : List Forbidden) (id : DemandId) (at : NodeId) (left right : List ArcId)
-    → slice_get nodes next.split ≡ Some (Split id at left right) → next.is_right ≡ false → IsSplit p r id at left right → IsPlace p nodes turns r rs
-    → IsPlace p nodes (next ∷ turns) (with_forbidden r id left) (with_forbidden r id right ∷ rs)
-enter_left p nodes next turns r rs id at left right is left_one split above = record {
-  demand = id;
-  at = at;
-  left = left;
-  right = right;
-  parent = r;
-  more = rs;
-  is_record = is;
-  is_split = split;
-  child = ap (λ b. with_forbidden r id (side_of b left right)) (sym left_one);
-  rest = ap (λ b. left_after b (with_forbidden r id right) rs) (sym left_one);
-  above = above;
-}
+-- where no turn is left, nothing is
+pub left_at_end : (p : Parts) (nodes : List TreeNode) (turns : List Turn) (g : Region) (gs : List Region) → turns ≡ [] → IsPlace p nodes turns g gs → AreLeft p nodes turns g gs
+left_at_end p nodes [] g gs none place = subst (AreLeft p nodes [] g) (sym place.0) refl
+left_at_end p nodes (turn ∷ turns) g gs none place = absurd (let bad : (turn ∷ turns) ≡ [] = none in cc)
 
 -- a turn that was put at the end is the last
 pub reverse_push : (turns : List Turn) (turn : Turn) → reverse (turns ++ turn ∷ []) ≡ turn ∷ reverse turns
 reverse_push turns turn = reverse-append turns (turn ∷ [])
 
--- what a test of a turn tells
-pub not_right : (b : Bool) → not b ≡ true → b ≡ false
-not_right true h = sym h
-not_right false h = refl
-
 -- a record that is read at a place is the one there
 pub record-is : (nodes read : List TreeNode) (i : ℕ) (here : TreeNode) → read ≡ nodes → here ≡ get_or read i here → (node : TreeNode) → slice_get nodes i ≡ Some node → here ≡ node
 record-is nodes read i here same is node found = is ∙ ap (λ ns. get_or ns i here) same ∙ get_or_from_slice_get nodes i node here found
 
--- a split of this place, of whose left child the marks and the turns are now
-pub entered : (p : Parts) (nodes : List TreeNode) (index : ℕ) (turns turns_after : List Turn) (r r_after : Forbidden) (rs : List Forbidden) (node : TreeNode) (id : DemandId) (at : NodeId) (left right : List ArcId)
-    → slice_get nodes index ≡ Some node → Split id at left right ≡ node → IsSplit p r id at left right → r_after ≡ with_forbidden r id left → turns_after ≡ turns ++ (record { split = index; is_right = false } ∷ [])
-    → IsPlace p nodes (reverse turns) r rs → AreLeft p nodes (reverse turns_after) r_after (after_record r node rs)
-entered p nodes index turns turns_after r r_after rs node id at left right found is split forbidden pushed place =
-    let next : Turn = record { split = index; is_right = false } in
-    let there = enter_left p nodes next (reverse turns) r rs id at left right (found ∙ ap (λ (x : TreeNode). Some x) (sym is)) refl split place in
+-- from a split of this place into its left child
+pub entered : (p : Parts) (nodes : List TreeNode) (index : ℕ) (turns turns_after : List Turn) (g g_after left right : Region) (gs : List Region) (node : TreeNode) (had : LoadRange)
+    → slice_get nodes index ≡ Some node → Splits p g node had → children_at g node ≡ left ∷ right ∷ [] → g_after ≡ left → turns_after ≡ turns ++ (record { split = index; is_right = false; range = had } ∷ [])
+    → IsPlace p nodes (reverse turns) g gs → AreLeft p nodes (reverse turns_after) g_after (children_at g node ++ gs)
+entered p nodes index turns turns_after g g_after left right gs node had found splits children to_left pushed place =
+    let next : Turn = record { split = index; is_right = false; range = had } in
     let last : reverse turns_after ≡ next ∷ reverse turns = ap (λ (ts : List Turn). reverse ts) pushed ∙ reverse_push turns next in
-    subst (λ n. AreLeft p nodes (reverse turns_after) r_after (after_record r n rs)) is
-    (forbidden, subst (λ ts. IsPlace p nodes ts r_after (with_forbidden r id right ∷ rs)) (sym last) (subst (λ s. IsPlace p nodes (next ∷ reverse turns) s (with_forbidden r id right ∷ rs)) (sym forbidden) there))
+    let below : IsPlace p nodes (next ∷ reverse turns) g_after (right ∷ gs) = record {
+      split = node;
+      parent = g;
+      left = left;
+      right = right;
+      more = gs;
+      is_record = found;
+      splits = splits;
+      children = children;
+      child = to_left;
+      rest = refl;
+      above = place;
+    } in
+    subst (λ (cs : List Region). AreLeft p nodes (reverse turns_after) g_after (cs ++ gs)) (sym children)
+    (to_left, subst (λ ts. IsPlace p nodes ts g_after (right ∷ gs)) (sym last) below)
+
+-- Marks and ranges of the regions.
+
+abbrev region : Forbidden → List LoadRange → Region
+region r ranges = record { forbidden = r; ranges = ranges }
+
+pub region-is : (g : Region) (marks : Marks) (ranges : List LoadRange) → forbidden_by marks ≡ g.forbidden → ranges ≡ g.ranges → region_by marks ranges ≡ g
+region-is g marks ranges one other = ap₂ region one other
+
+-- what the right child forbids is undone
+pub up_arcs : (p : Parts) (parent left : Region) (id : DemandId) (at : NodeId) (l r : List ArcId) (marks after : Marks) (ranges : List LoadRange) → IsSplit p parent.forbidden id at l r → children_at parent (Split id at l r) ≡ left ∷ region_by marks ranges ∷ []
+    → forbidden_by after ≡ without_forbidden (forbidden_by marks) id r → region_by after ranges ≡ parent
+up_arcs p parent left id at l r marks after ranges split children is =
+    let same = both_same (with_arcs parent id l) (with_arcs parent id r) left (region_by marks ranges) children in
+    let had : forbidden_by marks ≡ with_forbidden parent.forbidden id r = ap (λ (g : Region). g.forbidden) (sym same.1) in
+    let back : without_forbidden (forbidden_by marks) id r ≡ parent.forbidden = ap (λ (s : Forbidden). without_forbidden s id r) had ∙ undo_forbid parent.forbidden id r split.right_side.permitted in
+    region-is parent after ranges (is ∙ back) (ap (λ (g : Region). g.ranges) (sym same.1))
+
+-- what the left child forbids is undone, and the right arcs are forbidden
+pub over_arcs : (p : Parts) (parent right : Region) (id : DemandId) (at : NodeId) (l r : List ArcId) (marks after : Marks) (ranges : List LoadRange) → IsSplit p parent.forbidden id at l r → children_at parent (Split id at l r) ≡ region_by marks ranges ∷ right ∷ []
+    → forbidden_by after ≡ with_forbidden (without_forbidden (forbidden_by marks) id l) id r → region_by after ranges ≡ right
+over_arcs p parent right id at l r marks after ranges split children is =
+    let same = both_same (with_arcs parent id l) (with_arcs parent id r) (region_by marks ranges) right children in
+    let had : forbidden_by marks ≡ with_forbidden parent.forbidden id l = ap (λ (g : Region). g.forbidden) (sym same.0) in
+    let back : without_forbidden (forbidden_by marks) id l ≡ parent.forbidden = ap (λ (s : Forbidden). without_forbidden s id l) had ∙ undo_forbid parent.forbidden id l split.left_side.permitted in
+    region-is (with_arcs parent id r) after ranges (is ∙ ap (λ (s : Forbidden). with_forbidden s id r) back) (ap (λ (g : Region). g.ranges) (sym same.0)) ∙ same.1
+
+-- the place has the range again that it had
+pub up_loads : (parent left : Region) (place load : ℕ) (had : LoadRange) (marks : Marks) (ranges : List LoadRange) → had ≡ range_at parent.ranges place → children_at parent (Loads place load) ≡ left ∷ region_by marks ranges ∷ []
+    → region_by marks (with_range ranges place had) ≡ parent
+up_loads parent left place load had marks ranges is children =
+    let same = both_same (up_to parent place load) (above parent place load) left (region_by marks ranges) children in
+    let given : ranges ≡ with_range parent.ranges place (begins_at (range_at parent.ranges place) (load + 1)) = ap (λ (g : Region). g.ranges) (sym same.1) in
+    let back : with_range ranges place had ≡ parent.ranges = ap₂ (λ (rs : List LoadRange) (x : LoadRange). with_range rs place x) given is ∙ with_range-back parent.ranges place (begins_at (range_at parent.ranges place) (load + 1)) in
+    region-is parent marks (with_range ranges place had) (ap (λ (g : Region). g.forbidden) (sym same.1)) back
+
+-- the place has the loads of the range that are above
+pub over_loads : (parent right : Region) (place load : ℕ) (had : LoadRange) (marks : Marks) (ranges : List LoadRange) → had ≡ range_at parent.ranges place → children_at parent (Loads place load) ≡ region_by marks ranges ∷ right ∷ []
+    → region_by marks (with_range ranges place (begins_at had (load + 1))) ≡ right
+over_loads parent right place load had marks ranges is children =
+    let same = both_same (up_to parent place load) (above parent place load) (region_by marks ranges) right children in
+    let given : ranges ≡ with_range parent.ranges place (ends_at (range_at parent.ranges place) load) = ap (λ (g : Region). g.ranges) (sym same.0) in
+    let next : with_range ranges place (begins_at had (load + 1)) ≡ with_range parent.ranges place (begins_at (range_at parent.ranges place) (load + 1)) =
+    ap₂ (λ (rs : List LoadRange) (x : LoadRange). with_range rs place (begins_at x (load + 1))) given is
+    ∙ with_range-twice parent.ranges place (ends_at (range_at parent.ranges place) load) (begins_at (range_at parent.ranges place) (load + 1)) in
+    region-is (above parent place load) marks (with_range ranges place (begins_at had (load + 1))) (ap (λ (g : Region). g.forbidden) (sym same.0)) next ∙ same.1

@@ -19,7 +19,7 @@ IsOpenWithin p (Crowd prices) = ⊤
 
 -- the bound of an open leaf among these
 abbrev pub IsBoundIn : Parts → List LeafAt → ℤ → Type 0
-IsBoundIn p leaves bound = Any (λ leaf. IsOpenBound p leaf.restriction leaf.evidence bound) leaves
+IsBoundIn p leaves bound = Any (λ leaf. IsOpenBound p leaf.region leaf.evidence bound) leaves
 
 -- the least bound of the open leaves among these, or none where none has a bound
 abbrev pub IsLeastBoundIn : Parts → List LeafAt → Option ℤ → Type 0

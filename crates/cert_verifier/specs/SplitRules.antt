@@ -1,10 +1,13 @@
--- The rules of a split, in their order.
-use Rattle.std.specs.Prelude.{ℕ, ◌≡◌, ◌<◌, false, List, length, IsTrue, All, Option}
+-- The rules of the two kinds of split, in their order.
+use Rattle.std.specs.Prelude.{ℕ, ◌≡◌, ◌<◌, ◌≤◌, false, List, length, IsTrue, All, Option}
 use Rattle.plan_base.specs.declared.ids.NodeId.{NodeId}
 use Rattle.plan_base.specs.declared.ids.ArcId.{ArcId}
 use Rattle.plan_base.specs.declared.ids.DemandId.{DemandId}
 use Rattle.plan_base.specs.declared.parts.Parts.{Parts}
 use Rattle.plan_base.specs.Arcs.{is_arc, tail_of}
+use Rattle.plan_base.specs.Places.{places}
+use Rattle.link_steps.specs.declared.range.LoadRange.{LoadRange}
+use Rattle.link_steps.specs.Ranges.{range_at}
 use Rattle.arc_restrict.specs.Restrictions.{Forbidden, is_among}
 use Rattle.cert_verifier.specs.declared.rejected.Rejected.{Rejected}
 use Rattle.cert_verifier.specs.declared.rejected.Rejected.TheVariants.{Split}
@@ -42,3 +45,15 @@ SplitFinds p r index id at left right =
     then_by unless (Leave p at left × Leave p at right) (Split index 3)
     then_by unless (AreApart left right) (Split index 4)
     then_by unless (AreFree r id left × AreFree r id right) (Split index 5)
+
+-- the range has loads up to this one, and loads above it
+pub record HasBothSides (range : LoadRange) (load : ℕ) : Type 0 where
+  pub some_left : range.least ≤ load
+  pub some_right : load < range.most
+
+-- the first rule that the split of a place's loads of a record of this index breaks: 1 the place exists, 2 its range has
+-- loads up to the load, and loads above it
+unfoldable pub LoadsFind : Parts → List LoadRange → ℕ → ℕ → ℕ → Option Rejected → Type 0
+LoadsFind p ranges index place load =
+    unless (place < places p) (Split index 1)
+    then_by unless (HasBothSides (range_at ranges place) load) (Split index 2)

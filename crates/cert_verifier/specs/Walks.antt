@@ -1,61 +1,72 @@
--- Where a walk over the records stands: the splits above the place, and the restrictions that are left to be answered.
-use Rattle.std.specs.Prelude.{◌≡◌, Bool, true, false, List, [], ◌∷◌, slice_get, Some}
-use Rattle.plan_base.specs.declared.ids.NodeId.{NodeId}
-use Rattle.plan_base.specs.declared.ids.ArcId.{ArcId}
-use Rattle.plan_base.specs.declared.ids.DemandId.{DemandId}
+-- Where a walk over the records stands: the splits above the place, and the regions that are left to be answered.
+use Rattle.std.specs.Prelude.{ℕ, ◌≡◌, ◌<◌, Bool, true, false, List, [], ◌∷◌, slice_get, Some, All}
 use Rattle.plan_base.specs.declared.parts.Parts.{Parts}
-use Rattle.arc_restrict.specs.Restrictions.{Forbidden, with_forbidden}
+use Rattle.link_steps.specs.declared.range.LoadRange.{LoadRange}
+use Rattle.link_steps.specs.Ranges.{range_at, AreRanges}
 use Rattle.proof_tree.specs.declared.tree.TreeNode.{TreeNode}
-use Rattle.proof_tree.specs.declared.tree.TreeNode.TheVariants.{Split, Leaf}
+use Rattle.proof_tree.specs.declared.tree.TreeNode.TheVariants.{Split, Loads, Leaf}
+use Rattle.proof_tree.specs.Regions.{Region, IsLoadSplit}
 use Rattle.proof_tree.specs.Splits.{IsSplit}
-use Rattle.proof_tree.specs.Trees.{LeafAt}
+use Rattle.proof_tree.specs.Trees.{children_at}
+use Rattle.verifier_paths.specs.Kept.{Marks, forbidden_by}
 use Rattle.cert_verifier.specs.declared.walk.Turn.{Turn}
 
--- what a child of a split forbids: the right one the right arcs, and the left one the left arcs
-abbrev pub side_of : Bool → List ArcId → List ArcId → List ArcId
-side_of true left right = right
-side_of false left right = left
+-- the region of these marks and these ranges
+abbrev pub region_by : Marks → List LoadRange → Region
+region_by marks ranges = record { forbidden = forbidden_by marks; ranges = ranges }
+
+-- the record is a split of the region, and the range is what the place had there whose loads it splits
+abbrev pub Splits : Parts → Region → TreeNode → LoadRange → Type 0
+Splits p g (Split demand at left right) range = IsSplit p g.forbidden demand at left right
+Splits p g (Loads place load) range = IsLoadSplit p g.ranges place load × (range ≡ range_at g.ranges place)
+Splits p g (Leaf evidence) range = ⊥
+
+-- the record is a split whose demand, arcs or place are among so many; the range has loads above that of a split of loads
+abbrev pub IsWithin : ℕ → ℕ → ℕ → LoadRange → TreeNode → Type 0
+IsWithin demands arcs places range (Split demand at left right) = (demand.0 < demands) × All (λ a. a.0 < arcs) left × All (λ a. a.0 < arcs) right
+IsWithin demands arcs places range (Loads place load) = (place < places) × (load < range.most)
+IsWithin demands arcs places range (Leaf evidence) = ⊥
+
+-- the right child of a split, or the left one
+abbrev pub child_of : Bool → Region → Region → Region
+child_of true left right = right
+child_of false left right = left
 
 -- what is left to be answered after a child: after the left one, the right one comes first
-abbrev pub left_after : Bool → Forbidden → List Forbidden → List Forbidden
-left_after true sibling rs = rs
-left_after false sibling rs = sibling ∷ rs
+abbrev pub left_after : Bool → Region → List Region → List Region
+left_after true right gs = gs
+left_after false right gs = right ∷ gs
 
--- the place is in this child of a split of the records, whose own restriction is one of which more is left
-pub record IsBelow (p : Parts) (nodes : List TreeNode) (turn : Turn) (upper : Forbidden → List Forbidden → Type 0) (r : Forbidden) (rs : List Forbidden) : Type 0 where
-  pub demand : DemandId
-  pub at : NodeId
-  pub left : List ArcId
-  pub right : List ArcId
-  pub parent : Forbidden
-  pub more : List Forbidden
-  pub is_record : slice_get nodes turn.split ≡ Some (Split demand at left right)
-  pub is_split : IsSplit p parent demand at left right
-  pub child : r ≡ with_forbidden parent demand (side_of turn.is_right left right)
-  pub rest : rs ≡ left_after turn.is_right (with_forbidden parent demand right) more
+-- the place is in this child of a split of the records, whose own region is one of which more is left
+pub record IsBelow (p : Parts) (nodes : List TreeNode) (turn : Turn) (upper : Region → List Region → Type 0) (g : Region) (gs : List Region) : Type 0 where
+  pub split : TreeNode
+  pub parent : Region
+  pub left : Region
+  pub right : Region
+  pub more : List Region
+  pub is_record : slice_get nodes turn.split ≡ Some split
+  pub splits : Splits p parent split turn.range
+  pub children : children_at parent split ≡ left ∷ right ∷ []
+  pub child : g ≡ child_of turn.is_right left right
+  pub rest : gs ≡ left_after turn.is_right right more
   pub above : upper parent more
 
--- below these turns, the last of them first, a place with this restriction leaves these restrictions to be answered
-abbrev pub IsPlace : Parts → List TreeNode → List Turn → Forbidden → List Forbidden → Type 0
-IsPlace p nodes [] r rs = rs ≡ []
-IsPlace p nodes (turn ∷ turns) r rs = IsBelow p nodes turn (IsPlace p nodes turns) r rs
+-- below these turns, the last of them first, a place with this region leaves these regions to be answered
+abbrev pub IsPlace : Parts → List TreeNode → List Turn → Region → List Region → Type 0
+IsPlace p nodes [] g gs = (gs ≡ []) × AreRanges p g.ranges
+IsPlace p nodes (turn ∷ turns) g gs = IsBelow p nodes turn (IsPlace p nodes turns) g gs
 
--- some restrictions are left to be answered after the place
-pub record StandsAt (p : Parts) (nodes : List TreeNode) (turns : List Turn) (r : Forbidden) : Type 0 where
-  pub rest : List Forbidden
-  pub is_place : IsPlace p nodes turns r rest
+-- some regions are left to be answered after the place
+pub record StandsAt (p : Parts) (nodes : List TreeNode) (turns : List Turn) (g : Region) : Type 0 where
+  pub rest : List Region
+  pub is_place : IsPlace p nodes turns g rest
 
--- the restrictions that are left to be answered: the place has the first of them, and where there are none the tree has ended
-abbrev pub AreLeft : Parts → List TreeNode → List Turn → Forbidden → List Forbidden → Type 0
-AreLeft p nodes turns r [] = turns ≡ []
-AreLeft p nodes turns r (next ∷ rs) = (r ≡ next) × IsPlace p nodes turns r rs
-
--- the leaf of a record at this restriction, where it is one
-abbrev pub leaf_here : Forbidden → TreeNode → List LeafAt
-leaf_here r (Leaf evidence) = record { restriction = r; evidence = evidence } ∷ []
-leaf_here r (Split demand at left right) = []
+-- the regions that are left to be answered: the place has the first of them, and where there are none the tree has ended
+abbrev pub AreLeft : Parts → List TreeNode → List Turn → Region → List Region → Type 0
+AreLeft p nodes turns g [] = turns ≡ []
+AreLeft p nodes turns g (next ∷ gs) = (g ≡ next) × IsPlace p nodes turns g gs
 
 -- up from a child: there, at the next record, or not there yet, at the split
-abbrev pub IsAfter : Bool → Parts → List TreeNode → List Turn → Forbidden → List Forbidden → Type 0
-IsAfter true p nodes turns r rs = AreLeft p nodes turns r rs
-IsAfter false p nodes turns r rs = IsPlace p nodes turns r rs
+abbrev pub IsAfter : Bool → Parts → List TreeNode → List Turn → Region → List Region → Type 0
+IsAfter true p nodes turns g gs = AreLeft p nodes turns g gs
+IsAfter false p nodes turns g gs = IsPlace p nodes turns g gs

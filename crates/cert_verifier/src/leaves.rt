@@ -1,15 +1,17 @@
 //! The rules of each kind of leaf.
 
-ghost use Rattle.std.specs.Prelude.{◌≡◌, ◌<◌, ◌≤◌, ◌+◌, ◌-◌, ◌*◌, ◌↔◌, ℕ, max, Some, None, IsTrue, IsFalse, ℤ, pos, ◌≤ℤ◌, length, slice_index, IfOk, IfSome, IfNone, IsSomeAnd, MatchOption, ⊤};
+ghost use Rattle.std.specs.Prelude.{◌≡◌, ◌<◌, ◌≤◌, ◌+◌, ◌-◌, ◌*◌, ◌↔◌, ℕ, max, Some, None, IsTrue, IsFalse, ℤ, pos, ◌+ℤ◌, ◌<ℤ◌, false, length, slice_index, IfOk, IfSome, IfNone, IsSomeAnd, MatchOption, ⊤};
 ghost use Rattle.std.specs.Result.{result_err};
 ghost use Rattle.link_steps.specs.Costs.{CannotCarry, IsStepCost};
-ghost use Rattle.plan_base.specs.Facts.{total_load};
-ghost use Rattle.plan_base.specs.Arcs.{demand_at};
-ghost use Rattle.plan_base.specs.Places.{places};
+ghost use Rattle.link_steps.specs.Ranges.{IsIn, AreRanges};
+ghost use Rattle.link_steps.specs.Unit.{IsUnit};
+ghost use Rattle.plan_base.specs.Facts.{is_useful, total_load};
+ghost use Rattle.plan_base.specs.Arcs.{demand_at, link_at};
+ghost use Rattle.plan_base.specs.Places.{places, link_of_place};
 ghost use Rattle.plan_base.specs.Paths.{IsSimplePath};
 ghost use Rattle.plan_base.specs.Designs.{load_at, KeepsLimits};
 ghost use Rattle.proof_tree.specs.declared.tree.Evidence.TheVariants as kind;
-ghost use Rattle.proof_tree.specs.Evidence.{holds};
+ghost use Rattle.proof_tree.specs.Evidence.{holds, is_cut_short};
 ghost use Rattle.proof_tree.specs.Plans.{IsOpenBound};
 ghost use Rattle.proof_tree.specs.Spellings.{FitsEvidence};
 ghost use Rattle.verifier_paths.specs.Kept.{forbidden_by};
@@ -17,14 +19,15 @@ ghost use Rattle.verifier_paths.specs.OnlyPaths.{path_in};
 ghost use Rattle.cert_verifier.specs.declared.rejected.Rejected.TheVariants.{Leaf};
 ghost use Rattle.cert_verifier.specs.Told.{Tells};
 ghost use Rattle.cert_verifier.specs.Leaving.{leads_out, IsNoWayOut};
-ghost use Rattle.cert_verifier.specs.Routings.{design_of, IsCostOfLoads, HasOverfull};
+ghost use Rattle.cert_verifier.specs.Routings.{design_of, needed, IsCostOfLoads, HasOverfull, AreIn, AreLoadsInRange};
 ghost use Rattle.cert_verifier.specs.Bounds.{IsOpenWithin};
 ghost use Rattle.cert_verifier.specs.LeafRules.{HasLimit, AreFreeOnUseful, LeafFinds};
+ghost use Rattle.cert_verifier.specs.Walks.{region_by};
 
-use crate::bounds::{bound_at, is_crowded, is_enough, price_total};
+use crate::bounds::{bound_at, is_crowded, is_cut_short, is_enough, price_total};
 use crate::rejected::Rejected;
-use link_steps::StepTable;
 use link_steps::limits::MAX_STEPS;
+use link_steps::{LinkRanges, LoadRange, Ranges, StepTable};
 use plan_base::limits::{MAX_PLACES, MAX_ROUTING_COST, MODULE_COST_BOUND};
 use plan_base::{
     ArcId, DemandId, Design, Instance, Items, LinkId, LinkLoads, NodeId, Path, Prices, loads_of,
@@ -33,12 +36,15 @@ use proof_tree::Evidence;
 use std::alloc::{AllocError, Global};
 use verifier_paths::{Forbidden, OnlyPaths, fewest_arcs, only_paths};
 
-/// Where a leaf stands: the restriction there, and the index of its record.
+/// Where a leaf stands: the region there, and the index of its record.
 #[derive(Clone, Copy)]
 pub(crate) struct Place<'a> {
     pub(crate) inst: &'a Instance,
     pub(crate) table: &'a StepTable,
     pub(crate) forbidden: &'a Forbidden,
+    pub(crate) ranges: &'a Ranges,
+    /// The unit of costs, in cost grains.
+    pub(crate) unit: u128,
     /// The cost that the plan states for its design, in cost grains.
     pub(crate) cost: Option<u128>,
     pub(crate) index: u32,
@@ -59,12 +65,12 @@ fn holds_or(holds: bool, index: u32, rule: u8) -> Result<(), Rejected>
     if holds { Ok(()) } else { broken(index, rule) }
 }
 
-/// Whether there is a cost, and the bound is at least that.
-fn is_above(bound: i128, cost: Option<u128>) -> bool
-    ensures { IsTrue result ↔ IsSomeAnd cost (λ c. pos c ≤ℤ bound) }
+/// Whether there is a cost, and the bound is above that less the unit.
+fn is_above(bound: i128, cost: Option<u128>, unit: u128) -> bool
+    ensures { IsTrue result ↔ IsSomeAnd cost (λ c. pos c <ℤ (bound +ℤ pos unit)) }
 {
     match cost {
-        Some(cost) => is_enough(bound, cost),
+        Some(cost) => is_enough(bound, cost, unit),
         None => false,
     }
 }
@@ -72,14 +78,16 @@ fn is_above(bound: i128, cost: Option<u128>) -> bool
 /// The rules of a leaf that is closed by its bound.
 fn check_bound(alloc: Global, at: &Place, prices: &Prices) -> Result<(), Rejected>
     requires table { at.now.table.now ≡ at.now.inst.now }
+    requires ranges { AreRanges at.now.inst.now at.now.ranges.now }
+    requires unit { IsUnit at.now.inst.now at.now.unit }
     requires count { length prices.now ≡ places at.now.inst.now }
-    ensures { Tells (LeafFinds at.now.inst.now at.now.cost (forbidden_by at.now.forbidden.now) at.now.index (kind.Bound prices.now)) (result_err result) }
+    ensures { Tells (LeafFinds at.now.inst.now at.now.cost (region_by at.now.forbidden.now at.now.ranges.now) at.now.index (kind.Bound prices.now)) (result_err result) }
 {
     if !prices.fits(at.inst) {
         return broken(at.index, 1);
     }
-    match bound_at(alloc, at.inst, at.table, at.forbidden, prices)? {
-        Some(bound) => holds_or(is_above(bound, at.cost), at.index, 3),
+    match bound_at(alloc, at.inst, at.table, at.forbidden, at.ranges, prices)? {
+        Some(bound) => holds_or(is_above(bound, at.cost, at.unit), at.index, 3),
         None => broken(at.index, 2),
     }
 }
@@ -174,7 +182,7 @@ fn routing_or(enough: bool, within: bool, index: u32) -> Result<(), Rejected>
 /// The rules of a leaf that is closed by its routing.
 fn check_routed(alloc: Global, at: &Place) -> Result<(), Rejected>
     requires table { at.now.table.now ≡ at.now.inst.now }
-    ensures { Tells (LeafFinds at.now.inst.now at.now.cost (forbidden_by at.now.forbidden.now) at.now.index kind.Routed) (result_err result) }
+    ensures { Tells (LeafFinds at.now.inst.now at.now.cost (region_by at.now.forbidden.now at.now.ranges.now) at.now.index kind.Routed) (result_err result) }
 {
     at.inst.lawful();
     match only_paths(alloc, at.inst, at.forbidden)? {
@@ -191,10 +199,51 @@ fn check_routed(alloc: Global, at: &Place) -> Result<(), Rejected>
     }
 }
 
-/// The rules of a leaf that is closed by a link that cannot carry what it needs.
+/// Whether the link cannot carry the larger load of its places.
+fn cannot_carry(at: &Place, link: LinkId, loads: &[u128; MAX_PLACES]) -> bool
+    requires table { at.now.table.now ≡ at.now.inst.now }
+    requires link { link.0 < length at.now.inst.now.links }
+    requires loads { (q : ℕ) → q < MAX_PLACES → slice_index loads.now q ≤ total_load at.now.inst.now }
+    ensures { IsTrue result ↔ CannotCarry at.now.inst.now link.0 (needed at.now.inst.now loads.now link.0) }
+{
+    at.inst.lawful();
+    let carried = LinkLoads::of_link(at.inst, loads, link);
+    match cost_of_link(at.inst, at.table, link, carried) {
+        Some(_) => false,
+        None => true,
+    }
+}
+
+/// Whether the load, in load grains, is in the range.
+fn is_in(range: LoadRange, load: u128) -> bool
+    ensures { IsTrue result ↔ IsIn range load }
+{
+    u128::from(range.least) <= load && load <= u128::from(range.most)
+}
+
+/// Whether the loads of a link's places are in their ranges.
+fn are_in(ranges: LinkRanges, loads: LinkLoads) -> bool
+    ensures { IsTrue result ↔ AreIn ranges loads.there loads.back }
+{
+    is_in(ranges.there, loads.there) && is_in(ranges.back, loads.back)
+}
+
+/// Whether the loads of the link's places are in their ranges at the leaf.
+fn are_in_range(at: &Place, link: LinkId, loads: &[u128; MAX_PLACES]) -> bool
+    requires ranges { length at.now.ranges.now ≡ places at.now.inst.now }
+    requires link { link.0 < length at.now.inst.now.links }
+    ensures { IsTrue result ↔ AreLoadsInRange at.now.inst.now at.now.ranges.now loads.now link.0 }
+{
+    let ranges = at.ranges.of_link(at.inst, link);
+    let carried = LinkLoads::of_link(at.inst, loads, link);
+    are_in(ranges, carried)
+}
+
+/// The rules of a leaf that is closed by a link that cannot carry what it needs, or has a load outside its range.
 fn check_overfull(alloc: Global, at: &Place, link: LinkId) -> Result<(), Rejected>
     requires table { at.now.table.now ≡ at.now.inst.now }
-    ensures { Tells (LeafFinds at.now.inst.now at.now.cost (forbidden_by at.now.forbidden.now) at.now.index (kind.Overfull link)) (result_err result) }
+    requires ranges { AreRanges at.now.inst.now at.now.ranges.now }
+    ensures { Tells (LeafFinds at.now.inst.now at.now.cost (region_by at.now.forbidden.now at.now.ranges.now) at.now.index (kind.Overfull link)) (result_err result) }
 {
     if link.0 >= at.inst.links() {
         return broken(at.index, 1);
@@ -204,11 +253,10 @@ fn check_overfull(alloc: Global, at: &Place, link: LinkId) -> Result<(), Rejecte
         OnlyPaths::Second => broken(at.index, 3),
         OnlyPaths::Only(paths) => {
             let loads = loads_of_paths(alloc, at.inst, paths);
-            let needed = LinkLoads::of_link(at.inst, &loads, link);
-            match cost_of_link(at.inst, at.table, link, needed) {
-                Some(_) => broken(at.index, 4),
-                None => Ok(()),
+            if !are_in_range(at, link, &loads) {
+                return Ok(());
             }
+            holds_or(cannot_carry(at, link, &loads), at.index, 4)
         }
     }
 }
@@ -245,7 +293,7 @@ fn is_closed(at: &Place, demand: DemandId, reached: &[bool]) -> bool
 /// The rules of a leaf that is closed by a cut.
 #[tactic(auto, using(crate::proofs::LeafFindings::cut_findings))]
 fn check_cut(at: &Place, demand: DemandId, reached: &[bool]) -> Result<(), Rejected>
-    ensures { LeafFinds at.now.inst.now at.now.cost (forbidden_by at.now.forbidden.now) at.now.index (kind.Cut demand reached.now) (result_err result) }
+    ensures { LeafFinds at.now.inst.now at.now.cost (region_by at.now.forbidden.now at.now.ranges.now) at.now.index (kind.Cut demand reached.now) (result_err result) }
 {
     if demand.0 >= at.inst.demands() {
         return broken(at.index, 1);
@@ -286,7 +334,7 @@ fn is_past(fewest: Option<u128>, limit: u64) -> bool
 
 /// The rules of a leaf where no path of a demand keeps its limit.
 fn check_far(alloc: Global, at: &Place, demand: DemandId) -> Result<(), Rejected>
-    ensures { Tells (LeafFinds at.now.inst.now at.now.cost (forbidden_by at.now.forbidden.now) at.now.index (kind.Far demand)) (result_err result) }
+    ensures { Tells (LeafFinds at.now.inst.now at.now.cost (region_by at.now.forbidden.now at.now.ranges.now) at.now.index (kind.Far demand)) (result_err result) }
 {
     let Some(limit) = limit_of(at.inst, demand) else {
         return broken(at.index, 1);
@@ -295,13 +343,23 @@ fn check_far(alloc: Global, at: &Place, demand: DemandId) -> Result<(), Rejected
     holds_or(is_past(fewest, limit), at.index, 2)
 }
 
-/// Whether the prices of the places of useful links are 0.
-fn are_free_on_useful(inst: &Instance, prices: &[u128]) -> bool
+/// Whether the place is one of a useful link, and its range ends at the top load.
+fn is_unlimited(inst: &Instance, ranges: &Ranges, place: u32) -> bool
+    requires ranges { length ranges.now ≡ places inst.now }
+    requires place { place < places inst.now }
+    ensures { IsTrue result ↔ (IsTrue (is_useful (link_at inst.now (link_of_place inst.now place))) × (is_cut_short inst.now ranges.now place ≡ false)) }
+{
+    inst.useful(inst.link_of_place(place)) && !is_cut_short(inst, ranges, place)
+}
+
+/// Whether the prices of the places of useful links are 0 where their ranges end at the top load.
+fn are_free_on_useful(inst: &Instance, ranges: &Ranges, prices: &[u128]) -> bool
+    requires ranges { length ranges.now ≡ places inst.now }
     requires count { length prices.now ≡ places inst.now }
-    ensures { IsTrue result ↔ AreFreeOnUseful inst.now prices.now }
+    ensures { IsTrue result ↔ AreFreeOnUseful inst.now ranges.now prices.now }
 {
     for place in 0..inst.places() {
-        if inst.useful(inst.link_of_place(place)) && prices[place as usize] > 0 {
+        if is_unlimited(inst, ranges, place) && prices[place as usize] > 0 {
             return false;
         }
     }
@@ -310,18 +368,23 @@ fn are_free_on_useful(inst: &Instance, prices: &[u128]) -> bool
 
 /// The rules of a leaf that is closed by a crowd.
 fn check_crowd(alloc: Global, at: &Place, prices: &Prices) -> Result<(), Rejected>
+    requires ranges { length at.now.ranges.now ≡ places at.now.inst.now }
     requires count { length prices.now ≡ places at.now.inst.now }
-    ensures { Tells (LeafFinds at.now.inst.now at.now.cost (forbidden_by at.now.forbidden.now) at.now.index (kind.Crowd prices.now)) (result_err result) }
+    ensures { Tells (LeafFinds at.now.inst.now at.now.cost (region_by at.now.forbidden.now at.now.ranges.now) at.now.index (kind.Crowd prices.now)) (result_err result) }
 {
     if !prices.fits(at.inst) {
         return broken(at.index, 1);
     }
     let numerators = prices.as_slice();
-    if !are_free_on_useful(at.inst, numerators) {
+    if !are_free_on_useful(at.inst, at.ranges, numerators) {
         return broken(at.index, 2);
     }
     match price_total(alloc, at.inst, at.forbidden, numerators)? {
-        Some(total) => holds_or(is_crowded(at.inst, numerators, total), at.index, 4),
+        Some(total) => holds_or(
+            is_crowded(at.inst, at.ranges, numerators, total),
+            at.index,
+            4,
+        ),
         None => broken(at.index, 3),
     }
 }
@@ -330,7 +393,7 @@ fn check_crowd(alloc: Global, at: &Place, prices: &Prices) -> Result<(), Rejecte
 #[tactic(auto, using(crate::proofs::LeafFindings::open_findings))]
 fn check_open(at: &Place, prices: &Prices) -> Result<(), Rejected>
     requires count { length prices.now ≡ places at.now.inst.now }
-    ensures { LeafFinds at.now.inst.now at.now.cost (forbidden_by at.now.forbidden.now) at.now.index (kind.Open prices.now) (result_err result) }
+    ensures { LeafFinds at.now.inst.now at.now.cost (region_by at.now.forbidden.now at.now.ranges.now) at.now.index (kind.Open prices.now) (result_err result) }
 {
     if !prices.fits(at.inst) {
         return broken(at.index, 1);
@@ -341,8 +404,10 @@ fn check_open(at: &Place, prices: &Prices) -> Result<(), Rejected>
 /// The first rule that the leaf breaks.
 pub(crate) fn check_leaf(alloc: Global, at: &Place, evidence: &Evidence) -> Result<(), Rejected>
     requires table { at.now.table.now ≡ at.now.inst.now }
+    requires ranges { AreRanges at.now.inst.now at.now.ranges.now }
+    requires unit { IsUnit at.now.inst.now at.now.unit }
     requires fits { FitsEvidence at.now.inst.now.nodes (places at.now.inst.now) evidence.now }
-    ensures { Tells (LeafFinds at.now.inst.now at.now.cost (forbidden_by at.now.forbidden.now) at.now.index evidence.now) (result_err result) }
+    ensures { Tells (LeafFinds at.now.inst.now at.now.cost (region_by at.now.forbidden.now at.now.ranges.now) at.now.index evidence.now) (result_err result) }
 {
     match evidence {
         Evidence::Bound(prices) => check_bound(alloc, at, prices),
@@ -362,13 +427,16 @@ pub(crate) fn open_bound(
     evidence: &Evidence,
 ) -> Result<Option<i128>, AllocError>
     requires table { at.now.table.now ≡ at.now.inst.now }
+    requires ranges { AreRanges at.now.inst.now at.now.ranges.now }
     requires fits { FitsEvidence at.now.inst.now.nodes (places at.now.inst.now) evidence.now }
     requires limit { IsOpenWithin at.now.inst.now evidence.now }
-    ensures bound { IfOk result (λ bound. IfSome bound (IsOpenBound at.now.inst.now (forbidden_by at.now.forbidden.now) evidence.now)) }
-    ensures none { IfOk result (λ bound. IfNone bound ((bound : ℤ) → IsOpenBound at.now.inst.now (forbidden_by at.now.forbidden.now) evidence.now bound → ⊥)) }
+    ensures bound { IfOk result (λ bound. IfSome bound (IsOpenBound at.now.inst.now (region_by at.now.forbidden.now at.now.ranges.now) evidence.now)) }
+    ensures none { IfOk result (λ bound. IfNone bound ((bound : ℤ) → IsOpenBound at.now.inst.now (region_by at.now.forbidden.now at.now.ranges.now) evidence.now bound → ⊥)) }
 {
     match evidence {
-        Evidence::Open(prices) => bound_at(alloc, at.inst, at.table, at.forbidden, prices),
+        Evidence::Open(prices) => {
+            bound_at(alloc, at.inst, at.table, at.forbidden, at.ranges, prices)
+        }
         _ => Ok(None),
     }
 }

@@ -18,7 +18,7 @@ pub enum Rejected {
         stated: u128,
         found: u128,
     },
-    /// The split of this record breaks this rule.
+    /// The split of this record breaks this rule of its kind.
     Split {
         index: u32,
         rule: u8,

@@ -1,13 +1,15 @@
-//! The rules of a split.
+//! The rules of the two kinds of split.
 
-ghost use Rattle.std.specs.Prelude.{◌≡◌, ◌↔◌, All, IsTrue};
+ghost use Rattle.std.specs.Prelude.{◌≡◌, ◌↔◌, length, All, IsTrue};
 ghost use Rattle.plan_base.specs.Arcs.{is_arc};
+ghost use Rattle.plan_base.specs.Places.{places};
 ghost use Rattle.arc_restrict.specs.Restrictions.{is_among};
 ghost use Rattle.verifier_paths.specs.Kept.{forbidden_by};
-ghost use Rattle.cert_verifier.specs.SplitRules.{Exist, Leave, AreApart, AreFree, SplitFinds};
+ghost use Rattle.cert_verifier.specs.SplitRules.{Exist, Leave, AreApart, AreFree, SplitFinds, HasBothSides, LoadsFind};
 ghost use Rattle.std.specs.Result.{result_err};
 
 use crate::rejected::Rejected;
+use link_steps::{LoadRange, Ranges};
 use plan_base::{ArcId, DemandId, Instance, NodeId};
 use verifier_paths::Forbidden;
 
@@ -98,6 +100,34 @@ pub(crate) fn check_split(
         || !are_free(forbidden, split.demand, split.right)
     {
         return Err(Rejected::Split { index, rule: 5 });
+    }
+    Ok(())
+}
+
+/// Whether the range has loads up to this one, in load grains, and loads above it.
+fn has_both_sides(range: LoadRange, load: u64) -> bool
+    ensures { IsTrue result ↔ HasBothSides range load }
+{
+    range.least <= load && load < range.most
+}
+
+/// The first rule that the split of a place's loads of the record of this index breaks; the load is in load grains.
+#[tactic(auto, using(crate::proofs::FirstRules::first_rules), unfolding(crate::specs::SplitRules::LoadsFind))]
+pub(crate) fn check_loads(
+    inst: &Instance,
+    ranges: &Ranges,
+    index: u32,
+    place: u32,
+    load: u64,
+) -> Result<(), Rejected>
+    requires { length ranges.now ≡ places inst.now }
+    ensures { LoadsFind inst.now ranges.now index place load (result_err result) }
+{
+    if place >= inst.places() {
+        return Err(Rejected::Split { index, rule: 1 });
+    }
+    if !has_both_sides(ranges.at(place), load) {
+        return Err(Rejected::Split { index, rule: 2 });
     }
     Ok(())
 }

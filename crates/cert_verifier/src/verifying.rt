@@ -18,7 +18,7 @@ use crate::claims::{
 };
 use crate::rejected::Rejected;
 use crate::walk::{Against, lower, walk_tree};
-use link_steps::StepTable;
+use link_steps::{StepTable, cost_unit};
 use plan_base::Instance;
 use proof_tree::{Plan, PlanStatus};
 use std::alloc::Global;
@@ -48,7 +48,7 @@ fn check_stated_bound(stated: Option<i128>, found: Option<i128>) -> Result<(), R
 /// Whether an undecided plan states the bound that it has.
 fn check_bound(plan: &Plan, lowest: Option<i128>) -> Result<(), Rejected>
     requires { IfSome (stated_cost plan.now) (λ cost. cost < 2 ^ 127) }
-    ensures { (p : AnyParts) → IsLeastBoundIn p (leaves_of plan.now.tree) lowest
+    ensures { (p : AnyParts) → IsLeastBoundIn p (leaves_of p plan.now.tree) lowest
         → BoundFinds p plan.now plan.now.status (result_err result) }
 {
     match plan.status {
@@ -103,7 +103,12 @@ fn check_plan(
         return Err(Rejected::Size);
     }
     check_plan_design(inst, plan)?;
-    let against = Against { inst, table, plan };
+    let against = Against {
+        inst,
+        table,
+        plan,
+        unit: cost_unit(inst),
+    };
     let lowest = walk_tree(alloc, &against)?;
     check_counts(plan)?;
     check_bound(plan, lowest)
@@ -118,7 +123,8 @@ fn check_plan(
 ///   nodes, the budget, the bound.
 /// - Rule: docs/FORMATS.md, "Rules of a plan".
 /// - Time: linear in the tree, but for each leaf: nodes times arcs to price it, for each source of a demand and for each
-///   demand that is forbidden an arc; and where it is closed by its paths, for each demand and each arc of its path.
+///   demand that is forbidden an arc, and the steps of links whose loads are split; and where it is closed by its paths,
+///   for each demand and each arc of its path.
 pub fn verify(
     alloc: Global,
     inst: &Instance,

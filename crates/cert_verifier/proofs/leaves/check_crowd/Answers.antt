@@ -1,6 +1,6 @@
 use Rattle.std.proofs.Common.{inl, inr, refl, ◌≡◌, true, false, rules}
-use Rattle.verifier_paths.specs.Kept.{forbidden_by}
 use Rattle.cert_verifier.specs.LeafRules.{LeafFinds}
+use Rattle.cert_verifier.specs.Walks.{region_by}
 use Rattle.cert_verifier.proofs.LeafFindings.{not_within, not_so, crowd_decided}
 use Rattle.cert_verifier.proofs.leaves.check_crowd.Goals as goal
 
@@ -27,7 +27,7 @@ returns-in-Some c = λ differs.
     let free = rw c.as_slice-numerators.ensures.value at c.are_free_on_useful.ensures in
     let is = rw (c.in-Some.is, c.as_slice-numerators.ensures.value) at c.in_ok-total.ensures.total in
     let more = rw c.as_slice-numerators.ensures.value at c.is_crowded.ensures in
-    crowd_decided at.inst.now at.cost (forbidden_by at.forbidden.now) at.index c.args.prices.now c.in-Some.total c.is_crowded.result _ (c.fits.ensures.0 fits).1 (free.0 is_free) is more
+    crowd_decided at.inst.now at.cost (region_by at.forbidden.now at.ranges.now) at.index c.args.prices.now c.in-Some.total c.is_crowded.result _ (c.fits.ensures.0 fits).1 (free.0 is_free) is more
     c.holds_or.ensures.ok c.holds_or.ensures.broken
 
 pub returns-in-None : goal.returns-in-None

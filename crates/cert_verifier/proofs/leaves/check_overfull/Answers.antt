@@ -1,12 +1,12 @@
-use Rattle.std.proofs.Common.{inl, inr, refl, ◌<◌, ◌≤◌, length, arith}
+use Rattle.std.proofs.Common.{◌≡◌, inl, inr, refl, true, false, ◌<◌, ◌≤◌, length, arith, rules}
 use Rattle.plan_base.specs.declared.limits.TheConstants.{MAX_PLACES}
 use Rattle.plan_base.specs.Places.{places}
 use Rattle.plan_base.proofs.PlaceSums.{places-few}
-use Rattle.verifier_paths.specs.Kept.{forbidden_by}
 use Rattle.cert_verifier.specs.LeafRules.{LeafFinds}
+use Rattle.cert_verifier.specs.Walks.{region_by}
 use Rattle.cert_verifier.specs.Routings.{design_of}
 use Rattle.cert_verifier.proofs.RoutingLaws.{AreLoadsOf, not_only_paths}
-use Rattle.cert_verifier.proofs.LeafFindings.{overfull_carried, overfull_found}
+use Rattle.cert_verifier.proofs.LeafFindings.{not_so, overfull_outside, overfull_decided}
 use Rattle.cert_verifier.proofs.leaves.check_overfull.Goals as goal
 
 pub returns-then-link-links : goal.returns-then-link-links
@@ -30,22 +30,23 @@ returns-in-Second c = λ differs.
     let second = rw c.in-Second.is at c.in_ok-only_paths.ensures.left in
     rw c.broken-in-Second.ensures (inr (inl (within, refl), inr (inl (second.0, refl), inl (refl, inr (not_only_paths _ _ second.1, refl)))))
 
-pub returns-in-Some : goal.returns-in-Some
-returns-in-Some c = λ differs.
+pub returns-then-not-are_in_range : goal.returns-then-not-are_in_range
+returns-then-not-are_in_range c = λ differs.
     let at = c.args.at.now in
     let loads = c.loads_of_paths-loads.result in
     let only = rw c.in-Only.is at c.in_ok-only_paths.ensures.left in
     let few : places at.inst.now ≤ MAX_PLACES = places-few at.inst.now c.links.ensures.lawful in
     let are_loads : AreLoadsOf at.inst.now (design_of c.in-Only.paths) loads = λ q below. c.loads_of_paths-loads.ensures.value q (omega (arith, below, few)) in
-    let least = rw (c.of_link-needed.ensures.there, c.of_link-needed.ensures.back) at c.in-Some.ensures.cost.is_least in
-    rw c.broken-in-Some.ensures (overfull_carried at.inst.now at.cost (forbidden_by at.forbidden.now) at.index c.args.link (design_of c.in-Only.paths) loads c.in-Some.ensures.cost.module_cost (omega arith) only.1 are_loads least)
+    let fails : c.are_in_range.result ≡ false = search rules in
+    overfull_outside at.inst.now at.cost (region_by at.forbidden.now at.ranges.now) at.index c.args.link (design_of c.in-Only.paths) loads (omega arith) only.1 are_loads (not_so c.are_in_range.result _ c.are_in_range.ensures fails)
 
-pub returns-in-None : goal.returns-in-None
-returns-in-None c = λ differs.
+pub returns-else-not-are_in_range : goal.returns-else-not-are_in_range
+returns-else-not-are_in_range c = λ differs.
     let at = c.args.at.now in
     let loads = c.loads_of_paths-loads.result in
     let only = rw c.in-Only.is at c.in_ok-only_paths.ensures.left in
     let few : places at.inst.now ≤ MAX_PLACES = places-few at.inst.now c.links.ensures.lawful in
     let are_loads : AreLoadsOf at.inst.now (design_of c.in-Only.paths) loads = λ q below. c.loads_of_paths-loads.ensures.value q (omega (arith, below, few)) in
-    let cannot = rw (c.of_link-needed.ensures.there, c.of_link-needed.ensures.back) at c.in-None.ensures.none in
-    overfull_found at.inst.now at.cost (forbidden_by at.forbidden.now) at.index c.args.link (design_of c.in-Only.paths) loads (omega arith) only.1 are_loads cannot
+    let holds : c.are_in_range.result ≡ true = search rules in
+    overfull_decided at.inst.now at.cost (region_by at.forbidden.now at.ranges.now) at.index c.args.link (design_of c.in-Only.paths) loads c.cannot_carry.result _ (omega arith) only.1 are_loads (c.are_in_range.ensures.0 holds) c.cannot_carry.ensures
+    c.holds_or.ensures.ok c.holds_or.ensures.broken
