@@ -34,12 +34,13 @@ impl Query<'_> {
         ensures { result_err result
             ≡ dearer_fault self.now.inst.now self.now.prices.now self.now.demand.0 (forbids self.now.restriction.now) potentials.now arc }
     {
-        if !self.is_open(arc) {
+        if !self.inst.is_arc(arc) {
             return Ok(());
         }
         let head = potentials[self.inst.head(arc).0 as usize];
         let tail = potentials[self.inst.tail(arc).0 as usize];
-        if is_above(head, tail, self.price_at(arc)) {
+        // Few arcs rise by more: what is forbidden is looked up for these alone.
+        if is_above(head, tail, self.price_at(arc)) && self.restriction.allows(self.demand, arc) {
             return Err(Unfit::Dearer { arc });
         }
         Ok(())
@@ -146,12 +147,12 @@ impl Query<'_> {
         ensures { result_err result
             ≡ leaving_fault self.now.inst.now self.now.demand.0 (forbids self.now.restriction.now) reached.now arc }
     {
-        if !self.is_open(arc) {
+        if !self.inst.is_arc(arc) {
             return Ok(());
         }
         let has_tail = reached[self.inst.tail(arc).0 as usize];
         let has_head = reached[self.inst.head(arc).0 as usize];
-        if has_tail && !has_head {
+        if has_tail && !has_head && self.restriction.allows(self.demand, arc) {
             return Err(Unfit::NotClosed { arc });
         }
         Ok(())
