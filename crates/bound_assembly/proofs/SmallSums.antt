@@ -12,6 +12,7 @@ use Rattle.plan_base.specs.Facts.{total_load, price_limit}
 use Rattle.plan_base.specs.Sums.{sum_below}
 use Rattle.plan_base.specs.Arcs.{demand_at, no_demand}
 use Rattle.plan_base.proofs.SumsBelow.{sum_below-le, sum_below-times}
+use Rattle.link_steps.specs.declared.range.LoadRange.{LoadRange}
 use Rattle.link_steps.specs.Values.{HasValueTotal}
 use Rattle.proof_tree.specs.Bounds.{IsThousandthUp, price_total}
 use Rattle.bound_assembly.specs.declared.limits.TheConstants.{MAX_PATH_LINKS}
@@ -57,9 +58,9 @@ priced-within p lengths n short same within =
     omega (arith, each, times, whole, priced_limit-le p)
 
 -- the thousandth of the two sums is the bound
-pub round_bound : (p : Parts) (prices : List ℕ) (lengths : List (Option ℕ)) (total bound : ℤ) → left_in lengths ≡ 0 → length lengths ≡ length p.demands → HasValueTotal p prices (length p.links) total
-    → IsThousandthUp (pos (price_total p (length_of lengths)) +ℤ total) bound → IsRoundBound p prices lengths bound
-round_bound p prices lengths total bound none same has up =
+pub round_bound : (p : Parts) (ranges : List LoadRange) (prices : List ℕ) (lengths : List (Option ℕ)) (total bound : ℤ) → left_in lengths ≡ 0 → length lengths ≡ length p.demands → HasValueTotal p ranges prices (length p.links) total
+    → IsThousandthUp (pos (price_total p (length_of lengths)) +ℤ total) bound → IsRoundBound p ranges prices lengths bound
+round_bound p ranges prices lengths total bound none same has up =
     record {
       complete = λ k below. left_none-full lengths k none (omega arith);
       values = has.values;

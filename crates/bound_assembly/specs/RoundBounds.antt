@@ -1,5 +1,5 @@
 -- The bound that prices and lengths give.
-use Rattle.std.specs.Prelude.{ℕ, ◌≡◌, ◌≤◌, ◌<◌, ◌*◌, List, length, slice_index, Option, Some, All, IfSome, IsTrue, ℤ, pos, ◌+ℤ◌}
+use Rattle.std.specs.Prelude.{ℕ, ◌≡◌, ◌≤◌, ◌<◌, ◌*◌, false, List, length, slice_index, Option, Some, All, IfSome, IsTrue, ℤ, pos, ◌+ℤ◌}
 use Rattle.std.specs.Option.{unwrap_or}
 use Rattle.plan_base.specs.declared.parts.Parts.{Parts}
 use Rattle.plan_base.specs.Sums.{sum_below, int_sum_below}
@@ -8,8 +8,10 @@ use Rattle.plan_base.specs.Places.{places, link_of_place}
 use Rattle.plan_base.specs.Arcs.{link_at}
 use Rattle.arc_restrict.specs.Restrictions.{Forbidden}
 use Rattle.arc_restrict.specs.Prices.{IsLeastPrice}
+use Rattle.link_steps.specs.declared.range.LoadRange.{LoadRange}
 use Rattle.link_steps.specs.Values.{AreLinkValues}
 use Rattle.proof_tree.specs.Bounds.{IsThousandthUp, price_total}
+use Rattle.proof_tree.specs.Evidence.{is_cut_short, room_at}
 use Rattle.bound_assembly.specs.declared.limits.TheConstants.{MAX_PATH_LINKS}
 use Rattle.bound_assembly.specs.Rounds.{length_at, HasLength}
 
@@ -23,26 +25,26 @@ AreShort p lengths = All (λ found. IfSome found (λ price. price ≤ MAX_PATH_L
 
 -- each demand has a length; loads times lengths of the demands, and the values of the links, together over 1,000,
 -- rounded up, in cost grains
-pub record IsRoundBound (p : Parts) (prices : List ℕ) (lengths : List (Option ℕ)) (bound : ℤ) : Type 0 where
+pub record IsRoundBound (p : Parts) (ranges : List LoadRange) (prices : List ℕ) (lengths : List (Option ℕ)) (bound : ℤ) : Type 0 where
   pub complete : (k : ℕ) → k < length p.demands → HasLength lengths k
   pub values : ℕ → ℤ
-  pub are_values : AreLinkValues p prices values
+  pub are_values : AreLinkValues p ranges prices values
   pub rounded : IsThousandthUp (pos (price_total p (length_of lengths)) +ℤ int_sum_below values (length p.links)) bound
 
--- the price of each place of a useful link before a count is 0
-abbrev pub AreFree : Parts → List ℕ → ℕ → Type 0
-AreFree p prices count = (q : ℕ) → q < count → IsTrue (is_useful (link_at p (link_of_place p q))) → slice_index prices q ≡ 0
+-- the price of each place before a count is 0 where its link is useful and its range ends at the top load
+abbrev pub AreFree : Parts → List LoadRange → List ℕ → ℕ → Type 0
+AreFree p ranges prices count = (q : ℕ) → q < count → IsTrue (is_useful (link_at p (link_of_place p q))) → is_cut_short p ranges q ≡ false → slice_index prices q ≡ 0
 
--- the sum of prices times their links' pre-installed capacities over the places before a count
-abbrev pub priced_capacity : Parts → List ℕ → ℕ → ℕ
-priced_capacity p prices count = sum_below (λ q. slice_index prices q * (link_at p (link_of_place p q)).pre) count
+-- the sum of prices times what the places before a count carry at most where no module is added
+abbrev pub priced_room : Parts → List LoadRange → List ℕ → ℕ → ℕ
+priced_room p ranges prices count = sum_below (λ q. slice_index prices q * room_at p ranges q) count
 
--- each demand has a length; the places of useful links are free, and loads times lengths exceed the pre-installed capacities times
--- their links' prices
-pub record IsRoundCrowd (p : Parts) (prices : List ℕ) (lengths : List (Option ℕ)) : Type 0 where
+-- each demand has a length; the places of useful links are free where their ranges end at the top load, and loads times
+-- lengths exceed prices times what the places carry at most
+pub record IsRoundCrowd (p : Parts) (ranges : List LoadRange) (prices : List ℕ) (lengths : List (Option ℕ)) : Type 0 where
   pub complete : (k : ℕ) → k < length p.demands → HasLength lengths k
-  pub free : AreFree p prices (places p)
-  pub crowded : priced_capacity p prices (places p) < price_total p (length_of lengths)
+  pub free : AreFree p ranges prices (places p)
+  pub crowded : priced_room p ranges prices (places p) < price_total p (length_of lengths)
 
 -- each length that was put is the least price of its demand
 abbrev pub AreLeastLengths : Parts → Forbidden → List ℕ → List (Option ℕ) → Type 0

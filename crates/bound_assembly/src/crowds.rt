@@ -1,65 +1,98 @@
-//! Whether prices and lengths show that the pre-installed capacities are too small.
+//! Whether prices and lengths show that places carry too little.
 
-ghost use Rattle.std.specs.Prelude.{◌≡◌, ◌<◌, ◌↔◌, min, length, IsTrue};
+ghost use Rattle.std.specs.Prelude.{◌≡◌, ◌<◌, ◌↔◌, false, min, length, IsTrue};
 ghost use Rattle.plan_base.specs.Facts.{is_useful};
 ghost use Rattle.plan_base.specs.Arcs.{link_at};
 ghost use Rattle.plan_base.specs.Places.{places, link_of_place};
+ghost use Rattle.proof_tree.specs.Evidence.{is_cut_short, room_at};
 ghost use Rattle.bound_assembly.specs.Rounds.{left_in};
-ghost use Rattle.bound_assembly.specs.RoundBounds.{AreShort, AreFree, priced_capacity as capacity_total, IsRoundCrowd};
+ghost use Rattle.bound_assembly.specs.RoundBounds.{AreShort, AreFree, priced_room, IsRoundCrowd};
 
 use crate::totals::price_total;
+use link_steps::Ranges;
 use plan_base::{Instance, Prices};
 
-/// Whether a price is 0, if the place's link has a module with capacity.
-fn is_free(inst: &Instance, place: u32, price: u128) -> bool
-    requires { place < places inst.now }
-    ensures { IsTrue result ↔ (IsTrue (is_useful (link_at inst.now (link_of_place inst.now place))) → price ≡ 0) }
+/// Whether the range of a place ends below the top load of its link.
+fn is_cut_short(inst: &Instance, ranges: &Ranges, place: u32) -> bool
+    requires ranges { length ranges.now ≡ places inst.now }
+    requires place { place < places inst.now }
+    ensures { result ≡ is_cut_short inst.now ranges.now place }
 {
-    price == 0 || !inst.useful(inst.link_of_place(place))
+    ranges.at(place).most < inst.top_load(inst.link_of_place(place))
 }
 
-/// Whether the price of each place of a link that has a module with capacity is 0.
-fn are_free(inst: &Instance, prices: &Prices) -> bool
-    requires { length prices.now ≡ places inst.now }
-    ensures { IsTrue result ↔ AreFree inst.now prices.now (places inst.now) }
+/// What a place carries at most where no module is added, in load grains.
+fn room_at(inst: &Instance, ranges: &Ranges, place: u32) -> u64
+    requires ranges { length ranges.now ≡ places inst.now }
+    requires place { place < places inst.now }
+    ensures { result ≡ room_at inst.now ranges.now place }
+{
+    if is_cut_short(inst, ranges, place) {
+        ranges.at(place).most
+    } else {
+        inst.link(inst.link_of_place(place)).pre
+    }
+}
+
+/// Whether a price is 0, if the place's link has a module with capacity and its range ends at the top load.
+fn is_free(inst: &Instance, ranges: &Ranges, place: u32, price: u128) -> bool
+    requires ranges { length ranges.now ≡ places inst.now }
+    requires place { place < places inst.now }
+    ensures { IsTrue result ↔ (IsTrue (is_useful (link_at inst.now (link_of_place inst.now place))) → is_cut_short inst.now ranges.now place ≡ false → price ≡ 0) }
+{
+    price == 0 || !inst.useful(inst.link_of_place(place)) || is_cut_short(inst, ranges, place)
+}
+
+/// Whether the price of each place of a link that has a module with capacity is 0 where its range ends at the top load.
+fn are_free(inst: &Instance, ranges: &Ranges, prices: &Prices) -> bool
+    requires ranges { length ranges.now ≡ places inst.now }
+    requires prices { length prices.now ≡ places inst.now }
+    ensures { IsTrue result ↔ AreFree inst.now ranges.now prices.now (places inst.now) }
 {
     let _places = inst.places();
     for (place, price) in prices.as_slice().iter().enumerate() {
-        if !is_free(inst, place as u32, *price) {
+        if !is_free(inst, ranges, place as u32, *price) {
             return false;
         }
     }
     true
 }
 
-/// The sum of prices times pre-installed capacities over the places, up to the greatest number, in thousandths of a cost
-/// grain.
-fn priced_capacity(inst: &Instance, prices: &Prices) -> u128
-    requires { length prices.now ≡ places inst.now }
-    ensures { result ≡ min (capacity_total inst.now prices.now (places inst.now)) u128.MAX }
+/// The sum over places of the price times what the place carries at most where no module is added, up to the greatest
+/// number, in thousandths of a cost grain.
+fn priced_room(inst: &Instance, ranges: &Ranges, prices: &Prices) -> u128
+    requires ranges { length ranges.now ≡ places inst.now }
+    requires prices { length prices.now ≡ places inst.now }
+    ensures { result ≡ min (priced_room inst.now ranges.now prices.now (places inst.now)) u128.MAX }
 {
     let _places = inst.places();
     let mut total = 0u128;
     for (place, price) in prices.as_slice().iter().enumerate() {
-        let pre = u128::from(inst.link(inst.link_of_place(place as u32)).pre);
-        total = total.saturating_add(price.saturating_mul(pre));
+        let room = u128::from(room_at(inst, ranges, place as u32));
+        total = total.saturating_add(price.saturating_mul(room));
     }
     total
 }
 
-/// Whether links with useful modules are free at these prices, and loads times lengths exceed the pre-installed
-/// capacities times prices. Takes no memory.
+/// Whether links with useful modules are free at these prices where ranges end at their top loads, and loads times
+/// lengths exceed prices times what the places carry at most. Takes no memory.
 ///
-/// - Takes: prices and, for each demand, a length, both in thousandths of a cost grain per load grain; no length is above
-///   what a simple path costs with the price limit on each link.
+/// - Takes: ranges, prices and, for each demand, a length, the last two in thousandths of a cost grain per load grain; no
+///   length is above what a simple path costs with the price limit on each link.
 /// - Rule: docs/DEFINITIONS.md, "Evidence of a leaf".
-/// - Time: linear in the demands, the links and their modules.
-pub fn is_crowded(inst: &Instance, prices: &Prices, lengths: &[Option<u128>]) -> bool
+/// - Time: linear in the demands, the places and their links' modules.
+pub fn is_crowded(
+    inst: &Instance,
+    ranges: &Ranges,
+    prices: &Prices,
+    lengths: &[Option<u128>],
+) -> bool
+    requires range_count { length ranges.now ≡ places inst.now }
     requires price_count { length prices.now ≡ places inst.now }
     requires length_count { length lengths.now ≡ length inst.now.demands }
     requires short { AreShort inst.now lengths.now }
     requires full { left_in lengths.now ≡ 0 }
-    ensures { IsTrue result ↔ IsRoundCrowd inst.now prices.now lengths.now }
+    ensures { IsTrue result ↔ IsRoundCrowd inst.now ranges.now prices.now lengths.now }
 {
-    are_free(inst, prices) && priced_capacity(inst, prices) < price_total(inst, lengths)
+    are_free(inst, ranges, prices) && priced_room(inst, ranges, prices) < price_total(inst, lengths)
 }

@@ -2,6 +2,7 @@
 
 ghost use Rattle.plan_base.specs.Places.{places};
 ghost use Rattle.std.specs.Prelude.{◌≡◌, ◌<◌, ◌↔◌, ◌^◌, length, replicate, false, None, IfOk, IfSome, IsTrue, IsFalse};
+ghost use Rattle.link_steps.specs.Ranges.{AreRanges};
 ghost use Rattle.arc_restrict.specs.Prices.{AreWithinLimit};
 ghost use Rattle.bound_assembly.specs.Rounds.{HasLength, left_in, IsFirstLeft, restarted, with_length};
 ghost use Rattle.bound_assembly.specs.RoundBounds.{AreShort, IsRoundBound, IsRoundCrowd};
@@ -9,7 +10,7 @@ ghost use Rattle.bound_assembly.specs.Places.{AreFullBefore, IsNextLeft};
 
 use crate::crowds::is_crowded;
 use crate::totals::bound_of;
-use link_steps::StepTable;
+use link_steps::{Ranges, StepTable};
 use plan_base::{BranchId, DemandId, Instance, Prices};
 use std::alloc::{AllocError, Global};
 use std::marker::Model;
@@ -170,44 +171,47 @@ impl Round {
         }
     }
 
-    /// The bound that the round's prices and lengths give. Takes no memory.
+    /// The bound that the round's prices and lengths give over ranges. Takes no memory.
     ///
-    /// - Takes: the instance and its table; the round has begun, its prices fit the instance, and there is room for one
-    ///   length for each demand, none of them above what a simple path costs with the price limit on each link.
+    /// - Takes: the instance, its table and its ranges; the round has begun, its prices fit the instance, and there is room
+    ///   for one length for each demand, none of them above what a simple path costs with the price limit on each link.
     /// - Gives: cost grains; None exactly where a demand has no length.
     /// - Rule: docs/METHOD.md, "Bound of a round".
     /// - Time: linear in the demands, and the time of one link value for each link.
-    pub fn bound(&self, inst: &Instance, table: &StepTable) -> Option<i128>
+    pub fn bound(&self, inst: &Instance, table: &StepTable, ranges: &Ranges) -> Option<i128>
         requires begun { IsTrue self.now.begun }
         requires table { table.now ≡ inst.now }
+        requires ranges { AreRanges inst.now ranges.now }
         requires price_count { length self.now.prices ≡ places inst.now }
         requires price_limit { AreWithinLimit inst.now self.now.prices }
         requires length_count { length self.now.lengths ≡ length inst.now.demands }
         requires short { AreShort inst.now self.now.lengths }
         ensures none { (result ≡ None) ↔ (0 < left_in self.now.lengths) }
-        ensures bound { IfSome result (IsRoundBound inst.now self.now.prices self.now.lengths) }
+        ensures bound { IfSome result (IsRoundBound inst.now ranges.now self.now.prices self.now.lengths) }
     {
         if self.left > 0 {
             return None;
         }
-        Some(bound_of(inst, table, &self.prices, &self.lengths))
+        Some(bound_of(inst, table, ranges, &self.prices, &self.lengths))
     }
 
-    /// Whether the round shows that the pre-installed capacities are too small: each demand has a length, links with
-    /// useful modules are free, and loads times lengths exceed the pre-installed capacities times prices. Takes no memory.
+    /// Whether the round shows that places carry too little over ranges: each demand has a length, links with useful
+    /// modules are free where their ranges end at the top load, and loads times lengths exceed prices times what the places
+    /// carry at most. Takes no memory.
     ///
-    /// - Takes: the instance; the round has begun, its prices fit the instance, and there is room for one length for each
-    ///   demand, none of them above what a simple path costs with the price limit on each link.
+    /// - Takes: the instance and its ranges; the round has begun, its prices fit the instance, and there is room for one
+    ///   length for each demand, none of them above what a simple path costs with the price limit on each link.
     /// - Rule: docs/DEFINITIONS.md, "Evidence of a leaf".
-    /// - Time: linear in the demands, the links and their modules.
+    /// - Time: linear in the demands, the places and their links' modules.
     #[tactic(auto, using(crate::proofs::LeastLengths::crowd_full))]
-    pub fn is_crowded(&self, inst: &Instance) -> bool
+    pub fn is_crowded(&self, inst: &Instance, ranges: &Ranges) -> bool
         requires begun { IsTrue self.now.begun }
+        requires range_count { length ranges.now ≡ places inst.now }
         requires price_count { length self.now.prices ≡ places inst.now }
         requires length_count { length self.now.lengths ≡ length inst.now.demands }
         requires short { AreShort inst.now self.now.lengths }
-        ensures { IsTrue result ↔ IsRoundCrowd inst.now self.now.prices self.now.lengths }
+        ensures { IsTrue result ↔ IsRoundCrowd inst.now ranges.now self.now.prices self.now.lengths }
     {
-        self.left() == 0 && is_crowded(inst, &self.prices, &self.lengths)
+        self.left() == 0 && is_crowded(inst, ranges, &self.prices, &self.lengths)
     }
 }

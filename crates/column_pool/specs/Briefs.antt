@@ -5,6 +5,8 @@ use Rattle.plan_base.specs.declared.parts.Parts.{Parts}
 use Rattle.plan_base.specs.Arcs.{demand_at}
 use Rattle.plan_base.specs.Places.{places}
 use Rattle.plan_base.specs.Paths.{IsSimplePath}
+use Rattle.link_steps.specs.declared.range.LoadRange.{LoadRange}
+use Rattle.link_steps.specs.Ranges.{AreRanges}
 use Rattle.arc_restrict.specs.Prices.{AreWithinLimit}
 use Rattle.column_pool.specs.Columns.{Columns, columns_at}
 
@@ -16,9 +18,10 @@ ArePathsOf p k paths = All (λ path. IsSimplePath p (demand_at p k) path) paths
 abbrev pub AreAllPaths : Parts → Columns → ℕ → Type 0
 AreAllPaths p columns count = (k : ℕ) → k < count → ArePathsOf p k (columns_at columns k)
 
--- one price for each place, none above the price limit, and for each demand a list of simple paths of it
-pub record IsBriefFor (p : Parts) (prices : List ℕ) (columns : Columns) : Type 0 where
+-- one price for each place, none above the price limit, a range for each place, and for each demand a list of simple paths of it
+pub record IsBriefFor (p : Parts) (prices : List ℕ) (ranges : List LoadRange) (columns : Columns) : Type 0 where
   pub price_count : length prices ≡ places p
   pub price_limit : AreWithinLimit p prices
+  pub are_ranges : AreRanges p ranges
   pub list_count : length columns ≡ length p.demands
   pub paths : AreAllPaths p columns (length p.demands)

@@ -4,6 +4,7 @@ ghost use Rattle.std.specs.Prelude.{◌≡◌, ◌<◌, ◌↔◌, length, IsTru
 ghost use Rattle.column_pool.specs.Columns.{columns_at};
 ghost use Rattle.column_pool.specs.Briefs.{ArePathsOf, AreAllPaths, IsBriefFor};
 
+use link_steps::Ranges;
 use plan_base::{BranchId, DemandId, Instance, Items, Path, Prices, is_simple_path};
 
 /// Whether each path of the demand's list is a simple path of it.
@@ -40,24 +41,31 @@ pub struct Brief {
     pub version: u64,
     /// One price for each place, in thousandths of a cost grain per load grain.
     pub prices: Prices,
+    /// For each place the loads that the node lets it carry.
+    pub ranges: Ranges,
     /// For each demand the columns that the node permits, in order.
     pub columns: Items<Items<Path>>,
     /// Whether the node's crowd prices were tried.
     pub crowd_tried: bool,
+    /// Whether enough versions of the node were complete, so that none is to follow.
+    pub has_enough: bool,
     /// What the best design known costs, in cost grains.
     pub incumbent: Option<u128>,
+    /// What the costs of all designs are multiples of, in cost grains.
+    pub unit: u128,
 }
 
 impl Brief {
-    /// Whether the brief is one for the instance: its prices fit, and it has one list of columns for each demand, each of
-    /// simple paths of that demand. Takes no memory.
+    /// Whether the brief is one for the instance: its prices and ranges fit, and it has one list of columns for each demand,
+    /// each of simple paths of that demand. Takes no memory.
     ///
     /// - Rule: docs/METHOD.md, "Columns".
-    /// - Time: linear in the places and in the arcs of all columns.
+    /// - Time: linear in the places, their links' modules and the arcs of all columns.
     pub fn fits(&self, inst: &Instance) -> bool
-        ensures { IsTrue result ↔ IsBriefFor inst.now self.now.prices self.now.columns }
+        ensures { IsTrue result ↔ IsBriefFor inst.now self.now.prices self.now.ranges self.now.columns }
     {
         self.prices.fits(inst)
+            && self.ranges.fits(inst)
             && self.columns.len() == inst.demands() as usize
             && are_all_paths(inst, self.columns.as_slice())
     }

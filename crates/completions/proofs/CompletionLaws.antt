@@ -10,15 +10,17 @@ use Rattle.plan_base.specs.declared.limits.TheConstants.{MAX_ROUTING_COST, MAX_P
 use Rattle.plan_base.specs.Sums.{sum_below}
 use Rattle.plan_base.specs.Facts.{total_load, IsInstance}
 use Rattle.plan_base.specs.Arcs.{link_at, demand_at, no_link}
-use Rattle.plan_base.specs.Places.{places, there_of, back_of}
+use Rattle.plan_base.specs.Places.{places, link_of_place, there_of, back_of}
 use Rattle.plan_base.specs.Paths.{uses_place}
 use Rattle.plan_base.specs.Designs.{load_from, load_at, need, carried, counts_at, module_cost_with, link_cost, cost_of, AreCountsInShape, IsDesign, CarriesLoads}
 use Rattle.plan_base.proofs.SumLaws.{sum_below-next}
 use Rattle.plan_base.proofs.SumsBelow.{sum_below-same, sum_below-le}
 use Rattle.plan_base.proofs.PlaceSums.{there-same, back-same, places-few}
+use Rattle.link_steps.specs.declared.range.LoadRange.{LoadRange}
+use Rattle.link_steps.specs.Ranges.{IsIn, range_at}
 use Rattle.link_steps.specs.Costs.{Carries, CanCarry, CannotCarry, IsLeastModuleCost, AreLeastCounts}
 use Rattle.link_steps.proofs.Order.{before_or_last}
-use Rattle.completions.specs.Completions.{with_paths, ArePaths, IsCompletion, CarryLoads, HasOverfull, IsFirstOverfull}
+use Rattle.completions.specs.Completions.{with_paths, ArePaths, IsCompletion, CarryLoads, HasOverfull, IsFirstOverfull, AreInside, HasOutside}
 use Rattle.completions.specs.Links.{IsLinkCompletion, counts_in, cost_with, AreCompletedTo}
 
 -- the routing cost of a load up to the total load is small
@@ -93,6 +95,23 @@ module _ (p : Parts) (d : Design) (e there back : ℕ) (within : e < length p.li
       elim (before_or_last other e below) [
         | inl earlier ↦ before other earlier
         | inr here ↦ rw here (subst (CanCarry p e) needed can)
+      ]
+
+module _ (p : Parts) (ranges : List LoadRange) (d : Design) (q load : ℕ) (is_load : load ≡ load_at p d q) where
+  loaded : load ≡ load_at p (with_paths d.paths) q
+  loaded = is_load ∙ load_at-paths p d (with_paths d.paths) q refl
+
+  -- the link of the place here has a load outside its range
+  pub outside-here : (link : ℕ) → q < places p → link ≡ link_of_place p q → (IsIn (range_at ranges q) load → ⊥) → HasOutside p ranges d.paths link
+  outside-here link within is_link outside =
+      record { place = q; within = within; is_link = is_link; outside = λ inside. outside (subst (IsIn (range_at ranges q)) (sym loaded) inside) }
+
+  -- the load of the place here is in its range too
+  pub inside-next : IsIn (range_at ranges q) load → AreInside p ranges d.paths q → AreInside p ranges d.paths (q + 1)
+  inside-next inside before = λ other below.
+      elim (before_or_last other q below) [
+        | inl earlier ↦ before other earlier
+        | inr here ↦ rw here (subst (IsIn (range_at ranges q)) loaded inside)
       ]
 
 pub AreCompletedTo-none : (p : Parts) (paths : List (List ArcId)) → AreCompletedTo p paths 0 0 []

@@ -5,7 +5,10 @@ use Rattle.plan_base.specs.declared.parts.Parts.{Parts}
 use Rattle.plan_base.specs.declared.path.Design.{Design}
 use Rattle.plan_base.specs.Arcs.{demand_at}
 use Rattle.plan_base.specs.Paths.{IsSimplePath}
-use Rattle.plan_base.specs.Designs.{path_at, need, cost_of, IsDesign, CarriesLoads, IsCarriedDesign}
+use Rattle.plan_base.specs.Designs.{path_at, load_at, need, cost_of, IsDesign, CarriesLoads, IsCarriedDesign}
+use Rattle.plan_base.specs.Places.{places, link_of_place}
+use Rattle.link_steps.specs.declared.range.LoadRange.{LoadRange}
+use Rattle.link_steps.specs.Ranges.{IsIn, range_at}
 use Rattle.link_steps.specs.Costs.{CanCarry, CannotCarry}
 
 -- a design with these paths; its counts do not matter
@@ -43,3 +46,14 @@ pub record IsFirstOverfull (p : Parts) (paths : List (List ArcId)) (link : ℕ) 
   pub within : link < length p.links
   pub overfull : IsOverfull p paths link
   pub before : CarryLoads p paths link
+
+-- each place before this number has a load in its range for these paths
+abbrev pub AreInside : Parts → List LoadRange → List (List ArcId) → ℕ → Type 0
+AreInside p ranges paths place = (q : ℕ) → q < place → IsIn (range_at ranges q) (load_at p (with_paths paths) q)
+
+-- a place of the link has a load outside its range for these paths
+pub record HasOutside (p : Parts) (ranges : List LoadRange) (paths : List (List ArcId)) (link : ℕ) : Type 0 where
+  pub place : ℕ
+  pub within : place < places p
+  pub is_link : link ≡ link_of_place p place
+  pub outside : IsIn (range_at ranges place) (load_at p (with_paths paths) place) → ⊥

@@ -1,14 +1,16 @@
 //! The cheapest design for given paths.
 
-ghost use Rattle.std.specs.Prelude.{ℕ, ◌≡◌, ◌<◌, ◌≤◌, ◌+◌, ◌*◌, max, length, IfOk, IfSome, IfNone, IsTrue, IsFalse};
+ghost use Rattle.std.specs.Prelude.{ℕ, ◌≡◌, ◌<◌, ◌≤◌, ◌+◌, ◌*◌, max, length, ◌↔◌, IfOk, IfSome, IfNone, IsTrue, IsFalse};
 ghost use Rattle.plan_base.specs.Facts.{IsInstance, total_load};
 ghost use Rattle.plan_base.specs.Arcs.{link_at};
+ghost use Rattle.plan_base.specs.Places.{places};
+ghost use Rattle.link_steps.specs.Ranges.{IsIn, range_at, AreRanges};
 ghost use Rattle.plan_base.specs.Designs.{need, counts_at};
 ghost use Rattle.link_steps.specs.Costs.{CanCarry, CannotCarry, AreLeastCounts};
-ghost use Rattle.completions.specs.Completions.{ArePaths, IsCompletion, HasOverfull, CarryLoads, IsFirstOverfull};
+ghost use Rattle.completions.specs.Completions.{ArePaths, IsCompletion, HasOverfull, CarryLoads, IsFirstOverfull, HasOutside, AreInside};
 ghost use Rattle.completions.specs.Links.{IsLinkCompletion, AreCompletedTo};
 
-use link_steps::StepTable;
+use link_steps::{Ranges, StepTable};
 use plan_base::limits::MAX_ROUTING_COST;
 use plan_base::{Design, Instance, Items, LinkId, LinkLoads, Path, loads_of};
 use std::alloc::{AllocError, Global};
@@ -146,6 +148,37 @@ pub fn overfull_link(inst: &Instance, table: &StepTable, design: &Design) -> Opt
         let held = LinkLoads::of_link(inst, &loads, link);
         if !can_carry(inst, table, link, held) {
             return Some(link);
+        }
+    }
+    None
+}
+
+/// Whether a place's load is in its range.
+fn is_in(ranges: &Ranges, place: u32, load: u128) -> bool
+    requires { place < length ranges.now }
+    ensures { IsTrue result ↔ IsIn (range_at ranges.now place) load }
+{
+    let range = ranges.at(place);
+    u128::from(range.least) <= load && load <= u128::from(range.most)
+}
+
+/// The link of the first place whose load for the paths of a design lies outside its range. Takes no memory.
+///
+/// - Takes: an instance; ranges of its places; a design with one simple path for each demand, in order. Its counts are not
+///   read.
+/// - Rule: docs/DEFINITIONS.md, "Ranges of loads".
+/// - Time: linear in the arcs of all paths and in the places.
+pub fn outside_link(inst: &Instance, ranges: &Ranges, design: &Design) -> Option<LinkId>
+    requires ranges { AreRanges inst.now ranges.now }
+    requires paths { ArePaths inst.now design.now.paths }
+    ensures some { IfSome result (λ link. HasOutside inst.now ranges.now design.now.paths link.0) }
+    ensures none { IfNone result (AreInside inst.now ranges.now design.now.paths (places inst.now)) }
+{
+    inst.lawful();
+    let loads = loads_of(inst, design);
+    for place in 0..inst.places() {
+        if !is_in(ranges, place, loads[place as usize]) {
+            return Some(inst.link_of_place(place));
         }
     }
     None

@@ -6,4 +6,4 @@
 
 mod completing;
 
-pub use completing::{LINK_COST_BOUND, complete, overfull_link, routing_cost};
+pub use completing::{LINK_COST_BOUND, complete, outside_link, overfull_link, routing_cost};

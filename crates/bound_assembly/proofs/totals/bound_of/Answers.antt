@@ -20,9 +20,9 @@ returns c =
     to_z-of_z w128 c.total_of-total.result total_fits ∙ c.total_of-total.ensures
     ∙ ap (λ (v : ℤ). pos c.price_total-priced.result +ℤ v) (to_z-of_z w128 values values_fit)
     ∙ ap (λ (n : ℕ). pos n +ℤ values) c.price_total-priced.ensures.value in
-    let has : HasValueTotal c.args.inst.now c.args.prices.now (length c.args.inst.now.links) values = (rw c.requires.table at c.value_total-values.ensures).has in
+    let has : HasValueTotal c.args.inst.now c.args.ranges.now c.args.prices.now (length c.args.inst.now.links) values = (rw c.requires.table at c.value_total-values.ensures).has in
     rw (to_z-of_z w128 bound bound_fits)
-    (round_bound c.args.inst.now c.args.prices.now c.args.lengths.now values bound c.requires.full c.requires.length_count has
+    (round_bound c.args.inst.now c.args.ranges.now c.args.prices.now c.args.lengths.now values bound c.requires.full c.requires.length_count has
     (record {
       reaches = subst (λ (t : ℤ). t ≤ℤ (pos 1000 *ℤ bound)) total_is c.up_to_grain.ensures.reaches;
       least = λ other le. c.up_to_grain.ensures.least other (subst (λ (t : ℤ). t ≤ℤ (pos 1000 *ℤ other)) (sym total_is) le);
