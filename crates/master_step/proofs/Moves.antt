@@ -5,13 +5,14 @@ use Rattle.plan_base.specs.declared.parts.Parts.{Parts}
 use Rattle.plan_base.specs.Facts.{price_limit, total_load}
 use Rattle.plan_base.specs.Places.{places}
 use Rattle.plan_base.specs.declared.limits.TheConstants.{MAX_PLACES, MAX_TOTAL_LOAD}
+use Rattle.link_steps.specs.declared.range.LoadRange.{LoadRange}
 use Rattle.master_step.specs.declared.rows.Rows.{Rows}
 use Rattle.master_step.specs.Columns.{Choices}
 use Rattle.master_step.specs.Trials.{column_load, AreValueLoads, apart, widest_gap, greatest_price, moved, IsTrial}
 use Rattle.master_step.specs.Climbing.{HasLoads, HasRoom, AreLow, AreMoved}
 use Rattle.master_step.proofs.Uniqueness.{max_below-same, place-unique}
 
-module _ (p : Parts) (choices : Choices) (prices : List ℕ) (rows : Rows) (loads : HasLoads p choices prices rows) where
+module _ (p : Parts) (ranges : List LoadRange) (choices : Choices) (prices : List ℕ) (rows : Rows) (loads : HasLoads p ranges choices prices rows) where
   -- the widest gap of the rows
   pub widest-rows : widest_gap p (slice_index rows.column_loads.items) (slice_index rows.value_loads.items) ≡ widest_gap p (column_load p choices prices) (slice_index rows.value_loads.items)
   widest-rows =
@@ -19,7 +20,7 @@ module _ (p : Parts) (choices : Choices) (prices : List ℕ) (rows : Rows) (load
       (λ q below. ap (λ (x : ℕ). apart x (slice_index rows.value_loads.items q)) (loads.columns q below))
 
   pub moved-trial : (greatest widest divisor j : ℕ) (trial : List ℕ) → greatest ≡ greatest_price p prices → widest ≡ widest_gap p (slice_index rows.column_loads.items) (slice_index rows.value_loads.items) → 0 < widest → divisor ≡ widest * 2 ^ j
-      → AreMoved p prices greatest divisor rows trial → IsTrial p choices prices j trial
+      → AreMoved p prices greatest divisor rows trial → IsTrial p ranges choices prices j trial
   moved-trial greatest widest divisor j trial is_greatest is_widest some is_divisor h =
       let wide : widest ≡ widest_gap p (column_load p choices prices) (slice_index rows.value_loads.items) = is_widest ∙ widest-rows in
       record {
@@ -35,18 +36,18 @@ module _ (p : Parts) (choices : Choices) (prices : List ℕ) (rows : Rows) (load
       }
 
   -- where there is no gap, there is no trial
-  pub no_gap-no_trial : (j : ℕ) (trial : List ℕ) → widest_gap p (slice_index rows.column_loads.items) (slice_index rows.value_loads.items) ≡ 0 → IsTrial p choices prices j trial → ⊥
+  pub no_gap-no_trial : (j : ℕ) (trial : List ℕ) → widest_gap p (slice_index rows.column_loads.items) (slice_index rows.value_loads.items) ≡ 0 → IsTrial p ranges choices prices j trial → ⊥
   no_gap-no_trial j trial none h =
       let same : widest_gap p (column_load p choices prices) h.loads ≡ widest_gap p (column_load p choices prices) (slice_index rows.value_loads.items) =
       max_below-same (λ q. apart (column_load p choices prices q) (h.loads q)) (λ q. apart (column_load p choices prices q) (slice_index rows.value_loads.items q)) (places p)
-      (λ q below. ap (λ (x : ℕ). apart (column_load p choices prices q) x) (place-unique p prices h.loads (slice_index rows.value_loads.items) h.are_loads loads.values q below)) in
+      (λ q below. ap (λ (x : ℕ). apart (column_load p choices prices q) x) (place-unique p ranges prices h.loads (slice_index rows.value_loads.items) h.are_loads loads.values q below)) in
       absurd (let wide : 0 < 0 = subst (λ (x : ℕ). 0 < x) (same ∙ sym widest-rows ∙ none) h.some_gap in omega arith)
 
 -- rows with the same loads
-pub loads-same : (p : Parts) (choices : Choices) (prices : List ℕ) (rows other : Rows) → other.column_loads ≡ rows.column_loads → other.value_loads ≡ rows.value_loads → HasLoads p choices prices rows → HasLoads p choices prices other
-loads-same p choices prices rows other columns values h = record {
+pub loads-same : (p : Parts) (ranges : List LoadRange) (choices : Choices) (prices : List ℕ) (rows other : Rows) → other.column_loads ≡ rows.column_loads → other.value_loads ≡ rows.value_loads → HasLoads p ranges choices prices rows → HasLoads p ranges choices prices other
+loads-same p ranges choices prices rows other columns values h = record {
   columns = subst (λ (v : Vec ℕ Global). (q : ℕ) → q < places p → slice_index v.items q ≡ column_load p choices prices q) (sym columns) h.columns;
-  values = subst (λ (v : Vec ℕ Global). AreValueLoads p prices (slice_index v.items)) (sym values) h.values;
+  values = subst (λ (v : Vec ℕ Global). AreValueLoads p ranges prices (slice_index v.items)) (sym values) h.values;
 }
 
 pub low-same : (p : Parts) (rows other : Rows) → other.column_loads ≡ rows.column_loads → other.value_loads ≡ rows.value_loads → AreLow p rows → AreLow p other

@@ -1,13 +1,15 @@
 -- From the places of links to all places.
 use Rattle.std.proofs.Common.{◌≡◌, ℕ, ◌+◌, ◌*◌, ◌/◌, ◌<◌, ◌≤◌, ◌⊎◌, inl, inr, Bool, true, false, List, length, if◌then◌else◌, sym, ap, ◌∙◌, arith}
-use Rattle.plan_base.specs.declared.parts.Link.{Link}
 use Rattle.plan_base.specs.declared.parts.Parts.{Parts}
 use Rattle.plan_base.specs.Facts.{total_load, top_load}
 use Rattle.plan_base.specs.Arcs.{link_at}
 use Rattle.plan_base.specs.Places.{is_two_way, places, link_of_place, there_of, back_of}
 use Rattle.plan_base.proofs.PlaceSums.{link_of_place-within, place-le-larger}
 use Rattle.plan_base.proofs.TopLoads.{top-le}
+use Rattle.link_steps.specs.declared.range.LoadRange.{LoadRange}
+use Rattle.link_steps.specs.Ranges.{IsIn, IsRange, AreRanges}
 use Rattle.link_steps.specs.Values.{top_back}
+use Rattle.link_steps.proofs.WholeRanges.{ranges_of-link}
 use Rattle.master_step.specs.Trials.{AreValueLoads}
 
 -- what is the same at each link's places is the same at each place
@@ -25,16 +27,22 @@ places-same p f g q = by_cases (is_two_way p.orient)
     ]
     by_cases false within same = (same q within).0
 
-top_back-le : (p : Parts) (l : Link) → top_back p l ≤ total_load p
-top_back-le p l = by_cases (is_two_way p.orient)
+-- the loads in the range of a link's place are at most the total load
+there-low : (p : Parts) (e load : ℕ) (range : LoadRange) → IsRange (top_load p (link_at p e)) range → IsIn range load → load ≤ total_load p
+there-low p e load range is inside = omega (arith, inside.few, is.carried, top-le p (link_at p e))
+
+back-low : (p : Parts) (e load : ℕ) (range : LoadRange) → IsRange (top_back p e) range → IsIn range load → load ≤ total_load p
+back-low p e load range is inside = by_cases (is_two_way p.orient) is
   where
-    by_cases : (b : Bool) → (if b then top_load p l else 0) ≤ total_load p
-    by_cases true = top-le p l
-    by_cases false = omega arith
+    by_cases : (b : Bool) → IsRange (if b then top_load p (link_at p e) else 0) range → load ≤ total_load p
+    by_cases true there = there-low p e load range there inside
+    by_cases false none = omega (arith, inside.few, none.carried)
 
 -- no load that gives a value is above the total load
-pub values-low : (p : Parts) (prices : List ℕ) (loads : ℕ → ℕ) → AreValueLoads p prices loads → (q : ℕ) → q < places p → loads q ≤ total_load p
-values-low p prices loads h q within =
+pub values-low : (p : Parts) (ranges : List LoadRange) (prices : List ℕ) (loads : ℕ → ℕ) → AreRanges p ranges → AreValueLoads p ranges prices loads → (q : ℕ) → q < places p → loads q ≤ total_load p
+values-low p ranges prices loads are h q within =
     let e : ℕ = link_of_place p q in
-    let give = (h e (link_of_place-within p q within)).are_first.give in
-    omega (arith, place-le-larger p loads q, give.within, give.back_within, top-le p (link_at p e), top_back-le p (link_at p e))
+    let inside = link_of_place-within p q within in
+    let give = (h e inside).are_first.give in
+    let both = ranges_of-link p ranges e inside are in
+    omega (arith, place-le-larger p loads q, there-low p e _ _ both.there give.in_range, back-low p e _ _ both.other give.back_in_range)

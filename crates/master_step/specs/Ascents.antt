@@ -1,9 +1,11 @@
 -- What an ascent finds, and the better of a step and an ascent.
 use Rattle.std.specs.Prelude.{ℕ, ◌≡◌, List, length, ℤ, ◌≤ℤ◌, ◌<ℤ◌, int_lt, if◌then◌else◌}
 use Rattle.plan_base.specs.declared.parts.Parts.{Parts}
+use Rattle.link_steps.specs.declared.range.LoadRange.{LoadRange}
 use Rattle.plan_base.specs.Places.{places}
 use Rattle.arc_restrict.specs.Prices.{AreWithinLimit}
 use Rattle.master_step.specs.declared.ascending.Ascent.{Ascent}
+use Rattle.master_step.specs.declared.means.Averages.{Averages}
 use Rattle.master_step.specs.declared.step.Step.{Step}
 use Rattle.master_step.specs.declared.step.Step.TheVariants.{Raised, Same, Bare}
 use Rattle.master_step.specs.Columns.{Choices, IsFirstBare}
@@ -15,26 +17,32 @@ pub record ArePrices (p : Parts) (prices : List ℕ) : Type 0 where
   pub count : length prices ≡ places p
   pub within : AreWithinLimit p prices
 
+-- a load for each place, a cost for each link, and weights for each demand
+pub record HaveSizes (p : Parts) (averages : Averages) : Type 0 where
+  pub loads : length averages.loads ≡ places p
+  pub costs : length averages.costs ≡ length p.links
+  pub weights : length averages.weights ≡ length p.demands
+
 -- prices whose restricted value is at least that of the old ones
-pub record IsAscent (p : Parts) (choices : Choices) (prices : List ℕ) (ascent : Ascent) : Type 0 where
+pub record IsAscent (p : Parts) (ranges : List LoadRange) (choices : Choices) (prices : List ℕ) (ascent : Ascent) : Type 0 where
   pub are_prices : ArePrices p ascent.prices
-  pub is_old : IsRestrictedValue p choices prices ascent.old
-  pub is_new : IsRestrictedValue p choices ascent.prices ascent.new
+  pub is_old : IsRestrictedValue p ranges choices prices ascent.old
+  pub is_new : IsRestrictedValue p ranges choices ascent.prices ascent.new
   pub not_less : ascent.old ≤ℤ ascent.new
 
 -- prices whose restricted value is more than that of the old ones, and at least what the master step raises it to
-pub record IsRiseOf (p : Parts) (choices : Choices) (prices : List ℕ) (old : ℤ) (raised : List ℕ) (new : ℤ) : Type 0 where
+pub record IsRiseOf (p : Parts) (ranges : List LoadRange) (choices : Choices) (prices : List ℕ) (old : ℤ) (raised : List ℕ) (new : ℤ) : Type 0 where
   pub are_prices : ArePrices p raised
-  pub is_old : IsRestrictedValue p choices prices old
-  pub is_new : IsRestrictedValue p choices raised new
+  pub is_old : IsRestrictedValue p ranges choices prices old
+  pub is_new : IsRestrictedValue p ranges choices raised new
   pub greater : old <ℤ new
-  pub not_worse : (trial : List ℕ) (value : ℤ) → IsRaise p choices prices old trial value → value ≤ℤ new
+  pub not_worse : (trial : List ℕ) (value : ℤ) → IsRaise p ranges choices prices old trial value → value ≤ℤ new
 
 -- what the better of a step and an ascent answers is so
-abbrev pub IsBestStepOf : Parts → Choices → List ℕ → Step → Type 0
-IsBestStepOf p choices prices (Raised raised old new) = IsRiseOf p choices prices old raised new
-IsBestStepOf p choices prices (Same value) = IsStalled p choices prices value
-IsBestStepOf p choices prices (Bare demand) = IsFirstBare p choices demand.0
+abbrev pub IsBestStepOf : Parts → List LoadRange → Choices → List ℕ → Step → Type 0
+IsBestStepOf p ranges choices prices (Raised raised old new) = IsRiseOf p ranges choices prices old raised new
+IsBestStepOf p ranges choices prices (Same value) = IsStalled p ranges choices prices value
+IsBestStepOf p ranges choices prices (Bare demand) = IsFirstBare p choices demand.0
 
 -- the raise, or the ascent where it has a greater value
 abbrev pub raised_or : List ℕ → ℤ → ℤ → Ascent → Step

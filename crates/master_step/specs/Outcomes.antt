@@ -1,6 +1,7 @@
 -- What a master step finds.
 use Rattle.std.specs.Prelude.{ℕ, ◌≡◌, ◌<◌, List, length, slice_index, ℤ, ◌≤ℤ◌, ◌<ℤ◌, if◌then◌else◌}
 use Rattle.plan_base.specs.declared.parts.Parts.{Parts}
+use Rattle.link_steps.specs.declared.range.LoadRange.{LoadRange}
 use Rattle.plan_base.specs.Facts.{is_useful}
 use Rattle.plan_base.specs.Arcs.{link_at}
 use Rattle.plan_base.specs.Places.{places, link_of_place}
@@ -13,39 +14,39 @@ use Rattle.master_step.specs.Trials.{IsTrial}
 
 -- of the trials the first one of greatest value, which is more than the value of the prices; all in thousandths of a cost
 -- grain
-pub record IsRaise (p : Parts) (choices : Choices) (prices : List ℕ) (old : ℤ) (trial : List ℕ) (new : ℤ) : Type 0 where
-  pub is_old : IsRestrictedValue p choices prices old
+pub record IsRaise (p : Parts) (ranges : List LoadRange) (choices : Choices) (prices : List ℕ) (old : ℤ) (trial : List ℕ) (new : ℤ) : Type 0 where
+  pub is_old : IsRestrictedValue p ranges choices prices old
   pub j : ℕ
   pub within : j < MAX_TRIALS
-  pub is_trial : IsTrial p choices prices j trial
-  pub is_new : IsRestrictedValue p choices trial new
+  pub is_trial : IsTrial p ranges choices prices j trial
+  pub is_new : IsRestrictedValue p ranges choices trial new
   pub greater : old <ℤ new
-  pub greatest : (i : ℕ) (other : List ℕ) (value : ℤ) → i < MAX_TRIALS → IsTrial p choices prices i other → IsRestrictedValue p choices other value → value ≤ℤ new
-  pub first : (i : ℕ) (other : List ℕ) (value : ℤ) → i < j → IsTrial p choices prices i other → IsRestrictedValue p choices other value → value <ℤ new
+  pub greatest : (i : ℕ) (other : List ℕ) (value : ℤ) → i < MAX_TRIALS → IsTrial p ranges choices prices i other → IsRestrictedValue p ranges choices other value → value ≤ℤ new
+  pub first : (i : ℕ) (other : List ℕ) (value : ℤ) → i < j → IsTrial p ranges choices prices i other → IsRestrictedValue p ranges choices other value → value <ℤ new
 
 -- the gain: the value that the step raises the value of the prices to
-pub record IsGain (p : Parts) (choices : Choices) (prices : List ℕ) (old new : ℤ) : Type 0 where
+pub record IsGain (p : Parts) (ranges : List LoadRange) (choices : Choices) (prices : List ℕ) (old new : ℤ) : Type 0 where
   pub trial : List ℕ
-  pub is_raise : IsRaise p choices prices old trial new
+  pub is_raise : IsRaise p ranges choices prices old trial new
 
 -- it is the gain, whatever the value of the prices is
-abbrev pub HasGain : Parts → Choices → List ℕ → ℤ → Type 0
-HasGain p choices prices new = (old : ℤ) × IsGain p choices prices old new
+abbrev pub HasGain : Parts → List LoadRange → Choices → List ℕ → ℤ → Type 0
+HasGain p ranges choices prices new = (old : ℤ) × IsGain p ranges choices prices old new
 
 -- no trial has a greater value than the prices
-pub record IsStalled (p : Parts) (choices : Choices) (prices : List ℕ) (old : ℤ) : Type 0 where
-  pub is_old : IsRestrictedValue p choices prices old
-  pub none_greater : (j : ℕ) (trial : List ℕ) (value : ℤ) → j < MAX_TRIALS → IsTrial p choices prices j trial → IsRestrictedValue p choices trial value → value ≤ℤ old
+pub record IsStalled (p : Parts) (ranges : List LoadRange) (choices : Choices) (prices : List ℕ) (old : ℤ) : Type 0 where
+  pub is_old : IsRestrictedValue p ranges choices prices old
+  pub none_greater : (j : ℕ) (trial : List ℕ) (value : ℤ) → j < MAX_TRIALS → IsTrial p ranges choices prices j trial → IsRestrictedValue p ranges choices trial value → value ≤ℤ old
 
 -- the prices are stalled, whatever their value is
-abbrev pub HasStalled : Parts → Choices → List ℕ → Type 0
-HasStalled p choices prices = (old : ℤ) × IsStalled p choices prices old
+abbrev pub HasStalled : Parts → List LoadRange → Choices → List ℕ → Type 0
+HasStalled p ranges choices prices = (old : ℤ) × IsStalled p ranges choices prices old
 
 -- what a step answers is so
-abbrev pub IsStepOf : Parts → Choices → List ℕ → Step → Type 0
-IsStepOf p choices prices (Raised trial old new) = IsRaise p choices prices old trial new
-IsStepOf p choices prices (Same value) = IsStalled p choices prices value
-IsStepOf p choices prices (Bare demand) = IsFirstBare p choices demand.0
+abbrev pub IsStepOf : Parts → List LoadRange → Choices → List ℕ → Step → Type 0
+IsStepOf p ranges choices prices (Raised trial old new) = IsRaise p ranges choices prices old trial new
+IsStepOf p ranges choices prices (Same value) = IsStalled p ranges choices prices value
+IsStepOf p ranges choices prices (Bare demand) = IsFirstBare p choices demand.0
 
 -- 0 for a place of a link with a useful module, and the price of another one
 abbrev pub crowd_price : Parts → List ℕ → ℕ → ℕ

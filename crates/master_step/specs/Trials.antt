@@ -1,13 +1,14 @@
 -- The trial prices of a master step.
 use Rattle.std.specs.Prelude.{ℕ, zero, suc, ◌≡◌, ◌<◌, ◌+◌, ◌-◌, ◌*◌, ◌/◌, ◌^◌, min, max, List, length, slice_index, ℤ, if◌then◌else◌, nat_lt, ◌==◌}
-use Rattle.plan_base.specs.declared.parts.Link.{Link}
 use Rattle.plan_base.specs.declared.parts.Parts.{Parts}
+use Rattle.link_steps.specs.declared.range.LoadRange.{LoadRange}
+use Rattle.link_steps.specs.declared.range.LinkRanges.{LinkRanges}
 use Rattle.plan_base.specs.Facts.{top_load, price_limit}
 use Rattle.plan_base.specs.Sums.{sum_below}
 use Rattle.plan_base.specs.Arcs.{link_at, demand_at}
 use Rattle.plan_base.specs.Places.{places, link_of_place, there_of, back_of}
 use Rattle.plan_base.specs.Paths.{uses_place}
-use Rattle.link_steps.specs.Values.{IsLinkValue, AreFirstLoads}
+use Rattle.link_steps.specs.Values.{IsLinkValue, AreFirstLoads, ranges_of_link}
 use Rattle.master_step.specs.Columns.{Choices, least_column}
 
 -- the load that the least columns put on a place, in load grains
@@ -15,19 +16,19 @@ abbrev pub column_load : Parts → Choices → List ℕ → ℕ → ℕ
 column_load p choices prices q = sum_below (λ k. if uses_place p q (least_column p prices (choices k)) then (demand_at p k).load else 0) (length p.demands)
 
 -- the first loads of a link's places that give the link its value at these prices, in load grains
-pub record HasValueLoads (p : Parts) (l : Link) (price back_price load back : ℕ) : Type 0 where
+pub record HasValueLoads (p : Parts) (e : ℕ) (ranges : LinkRanges) (price back_price load back : ℕ) : Type 0 where
   pub value : ℤ
-  pub is_value : IsLinkValue p l price back_price value
-  pub are_first : AreFirstLoads p l price back_price value load back
+  pub is_value : IsLinkValue p e ranges price back_price value
+  pub are_first : AreFirstLoads p e ranges price back_price value load back
 
 -- such loads of the places of the links before a count
-abbrev pub AreLoadsBefore : Parts → List ℕ → ℕ → (ℕ → ℕ) → Type 0
-AreLoadsBefore p prices count loads = (e : ℕ) → e < count
-    → HasValueLoads p (link_at p e) (there_of p (slice_index prices) e) (back_of p (slice_index prices) e) (there_of p loads e) (back_of p loads e)
+abbrev pub AreLoadsBefore : Parts → List LoadRange → List ℕ → ℕ → (ℕ → ℕ) → Type 0
+AreLoadsBefore p ranges prices count loads = (e : ℕ) → e < count
+    → HasValueLoads p e (ranges_of_link p ranges e) (there_of p (slice_index prices) e) (back_of p (slice_index prices) e) (there_of p loads e) (back_of p loads e)
 
 -- such a load for each place
-abbrev pub AreValueLoads : Parts → List ℕ → (ℕ → ℕ) → Type 0
-AreValueLoads p prices loads = AreLoadsBefore p prices (length p.links) loads
+abbrev pub AreValueLoads : Parts → List LoadRange → List ℕ → (ℕ → ℕ) → Type 0
+AreValueLoads p ranges prices loads = AreLoadsBefore p ranges prices (length p.links) loads
 
 -- how far two loads are apart
 abbrev pub apart : ℕ → ℕ → ℕ
@@ -57,9 +58,9 @@ moved limit greatest divisor columns value price =
     if nat_lt value columns then min limit (price + apart columns value * greatest / divisor) else price - apart columns value * greatest / divisor
 
 -- the prices of a trial: each moved, with the widest gap times a power of 2 as the divisor; only where there is a gap
-pub record IsTrial (p : Parts) (choices : Choices) (prices : List ℕ) (j : ℕ) (trial : List ℕ) : Type 0 where
+pub record IsTrial (p : Parts) (ranges : List LoadRange) (choices : Choices) (prices : List ℕ) (j : ℕ) (trial : List ℕ) : Type 0 where
   pub loads : ℕ → ℕ
-  pub are_loads : AreValueLoads p prices loads
+  pub are_loads : AreValueLoads p ranges prices loads
   pub some_gap : 0 < widest_gap p (column_load p choices prices) loads
   pub count : length trial ≡ places p
   pub each : (q : ℕ) → q < places p → slice_index trial q

@@ -2,6 +2,7 @@
 
 ghost use Rattle.std.specs.Prelude.{◌≡◌, ◌<◌, length, Option, Some, None, IfOk, IfSome, IfNone};
 ghost use Rattle.plan_base.specs.Places.{places};
+ghost use Rattle.link_steps.specs.Ranges.{AreRanges};
 ghost use Rattle.arc_restrict.specs.Rows.{forbids};
 ghost use Rattle.arc_restrict.specs.Prices.{AreWithinLimit};
 ghost use Rattle.column_pool.specs.Columns.{columns_at, permitted_at, AreColumns};
@@ -17,7 +18,7 @@ use crate::source::Source;
 use crate::step::Step;
 use arc_restrict::Restriction;
 use column_pool::{Brief, ColumnPool};
-use link_steps::StepTable;
+use link_steps::{Ranges, StepTable};
 use plan_base::{DemandId, Instance, Items, Path, Prices};
 use std::alloc::{AllocError, Global};
 
@@ -38,7 +39,7 @@ fn first_bare(inst: &Instance, lists: &[Items<Path>]) -> Option<DemandId>
 /// The step from a brief whose demands have columns.
 fn raise(alloc: Global, master: &Master<'_>) -> Result<Step, AllocError>
     requires { IsMaster master.now }
-    ensures { IfOk result (IsStepOf master.now.inst.now (allowed_of master.now.source) master.now.prices.now) }
+    ensures { IfOk result (IsStepOf master.now.inst.now master.now.ranges.now (allowed_of master.now.source) master.now.prices.now) }
 {
     let mut rows = Rows::new(alloc, master.inst)?;
     let (old, new) = master.climb(&mut rows);
@@ -72,8 +73,8 @@ pub fn advance(
     brief: &Brief,
 ) -> Result<Step, AllocError>
     requires table { table.now ≡ inst.now }
-    requires brief { IsBriefFor inst.now brief.now.prices brief.now.columns }
-    ensures { IfOk result (IsStepOf inst.now (columns_at brief.now.columns) brief.now.prices) }
+    requires brief { IsBriefFor inst.now brief.now.prices brief.now.ranges brief.now.columns }
+    ensures { IfOk result (IsStepOf inst.now brief.now.ranges (columns_at brief.now.columns) brief.now.prices) }
 {
     let lists = brief.columns.as_slice();
     if let Some(demand) = first_bare(inst, lists) {
@@ -82,41 +83,45 @@ pub fn advance(
     let master = Master {
         inst,
         table,
+        ranges: &brief.ranges,
         prices: &brief.prices,
         source: Source::Lists(lists),
     };
     raise(alloc, &master)
 }
 
-/// The restricted value that the master step raises prices to, over the columns that a restriction permits. Takes no
-/// memory.
+/// The restricted value that the master step raises prices to under ranges, over the columns that a restriction permits.
+/// Takes no memory.
 ///
-/// - Takes: the instance and its table; one price for each place, of at most the price limit; columns of the instance, of
-///   which the restriction permits at least one to each demand; room that was made for the instance.
+/// - Takes: the instance and its table; ranges of its places; one price for each place, of at most the price limit; columns
+///   of the instance, of which the restriction permits at least one to each demand; room that was made for the instance.
 /// - Gives: thousandths of a cost grain; None exactly where no trial has a greater value than the prices.
 /// - Rule: docs/METHOD.md, "Master step".
 /// - Time: 26 times the arcs of all columns, and as often one link value for each link.
 pub fn gain(
     inst: &Instance,
     table: &StepTable,
+    ranges: &Ranges,
     prices: &Prices,
     columns: &ColumnPool,
     restriction: &Restriction,
     room: &mut Room,
 ) -> Option<i128>
     requires table { table.now ≡ inst.now }
+    requires are_ranges { AreRanges inst.now ranges.now }
     requires price_count { length prices.now ≡ places inst.now }
     requires price_limit { AreWithinLimit inst.now prices.now }
     requires columns { AreColumns inst.now columns.now }
     requires permitted { HasColumns inst.now (permitted_at (forbids restriction.now) columns.now) }
     requires room { room.old ≡ places inst.now }
-    ensures some { IfSome result (HasGain inst.now (permitted_at (forbids restriction.now) columns.now) prices.now) }
-    ensures none { IfNone result (HasStalled inst.now (permitted_at (forbids restriction.now) columns.now) prices.now) }
+    ensures some { IfSome result (HasGain inst.now ranges.now (permitted_at (forbids restriction.now) columns.now) prices.now) }
+    ensures none { IfNone result (HasStalled inst.now ranges.now (permitted_at (forbids restriction.now) columns.now) prices.now) }
     ensures room { room.new ≡ room.old }
 {
     let master = Master {
         inst,
         table,
+        ranges,
         prices,
         source: Source::Pool(columns, restriction),
     };

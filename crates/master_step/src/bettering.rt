@@ -1,23 +1,85 @@
 //! The better of the master step and the ascent.
 
-ghost use Rattle.std.specs.Prelude.{◌≡◌, IfOk};
+ghost use Rattle.std.specs.Prelude.{◌≡◌, IfOk, IfSome};
 ghost use Rattle.column_pool.specs.Columns.{columns_at};
 ghost use Rattle.column_pool.specs.Briefs.{IsBriefFor};
-ghost use Rattle.master_step.specs.Ascents.{IsBestStepOf, raised_or, same_or};
+ghost use Rattle.master_step.specs.Columns.{HasColumns};
+ghost use Rattle.master_step.specs.Restricted.{IsRestrictedValue};
+ghost use Rattle.master_step.specs.Ascents.{ArePrices, HaveSizes, IsBestStepOf, raised_or, same_or};
 
 use crate::advancing::advance;
-use crate::ascending::{Ascent, ascend};
+use crate::ascending::{Ascent, ascend, ascend_from};
+use crate::averaging::averaged;
+use crate::means::Averages;
 use crate::step::Step;
 use column_pool::Brief;
 use link_steps::StepTable;
 use plan_base::{Instance, Prices};
 use std::alloc::{AllocError, Global};
 
-/// The raise, or the ascent where it has a greater value.
-fn better_raise(prices: Prices, old: i128, new: i128, ascent: Ascent) -> Step
-    ensures { result ≡ raised_or prices old new ascent }
+/// The least restricted value that shows that no design costs less than this, where costs are multiples of a unit, all in
+/// cost grains; the value is in thousandths of one.
+fn goal_of(cost: u128, unit: u128) -> i128 {
+    let most = cost.saturating_sub(unit);
+    i128::try_from(most.saturating_mul(1000))
+        .unwrap_or(i128::MAX)
+        .saturating_add(1)
+}
+
+/// An ascent, and the averages that it came to, where it has some.
+#[derive(Drop)]
+struct Risen {
+    ascent: Ascent,
+    averages: Option<Averages>,
+}
+
+/// One pass of ascent: from the best prices of an averaged ascent where the brief has a design to be better than, else from
+/// those of the brief.
+fn rise(
+    alloc: Global,
+    inst: &Instance,
+    table: &StepTable,
+    brief: &Brief,
+) -> Result<Risen, AllocError>
+    requires table { table.now ≡ inst.now }
+    requires brief { IsBriefFor inst.now brief.now.prices brief.now.ranges brief.now.columns }
+    requires columns { HasColumns inst.now (columns_at brief.now.columns) }
+    ensures prices { IfOk result (λ risen. ArePrices inst.now risen.ascent.prices) }
+    ensures sizes { IfOk result (λ risen. IfSome risen.averages (HaveSizes inst.now)) }
+    ensures value { IfOk result (λ risen. IsRestrictedValue inst.now brief.now.ranges (columns_at brief.now.columns) risen.ascent.prices risen.ascent.new) }
 {
-    if ascent.new > new {
+    match brief.incumbent {
+        None => Ok(Risen {
+            ascent: ascend(alloc, inst, table, brief)?,
+            averages: None,
+        }),
+        Some(cost) => {
+            let goal = goal_of(cost, brief.unit);
+            let found = averaged(alloc, inst, table, brief, goal)?;
+            Ok(Risen {
+                ascent: ascend_from(alloc, inst, table, brief, &found.prices)?,
+                averages: Some(found.averages),
+            })
+        }
+    }
+}
+
+/// A step, and the averages of the ascent that was made for it.
+#[derive(Debug, Drop)]
+pub struct AveragedStep {
+    /// What the step answers.
+    pub step: Step,
+    /// What the averaged ascent came to, where there was one.
+    pub averages: Option<Averages>,
+}
+
+/// The raise, or the ascent where it has a greater value.
+fn better_raise(prices: Prices, old: i128, new: i128, risen: Risen) -> AveragedStep
+    ensures step { result.step ≡ raised_or prices old new risen.ascent }
+    ensures averages { result.averages ≡ risen.averages }
+{
+    let Risen { ascent, averages } = risen;
+    let step = if ascent.new > new {
         Step::Raised {
             prices: ascent.prices,
             old,
@@ -25,14 +87,17 @@ fn better_raise(prices: Prices, old: i128, new: i128, ascent: Ascent) -> Step
         }
     } else {
         Step::Raised { prices, old, new }
-    }
+    };
+    AveragedStep { step, averages }
 }
 
 /// The ascent where it has a greater value than this, and else that nothing has.
-fn raise_or_same(value: i128, ascent: Ascent) -> Step
-    ensures { result ≡ same_or value ascent }
+fn raise_or_same(value: i128, risen: Risen) -> AveragedStep
+    ensures step { result.step ≡ same_or value risen.ascent }
+    ensures averages { result.averages ≡ risen.averages }
 {
-    if ascent.new > value {
+    let Risen { ascent, averages } = risen;
+    let step = if ascent.new > value {
         Step::Raised {
             prices: ascent.prices,
             old: value,
@@ -40,10 +105,12 @@ fn raise_or_same(value: i128, ascent: Ascent) -> Step
         }
     } else {
         Step::Same { value }
-    }
+    };
+    AveragedStep { step, averages }
 }
 
-/// The better of the master step and one pass of ascent.
+/// The better of the master step and one pass of ascent, which begins with an averaged ascent where the brief tells what a
+/// design costs.
 ///
 /// - Takes: the instance and its table; a brief that fits it.
 /// - Gives: `Raised` with prices whose restricted value is more than that of the brief's prices, and at least what the
@@ -51,7 +118,40 @@ fn raise_or_same(value: i128, ascent: Ascent) -> Step
 ///   column, with the first such demand.
 /// - Errors: want of memory alone.
 /// - Rule: docs/METHOD.md, "Master step".
-/// - Time: that of `advance` and of `ascend`.
+/// - Time: that of `advance`, of `averaged` and of `ascend_from`.
+pub fn averaged_step(
+    alloc: Global,
+    inst: &Instance,
+    table: &StepTable,
+    brief: &Brief,
+) -> Result<AveragedStep, AllocError>
+    requires table { table.now ≡ inst.now }
+    requires brief { IsBriefFor inst.now brief.now.prices brief.now.ranges brief.now.columns }
+    ensures step { IfOk result (λ found. IsBestStepOf inst.now brief.now.ranges (columns_at brief.now.columns) brief.now.prices found.step) }
+    ensures sizes { IfOk result (λ found. IfSome found.averages (HaveSizes inst.now)) }
+{
+    match advance(alloc, inst, table, brief)? {
+        Step::Bare { demand } => Ok(AveragedStep {
+            step: Step::Bare { demand },
+            averages: None,
+        }),
+        Step::Raised { prices, old, new } => {
+            let risen = rise(alloc, inst, table, brief)?;
+            Ok(better_raise(prices, old, new, risen))
+        }
+        Step::Same { value } => {
+            let risen = rise(alloc, inst, table, brief)?;
+            Ok(raise_or_same(value, risen))
+        }
+    }
+}
+
+/// The step of `averaged_step`.
+///
+/// - Takes: the instance and its table; a brief that fits it.
+/// - Errors: want of memory alone.
+/// - Rule: docs/METHOD.md, "Master step".
+/// - Time: that of `averaged_step`.
 pub fn best_step(
     alloc: Global,
     inst: &Instance,
@@ -59,18 +159,9 @@ pub fn best_step(
     brief: &Brief,
 ) -> Result<Step, AllocError>
     requires table { table.now ≡ inst.now }
-    requires brief { IsBriefFor inst.now brief.now.prices brief.now.columns }
-    ensures { IfOk result (IsBestStepOf inst.now (columns_at brief.now.columns) brief.now.prices) }
+    requires brief { IsBriefFor inst.now brief.now.prices brief.now.ranges brief.now.columns }
+    ensures { IfOk result (IsBestStepOf inst.now brief.now.ranges (columns_at brief.now.columns) brief.now.prices) }
 {
-    match advance(alloc, inst, table, brief)? {
-        Step::Bare { demand } => Ok(Step::Bare { demand }),
-        Step::Raised { prices, old, new } => {
-            let ascent = ascend(alloc, inst, table, brief)?;
-            Ok(better_raise(prices, old, new, ascent))
-        }
-        Step::Same { value } => {
-            let ascent = ascend(alloc, inst, table, brief)?;
-            Ok(raise_or_same(value, ascent))
-        }
-    }
+    let AveragedStep { step, .. } = averaged_step(alloc, inst, table, brief)?;
+    Ok(step)
 }

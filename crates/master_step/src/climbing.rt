@@ -16,7 +16,7 @@ use crate::loads::{fill_column_loads, fill_value_loads};
 use crate::rows::Rows;
 use crate::source::Source;
 use crate::valuing::value_of;
-use link_steps::StepTable;
+use link_steps::{Ranges, StepTable};
 use plan_base::{Instance, Prices};
 
 /// The best trial so far.
@@ -48,6 +48,7 @@ fn better(old: i128, best: Option<Best>, trial: Best) -> Option<Best>
 pub struct Master<'a> {
     pub inst: &'a Instance,
     pub table: &'a StepTable,
+    pub ranges: &'a Ranges,
     pub prices: &'a Prices,
     pub source: Source<'a>,
 }
@@ -58,13 +59,13 @@ impl Master<'_> {
         requires master { IsMaster self.now }
         requires room { HasRoom (places self.now.inst.now) rows.old }
         ensures room { HasRoom (places self.now.inst.now) rows.new }
-        ensures loads { HasLoads self.now.inst.now (allowed_of self.now.source) self.now.prices.now rows.new }
+        ensures loads { HasLoads self.now.inst.now self.now.ranges.now (allowed_of self.now.source) self.now.prices.now rows.new }
         ensures low { AreLow self.now.inst.now rows.new }
     {
         let columns = rows.column_loads.as_mut_slice();
         fill_column_loads(self.inst, self.prices, &self.source, columns);
         let values = rows.value_loads.as_mut_slice();
-        fill_value_loads(self.inst, self.table, self.prices, values);
+        fill_value_loads(self.inst, self.table, self.ranges, self.prices, values);
     }
 
     /// The value of a trial, whose prices it writes into the rows.
@@ -74,13 +75,19 @@ impl Master<'_> {
         requires low { AreLow self.now.inst.now rows.old }
         requires greatest { greatest ≤ price_limit self.now.inst.now }
         requires divisor { 0 < divisor }
-        ensures value { IsRestrictedValue self.now.inst.now (allowed_of self.now.source) rows.new.trial result }
+        ensures value { IsRestrictedValue self.now.inst.now self.now.ranges.now (allowed_of self.now.source) rows.new.trial result }
         ensures trial { AreMoved self.now.inst.now self.now.prices.now greatest divisor rows.old rows.new.trial }
         ensures columns { rows.new.column_loads ≡ rows.old.column_loads }
         ensures values { rows.new.value_loads ≡ rows.old.value_loads }
     {
         set_trial(self.inst, self.prices, greatest, divisor, rows);
-        value_of(self.inst, self.table, &rows.trial, &self.source)
+        value_of(
+            self.inst,
+            self.table,
+            self.ranges,
+            &rows.trial,
+            &self.source,
+        )
     }
 
     /// The best of all trials, if one is better than the old value.
@@ -88,13 +95,13 @@ impl Master<'_> {
         requires master { IsMaster self.now }
         requires room { HasRoom (places self.now.inst.now) rows.old }
         requires low { AreLow self.now.inst.now rows.old }
-        requires loads { HasLoads self.now.inst.now (allowed_of self.now.source) self.now.prices.now rows.old }
+        requires loads { HasLoads self.now.inst.now self.now.ranges.now (allowed_of self.now.source) self.now.prices.now rows.old }
         requires greatest { greatest ≡ greatest_of self.now.inst.now self.now.prices.now }
         requires limit { greatest ≤ price_limit self.now.inst.now }
         requires widest { widest ≡ widest_of self.now.inst.now (slice_index rows.old.column_loads.items) (slice_index rows.old.value_loads.items) }
         requires some_gap { 0 < widest }
         requires narrow { widest ≤ MAX_TOTAL_LOAD }
-        ensures best { AreTried self.now.inst.now (allowed_of self.now.source) self.now.prices.now old widest MAX_TRIALS result }
+        ensures best { AreTried self.now.inst.now self.now.ranges.now (allowed_of self.now.source) self.now.prices.now old widest MAX_TRIALS result }
         ensures columns { rows.new.column_loads ≡ rows.old.column_loads }
         ensures values { rows.new.value_loads ≡ rows.old.value_loads }
         ensures room { HasRoom (places self.now.inst.now) rows.new }
@@ -114,12 +121,18 @@ impl Master<'_> {
     pub fn climb(&self, rows: &mut Rows) -> (i128, Option<i128>)
         requires master { IsMaster self.now }
         requires room { HasRoom (places self.now.inst.now) rows.old }
-        ensures raised { IfSome result.1 (IsRaise self.now.inst.now (allowed_of self.now.source) self.now.prices.now result.0 rows.new.trial) }
-        ensures stalled { IfNone result.1 (IsStalled self.now.inst.now (allowed_of self.now.source) self.now.prices.now result.0) }
+        ensures raised { IfSome result.1 (IsRaise self.now.inst.now self.now.ranges.now (allowed_of self.now.source) self.now.prices.now result.0 rows.new.trial) }
+        ensures stalled { IfNone result.1 (IsStalled self.now.inst.now self.now.ranges.now (allowed_of self.now.source) self.now.prices.now result.0) }
         ensures room { HasRoom (places self.now.inst.now) rows.new }
     {
         let _total = self.inst.total_load();
-        let old = value_of(self.inst, self.table, self.prices, &self.source);
+        let old = value_of(
+            self.inst,
+            self.table,
+            self.ranges,
+            self.prices,
+            &self.source,
+        );
         self.fill_loads(rows);
         let widest = widest_gap(self.inst, rows);
         if widest == 0 {

@@ -1,15 +1,18 @@
 //! The master step: prices raised along what the columns and the link values disagree on.
 //!
-//! Promises the restricted value of prices over given columns, exactly, and the step that raises it: which trial is
-//! taken, what it gains, and when none gains. Begin at `advance` and `gain`, whose words are in `specs/Outcomes.antt`
-//! over those of `specs/Columns.antt`, `specs/Restricted.antt` and `specs/Trials.antt`; that one value, one step and one
-//! gain are right is in `laws`. Stands on `plan_base`, `arc_restrict`, `link_steps`, `column_pool`, and on the sums of
+//! Promises the restricted value of prices under ranges of loads and over given columns, exactly, and the step that raises
+//! it: which trial is taken, what it gains, and when none gains. Begin at `advance` and `gain`, whose words are in
+//! `specs/Outcomes.antt` over those of `specs/Columns.antt`, `specs/Restricted.antt` and `specs/Trials.antt`; that one value,
+//! one step and one gain are right is in `laws`. `averaged_step` also looks at ascents, of whose prices it promises that
+//! they fit and what they are worth. Stands on `plan_base`, `arc_restrict`, `link_steps`, `column_pool`, and on the sums of
 //! `proof_tree` and `bound_assembly`. When a step is made is left to the crates above.
 #![tactic(auto)]
 
 mod advancing;
 mod ascending;
+mod averaging;
 mod bettering;
+mod choice;
 mod climbing;
 mod crossings;
 mod crowding;
@@ -17,6 +20,8 @@ mod gaps;
 pub mod laws;
 pub mod limits;
 mod loads;
+mod means;
+mod pace;
 mod rows;
 mod share;
 mod shared;
@@ -25,9 +30,11 @@ mod step;
 mod valuing;
 
 pub use advancing::{advance, gain};
-pub use ascending::{Ascent, ascend};
-pub use bettering::best_step;
+pub use ascending::{Ascent, ascend, ascend_from};
+pub use averaging::{AveragedAscent, averaged};
+pub use bettering::{AveragedStep, averaged_step, best_step};
 pub use crowding::crowd_prices;
+pub use means::Averages;
 pub use rows::Room;
 pub use step::Step;
 pub use valuing::value;

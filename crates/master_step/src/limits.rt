@@ -2,3 +2,6 @@
 
 /// The trials of a master step: each after the first moves prices half as far as the one before.
 pub const MAX_TRIALS: u32 = 24;
+
+/// The turns of an averaged ascent.
+pub const MAX_TURNS: u32 = 100;

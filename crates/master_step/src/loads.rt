@@ -5,6 +5,7 @@ ghost use Rattle.plan_base.specs.declared.limits.TheConstants.{MAX_TOTAL_LOAD};
 ghost use Rattle.plan_base.specs.Facts.{total_load};
 ghost use Rattle.plan_base.specs.Places.{is_two_way, places, there_of, back_of};
 ghost use Rattle.plan_base.specs.Paths.{uses_place};
+ghost use Rattle.link_steps.specs.Ranges.{AreRanges};
 ghost use Rattle.plan_base.specs.Walks.{HasPlacesOnce};
 ghost use Rattle.arc_restrict.specs.Prices.{AreWithinLimit};
 ghost use Rattle.master_step.specs.Columns.{HasColumns};
@@ -12,7 +13,7 @@ ghost use Rattle.master_step.specs.Trials.{column_load, AreValueLoads};
 ghost use Rattle.master_step.specs.Choosing.{allowed_of, IsSource};
 
 use crate::source::Source;
-use link_steps::StepTable;
+use link_steps::{Ranges, StepTable};
 use plan_base::limits::MAX_PLACES;
 use plan_base::{ArcId, DemandId, Instance, LinkId, Prices};
 
@@ -70,18 +71,26 @@ fn put_loads(inst: &Instance, loads: &mut [u128], link: LinkId, load: u128, back
 }
 
 /// Writes the loads that give each link its value, in load grains.
-pub fn fill_value_loads(inst: &Instance, table: &StepTable, prices: &Prices, loads: &mut [u128])
+pub fn fill_value_loads(
+    inst: &Instance,
+    table: &StepTable,
+    ranges: &Ranges,
+    prices: &Prices,
+    loads: &mut [u128],
+)
     requires table { table.now ≡ inst.now }
+    requires are_ranges { AreRanges inst.now ranges.now }
     requires price_count { length prices.now ≡ places inst.now }
     requires price_limit { AreWithinLimit inst.now prices.now }
     requires size { length loads.old ≡ MAX_PLACES }
-    ensures value { AreValueLoads inst.now prices.now (slice_index loads.new) }
+    ensures value { AreValueLoads inst.now ranges.now prices.now (slice_index loads.new) }
     ensures within { (q : ℕ) → q < places inst.now → slice_index loads.new q ≤ total_load inst.now }
 {
     for number in 0..inst.links() {
         let link = LinkId(number);
         let priced = prices.of_link(inst, link);
-        let found = table.link_value(link, priced.there, priced.back);
+        let ranged = ranges.of_link(inst, link);
+        let found = table.link_value(link, ranged, priced.there, priced.back);
         put_loads(
             inst,
             loads,

@@ -3,6 +3,7 @@
 ghost use Rattle.std.specs.Prelude.{◌≡◌, ◌<◌, ◌≤◌, ◌*◌, length, pos, ◌+ℤ◌, ◌-ℤ◌, ◌≤ℤ◌};
 ghost use Rattle.plan_base.specs.declared.limits.TheConstants.{MAX_LINKS, MAX_PRICED_LOAD};
 ghost use Rattle.plan_base.specs.Places.{places};
+ghost use Rattle.link_steps.specs.Ranges.{AreRanges};
 ghost use Rattle.arc_restrict.specs.Rows.{forbids};
 ghost use Rattle.arc_restrict.specs.Prices.{AreWithinLimit};
 ghost use Rattle.proof_tree.specs.Bounds.{price_total};
@@ -15,7 +16,7 @@ ghost use Rattle.master_step.specs.Choosing.{allowed_of, IsSource};
 use crate::source::Source;
 use arc_restrict::Restriction;
 use column_pool::ColumnPool;
-use link_steps::StepTable;
+use link_steps::{Ranges, StepTable};
 use plan_base::{DemandId, Instance, Prices};
 
 /// The sum of loads times least prices over the demands, in thousandths of a cost grain.
@@ -39,7 +40,7 @@ fn column_total(inst: &Instance, prices: &Prices, source: &Source<'_>) -> u128
 /// The two sums together, in thousandths of a cost grain.
 fn total_of(priced: u128, values: i128) -> i128
     requires priced { priced ≤ MAX_PATH_LINKS * MAX_PRICED_LOAD }
-    requires not_positive { values ≤ℤ pos 0 }
+    requires not_above { values ≤ℤ pos (MAX_LINKS * MAX_PRICED_LOAD) }
     requires bounded { (pos 0 -ℤ pos (MAX_LINKS * (2 * MAX_PRICED_LOAD))) ≤ℤ values }
     ensures { result ≡ (pos priced +ℤ values) }
 {
@@ -47,23 +48,30 @@ fn total_of(priced: u128, values: i128) -> i128
 }
 
 /// The restricted value of prices over the columns of a source, in thousandths of a cost grain.
-pub fn value_of(inst: &Instance, table: &StepTable, prices: &Prices, source: &Source<'_>) -> i128
+pub fn value_of(
+    inst: &Instance,
+    table: &StepTable,
+    ranges: &Ranges,
+    prices: &Prices,
+    source: &Source<'_>,
+) -> i128
     requires table { table.now ≡ inst.now }
+    requires are_ranges { AreRanges inst.now ranges.now }
     requires price_count { length prices.now ≡ places inst.now }
     requires price_limit { AreWithinLimit inst.now prices.now }
     requires source { IsSource inst.now source.now }
     requires columns { HasColumns inst.now (allowed_of source.now) }
-    ensures { IsRestrictedValue inst.now (allowed_of source.now) prices.now result }
+    ensures { IsRestrictedValue inst.now ranges.now (allowed_of source.now) prices.now result }
 {
     inst.lawful();
     let priced = column_total(inst, prices, source);
-    let values = table.value_total(prices);
+    let values = table.value_total(ranges, prices);
     total_of(priced, values)
 }
 
-/// The restricted value of prices over the columns that a restriction permits. Takes no memory.
+/// The restricted value of prices under ranges, over the columns that a restriction permits. Takes no memory.
 ///
-/// - Takes: the instance and its table; one price for each place, of at most the price limit; columns of the instance, of
+/// - Takes: the instance and its table; ranges of its places; one price for each place, of at most the price limit; columns of the instance, of
 ///   which the restriction permits at least one to each demand.
 /// - Gives: thousandths of a cost grain; it may be negative.
 /// - Rule: docs/METHOD.md, "Restricted value".
@@ -71,16 +79,19 @@ pub fn value_of(inst: &Instance, table: &StepTable, prices: &Prices, source: &So
 pub fn value(
     inst: &Instance,
     table: &StepTable,
+    ranges: &Ranges,
     prices: &Prices,
     columns: &ColumnPool,
     restriction: &Restriction,
 ) -> i128
     requires table { table.now ≡ inst.now }
+    requires are_ranges { AreRanges inst.now ranges.now }
     requires price_count { length prices.now ≡ places inst.now }
     requires price_limit { AreWithinLimit inst.now prices.now }
     requires columns { AreColumns inst.now columns.now }
     requires permitted { HasColumns inst.now (permitted_at (forbids restriction.now) columns.now) }
-    ensures { IsRestrictedValue inst.now (permitted_at (forbids restriction.now) columns.now) prices.now result }
+    ensures { IsRestrictedValue inst.now ranges.now (permitted_at (forbids restriction.now) columns.now) prices.now result }
 {
-    value_of(inst, table, prices, &Source::Pool(columns, restriction))
+    let source = Source::Pool(columns, restriction);
+    value_of(inst, table, ranges, prices, &source)
 }

@@ -1,0 +1,34 @@
+use Rattle.std.proofs.Common.{sym, subst, rules}
+use Rattle.std.proofs.lemmas.Int.{to_z-of_z}
+use mir.Syntax.{w128}
+use mir.Val.{SFits}
+use Rattle.column_pool.specs.Columns.{columns_at}
+use Rattle.master_step.specs.Outcomes.{IsStepOf}
+use Rattle.master_step.specs.Ascents.{IsBestStepOf}
+use Rattle.master_step.proofs.Rising.{raised-best, same-best}
+use Rattle.master_step.proofs.bettering.averaged_step.Goals as goal
+
+pub returns-in_ok-risen-in-Raised-clause-step : goal.returns-in_ok-risen-in-Raised-clause-step
+returns-in_ok-risen-in-Raised-clause-step c =
+    let p = c.args.inst.now in
+    let ranges = c.args.brief.now.ranges in
+    let choices = columns_at c.args.brief.now.columns in
+    let prices = c.args.brief.now.prices in
+    let raise = subst (IsStepOf p ranges choices prices) c.in-Raised.is c.in_ok-demand.ensures in
+    let old_fits : SFits w128 c.in-Raised.old = search rules in
+    let new_fits : SFits w128 c.in-Raised.new = search rules in
+    subst (IsBestStepOf p ranges choices prices) (sym c.better_raise.ensures.step)
+    (rw (to_z-of_z w128 c.in-Raised.old old_fits, to_z-of_z w128 c.in-Raised.new new_fits)
+    (raised-best p ranges choices prices c.requires.brief.price_limit c.in_ok-risen-in-Raised.risen.ascent c.in_ok-risen-in-Raised.ensures.prices c.in_ok-risen-in-Raised.ensures.value c.in-Raised.old c.in-Raised.prices c.in-Raised.new raise))
+
+pub returns-in_ok-risen-in-Same-clause-step : goal.returns-in_ok-risen-in-Same-clause-step
+returns-in_ok-risen-in-Same-clause-step c =
+    let p = c.args.inst.now in
+    let ranges = c.args.brief.now.ranges in
+    let choices = columns_at c.args.brief.now.columns in
+    let prices = c.args.brief.now.prices in
+    let stalled = subst (IsStepOf p ranges choices prices) c.in-Same.is c.in_ok-demand.ensures in
+    let fits : SFits w128 c.in-Same.value = search rules in
+    subst (IsBestStepOf p ranges choices prices) (sym c.raise_or_same.ensures.step)
+    (rw (to_z-of_z w128 c.in-Same.value fits)
+    (same-best p ranges choices prices c.requires.brief.price_limit c.in_ok-risen-in-Same.risen.ascent c.in_ok-risen-in-Same.ensures.prices c.in_ok-risen-in-Same.ensures.value c.in-Same.value stalled))
