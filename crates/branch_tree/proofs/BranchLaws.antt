@@ -1,5 +1,5 @@
 -- A search tree after a change of one node, and after a split.
-use Rattle.std.proofs.Common.{◌≡◌, ℕ, zero, suc, ◌+◌, ◌-◌, ◌*◌, ◌/◌, ◌^◌, ◌<◌, ◌≤◌, ◌⊎◌, inl, inr, true, List, [], ◌∷◌, ◌++◌, length, get_or, set, All, IsTrue, refl, sym, ap, subst, subst₂, ◌∙◌, arith}
+use Rattle.std.proofs.Common.{◌≡◌, ℕ, zero, suc, ◌+◌, ◌-◌, ◌*◌, ◌/◌, ◌^◌, ◌<◌, ◌≤◌, ◌⊎◌, inl, inr, true, List, [], ◌∷◌, ◌++◌, length, get_or, set, IsTrue, refl, sym, ap, subst, subst₂, ◌∙◌, arith}
 use Rattle.std.proofs.lemmas.Bool.{cases_eq, cases_lt, ltb-true, and_parts, false≢true}
 use Rattle.std.proofs.lemmas.List.{get_or_append_left, get_or-append_right, get_or-set_same, get_or-set_other, get_or_default, set-append_left, length-set, length-append}
 use Rattle.std.proofs.lemmas.List.Elements.{All-nil, All-cons, All-append, All-set, All-weaker}
@@ -9,22 +9,36 @@ use Rattle.plan_base.specs.declared.ids.ArcId.{ArcId}
 use Rattle.plan_base.specs.declared.ids.DemandId.{DemandId}
 use Rattle.plan_base.specs.declared.parts.Parts.{Parts}
 use Rattle.plan_base.specs.Arcs.{is_arc}
+use Rattle.link_steps.specs.declared.range.LoadRange.{LoadRange}
+use Rattle.link_steps.specs.Ranges.{AreRanges}
+use Rattle.link_steps.proofs.WholeRanges.{AreRanges-whole}
 use Rattle.arc_restrict.specs.Restrictions.{Forbidden}
 use Rattle.proof_tree.specs.Splits.{IsSide}
 use Rattle.branch_tree.specs.declared.node.Limit.{Limit}
+use Rattle.branch_tree.specs.declared.node.Limit.TheVariants as limit
 use Rattle.branch_tree.specs.declared.node.Division.{Division}
 use Rattle.branch_tree.specs.declared.node.Fate.{Fate}
 use Rattle.branch_tree.specs.declared.node.Fate.TheVariants.{Undone, ClosedBy, DividedBy}
 use Rattle.branch_tree.specs.declared.node.BranchNode.{BranchNode}
-use Rattle.branch_tree.specs.Branches.{tree_node_at, no_tree_node, limits_at, with_limit, is_open_in, is_open_at, with_fate, with_prices, child_of, with_division, restriction_at, IsLimitOf, IsFateOf, IsNodeOf, IsTreeOf, IsBranching}
+use Rattle.branch_tree.specs.Branches.{tree_node_at, no_tree_node, limits_at, ranges_with, left_limit, right_limit, ranges_at, region_at, is_open_in, is_open_at, with_fate, with_prices, child_of, with_division, arcs_split, IsLimitOf, IsDivider, IsFateOf, IsNodeOf, IsTreeOf, IsBranching}
 use Rattle.branch_tree.specs.Records.{HasLaterChildren, AreInherited, AreNodes}
+use Rattle.branch_tree.proofs.LimitLaws.{HasSides}
 
 -- an arc that exists has a number below twice the count of links
 pub arc_within : (p : Parts) (a : ArcId) → IsTrue (is_arc p a) → a.0 < 2 * length p.links
 arc_within p a exists = let below : a.0 / 2 < length p.links = ltb-true _ _ (and_parts _ _ exists).0 in omega arith
 
-side-limit : (p : Parts) (r : Forbidden) (id : DemandId) (at : NodeId) (arcs : List ArcId) → id.0 < length p.demands → IsSide p r id at arcs → IsLimitOf p (record { demand = id; arcs = arcs })
-side-limit p r id at arcs demand side = record { demand = demand; arcs = All-weaker (λ a. IsTrue (is_arc p a)) (λ a. a.0 < 2 * length p.links) (arc_within p) arcs side.are_arcs }
+side-limit : (p : Parts) (r : Forbidden) (id : DemandId) (at : NodeId) (arcs : List ArcId) → id.0 < length p.demands → IsSide p r id at arcs → IsLimitOf p (limit.Arcs id arcs)
+side-limit p r id at arcs demand side = (demand, All-weaker (λ a. IsTrue (is_arc p a)) (λ a. a.0 < 2 * length p.links) (arc_within p) arcs side.are_arcs)
+
+-- a split by the divergence rule has its sides
+pub arc-sides : (p : Parts) (r : Forbidden) (ranges : List LoadRange) (id : DemandId) (at : NodeId) (left right : List ArcId) → AreRanges p ranges → IsBranching p r id at left right → HasSides p ranges (arcs_split id at left right)
+arc-sides p r ranges id at left right are branching = record {
+  left = side-limit p r id at left branching.is_split.demand branching.is_split.left_side;
+  right = side-limit p r id at right branching.is_split.demand branching.is_split.right_side;
+  left_ranges = are;
+  right_ranges = are;
+}
 
 -- an open node is one of the nodes
 pub open-within : (nodes : List BranchNode) (n : ℕ) → is_open_at nodes n ≡ true → n < length nodes
@@ -33,34 +47,40 @@ open-within nodes n is_open = elim (cases_lt n (length nodes)) [
   | inr past ↦ absurd (false≢true (sym (ap is_open_in (slice_get_past nodes n past)) ∙ is_open))
 ]
 
--- after a split by the divergence rule the tree is one for the instance
-pub tree_of-with_division : (p : Parts) (old : List BranchNode) (n : ℕ) (d : Division) → n < length old → IsTreeOf p old → IsBranching p (restriction_at old n) d.demand d.at d.left d.right → IsTreeOf p (with_division old n d)
-tree_of-with_division p old n d within are branching =
-    All-append (IsNodeOf p) (with_fate old n (DividedBy d)) (child d.left ∷ child d.right ∷ [])
-    (All-set (IsNodeOf p) old n (record parent { fate = DividedBy d }) (record { limits = known; fate = branching }) are)
-    (All-cons (IsNodeOf p) (child d.left) (child d.right ∷ []) (is_child d.left branching.is_split.left_side) (All-cons (IsNodeOf p) (child d.right) [] (is_child d.right branching.is_split.right_side) (All-nil (IsNodeOf p))))
+-- a tree of one node without limits is one for each instance
+pub tree_of-root : (p : Parts) (prices : List ℕ) → IsTreeOf p (record { limits = []; prices = prices; fate = Undone } ∷ [])
+tree_of-root p prices = All-cons (IsNodeOf p) (record { limits = []; prices = prices; fate = Undone }) [] (record { limits = All-nil (IsLimitOf p); ranges = AreRanges-whole p; fate = tt }) (All-nil (IsNodeOf p))
+
+-- after a split the tree is one for the instance
+pub tree_of-with_division : (p : Parts) (old : List BranchNode) (n : ℕ) (d : Division) → n < length old → IsTreeOf p old → IsDivider p (region_at p old n) d.by → HasSides p (ranges_at p old n) d.by → IsTreeOf p (with_division old n d)
+tree_of-with_division p old n d within are is sides =
+    All-append (IsNodeOf p) (with_fate old n (DividedBy d)) (child (left_limit d.by) ∷ child (right_limit d.by) ∷ [])
+    (All-set (IsNodeOf p) old n (record parent { fate = DividedBy d }) (record { limits = known.limits; ranges = known.ranges; fate = is }) are)
+    (All-cons (IsNodeOf p) (child (left_limit d.by)) (child (right_limit d.by) ∷ []) (is_child (left_limit d.by) sides.left sides.left_ranges)
+    (All-cons (IsNodeOf p) (child (right_limit d.by)) [] (is_child (right_limit d.by) sides.right sides.right_ranges) (All-nil (IsNodeOf p))))
   where
     parent : BranchNode
     parent = tree_node_at old n
 
-    child : List ArcId → BranchNode
-    child arcs = child_of parent d.demand arcs
+    child : Limit → BranchNode
+    child last = child_of parent last
 
-    known : All (IsLimitOf p) parent.limits
-    known = (are n no_tree_node within).limits
+    known : IsNodeOf p parent
+    known = are n no_tree_node within
 
-    is_child : (arcs : List ArcId) → IsSide p (restriction_at old n) d.demand d.at arcs → IsNodeOf p (child arcs)
-    is_child arcs side = record {
-      limits = All-cons (IsLimitOf p) (record { demand = d.demand; arcs = arcs }) parent.limits (side-limit p (restriction_at old n) d.demand d.at arcs branching.is_split.demand side) known;
+    is_child : (last : Limit) → IsLimitOf p last → AreRanges p (ranges_with (ranges_at p old n) last) → IsNodeOf p (child last)
+    is_child last is_limit ranges = record {
+      limits = All-cons (IsLimitOf p) last parent.limits is_limit known.limits;
+      ranges = ranges;
       fate = tt;
     }
 
 -- a node of a tree for the instance may have another fate that is as it should be, and other prices
-pub tree_of-with_fate : (p : Parts) (nodes : List BranchNode) (n : ℕ) (fate : Fate) → n < length nodes → IsTreeOf p nodes → IsFateOf p (restriction_at nodes n) fate → IsTreeOf p (with_fate nodes n fate)
-tree_of-with_fate p nodes n fate within are is_fate = All-set (IsNodeOf p) nodes n (record (tree_node_at nodes n) { fate = fate }) (record { limits = (are n no_tree_node within).limits; fate = is_fate }) are
+pub tree_of-with_fate : (p : Parts) (nodes : List BranchNode) (n : ℕ) (fate : Fate) → n < length nodes → IsTreeOf p nodes → IsFateOf p (region_at p nodes n) fate → IsTreeOf p (with_fate nodes n fate)
+tree_of-with_fate p nodes n fate within are is_fate = All-set (IsNodeOf p) nodes n (record (tree_node_at nodes n) { fate = fate }) (record { limits = (are n no_tree_node within).limits; ranges = (are n no_tree_node within).ranges; fate = is_fate }) are
 
 pub tree_of-with_prices : (p : Parts) (nodes : List BranchNode) (n : ℕ) (prices : List ℕ) → n < length nodes → IsTreeOf p nodes → IsTreeOf p (with_prices nodes n prices)
-tree_of-with_prices p nodes n prices within are = All-set (IsNodeOf p) nodes n (record (tree_node_at nodes n) { prices = prices }) (record { limits = (are n no_tree_node within).limits; fate = (are n no_tree_node within).fate }) are
+tree_of-with_prices p nodes n prices within are = All-set (IsNodeOf p) nodes n (record (tree_node_at nodes n) { prices = prices }) (record { limits = (are n no_tree_node within).limits; ranges = (are n no_tree_node within).ranges; fate = (are n no_tree_node within).fate }) are
 
 -- children have the limits of their parent where nothing of theirs changed
 inherited-same : (count n : ℕ) (before after : ℕ → List Limit) (limits : List Limit) (fate : Fate) → ((m : ℕ) → m < count → after m ≡ before m) → HasLaterChildren count n fate → AreInherited before limits fate → AreInherited after limits fate
@@ -151,7 +171,7 @@ AreNodes-with_division old n d are within room left right = record {
     front = set old n node
 
     last : List BranchNode
-    last = child_of parent d.demand d.left ∷ child_of parent d.demand d.right ∷ []
+    last = child_of parent (left_limit d.by) ∷ child_of parent (right_limit d.by) ∷ []
 
     new : List BranchNode
     new = front ++ last
@@ -191,14 +211,14 @@ AreNodes-with_division old n d are within room left right = record {
     later_at m below (inl inside) (inl is) = subst (λ (x : BranchNode). HasLaterChildren (length new) m x.fate) (sym (here m inside is)) (omega (arith, long), omega (arith, long), omega (arith, long), omega (arith, long))
     later_at m below (inl inside) (inr apart) = subst (λ (x : BranchNode). HasLaterChildren (length new) m x.fate) (sym (other m inside apart)) (later-more (length old) (length new) m (tree_node_at old m).fate (omega (arith, long)) (are.later m inside))
 
-    child_limits : (m i : ℕ) (arcs : List ArcId) → m ≡ length old + i → get_or last i no_tree_node ≡ child_of parent d.demand arcs → limits_at new m ≡ with_limit parent.limits d.demand arcs
-    child_limits m i arcs at is = ap (λ (x : BranchNode). x.limits) (behind m i at ∙ is)
+    child_limits : (m i : ℕ) (more : Limit) → m ≡ length old + i → get_or last i no_tree_node ≡ child_of parent more → limits_at new m ≡ more ∷ parent.limits
+    child_limits m i more at is = ap (λ (x : BranchNode). x.limits) (behind m i at ∙ is)
 
     inherited_at : (m : ℕ) → m < length new → (m < length old) ⊎ (length old ≤ m) → (m ≡ n) ⊎ (m ≡ n → ⊥) → AreInherited (limits_at new) (limits_at new m) (tree_node_at new m).fate
     inherited_at m below (inr past) which = subst (AreInherited (limits_at new) (limits_at new m)) (sym (child_open m below past)) tt
     inherited_at m below (inl inside) (inl is) =
         subst (λ (x : BranchNode). AreInherited (limits_at new) x.limits x.fate) (sym (here m inside is))
-        (child_limits d.left_child.0 0 d.left (omega arith) refl, child_limits d.right_child.0 1 d.right (omega arith) refl)
+        (child_limits d.left_child.0 0 (left_limit d.by) (omega arith) refl, child_limits d.right_child.0 1 (right_limit d.by) (omega arith) refl)
     inherited_at m below (inl inside) (inr apart) =
         subst (λ (x : BranchNode). AreInherited (limits_at new) x.limits x.fate) (sym (other m inside apart))
         (inherited-same (length old) m (limits_at old) (limits_at new) (limits_at old m) (tree_node_at old m).fate limits_before (are.later m inside) (are.inherited m inside))
@@ -216,9 +236,9 @@ set-with_division nodes last n node fate within read =
     ∙ ap (λ (front : List BranchNode). front ++ last) (set-with_fate nodes n node fate within (read ∙ get_or_append_left nodes last node n within))
 
 -- the nodes with both children behind them, where the parent is written back as split
-pub set-is_division : (old nodes : List BranchNode) (n : ℕ) (d : Division) (node : BranchNode) → n < length old → nodes ≡ old ++ (child_of (tree_node_at old n) d.demand d.left ∷ child_of (tree_node_at old n) d.demand d.right ∷ []) → node ≡ get_or nodes n node
+pub set-is_division : (old nodes : List BranchNode) (n : ℕ) (d : Division) (node : BranchNode) → n < length old → nodes ≡ old ++ (child_of (tree_node_at old n) (left_limit d.by) ∷ child_of (tree_node_at old n) (right_limit d.by) ∷ []) → node ≡ get_or nodes n node
     → set nodes n (record node { fate = DividedBy d }) ≡ with_division old n d
 set-is_division old nodes n d node within grown read =
-    let last : List BranchNode = child_of (tree_node_at old n) d.demand d.left ∷ child_of (tree_node_at old n) d.demand d.right ∷ [] in
+    let last : List BranchNode = child_of (tree_node_at old n) (left_limit d.by) ∷ child_of (tree_node_at old n) (right_limit d.by) ∷ [] in
     ap (λ (xs : List BranchNode). set xs n (record node { fate = DividedBy d })) grown
     ∙ set-with_division old last n node (DividedBy d) within (read ∙ ap (λ (xs : List BranchNode). get_or xs n node) grown)

@@ -4,16 +4,23 @@ use Rattle.proof_tree.specs.declared.tree.Evidence.TheVariants as evidence
 use Rattle.proof_tree.specs.declared.tree.TreeNode.{TreeNode}
 use Rattle.proof_tree.specs.declared.tree.TreeNode.TheVariants as record_of
 use Rattle.branch_tree.specs.declared.node.Limit.{Limit}
+use Rattle.branch_tree.specs.declared.node.Divider.{Divider}
+use Rattle.branch_tree.specs.declared.node.Divider.TheVariants as divider
 use Rattle.branch_tree.specs.declared.node.Fate.{Fate}
 use Rattle.branch_tree.specs.declared.node.Fate.TheVariants.{Undone, ClosedBy, DividedBy}
 use Rattle.branch_tree.specs.declared.node.BranchNode.{BranchNode}
-use Rattle.branch_tree.specs.Branches.{tree_node_at, limits_at, with_limit}
+use Rattle.branch_tree.specs.Branches.{tree_node_at, limits_at, left_limit, right_limit}
+
+-- the record of a split
+abbrev pub split_record : Divider → TreeNode
+split_record (divider.Arcs d) = record_of.Split d.demand d.at d.left d.right
+split_record (divider.Load d) = record_of.Loads d.place d.load
 
 -- the record of a node with these prices: an open node is an open leaf with them
 abbrev pub record_by : List ℕ → Fate → TreeNode
 record_by prices Undone = record_of.Leaf (evidence.Open prices)
 record_by prices (ClosedBy found) = record_of.Leaf found
-record_by prices (DividedBy d) = record_of.Split d.demand d.at d.left d.right
+record_by prices (DividedBy d) = split_record d.by
 
 -- the records of both children, the left one first
 abbrev pub below_by : (ℕ → List TreeNode) → Fate → List TreeNode
@@ -53,11 +60,11 @@ HasLaterChildren count n Undone = ⊤
 HasLaterChildren count n (ClosedBy found) = ⊤
 HasLaterChildren count n (DividedBy d) = (n < d.left_child.0) × (d.left_child.0 < count) × (n < d.right_child.0) × (d.right_child.0 < count)
 
--- a node's children have its limits and one more: the left child the left side, the right child the right side
+-- a node's children have its limits and one more, each that of its side
 abbrev pub AreInherited : (ℕ → List Limit) → List Limit → Fate → Type 0
 AreInherited limits_of limits Undone = ⊤
 AreInherited limits_of limits (ClosedBy found) = ⊤
-AreInherited limits_of limits (DividedBy d) = (limits_of d.left_child.0 ≡ with_limit limits d.demand d.left) × (limits_of d.right_child.0 ≡ with_limit limits d.demand d.right)
+AreInherited limits_of limits (DividedBy d) = (limits_of d.left_child.0 ≡ left_limit d.by ∷ limits) × (limits_of d.right_child.0 ≡ right_limit d.by ∷ limits)
 
 -- nodes that a search tree may have: the root has no limits, and the children of each split have its limits and their side
 pub record AreNodes (nodes : List BranchNode) : Type 0 where

@@ -1,19 +1,22 @@
 //! The search tree, and its calls.
 
-ghost use Rattle.std.specs.Prelude.{ℕ, ◌≡◌, ◌<◌, [], ◌∷◌, Option, length, count_by, false, true, IfOk, IfErr, OnOk, OnErr, IsSomeAnd, All, Some};
+ghost use Rattle.std.specs.Prelude.{ℕ, ◌≡◌, ◌<◌, ◌≤◌, ◌↔◌, [], ◌∷◌, Option, length, count_by, false, true, IfOk, IfErr, OnOk, OnErr, IsSomeAnd, IsTrue, All, Some};
 ghost use Rattle.plan_base.specs.declared.parts.Parts.{Parts as AnyParts};
 ghost use Rattle.plan_base.specs.Arcs.{demand_at};
+ghost use Rattle.plan_base.specs.Places.{places};
 ghost use Rattle.plan_base.specs.Paths.{IsSimplePath};
+ghost use Rattle.link_steps.specs.Ranges.{AreRanges};
 ghost use Rattle.arc_restrict.specs.Rows.{forbids, HasSizeOf};
 ghost use Rattle.proof_tree.specs.Trees.{IsValidTree};
-ghost use Rattle.branch_tree.specs.Branches.{restriction_by, restriction_at, is_open_fate, is_open_node, prices_at, is_open_at, is_open_evidence, with_fate, with_prices, child_of, IsDivided, IsSplitAt, IsSplitFault, PartAtNode, IsLimitOf, IsTreeOf, tree_node_at, with_limit, HaveTheirEvidence};
+ghost use Rattle.branch_tree.specs.Branches.{restriction_by, ranges_by, left_limit, right_limit, restriction_at, ranges_at, is_open_fate, is_open_node, prices_at, is_open_at, is_open_evidence, with_fate, with_prices, child_of, IsDivided, IsSplitAt, IsLoadSplitAt, IsSplitFault, IsLoadFault, PartAtNode, IsLimitOf, IsTreeOf, tree_node_at, HaveTheirEvidence};
 ghost use Rattle.branch_tree.specs.Records.{records_of};
 
 use crate::dealing::deal;
-use crate::node::{BranchNode, Division, Fate, Limit};
+use crate::node::{ArcSplit, BranchNode, Divider, Division, Fate, Limit, LoadSplit};
 use crate::records::records_of;
-use crate::split_fault::SplitFault;
+use crate::split_fault::{LoadFault, SplitFault};
 use arc_restrict::{Restriction, divergence};
+use link_steps::{LoadRange, Ranges};
 use plan_base::{ArcId, BranchId, DemandId, Instance, Items, NodeId, Path, Prices};
 use proof_tree::{Evidence, Tree};
 use std::alloc::{AllocError, Global};
@@ -30,7 +33,7 @@ fn is_open_fate(fate: &Fate) -> bool
     }
 }
 
-/// The restriction that the limits make.
+/// What the limits forbid.
 fn restriction_by(
     alloc: Global,
     inst: &Instance,
@@ -44,33 +47,42 @@ fn restriction_by(
     let mut here = limits.len();
     while here > 0 {
         here -= 1;
-        let limit = &limits[here];
-        restriction.forbid(limit.demand, limit.arcs.as_slice());
+        limits[here].forbid(&mut restriction);
     }
     Ok(restriction)
 }
 
+/// How much load the limits leave each place.
+fn ranges_by(alloc: Global, inst: &Instance, limits: &[Limit]) -> Result<Ranges, AllocError>
+    requires { All (IsLimitOf inst.now) limits.now }
+    ensures { IfOk result (λ ranges. ranges ≡ ranges_by inst.now limits.now) }
+{
+    let mut ranges = Ranges::whole(alloc, inst)?;
+    let mut here = limits.len();
+    while here > 0 {
+        here -= 1;
+        limits[here].narrow(&mut ranges);
+    }
+    Ok(ranges)
+}
+
 /// One more limit, in front of the same limits.
-fn limits_with(
-    alloc: Global,
-    limits: &[Limit],
-    demand: DemandId,
-    arcs: &[ArcId],
-) -> Result<Items<Limit>, AllocError>
-    ensures { IfOk result (λ more. more ≡ with_limit limits.now demand arcs.now) }
+fn limits_with(alloc: Global, limits: &[Limit], last: Limit) -> Result<Items<Limit>, AllocError>
+    ensures { IfOk result (λ more. more ≡ last ∷ limits.now) }
 {
     let mut more = Vec::new(alloc);
-    more.push(Limit {
-        demand,
-        arcs: Items::from_vec(Vec::from_slice(alloc, arcs)?),
-    })?;
-    for limit in limits {
-        more.push(Limit {
-            demand: limit.demand,
-            arcs: limit.arcs.copy()?,
-        })?;
+    more.push(last)?;
+    for held in limits {
+        more.push(held.copy()?)?;
     }
     Ok(Items::from_vec(more))
+}
+
+/// Whether the range has loads up to this one, and loads above it.
+fn has_both_sides(range: LoadRange, load: u64) -> bool
+    ensures { IsTrue result ↔ ((range.least ≤ load) × (load < range.most)) }
+{
+    range.least <= load && load < range.most
 }
 
 /// The search tree: nodes in the order of their making, the root first.
@@ -144,7 +156,48 @@ impl Branch {
         let sides = deal(alloc, &restriction, demand, one, other, inst.leaving(at))?;
         let left = Items::from_vec(sides.left);
         let right = Items::from_vec(sides.right);
-        Ok(self.divide(node, demand, at, left, right)?)
+        let by = Divider::Arcs(ArcSplit {
+            demand,
+            at,
+            left,
+            right,
+        });
+        Ok(self.divide(node, by)?)
+    }
+
+    /// Splits an open node by loads of a place.
+    ///
+    /// - Takes: a place of the instance, which is that of all calls on this tree, and the most load
+    ///   of the left child.
+    /// - Gives: the left child, where the place carries at most this load, and the right child,
+    ///   where it carries more. Both are open and begin with the node's prices.
+    /// - Errors: `NotOpen`, `OutsideRange`, in this order; or want of memory, which may come in
+    ///   place of any answer, and which a tree of more than 2^32 - 1 nodes counts as. The tree is
+    ///   then unchanged.
+    /// - Rule: docs/METHOD.md, "Search trees".
+    /// - Time: linear in the places and in the limits of the node.
+    pub fn split_load(
+        &mut self,
+        inst: &Instance,
+        node: BranchId,
+        split: LoadSplit,
+    ) -> Result<(BranchId, BranchId), LoadFault>
+        requires place { split.place < places inst.now }
+        requires of { IsTreeOf inst.now self.old }
+        ensures ok { IfOk result (λ ids. IsLoadSplitAt inst.now self.old node.0 split ids self.new) }
+        ensures fault { IfErr result (IsLoadFault inst.now self.old node.0 split) }
+        ensures unchanged { OnErr result (self.new ≡ self.old) }
+        ensures of { IsTreeOf inst.now self.new }
+    {
+        inst.lawful();
+        if !self.is_open(node) {
+            return Err(LoadFault::NotOpen);
+        }
+        let range = self.ranges(inst, node)?.at(split.place);
+        if !has_both_sides(range, split.load) {
+            return Err(LoadFault::OutsideRange);
+        }
+        Ok(self.divide(node, Divider::Load(split))?)
     }
 
     /// Copies the prices over those of an open node. Takes no memory.
@@ -218,6 +271,22 @@ impl Branch {
         restriction_by(*self.nodes.allocator(), inst, limits)
     }
 
+    /// How much load the splits above the node leave each place.
+    ///
+    /// - Takes: a node of the tree, and the instance of all calls on it.
+    /// - Errors: want of memory.
+    /// - Rule: docs/METHOD.md, "Search trees".
+    /// - Time: linear in the places, their links' modules and the limits of the node.
+    pub fn ranges(&self, inst: &Instance, node: BranchId) -> Result<Ranges, AllocError>
+        requires node { node.0 < length self.now }
+        requires of { IsTreeOf inst.now self.now }
+        ensures value { IfOk result (λ ranges. ranges ≡ ranges_at inst.now self.now node.0) }
+        ensures ranges { IfOk result (AreRanges inst.now) }
+    {
+        let limits = self.nodes[node.0 as usize].limits.as_slice();
+        ranges_by(*self.nodes.allocator(), inst, limits)
+    }
+
     /// The tree of what is known: an open node is an open leaf with its prices.
     ///
     /// - Gives: a valid tree, where each leaf has its evidence.
@@ -271,19 +340,14 @@ impl Branch {
         }
     }
 
-    /// The child of a node that also forbids these arcs.
-    fn child(
-        &self,
-        node: BranchId,
-        demand: DemandId,
-        arcs: &[ArcId],
-    ) -> Result<BranchNode, AllocError>
+    /// The child of a node that has this limit too.
+    fn child(&self, node: BranchId, last: Limit) -> Result<BranchNode, AllocError>
         requires { node.0 < length self.now }
-        ensures { IfOk result (λ child. child ≡ child_of (tree_node_at self.now node.0) demand arcs.now) }
+        ensures { IfOk result (λ child. child ≡ child_of (tree_node_at self.now node.0) last) }
     {
         let parent = &self.nodes[node.0 as usize];
         let alloc = *self.nodes.allocator();
-        let limits = limits_with(alloc, parent.limits.as_slice(), demand, arcs)?;
+        let limits = limits_with(alloc, parent.limits.as_slice(), last)?;
         Ok(BranchNode {
             limits,
             prices: parent.prices.copy()?,
@@ -291,35 +355,22 @@ impl Branch {
         })
     }
 
-    /// The two children of a node.
-    fn children(
-        &self,
-        node: BranchId,
-        demand: DemandId,
-        left: &[ArcId],
-        right: &[ArcId],
-    ) -> Result<Vec<BranchNode>, AllocError>
+    /// The two children of a node that is split so.
+    fn children(&self, node: BranchId, by: &Divider) -> Result<Vec<BranchNode>, AllocError>
         requires { node.0 < length self.now }
         ensures { IfOk result (λ children. children.items
-            ≡ child_of (tree_node_at self.now node.0) demand left.now ∷ child_of (tree_node_at self.now node.0) demand right.now ∷ []) }
+            ≡ child_of (tree_node_at self.now node.0) (left_limit by.now) ∷ child_of (tree_node_at self.now node.0) (right_limit by.now) ∷ []) }
     {
         let mut children = Vec::new(*self.nodes.allocator());
-        children.push(self.child(node, demand, left)?)?;
-        children.push(self.child(node, demand, right)?)?;
+        children.push(self.child(node, by.left_limit()?)?)?;
+        children.push(self.child(node, by.right_limit()?)?)?;
         Ok(children)
     }
 
     /// Gives an open node two children.
-    fn divide(
-        &mut self,
-        node: BranchId,
-        demand: DemandId,
-        at: NodeId,
-        left: Items<ArcId>,
-        right: Items<ArcId>,
-    ) -> Result<(BranchId, BranchId), AllocError>
+    fn divide(&mut self, node: BranchId, by: Divider) -> Result<(BranchId, BranchId), AllocError>
         requires { is_open_at self.old node.0 ≡ true }
-        ensures ok { IfOk result (λ ids. IsDivided self.old node.0 demand at left right ids self.new) }
+        ensures ok { IfOk result (λ ids. IsDivided self.old node.0 by ids self.new) }
         ensures unchanged { OnErr result (self.new ≡ self.old) }
     {
         let count = self.nodes.len();
@@ -328,14 +379,11 @@ impl Branch {
         }
         let left_child = BranchId(count as u32);
         let right_child = BranchId(count as u32 + 1);
-        let mut children = self.children(node, demand, left.as_slice(), right.as_slice())?;
+        let mut children = self.children(node, &by)?;
         self.nodes.append(&mut children)?;
         let parent = &mut self.nodes[node.0 as usize];
         parent.fate = Fate::DividedBy(Division {
-            demand,
-            at,
-            left,
-            right,
+            by,
             left_child,
             right_child,
         });

@@ -1,10 +1,10 @@
 //! The records of a search tree, in preorder.
 
 ghost use Rattle.std.specs.Prelude.{◌≡◌, IfOk};
-ghost use Rattle.branch_tree.specs.Records.{record_by, records_of, AreNodes};
+ghost use Rattle.branch_tree.specs.Records.{split_record, record_by, records_of, AreNodes};
 ghost use Rattle.branch_tree.specs.Waiting.{with_children};
 
-use crate::node::{BranchNode, Fate};
+use crate::node::{BranchNode, Divider, Fate};
 use plan_base::{BranchId, Prices};
 use proof_tree::{Evidence, TreeNode};
 use std::alloc::{AllocError, Global};
@@ -27,6 +27,24 @@ fn copy_evidence(evidence: &Evidence) -> Result<Evidence, AllocError>
     })
 }
 
+/// The record of a split.
+fn split_record(by: &Divider) -> Result<TreeNode, AllocError>
+    ensures { IfOk result (λ made. made ≡ split_record by.now) }
+{
+    Ok(match by {
+        Divider::Arcs(split) => TreeNode::Split {
+            demand: split.demand,
+            node: split.at,
+            left: split.left.copy()?,
+            right: split.right.copy()?,
+        },
+        Divider::Load(split) => TreeNode::Loads {
+            place: split.place,
+            load: split.load,
+        },
+    })
+}
+
 /// The record of a node with these prices.
 fn record_by(prices: &Prices, fate: &Fate) -> Result<TreeNode, AllocError>
     ensures { IfOk result (λ made. made ≡ record_by prices.now fate.now) }
@@ -34,12 +52,7 @@ fn record_by(prices: &Prices, fate: &Fate) -> Result<TreeNode, AllocError>
     Ok(match fate {
         Fate::Undone => TreeNode::Leaf(Evidence::Open(prices.copy()?)),
         Fate::ClosedBy(evidence) => TreeNode::Leaf(copy_evidence(evidence)?),
-        Fate::DividedBy(division) => TreeNode::Split {
-            demand: division.demand,
-            node: division.at,
-            left: division.left.copy()?,
-            right: division.right.copy()?,
-        },
+        Fate::DividedBy(division) => split_record(&division.by)?,
     })
 }
 
