@@ -7,12 +7,12 @@ use Rattle.std.proofs.lemmas.List.Elements.{All-weaker}
 use Rattle.plan_base.specs.declared.ids.BranchId.{BranchId}
 use Rattle.plan_base.specs.declared.parts.Parts.{Parts}
 use Rattle.plan_base.specs.declared.path.Design.{Design}
-use Rattle.arc_restrict.specs.Restrictions.{Forbidden}
+use Rattle.proof_tree.specs.Regions.{Region}
 use Rattle.proof_tree.specs.Evidence.{HasEvidence, ClosedByBound, ClosedByRouting}
 use Rattle.proof_tree.specs.Plans.{IsStatedDesign}
 use Rattle.proof_tree.specs.declared.tree.Evidence.{Evidence}
 use Rattle.proof_tree.specs.declared.tree.Evidence.TheVariants.{Bound, Routed, Overfull, Cut, Far, Crowd, Open}
-use Rattle.pool_machine.specs.State.{Fate, Undone, ClosedBy, DividedBy, Node, Incumbent, State, restriction_of, cutoff_of}
+use Rattle.pool_machine.specs.State.{Fate, Undone, ClosedBy, DividedBy, Node, Incumbent, State, region_of, cutoff_of}
 use Rattle.pool_machine.specs.Examining.{cheaper_of, ClosesRouted}
 use Rattle.pool_machine.specs.Bettering.{is_cheaper, TakesBetter}
 use Rattle.pool_machine.specs.Nodes.{IsSoundFate, HasSoundFate}
@@ -20,15 +20,15 @@ use Rattle.pool_machine.specs.Soundness.{IsSound}
 use Rattle.pool_machine.proofs.ClosedNodes.{closed-sound}
 
 module _ (p : Parts) (old : Option ℕ) (cost : ℕ) (below : IfSome old (λ c. cost ≤ c)) where
-  HasEvidence-cheaper : (r : Forbidden) (found : Evidence) → HasEvidence p old r found → HasEvidence p (Some cost) r found
-  HasEvidence-cheaper r (Bound prices) h = bound old below h
+  HasEvidence-cheaper : (g : Region) (found : Evidence) → HasEvidence p old g found → HasEvidence p (Some cost) g found
+  HasEvidence-cheaper g (Bound prices) h = bound old below h
     where
-      bound : (o : Option ℕ) → IfSome o (λ c. cost ≤ c) → IsSomeAnd o (λ c. ClosedByBound p r prices c) → ClosedByBound p r prices cost
+      bound : (o : Option ℕ) → IfSome o (λ c. cost ≤ c) → IsSomeAnd o (λ c. ClosedByBound p g prices c) → ClosedByBound p g prices cost
       bound None less b = absurd b
-      bound (Some c) less b = record { within_limit = b.within_limit; bound = b.bound; is_bound = b.is_bound; enough = (let e = b.enough in let l : cost ≤ c = less in omega (arith, ints)) }
-  HasEvidence-cheaper r Routed h = routed old below h
+      bound (Some c) less b = record { within_limit = b.within_limit; bound = b.bound; is_bound = b.is_bound; unit = b.unit; is_unit = b.is_unit; enough = (let e = b.enough in let l : cost ≤ c = less in omega (arith, ints)) }
+  HasEvidence-cheaper g Routed h = routed old below h
     where
-      routed : (o : Option ℕ) → IfSome o (λ c. cost ≤ c) → IsSomeAnd o (λ c. ClosedByRouting p r c) → ClosedByRouting p r cost
+      routed : (o : Option ℕ) → IfSome o (λ c. cost ≤ c) → IsSomeAnd o (λ c. ClosedByRouting p g.forbidden c) → ClosedByRouting p g.forbidden cost
       routed None less b = absurd b
       routed (Some c) less b =
           let costs = b.costs in
@@ -36,19 +36,19 @@ module _ (p : Parts) (old : Option ℕ) (cost : ℕ) (below : IfSome old (λ c. 
             costs = record { routing = costs.routing; only = costs.only; step_costs = costs.step_costs; are_costs = costs.are_costs; enough = (let e = costs.enough in let l : cost ≤ c = less in omega arith) };
             within = b.within;
           }
-  HasEvidence-cheaper r (Overfull link) h = h
-  HasEvidence-cheaper r (Cut demand reached) h = h
-  HasEvidence-cheaper r (Far demand) h = h
-  HasEvidence-cheaper r (Crowd prices) h = h
-  HasEvidence-cheaper r (Open prices) h = h
+  HasEvidence-cheaper g (Overfull link) h = h
+  HasEvidence-cheaper g (Cut demand reached) h = h
+  HasEvidence-cheaper g (Far demand) h = h
+  HasEvidence-cheaper g (Crowd prices) h = h
+  HasEvidence-cheaper g (Open prices) h = h
 
-  IsSoundFate-cheaper : (r : Forbidden) (fate : Fate) → IsSoundFate p old r fate → IsSoundFate p (Some cost) r fate
-  IsSoundFate-cheaper r Undone h = h
-  IsSoundFate-cheaper r (ClosedBy found) h = (h.0, HasEvidence-cheaper r found h.1, h.2)
-  IsSoundFate-cheaper r (DividedBy d) h = h
+  IsSoundFate-cheaper : (g : Region) (fate : Fate) → IsSoundFate p old g fate → IsSoundFate p (Some cost) g fate
+  IsSoundFate-cheaper g Undone h = h
+  IsSoundFate-cheaper g (ClosedBy found) h = (h.0, HasEvidence-cheaper g found h.1, h.2)
+  IsSoundFate-cheaper g (DividedBy d) h = h
 
   pub HasSoundFate-cheaper : (node : Node) → HasSoundFate p old node → HasSoundFate p (Some cost) node
-  HasSoundFate-cheaper node h = IsSoundFate-cheaper (restriction_of node) node.fate h
+  HasSoundFate-cheaper node h = IsSoundFate-cheaper (region_of p node) node.fate h
 
 -- the state with this incumbent
 abbrev with_incumbent : State → Incumbent → State
@@ -57,6 +57,7 @@ with_incumbent s held = record s { incumbent = Some held }
 cheaper-sound : (s : State) (held : Incumbent) → IsSound s → IsStatedDesign s.problem held.cost held.design → IfSome (cutoff_of s) (λ c. held.cost ≤ c) → IsSound (with_incumbent s held)
 cheaper-sound s held h stated below = record {
   lawful = h.lawful;
+  unit = h.unit;
   nodes = h.nodes;
   fates = All-weaker (HasSoundFate s.problem (cutoff_of s)) (HasSoundFate s.problem (Some held.cost)) (HasSoundFate-cheaper s.problem (cutoff_of s) held.cost below) s.nodes h.fates;
   apart = h.apart;

@@ -22,7 +22,7 @@ sum_below-le f g (suc n) h =
     let here = h n (omega arith) in
     omega arith
 
-sum_below-less : (f g : ℕ → ℕ) (n i : ℕ) → i < n → ((j : ℕ) → j < n → f j ≤ g j) → f i < g i → sum_below f n < sum_below g n
+pub sum_below-less : (f g : ℕ → ℕ) (n i : ℕ) → i < n → ((j : ℕ) → j < n → f j ≤ g j) → f i < g i → sum_below f n < sum_below g n
 sum_below-less f g zero i within h less = absurd (omega arith)
 sum_below-less f g (suc n) i within h less = elim (same_or_other i n) [
   | inl e ↦

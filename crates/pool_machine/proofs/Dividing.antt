@@ -1,16 +1,18 @@
 -- A node that is divided, with its two children, leaves a state sound.
-use Rattle.std.proofs.Common.{◌≡◌, ℕ, zero, suc, ◌+◌, ◌-◌, ◌^◌, ◌≤◌, inl, inr, List, [], ◌∷◌, ◌++◌, length, set, Option, Some, None, slice_get, refl, sym, ap, subst, ◌∙◌, arith, sum_by, length-set, length-append, pow-suc}
+use Rattle.std.proofs.Common.{◌≡◌, ℕ, zero, suc, ◌+◌, ◌-◌, ◌^◌, ◌<◌, ◌≤◌, inl, inr, List, [], ◌∷◌, ◌++◌, length, set, Option, Some, None, slice_get, refl, sym, ap, subst, ◌∙◌, arith, sum_by, length-set, length-append, pow-suc}
 use Rattle.std.proofs.lemmas.List.Elements.{All-set, All-append, All-cons, All-nil}
 use Rattle.std.proofs.lemmas.List.Sums.{sum_by-append, sum_by-cons}
 use Rattle.std.proofs.lemmas.Option.{slice_get_within}
-use Rattle.plan_base.specs.declared.ids.ArcId.{ArcId}
 use Rattle.plan_base.specs.declared.ids.BranchId.{BranchId}
 use Rattle.plan_base.specs.declared.parts.Parts.{Parts}
-use Rattle.arc_restrict.specs.Restrictions.{with_forbidden}
-use Rattle.pool_machine.specs.State.{Best, Division, Fate, Undone, ClosedBy, DividedBy, Node, State, restriction_of, cutoff_of, examined_by, examined_in, left_in, divided_by_fate, divided_in, kept_by}
-use Rattle.pool_machine.specs.Dividing.{child_of, divided_by, Divides}
-use Rattle.pool_machine.specs.Depth.{choices_of, branching_depth}
-use Rattle.pool_machine.specs.Nodes.{IsPriceList, IsSoundBest, IsOpenEnough, IsSoundNode, HasSoundFate}
+use Rattle.link_steps.specs.Ranges.{AreRanges}
+use Rattle.proof_tree.specs.Regions.{Region, whole}
+use Rattle.proof_tree.proofs.RangeLaws.{AreRanges-up_to, AreRanges-above}
+use Rattle.branch_tree.specs.declared.node.Divider.TheVariants as divider
+use Rattle.pool_machine.specs.State.{Best, Limit, Divider, left_limit, right_limit, narrowed, Division, Fate, Undone, ClosedBy, DividedBy, Node, State, region_of, cutoff_of, examined_by, examined_in, left_in, divided_by_fate, divided_in, kept_by}
+use Rattle.pool_machine.specs.Dividing.{PartsBy, child_of, divided_by, Divides}
+use Rattle.pool_machine.specs.Depth.{AreAllEnds, depth_below}
+use Rattle.pool_machine.specs.Nodes.{IsPriceList, IsSoundBest, IsOpenEnough, IsSoundNode, IsSoundDivider, HasSoundFate}
 use Rattle.pool_machine.specs.Counts.{IsShallow, weight_in, AreSoundCounts, versions_of}
 use Rattle.pool_machine.specs.Family.{badge_at, HasChildrenBy, IsFamily}
 use Rattle.pool_machine.specs.Soundness.{IsSound}
@@ -19,17 +21,55 @@ use Rattle.pool_machine.proofs.Lists.{All-at, slice_get-set_cases, slice_get-app
 use Rattle.pool_machine.proofs.Frames.{AreApart-fewer, AreApart-set, SameBase, HasChildrenBy-set, no_children, IsFamily-root}
 use Rattle.pool_machine.proofs.Replacing.{replaced, CountsRise, CountsRise-sound, node_at, versions_of-le}
 use Rattle.pool_machine.proofs.Splitting.{IsOpenEnough-left, IsOpenEnough-right, choices-left, choices-right, PartsAt-parts}
+use Rattle.pool_machine.proofs.Points.{points-up_to, points-above}
 
 pub kept_by-sound : (p : Parts) (node : Node) (best : Option Best) → IsPriceList p node.first_prices
-    → IfSome best (λ b. IsSoundBest p (restriction_of node) node.first_prices node.completed b) → IsPriceList p (kept_by best node.first_prices)
+    → IfSome best (λ b. IsSoundBest p (region_of p node) node.first_prices node.completed b) → IsPriceList p (kept_by best node.first_prices)
 kept_by-sound p node None first h = first
 kept_by-sound p node (Some best) first h = h.prices
 
--- a child is sound where its restriction leaves enough
-child_of-sound : (p : Parts) (node : Node) (d : Division) (arcs : List ArcId) → IsSoundNode p node → IsOpenEnough p (with_forbidden (restriction_of node) d.demand arcs) → IsSoundNode p (child_of node d.demand arcs)
-child_of-sound p node d arcs k enough = record {
+-- what a split leaves to a child: arcs enough, loads of each place, and less depth
+record IsLeft (p : Parts) (g child : Region) : Type 0 where
+  open_enough : IsOpenEnough p child.forbidden
+  ranges : AreRanges p child.ranges
+  less : (ends : ℕ → List ℕ) → AreAllEnds p ends → depth_below p ends child < depth_below p ends g
+
+module _ (p : Parts) (g : Region) (enough : IsOpenEnough p g.forbidden) (ranges : AreRanges p g.ranges) where
+  left-on_left : (by : Divider) → PartsBy p g by → IsLeft p g (narrowed g (left_limit by))
+  left-on_left (divider.Arcs d) parts = record {
+    open_enough = IsOpenEnough-left p g.forbidden d parts enough;
+    ranges = ranges;
+    less = λ ends are. (let fewer = choices-left p g.forbidden d parts in omega (arith, fewer));
+  }
+  left-on_left (divider.Load d) parts = record {
+    open_enough = enough;
+    ranges = AreRanges-up_to p g d.place d.load parts.0.is_split ranges;
+    less = λ ends are. (let fewer = points-up_to p ends g d are ranges parts.0 in omega (arith, fewer));
+  }
+
+  left-on_right : (by : Divider) → PartsBy p g by → IsLeft p g (narrowed g (right_limit by))
+  left-on_right (divider.Arcs d) parts = record {
+    open_enough = IsOpenEnough-right p g.forbidden d parts enough;
+    ranges = ranges;
+    less = λ ends are. (let fewer = choices-right p g.forbidden d parts in omega (arith, fewer));
+  }
+  left-on_right (divider.Load d) parts = record {
+    open_enough = enough;
+    ranges = AreRanges-above p g d.place d.load parts.0.is_split ranges;
+    less = λ ends are. (let fewer = points-above p ends g d are ranges parts.0 in omega (arith, fewer));
+  }
+
+-- the split is a sound one
+PartsBy-sound : (p : Parts) (g : Region) (by : Divider) → PartsBy p g by → IsSoundDivider p g by
+PartsBy-sound p g (divider.Arcs d) parts = (parts.is_split, PartsAt-parts p g.forbidden d parts, parts.left_ascends, parts.right_ascends)
+PartsBy-sound p g (divider.Load d) parts = parts.0
+
+-- a child is sound where enough is left to it
+child_of-sound : (p : Parts) (node : Node) (more : Limit) → IsSoundNode p node → IsLeft p (region_of p node) (region_of p (child_of node more)) → IsSoundNode p (child_of node more)
+child_of-sound p node more k left = record {
   first_prices = kept_by-sound p node node.best k.first_prices k.best;
-  open_enough = enough;
+  open_enough = left.open_enough;
+  ranges = left.ranges;
   round = tt;
   best = tt;
   no_best = λ none. refl;
@@ -77,11 +117,11 @@ waits nodes one other x y n (suc (suc j)) m is = let bad : ◌≡◌ {A = Option
 -- a divided node and its two children at the end of the list
 module _ (p : Parts) (nodes : List Node) (i : ℕ) (node : Node) (d : Division) (is : slice_get nodes i ≡ Some node) (h : IsFamily p nodes)
     (left_next : d.left_child.0 ≡ length nodes) (right_next : d.right_child.0 ≡ suc (length nodes)) where
-  IsFamily-divided : IsFamily p (set nodes i (divided_by d node) ++ (child_of node d.demand d.left ∷ child_of node d.demand d.right ∷ []))
+  IsFamily-divided : IsFamily p (set nodes i (divided_by d node) ++ (child_of node (left_limit d.by) ∷ child_of node (right_limit d.by) ∷ []))
   IsFamily-divided =
       let new : Node = divided_by d node in
-      let left : Node = child_of node d.demand d.left in
-      let right : Node = child_of node d.demand d.right in
+      let left : Node = child_of node (left_limit d.by) in
+      let right : Node = child_of node (right_limit d.by) in
       let more = left ∷ right ∷ [] in
       let xs = set nodes i new in
       let base : SameBase node new = record { limits = refl; first_prices = refl } in
@@ -121,26 +161,39 @@ double depth l h =
     rw e (omega arith)
 
 -- a node passes its weight on to its children
-divided_weights : (s : State) (i : ℕ) (node : Node) (d : Division) → slice_get s.nodes i ≡ Some node → node.fate ≡ Undone
-    → choices_of s.problem (restriction_of (child_of node d.demand d.left)) + length (child_of node d.demand d.left).limits ≤ branching_depth s.problem
-    → sum_by (weight_in (branching_depth s.problem)) s.nodes ≡ 2 ^ branching_depth s.problem
-    → sum_by (weight_in (branching_depth s.problem)) (set s.nodes i (divided_by d node) ++ (child_of node d.demand d.left ∷ child_of node d.demand d.right ∷ [])) ≡ 2 ^ branching_depth s.problem
-divided_weights s i node d is undone deep h =
-    let depth = branching_depth s.problem in
+divided_weights : (depth : ℕ) (nodes : List Node) (i : ℕ) (node : Node) (d : Division) → slice_get nodes i ≡ Some node → node.fate ≡ Undone
+    → suc (length node.limits) ≤ depth → sum_by (weight_in depth) nodes ≡ 2 ^ depth
+    → sum_by (weight_in depth) (set nodes i (divided_by d node) ++ (child_of node (left_limit d.by) ∷ child_of node (right_limit d.by) ∷ [])) ≡ 2 ^ depth
+divided_weights depth nodes i node d is undone deep h =
     let w = weight_in depth in
     let new : Node = divided_by d node in
-    let left : Node = child_of node d.demand d.left in
-    let right : Node = child_of node d.demand d.right in
+    let left : Node = child_of node (left_limit d.by) in
+    let right : Node = child_of node (right_limit d.by) in
     let old_w : w node ≡ 2 ^ (depth - length node.limits) = rw undone refl in
-    let set_ = sum_by-set_at w s.nodes i node new is in
-    let all = sum_by-append w (set s.nodes i new) (left ∷ right ∷ []) in
+    let set_ = sum_by-set_at w nodes i node new is in
+    let all = sum_by-append w (set nodes i new) (left ∷ right ∷ []) in
     let two = sum_by-cons w left (right ∷ []) in
     let one = sum_by-cons w right [] in
-    let twice = double depth (length node.limits) (omega arith) in
+    let twice = double depth (length node.limits) deep in
     sums _ _ _ _ _ _ _ _ set_ all two one old_w twice ∙ h
   where
     sums : (all xs ys before old one rest m : ℕ) → xs + old ≡ before + 0 → all ≡ xs + ys → ys ≡ one + rest → rest ≡ one + 0 → old ≡ m → m ≡ one + one → all ≡ before
     sums all xs ys before old one rest m a b c d_ e f = omega arith
+
+-- a child is one deeper, and less depth is left below it
+child-shallow : (p : Parts) (ends : ℕ → List ℕ) (node : Node) (more : Limit) → AreAllEnds p ends → IsLeft p (region_of p node) (region_of p (child_of node more)) → IsShallow p ends node → IsShallow p ends (child_of node more)
+child-shallow p ends node more are left shallow =
+    record { within = deeper (depth_below p ends (region_of p (child_of node more))) (depth_below p ends (region_of p node)) (length node.limits) (depth_below p ends (whole p)) (left.less ends are) shallow.within }
+  where
+    deeper : (a b l d : ℕ) → a < b → b + l ≤ d → a + suc l ≤ d
+    deeper a b l d less within = omega arith
+
+-- so a node that is divided is not at the branching depth
+not-deepest : (p : Parts) (ends : ℕ → List ℕ) (node : Node) (more : Limit) → IsShallow p ends (child_of node more) → suc (length node.limits) ≤ depth_below p ends (whole p)
+not-deepest p ends node more shallow = lower (depth_below p ends (region_of p (child_of node more))) (length node.limits) (depth_below p ends (whole p)) shallow.within
+  where
+    lower : (a l d : ℕ) → a + suc l ≤ d → suc l ≤ d
+    lower a l d within = omega arith
 
 pub Divides-sound : (s : State) (id left_child right_child : BranchId) (t : State) → IsSound s → Divides s id left_child right_child t → IsSound t
 Divides-sound s id left_child right_child t h e =
@@ -149,14 +202,15 @@ Divides-sound s id left_child right_child t h e =
     let d = e.division in
     let is = e.ready.open_node in
     let new : Node = divided_by d node in
-    let left : Node = child_of node d.demand d.left in
-    let right : Node = child_of node d.demand d.right in
+    let left : Node = child_of node (left_limit d.by) in
+    let right : Node = child_of node (right_limit d.by) in
     let more = left ∷ right ∷ [] in
     let xs = set s.nodes id.0 new in
     let k = node_at s id.0 node h is.is_node in
     let sound : IsSoundNode p new = record {
       first_prices = k.first_prices;
       open_enough = k.open_enough;
+      ranges = k.ranges;
       round = tt;
       best = k.best;
       no_best = k.no_best;
@@ -168,13 +222,14 @@ Divides-sound s id left_child right_child t h e =
     } in
     let P = IsSoundNode p in
     let F = HasSoundFate p (cutoff_of s) in
-    let left_sound = child_of-sound p node d d.left k (IsOpenEnough-left p (restriction_of node) d e.parts k.open_enough) in
-    let right_sound = child_of-sound p node d d.right k (IsOpenEnough-right p (restriction_of node) d e.parts k.open_enough) in
-    let shallow = All-at (IsShallow p) s.nodes id.0 node h.depths is.is_node in
-    let deep_left : choices_of p (restriction_of left) + length left.limits ≤ branching_depth p =
-    (let less = choices-left p (restriction_of node) d e.parts in let w = shallow.within in omega arith) in
-    let deep_right : choices_of p (restriction_of right) + length right.limits ≤ branching_depth p =
-    (let less = choices-right p (restriction_of node) d e.parts in let w = shallow.within in omega arith) in
+    let g = region_of p node in
+    let to_left : IsLeft p g (region_of p left) = left-on_left p g k.open_enough k.ranges d.by e.parts in
+    let to_right : IsLeft p g (region_of p right) = left-on_right p g k.open_enough k.ranges d.by e.parts in
+    let left_sound = child_of-sound p node (left_limit d.by) k to_left in
+    let right_sound = child_of-sound p node (right_limit d.by) k to_right in
+    let shallow = λ (ends : ℕ → List ℕ) (are : AreAllEnds p ends). All-at (IsShallow p ends) s.nodes id.0 node (h.depths ends are) is.is_node in
+    let shallow_left = λ (ends : ℕ → List ℕ) (are : AreAllEnds p ends). child-shallow p ends node (left_limit d.by) are to_left (shallow ends are) in
+    let shallow_right = λ (ends : ℕ → List ℕ) (are : AreAllEnds p ends). child-shallow p ends node (right_limit d.by) are to_right (shallow ends are) in
     let rise : CountsRise s node new (suc s.examined) s.next_version s.accepted = record {
       examined_is = (let old : examined_in node ≡ 0 = ap examined_by is.undone in omega arith);
       within_budget = (let spent = is.not_spent in omega arith);
@@ -183,9 +238,10 @@ Divides-sound s id left_child right_child t h e =
     } in
     subst IsSound (sym e.becomes) (record {
       lawful = h.lawful;
+      unit = h.unit;
       nodes = All-append P xs more (All-set P s.nodes id.0 new sound h.nodes) (All-cons P left (right ∷ []) left_sound (All-cons P right [] right_sound (All-nil P)));
       fates = All-append F xs more
-          (All-set F s.nodes id.0 new (e.parts.is_split, PartsAt-parts p (restriction_of node) d e.parts, e.parts.left_ascends, e.parts.right_ascends) h.fates)
+          (All-set F s.nodes id.0 new (PartsBy-sound p g d.by e.parts) h.fates)
           (All-cons F left (right ∷ []) tt (All-cons F right [] tt (All-nil F)));
       apart = AreApart-fewer s.next_version xs (xs ++ more) (badge_at-append xs left right refl refl)
           (AreApart-set s.next_version s.nodes id.0 node new is.is_node (inr refl) h.apart);
@@ -194,9 +250,11 @@ Divides-sound s id left_child right_child t h e =
       incumbent = h.incumbent;
       counts = AreSoundCounts-append (replaced s id.0 new (suc s.examined) s.next_version s.accepted) more refl refl refl
           (CountsRise-sound s id.0 node new (suc s.examined) s.next_version s.accepted is.is_node rise h.counts);
-      depths = All-append (IsShallow p) xs more (All-set (IsShallow p) s.nodes id.0 new (record { within = shallow.within }) h.depths)
-          (All-cons (IsShallow p) left (right ∷ []) (record { within = deep_left }) (All-cons (IsShallow p) right [] (record { within = deep_right }) (All-nil (IsShallow p))));
-      weights = divided_weights s id.0 node d is.is_node is.undone deep_left h.weights;
+      depths = λ ends are.
+          let D = IsShallow p ends in
+          All-append D xs more (All-set D s.nodes id.0 new (record { within = (shallow ends are).within }) (h.depths ends are))
+          (All-cons D left (right ∷ []) (shallow_left ends are) (All-cons D right [] (shallow_right ends are) (All-nil D)));
+      weights = λ ends are. divided_weights (depth_below p ends (whole p)) s.nodes id.0 node d is.is_node is.undone (not-deepest p ends node (left_limit d.by) (shallow_left ends are)) (h.weights ends are);
       size = (
           let sum = sum_by-set_at divided_in s.nodes id.0 node new is.is_node in
           let old : divided_in node ≡ 0 = ap divided_by_fate is.undone in

@@ -1,12 +1,12 @@
 -- A budget of one node for each place of the tree is enough.
-use Rattle.std.proofs.Common.{◌≡◌, ℕ, zero, suc, ◌+◌, ◌-◌, ◌*◌, ◌^◌, ◌≤◌, List, [], ◌∷◌, length, refl, ap, ◌∙◌, arith, sum_by, pow-suc}
+use Rattle.std.proofs.Common.{◌≡◌, ℕ, zero, suc, ◌+◌, ◌-◌, ◌*◌, ◌^◌, ◌≤◌, List, [], ◌∷◌, length, refl, sym, ap, subst, ◌∙◌, arith, sum_by, pow-suc}
 use Rattle.std.proofs.lemmas.List.Sums.{sum_by-cons}
 use Rattle.std.proofs.Math.Nat.{one-le-pow}
 use Rattle.pool_machine.specs.State.{Fate, Undone, ClosedBy, DividedBy, Node, State, examined_by, examined_in, divided_by_fate, divided_in}
 use Rattle.pool_machine.specs.Counts.{weight_by, weight_in}
 use Rattle.pool_machine.specs.Soundness.{IsSound}
 use Rattle.pool_machine.specs.PlanOf.{open_by, open_count}
-use Rattle.pool_machine.specs.Depth.{branching_depth}
+use Rattle.pool_machine.specs.Depth.{IsBranchingDepth}
 
 -- each node is examined or open
 one_of : (fate : Fate) → examined_by fate + open_by fate ≡ 1
@@ -48,15 +48,14 @@ leaves_weigh depth (node ∷ nodes) =
     sums : (w ws d ds x y n : ℕ) → w ≡ x + ws → d ≡ y + ds → 1 ≤ x + y → n ≤ ws + ds → suc n ≤ w + d
     sums w ws d ds x y n a b c e = omega arith
 
-pub budget-enough : (s : State) → IsSound s → 2 ^ (branching_depth s.problem + 1) - 1 ≤ s.budget → s.examined ≡ s.budget → open_count s ≡ 0
-budget-enough s h enough spent =
-    let depth = branching_depth s.problem in
+pub budget-enough : (s : State) (depth : ℕ) → IsSound s → IsBranchingDepth s.problem depth → 2 ^ (depth + 1) - 1 ≤ s.budget → s.examined ≡ s.budget → open_count s ≡ 0
+budget-enough s depth h is enough spent =
     let all = all_nodes s.nodes in
     let weigh = leaves_weigh depth s.nodes in
     let two : 2 ^ (depth + 1) ≡ 2 ^ depth * 2 = ap (λ (n : ℕ). 2 ^ n) (omega arith) ∙ pow-suc 2 depth in
     let e = h.counts.examined in
     let size = h.size in
-    let w = h.weights in
+    let w : sum_by (weight_in depth) s.nodes ≡ 2 ^ depth = subst (λ (n : ℕ). sum_by (weight_in n) s.nodes ≡ 2 ^ n) (sym is.is_depth) (h.weights is.ends is.are_ends) in
     let some : 1 ≤ 2 ^ depth = one-le-pow depth 2 (omega arith) in
     sums _ _ _ _ _ _ _ _ all weigh two e size w enough spent some
   where

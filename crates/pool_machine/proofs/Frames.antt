@@ -1,10 +1,9 @@
 -- What a change of one node leaves of the parts that speak of several nodes.
 use Rattle.std.proofs.Common.{◌≡◌, ◌≢◌, ℕ, suc, ◌<◌, ◌⊎◌, inl, inr, List, [], set, Option, Some, None, slice_get, sym, ap, subst, ◌∙◌, arith}
 use Rattle.std.specs.Prelude.{option_and_then}
-use Rattle.plan_base.specs.declared.ids.ArcId.{ArcId}
 use Rattle.plan_base.specs.declared.parts.Parts.{Parts}
 use Rattle.link_steps.specs.Values.{AreStartPrices}
-use Rattle.pool_machine.specs.State.{Division, Fate, Undone, ClosedBy, DividedBy, Node}
+use Rattle.pool_machine.specs.State.{Limit, left_limit, right_limit, Fate, Undone, ClosedBy, DividedBy, Node}
 use Rattle.pool_machine.specs.Family.{badge_of, badge_at, AreApart, IsChild, HasChild, HasChildrenBy, IsFamily}
 use Rattle.pool_machine.proofs.Lists.{slice_get-set_same, slice_get-set_other, slice_get-set_cases}
 
@@ -96,18 +95,18 @@ pub record SameBase (old new : Node) : Type 0 where
   pub limits : new.limits ≡ old.limits
   pub first_prices : new.first_prices ≡ old.first_prices
 
-pub IsChild-same : (parent : Node) (d : Division) (arcs : List ArcId) (old new : Node) → SameBase old new → IsChild parent d arcs old → IsChild parent d arcs new
-IsChild-same parent d arcs old new base h = record { limits = base.limits ∙ h.limits; first_prices = base.first_prices ∙ h.first_prices }
+pub IsChild-same : (parent : Node) (limit : Limit) (old new : Node) → SameBase old new → IsChild parent limit old → IsChild parent limit new
+IsChild-same parent limit old new base h = record { limits = base.limits ∙ h.limits; first_prices = base.first_prices ∙ h.first_prices }
 
 pub HasChild-set : (nodes : List Node) (i : ℕ) (old new : Node) → slice_get nodes i ≡ Some old → SameBase old new
-    → (n : ℕ) (parent : Node) (d : Division) (number : ℕ) (arcs : List ArcId) → HasChild nodes n parent d number arcs → HasChild (set nodes i new) n parent d number arcs
-HasChild-set nodes i old new is base n parent d number arcs h = elim (same_or_other number i) [
+    → (n : ℕ) (parent : Node) (number : ℕ) (limit : Limit) → HasChild nodes n parent number limit → HasChild (set nodes i new) n parent number limit
+HasChild-set nodes i old new is base n parent number limit h = elim (same_or_other number i) [
   | inr ne ↦ (h.0, h.1, slice_get-set_other nodes i number new ne ∙ h.2, h.3)
   | inl e ↦
       let at : slice_get nodes i ≡ Some h.1 = subst (λ (k : ℕ). slice_get nodes k ≡ Some h.1) e h.2 in
       let same : h.1 ≡ old = one_at nodes i h.1 old at is in
-      let child : IsChild parent d arcs old = subst (IsChild parent d arcs) same h.3 in
-      (h.0, new, subst (λ (k : ℕ). slice_get (set nodes i new) k ≡ Some new) (sym e) (slice_get-set_same nodes i old new is), IsChild-same parent d arcs old new base child)
+      let child : IsChild parent limit old = subst (IsChild parent limit) same h.3 in
+      (h.0, new, subst (λ (k : ℕ). slice_get (set nodes i new) k ≡ Some new) (sym e) (slice_get-set_same nodes i old new is), IsChild-same parent limit old new base child)
 ]
 
 pub HasChildrenBy-set : (nodes : List Node) (i : ℕ) (old new : Node) → slice_get nodes i ≡ Some old → SameBase old new
@@ -115,7 +114,7 @@ pub HasChildrenBy-set : (nodes : List Node) (i : ℕ) (old new : Node) → slice
 HasChildrenBy-set nodes i old new is base n parent Undone h = h
 HasChildrenBy-set nodes i old new is base n parent (ClosedBy e) h = h
 HasChildrenBy-set nodes i old new is base n parent (DividedBy d) h =
-    (HasChild-set nodes i old new is base n parent d d.left_child.0 d.left h.0, HasChild-set nodes i old new is base n parent d d.right_child.0 d.right h.1)
+    (HasChild-set nodes i old new is base n parent d.left_child.0 (left_limit d.by) h.0, HasChild-set nodes i old new is base n parent d.right_child.0 (right_limit d.by) h.1)
 
 -- the root after a node has been replaced that keeps its base
 pub IsFamily-root : (p : Parts) (nodes : List Node) (i : ℕ) (old new : Node) → slice_get nodes i ≡ Some old → SameBase old new → IsFamily p nodes

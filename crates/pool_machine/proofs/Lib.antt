@@ -12,6 +12,9 @@ pub mod ClosedNodes
 pub mod Bettering
 pub mod Choices
 pub mod Splitting
+pub mod Narrowing
+pub mod Points
+pub mod EndLists
 pub mod Dividing
 pub mod Runs
 pub mod Rising

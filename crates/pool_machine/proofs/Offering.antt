@@ -61,6 +61,7 @@ module _ (s : State) (offer : Offer) (h : IsSound s) where
       let sound : IsSoundNode s.problem new = record {
         first_prices = k.first_prices;
         open_enough = k.open_enough;
+        ranges = k.ranges;
         round = k.round;
         best = k.best;
         no_best = k.no_best;

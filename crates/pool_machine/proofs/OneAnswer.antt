@@ -17,10 +17,10 @@ use Rattle.pool_machine.specs.declared.answers.Publish.{Publish}
 use Rattle.pool_machine.specs.declared.answers.Publish.TheVariants as publish
 use Rattle.pool_machine.specs.declared.answers.Settle.{Settle}
 use Rattle.pool_machine.specs.declared.answers.Settle.TheVariants as settle
-use Rattle.pool_machine.specs.State.{Round, Fate, Undone, Node, State, active_count, state_by, state_of, state_in}
+use Rattle.pool_machine.specs.State.{Round, Fate, Undone, Node, State, ranges_of, active_count, state_by, state_of, state_in}
 use Rattle.pool_machine.specs.Changes.{is_spent}
 use Rattle.pool_machine.specs.Opening.{is_waiting, open_fault, IsLowestFreeSlot, Opens, OpenStep}
-use Rattle.pool_machine.specs.Gathering.{columns_for, IsGathered}
+use Rattle.pool_machine.specs.Gathering.{columns_for, IsGathered, has_enough}
 use Rattle.pool_machine.specs.Settling.{settle_fault, Settles, IsImprovable, SettleStep}
 use Rattle.pool_machine.specs.Publishing.{publish_fault, MayFollow, IsBetterStep, IsCrowdStep, Publishes, IsNoGain, PublishStep}
 use Rattle.pool_machine.proofs.Frames.{one_at}
@@ -122,15 +122,15 @@ module _ (s : State) (id : BranchId) (version : ℕ) where
   settle-free a x = absurd x
 
   pub no_more-not_improves : (u : State) (node : Node) (round : Round) (before after : ℤ) → IsGathered s id version node round
-      → (node.crowd_tried ≡ true) ⊎ HasStalled s.problem (columns_for s node) round.prices → IsImprovable s id version before after u → ⊥
+      → (has_enough s node ≡ true) ⊎ HasStalled s.problem (ranges_of s.problem node) (columns_for s node) round.prices → IsImprovable s id version before after u → ⊥
   no_more-not_improves u node round before after is no_more y =
       let a = is.complete_round in
       let b = y.is_gathered.complete_round in
       let same = one_round s id node y.node round y.round a.is_node b.is_node a.is_round b.is_round in
-      let gain : IsGain s.problem (columns_for s node) round.prices before after = moved s node y.node round y.round (λ n prices. IsGain s.problem (columns_for s n) prices before after) same y.is_gain in
+      let gain : IsGain s.problem (ranges_of s.problem node) (columns_for s node) round.prices before after = moved s node y.node round y.round (λ n prices. IsGain s.problem (ranges_of s.problem n) (columns_for s n) prices before after) same y.is_gain in
       elim no_more [
-        | inl tried ↦ false-not_true y.node.crowd_tried y.not_tried (ap (λ (n : Node). n.crowd_tried) same.0 ∙ tried)
-        | inr stalled ↦ gain-not_stalled s.problem (columns_for s node) round.prices before stalled.0 after gain stalled.1
+        | inl enough ↦ false-not_true (has_enough s y.node) y.not_enough (ap (has_enough s) same.0 ∙ enough)
+        | inr stalled ↦ gain-not_stalled s.problem (ranges_of s.problem node) (columns_for s node) round.prices before stalled.0 after gain stalled.1
       ]
 
   improves-one : (t u : State) (v w g h : ℤ) → IsImprovable s id version v g t → IsImprovable s id version w h u → settle.Improves v g ≡ settle.Improves w h
@@ -138,9 +138,9 @@ module _ (s : State) (id : BranchId) (version : ℕ) where
       let a = x.is_gathered.complete_round in
       let b = y.is_gathered.complete_round in
       let same = one_round s id x.node y.node x.round y.round a.is_node b.is_node a.is_round b.is_round in
-      let other : IsGain s.problem (columns_for s x.node) x.round.prices w h = moved s x.node y.node x.round y.round (λ n prices. IsGain s.problem (columns_for s n) prices w h) same y.is_gain in
-      let before : v ≡ w = value-unique s.problem (columns_for s x.node) x.round.prices v w x.is_gain.is_raise.is_old other.is_raise.is_old in
-      let after : g ≡ h = gain-unique s.problem (columns_for s x.node) x.round.prices v w g h x.is_gain other in
+      let other : IsGain s.problem (ranges_of s.problem x.node) (columns_for s x.node) x.round.prices w h = moved s x.node y.node x.round y.round (λ n prices. IsGain s.problem (ranges_of s.problem n) (columns_for s n) prices w h) same y.is_gain in
+      let before : v ≡ w = value-unique s.problem (ranges_of s.problem x.node) (columns_for s x.node) x.round.prices v w x.is_gain.is_raise.is_old other.is_raise.is_old in
+      let after : g ≡ h = gain-unique s.problem (ranges_of s.problem x.node) (columns_for s x.node) x.round.prices v w g h x.is_gain other in
       ap (λ (z : ℤ). settle.Improves z g) before ∙ ap (λ (z : ℤ). settle.Improves w z) after
 
   settle-both : (a b : Settle) → SettleSucceeds s id version a → SettleSucceeds s id version b → a ≡ b
@@ -193,10 +193,10 @@ module _ (s : State) (id : BranchId) (seen : ℕ) (prices : List ℕ) where
       let a = x.may.is_gathered.complete_round in
       let b = y.may.is_gathered.complete_round in
       let same = one_round s id x.node y.node x.round y.round a.is_node b.is_node a.is_round b.is_round in
-      let old : IsRestrictedValue s.problem (columns_for s x.node) x.round.prices w = moved s x.node y.node x.round y.round (λ n ps. IsRestrictedValue s.problem (columns_for s n) ps w) same y.is_before in
-      let new : IsRestrictedValue s.problem (columns_for s x.node) prices h = subst (λ (n : Node). IsRestrictedValue s.problem (columns_for s n) prices h) same.0 y.is_after in
-      let before : v ≡ w = value-unique s.problem (columns_for s x.node) x.round.prices v w x.is_before old in
-      let after : g ≡ h = value-unique s.problem (columns_for s x.node) prices g h x.is_after new in
+      let old : IsRestrictedValue s.problem (ranges_of s.problem x.node) (columns_for s x.node) x.round.prices w = moved s x.node y.node x.round y.round (λ n ps. IsRestrictedValue s.problem (ranges_of s.problem n) (columns_for s n) ps w) same y.is_before in
+      let new : IsRestrictedValue s.problem (ranges_of s.problem x.node) (columns_for s x.node) prices h = subst (λ (n : Node). IsRestrictedValue s.problem (ranges_of s.problem n) (columns_for s n) prices h) same.0 y.is_after in
+      let before : v ≡ w = value-unique s.problem (ranges_of s.problem x.node) (columns_for s x.node) x.round.prices v w x.is_before old in
+      let after : g ≡ h = value-unique s.problem (ranges_of s.problem x.node) (columns_for s x.node) prices g h x.is_after new in
       ap (λ (z : ℤ). publish.NoGain z g) before ∙ ap (λ (z : ℤ). publish.NoGain w z) after
 
   pub gains-not_no_gain : (u : State) (node : Node) (round : Round) (v g : ℤ) → MayFollow s id seen prices node round
@@ -207,10 +207,10 @@ module _ (s : State) (id : BranchId) (seen : ℕ) (prices : List ℕ) where
       let same = one_round s id y.node node y.round round b.is_node a.is_node b.is_round a.is_round in
       elim gains [
         | inl better ↦
-            let old : IsRestrictedValue s.problem (columns_for s y.node) y.round.prices better.before = moved s y.node node y.round round (λ n ps. IsRestrictedValue s.problem (columns_for s n) ps better.before) same better.is_before in
-            let new : IsRestrictedValue s.problem (columns_for s y.node) prices better.after = subst (λ (n : Node). IsRestrictedValue s.problem (columns_for s n) prices better.after) same.0 better.is_after in
-            let before : better.before ≡ v = value-unique s.problem (columns_for s y.node) y.round.prices better.before v old y.is_before in
-            let after : better.after ≡ g = value-unique s.problem (columns_for s y.node) prices better.after g new y.is_after in
+            let old : IsRestrictedValue s.problem (ranges_of s.problem y.node) (columns_for s y.node) y.round.prices better.before = moved s y.node node y.round round (λ n ps. IsRestrictedValue s.problem (ranges_of s.problem n) (columns_for s n) ps better.before) same better.is_before in
+            let new : IsRestrictedValue s.problem (ranges_of s.problem y.node) (columns_for s y.node) prices better.after = subst (λ (n : Node). IsRestrictedValue s.problem (ranges_of s.problem n) (columns_for s n) prices better.after) same.0 better.is_after in
+            let before : better.before ≡ v = value-unique s.problem (ranges_of s.problem y.node) (columns_for s y.node) y.round.prices better.before v old y.is_before in
+            let after : better.after ≡ g = value-unique s.problem (ranges_of s.problem y.node) (columns_for s y.node) prices better.after g new y.is_after in
             not_both better.before better.after better.greater (subst (λ (z : ℤ). z ≤ℤ better.before) (sym after) (subst (λ (z : ℤ). g ≤ℤ z) (sym before) y.not_greater))
         | inr crowd ↦ y.no_crowd_step (subst (λ (r : Round). IsCrowdStep s y.node r prices) same.1 (subst (λ (n : Node). IsCrowdStep s n round prices) same.0 crowd))
       ]

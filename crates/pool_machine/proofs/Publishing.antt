@@ -28,6 +28,7 @@ Publishes-sound s t id seen prices slot version h e =
     let k' : IsSoundNode s.problem marked = record {
       first_prices = k.first_prices;
       open_enough = k.open_enough;
+      ranges = k.ranges;
       round = k.round;
       best = k.best;
       no_best = k.no_best;

@@ -2,8 +2,9 @@
 use Rattle.std.proofs.Common.{◌≡◌, ℕ, zero, suc, ◌+◌, ◌-◌, ◌*◌, ◌^◌, ◌≤◌, List, length, set, Option, Some, None, slice_get, sym, ap, subst, ◌∙◌, arith, sum_by, length-set}
 use Rattle.std.proofs.lemmas.List.Elements.{All-set}
 use Rattle.plan_base.specs.declared.parts.Parts.{Parts}
-use Rattle.pool_machine.specs.State.{Limit, restriction_by, Round, Fate, Undone, ClosedBy, DividedBy, Node, State, restriction_of, cutoff_of, left_of, examined_in, divided_in, left_in}
-use Rattle.pool_machine.specs.Depth.{choices_of, branching_depth}
+use Rattle.proof_tree.specs.Regions.{whole}
+use Rattle.pool_machine.specs.State.{Limit, region_by, Round, Fate, Undone, ClosedBy, DividedBy, Node, State, region_of, cutoff_of, left_of, examined_in, divided_in, left_in}
+use Rattle.pool_machine.specs.Depth.{depth_below}
 use Rattle.pool_machine.specs.Nodes.{IsSoundFate, HasSoundFate, IsSoundNode}
 use Rattle.pool_machine.specs.Family.{AreApart, HasChildrenBy}
 use Rattle.pool_machine.specs.Counts.{AreSoundCounts, IsShallow, weight_by, weight_in, versions_of, versions_by, versions_in_round}
@@ -42,16 +43,15 @@ same_size s i old new is undivided h =
     let size : length (set s.nodes i new) ≡ length s.nodes = length-set s.nodes i new in
     omega arith
 
-IsShallow-same : (p : Parts) (old new : Node) → new.limits ≡ old.limits → IsShallow p old → IsShallow p new
-IsShallow-same p old new same h = record { within = subst (λ (ls : List Limit). choices_of p (restriction_by ls) + length ls ≤ branching_depth p) (sym same) h.within }
+IsShallow-same : (p : Parts) (ends : ℕ → List ℕ) (old new : Node) → new.limits ≡ old.limits → IsShallow p ends old → IsShallow p ends new
+IsShallow-same p ends old new same h = record { within = subst (λ (ls : List Limit). depth_below p ends (region_by p ls) + length ls ≤ depth_below p ends (whole p)) (sym same) h.within }
 
-same_weights : (s : State) (i : ℕ) (old new : Node) → slice_get s.nodes i ≡ Some old → divided_in new ≡ divided_in old → new.limits ≡ old.limits
-    → sum_by (weight_in (branching_depth s.problem)) s.nodes ≡ 2 ^ branching_depth s.problem → sum_by (weight_in (branching_depth s.problem)) (set s.nodes i new) ≡ 2 ^ branching_depth s.problem
-same_weights s i old new is undivided limits h =
-    let depth = branching_depth s.problem in
+same_weights : (depth : ℕ) (nodes : List Node) (i : ℕ) (old new : Node) → slice_get nodes i ≡ Some old → divided_in new ≡ divided_in old → new.limits ≡ old.limits
+    → sum_by (weight_in depth) nodes ≡ 2 ^ depth → sum_by (weight_in depth) (set nodes i new) ≡ 2 ^ depth
+same_weights depth nodes i old new is undivided limits h =
     let same : weight_in depth new ≡ weight_in depth old =
     ap (λ (d : ℕ). weight_by d (depth - length new.limits)) undivided ∙ ap (λ (ls : List Limit). weight_by (divided_in old) (depth - length ls)) limits in
-    let sum = sum_by-set_at (weight_in depth) s.nodes i old new is in
+    let sum = sum_by-set_at (weight_in depth) nodes i old new is in
     sums _ _ _ _ sum same ∙ h
   where
     sums : (a b x y : ℕ) → a + x ≡ b + y → y ≡ x → a ≡ b
@@ -64,6 +64,7 @@ pub replaced-sound : (s : State) (i : ℕ) (old new : Node) (examined next accep
     → IsSound (replaced s i new examined next accepted)
 replaced-sound s i old new examined next accepted is h base children node fate undivided apart rise = record {
   lawful = h.lawful;
+  unit = h.unit;
   nodes = All-set (IsSoundNode s.problem) s.nodes i new node h.nodes;
   fates = All-set (HasSoundFate s.problem (cutoff_of s)) s.nodes i new fate h.fates;
   apart = apart;
@@ -72,12 +73,12 @@ replaced-sound s i old new examined next accepted is h base children node fate u
   incumbent = h.incumbent;
   counts = CountsRise-sound s i old new examined next accepted is rise h.counts;
   size = same_size s i old new is undivided h.size;
-  depths = All-set (IsShallow s.problem) s.nodes i new (IsShallow-same s.problem old new base.limits (All-at (IsShallow s.problem) s.nodes i old h.depths is)) h.depths;
-  weights = same_weights s i old new is undivided base.limits h.weights;
+  depths = λ ends are. All-set (IsShallow s.problem ends) s.nodes i new (IsShallow-same s.problem ends old new base.limits (All-at (IsShallow s.problem ends) s.nodes i old (h.depths ends are) is)) (h.depths ends are);
+  weights = λ ends are. same_weights (depth_below s.problem ends (whole s.problem)) s.nodes i old new is undivided base.limits (h.weights ends are);
 }
 
 pub undone_fate : (p : Parts) (cost : Option ℕ) (node : Node) → node.fate ≡ Undone → HasSoundFate p cost node
-undone_fate p cost node undone = subst (IsSoundFate p cost (restriction_of node)) (sym undone) tt
+undone_fate p cost node undone = subst (IsSoundFate p cost (region_of p node)) (sym undone) tt
 
 pub node_at : (s : State) (i : ℕ) (node : Node) → IsSound s → slice_get s.nodes i ≡ Some node → IsSoundNode s.problem node
 node_at s i node h is = All-at (IsSoundNode s.problem) s.nodes i node h.nodes is

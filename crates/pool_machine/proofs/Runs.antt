@@ -43,7 +43,9 @@ use Rattle.pool_machine.specs.Counts.{IsShallow, weight_in}
 use Rattle.pool_machine.specs.Soundness.{IsSound}
 use Rattle.pool_machine.proofs.Frames.{no_children}
 use Rattle.std.proofs.lemmas.List.Sums.{sum_by-cons}
-use Rattle.pool_machine.specs.Depth.{branching_depth}
+use Rattle.proof_tree.specs.Regions.{whole}
+use Rattle.link_steps.proofs.WholeRanges.{AreRanges-whole}
+use Rattle.pool_machine.specs.Depth.{depth_below}
 use Rattle.pool_machine.proofs.Gathering.{Gathers-sound, GathersFront-sound}
 use Rattle.pool_machine.proofs.Publishing.{Publishes-sound}
 use Rattle.pool_machine.proofs.Settling.{Settles-sound}
@@ -248,9 +250,8 @@ IsReachable-step s t event answer h step =
       run = Run-push h.opening s t h.entries entry h.run step;
     }
 
-root_weight : (p : Parts) (root : Node) → root.limits ≡ [] → root.fate ≡ Undone → sum_by (weight_in (branching_depth p)) (root ∷ []) ≡ 2 ^ branching_depth p
-root_weight p root limits undone =
-    let depth = branching_depth p in
+root_weight : (depth : ℕ) (root : Node) → root.limits ≡ [] → root.fate ≡ Undone → sum_by (weight_in depth) (root ∷ []) ≡ 2 ^ depth
+root_weight depth root limits undone =
     let one = sum_by-cons (weight_in depth) root [] in
     let w : weight_in depth root ≡ 2 ^ depth = rw (undone, limits) (ap (λ (n : ℕ). 2 ^ n) (omega arith)) in
     sums _ _ _ one w
@@ -286,6 +287,7 @@ IsOpeningState-sound p budget s e =
         at_target = λ k below a arc tail. refl;
         elsewhere = λ k at below a leaves. (a, leaves, refl);
       };
+      ranges = AreRanges-whole p;
       round = tt;
       best = tt;
       no_best = λ none. refl;
@@ -297,6 +299,7 @@ IsOpeningState-sound p budget s e =
     } in
     subst IsSound (sym e.is_state) (record {
       lawful = e.lawful;
+      unit = e.is_unit;
       nodes = All-cons (IsSoundNode p) root [] sound (All-nil (IsSoundNode p));
       fates = All-cons (HasSoundFate p None) root [] tt (All-nil (HasSoundFate p None));
       apart = record {
@@ -315,8 +318,8 @@ IsOpeningState-sound p budget s e =
       incumbent = tt;
       counts = record { examined = refl; within_budget = omega arith; versions = omega arith; accepted = omega arith };
       size = refl;
-      depths = All-cons (IsShallow p) root [] (record { within = omega arith }) (All-nil (IsShallow p));
-      weights = root_weight p root refl refl;
+      depths = λ ends are. All-cons (IsShallow p ends) root [] (record { within = omega arith }) (All-nil (IsShallow p ends));
+      weights = λ ends are. root_weight (depth_below p ends (whole p)) root refl refl;
     })
 
 pub IsReachable-sound : (s : State) → IsReachable s → IsSound s

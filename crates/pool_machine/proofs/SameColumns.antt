@@ -3,6 +3,7 @@ use Rattle.std.proofs.Common.{◌≡◌, ℕ, ◌*◌, ◌<◌, ◌^◌, List, l
 use Rattle.std.specs.Prelude.{ℤ, pos, ◌+ℤ◌}
 use Rattle.plan_base.specs.declared.ids.ArcId.{ArcId}
 use Rattle.plan_base.specs.declared.parts.Parts.{Parts}
+use Rattle.link_steps.specs.declared.range.LoadRange.{LoadRange}
 use Rattle.plan_base.specs.Facts.{price_limit}
 use Rattle.plan_base.specs.Arcs.{demand_at}
 use Rattle.plan_base.specs.Places.{places}
@@ -22,8 +23,8 @@ AreSame p one other = (k : ℕ) → k < length p.demands → one k ≡ other k
 pub same-back : (p : Parts) (one other : Choices) → AreSame p one other → AreSame p other one
 same-back p one other same = λ k below. sym (same k below)
 
-pub value-same : (p : Parts) (one other : Choices) (prices : List ℕ) (value : ℤ) → AreSame p one other → IsRestrictedValue p one prices value → IsRestrictedValue p other prices value
-value-same p one other prices value same h = record {
+pub value-same : (p : Parts) (ranges : List LoadRange) (one other : Choices) (prices : List ℕ) (value : ℤ) → AreSame p one other → IsRestrictedValue p ranges one prices value → IsRestrictedValue p ranges other prices value
+value-same p ranges one other prices value same h = record {
   has_columns = λ k below. subst (λ (paths : List (List ArcId)). 0 < length paths) (same k below) (h.has_columns k below);
   values = h.values;
   are_values = h.are_values;
@@ -37,8 +38,8 @@ load-same p one other prices q same =
     sum_below-same (λ k. if uses_place p q (least_column p prices (one k)) then (demand_at p k).load else 0) (λ k. if uses_place p q (least_column p prices (other k)) then (demand_at p k).load else 0) (length p.demands)
     (λ k below. ap (λ (paths : List (List ArcId)). if uses_place p q (least_column p prices paths) then (demand_at p k).load else 0) (same k below))
 
-trial-same : (p : Parts) (one other : Choices) (prices : List ℕ) (j : ℕ) (trial : List ℕ) → AreSame p one other → IsTrial p one prices j trial → IsTrial p other prices j trial
-trial-same p one other prices j trial same h =
+trial-same : (p : Parts) (ranges : List LoadRange) (one other : Choices) (prices : List ℕ) (j : ℕ) (trial : List ℕ) → AreSame p one other → IsTrial p ranges one prices j trial → IsTrial p ranges other prices j trial
+trial-same p ranges one other prices j trial same h =
     let loads : (q : ℕ) → column_load p one prices q ≡ column_load p other prices q = λ q. load-same p one other prices q same in
     let widest : widest_gap p (column_load p one prices) h.loads ≡ widest_gap p (column_load p other prices) h.loads =
     max_below-same (λ q. apart (column_load p one prices q) (h.loads q)) (λ q. apart (column_load p other prices q) (h.loads q)) (places p)
@@ -53,10 +54,10 @@ trial-same p one other prices j trial same h =
           ∙ ap (λ (x : ℕ). moved (price_limit p) (greatest_price p prices) (widest_gap p (column_load p other prices) h.loads * 2 ^ j) x (h.loads q) (slice_index prices q)) (loads q);
     }
 
-pub stalled-same : (p : Parts) (one other : Choices) (prices : List ℕ) (old : ℤ) → AreSame p one other → IsStalled p one prices old → IsStalled p other prices old
-stalled-same p one other prices old same h =
+pub stalled-same : (p : Parts) (ranges : List LoadRange) (one other : Choices) (prices : List ℕ) (old : ℤ) → AreSame p one other → IsStalled p ranges one prices old → IsStalled p ranges other prices old
+stalled-same p ranges one other prices old same h =
     let back = same-back p one other same in
     record {
-      is_old = value-same p one other prices old same h.is_old;
-      none_greater = λ j trial value below t v. h.none_greater j trial value below (trial-same p other one prices j trial back t) (value-same p other one trial value back v);
+      is_old = value-same p ranges one other prices old same h.is_old;
+      none_greater = λ j trial value below t v. h.none_greater j trial value below (trial-same p ranges other one prices j trial back t) (value-same p ranges other one trial value back v);
     }

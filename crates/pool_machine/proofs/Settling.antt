@@ -19,6 +19,7 @@ Settles-sound s t id version h e =
     let sound : IsSoundNode s.problem new = record {
       first_prices = k.first_prices;
       open_enough = k.open_enough;
+      ranges = k.ranges;
       round = k.round;
       best = k.best;
       no_best = k.no_best;

@@ -10,7 +10,7 @@ use Rattle.plan_base.specs.Paths.{arc_at}
 use Rattle.arc_restrict.specs.Restrictions.{Forbidden, is_among, with_forbidden, IsPermittedPath}
 use Rattle.proof_tree.specs.Splits.{IsSide, HasPathWith, PartsTwoPaths}
 use Rattle.proof_tree.proofs.Covering.{is_among-All}
-use Rattle.pool_machine.specs.State.{Division}
+use Rattle.pool_machine.specs.State.{ArcSplit}
 use Rattle.pool_machine.specs.Dividing.{PartsAt}
 use Rattle.pool_machine.specs.Nodes.{LeavesNode, IsOpenEnough}
 use Rattle.pool_machine.specs.Depth.{choices_of}
@@ -72,7 +72,7 @@ IsOpenEnough-side p r id node arcs side h = record {
   ];
 }
 
-module _ (p : Parts) (r : Forbidden) (d : Division) (parts : PartsAt p r d) where
+module _ (p : Parts) (r : Forbidden) (d : ArcSplit) (parts : PartsAt p r d) where
   -- two paths never part at their target
   parts-before_target : d.at.0 ≢ (demand_at p d.demand.0).target.0
   parts-before_target same =

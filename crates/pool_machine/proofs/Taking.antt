@@ -4,36 +4,36 @@ use Rattle.std.specs.Prelude.{IfSome, int_lt}
 use Rattle.std.proofs.lemmas.Int.{ints}
 use Rattle.plan_base.specs.declared.parts.Parts.{Parts}
 use Rattle.plan_base.specs.Places.{places}
-use Rattle.arc_restrict.specs.Restrictions.{Forbidden}
+use Rattle.proof_tree.specs.Regions.{Region}
 use Rattle.proof_tree.specs.Bounds.{IsBound}
 use Rattle.proof_tree.specs.Evidence.{ClosedByCrowd}
 use Rattle.pool_machine.specs.declared.limits.TheConstants.{MAX_VERSIONS}
 use Rattle.proof_tree.proofs.Uniqueness.{bound-unique}
-use Rattle.pool_machine.specs.State.{Round, Best, Fate, Undone, Node, restriction_of, left_of}
+use Rattle.pool_machine.specs.State.{Round, Best, Fate, Undone, Node, restriction_of, region_of, left_of}
 use Rattle.pool_machine.specs.Changes.{better_of, KeepsCrowd, Completes, GoesOn, TakesRound}
 use Rattle.pool_machine.specs.Nodes.{IsPriceList, IsSoundRound, IsSoundBest, IsSoundNode}
 use Rattle.pool_machine.specs.Counts.{versions_of, versions_by, versions_in_round}
 use Rattle.pool_machine.proofs.Frames.{SameBase}
 
 -- the better of a sound record and of a bound is sound, and at least that bound
-record IsBetter (p : Parts) (r : Forbidden) (first_prices : List ℕ) (completed : ℕ) (bound : ℤ) (best : Best) : Type 0 where
-  sound : IsSoundBest p r first_prices (suc completed) best
+record IsBetter (p : Parts) (g : Region) (first_prices : List ℕ) (completed : ℕ) (bound : ℤ) (best : Best) : Type 0 where
+  sound : IsSoundBest p g first_prices (suc completed) best
   above : bound ≤ℤ best.bound
 
 same_bound : (one other : ℤ) → one ≡ other → one ≤ℤ other
 same_bound one other e = omega (arith, ints)
 
-better_of-sound : (p : Parts) (r : Forbidden) (first_prices prices : List ℕ) (completed : ℕ) (best : Option Best) (bound : ℤ)
-    → IfSome best (λ b. IsSoundBest p r first_prices completed b) → IsPriceList p prices → IsBound p r prices bound
-    → (best ≡ None → IsBound p r first_prices bound)
-    → IsBetter p r first_prices completed bound (better_of best bound prices)
-better_of-sound p r first_prices prices completed None bound h fits is first = record {
+better_of-sound : (p : Parts) (g : Region) (first_prices prices : List ℕ) (completed : ℕ) (best : Option Best) (bound : ℤ)
+    → IfSome best (λ b. IsSoundBest p g first_prices completed b) → IsPriceList p prices → IsBound p g prices bound
+    → (best ≡ None → IsBound p g first_prices bound)
+    → IsBetter p g first_prices completed bound (better_of best bound prices)
+better_of-sound p g first_prices prices completed None bound h fits is first = record {
   sound = record { prices = fits; is_bound = is; some_complete = omega arith; first = bound; is_first = first refl; above_first = same_bound bound bound refl };
   above = same_bound bound bound refl;
 }
-better_of-sound p r first_prices prices completed (Some best) bound h fits is first = by_cases (int_lt best.bound bound) refl
+better_of-sound p g first_prices prices completed (Some best) bound h fits is first = by_cases (int_lt best.bound bound) refl
   where
-    by_cases : (b : Bool) → int_lt best.bound bound ≡ b → IsBetter p r first_prices completed bound (better_of (Some best) bound prices)
+    by_cases : (b : Bool) → int_lt best.bound bound ≡ b → IsBetter p g first_prices completed bound (better_of (Some best) bound prices)
     by_cases true less =
         rw less (record {
           sound = record { prices = fits; is_bound = is; some_complete = omega arith; first = h.first; is_first = h.is_first; above_first = (let low = h.above_first in grind (arith, ints)) };
@@ -63,7 +63,7 @@ versions_in_round-some completed (suc left) h = refl
 
 -- a crowd proof with one price for each place
 abbrev IsSizedCrowd : Parts → Node → List ℕ → Type 0
-IsSizedCrowd p node prices = ClosedByCrowd p (restriction_of node) prices × (length prices ≡ places p)
+IsSizedCrowd p node prices = ClosedByCrowd p (region_of p node) prices × (length prices ≡ places p)
 
 KeepsCrowd-sound : (p : Parts) (old : Node) (prices : List ℕ) (crowd : Option (List ℕ)) → length prices ≡ places p → KeepsCrowd p old prices crowd
     → IfSome old.crowd (IsSizedCrowd p old) → IfSome crowd (IsSizedCrowd p old)
@@ -76,18 +76,19 @@ module _ (p : Parts) (old : Node) (round : Round) (undone : old.fate ≡ Undone)
     (is_sound : IsSoundRound p (restriction_of old) round) (first : old.completed ≡ 0 → round.prices ≡ old.first_prices) (room : old.completed < MAX_VERSIONS) where
   Completes-sound : (new : Node) → Completes p old round new → HasTaken p old round new
   Completes-sound new e =
-      let r = restriction_of old in
-      let better = better_of-sound p r old.first_prices round.prices old.completed old.best e.bound k.best is_sound.prices e.is_bound
-      (λ none. subst (λ (ps : List ℕ). IsBound p r ps e.bound) (first (k.no_best none)) e.is_bound) in
+      let g = region_of p old in
+      let better = better_of-sound p g old.first_prices round.prices old.completed old.best e.bound k.best is_sound.prices e.is_bound
+      (λ none. subst (λ (ps : List ℕ). IsBound p g ps e.bound) (first (k.no_best none)) e.is_bound) in
       subst (HasTaken p old round) (sym e.becomes) (record {
         sound = record {
           first_prices = k.first_prices;
           open_enough = k.open_enough;
+          ranges = k.ranges;
           round = (undone, is_sound);
           best = better.sound;
           no_best = λ none. cc;
           versions = record {
-            complete_within = λ done b x. let same : b ≡ e.bound = bound-unique p r round.prices b e.bound x e.is_bound in subst (λ (z : ℤ). z ≤ℤ (better_of old.best e.bound round.prices).bound) (sym same) better.above;
+            complete_within = λ done b x. let same : b ≡ e.bound = bound-unique p g round.prices b e.bound x e.is_bound in subst (λ (z : ℤ). z ≤ℤ (better_of old.best e.bound round.prices).bound) (sym same) better.above;
             some_complete = λ done. omega arith;
             first_round = λ none. absurd (omega arith);
             room = λ left. absurd (let c = e.complete in omega arith);
@@ -111,6 +112,7 @@ module _ (p : Parts) (old : Node) (round : Round) (undone : old.fate ≡ Undone)
         sound = record {
           first_prices = k.first_prices;
           open_enough = k.open_enough;
+          ranges = k.ranges;
           round = (undone, is_sound);
           best = k.best;
           no_best = k.no_best;

@@ -9,7 +9,7 @@ use Rattle.proof_tree.specs.Bounds.{IsBound}
 use Rattle.proof_tree.specs.Evidence.{ClosedByCrowd}
 use Rattle.pool_machine.specs.declared.answers.NodeState.{NodeState}
 use Rattle.pool_machine.specs.declared.answers.NodeState.TheVariants as state
-use Rattle.pool_machine.specs.State.{Round, Best, Node, State, restriction_of, left_of, round_of, Limit, Found, Undone}
+use Rattle.pool_machine.specs.State.{Round, Best, Node, State, region_of, left_of, round_of, Limit, Found, Undone}
 
 -- the state with this node at the number
 abbrev pub with_node : State → BranchId → Node → State
@@ -38,15 +38,15 @@ better_of (Some best) bound prices = if int_lt best.bound bound then record { bo
 -- the crowd proof that a node has after a complete round
 abbrev pub KeepsCrowd : Parts → Node → List ℕ → Option (List ℕ) → Type 0
 KeepsCrowd p node prices crowd =
-    (ClosedByCrowd p (restriction_of node) prices × (crowd ≡ Some prices))
-    ⊎ ((ClosedByCrowd p (restriction_of node) prices → ⊥) × (crowd ≡ node.crowd))
+    (ClosedByCrowd p (region_of p node) prices × (crowd ≡ Some prices))
+    ⊎ ((ClosedByCrowd p (region_of p node) prices → ⊥) × (crowd ≡ node.crowd))
 
 -- a complete round counts, and its bound and its crowd proof are recorded
 pub record Completes (p : Parts) (old : Node) (round : Round) (new : Node) : Type 0 where
   pub complete : left_of round ≡ 0
   pub bound : ℤ
   pub crowd : Option (List ℕ)
-  pub is_bound : IsBound p (restriction_of old) round.prices bound
+  pub is_bound : IsBound p (region_of p old) round.prices bound
   pub is_crowd : KeepsCrowd p old round.prices crowd
   pub becomes : new ≡ record old {
     best = Some (better_of old.best bound round.prices);

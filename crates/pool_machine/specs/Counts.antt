@@ -1,8 +1,9 @@
 -- How the counts of a state fit its tree, and how deep the tree is.
-use Rattle.std.specs.Prelude.{ℕ, zero, suc, ◌+◌, ◌-◌, ◌*◌, ◌^◌, ◌≡◌, ◌≤◌, length, Option, Some, None, sum_by}
+use Rattle.std.specs.Prelude.{ℕ, zero, suc, ◌+◌, ◌-◌, ◌*◌, ◌^◌, ◌≡◌, ◌≤◌, List, length, Option, Some, None, sum_by}
 use Rattle.plan_base.specs.declared.parts.Parts.{Parts}
-use Rattle.pool_machine.specs.Depth.{choices_of, branching_depth}
-use Rattle.pool_machine.specs.State.{Round, Node, State, restriction_of, left_of, left_in, divided_in, examined_in, Fate, Undone, ClosedBy, DividedBy}
+use Rattle.proof_tree.specs.Regions.{whole}
+use Rattle.pool_machine.specs.Depth.{depth_below}
+use Rattle.pool_machine.specs.State.{Round, Node, State, region_of, left_of, left_in, divided_in, examined_in, Fate, Undone, ClosedBy, DividedBy}
 
 -- how many versions a node has had: none while it waits, those that were complete where its round is, else one more
 abbrev pub versions_in_round : ℕ → ℕ → ℕ
@@ -27,9 +28,9 @@ pub record AreSoundCounts (s : State) : Type 0 where
   pub versions : s.next_version ≤ 1 + sum_by versions_of s.nodes
   pub accepted : s.accepted + sum_by left_in s.nodes + length s.problem.demands ≤ length s.problem.demands * s.next_version
 
--- the choices that are left, and the depth, are together at most the branching depth
-pub record IsShallow (p : Parts) (node : Node) : Type 0 where
-  pub within : choices_of p (restriction_of node) + length node.limits ≤ branching_depth p
+-- the depth that is left, and the node's own, are together at most the branching depth
+pub record IsShallow (p : Parts) (ends : ℕ → List ℕ) (node : Node) : Type 0 where
+  pub within : depth_below p ends (region_of p node) + length node.limits ≤ depth_below p ends (whole p)
 
 -- 2 to the depth that is left below a leaf; a divided node has passed its weight on
 abbrev pub weight_by : ℕ → ℕ → ℕ

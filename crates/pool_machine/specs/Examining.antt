@@ -10,13 +10,14 @@ use Rattle.plan_base.specs.Sums.{sum_below}
 use Rattle.plan_base.specs.Designs.{cost_of, load_at, IsGoodDesign}
 use Rattle.link_steps.specs.Costs.{IsStepCost}
 use Rattle.arc_restrict.specs.Restrictions.{Forbidden}
+use Rattle.proof_tree.specs.Regions.{AreInRange}
 use Rattle.proof_tree.specs.Evidence.{AreOnlyPaths, ClosedByOverfull}
 use Rattle.proof_tree.specs.declared.tree.Evidence.TheVariants as evidence
 use Rattle.pool_machine.specs.declared.answers.Examined.{Examined}
 use Rattle.pool_machine.specs.declared.answers.Examined.TheVariants as examined
 use Rattle.pool_machine.specs.declared.answers.ExamineFault.{ExamineFault}
 use Rattle.pool_machine.specs.declared.answers.ExamineFault.TheVariants as examine_fault
-use Rattle.pool_machine.specs.State.{Node, State, restriction_of, HeldCut, Incumbent}
+use Rattle.pool_machine.specs.State.{Node, State, restriction_of, ranges_of, region_of, HeldCut, Incumbent}
 use Rattle.pool_machine.specs.Closing.{closed_by}
 use Rattle.pool_machine.specs.Changes.{examined_with}
 use Rattle.pool_machine.specs.Readiness.{examine_refusal, IsExamined, IsReady, IsFirstFar, NoneFar}
@@ -37,13 +38,13 @@ pub record ClosesFar (old : State) (id : BranchId) (demand : DemandId) (new : St
   pub far : IsFirstFar old.problem (restriction_of node) demand
   pub becomes : new ≡ examined_with old id (closed_by (evidence.Far demand) node)
 
--- the examined node leaves each demand one path, and these overfill a link
+-- the examined node leaves each demand one path, and these overfill a link or leave the range of a place
 pub record ClosesOverfull (old : State) (id : BranchId) (new : State) : Type 0 where
   pub node : Node
   pub ready : IsReady old id node
   pub none_far : NoneFar old.problem (restriction_of node)
   pub link : LinkId
-  pub overfull : ClosedByOverfull old.problem (restriction_of node) link
+  pub overfull : ClosedByOverfull old.problem (region_of old.problem node) link
   pub becomes : new ≡ examined_with old id (closed_by (evidence.Overfull link) node)
 
 -- the design has the only permitted paths, and counts of least cost for them
@@ -60,7 +61,7 @@ abbrev pub cheaper_of : Option Incumbent → ℕ → Design → Incumbent
 cheaper_of None cost design = record { cost = cost; design = design }
 cheaper_of (Some held) cost design = if nat_lt cost held.cost then record { cost = cost; design = design } else held
 
--- the examined node leaves each demand one path; their design becomes the incumbent where it is cheaper
+-- the examined node leaves each demand one path, with loads in range; their design becomes the incumbent where it is cheaper
 pub record ClosesRouted (old : State) (id : BranchId) (new : State) : Type 0 where
   pub node : Node
   pub ready : IsReady old id node
@@ -68,6 +69,7 @@ pub record ClosesRouted (old : State) (id : BranchId) (new : State) : Type 0 whe
   pub cost : ℕ
   pub design : Design
   pub routed : IsRouted old.problem (restriction_of node) cost design
+  pub in_range : (e : ℕ) → e < length old.problem.links → AreInRange old.problem (ranges_of old.problem node) design e
   pub becomes : new ≡ record old {
     nodes = slice_set old.nodes id.0 (closed_by evidence.Routed node);
     incumbent = Some (cheaper_of old.incumbent cost design);

@@ -1,5 +1,5 @@
 -- Gatherings: the paths of a complete round become columns.
-use Rattle.std.specs.Prelude.{ℕ, zero, suc, ◌≡◌, ◌<◌, ◌≤◌, ◌⊎◌, not, List, length, Option, Some, None, option_map, slice_get, slice_index_or, Result, Ok, Err}
+use Rattle.std.specs.Prelude.{ℕ, zero, suc, ◌≡◌, ◌<◌, ◌≤◌, ◌⊎◌, Bool, not, ◌&&◌, ◌||◌, is_some, nat_lt, List, length, Option, Some, None, option_map, slice_get, slice_index_or, Result, Ok, Err}
 use Rattle.std.specs.declared.alloc.AllocError.{AllocError}
 use Rattle.plan_base.specs.declared.ids.BranchId.{BranchId}
 use Rattle.plan_base.specs.declared.ids.DemandId.{DemandId}
@@ -8,9 +8,10 @@ use Rattle.plan_base.specs.Faults.{demand_id}
 use Rattle.column_pool.specs.declared.brief.Brief.{Brief}
 use Rattle.column_pool.specs.Columns.{Columns, columns_at, is_column, columns_with, permitted_at}
 use Rattle.master_step.specs.Columns.{Choices}
+use Rattle.pool_machine.specs.declared.limits.TheConstants.{ENOUGH_VERSIONS}
 use Rattle.pool_machine.specs.declared.answers.Gather.{Gather}
 use Rattle.pool_machine.specs.declared.answers.Gather.TheVariants as gather
-use Rattle.pool_machine.specs.State.{Round, Node, State, Found, restriction_of, cutoff_of, left_of, round_of}
+use Rattle.pool_machine.specs.State.{Round, Node, State, Found, restriction_of, ranges_of, cutoff_of, left_of, round_of}
 use Rattle.pool_machine.specs.Changes.{stale_fault, first_gap}
 
 -- the columns that the node permits to each demand, in their order
@@ -56,15 +57,23 @@ pub record IsGathered (s : State) (id : BranchId) (version : ℕ) (node : Node) 
   pub complete_round : IsCompleteRound s id version node round
   pub gathered_all : first_ungathered s.columns (Some round) ≡ None
 
+-- no further version of the node is to follow: its crowd prices were tried, or a design is known and enough of its versions
+-- were complete
+abbrev pub has_enough : State → Node → Bool
+has_enough s node = node.crowd_tried || (is_some s.incumbent && not (nat_lt node.completed ENOUGH_VERSIONS))
+
 -- what a master step is told: the prices of the round, and for each demand the columns that the node permits
 pub record IsBriefOf (s : State) (id : BranchId) (node : Node) (round : Round) (brief : Brief) : Type 0 where
   pub node_is : brief.node ≡ id
   pub version : brief.version ≡ round.version
   pub prices : brief.prices ≡ round.prices
+  pub ranges : brief.ranges ≡ ranges_of s.problem node
   pub count : length brief.columns ≡ length s.problem.demands
   pub columns : (k : ℕ) → k < length s.problem.demands → columns_at brief.columns k ≡ columns_for s node k
   pub crowd_tried : brief.crowd_tried ≡ node.crowd_tried
+  pub has_enough : brief.has_enough ≡ has_enough s node
   pub incumbent : brief.incumbent ≡ cutoff_of s
+  pub unit : brief.unit ≡ s.unit
 
 -- all paths of the round are columns now, and the brief tells the new columns
 pub record Gathers (old : State) (id : BranchId) (version : ℕ) (brief : Brief) (new : State) : Type 0 where

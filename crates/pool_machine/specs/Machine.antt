@@ -7,6 +7,7 @@ use Rattle.plan_base.specs.declared.path.Design.{Design}
 use Rattle.plan_base.specs.declared.design_fault.DesignFault.{DesignFault}
 use Rattle.plan_base.specs.Facts.{IsInstance}
 use Rattle.link_steps.specs.Values.{AreStartPrices}
+use Rattle.link_steps.specs.Unit.{IsUnit}
 use Rattle.arc_restrict.specs.Prices.{AreWithinLimit}
 use Rattle.column_pool.specs.Columns.{no_columns}
 use Rattle.pool_machine.specs.declared.answers.Opened.{Opened}
@@ -100,11 +101,14 @@ root_with prices = waiting_with [] prices
 -- the root waits with the start prices, and nothing else is there
 pub record IsOpeningState (p : Parts) (budget : ℕ) (s : State) : Type 0 where
   pub lawful : IsInstance p
+  pub unit : ℕ
+  pub is_unit : IsUnit p unit
   pub prices : List ℕ
   pub are_start : AreStartPrices p prices
   pub within_limit : AreWithinLimit p prices
   pub is_state : s ≡ record {
     problem = p;
+    unit = unit;
     nodes = root_with prices ∷ [];
     columns = no_columns p;
     incumbent = None;

@@ -1,18 +1,20 @@
 -- The plan of a state: its tree in preorder, with open leaves at their kept prices, its incumbent and its counts.
-use Rattle.std.specs.Prelude.{ℕ, ◌≤ℤ◌, ⊤, ◌≡◌, Bool, true, false, ◌||◌, ◌==◌, List, [], ◌∷◌, length, Option, Some, None, option_map, sum_by, MatchOption, ℤ, nat_lt}
+use Rattle.std.specs.Prelude.{ℕ, ◌≤ℤ◌, ⊤, ◌≡◌, Bool, true, false, ◌||◌, ◌==◌, List, [], ◌∷◌, ◌++◌, length, Option, Some, None, option_map, sum_by, MatchOption, ℤ, nat_lt}
 use Rattle.plan_base.specs.declared.parts.Parts.{Parts}
 use Rattle.plan_base.specs.declared.path.Design.{Design}
 use Rattle.plan_base.specs.Places.{is_two_way}
 use Rattle.proof_tree.specs.declared.tree.TreeNode.{TreeNode}
-use Rattle.proof_tree.specs.declared.tree.TreeNode.TheVariants.{Split, Leaf}
+use Rattle.proof_tree.specs.declared.tree.TreeNode.TheVariants.{Split, Loads, Leaf}
 use Rattle.proof_tree.specs.declared.plan.Plan.{Plan}
 use Rattle.proof_tree.specs.declared.plan.PlanStatus.{PlanStatus}
 use Rattle.proof_tree.specs.declared.plan.PlanStatus.TheVariants.{Optimal, Infeasible, Undecided}
-use Rattle.arc_restrict.specs.Restrictions.{Forbidden, none_forbidden, with_forbidden}
+use Rattle.proof_tree.specs.Regions.{Region, whole}
+use Rattle.proof_tree.specs.Trees.{children_at}
 use Rattle.proof_tree.specs.Bounds.{IsOpeningBound}
 use Rattle.proof_tree.specs.Splits.{PartsTwoPaths}
 use Rattle.proof_tree.specs.Plans.{IsCandidate, IsLeastCandidate}
 use Rattle.branch_tree.specs.Records.{preorder_by, preorder_in, preorder_at}
+use Rattle.pool_machine.specs.Dividing.{PartsSteps}
 use Rattle.pool_machine.specs.State.{Node, State, kept_prices, Fate, Undone, ClosedBy, DividedBy, Incumbent}
 
 -- the records of a subtree whose children's records a function tells
@@ -82,14 +84,18 @@ pub record IsPlanOf (s : State) (plan : Plan) : Type 0 where
 abbrev pub HasOpeningBound : Parts → Plan → Type 0
 HasOpeningBound p plan = (opening bound : ℤ) → IsOpeningBound p opening → plan.bound ≡ Some bound → opening ≤ℤ bound
 
--- in these subtrees, which stand at these restrictions, each split parts two permitted paths of its demand
-abbrev pub SplitsPart : Parts → List Forbidden → List TreeNode → Type 0
-SplitsPart p [] nodes = ⊤
-SplitsPart p (r ∷ rs) [] = ⊤
-SplitsPart p (r ∷ rs) (Leaf evidence ∷ nodes) = SplitsPart p rs nodes
-SplitsPart p (r ∷ rs) (Split k at left right ∷ nodes) =
-    PartsTwoPaths p r k left right × SplitsPart p (with_forbidden r k left ∷ with_forbidden r k right ∷ rs) nodes
+-- a split at this region parts two permitted paths of its demand, or two steps of its place's link
+abbrev pub SplitParts : Parts → Region → TreeNode → Type 0
+SplitParts p g (Leaf evidence) = ⊤
+SplitParts p g (Split k at left right) = PartsTwoPaths p g.forbidden k left right
+SplitParts p g (Loads place load) = PartsSteps p g.ranges (record { place = place; load = load })
 
--- each split of the tree parts two permitted paths of its demand
+-- in these subtrees, which stand at these regions, each split does so
+abbrev pub SplitsPart : Parts → List Region → List TreeNode → Type 0
+SplitsPart p [] nodes = ⊤
+SplitsPart p (g ∷ gs) [] = ⊤
+SplitsPart p (g ∷ gs) (node ∷ nodes) = SplitParts p g node × SplitsPart p (children_at g node ++ gs) nodes
+
+-- each split of the tree parts two permitted paths of its demand, or two steps of its place's link
 abbrev pub PartsPaths : Parts → List TreeNode → Type 0
-PartsPaths p nodes = SplitsPart p (none_forbidden ∷ []) nodes
+PartsPaths p nodes = SplitsPart p (whole p ∷ []) nodes

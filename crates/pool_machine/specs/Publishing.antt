@@ -11,7 +11,7 @@ use Rattle.master_step.specs.Outcomes.{HasStalled, AreCrowdPrices}
 use Rattle.pool_machine.specs.declared.answers.Publish.{Publish}
 use Rattle.pool_machine.specs.declared.answers.Publish.TheVariants as publish
 use Rattle.pool_machine.specs.declared.limits.TheConstants.{MAX_VERSIONS}
-use Rattle.pool_machine.specs.State.{Round, Node, State, round_of}
+use Rattle.pool_machine.specs.State.{Round, Node, State, ranges_of, round_of}
 use Rattle.pool_machine.specs.Changes.{TakesRound, stale_fault, first_gap}
 use Rattle.pool_machine.specs.Opening.{empty_round}
 use Rattle.pool_machine.specs.Readiness.{completed_in, settled_in}
@@ -45,13 +45,13 @@ pub record MayFollow (s : State) (id : BranchId) (seen : ℕ) (prices : List ℕ
 pub record IsBetterStep (s : State) (node : Node) (round : Round) (prices : List ℕ) : Type 0 where
   pub before : ℤ
   pub after : ℤ
-  pub is_before : IsRestrictedValue s.problem (columns_for s node) round.prices before
-  pub is_after : IsRestrictedValue s.problem (columns_for s node) prices after
+  pub is_before : IsRestrictedValue s.problem (ranges_of s.problem node) (columns_for s node) round.prices before
+  pub is_after : IsRestrictedValue s.problem (ranges_of s.problem node) (columns_for s node) prices after
   pub greater : before <ℤ after
 
 -- the round is stalled, and the prices are its crowd prices
 pub record IsCrowding (s : State) (node : Node) (round : Round) (prices : List ℕ) : Type 0 where
-  pub stalled : HasStalled s.problem (columns_for s node) round.prices
+  pub stalled : HasStalled s.problem (ranges_of s.problem node) (columns_for s node) round.prices
   pub are_crowd : AreCrowdPrices s.problem round.prices prices
 
 -- they are, and the node's crowd prices were not tried
@@ -83,8 +83,8 @@ pub record IsNoGain (old : State) (id : BranchId) (seen : ℕ) (prices : List �
   pub node : Node
   pub round : Round
   pub may : MayFollow old id seen prices node round
-  pub is_before : IsRestrictedValue old.problem (columns_for old node) round.prices before
-  pub is_after : IsRestrictedValue old.problem (columns_for old node) prices after
+  pub is_before : IsRestrictedValue old.problem (ranges_of old.problem node) (columns_for old node) round.prices before
+  pub is_after : IsRestrictedValue old.problem (ranges_of old.problem node) (columns_for old node) prices after
   pub not_greater : after ≤ℤ before
   pub no_crowd_step : IsCrowdStep old node round prices → ⊥
   pub unchanged : new ≡ old

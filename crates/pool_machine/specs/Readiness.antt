@@ -32,7 +32,7 @@ bound_or_zero (Some bound) = bound
 abbrev pub ready_fault : State → Option Node → Option ExamineFault
 ready_fault s node =
     when (completed_in node == 0) examine_fault.Unpriced
-    or_else when (closable_in (cutoff_of s) node) (examine_fault.Closable (bound_or_zero (bound_in node)) (cutoff_of s))
+    or_else when (closable_in s.unit (cutoff_of s) node) (examine_fault.Closable (bound_or_zero (bound_in node)) (cutoff_of s))
     or_else when (not (settled_in node) && nat_lt (completed_in node) MAX_VERSIONS) (examine_fault.Unsettled (completed_in node))
 
 -- why an examination is refused, the first cause first
@@ -53,7 +53,7 @@ pub record IsReady (s : State) (id : BranchId) (node : Node) : Type 0 where
   pub open_node : IsExamined s id node
   pub no_cut : node.cut ≡ None
   pub priced : 0 < node.completed
-  pub not_closable : is_closable (cutoff_of s) node ≡ false
+  pub not_closable : is_closable s.unit (cutoff_of s) node ≡ false
   pub settled : (node.settled ≡ true) ⊎ (MAX_VERSIONS ≤ node.completed)
 
 -- no permitted path of the demand keeps its limit, and each demand before it that has a limit has a path that does

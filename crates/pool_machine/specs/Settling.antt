@@ -5,9 +5,9 @@ use Rattle.plan_base.specs.First.{◌or_else◌}
 use Rattle.master_step.specs.Outcomes.{IsGain, HasStalled}
 use Rattle.pool_machine.specs.declared.answers.Settle.{Settle}
 use Rattle.pool_machine.specs.declared.answers.Settle.TheVariants as settle
-use Rattle.pool_machine.specs.State.{Round, Node, State, round_of}
+use Rattle.pool_machine.specs.State.{Round, Node, State, ranges_of, round_of}
 use Rattle.pool_machine.specs.Changes.{with_node, stale_fault, first_gap}
-use Rattle.pool_machine.specs.Gathering.{columns_for, first_ungathered, IsGathered}
+use Rattle.pool_machine.specs.Gathering.{columns_for, first_ungathered, has_enough, IsGathered}
 
 -- why a settling is refused before prices are valued, the first cause first: spent, stale, a demand not priced, a path
 -- that is no column
@@ -17,21 +17,21 @@ settle_fault s id version =
     or_else option_map settle.Incomplete (first_gap (round_of s id))
     or_else option_map settle.Ungathered (first_ungathered s.columns (round_of s id))
 
--- the node's gathered round of this version is its last: its crowd prices were tried, or no price step gains
+-- the node's gathered round of this version is its last: the node has had enough versions, or no price step gains
 pub record Settles (old : State) (id : BranchId) (version : ℕ) (new : State) : Type 0 where
   pub node : Node
   pub round : Round
   pub is_gathered : IsGathered old id version node round
-  pub no_more : (node.crowd_tried ≡ true) ⊎ HasStalled old.problem (columns_for old node) round.prices
+  pub no_more : (has_enough old node ≡ true) ⊎ HasStalled old.problem (ranges_of old.problem node) (columns_for old node) round.prices
   pub becomes : new ≡ with_node old id (record node { settled = true })
 
--- a price step gains, and the node's crowd prices were not tried: the restricted values before and after the step
+-- a price step gains, and the node has not had enough versions: the restricted values before and after the step
 pub record IsImprovable (old : State) (id : BranchId) (version : ℕ) (before after : ℤ) (new : State) : Type 0 where
   pub node : Node
   pub round : Round
   pub is_gathered : IsGathered old id version node round
-  pub not_tried : node.crowd_tried ≡ false
-  pub is_gain : IsGain old.problem (columns_for old node) round.prices before after
+  pub not_enough : has_enough old node ≡ false
+  pub is_gain : IsGain old.problem (ranges_of old.problem node) (columns_for old node) round.prices before after
   pub unchanged : new ≡ old
 
 -- a settling is answered so and leads from old to new; a refused one changes nothing

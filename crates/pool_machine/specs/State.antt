@@ -2,17 +2,22 @@
 use Rattle.std.specs.Prelude.{ℕ, Bool, List, Option, Some, None, option_map, option_and_then, slice_get, sum_by, ℤ}
 use Rattle.plan_base.specs.declared.ids.BranchId.{BranchId}
 use Rattle.plan_base.specs.declared.parts.Parts.{Parts}
+use Rattle.link_steps.specs.declared.range.LoadRange.{LoadRange}
 use Rattle.arc_restrict.specs.Restrictions.{Forbidden}
+use Rattle.proof_tree.specs.Regions.{Region}
 use Rattle.column_pool.specs.Columns.{Columns}
 use Rattle.pool_machine.specs.declared.answers.NodeState.{NodeState}
 use Rattle.pool_machine.specs.declared.answers.NodeState.TheVariants as state
 pub use Rattle.branch_tree.specs.declared.node.Limit.{Limit}
+pub use Rattle.branch_tree.specs.declared.node.ArcSplit.{ArcSplit}
+pub use Rattle.branch_tree.specs.declared.node.LoadSplit.{LoadSplit}
+pub use Rattle.branch_tree.specs.declared.node.Divider.{Divider}
 pub use Rattle.pool_machine.specs.declared.tree.Found.{Found}
 pub use Rattle.pool_machine.specs.declared.tree.HeldCut.{HeldCut}
 pub use Rattle.branch_tree.specs.declared.node.Division.{Division}
 pub use Rattle.branch_tree.specs.declared.node.Fate.{Fate}
 pub use Rattle.branch_tree.specs.declared.node.Fate.TheVariants.{Undone, ClosedBy, DividedBy}
-pub use Rattle.branch_tree.specs.Branches.{restriction_by, with_limit}
+pub use Rattle.branch_tree.specs.Branches.{restriction_by, ranges_by, region_by, narrowed, left_limit, right_limit}
 pub use Rattle.pool_machine.specs.declared.tree.Incumbent.{Incumbent}
 
 -- the round of a node: which demands are priced under one version of prices. One entry for each demand
@@ -27,7 +32,7 @@ pub record Best : Type 0 where
   pub bound : ℤ
   pub prices : List ℕ
 
--- a node of the tree: what is forbidden there, what is recorded, what became of it, its marks and its round
+-- a node of the tree: what its splits leave, what is recorded, what became of it, its marks and its round
 pub record Node : Type 0 where
   pub limits : List Limit
   pub first_prices : List ℕ
@@ -45,6 +50,8 @@ pub record Node : Type 0 where
 -- the whole state; a node is named by its place in the list
 pub record State : Type 0 where
   pub problem : Parts
+  -- what all costs are multiples of, in cost grains
+  pub unit : ℕ
   pub nodes : List Node
   pub columns : Columns
   pub incumbent : Option Incumbent
@@ -53,9 +60,17 @@ pub record State : Type 0 where
   pub next_version : ℕ
   pub accepted : ℕ
 
--- the restriction of a node
+-- what is forbidden at a node
 abbrev pub restriction_of : Node → Forbidden
 restriction_of node = restriction_by node.limits
+
+-- how much load each place may carry there
+abbrev pub ranges_of : Parts → Node → List LoadRange
+ranges_of p node = ranges_by p node.limits
+
+-- the region of a node
+abbrev pub region_of : Parts → Node → Region
+region_of p node = region_by p node.limits
 
 -- the cost that closed leaves are measured against, or none
 abbrev pub cutoff_of : State → Option ℕ

@@ -39,7 +39,7 @@ pub record IsToAdvance (s : State) (id : BranchId) (version : ℕ) : Type 0 wher
   pub complete : left_of round ≡ 0
   pub not_settled : node.settled ≡ false
   pub room : node.completed < MAX_VERSIONS
-  pub not_closable : is_closable (cutoff_of s) node ≡ false
+  pub not_closable : is_closable s.unit (cutoff_of s) node ≡ false
 
 -- the task names a call that would not be refused now
 abbrev pub IsLawfulTask : State → Task → Type 0

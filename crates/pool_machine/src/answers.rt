@@ -195,9 +195,9 @@ pub enum Examined {
     Divided { left: BranchId, right: BranchId },
     /// No path of the demand keeps its limit, and each demand before it has one that does; that has closed it.
     Far { demand: DemandId },
-    /// Each demand has one path, and a link cannot carry them; that has closed it.
+    /// Each demand has one path, and a link cannot carry them or a place's load is outside its range; that has closed it.
     Overfull,
-    /// Each demand has one path, and they can be carried; that has closed it.
+    /// Each demand has one path, and they can be carried with loads in their ranges; that has closed it.
     Routed,
 }
 

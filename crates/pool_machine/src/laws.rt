@@ -1,13 +1,13 @@
 //! Laws of the machine.
 
-ghost use Rattle.plan_base.specs.declared.ids.ArcId.{ArcId};
 ghost use Rattle.plan_base.specs.declared.ids.BranchId.{BranchId as AnyBranch};
 ghost use Rattle.branch_tree.specs.declared.node.Division.{Division as AnyDivision};
+ghost use Rattle.branch_tree.specs.declared.node.Fate.TheVariants.{DividedBy};
 ghost use Rattle.proof_tree.specs.Trees.{IsValidTree};
 ghost use Rattle.pool_machine.specs.State.{State, Node, Best, cutoff_of};
 ghost use Rattle.pool_machine.specs.Machine.{IsReachable, Run, Entry, IsCounted, IsOpeningState};
 ghost use Rattle.pool_machine.specs.Soundness.{IsSound};
-ghost use Rattle.pool_machine.specs.Family.{IsChild};
+ghost use Rattle.pool_machine.specs.Family.{IsChildBy};
 ghost use Rattle.pool_machine.specs.Tasks.{LeadsTo, IsSearchState, IsToAdvance};
 ghost use Rattle.pool_machine.specs.declared.answers.Opened.{Opened as AnyOpened};
 ghost use Rattle.pool_machine.specs.declared.answers.RoundFault.{RoundFault as AnyRoundFault};
@@ -19,7 +19,7 @@ ghost use Rattle.pool_machine.specs.Settling.{SettleStep};
 ghost use Rattle.pool_machine.specs.Publishing.{PublishStep};
 ghost use Rattle.plan_base.specs.declared.parts.Parts.{Parts};
 ghost use Rattle.std.specs.Prelude.{ℕ, Result, Some, None, slice_get, ◌≤ℤ◌, List, ◌≡◌, ◌<◌, ◌≤◌, ◌-◌, ◌^◌, ◌+◌};
-ghost use Rattle.pool_machine.specs.Depth.{branching_depth};
+ghost use Rattle.pool_machine.specs.Depth.{IsBranchingDepth};
 ghost use Rattle.pool_machine.specs.PlanOf.{tree_of, open_count};
 
 /// Each state that any events lead to, in any order, refused and late ones among them, is sound.
@@ -37,15 +37,22 @@ pub fn tree_of_state()
     ensures { (s : State) → IsSound s → IsValidTree s.problem (cutoff_of s) (tree_of s) }
 {}
 
+/// Each instance has a branching depth, and one alone.
+pub fn one_depth()
+    ensures some { (p : Parts) → (depth : ℕ) × IsBranchingDepth p depth }
+    ensures one { (p : Parts) (depth other : ℕ) → IsBranchingDepth p depth → IsBranchingDepth p other → depth ≡ other }
+{}
+
 /// With one node for each place down to the branching depth, no leaf stays open.
 pub fn enough_budget()
-    ensures { (s : State) → IsSound s → 2 ^ (branching_depth s.problem + 1) - 1 ≤ s.budget → s.examined ≡ s.budget → open_count s ≡ 0 }
+    ensures { (s : State) (depth : ℕ) → IsSound s → IsBranchingDepth s.problem depth → 2 ^ (depth + 1) - 1 ≤ s.budget → s.examined ≡ s.budget → open_count s ≡ 0 }
 {}
 
 /// A child's recorded bound is at least its parent's.
 pub fn child_rises()
-    ensures { (s : State) (n m : ℕ) (parent child : Node) (d : AnyDivision) (arcs : List ArcId) (one other : Best) → IsSound s
-        → slice_get s.nodes n ≡ Some parent → slice_get s.nodes m ≡ Some child → IsChild parent d arcs child
+    ensures { (s : State) (n m : ℕ) (parent child : Node) (division : AnyDivision) (one other : Best) → IsSound s
+        → slice_get s.nodes n ≡ Some parent → parent.fate ≡ DividedBy division
+        → slice_get s.nodes m ≡ Some child → IsChildBy parent division child
         → parent.best ≡ Some one → child.best ≡ Some other → one.bound ≤ℤ other.bound }
 {}
 
