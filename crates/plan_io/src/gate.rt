@@ -12,15 +12,23 @@ pub struct Standing {
     pub budget: u32,
     /// The cost of the best design so far, in cost grains.
     pub cost: Option<u128>,
+    /// The least bound of the open leaves, in cost grains, and at most the cost; None where it was not asked for, is not
+    /// known, or is negative.
+    pub bound: Option<u128>,
 }
 
-/// What a worker passes between taking a task and handing its result in. It answers nothing, so no
-/// promise depends on it: tests hold workers here to force an order, a terminal is told how a run goes.
+/// What a worker passes between taking a task and handing its result in. It answers only whether it is told a bound, so
+/// no promise depends on it: tests hold workers here to force an order, a terminal is told how a run goes.
 ///
 /// - Rule: docs/DEFINITIONS.md, "Shelves, sinks and gates".
 pub trait Gate: Sync {
     /// - Takes: the worker's number, and how many tasks it took before this one, both from 0.
     fn pass(&self, worker: u32, turn: u64);
+
+    /// Whether the gate is told the bound too, for which each node of the search is looked at.
+    fn asks(&self) -> bool {
+        false
+    }
 
     /// What a worker tells behind each task that it passes with.
     ///

@@ -1,5 +1,5 @@
 -- The line that says how far a run is.
-use Rattle.std.specs.Prelude.{ℕ, ◌/◌, ◌%◌, List, ◌++◌, codes, decimal, Option, Some, None}
+use Rattle.std.specs.Prelude.{ℕ, ◌/◌, ◌%◌, List, [], ◌++◌, codes, decimal, Option, Some, None}
 use Rattle.plan_io.specs.declared.gate.Standing.{Standing}
 use Rattle.scaled_numbers.specs.Canonical.{grains_text}
 use Rattle.run_progress.specs.declared.line.TheConstants.{COST_SCALE}
@@ -9,14 +9,19 @@ abbrev pub cost_text : Option ℕ → List ℕ
 cost_text None = codes "no design yet"
 cost_text (Some cost) = codes "best cost " ++ grains_text cost COST_SCALE
 
+-- the bound of a search, where one is told
+abbrev pub bound_text : Option ℕ → List ℕ
+bound_text None = []
+bound_text (Some bound) = codes ", bound " ++ grains_text bound COST_SCALE
+
 -- so many seconds as minutes and two digits of seconds
 abbrev pub time_text : ℕ → List ℕ
 time_text seconds = decimal (seconds / 60) ++ codes ":" ++ decimal (seconds % 60 / 10) ++ decimal (seconds % 60 % 10)
 
--- what is told of a search: nodes examined and to be examined at most, the cost of the best design, and how many workers there are
+-- what is told of a search: nodes examined and to be examined at most, the cost of the best design, the bound, and how many workers there are
 abbrev pub search_text : Standing → ℕ → List ℕ
 search_text standing workers =
-    codes "nodes " ++ decimal standing.examined ++ codes " of " ++ decimal standing.budget ++ codes ", " ++ cost_text standing.cost
+    codes "nodes " ++ decimal standing.examined ++ codes " of " ++ decimal standing.budget ++ codes ", " ++ cost_text standing.cost ++ bound_text standing.bound
     ++ codes ", workers " ++ decimal workers
 
 -- what is told of a run whose search was told of or not

@@ -1,7 +1,7 @@
 //! The words of the line.
 
 ghost use Rattle.std.specs.Prelude.{◌≡◌, ◌++◌, decimal, OnOk, IfOk};
-ghost use Rattle.run_progress.specs.Lines.{cost_text, time_text, search_text, standing_text, line_text};
+ghost use Rattle.run_progress.specs.Lines.{cost_text, bound_text, time_text, search_text, standing_text, line_text};
 
 use itoa::Buffer;
 use plan_io::Standing;
@@ -31,6 +31,19 @@ fn push_cost(text: &mut Vec<u8>, cost: Option<u128>) -> Result<(), AllocError>
     }
 }
 
+/// Writes the bound of a search, in the unit of a network file, where one is told.
+fn push_bound(text: &mut Vec<u8>, bound: Option<u128>) -> Result<(), AllocError>
+    ensures { OnOk result (text.new.items ≡ text.old.items ++ bound_text bound) }
+{
+    match bound {
+        Some(bound) => {
+            text.extend_from_slice(b", bound ")?;
+            write_grains(bound, COST_SCALE, text)
+        }
+        None => Ok(()),
+    }
+}
+
 /// Writes so many seconds as minutes and two digits of seconds.
 fn push_time(text: &mut Vec<u8>, seconds: u64) -> Result<(), AllocError>
     ensures { OnOk result (text.new.items ≡ text.old.items ++ time_text seconds) }
@@ -41,8 +54,8 @@ fn push_time(text: &mut Vec<u8>, seconds: u64) -> Result<(), AllocError>
     push_number(text, seconds % 60 % 10)
 }
 
-/// Writes how far a search is: the nodes that are examined and may be, the cost of the best design, and how many workers
-/// there are.
+/// Writes how far a search is: the nodes that are examined and may be, the cost of the best design, the bound, and how
+/// many workers there are.
 fn push_search(text: &mut Vec<u8>, standing: Standing, workers: u32) -> Result<(), AllocError>
     ensures { OnOk result (text.new.items ≡ text.old.items ++ search_text standing workers) }
 {
@@ -52,6 +65,7 @@ fn push_search(text: &mut Vec<u8>, standing: Standing, workers: u32) -> Result<(
     push_number(text, u64::from(standing.budget))?;
     text.extend_from_slice(b", ")?;
     push_cost(text, standing.cost)?;
+    push_bound(text, standing.bound)?;
     text.extend_from_slice(b", workers ")?;
     push_number(text, u64::from(workers))
 }

@@ -43,6 +43,8 @@ pub struct Progress<C: Clock, P: Print> {
     workers: AtomicU64,
     /// At which millisecond of the run the line is due.
     due: AtomicU64,
+    /// At which millisecond of the run the bound is asked for.
+    asked: AtomicU64,
     /// Whether a line stands at the screen.
     is_shown: AtomicBool,
     /// How far the search was when that was told last.
@@ -51,6 +53,16 @@ pub struct Progress<C: Clock, P: Print> {
     has_ended: Mutex<bool>,
     /// Rings when it has.
     bell: Condvar,
+}
+
+/// Whether the time has come that is due, and nobody else has seen that. Then the next one is due after a pause.
+fn has_come(due: &AtomicU64, millis: u64) -> bool {
+    let at = due.load(Ordering::SeqCst);
+    let next = millis.saturating_add(PAUSE);
+    millis >= at
+        && due
+            .compare_exchange(at, next, Ordering::SeqCst, Ordering::SeqCst)
+            .is_ok()
 }
 
 impl<C: Clock, P: Print> Progress<C, P> {
@@ -70,6 +82,7 @@ impl<C: Clock, P: Print> Progress<C, P> {
             began,
             workers: AtomicU64::new(0),
             due: AtomicU64::new(FIRST),
+            asked: AtomicU64::new(0),
             is_shown: AtomicBool::new(false),
             told: Told::new(),
             has_ended: Mutex::new(false),
@@ -85,13 +98,7 @@ impl<C: Clock, P: Print> Progress<C, P> {
 
     /// Whether the line is due, and nobody else writes it.
     fn is_due(&self, millis: u64) -> bool {
-        let due = self.due.load(Ordering::SeqCst);
-        let next = millis.saturating_add(PAUSE);
-        millis >= due
-            && self
-                .due
-                .compare_exchange(due, next, Ordering::SeqCst, Ordering::SeqCst)
-                .is_ok()
+        has_come(&self.due, millis)
     }
 
     /// The line, with what puts it in the place of the one before.
@@ -166,12 +173,19 @@ impl<C: Clock + Sync, P: Print + Sync> Gate for Progress<C, P> {
         self.workers.fetch_or(1 << (worker % 64), Ordering::SeqCst);
     }
 
+    fn asks(&self) -> bool {
+        match self.millis() {
+            Some(millis) => has_come(&self.asked, millis),
+            None => false,
+        }
+    }
+
     fn stand(&self, standing: Standing) {
         self.told.write(standing);
         if let Some(millis) = self.millis()
             && self.is_due(millis)
         {
-            self.show(millis, Some(standing));
+            self.show(millis, Some(self.told.read().unwrap_or(standing)));
         }
     }
 }

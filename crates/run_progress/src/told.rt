@@ -3,11 +3,48 @@
 use plan_io::Standing;
 use std::sync::atomic::{AtomicU64, Ordering};
 
-/// What stands for the cost where there is no design: no cost is as large.
-const NO_COST: u128 = u128::MAX;
+/// What stands for a cost or a bound where there is none: none is as large.
+const NO_AMOUNT: u128 = u128::MAX;
 
-/// One more than the greatest half of a cost.
+/// One more than the greatest half of a cost or a bound.
 const HALF: u128 = 18_446_744_073_709_551_616;
+
+/// A cost or a bound, or none, in two halves.
+#[derive(Drop)]
+struct Amount {
+    /// The lower half.
+    low: AtomicU64,
+    /// The upper half.
+    high: AtomicU64,
+}
+
+impl Amount {
+    /// None.
+    fn new() -> Amount {
+        Amount {
+            low: AtomicU64::new(u64::MAX),
+            high: AtomicU64::new(u64::MAX),
+        }
+    }
+
+    /// Writes one half after the other.
+    fn write(&self, amount: Option<u128>) {
+        let amount = amount.unwrap_or(NO_AMOUNT);
+        self.low.store((amount % HALF) as u64, Ordering::SeqCst);
+        self.high.store((amount / HALF) as u64, Ordering::SeqCst);
+    }
+
+    /// Reads one half after the other.
+    fn read(&self) -> Option<u128> {
+        let low = u128::from(self.low.load(Ordering::SeqCst));
+        let amount = u128::from(self.high.load(Ordering::SeqCst)) * HALF + low;
+        if amount == NO_AMOUNT {
+            None
+        } else {
+            Some(amount)
+        }
+    }
+}
 
 /// How far a search was when that was told last. Nobody waits to tell it or to read it.
 #[derive(Drop)]
@@ -18,10 +55,10 @@ pub(crate) struct Told {
     examined: AtomicU64,
     /// The nodes that may be; 0 where nothing was told.
     budget: AtomicU64,
-    /// The lower half of the cost.
-    low: AtomicU64,
-    /// The upper half of the cost.
-    high: AtomicU64,
+    /// The cost of the best design.
+    cost: Amount,
+    /// The bound that was told last, which may be of an earlier standing.
+    bound: Amount,
 }
 
 impl Told {
@@ -31,12 +68,12 @@ impl Told {
             version: AtomicU64::new(0),
             examined: AtomicU64::new(0),
             budget: AtomicU64::new(0),
-            low: AtomicU64::new(0),
-            high: AtomicU64::new(0),
+            cost: Amount::new(),
+            bound: Amount::new(),
         }
     }
 
-    /// Writes a standing down, unless another one is being written.
+    /// Writes a standing down, unless another one is being written. The last bound stays where none is told.
     pub(crate) fn write(&self, standing: Standing) {
         let version = self.version.load(Ordering::SeqCst) & !1;
         let writing = version.wrapping_add(1);
@@ -47,13 +84,14 @@ impl Told {
         {
             return;
         }
-        let cost = standing.cost.unwrap_or(NO_COST);
         self.examined
             .store(u64::from(standing.examined), Ordering::SeqCst);
         self.budget
             .store(u64::from(standing.budget), Ordering::SeqCst);
-        self.low.store((cost % HALF) as u64, Ordering::SeqCst);
-        self.high.store((cost / HALF) as u64, Ordering::SeqCst);
+        self.cost.write(standing.cost);
+        if standing.bound.is_some() {
+            self.bound.write(standing.bound);
+        }
         self.version
             .store(writing.wrapping_add(1), Ordering::SeqCst);
     }
@@ -63,16 +101,16 @@ impl Told {
         let version = self.version.load(Ordering::SeqCst);
         let examined = self.examined.load(Ordering::SeqCst);
         let budget = self.budget.load(Ordering::SeqCst);
-        let low = u128::from(self.low.load(Ordering::SeqCst));
-        let high = u128::from(self.high.load(Ordering::SeqCst));
+        let cost = self.cost.read();
+        let bound = self.bound.read();
         if budget == 0 || version % 2 == 1 || self.version.load(Ordering::SeqCst) != version {
             return None;
         }
-        let cost = high * HALF + low;
         Some(Standing {
             examined: u32::try_from(examined).ok()?,
             budget: u32::try_from(budget).ok()?,
-            cost: if cost == NO_COST { None } else { Some(cost) },
+            cost,
+            bound,
         })
     }
 }
