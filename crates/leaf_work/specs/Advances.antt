@@ -10,15 +10,15 @@ use Rattle.master_step.specs.Ascents.{IsRiseOf}
 pub record IsRaised (p : Parts) (brief : Brief) (prices : List ℕ) : Type 0 where
   pub old : ℤ
   pub new : ℤ
-  pub is_rise : IsRiseOf p (columns_at brief.columns) brief.prices old prices new
+  pub is_rise : IsRiseOf p brief.ranges (columns_at brief.columns) brief.prices old prices new
 
 -- no master step gains, and the prices are the crowd prices of the brief, which were not tried
 pub record IsCrowded (p : Parts) (brief : Brief) (prices : List ℕ) : Type 0 where
   pub not_tried : brief.crowd_tried ≡ false
-  pub stalled : HasStalled p (columns_at brief.columns) brief.prices
+  pub stalled : HasStalled p brief.ranges (columns_at brief.columns) brief.prices
   pub are_crowd : AreCrowdPrices p brief.prices prices
 
--- what follows: such prices, or none where the crowd prices were tried or no master step gains
+-- what follows: such prices, or none where the node has had enough versions or no master step gains
 abbrev pub IsNext : Parts → Brief → Option (List ℕ) → Type 0
-IsNext p brief None = (brief.crowd_tried ≡ true) ⊎ HasStalled p (columns_at brief.columns) brief.prices
+IsNext p brief None = (brief.has_enough ≡ true) ⊎ HasStalled p brief.ranges (columns_at brief.columns) brief.prices
 IsNext p brief (Some prices) = IsRaised p brief prices ⊎ IsCrowded p brief prices

@@ -12,7 +12,7 @@ ghost use Rattle.path_pricing.specs.Priced.{ArePrices, IsPriced};
 ghost use Rattle.path_pricing.specs.Faults.{priced_fault};
 
 use crate::known::{Known, KnownAbove};
-use crate::pricing::{searched, still_shown};
+use crate::pricing::still_shown;
 use crate::trees::Trees;
 use arc_restrict::Restriction;
 use incumbent::DesignSearch;
@@ -123,10 +123,7 @@ impl Guide {
         if let Some(found) = still_shown(inst, prices, demand, restriction, known)? {
             return Ok(found);
         }
-        match self.trees.find(inst, version, prices, demand, restriction)? {
-            Some(found) => Ok(Arc::new(self.alloc, found)?),
-            None => searched(self.alloc, inst, prices, demand, restriction),
-        }
+        self.trees.find(inst, version, prices, demand, restriction)
     }
 
     /// Keeps what the demand has found at the node that is worked off.

@@ -6,6 +6,7 @@ ghost use Rattle.arc_restrict.specs.Rows.{forbids};
 ghost use Rattle.path_pricing.specs.Priced.{ArePrices, IsPriced};
 ghost use Rattle.path_pricing.specs.Faults.{priced_fault};
 
+use crate::trees::Trees;
 use arc_restrict::{Restriction, price_along};
 use path_pricing::{Priced, check_priced, price};
 use plan_base::{DemandId, Instance, Prices};
@@ -69,10 +70,15 @@ pub(crate) fn searched(
     Ok(Arc::new(alloc, found)?)
 }
 
-/// A least path of the demand, or a set that shows that it has none. What is known is taken where it still shows
-/// this.
+/// A least path of the demand, or a set that shows that it has none. What is known is taken where it still shows this, else
+/// the path in the tree of the demand's source; where the demand may not take that path, it is searched alone.
+///
+/// - Takes: trees under these prices, of version 0.
+/// - Errors: want of memory alone.
+/// - Time: that of one search for the first demand of a source; else linear in nodes, links and the path's arcs, where the
+///   path in the tree serves.
 pub fn find(
-    alloc: Global,
+    trees: &mut Trees,
     inst: &Instance,
     prices: &Prices,
     demand: DemandId,
@@ -87,7 +93,7 @@ pub fn find(
     if let Some(found) = still_shown(inst, prices, demand, restriction, known)? {
         return Ok(found);
     }
-    searched(alloc, inst, prices, demand, restriction)
+    trees.find(inst, 0, prices, demand, restriction)
 }
 
 /// The same, not shared.

@@ -1,18 +1,21 @@
 //! The trees of least paths under the prices of one version, one for each source whose demands asked.
 
 ghost use Rattle.std.specs.Prelude.{◌≡◌, ◌<◌, None, length, IfOk, IfSome};
+ghost use Rattle.std.specs.Arc.{arc_value};
 ghost use Rattle.arc_restrict.specs.Rows.{forbids};
 ghost use Rattle.path_pricing.specs.Priced.{ArePrices, IsPriced};
 ghost use Rattle.path_pricing.specs.Faults.{priced_fault};
 
+use crate::pricing::searched;
 use arc_restrict::Restriction;
 use path_pricing::{Priced, SourceTree};
 use plan_base::{DemandId, Instance, NodeId, Prices};
 use std::alloc::{AllocError, Global};
+use std::sync::Arc;
 
 /// The trees under the prices of a version. No contract rests on them: a tree tests what it gives.
 #[derive(Drop)]
-pub(crate) struct Trees {
+pub struct Trees {
     alloc: Global,
     version: u64,
     /// For each node the tree that was grown from it.
@@ -21,7 +24,7 @@ pub(crate) struct Trees {
 
 impl Trees {
     /// No tree is grown.
-    pub(crate) fn none(alloc: Global) -> Trees {
+    pub fn none(alloc: Global) -> Trees {
         Trees {
             alloc,
             version: 0,
@@ -71,7 +74,7 @@ impl Trees {
     /// - Errors: want of memory alone.
     /// - Time: that of one search where the demand is the first of its source under the version; else linear in nodes,
     ///   links and the path's arcs.
-    pub(crate) fn find(
+    fn grown_path(
         &mut self,
         inst: &Instance,
         version: u64,
@@ -90,6 +93,30 @@ impl Trees {
         match self.of(source) {
             Some(tree) => tree.priced(self.alloc, inst, prices, demand, restriction),
             None => Ok(None),
+        }
+    }
+
+    /// A least path of the demand, or a set that shows that it has none: the path in the tree of its source, where the
+    /// demand may take it, else what a search for the demand alone finds.
+    ///
+    /// - Takes: what `grown_path` takes.
+    /// - Errors: want of memory alone.
+    pub(crate) fn find(
+        &mut self,
+        inst: &Instance,
+        version: u64,
+        prices: &Prices,
+        demand: DemandId,
+        restriction: &Restriction,
+    ) -> Result<Arc<Priced>, AllocError>
+        requires prices { ArePrices inst.now prices.now }
+        requires demand { demand.0 < length inst.now.demands }
+        ensures least { IfOk result (λ found. IsPriced inst.now prices.now demand.0 (forbids restriction.now) (arc_value found)) }
+        ensures accepted { IfOk result (λ found. priced_fault inst.now prices.now demand.0 (forbids restriction.now) (arc_value found) ≡ None) }
+    {
+        match self.grown_path(inst, version, prices, demand, restriction)? {
+            Some(found) => Ok(Arc::new(self.alloc, found)?),
+            None => searched(self.alloc, inst, prices, demand, restriction),
         }
     }
 }

@@ -7,19 +7,21 @@ use Rattle.std.proofs.lemmas.Option.{slice_get_within}
 use Rattle.plan_base.specs.declared.parts.Parts.{Parts}
 use Rattle.plan_base.specs.declared.path.Design.{Design}
 use Rattle.plan_base.specs.Places.{is_two_way}
-use Rattle.arc_restrict.specs.Restrictions.{Forbidden, none_forbidden, with_forbidden}
 use Rattle.proof_tree.specs.declared.tree.Evidence.TheVariants as evidence
 use Rattle.proof_tree.specs.declared.tree.TreeNode.{TreeNode}
-use Rattle.proof_tree.specs.declared.tree.TreeNode.TheVariants.{Split, Leaf}
+use Rattle.proof_tree.specs.declared.tree.TreeNode.TheVariants.{Split, Loads, Leaf}
 use Rattle.proof_tree.specs.declared.plan.Plan.{Plan}
 use Rattle.proof_tree.specs.declared.plan.PlanStatus.TheVariants.{Undecided}
 use Rattle.proof_tree.specs.Shapes.{are_trees}
+use Rattle.proof_tree.specs.Regions.{Region, whole, with_arcs, up_to, above}
 use Rattle.proof_tree.specs.Trees.{AreValidTrees, IsValidTree}
 use Rattle.proof_tree.specs.Plans.{stated_cost, is_open, needs_cost, IsStatedDesign, HasStatus, IsValidPlan}
+use Rattle.branch_tree.specs.Records.{split_record}
+use Rattle.branch_tree.specs.declared.node.Divider.TheVariants as divider
 use Rattle.branch_tree.specs.declared.node.Fate.{Fate}
 use Rattle.pool_machine.specs.declared.tree.Incumbent.{Incumbent}
 use Rattle.branch_tree.specs.declared.node.Fate.TheVariants.{Undone, ClosedBy, DividedBy}
-use Rattle.pool_machine.specs.State.{Node, State, restriction_of, cutoff_of, examined_by, examined_in, kept_prices}
+use Rattle.pool_machine.specs.State.{Divider, Node, State, region_of, cutoff_of, examined_by, examined_in, kept_prices}
 use Rattle.pool_machine.specs.Machine.{IsReachable}
 use Rattle.pool_machine.specs.Nodes.{HasSoundFate, IsSoundFate}
 use Rattle.pool_machine.specs.Soundness.{IsSound}
@@ -39,7 +41,7 @@ use Rattle.plan_assembly.proofs.PlanRecords.{records_sum, none_counted, some_cou
 -- What a tree is made from
 
 pub tree-whole : (s : State) → IsSound s → are_trees 1 (tree_of s) ≡ true
-tree-whole s h = valid-whole s.problem (cutoff_of s) (none_forbidden ∷ []) (tree_of s) (tree_of-valid s h)
+tree-whole s h = valid-whole s.problem (cutoff_of s) (whole s.problem ∷ []) (tree_of s) (tree_of-valid s h)
 
 pub tree-some : (s : State) → IsSound s → 0 < length s.nodes
 tree-some s h = slice_get_within s.nodes 0 h.family.root h.family.is_root
@@ -49,6 +51,11 @@ tree-few s h small = let most = IsSound-nodes s h in omega arith
 
 -- Counts of a tree
 
+-- the record of a split is no open leaf
+split-closed : (by : Divider) → is_open (split_record by) ≡ false
+split-closed (divider.Arcs d) = refl
+split-closed (divider.Load d) = refl
+
 -- the records that are not open are those of the examined nodes
 tree-examined : (s : State) → IsReachable s → sum_by (λ record_. cond (not (is_open record_)) 1 0) (tree_of s) ≡ s.examined
 tree-examined s h =
@@ -56,10 +63,10 @@ tree-examined s h =
     (λ n node is. here node node.fate (All-at (HasSoundFate s.problem (cutoff_of s)) s.nodes n node (IsReachable-sound s h).fates is))
     ∙ sym (IsReachable-sound s h).counts.examined
   where
-    here : (node : Node) (fate : Fate) → IsSoundFate s.problem (cutoff_of s) (restriction_of node) fate → cond (not (is_open (record_by (kept_prices node) fate))) 1 0 ≡ examined_by fate
+    here : (node : Node) (fate : Fate) → IsSoundFate s.problem (cutoff_of s) (region_of s.problem node) fate → cond (not (is_open (record_by (kept_prices node) fate))) 1 0 ≡ examined_by fate
     here node Undone sound = refl
     here node (ClosedBy found) sound = ap (λ (b : Bool). cond (not b) 1 0) sound.0
-    here node (DividedBy d) sound = refl
+    here node (DividedBy d) sound = ap (λ (b : Bool). cond (not b) 1 0) (split-closed d.by)
 
 -- the open records are those of the open leaves
 tree-open : (s : State) → IsReachable s → sum_by (λ record_. cond (is_open record_) 1 0) (tree_of s) ≡ open_count s
@@ -67,10 +74,10 @@ tree-open s h =
     records_sum s (λ record_. cond (is_open record_) 1 0) (λ node. open_by node.fate) h
     (λ n node is. here node node.fate (All-at (HasSoundFate s.problem (cutoff_of s)) s.nodes n node (IsReachable-sound s h).fates is))
   where
-    here : (node : Node) (fate : Fate) → IsSoundFate s.problem (cutoff_of s) (restriction_of node) fate → cond (is_open (record_by (kept_prices node) fate)) 1 0 ≡ open_by fate
+    here : (node : Node) (fate : Fate) → IsSoundFate s.problem (cutoff_of s) (region_of s.problem node) fate → cond (is_open (record_by (kept_prices node) fate)) 1 0 ≡ open_by fate
     here node Undone sound = refl
     here node (ClosedBy found) sound = ap (λ (b : Bool). cond b 1 0) sound.0
-    here node (DividedBy d) sound = refl
+    here node (DividedBy d) sound = ap (λ (b : Bool). cond b 1 0) (split-closed d.by)
 
 -- The status
 
@@ -95,18 +102,19 @@ status-closed s h all =
 -- The plan
 
 -- without a cost no leaf is closed against one
-needs_none : (p : Parts) (rs : List Forbidden) (records : List TreeNode) → AreValidTrees p None rs records → list_any needs_cost records ≡ false
+needs_none : (p : Parts) (gs : List Region) (records : List TreeNode) → AreValidTrees p None gs records → list_any needs_cost records ≡ false
 needs_none p [] [] h = refl
 needs_none p [] (record_ ∷ records) h = absurd h
-needs_none p (r ∷ rs) [] h = absurd h
-needs_none p (r ∷ rs) (Leaf (evidence.Bound prices) ∷ records) h = absurd h.0
-needs_none p (r ∷ rs) (Leaf evidence.Routed ∷ records) h = absurd h.0
-needs_none p (r ∷ rs) (Leaf (evidence.Overfull link) ∷ records) h = needs_none p rs records h.1
-needs_none p (r ∷ rs) (Leaf (evidence.Cut demand reached) ∷ records) h = needs_none p rs records h.1
-needs_none p (r ∷ rs) (Leaf (evidence.Far demand) ∷ records) h = needs_none p rs records h.1
-needs_none p (r ∷ rs) (Leaf (evidence.Crowd prices) ∷ records) h = needs_none p rs records h.1
-needs_none p (r ∷ rs) (Leaf (evidence.Open prices) ∷ records) h = needs_none p rs records h.1
-needs_none p (r ∷ rs) (Split k at left right ∷ records) h = needs_none p (with_forbidden r k left ∷ with_forbidden r k right ∷ rs) records h.1
+needs_none p (g ∷ gs) [] h = absurd h
+needs_none p (g ∷ gs) (Leaf (evidence.Bound prices) ∷ records) h = absurd h.0
+needs_none p (g ∷ gs) (Leaf evidence.Routed ∷ records) h = absurd h.0
+needs_none p (g ∷ gs) (Leaf (evidence.Overfull link) ∷ records) h = needs_none p gs records h.1
+needs_none p (g ∷ gs) (Leaf (evidence.Cut demand reached) ∷ records) h = needs_none p gs records h.1
+needs_none p (g ∷ gs) (Leaf (evidence.Far demand) ∷ records) h = needs_none p gs records h.1
+needs_none p (g ∷ gs) (Leaf (evidence.Crowd prices) ∷ records) h = needs_none p gs records h.1
+needs_none p (g ∷ gs) (Leaf (evidence.Open prices) ∷ records) h = needs_none p gs records h.1
+needs_none p (g ∷ gs) (Split k at left right ∷ records) h = needs_none p (with_arcs g k left ∷ with_arcs g k right ∷ gs) records h.1
+needs_none p (g ∷ gs) (Loads place load ∷ records) h = needs_none p (up_to g place load ∷ above g place load ∷ gs) records h.1
 
 done_cases : (s : State) → is_done s ≡ true → 0 < open_count s → s.examined ≡ s.budget
 done_cases s done some = by (s.examined == s.budget) refl
@@ -156,7 +164,7 @@ module _ (s : State) (plan : Plan) (h : IsReachable s) (is : IsPlanOf s plan) wh
   without_cost : plan.design ≡ None → list_any needs_cost plan.tree ≡ false
   without_cost none =
       let no_cost : stated_cost plan ≡ None = ap (λ (design : Option (ℕ × Design)). option_map (λ x. x.0) design) none in
-      needs_none s.problem (none_forbidden ∷ []) plan.tree (subst (λ (cost : Option ℕ). IsValidTree s.problem cost plan.tree) no_cost valid_tree)
+      needs_none s.problem (whole s.problem ∷ []) plan.tree (subst (λ (cost : Option ℕ). IsValidTree s.problem cost plan.tree) no_cost valid_tree)
 
   within : plan.examined ≤ plan.budget
   within = let a = is.examined in let b = is.budget in let c = sound.counts.within_budget in omega arith

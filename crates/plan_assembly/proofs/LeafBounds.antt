@@ -1,8 +1,8 @@
 -- The limits of a state: its cost, and the bounds of its open leaves, and how these bounds are priced.
-use Rattle.std.proofs.Common.{◌≡◌, ℕ, zero, suc, ◌+◌, ◌*◌, ◌^◌, ◌<◌, ◌≤◌, ◌⊎◌, inl, inr, Bool, true, false, List, length, get_or, slice_index, Option, Some, None, slice_get, IsTrue, refl, sym, ap, subst, ◌∙◌, arith, ℤ, pos, mul-le-mul}
-use Rattle.std.specs.Prelude.{IsSomeAnd, IfSome, IfOk, Result, Ok, Err, option_map, int_lt, if◌then◌else◌, ◌↔◌}
+use Rattle.std.proofs.Common.{◌≡◌, ◌≢◌, ℕ, zero, suc, ◌+◌, ◌*◌, ◌^◌, ◌<◌, ◌≤◌, ◌⊎◌, inl, inr, Bool, true, false, List, length, set, length-set, get_or, slice_index, Option, Some, None, slice_get, IsTrue, refl, sym, ap, ap₂, subst, ◌∙◌, arith, ℤ, pos, mul-le-mul}
+use Rattle.std.specs.Prelude.{IsFalse, IsSome, IsSomeAnd, IfSome, IfOk, Result, Ok, Err, option_map, int_lt, if◌then◌else◌, ◌↔◌}
 use Rattle.std.proofs.lemmas.Int.{ints}
-use Rattle.std.proofs.lemmas.List.{get_or_default, get_or_past}
+use Rattle.std.proofs.lemmas.List.{get_or_default, get_or_past, get_or-set_same, get_or-set_other}
 use Rattle.std.proofs.lemmas.List.Sums.{sum_by-le}
 use Rattle.std.proofs.lemmas.Option.{slice_get_within, slice_get-get_or}
 use Rattle.plan_base.specs.declared.parts.Parts.{Parts}
@@ -18,12 +18,15 @@ use Rattle.plan_base.proofs.PathLaws.{length-IsSimplePath}
 use Rattle.completions.proofs.CompletionLaws.{both-within}
 use Rattle.arc_restrict.specs.Restrictions.{Forbidden, HasNoPath}
 use Rattle.path_pricing.specs.Priced.{ArePrices}
-use Rattle.arc_restrict.specs.Rows.{Rows, forbids}
+use Rattle.arc_restrict.specs.Rows.{Rows}
+use Rattle.link_steps.specs.declared.range.LoadRange.{LoadRange}
+use Rattle.link_steps.specs.Ranges.{AreRanges}
 use Rattle.arc_restrict.specs.Prices.{AreWithinLimit, IsLeastPrice}
+use Rattle.proof_tree.specs.Regions.{Region}
 use Rattle.proof_tree.specs.Bounds.{IsBound}
 use Rattle.proof_tree.specs.Plans.{IsStatedDesign}
 use Rattle.proof_tree.proofs.Uniqueness.{bound-unique}
-use Rattle.bound_assembly.specs.Rounds.{RoundState, length_at, HasLength, left_in}
+use Rattle.bound_assembly.specs.Rounds.{RoundState, length_at, HasLength, left_in, with_length}
 use Rattle.bound_assembly.specs.RoundBounds.{AreShort, IsRoundBound}
 use Rattle.bound_assembly.specs.declared.limits.TheConstants.{MAX_PATH_LINKS}
 use Rattle.bound_assembly.proofs.Gaps.{left-none}
@@ -31,13 +34,14 @@ use Rattle.bound_assembly.proofs.LeastLengths.{round_bound-bound}
 use Rattle.pool_machine.specs.declared.tree.Incumbent.{Incumbent}
 use Rattle.branch_tree.specs.declared.node.Fate.{Fate}
 use Rattle.branch_tree.specs.declared.node.Fate.TheVariants.{Undone, ClosedBy, DividedBy}
-use Rattle.pool_machine.specs.State.{Best, Node, State, restriction_of, cutoff_of, kept_by, kept_prices}
+use Rattle.pool_machine.specs.State.{Best, Node, State, region_of, cutoff_of, kept_by, kept_prices}
 use Rattle.pool_machine.specs.Machine.{IsReachable}
 use Rattle.pool_machine.specs.Changes.{bound_in}
 use Rattle.pool_machine.specs.Nodes.{IsSoundBest}
-use Rattle.pool_nodes.specs.Grounds.{IsGroundOf, HasGrounds}
-use Rattle.plan_assembly.specs.PlanParts.{IsBoundOrNone, IsLeafBound, IsLeafBoundOrNone, IsLimitBelow, IsLeastBelow, IsLeastOrNone, lesser_of}
-use Rattle.pool_machine.proofs.Frames.{one_at}
+use Rattle.pool_nodes.specs.Grounds.{Kept, IsGroundOf, HasGrounds}
+use Rattle.pool_nodes.specs.Ranks.{lesser_of}
+use Rattle.plan_assembly.specs.PlanParts.{region_in, IsBoundOrNone, IsLeafBound, IsLeafBoundOrNone, IsLimitBelow, IsLeastBelow, IsLeastOrNone}
+use Rattle.pool_machine.proofs.Frames.{one_at, same_or_other}
 use Rattle.pool_machine.proofs.Replacing.{node_at}
 use Rattle.pool_machine.proofs.Runs.{IsReachable-sound}
 
@@ -83,9 +87,9 @@ module _ (s : State) (n : ℕ) where
   one_leaf : (one other : ℤ) → IsLeafBound s n one → IsLeafBound s n other → one ≡ other
   one_leaf one other x y =
       let same = one_at s.nodes n y.node x.node y.is_node x.is_node in
-      let there : IsBound s.problem (restriction_of x.node) (kept_prices x.node) other =
-      subst (λ (node : Node). IsBound s.problem (restriction_of node) (kept_prices node) other) same y.is_bound in
-      bound-unique s.problem (restriction_of x.node) (kept_prices x.node) one other x.is_bound there
+      let there : IsBound s.problem (region_of s.problem x.node) (kept_prices x.node) other =
+      subst (λ (node : Node). IsBound s.problem (region_of s.problem node) (kept_prices node) other) same y.is_bound in
+      bound-unique s.problem (region_of s.problem x.node) (kept_prices x.node) one other x.is_bound there
 
   -- one node more
   pub least-next : (least leaf : Option ℤ) → IsLeastOrNone s n least → IsLeafBoundOrNone s n leaf → IsLeastOrNone s (n + 1) (lesser_of least leaf)
@@ -133,20 +137,24 @@ module _ (s : State) (count : ℕ) (all : length s.nodes ≤ count) where
 
 -- The bound of a leaf
 
-ground-undone : (p : Parts) (r : Forbidden) (fate : Fate) (rows : Rows) → IsGroundOf p r fate (Some rows) → (fate ≡ Undone) × (forbids rows ≡ r)
-ground-undone p r Undone rows h = (refl, h.0)
-ground-undone p r (ClosedBy found) rows h = absurd (cc)
-ground-undone p r (DividedBy d) rows h = absurd (cc)
+ground-undone : (p : Parts) (g : Region) (fate : Fate) (kept : Kept) → IsGroundOf p g fate (Some kept) → (fate ≡ Undone) × (region_in kept ≡ g)
+ground-undone p g Undone kept h = (refl, ap₂ (λ (r : Forbidden) (ranges : List LoadRange). let x : Region = record { forbidden = r; ranges = ranges } in x) h.forbidden h.ranges)
+ground-undone p g (ClosedBy found) kept h = absurd (cc)
+ground-undone p g (DividedBy d) kept h = absurd (cc)
 
-module _ (s : State) (h : IsReachable s) (grounds : List (Option Rows)) (has : HasGrounds s.problem s.nodes grounds) (n : ℕ) (node : Node) (is : slice_get s.nodes n ≡ Some node) (ground : Option Rows) (at : slice_get grounds n ≡ Some ground) where
-  is_ground : IsGroundOf s.problem (restriction_of node) node.fate ground
+module _ (s : State) (h : IsReachable s) (grounds : List (Option Kept)) (has : HasGrounds s.problem s.nodes grounds) (n : ℕ) (node : Node) (is : slice_get s.nodes n ≡ Some node) (ground : Option Kept) (at : slice_get grounds n ≡ Some ground) where
+  is_ground : IsGroundOf s.problem (region_of s.problem node) node.fate ground
   is_ground =
       let g = has.each n node is in
-      subst (IsGroundOf s.problem (restriction_of node) node.fate) (one_at grounds n g.0 ground g.1 at) g.2
+      subst (IsGroundOf s.problem (region_of s.problem node) node.fate) (one_at grounds n g.0 ground g.1 at) g.2
 
-  module _ (rows : Rows) (there : ground ≡ Some rows) where
-    open_leaf : (node.fate ≡ Undone) × (forbids rows ≡ restriction_of node)
-    open_leaf = ground-undone s.problem (restriction_of node) node.fate rows (subst (IsGroundOf s.problem (restriction_of node) node.fate) there is_ground)
+  module _ (kept : Kept) (there : ground ≡ Some kept) where
+    open_leaf : (node.fate ≡ Undone) × (region_in kept ≡ region_of s.problem node)
+    open_leaf = ground-undone s.problem (region_of s.problem node) node.fate kept (subst (IsGroundOf s.problem (region_of s.problem node) node.fate) there is_ground)
+
+    -- the ranges that are kept are ranges
+    pub leaf-ranges : AreRanges s.problem kept.ranges
+    leaf-ranges = subst (λ (g : Region). AreRanges s.problem g.ranges) (sym open_leaf.1) (node_at s n node (IsReachable-sound s h) is).ranges
 
     -- the recorded bound
     pub leaf-recorded : (bound : ℤ) → bound_in (Some node) ≡ Some bound → IsLeafBoundOrNone s n (Some bound)
@@ -155,37 +163,37 @@ module _ (s : State) (h : IsReachable s) (grounds : List (Option Rows)) (has : H
         by_best : (best : Option Best) → node.best ≡ best → option_map (λ (b : Best). b.bound) best ≡ Some bound → IsLeafBound s n bound
         by_best None none bad = absurd (cc)
         by_best (Some best) some same =
-            let b : IsSoundBest s.problem (restriction_of node) node.first_prices node.completed best = rw some at ((node_at s n node (IsReachable-sound s h) is).best) in
+            let b : IsSoundBest s.problem (region_of s.problem node) node.first_prices node.completed best = rw some at ((node_at s n node (IsReachable-sound s h) is).best) in
             let bound_is : best.bound ≡ bound = cc in
             record {
               node = node;
               is_node = is;
               undone = open_leaf.0;
-              is_bound = subst (λ (o : Option Best). IsBound s.problem (restriction_of node) (kept_by o node.first_prices) bound) (sym some)
-                  (subst (λ (x : ℤ). IsBound s.problem (restriction_of node) best.prices x) bound_is b.is_bound);
+              is_bound = subst (λ (o : Option Best). IsBound s.problem (region_of s.problem node) (kept_by o node.first_prices) bound) (sym some)
+                  (subst (λ (x : ℤ). IsBound s.problem (region_of s.problem node) best.prices x) bound_is b.is_bound);
             }
 
     -- the bound at the first prices, where none is recorded
-    pub leaf-priced : (found : Option ℤ) → bound_in (Some node) ≡ None → IsBoundOrNone s.problem (forbids rows) node.first_prices found → IsLeafBoundOrNone s n found
-    leaf-priced found none priced = by_found found (subst (λ (r : Forbidden). IsBoundOrNone s.problem r node.first_prices found) open_leaf.1 priced)
+    pub leaf-priced : (found : Option ℤ) → bound_in (Some node) ≡ None → IsBoundOrNone s.problem (region_in kept) node.first_prices found → IsLeafBoundOrNone s n found
+    leaf-priced found none priced = by_found found (subst (λ (g : Region). IsBoundOrNone s.problem g node.first_prices found) open_leaf.1 priced)
       where
         no_best : (best : Option Best) → option_map (λ (b : Best). b.bound) best ≡ None → best ≡ None
         no_best None e = refl
         no_best (Some best) e = absurd (cc)
 
-        kept : kept_prices node ≡ node.first_prices
-        kept = ap (λ (o : Option Best). kept_by o node.first_prices) (no_best node.best none)
+        at_first : kept_prices node ≡ node.first_prices
+        at_first = ap (λ (o : Option Best). kept_by o node.first_prices) (no_best node.best none)
 
-        by_found : (found : Option ℤ) → IsBoundOrNone s.problem (restriction_of node) node.first_prices found → IsLeafBoundOrNone s n found
+        by_found : (found : Option ℤ) → IsBoundOrNone s.problem (region_of s.problem node) node.first_prices found → IsLeafBoundOrNone s n found
         by_found None unbounded = λ bound leaf.
             let same = one_at s.nodes n leaf.node node leaf.is_node is in
-            let at_kept : IsBound s.problem (restriction_of node) (kept_prices node) bound = subst (λ (x : Node). IsBound s.problem (restriction_of x) (kept_prices x) bound) same leaf.is_bound in
-            unbounded bound (subst (λ (ps : List ℕ). IsBound s.problem (restriction_of node) ps bound) kept at_kept)
+            let at_kept : IsBound s.problem (region_of s.problem node) (kept_prices node) bound = subst (λ (x : Node). IsBound s.problem (region_of s.problem x) (kept_prices x) bound) same leaf.is_bound in
+            unbounded bound (subst (λ (ps : List ℕ). IsBound s.problem (region_of s.problem node) ps bound) at_first at_kept)
         by_found (Some bound) priced_so = record {
           node = node;
           is_node = is;
           undone = open_leaf.0;
-          is_bound = subst (λ (ps : List ℕ). IsBound s.problem (restriction_of node) ps bound) (sym kept) priced_so;
+          is_bound = subst (λ (ps : List ℕ). IsBound s.problem (region_of s.problem node) ps bound) (sym at_first) priced_so;
         }
 
 -- Pricing all demands
@@ -198,6 +206,45 @@ pub record ArePricedBefore (p : Parts) (r : Forbidden) (prices : List ℕ) (roun
   pub full : (k : ℕ) → k < number → HasLength round.lengths k
   pub least : (k price : ℕ) → length_at round.lengths k ≡ Some price → IsLeastPrice p r prices k price
   pub further : (k : ℕ) → number ≤ k → length_at round.lengths k ≡ None
+
+-- the next demand has its least price too
+module _ (p : Parts) (r : Forbidden) (prices : List ℕ) (round : RoundState) (number price : ℕ) (within : number < length p.demands) (before : ArePricedBefore p r prices round number)
+    (least : IsLeastPrice p r prices number price) where
+  abbrev after : List (Option ℕ)
+  after = set round.lengths number (Some price)
+
+  put-here : length_at after number ≡ Some price
+  put-here = get_or-set_same {A = Option ℕ} round.lengths number (Some price) None (let c = before.count in omega arith)
+
+  put-other : (k : ℕ) → k ≢ number → length_at after k ≡ length_at round.lengths k
+  put-other k other = get_or-set_other {A = Option ℕ} round.lengths number k (Some price) None other
+
+  least-here : (k cost : ℕ) → k ≡ number → length_at after k ≡ Some cost → IsLeastPrice p r prices k cost
+  least-here k cost here at =
+      let both : ◌≡◌ {A = Option ℕ} (Some price) (Some cost) = sym put-here ∙ subst (λ (i : ℕ). length_at after i ≡ Some cost) here at in
+      let same : price ≡ cost = cc in
+      subst (λ (i : ℕ). IsLeastPrice p r prices i cost) (sym here) (subst (IsLeastPrice p r prices number) same least)
+
+  priced-more : ArePricedBefore p r prices (with_length round number price) (number + 1)
+  priced-more = record {
+    begun = before.begun;
+    prices_are = before.prices_are;
+    count = length-set round.lengths number (Some price) ∙ before.count;
+    full = λ k below. elim (below-or-here k number below) [
+      | inl earlier ↦ subst IsSome (sym (put-other k (λ e. absurd (omega arith)))) (before.full k earlier)
+      | inr here ↦ subst (HasLength after) (sym here) (subst IsSome (sym put-here) refl)
+    ];
+    least = λ k cost at. elim (same_or_other k number) [
+      | inl here ↦ least-here k cost here at
+      | inr other ↦ before.least k cost (sym (put-other k other) ∙ at)
+    ];
+    further = λ k beyond. put-other k (λ e. absurd (omega arith)) ∙ before.further k (omega arith);
+  }
+
+  pub priced-next : (put : Bool) (new : RoundState) → (IsFalse put ↔ HasLength round.lengths number) → (IsTrue put → new ≡ with_length round number price)
+      → ArePricedBefore p r prices new (number + 1)
+  priced-next true new known is = subst (λ (x : RoundState). ArePricedBefore p r prices x (number + 1)) (sym (is refl)) priced-more
+  priced-next false new known is = absurd (let bad : false ≡ true = subst IsSome (before.further number (omega arith)) (known.0 refl) in cc)
 
 price-within : (p : Parts) (prices : List ℕ) → AreWithinLimit p prices → (q : ℕ) → slice_index prices q ≤ price_limit p
 price-within p prices within q = elim (past-or-there (length prices) q) [
@@ -235,17 +282,17 @@ priced-short p r prices round number lawful within before k d there = by_length 
 pub priced-all : (p : Parts) (r : Forbidden) (prices : List ℕ) (round : RoundState) (number : ℕ) → length p.demands ≤ number → ArePricedBefore p r prices round number → left_in round.lengths ≡ 0
 priced-all p r prices round number all before = left-none round.lengths (λ k below. before.full k (let c = before.count in omega arith))
 
-pub priced-bound : (p : Parts) (r : Forbidden) (prices : List ℕ) (round : RoundState) (number : ℕ) (found : Option ℤ) → length p.demands ≤ number → ArePricedBefore p r prices round number
-    → ((found ≡ None) ↔ (0 < left_in round.lengths)) → IfSome found (IsRoundBound p round.prices round.lengths) → IsBoundOrNone p r prices found
-priced-bound p r prices round number None all before none bound =
-    let left = priced-all p r prices round number all before in
+pub priced-bound : (p : Parts) (g : Region) (prices : List ℕ) (round : RoundState) (number : ℕ) (found : Option ℤ) → length p.demands ≤ number → ArePricedBefore p g.forbidden prices round number
+    → ((found ≡ None) ↔ (0 < left_in round.lengths)) → IfSome found (IsRoundBound p g.ranges round.prices round.lengths) → IsBoundOrNone p g prices found
+priced-bound p g prices round number None all before none bound =
+    let left = priced-all p g.forbidden prices round number all before in
     let some = none.0 refl in
     absurd (omega arith)
-priced-bound p r prices round number (Some bound) all before none is =
-    round_bound-bound p r prices round.lengths bound (λ k price below at. before.least k price at) (subst (λ (ps : List ℕ). IsRoundBound p ps round.lengths bound) before.prices_are is)
+priced-bound p g prices round number (Some bound) all before none is =
+    round_bound-bound p g prices round.lengths bound (λ k price below at. before.least k price at) (subst (λ (ps : List ℕ). IsRoundBound p g.ranges ps round.lengths bound) before.prices_are is)
 
-pub unpriced-bound : (p : Parts) (r : Forbidden) (prices : List ℕ) (k : ℕ) → k < length p.demands → HasNoPath p r k → IsBoundOrNone p r prices None
-unpriced-bound p r prices k within none = λ bound is. let least = is.are_least k within in none least.path least.permitted
+pub unpriced-bound : (p : Parts) (g : Region) (prices : List ℕ) (k : ℕ) → k < length p.demands → HasNoPath p g.forbidden k → IsBoundOrNone p g prices None
+unpriced-bound p g prices k within none = λ bound is. let least = is.are_least k within in none least.path least.permitted
 
 pub ruleset least_limits = (least-first, least-next)
 
@@ -292,18 +339,22 @@ first-prices s n node h is =
     let prices = (node_at s n node (IsReachable-sound s h) is).first_prices in
     record { count = prices.count; within_limit = prices.within_limit }
 
+-- what is kept is its rows and its ranges
+pub kept-is : (kept read : Kept) → read.rows ≡ kept.rows → read.ranges ≡ kept.ranges → read ≡ kept
+kept-is kept read rows ranges = ap₂ (λ (r : Rows) (rs : List LoadRange). let x : Kept = record { rows = r; ranges = rs } in x) rows ranges
+
 -- a ground that is there is read as it is
 pub read-ground : {X Y : Type 0} (f : X → Y) (o : Option X) (x : X) (ground : Option Y) → option_map f o ≡ ground → o ≡ Some x → ground ≡ Some (f x)
 read-ground f o x ground mapped is = sym mapped ∙ ap (option_map f) is
 
 -- what is read of a node and its ground
-module _ (s : State) (h : IsReachable s) (grounds : List (Option Rows)) (has : HasGrounds s.problem s.nodes grounds) (n : ℕ) (within : n < length s.nodes) where
+module _ (s : State) (h : IsReachable s) (grounds : List (Option Kept)) (has : HasGrounds s.problem s.nodes grounds) (n : ℕ) (within : n < length s.nodes) where
   pub ground-within : n < length grounds
   ground-within = subst (λ (m : ℕ). n < m) (sym has.count) within
 
-  module _ (ground : Option Rows) (read : ground ≡ get_or grounds n ground) where
+  module _ (ground : Option Kept) (read : ground ≡ get_or grounds n ground) where
     ground_there : slice_get grounds n ≡ Some ground
-    ground_there = slice_get-get_or grounds n ground ground-within ∙ ap (λ (x : Option Rows). Some x) (sym read)
+    ground_there = slice_get-get_or grounds n ground ground-within ∙ ap (λ (x : Option Kept). Some x) (sym read)
 
     module _ (node : Node) (read_node : node ≡ get_or s.nodes n node) where
       node_there : slice_get s.nodes n ≡ Some node
@@ -312,12 +363,15 @@ module _ (s : State) (h : IsReachable s) (grounds : List (Option Rows)) (has : H
       pub read-first : ArePrices s.problem node.first_prices
       read-first = first-prices s n node h node_there
 
-      module _ (rows : Rows) (there : ground ≡ Some rows) where
-        pub read-recorded : (bound : ℤ) → bound_in (Some node) ≡ Some bound → IsLeafBoundOrNone s n (Some bound)
-        read-recorded = leaf-recorded s h grounds has n node node_there ground ground_there rows there
+      module _ (kept : Kept) (there : ground ≡ Some kept) where
+        pub read-ranges : AreRanges s.problem kept.ranges
+        read-ranges = leaf-ranges s h grounds has n node node_there ground ground_there kept there
 
-        pub read-priced : (found : Option ℤ) → bound_in (Some node) ≡ None → IsBoundOrNone s.problem (forbids rows) node.first_prices found → IsLeafBoundOrNone s n found
-        read-priced = leaf-priced s h grounds has n node node_there ground ground_there rows there
+        pub read-recorded : (bound : ℤ) → bound_in (Some node) ≡ Some bound → IsLeafBoundOrNone s n (Some bound)
+        read-recorded = leaf-recorded s h grounds has n node node_there ground ground_there kept there
+
+        pub read-priced : (found : Option ℤ) → bound_in (Some node) ≡ None → IsBoundOrNone s.problem (region_in kept) node.first_prices found → IsLeafBoundOrNone s n found
+        read-priced = leaf-priced s h grounds has n node node_there ground ground_there kept there
 
 pub if_ok-more : {X E : Type 0} (P Q : X → Type 0) (result : Result X E) → ((x : X) → P x → Q x) → IfOk result P → IfOk result Q
 if_ok-more P Q (Ok x) more is = more x is

@@ -30,7 +30,7 @@ use Rattle.pool_machine.specs.declared.answers.Better.TheVariants as better
 use Rattle.branch_tree.specs.declared.node.Division.{Division}
 use Rattle.branch_tree.specs.declared.node.Fate.{Fate}
 use Rattle.branch_tree.specs.declared.node.Fate.TheVariants.{Undone, ClosedBy, DividedBy}
-use Rattle.pool_machine.specs.State.{Round, Node, State}
+use Rattle.pool_machine.specs.State.{left_limit, right_limit, Round, Node, State}
 use Rattle.pool_machine.specs.Changes.{TakesRound}
 use Rattle.pool_machine.specs.Dividing.{child_of, divided_by, Divides}
 use Rattle.pool_machine.specs.Opening.{OpenStep}
@@ -320,7 +320,7 @@ BetterStep-same s t design (Err fault) e = unchanged-same s t e.1
 Divides-born : (s t : State) (id left right : BranchId) → HaveChildren s.nodes → AreBorn s.nodes → Divides s id left right t → AreBorn t.nodes
 Divides-born s t id left right h born e =
     subst (λ (x : State). AreBorn x.nodes) (sym e.becomes)
-    (AreBorn-divided s.nodes id.0 e.node e.division (child_of e.node e.division.demand e.division.left) (child_of e.node e.division.demand e.division.right)
+    (AreBorn-divided s.nodes id.0 e.node e.division (child_of e.node (left_limit e.division.by)) (child_of e.node (right_limit e.division.by))
     e.ready.open_node.is_node e.ready.open_node.undone h born (ap (λ (x : BranchId). x.0) e.left_is ∙ e.left_next) (ap (λ (x : BranchId). x.0) e.right_is ∙ e.right_next) refl refl)
 
 ExamineStep-born : (s t : State) (id : BranchId) (answer : Result Examined ExamineFault) → HaveChildren s.nodes → AreBorn s.nodes → ExamineStep s id answer t → AreBorn t.nodes

@@ -3,18 +3,18 @@ use Rattle.std.proofs.Common.{◌≡◌, ℕ, ◌<◌, inl, inr, List, length, O
 use Rattle.std.specs.Prelude.{IsSomeAnd, IfSome, Any, MatchOption, option_map}
 use Rattle.std.proofs.lemmas.Option.{slice_get_within}
 use Rattle.plan_base.specs.declared.path.Design.{Design}
-use Rattle.arc_restrict.specs.Restrictions.{Forbidden}
 use Rattle.proof_tree.specs.declared.tree.Evidence.{Evidence}
 use Rattle.proof_tree.specs.declared.tree.Evidence.TheVariants as evidence
 use Rattle.proof_tree.specs.declared.tree.TreeNode.{TreeNode}
 use Rattle.proof_tree.specs.declared.plan.Plan.{Plan}
 use Rattle.proof_tree.specs.declared.plan.PlanStatus.{PlanStatus}
 use Rattle.proof_tree.specs.declared.plan.PlanStatus.TheVariants.{Optimal, Infeasible, Undecided}
+use Rattle.proof_tree.specs.Regions.{Region}
 use Rattle.proof_tree.specs.Bounds.{IsBound, IsOpeningBound}
 use Rattle.proof_tree.specs.Trees.{LeafAt, leaves_of}
 use Rattle.proof_tree.specs.Plans.{stated_cost, IsStatedDesign, IsOpenBound, IsCandidate, IsLeastCandidate}
 use Rattle.pool_machine.specs.declared.tree.Incumbent.{Incumbent}
-use Rattle.pool_machine.specs.State.{State, restriction_of, cutoff_of}
+use Rattle.pool_machine.specs.State.{State, region_of, cutoff_of}
 use Rattle.pool_machine.specs.Machine.{IsReachable}
 use Rattle.pool_machine.specs.PlanOf.{tree_of, stated_design, HasBoundOf, IsPlanOf, HasOpeningBound}
 use Rattle.plan_assembly.specs.PlanParts.{IsLeafBound, IsLimitBelow, IsLeastOrNone, IsStatedBound}
@@ -32,7 +32,7 @@ module _ (s : State) (h : IsReachable s) (plan : Plan) (tree : plan.tree ≡ tre
   cost-is : stated_cost plan ≡ cutoff_of s
   cost-is = ap (option_map (λ (d : ℕ × Design). d.0)) design ∙ cost-stated s.incumbent
 
-  open-bound : (bound : ℤ) (leaf : LeafAt) → IsLeafOf s (IsReachable-sound s h) leaf → (found : Evidence) → leaf.evidence ≡ found → IsOpenBound s.problem leaf.restriction found bound
+  open-bound : (bound : ℤ) (leaf : LeafAt) → IsLeafOf s (IsReachable-sound s h) leaf → (found : Evidence) → leaf.evidence ≡ found → IsOpenBound s.problem leaf.region found bound
       → (n : ℕ) × (n < length s.nodes) × IsLeafBound s n bound
   open-bound bound leaf of (evidence.Open prices) same is =
       let opens = of.opens prices same in (
@@ -42,7 +42,7 @@ module _ (s : State) (h : IsReachable s) (plan : Plan) (tree : plan.tree ≡ tre
           node = of.node;
           is_node = of.is_node;
           undone = opens.0;
-          is_bound = subst (λ (ps : List ℕ). IsBound s.problem (restriction_of of.node) ps bound) opens.1 (subst (λ (r : Forbidden). IsBound s.problem r prices bound) of.restriction_is is);
+          is_bound = subst (λ (ps : List ℕ). IsBound s.problem (region_of s.problem of.node) ps bound) opens.1 (subst (λ (g : Region). IsBound s.problem g prices bound) of.region_is is);
         },
       )
   open-bound bound leaf of (evidence.Bound prices) same is = absurd is
@@ -56,9 +56,9 @@ module _ (s : State) (h : IsReachable s) (plan : Plan) (tree : plan.tree ≡ tre
   candidate-limit bound candidate = elim candidate [
     | inl cost ↦ inl (subst (λ (o : Option ℕ). IsSomeAnd o (λ c. pos c ≡ bound)) cost-is cost)
     | inr any ↦
-        let there : Any (λ (leaf : LeafAt). IsOpenBound s.problem leaf.restriction leaf.evidence bound) (leaves_of (tree_of s)) =
-        subst (λ (nodes : List TreeNode). Any (λ (leaf : LeafAt). IsOpenBound s.problem leaf.restriction leaf.evidence bound) (leaves_of nodes)) tree any in
-        let found = leaf-node s (IsReachable-sound s h) (λ (leaf : LeafAt). IsOpenBound s.problem leaf.restriction leaf.evidence bound) there in
+        let there : Any (λ (leaf : LeafAt). IsOpenBound s.problem leaf.region leaf.evidence bound) (leaves_of s.problem (tree_of s)) =
+        subst (λ (nodes : List TreeNode). Any (λ (leaf : LeafAt). IsOpenBound s.problem leaf.region leaf.evidence bound) (leaves_of s.problem nodes)) tree any in
+        let found = leaf-node s (IsReachable-sound s h) (λ (leaf : LeafAt). IsOpenBound s.problem leaf.region leaf.evidence bound) there in
         inr (open-bound bound found.0 found.1 found.0.evidence refl found.2)
   ]
 
@@ -67,8 +67,8 @@ module _ (s : State) (h : IsReachable s) (plan : Plan) (tree : plan.tree ≡ tre
     | inl cost ↦ inl (subst (λ (o : Option ℕ). IsSomeAnd o (λ c. pos c ≡ bound)) (sym cost-is) cost)
     | inr leaf ↦
         let b = leaf.2 in
-        inr (subst (λ (nodes : List TreeNode). Any (λ (l : LeafAt). IsOpenBound s.problem l.restriction l.evidence bound) (leaves_of nodes)) (sym tree)
-        (node-leaf s h (λ (l : LeafAt). IsOpenBound s.problem l.restriction l.evidence bound) leaf.0 b.node b.is_node b.undone b.is_bound))
+        inr (subst (λ (nodes : List TreeNode). Any (λ (l : LeafAt). IsOpenBound s.problem l.region l.evidence bound) (leaves_of s.problem nodes)) (sym tree)
+        (node-leaf s h (λ (l : LeafAt). IsOpenBound s.problem l.region l.evidence bound) leaf.0 b.node b.is_node b.undone b.is_bound))
   ]
 
   least-stated : (found : Option ℤ) → IsLeastOrNone s (length s.nodes) found

@@ -17,24 +17,27 @@ use Rattle.plan_base.specs.Paths.{arc_at}
 use Rattle.plan_base.specs.Designs.{path_at, counts_at}
 use Rattle.plan_base.proofs.Bools.{and-first}
 use Rattle.plan_base.proofs.PathLaws.{length-IsSimplePath}
-use Rattle.arc_restrict.specs.Restrictions.{Forbidden, none_forbidden, with_forbidden}
+use Rattle.arc_restrict.specs.Restrictions.{Forbidden}
 use Rattle.proof_tree.specs.declared.limits.TheConstants.{MAX_BUDGET}
 use Rattle.proof_tree.specs.declared.tree.Evidence.TheVariants as evidence
 use Rattle.proof_tree.specs.declared.tree.TreeNode.{TreeNode}
-use Rattle.proof_tree.specs.declared.tree.TreeNode.TheVariants.{Split, Leaf}
+use Rattle.proof_tree.specs.declared.tree.TreeNode.TheVariants.{Split, Loads, Leaf}
 use Rattle.proof_tree.specs.declared.plan.Plan.{Plan}
 use Rattle.proof_tree.specs.declared.plan.PlanStatus.{PlanStatus}
 use Rattle.proof_tree.specs.Shapes.{are_trees}
 use Rattle.proof_tree.specs.Splits.{IsSide}
+use Rattle.proof_tree.specs.Regions.{Region, whole, with_arcs, up_to, above}
 use Rattle.proof_tree.specs.Trees.{AreValidTrees}
 use Rattle.proof_tree.specs.Plans.{IsStatedDesign}
 use Rattle.proof_tree.specs.Spellings.{IsAscending, IsWrittenSide, places_in, FitsRecord, FitsDesign, FitsStatus, IsSpellable}
+use Rattle.branch_tree.specs.Records.{split_record}
+use Rattle.branch_tree.specs.declared.node.Divider.TheVariants as divider
 use Rattle.branch_tree.specs.declared.node.Fate.{Fate}
 use Rattle.pool_machine.specs.declared.tree.Incumbent.{Incumbent}
 use Rattle.branch_tree.specs.declared.node.Fate.TheVariants.{Undone, ClosedBy, DividedBy}
-use Rattle.pool_machine.specs.State.{Node, State, restriction_of, cutoff_of, kept_prices}
+use Rattle.pool_machine.specs.State.{Divider, Node, State, region_of, cutoff_of, kept_prices}
 use Rattle.pool_machine.specs.Machine.{IsReachable}
-use Rattle.pool_machine.specs.Nodes.{IsSoundNode, IsSoundFate, HasSoundFate}
+use Rattle.pool_machine.specs.Nodes.{IsSoundNode, IsSoundDivider, IsSoundFate, HasSoundFate}
 use Rattle.pool_machine.specs.Soundness.{IsSound}
 use Rattle.pool_machine.specs.PlanOf.{records_by, records_in, records_at, tree_of, open_count, status_by, status_of, stated_design, HasBoundOf, IsPlanOf}
 use Rattle.pool_machine.proofs.Lists.{All-at}
@@ -45,12 +48,13 @@ use Rattle.pool_machine.proofs.PlanTrees.{tree_of-valid}
 use Rattle.plan_assembly.proofs.PlanRecords.{records_sum}
 
 -- valid trees are whole
-pub valid-whole : (p : Parts) (cost : Option ℕ) (rs : List Forbidden) (nodes : List TreeNode) → AreValidTrees p cost rs nodes → are_trees (length rs) nodes ≡ true
+pub valid-whole : (p : Parts) (cost : Option ℕ) (gs : List Region) (nodes : List TreeNode) → AreValidTrees p cost gs nodes → are_trees (length gs) nodes ≡ true
 valid-whole p cost [] [] h = refl
 valid-whole p cost [] (node ∷ nodes) h = absurd h
-valid-whole p cost (r ∷ rs) [] h = absurd h
-valid-whole p cost (r ∷ rs) (Leaf found ∷ nodes) h = valid-whole p cost rs nodes h.1
-valid-whole p cost (r ∷ rs) (Split k at left right ∷ nodes) h = valid-whole p cost (with_forbidden r k left ∷ with_forbidden r k right ∷ rs) nodes h.1
+valid-whole p cost (g ∷ gs) [] h = absurd h
+valid-whole p cost (g ∷ gs) (Leaf found ∷ nodes) h = valid-whole p cost gs nodes h.1
+valid-whole p cost (g ∷ gs) (Split k at left right ∷ nodes) h = valid-whole p cost (with_arcs g k left ∷ with_arcs g k right ∷ gs) nodes h.1
+valid-whole p cost (g ∷ gs) (Loads place load ∷ nodes) h = valid-whole p cost (up_to g place load ∷ above g place load ∷ gs) nodes h.1
 
 -- Sides
 
@@ -93,6 +97,14 @@ module _ (p : Parts) (r : Forbidden) (id : DemandId) (node : NodeId) (arcs : Lis
 
 -- Records
 
+-- the record of a sound split fits
+split-fits : (p : Parts) (g : Region) (by : Divider) → IsInstance p → IsSoundDivider p g by → FitsRecord p.nodes (places p) (split_record by)
+split-fits p g (divider.Arcs d) lawful sound = (
+  written_side p g.forbidden d.demand d.at d.left lawful sound.0.left_side sound.2,
+  written_side p g.forbidden d.demand d.at d.right lawful sound.0.right_side sound.3,
+)
+split-fits p g (divider.Load d) lawful sound = tt
+
 module _ (s : State) (h : IsSound s) where
   abbrev Fits : TreeNode → Type 0
   Fits = FitsRecord s.problem.nodes (places s.problem)
@@ -101,15 +113,13 @@ module _ (s : State) (h : IsSound s) where
   records_at-fit zero n = All-nil Fits
   records_at-fit (suc depth) n = there (λ m. records_at-fit depth m) (slice_get s.nodes n) refl
     where
-      by_fate : ((m : ℕ) → All Fits (records_at depth s.nodes m)) → (node : Node) → IsSoundNode s.problem node → (fate : Fate) → IsSoundFate s.problem (cutoff_of s) (restriction_of node) fate → All Fits (records_by (records_at depth s.nodes) node fate)
+      by_fate : ((m : ℕ) → All Fits (records_at depth s.nodes m)) → (node : Node) → IsSoundNode s.problem node → (fate : Fate) → IsSoundFate s.problem (cutoff_of s) (region_of s.problem node) fate → All Fits (records_by (records_at depth s.nodes) node fate)
       by_fate below node k Undone sound =
           All-cons Fits (Leaf (evidence.Open (kept_prices node))) [] (kept_by-sound s.problem node node.best k.first_prices k.best).count (All-nil Fits)
       by_fate below node k (ClosedBy found) sound = All-cons Fits (Leaf found) [] sound.2 (All-nil Fits)
       by_fate below node k (DividedBy d) sound =
-          All-cons Fits (Split d.demand d.at d.left d.right) (records_at depth s.nodes d.left_child.0 ++ records_at depth s.nodes d.right_child.0) (
-            written_side s.problem (restriction_of node) d.demand d.at d.left h.lawful sound.0.left_side sound.2,
-            written_side s.problem (restriction_of node) d.demand d.at d.right h.lawful sound.0.right_side sound.3,
-          )
+          All-cons Fits (split_record d.by) (records_at depth s.nodes d.left_child.0 ++ records_at depth s.nodes d.right_child.0)
+          (split-fits s.problem (region_of s.problem node) d.by h.lawful sound)
           (All-append Fits (records_at depth s.nodes d.left_child.0) (records_at depth s.nodes d.right_child.0)
           (below d.left_child.0) (below d.right_child.0))
 
@@ -165,7 +175,7 @@ plan_spellable s plan reachable some most is =
     let h = IsReachable-sound s reachable in
     let p = s.problem in
     let count : places p ≡ places_in plan.both plan.links = sym (ap₂ places_in is.both is.links) in
-    let whole : are_trees 1 (tree_of s) ≡ true = valid-whole p (cutoff_of s) (none_forbidden ∷ []) (tree_of s) (tree_of-valid s h) in
+    let one_tree : are_trees 1 (tree_of s) ≡ true = valid-whole p (cutoff_of s) (whole p ∷ []) (tree_of s) (tree_of-valid s h) in
     let status : HasBoundOf p plan (status_of s) = subst (HasBoundOf p plan) is.status is.bound in
     record {
       sizes = record {
@@ -180,7 +190,7 @@ plan_spellable s plan reachable some most is =
       design = subst (λ (o : Option (ℕ × Design)). IfSome o (λ design. FitsDesign plan.demands plan.links design.1)) (sym is.design)
           (subst (λ (n : ℕ). IfSome (stated_design s.incumbent) (λ design. FitsDesign n plan.links design.1)) (sym is.demands)
           (subst (λ (n : ℕ). IfSome (stated_design s.incumbent) (λ design. FitsDesign (length p.demands) n design.1)) (sym is.links) (stated-fits p h.lawful s.incumbent h.incumbent)));
-      whole = ap (are_trees 1) is.tree ∙ whole;
+      whole = ap (are_trees 1) is.tree ∙ one_tree;
       records = record {
         few = (let size = tree-length s reachable in let most_nodes = IsSound-nodes s h in let e : length plan.tree ≡ length (tree_of s) = ap length is.tree in omega arith);
         each = subst (All (FitsRecord plan.nodes (places_in plan.both plan.links))) (sym is.tree)

@@ -4,7 +4,6 @@ use Rattle.std.specs.Prelude.{min, int_lt}
 use Rattle.std.proofs.lemmas.Int.{ints}
 use Rattle.std.proofs.lemmas.List.{ext_get_or}
 use Rattle.std.proofs.lemmas.Option.{slice_get_within}
-use Rattle.plan_base.specs.declared.ids.ArcId.{ArcId}
 use Rattle.plan_base.specs.declared.parts.Link.{Link}
 use Rattle.plan_base.specs.declared.parts.Parts.{Parts}
 use Rattle.plan_base.specs.declared.path.Design.{Design}
@@ -12,24 +11,27 @@ use Rattle.plan_base.specs.Facts.{top_load, price_limit}
 use Rattle.plan_base.specs.Arcs.{link_at}
 use Rattle.plan_base.specs.Places.{places, link_of_place}
 use Rattle.link_steps.specs.Values.{IsLeastUnitPrice, IsStartPrice, AreStartPrices}
-use Rattle.arc_restrict.specs.Restrictions.{Forbidden, none_forbidden, with_forbidden}
+use Rattle.proof_tree.specs.Regions.{Region, whole}
 use Rattle.proof_tree.specs.Bounds.{IsBound, IsOpeningBound}
 use Rattle.proof_tree.specs.Plans.{IsStatedDesign}
 use Rattle.proof_tree.proofs.Uniqueness.{bound-unique}
 use Rattle.proof_tree.proofs.Presence.{bound-not_absent}
 use Rattle.proof_tree.proofs.Duality.{bound-le-cost}
+use Rattle.proof_tree.proofs.RangeLaws.{lies-whole}
 use Rattle.branch_tree.specs.declared.node.Division.{Division}
 use Rattle.branch_tree.specs.declared.node.Fate.{Fate}
 use Rattle.branch_tree.specs.declared.node.Fate.TheVariants.{Undone, ClosedBy, DividedBy}
-use Rattle.pool_machine.specs.State.{Best, Node, State, restriction_by, restriction_of, kept_by, kept_prices}
+use Rattle.pool_machine.specs.State.{Best, Limit, left_limit, right_limit, Node, State, region_by, region_of, cutoff_of, kept_by, kept_prices}
 use Rattle.pool_machine.specs.Machine.{IsReachable}
-use Rattle.pool_machine.specs.Nodes.{IsSoundBest}
-use Rattle.pool_machine.specs.Family.{IsChild, HasChild, HasChildrenBy}
+use Rattle.pool_machine.specs.Nodes.{HasSoundFate, IsSoundBest}
+use Rattle.pool_machine.specs.Family.{IsChild, IsChildBy, HasChild, HasChildrenBy}
 use Rattle.pool_machine.specs.Soundness.{IsSound}
 use Rattle.pool_machine.proofs.Frames.{one_at}
 use Rattle.pool_machine.proofs.Replacing.{node_at}
 use Rattle.pool_machine.proofs.Runs.{IsReachable-sound}
-use Rattle.pool_machine.proofs.Rising.{permitted_above, IsBound-rises}
+use Rattle.pool_machine.proofs.Lists.{All-at}
+use Rattle.pool_machine.proofs.Narrowing.{IsInside}
+use Rattle.pool_machine.proofs.Rising.{child-inside, IsBound-rises}
 use Rattle.plan_assembly.proofs.PlanBorn.{division_by, division_in, IsReachable-born}
 
 -- Start prices
@@ -68,8 +70,8 @@ record HasParent (s : State) (n : ℕ) (child : Node) : Type 0 where
   parent : Node
   is_parent : slice_get s.nodes number ≡ Some parent
   division : Division
-  arcs : List ArcId
-  is_child : IsChild parent division arcs child
+  divided : parent.fate ≡ DividedBy division
+  is_child : IsChildBy parent division child
 
 divided-there : (o : Option Node) (d : Division) → division_in o ≡ Some d → (node : Node) × (o ≡ Some node) × (node.fate ≡ DividedBy d)
 divided-there None d h = absurd (let bad : ◌≡◌ {A = Option Division} None (Some d) = h in cc)
@@ -87,7 +89,7 @@ parent-of s h n child positive is =
     let there = divided-there (slice_get s.nodes found.0) found.1.0 found.1.1 in
     let d = found.1.0 in
     let children : HasChildrenBy s.nodes found.0 there.0 (DividedBy d) = subst (HasChildrenBy s.nodes found.0 there.0) there.2 (sound.family.children found.0 there.0 there.1) in
-    let made : (number : ℕ) (arcs : List ArcId) → number ≡ n → HasChild s.nodes found.0 there.0 d number arcs → HasParent s n child = λ number arcs same has.
+    let made : (number : ℕ) (limit : Limit) → (IsChild there.0 limit child → IsChildBy there.0 d child) → number ≡ n → HasChild s.nodes found.0 there.0 number limit → HasParent s n child = λ number limit side same has.
     let at : slice_get s.nodes n ≡ Some has.1 = subst (λ (i : ℕ). slice_get s.nodes i ≡ Some has.1) same has.2 in
     record {
       number = found.0;
@@ -95,10 +97,13 @@ parent-of s h n child positive is =
       parent = there.0;
       is_parent = there.1;
       division = d;
-      arcs = arcs;
-      is_child = subst (IsChild there.0 d arcs) (one_at s.nodes n has.1 child at is) has.3;
+      divided = there.2;
+      is_child = side (subst (IsChild there.0 limit) (one_at s.nodes n has.1 child at is) has.3);
     } in
-    elim found.1.2 [ inl left ↦ made d.left_child.0 d.left left children.0 | inr right ↦ made d.right_child.0 d.right right children.1 ]
+    elim found.1.2 [
+      | inl left ↦ made d.left_child.0 (left_limit d.by) (λ c. inl c) left children.0
+      | inr right ↦ made d.right_child.0 (right_limit d.by) (λ c. inr c) right children.1
+    ]
 
 -- Bounds
 
@@ -121,50 +126,52 @@ module _ (s : State) (h : IsReachable s) (opening : ℤ) (is_opening : IsOpening
 
   -- the bound at a node's first prices is at least the opening bound
   abbrev IsAbove : ℕ → Type 0
-  IsAbove n = (node : Node) (bound : ℤ) → slice_get s.nodes n ≡ Some node → IsBound p (restriction_of node) node.first_prices bound → opening ≤ℤ bound
+  IsAbove n = (node : Node) (bound : ℤ) → slice_get s.nodes n ≡ Some node → IsBound p (region_of p node) node.first_prices bound → opening ≤ℤ bound
 
   root-above : IsAbove 0
   root-above node bound is at_first =
       let root : node ≡ sound.family.root = one_at s.nodes 0 node sound.family.root is sound.family.is_root in
-      let r : restriction_of node ≡ none_forbidden = ap restriction_of root ∙ ap restriction_by sound.family.root_limits in
+      let all : region_of p node ≡ whole p = ap (region_of p) root ∙ ap (region_by p) sound.family.root_limits in
       let prices : node.first_prices ≡ is_opening.prices = ap (λ (x : Node). x.first_prices) root ∙ starts-unique p sound.family.root.first_prices is_opening.prices sound.family.root_prices is_opening.are_start in
-      let there : IsBound p none_forbidden is_opening.prices bound =
-      subst (λ (x : Forbidden). IsBound p x is_opening.prices bound) r (subst (λ (ps : List ℕ). IsBound p (restriction_of node) ps bound) prices at_first) in
-      let same = bound-unique p none_forbidden is_opening.prices opening bound is_opening.is_bound there in
+      let there : IsBound p (whole p) is_opening.prices bound =
+      subst (λ (g : Region). IsBound p g is_opening.prices bound) all (subst (λ (ps : List ℕ). IsBound p (region_of p node) ps bound) prices at_first) in
+      let same = bound-unique p (whole p) is_opening.prices opening bound is_opening.is_bound there in
       omega (arith, ints)
 
   -- what is recorded of a node is at least the opening bound
   best-above : (n : ℕ) (node : Node) (best : Best) → IsAbove n → slice_get s.nodes n ≡ Some node → node.best ≡ Some best → opening ≤ℤ best.bound
   best-above n node best above is recorded =
-      let b : IsSoundBest p (restriction_of node) node.first_prices node.completed best = rw recorded at ((node_at s n node sound is).best) in
+      let b : IsSoundBest p (region_of p node) node.first_prices node.completed best = rw recorded at ((node_at s n node sound is).best) in
       above-through opening b.first best.bound (above node b.first is b.is_first) b.above_first
 
-  below-child : (m : ℕ) (parent child : Node) (d : Division) (arcs : List ArcId) (bound : ℤ) → IsAbove m → slice_get s.nodes m ≡ Some parent → IsChild parent d arcs child
-      → IsBound p (restriction_of child) child.first_prices bound → opening ≤ℤ bound
-  below-child m parent child d arcs bound above is c at_first = by_best parent.best refl
+  below-child : (m : ℕ) (parent child : Node) (d : Division) (bound : ℤ) → IsAbove m → slice_get s.nodes m ≡ Some parent → parent.fate ≡ DividedBy d → IsChildBy parent d child
+      → IsBound p (region_of p child) child.first_prices bound → opening ≤ℤ bound
+  below-child m parent child d bound above is divided c at_first = by_best parent.best refl
     where
-      r : restriction_of child ≡ with_forbidden (restriction_of parent) d.demand arcs
-      r = ap restriction_by c.limits
+      inside : IsInside p (region_of p child) (region_of p parent)
+      inside = child-inside p (cutoff_of s) parent child d (All-at (HasSoundFate p (cutoff_of s)) s.nodes m parent sound.fates is) divided c
 
-      at_kept : (best : Option Best) → parent.best ≡ best → IsBound p (with_forbidden (restriction_of parent) d.demand arcs) (kept_by best parent.first_prices) bound
+      prices : child.first_prices ≡ kept_prices parent
+      prices = elim c [ inl left ↦ left.first_prices | inr right ↦ right.first_prices ]
+
+      at_kept : (best : Option Best) → parent.best ≡ best → IsBound p (region_of p child) (kept_by best parent.first_prices) bound
       at_kept best is_best =
-          subst (λ (x : Forbidden). IsBound p x (kept_by best parent.first_prices) bound) r
-          (subst (λ (ps : List ℕ). IsBound p (restriction_of child) ps bound) (c.first_prices ∙ ap (λ (o : Option Best). kept_by o parent.first_prices) is_best) at_first)
+          subst (λ (ps : List ℕ). IsBound p (region_of p child) ps bound) (prices ∙ ap (λ (o : Option Best). kept_by o parent.first_prices) is_best) at_first
 
       by_best : (best : Option Best) → parent.best ≡ best → opening ≤ℤ bound
       by_best (Some best) is_best =
-          let b : IsSoundBest p (restriction_of parent) parent.first_prices parent.completed best = rw is_best at ((node_at s m parent sound is).best) in
-          let rises = IsBound-rises p (restriction_of parent) d.demand arcs best.prices best.bound bound b.is_bound (at_kept (Some best) is_best) in
+          let b : IsSoundBest p (region_of p parent) parent.first_prices parent.completed best = rw is_best at ((node_at s m parent sound is).best) in
+          let rises = IsBound-rises p (region_of p child) (region_of p parent) best.prices best.bound bound inside b.is_bound (at_kept (Some best) is_best) in
           above-through opening best.bound bound (best-above m parent best above is is_best) rises
       by_best None none =
           let below = at_kept None none in
           elim (below_or_not opening bound) [
             | inl there ↦ there
-            | inr not_there ↦ absurd (bound-not_absent p (restriction_of parent) parent.first_prices
-                (λ k within. let least = below.are_least k within in (least.path, permitted_above p (restriction_of parent) d.demand arcs k least.path least.permitted))
+            | inr not_there ↦ absurd (bound-not_absent p (region_of p parent) parent.first_prices (node_at s m parent sound is).ranges
+                (λ k within. let least = below.are_least k within in (least.path, inside.paths k least.path least.permitted))
                 (λ over is_over.
                 not_there (above-through opening over bound (above parent over is is_over)
-                (IsBound-rises p (restriction_of parent) d.demand arcs parent.first_prices over bound is_over below))))
+                (IsBound-rises p (region_of p child) (region_of p parent) parent.first_prices over bound inside is_over below))))
           ]
 
   all-above : (fuel n : ℕ) → n < fuel → IsAbove n
@@ -172,10 +179,10 @@ module _ (s : State) (h : IsReachable s) (opening : ℤ) (is_opening : IsOpening
   all-above (suc fuel) zero within = root-above
   all-above (suc fuel) (suc n) within = λ node bound is at_first.
       let up = parent-of s h (suc n) node (omega arith) is in
-      below-child up.number up.parent node up.division up.arcs bound (all-above fuel up.number (let less = up.before in omega arith)) up.is_parent up.is_child at_first
+      below-child up.number up.parent node up.division bound (all-above fuel up.number (let less = up.before in omega arith)) up.is_parent up.divided up.is_child at_first
 
   -- the bound of a node at the prices that it keeps is at least the opening bound
-  pub kept-above : (n : ℕ) (node : Node) (bound : ℤ) → slice_get s.nodes n ≡ Some node → IsBound p (restriction_of node) (kept_prices node) bound → opening ≤ℤ bound
+  pub kept-above : (n : ℕ) (node : Node) (bound : ℤ) → slice_get s.nodes n ≡ Some node → IsBound p (region_of p node) (kept_prices node) bound → opening ≤ℤ bound
   kept-above n node bound is at_kept = by_best node.best refl
     where
       above : IsAbove n
@@ -183,14 +190,14 @@ module _ (s : State) (h : IsReachable s) (opening : ℤ) (is_opening : IsOpening
 
       by_best : (best : Option Best) → node.best ≡ best → opening ≤ℤ bound
       by_best (Some best) recorded =
-          let b : IsSoundBest p (restriction_of node) node.first_prices node.completed best = rw recorded at ((node_at s n node sound is).best) in
-          let at_best : IsBound p (restriction_of node) best.prices bound = subst (λ (o : Option Best). IsBound p (restriction_of node) (kept_by o node.first_prices) bound) recorded at_kept in
-          let same : best.bound ≡ bound = bound-unique p (restriction_of node) best.prices best.bound bound b.is_bound at_best in
+          let b : IsSoundBest p (region_of p node) node.first_prices node.completed best = rw recorded at ((node_at s n node sound is).best) in
+          let at_best : IsBound p (region_of p node) best.prices bound = subst (λ (o : Option Best). IsBound p (region_of p node) (kept_by o node.first_prices) bound) recorded at_kept in
+          let same : best.bound ≡ bound = bound-unique p (region_of p node) best.prices best.bound bound b.is_bound at_best in
           subst (λ (x : ℤ). opening ≤ℤ x) same (best-above n node best above is recorded)
-      by_best None none = above node bound is (subst (λ (o : Option Best). IsBound p (restriction_of node) (kept_by o node.first_prices) bound) none at_kept)
+      by_best None none = above node bound is (subst (λ (o : Option Best). IsBound p (region_of p node) (kept_by o node.first_prices) bound) none at_kept)
 
   -- the cost of a good design is at least the opening bound
   pub cost-above : (cost : ℕ) (d : Design) → IsStatedDesign p cost d → opening ≤ℤ pos cost
   cost-above cost d stated =
       subst (λ (n : ℕ). opening ≤ℤ pos n) stated.cost_is
-      (bound-le-cost p none_forbidden is_opening.prices opening d is_opening.is_bound stated.good.design stated.good.feasible (λ k within i other below. refl))
+      (bound-le-cost p (whole p) is_opening.prices opening d is_opening.is_bound stated.good.design stated.good.feasible (lies-whole p d stated.good.design stated.good.feasible))

@@ -1,5 +1,5 @@
 -- What a plan is put together from: its records in preorder, and its bound; no public contract cites it.
-use Rattle.std.specs.Prelude.{ℕ, zero, suc, ◌≤ℤ◌, ◌≡◌, ◌<◌, ◌≤◌, ◌⊎◌, ◌==◌, List, [], ◌∷◌, ◌++◌, length, count_by, Option, Some, None, IsSomeAnd, MatchOption, slice_get, All, ℤ, pos, int_lt, if◌then◌else◌}
+use Rattle.std.specs.Prelude.{ℕ, zero, suc, ◌≤ℤ◌, ◌≡◌, ◌<◌, ◌≤◌, ◌⊎◌, ◌==◌, List, [], ◌∷◌, ◌++◌, length, count_by, Option, Some, None, IsSomeAnd, MatchOption, slice_get, All, ℤ, pos}
 use Rattle.plan_base.specs.declared.ids.BranchId.{BranchId}
 use Rattle.plan_base.specs.declared.parts.Parts.{Parts}
 use Rattle.arc_restrict.specs.Restrictions.{Forbidden, HasNoPath}
@@ -13,16 +13,17 @@ use Rattle.proof_tree.specs.declared.plan.PlanStatus.TheVariants.{Optimal, Infea
 use Rattle.pool_machine.specs.Family.{HasChildrenBy}
 use Rattle.branch_tree.specs.declared.node.Fate.{Fate}
 use Rattle.branch_tree.specs.declared.node.Fate.TheVariants.{Undone, ClosedBy, DividedBy}
-use Rattle.pool_machine.specs.State.{Node, State, restriction_of, cutoff_of, kept_prices}
+use Rattle.pool_machine.specs.State.{Node, State, region_of, cutoff_of, kept_prices}
 use Rattle.pool_machine.specs.declared.limits.TheConstants.{MAX_BUDGET}
 use Rattle.pool_machine.specs.Machine.{IsReachable}
-use Rattle.arc_restrict.specs.Rows.{Rows}
+use Rattle.arc_restrict.specs.Rows.{forbids}
+use Rattle.proof_tree.specs.Regions.{Region}
 use Rattle.pool_nodes.specs.Records.{record_of}
-use Rattle.pool_nodes.specs.Grounds.{HasGrounds}
+use Rattle.pool_nodes.specs.Grounds.{Kept, HasGrounds}
 
 -- what a plan is put together from is a state that events lead to, with the step table of its instance and the
--- restrictions of its open leaves
-pub record IsAssembled (s : State) (table : Parts) (grounds : List (Option Rows)) : Type 0 where
+-- regions of its open leaves
+pub record IsAssembled (s : State) (table : Parts) (grounds : List (Option Kept)) : Type 0 where
   pub reachable : IsReachable s
   pub some_budget : 0 < s.budget
   pub budget : s.budget ≤ MAX_BUDGET
@@ -84,16 +85,20 @@ pub record IsOrderOf (count : ℕ) (order : List ℕ) : Type 0 where
 abbrev pub IsPriceOrNone : Parts → Forbidden → List ℕ → ℕ → Option ℕ → Type 0
 IsPriceOrNone p r prices k found = MatchOption found (HasNoPath p r k) (λ price. IsLeastPrice p r prices k price)
 
+-- the region that is kept
+abbrev pub region_in : Kept → Region
+region_in kept = record { forbidden = forbids kept.rows; ranges = kept.ranges }
+
 -- the bound at these prices, or none where they give none
-abbrev pub IsBoundOrNone : Parts → Forbidden → List ℕ → Option ℤ → Type 0
-IsBoundOrNone p r prices found = MatchOption found ((bound : ℤ) → IsBound p r prices bound → ⊥) (λ bound. IsBound p r prices bound)
+abbrev pub IsBoundOrNone : Parts → Region → List ℕ → Option ℤ → Type 0
+IsBoundOrNone p g prices found = MatchOption found ((bound : ℤ) → IsBound p g prices bound → ⊥) (λ bound. IsBound p g prices bound)
 
 -- the node of this number is an open leaf, and this is its bound at its kept prices
 pub record IsLeafBound (s : State) (n : ℕ) (bound : ℤ) : Type 0 where
   pub node : Node
   pub is_node : slice_get s.nodes n ≡ Some node
   pub undone : node.fate ≡ Undone
-  pub is_bound : IsBound s.problem (restriction_of node) (kept_prices node) bound
+  pub is_bound : IsBound s.problem (region_of s.problem node) (kept_prices node) bound
 
 -- the bound of the node of this number, or none where it is no open leaf or has none
 abbrev pub IsLeafBoundOrNone : State → ℕ → Option ℤ → Type 0
@@ -111,12 +116,6 @@ pub record IsLeastBelow (s : State) (count : ℕ) (bound : ℤ) : Type 0 where
 -- the least of these, or none where there is none
 abbrev pub IsLeastOrNone : State → ℕ → Option ℤ → Type 0
 IsLeastOrNone s count found = MatchOption found ((bound : ℤ) → IsLimitBelow s count bound → ⊥) (λ bound. IsLeastBelow s count bound)
-
--- the lesser of two bounds, where there are any
-abbrev pub lesser_of : Option ℤ → Option ℤ → Option ℤ
-lesser_of None other = other
-lesser_of (Some bound) None = Some bound
-lesser_of (Some bound) (Some other) = Some (if int_lt other bound then other else bound)
 
 -- the bound that a plan of this status states
 abbrev pub IsStatedBound : State → PlanStatus → Option ℤ → Type 0

@@ -21,11 +21,13 @@ pub struct Assembly {
     pub problem: Arc<Instance>,
     /// Its step table.
     pub table: Arc<StepTable>,
+    /// What all costs are multiples of, in cost grains.
+    pub unit: u128,
     /// The nodes, in the order of their making.
     pub nodes: Vec<PoolNode>,
     /// The columns of the demands.
     pub columns: ColumnPool,
-    /// For each node what is forbidden there, while it is an open leaf.
+    /// For each node its region, while it is an open leaf.
     pub grounds: Vec<Ground>,
     /// The best design.
     pub incumbent: Option<Incumbent>,
@@ -50,6 +52,7 @@ impl Model for Assembly {
 
     ghost view = { λ a. record {
       problem = arc_value a.problem;
+      unit = a.unit;
       nodes = a.nodes.items;
       columns = a.columns;
       incumbent = a.incumbent;
@@ -61,6 +64,7 @@ impl Model for Assembly {
 
     ghost invariant = { λ a. IsAssembled (record {
       problem = arc_value a.problem;
+      unit = a.unit;
       nodes = a.nodes.items;
       columns = a.columns;
       incumbent = a.incumbent;

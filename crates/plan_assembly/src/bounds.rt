@@ -1,24 +1,26 @@
 //! The least of the bounds of the open leaves and the cost of the best design.
 
 ghost use Rattle.std.specs.Prelude.{◌≡◌, ◌<◌, ◌^◌, length, option_map, pos, IfOk};
+ghost use Rattle.link_steps.specs.Ranges.{AreRanges};
 ghost use Rattle.arc_restrict.specs.Rows.{forbids};
 ghost use Rattle.path_pricing.specs.Priced.{ArePrices};
 ghost use Rattle.pool_machine.specs.State.{cutoff_of};
-ghost use Rattle.plan_assembly.specs.PlanParts.{IsPriceOrNone, IsBoundOrNone, IsLeafBoundOrNone, IsLeastOrNone, lesser_of};
+ghost use Rattle.plan_assembly.specs.PlanParts.{region_in, IsPriceOrNone, IsBoundOrNone, IsLeafBoundOrNone, IsLeastOrNone};
 
 use crate::assembly::Assembly;
 use arc_restrict::Restriction;
 use bound_assembly::Round;
-use leaf_work::{Known, find};
-use link_steps::StepTable;
+use leaf_work::{Known, Trees, find};
+use link_steps::{Ranges, StepTable};
 use path_pricing::Priced;
 use plan_base::{BranchId, DemandId, Instance, Prices};
+use pool_nodes::lesser;
 use std::alloc::{AllocError, Global};
 use std::sync::Arc;
 
 /// The least price of a permitted path of the demand; none where it has no permitted path.
 fn least_price(
-    alloc: Global,
+    trees: &mut Trees,
     inst: &Instance,
     prices: &Prices,
     demand: DemandId,
@@ -29,7 +31,7 @@ fn least_price(
     requires demand { demand.0 < length inst.now.demands }
     ensures { IfOk result (IsPriceOrNone inst.now (forbids restriction.now) prices.now demand.0) }
 {
-    let found = find(alloc, inst, prices, demand, restriction, known)?;
+    let found = find(trees, inst, prices, demand, restriction, known)?;
     match &*found {
         Priced::Path {
             path: _path,
@@ -48,42 +50,34 @@ fn known_of(known: Option<&Known>, demand: DemandId) -> Option<&Arc<Priced>> {
     }
 }
 
-/// The bound that prices give to a restriction, in cost grains; none where a demand has no permitted path.
+/// The bound that prices give to a region, in cost grains; none where a demand has no permitted path.
 fn bound_at(
     alloc: Global,
     inst: &Instance,
     table: &StepTable,
     prices: &Prices,
     restriction: &Restriction,
+    ranges: &Ranges,
     known: Option<&Known>,
 ) -> Result<Option<i128>, AllocError>
     requires table { table.now ≡ inst.now }
     requires prices { ArePrices inst.now prices.now }
-    ensures { IfOk result (IsBoundOrNone inst.now (forbids restriction.now) prices.now) }
+    requires ranges { AreRanges inst.now ranges.now }
+    ensures { IfOk result (IsBoundOrNone inst.now (region_in (record { rows = restriction.now; ranges = ranges.now })) prices.now) }
 {
     let demands = inst.demands();
+    let mut trees = Trees::none(alloc);
     let mut round = Round::new(alloc, demands, inst.places())?;
     round.restart(BranchId(0), 0, prices);
     for number in 0..demands {
         let demand = DemandId(number);
         let found = known_of(known, demand);
-        let Some(length) = least_price(alloc, inst, prices, demand, restriction, found)? else {
+        let Some(length) = least_price(&mut trees, inst, prices, demand, restriction, found)? else {
             return Ok(None);
         };
         round.put(demand, length);
     }
-    Ok(round.bound(inst, table))
-}
-
-/// The lesser of two bounds, where there are any.
-fn lesser(bound: Option<i128>, other: Option<i128>) -> Option<i128>
-    ensures { result ≡ lesser_of bound other }
-{
-    match (bound, other) {
-        (Some(bound), Some(other)) => Some(if other < bound { other } else { bound }),
-        (Some(bound), None) => Some(bound),
-        (None, other) => other,
-    }
+    Ok(round.bound(inst, table, ranges))
 }
 
 /// A cost as a bound.
@@ -111,7 +105,7 @@ impl Assembly {
         requires { number < length self.now.nodes }
         ensures { IfOk result (IsLeafBoundOrNone self.now number) }
     {
-        let Some(rows) = self.grounds[number].rows() else {
+        let Some(plot) = self.grounds[number].plot() else {
             return Ok(None);
         };
         let leaf = &self.nodes[number];
@@ -123,7 +117,8 @@ impl Assembly {
             &*self.problem,
             &*self.table,
             leaf.first_prices(),
-            &**rows,
+            &**plot.rows(),
+            &**plot.ranges(),
             self.known.of(number),
         )
     }

@@ -51,8 +51,8 @@ impl Assembly {
     /// The plan: the tree, the best design, and what they claim.
     ///
     /// - Takes: a search that is done.
-    /// - Gives: a valid plan, which a plan text can hold, and each split of which parts two paths. The bound of an undecided
-    ///   plan is at least the bound of the root at the start prices.
+    /// - Gives: a valid plan, which a plan text can hold, and each split of which parts two paths of a demand or two steps of
+    ///   a link. The bound of an undecided plan is at least the bound of the root at the start prices.
     /// - Errors: want of memory alone.
     /// - Rule: docs/METHOD.md, "The search as a machine".
     pub fn into_plan(self) -> Result<Plan, AllocError>
@@ -69,6 +69,7 @@ impl Assembly {
             alloc,
             problem,
             table: _table,
+            unit: _unit,
             nodes,
             columns: _columns,
             grounds: _grounds,

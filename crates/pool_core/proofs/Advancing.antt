@@ -20,8 +20,8 @@ use Rattle.pool_machine.specs.declared.answers.Gather.{Gather}
 use Rattle.pool_machine.specs.declared.answers.Gather.TheVariants as gather
 use Rattle.pool_machine.specs.declared.answers.Publish.{Publish}
 use Rattle.pool_machine.specs.declared.answers.Settle.{Settle}
-use Rattle.pool_machine.specs.State.{Node, State}
-use Rattle.pool_machine.specs.Gathering.{columns_for, GatherStep}
+use Rattle.pool_machine.specs.State.{Node, State, ranges_of}
+use Rattle.pool_machine.specs.Gathering.{columns_for, has_enough, GatherStep}
 use Rattle.pool_machine.specs.Settling.{SettleStep}
 use Rattle.pool_machine.specs.Publishing.{MayFollow, IsBetterStep, IsCrowdStep, PublishStep}
 use Rattle.pool_machine.specs.Machine.{Gathering, Publishing, Settling, to_gathering, to_publishing, to_settling, IsReachable}
@@ -78,7 +78,7 @@ module _ (s t : State) (id : BranchId) (version : ℕ) (reachable : IsReachable 
 -- What the brief is for
 
 module _ (t : State) (id : BranchId) (version : ℕ) (brief : Brief) (sound : IsSound t) (b : IsBriefed t id version brief) where
-  pub briefed-fits : IsBriefFor t.problem brief.prices brief.columns
+  pub briefed-fits : IsBriefFor t.problem brief.prices brief.ranges brief.columns
   briefed-fits = brief-fits t id version b.node b.round brief sound b.is_gathered.complete_round b.is_brief
 
   pub briefed-columns : HasColumns t.problem (columns_at brief.columns)
@@ -87,12 +87,12 @@ module _ (t : State) (id : BranchId) (version : ℕ) (brief : Brief) (sound : Is
 
   -- what is settled or published
 
-  briefed-tried : brief.crowd_tried ≡ true → b.node.crowd_tried ≡ true
-  briefed-tried h = sym b.is_brief.crowd_tried ∙ h
+  briefed-enough : brief.has_enough ≡ true → has_enough t b.node ≡ true
+  briefed-enough h = sym b.is_brief.has_enough ∙ h
 
-  pub briefed-no_more : IsNext t.problem brief None → (b.node.crowd_tried ≡ true) ⊎ HasStalled t.problem (columns_for t b.node) b.round.prices
+  pub briefed-no_more : IsNext t.problem brief None → (has_enough t b.node ≡ true) ⊎ HasStalled t.problem (ranges_of t.problem b.node) (columns_for t b.node) b.round.prices
   briefed-no_more h = elim h [
-    | inl tried ↦ inl (briefed-tried tried)
+    | inl enough ↦ inl (briefed-enough enough)
     | inr stalled ↦ inr (same-stalled t id b.node b.round brief stalled.0 b.is_brief stalled.1)
   ]
 
@@ -121,7 +121,7 @@ crowd-within p old new count within h =
 next-count : (p : Parts) (brief : Brief) (prices : List ℕ) → IsNext p brief (Some prices) → length prices ≡ places p
 next-count p brief prices h = elim h [ inl raised ↦ raised.is_rise.are_prices.count | inr crowd ↦ crowd.are_crowd.count ]
 
-next-within : (p : Parts) (brief : Brief) (prices : List ℕ) → IsBriefFor p brief.prices brief.columns → IsNext p brief (Some prices) → AreWithinLimit p prices
+next-within : (p : Parts) (brief : Brief) (prices : List ℕ) → IsBriefFor p brief.prices brief.ranges brief.columns → IsNext p brief (Some prices) → AreWithinLimit p prices
 next-within p brief prices fits h = elim h [
   | inl raised ↦ raised.is_rise.are_prices.within
   | inr crowd ↦ crowd-within p brief.prices prices fits.price_count fits.price_limit crowd.are_crowd

@@ -6,7 +6,7 @@ use Rattle.std.proofs.lemmas.List.{append-nil}
 use Rattle.std.proofs.lemmas.Option.{slice_get_within, get_or_from_slice_get}
 use Rattle.plan_base.specs.declared.ids.BranchId.{BranchId}
 use Rattle.plan_base.specs.declared.parts.Parts.{Parts}
-use Rattle.arc_restrict.specs.Rows.{Rows}
+use Rattle.pool_nodes.specs.Grounds.{Kept}
 use Rattle.proof_tree.specs.declared.tree.Evidence.{Evidence}
 use Rattle.pool_machine.specs.State.{Round, Node, State, state_of}
 use Rattle.pool_machine.specs.Changes.{is_open_state, examined_with}
@@ -20,7 +20,7 @@ use Rattle.pool_core.proofs.Closings.{open_state-leaf}
 use Rattle.pool_machine.proofs.Runs.{IsReachable-sound}
 use Rattle.pool_core.proofs.EndedRounds.{HasEnded, HasPlaces-ended, round-within, HasGrounds-cleared}
 
-module _ (s : State) (table : Parts) (grounds : List (Option Rows)) (places : List Slot) (id : BranchId) (old : Node) (found : Evidence)
+module _ (s : State) (table : Parts) (grounds : List (Option Kept)) (places : List Slot) (id : BranchId) (old : Node) (found : Evidence)
     (h : IsKeptPool s table grounds places) (is : slice_get s.nodes id.0 ≡ Some old) where
   abbrev after : State
   after = examined_with s id (closed_by found old)
@@ -50,7 +50,7 @@ module _ (s : State) (table : Parts) (grounds : List (Option Rows)) (places : Li
   }
 
 -- the same on the pool's own fields: the node that is read is written back closed
-module _ (s : State) (table : Parts) (grounds : List (Option Rows)) (places : List Slot) (id : BranchId) (why : Reason)
+module _ (s : State) (table : Parts) (grounds : List (Option Kept)) (places : List Slot) (id : BranchId) (why : Reason)
     (h : IsKeptPool s table grounds places) (is_open : is_open_state (state_of s id) ≡ true) (item : Node) (read : item ≡ get_or s.nodes id.0 item) where
   is_item : slice_get s.nodes id.0 ≡ Some item
   is_item =
@@ -74,11 +74,11 @@ module _ (s : State) (table : Parts) (grounds : List (Option Rows)) (places : Li
       let make : Node → ℕ → State = λ x n. record s { nodes = set s.nodes id.0 x; examined = n } in
       ap₂ make written more ∙ sym is_closed
 
-  pub close-kept : (new : Node) (examined : ℕ) (left : Option Rows) (back : List Slot) → new ≡ closed_by (evidence_for item why) item → examined ≡ suc s.examined
+  pub close-kept : (new : Node) (examined : ℕ) (left : Option Kept) (back : List Slot) → new ≡ closed_by (evidence_for item why) item → examined ≡ suc s.examined
       → left ≡ None → back ≡ given_back places item.round → IsReachable (closed_at s id why (slice_get s.nodes id.0))
       → IsKeptPool (record s { nodes = set s.nodes id.0 new; examined = examined }) table (set grounds id.0 left) back
   close-kept new examined left back written more none returned reachable =
       let kept = closed-kept s table grounds places id item (evidence_for item why) h is_item (subst IsReachable is_closed reachable) in
       subst (λ (x : State). IsKeptPool x table (set grounds id.0 left) back) (sym (close-state new examined written more ∙ is_closed))
-      (subst (λ (o : Option Rows). IsKeptPool (examined_with s id (closed_by (evidence_for item why) item)) table (set grounds id.0 o) back) (sym none)
+      (subst (λ (o : Option Kept). IsKeptPool (examined_with s id (closed_by (evidence_for item why) item)) table (set grounds id.0 o) back) (sym none)
       (subst (λ (xs : List Slot). IsKeptPool (examined_with s id (closed_by (evidence_for item why) item)) table (set grounds id.0 None) xs) (sym returned) kept))

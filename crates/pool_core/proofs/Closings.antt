@@ -1,11 +1,11 @@
 -- Where no fault is found, a closing may come, and each answer of a closing is an event.
-use Rattle.std.proofs.Common.{◌≡◌, ℕ, ◌<◌, Bool, true, false, not, ◌||◌, List, Option, Some, None, slice_get, refl, sym, ap, subst, ◌∙◌, arith, ℤ, pos, ◌≤ℤ◌}
+use Rattle.std.proofs.Common.{◌≡◌, ℕ, ◌<◌, Bool, true, false, not, ◌||◌, List, Option, Some, None, slice_get, refl, sym, ap, subst, ◌∙◌, ℤ, pos, ◌+ℤ◌, ◌<ℤ◌}
 use Rattle.std.specs.Prelude.{IsSomeAnd, IfSome, is_some}
-use Rattle.std.proofs.lemmas.Int.{ints}
 use Rattle.plan_base.specs.declared.ids.BranchId.{BranchId}
 use Rattle.plan_base.specs.First.{◌or_else◌, when}
 use Rattle.plan_base.proofs.Bools.{not-false}
 use Rattle.plan_base.proofs.FirstFault.{or_else-none, when-none}
+use Rattle.master_step.proofs.Trying.{int_lt-true}
 use Rattle.proof_tree.specs.declared.tree.Evidence.TheVariants as evidence
 use Rattle.pool_machine.specs.declared.answers.NodeState.{NodeState}
 use Rattle.pool_machine.specs.declared.answers.Closing.{Closing}
@@ -47,17 +47,17 @@ pub record MayClose (s : State) (id : BranchId) : Type 0 where
   pub node : Node
   pub is_node : slice_get s.nodes id.0 ≡ Some node
   pub undone : node.fate ≡ Undone
-  pub closable : is_closable (cutoff_of s) node ≡ true
+  pub closable : is_closable s.unit (cutoff_of s) node ≡ true
 
-closable-at : (cost : Option ℕ) (o : Option Node) (node : Node) → o ≡ Some node → closable_in cost o ≡ true → is_closable cost node ≡ true
-closable-at cost o node is h = subst (λ (x : Option Node). closable_in cost x ≡ true) is h
+closable-at : (unit : ℕ) (cost : Option ℕ) (o : Option Node) (node : Node) → o ≡ Some node → closable_in unit cost o ≡ true → is_closable unit cost node ≡ true
+closable-at unit cost o node is h = subst (λ (x : Option Node). closable_in unit cost x ≡ true) is h
 
 pub close_fault-none : (s : State) (id : BranchId) → close_fault s id ≡ None → MayClose s id
 unfolding close_fault
 close_fault-none s id h =
     let a = when (is_spent s) (closing.Spent s.examined) in
     let b = when (not (is_open_state (state_of s id))) (closing.NotOpen (state_of s id)) in
-    let c = when (not (closable_in (cutoff_of s) (slice_get s.nodes id.0))) (closing.Weak (bound_in (slice_get s.nodes id.0)) (cutoff_of s)) in
+    let c = when (not (closable_in s.unit (cutoff_of s) (slice_get s.nodes id.0))) (closing.Weak (bound_in (slice_get s.nodes id.0)) (cutoff_of s)) in
     let one = or_else-none a (b or_else c) h in
     let two = or_else-none b c one.1 in
     let is_open = not-false _ (when-none _ _ two.0) in
@@ -68,7 +68,7 @@ close_fault-none s id h =
       node = leaf.node;
       is_node = leaf.is_node;
       undone = leaf.undone;
-      closable = closable-at (cutoff_of s) (slice_get s.nodes id.0) leaf.node leaf.is_node (not-false _ (when-none _ _ two.1));
+      closable = closable-at s.unit (cutoff_of s) (slice_get s.nodes id.0) leaf.node leaf.is_node (not-false _ (when-none _ _ two.1));
     }
 
 -- a fault is a refusal
@@ -78,7 +78,7 @@ close_fault-refusal s id (closing.Spent x) h = (h, refl)
 close_fault-refusal s id (closing.NotOpen x) h = (h, refl)
 close_fault-refusal s id (closing.Weak x y) h = (h, refl)
 close_fault-refusal s id closing.Closed h =
-    absurd (never (is_spent s) (not (is_open_state (state_of s id))) (not (closable_in (cutoff_of s) (slice_get s.nodes id.0))) s.examined (state_of s id) (bound_in (slice_get s.nodes id.0)) (cutoff_of s) h)
+    absurd (never (is_spent s) (not (is_open_state (state_of s id))) (not (closable_in s.unit (cutoff_of s) (slice_get s.nodes id.0))) s.examined (state_of s id) (bound_in (slice_get s.nodes id.0)) (cutoff_of s) h)
   where
     never : (a b c : Bool) (x : ℕ) (y : NodeState) (z : Option ℤ) (w : Option ℕ) → (when a (closing.Spent x) or_else when b (closing.NotOpen y) or_else when c (closing.Weak z w)) ≡ Some closing.Closed → ⊥
     never true b c x y z w h = cc
@@ -86,22 +86,22 @@ close_fault-refusal s id closing.Closed h =
     never false false true x y z w h = cc
     never false false false x y z w h = cc
 
-reaches-above : (cost : Option ℕ) (best : Best) → reaches (Some best) cost ≡ true → IsSomeAnd cost (λ c. pos c ≤ℤ best.bound)
-reaches-above None best h = absurd (let bad : false ≡ true = h in cc)
-reaches-above (Some cost) best h = grind (arith, ints)
+reaches-above : (unit : ℕ) (cost : Option ℕ) (best : Best) → reaches unit (Some best) cost ≡ true → IsSomeAnd cost (λ c. pos c <ℤ (best.bound +ℤ pos unit))
+reaches-above unit None best h = absurd (let bad : false ≡ true = h in cc)
+reaches-above unit (Some cost) best h = int_lt-true (pos cost) (best.bound +ℤ pos unit) h
 
 -- what is recorded of a closable node closes it
-pub closable-closes : (cost : Option ℕ) (node : Node) → is_closable cost node ≡ true → ClosesBy cost node (proof_of node.crowd (kept_prices node))
-closable-closes cost node h = by_crowd_ node.crowd refl
+pub closable-closes : (unit : ℕ) (cost : Option ℕ) (node : Node) → is_closable unit cost node ≡ true → ClosesBy unit cost node (proof_of node.crowd (kept_prices node))
+closable-closes unit cost node h = by_crowd_ node.crowd refl
   where
-    by_best : node.crowd ≡ None → (best : Option Best) → node.best ≡ best → reaches best cost ≡ true → ClosesBy cost node (evidence.Bound (kept_by best node.first_prices))
+    by_best : node.crowd ≡ None → (best : Option Best) → node.best ≡ best → reaches unit best cost ≡ true → ClosesBy unit cost node (evidence.Bound (kept_by best node.first_prices))
     by_best none None is reached = absurd (let bad : false ≡ true = reached in cc)
-    by_best none (Some best) is reached = by_bound best none is (reaches-above cost best reached)
+    by_best none (Some best) is reached = by_bound best none is (reaches-above unit cost best reached)
 
-    by_crowd_ : (crowd : Option (List ℕ)) → node.crowd ≡ crowd → ClosesBy cost node (proof_of crowd (kept_prices node))
+    by_crowd_ : (crowd : Option (List ℕ)) → node.crowd ≡ crowd → ClosesBy unit cost node (proof_of crowd (kept_prices node))
     by_crowd_ (Some prices) is = by_crowd prices is
     by_crowd_ None is =
-        let reached : reaches node.best cost ≡ true = subst (λ (o : Option (List ℕ)). (is_some o || reaches node.best cost) ≡ true) is h in
+        let reached : reaches unit node.best cost ≡ true = subst (λ (o : Option (List ℕ)). (is_some o || reaches unit node.best cost) ≡ true) is h in
         by_best is node.best refl reached
 
 -- the closing is the event
@@ -112,7 +112,7 @@ closes s id may = record {
   is_node = may.is_node;
   undone = may.undone;
   found = proof_of may.node.crowd (kept_prices may.node);
-  closes_by = closable-closes (cutoff_of s) may.node may.closable;
+  closes_by = closable-closes s.unit (cutoff_of s) may.node may.closable;
   becomes = refl;
 }
 
@@ -120,14 +120,14 @@ pub closes-reachable : (s : State) (id : BranchId) → IsReachable s → (may : 
 closes-reachable s id h may = IsReachable-step s (examined_with s id (closed_by (proof_of may.node.crowd (kept_prices may.node)) may.node)) (Closing_of id) (to_closing closing.Closed) h (closes s id may)
 
 -- a closable node has what closes it
-closable-reason : (cost : Option ℕ) (crowd : Option (List ℕ)) (best : Option Best) → (is_some crowd || reaches best cost) ≡ true → (is_some crowd || is_some best) ≡ true
-closable-reason cost (Some prices) best h = refl
-closable-reason cost None None h = absurd (let bad : false ≡ true = h in cc)
-closable-reason cost None (Some best) h = refl
+closable-reason : (unit : ℕ) (cost : Option ℕ) (crowd : Option (List ℕ)) (best : Option Best) → (is_some crowd || reaches unit best cost) ≡ true → (is_some crowd || is_some best) ≡ true
+closable-reason unit cost (Some prices) best h = refl
+closable-reason unit cost None None h = absurd (let bad : false ≡ true = h in cc)
+closable-reason unit cost None (Some best) h = refl
 
 pub has_reason : (s : State) (id : BranchId) → MayClose s id → IfSome (slice_get s.nodes id.0) (λ x. HasReason x reason.Recorded)
 has_reason s id may =
-    subst (λ (o : Option Node). IfSome o (λ x. HasReason x reason.Recorded)) (sym may.is_node) (closable-reason (cutoff_of s) may.node.crowd may.node.best may.closable)
+    subst (λ (o : Option Node). IfSome o (λ x. HasReason x reason.Recorded)) (sym may.is_node) (closable-reason s.unit (cutoff_of s) may.node.crowd may.node.best may.closable)
 
 pub closed-reachable : (s : State) (id : BranchId) → IsReachable s → MayClose s id → IsReachable (closed_at s id reason.Recorded (slice_get s.nodes id.0))
 closed-reachable s id h may = subst (λ (o : Option Node). IsReachable (closed_at s id reason.Recorded o)) (sym may.is_node) (closes-reachable s id h may)

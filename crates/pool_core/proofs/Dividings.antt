@@ -1,39 +1,45 @@
 -- A division on the pool's own fields is the event, and keeps what the pool is.
 use Rattle.pool_nodes.specs.declared.slot.Slot.{Slot}
-use Rattle.std.proofs.Common.{[], ◌≡◌, ℕ, zero, suc, ◌+◌, ◌*◌, ◌/◌, ◌<◌, inl, inr, List, ◌∷◌, ◌++◌, length, set, get_or, Option, Some, None, slice_get, All, IsTrue, refl, sym, ap, ap₂, subst, ◌∙◌, arith, length-append}
+use Rattle.std.proofs.Common.{[], ◌≡◌, ℕ, zero, suc, ◌+◌, ◌*◌, ◌<◌, ◌≤◌, inl, inr, List, ◌∷◌, ◌++◌, length, set, get_or, Option, Some, None, slice_get, All, refl, sym, ap, ap₂, subst, ◌∙◌, arith, length-append}
 use Rattle.std.specs.Prelude.{IfSome, Ok}
-use Rattle.std.proofs.lemmas.Bool.{ltb-true}
-use Rattle.plan_base.proofs.Bools.{and-first}
-use Rattle.std.proofs.lemmas.List.{get_or_append_left, set-append_left}
+use Rattle.std.proofs.lemmas.List.{get_or_append_left, set-append_left, set-get_or}
 use Rattle.std.proofs.lemmas.Option.{slice_get_within, get_or_from_slice_get}
 use Rattle.plan_base.specs.declared.ids.ArcId.{ArcId}
 use Rattle.plan_base.specs.declared.ids.BranchId.{BranchId}
 use Rattle.plan_base.specs.declared.ids.DemandId.{DemandId}
 use Rattle.plan_base.specs.declared.ids.NodeId.{NodeId}
 use Rattle.plan_base.specs.declared.parts.Parts.{Parts}
-use Rattle.plan_base.specs.Arcs.{is_arc}
+use Rattle.plan_base.specs.declared.limits.TheConstants.{MAX_TOTAL_LOAD}
+use Rattle.plan_base.specs.Facts.{total_load}
+use Rattle.link_steps.specs.Ranges.{AreRanges}
 use Rattle.arc_restrict.specs.Restrictions.{Forbidden}
-use Rattle.arc_restrict.specs.Rows.{Rows}
+use Rattle.proof_tree.specs.Regions.{Region}
 use Rattle.proof_tree.specs.Splits.{IsSide}
+use Rattle.branch_tree.specs.Branches.{IsLimitOf}
+use Rattle.branch_tree.proofs.LimitLaws.{load-sides}
+use Rattle.branch_tree.proofs.BranchLaws.{arc_within}
+use Rattle.branch_tree.specs.declared.node.Divider.TheVariants as divider
 use Rattle.pool_machine.specs.declared.answers.Examined.TheVariants as examined
 use Rattle.branch_tree.specs.declared.node.Division.{Division}
 use Rattle.branch_tree.specs.declared.node.Fate.TheVariants.{Undone}
-use Rattle.pool_machine.specs.State.{Round, Node, State, restriction_of}
-use Rattle.pool_machine.specs.Dividing.{child_of, divided_by, Divides}
+use Rattle.pool_machine.specs.State.{Round, Limit, Divider, left_limit, right_limit, Node, State, region_of}
+use Rattle.pool_machine.specs.Dividing.{PartsBy, child_of, divided_by, Divides}
 use Rattle.pool_machine.specs.Machine.{Examining, to_examining, IsReachable}
 use Rattle.pool_nodes.specs.Slots.{given_back}
 use Rattle.pool_reading.specs.Views.{HasPlaces, IsKeptPool}
-use Rattle.pool_nodes.specs.Grounds.{IsGroundOf, HasGrounds}
+use Rattle.pool_nodes.specs.Grounds.{Kept, IsKeptRegion, IsGroundOf, HasGrounds}
 use Rattle.pool_reading.specs.Examining.{IsReadyAt, IsChildAt, IsDivisionAt, AreChildrenAt}
 use Rattle.pool_core.specs.Children.{HasChildBehind}
 use Rattle.pool_machine.proofs.Lists.{slice_get-append_left, slice_get-append_right, slice_get-append_cases}
+use Rattle.pool_machine.specs.Soundness.{IsSound}
 use Rattle.pool_machine.proofs.Frames.{one_at}
+use Rattle.pool_machine.proofs.Replacing.{node_at}
 use Rattle.pool_machine.proofs.Runs.{IsReachable-step, IsReachable-sound}
 use Rattle.pool_core.proofs.EndedRounds.{HasEnded, HasPlaces-ended, round-within, HasGrounds-cleared}
 
--- two more nodes with what is forbidden there
-HasGrounds-append : (p : Parts) (nodes : List Node) (grounds : List (Option Rows)) (one other : Node) (one_ground other_ground : Option Rows) → HasGrounds p nodes grounds
-    → IsGroundOf p (restriction_of one) one.fate one_ground → IsGroundOf p (restriction_of other) other.fate other_ground
+-- two more nodes with their regions
+HasGrounds-append : (p : Parts) (nodes : List Node) (grounds : List (Option Kept)) (one other : Node) (one_ground other_ground : Option Kept) → HasGrounds p nodes grounds
+    → IsGroundOf p (region_of p one) one.fate one_ground → IsGroundOf p (region_of p other) other.fate other_ground
     → HasGrounds p (nodes ++ (one ∷ other ∷ [])) (grounds ++ (one_ground ∷ other_ground ∷ []))
 HasGrounds-append p nodes grounds one other one_ground other_ground h is_one is_other = record {
   count = (let a = length-append nodes (one ∷ other ∷ []) in let b = length-append grounds (one_ground ∷ other_ground ∷ []) in let same = h.count in omega arith);
@@ -46,12 +52,12 @@ HasGrounds-append p nodes grounds one other one_ground other_ground h is_one is_
   ];
 }
   where
-    fresh : (j : ℕ) (node : Node) → slice_get (one ∷ other ∷ []) j ≡ Some node → (ground : Option Rows) × (slice_get (one_ground ∷ other_ground ∷ []) j ≡ Some ground) × IsGroundOf p (restriction_of node) node.fate ground
-    fresh zero node is = let same : one ≡ node = cc in (one_ground, refl, subst (λ (x : Node). IsGroundOf p (restriction_of x) x.fate one_ground) same is_one)
-    fresh (suc zero) node is = let same : other ≡ node = cc in (other_ground, refl, subst (λ (x : Node). IsGroundOf p (restriction_of x) x.fate other_ground) same is_other)
+    fresh : (j : ℕ) (node : Node) → slice_get (one ∷ other ∷ []) j ≡ Some node → (ground : Option Kept) × (slice_get (one_ground ∷ other_ground ∷ []) j ≡ Some ground) × IsGroundOf p (region_of p node) node.fate ground
+    fresh zero node is = let same : one ≡ node = cc in (one_ground, refl, subst (λ (x : Node). IsGroundOf p (region_of p x) x.fate one_ground) same is_one)
+    fresh (suc zero) node is = let same : other ≡ node = cc in (other_ground, refl, subst (λ (x : Node). IsGroundOf p (region_of p x) x.fate other_ground) same is_other)
     fresh (suc (suc j)) node is = let bad : ◌≡◌ {A = Option Node} None (Some node) = is in absurd (cc)
 
-module _ (s : State) (table : Parts) (grounds : List (Option Rows)) (places : List Slot) (id : BranchId) (d : Division)
+module _ (s : State) (table : Parts) (grounds : List (Option Kept)) (places : List Slot) (id : BranchId) (d : Division)
     (h : IsKeptPool s table grounds places) (div : IsDivisionAt s id d) where
   is_node : slice_get s.nodes id.0 ≡ Some div.node
   is_node = div.ready.open_node.is_node
@@ -60,7 +66,7 @@ module _ (s : State) (table : Parts) (grounds : List (Option Rows)) (places : Li
   new = divided_by d div.node
 
   abbrev more : List Node
-  more = child_of div.node d.demand d.left ∷ child_of div.node d.demand d.right ∷ []
+  more = child_of div.node (left_limit d.by) ∷ child_of div.node (right_limit d.by) ∷ []
 
   abbrev after : State
   after = record s { nodes = set s.nodes id.0 new ++ more; examined = suc s.examined }
@@ -86,8 +92,8 @@ module _ (s : State) (table : Parts) (grounds : List (Option Rows)) (places : Li
   has_ended = record { is_node = is_node; no_round = refl; none_more = idle; nodes = refl; problem = refl }
     where
       idle : (j : ℕ) (m : Node) → slice_get more j ≡ Some m → m.round ≡ None
-      idle zero m is = let same : child_of div.node d.demand d.left ≡ m = cc in ap (λ (x : Node). x.round) (sym same)
-      idle (suc zero) m is = let same : child_of div.node d.demand d.right ≡ m = cc in ap (λ (x : Node). x.round) (sym same)
+      idle zero m is = let same : child_of div.node (left_limit d.by) ≡ m = cc in ap (λ (x : Node). x.round) (sym same)
+      idle (suc zero) m is = let same : child_of div.node (right_limit d.by) ≡ m = cc in ap (λ (x : Node). x.round) (sym same)
       idle (suc (suc j)) m is = let bad : ◌≡◌ {A = Option Node} None (Some m) = is in absurd (cc)
 
   pub divided-place : (round : Option Round) → round ≡ div.node.round → IfSome round (λ r. r.slot < length places)
@@ -98,19 +104,18 @@ module _ (s : State) (table : Parts) (grounds : List (Option Rows)) (places : Li
   after-places = HasPlaces-ended s after id.0 div.node new more has_ended (IsReachable-sound s h.pool.reachable) places h.pool.has_places
 
   -- a child of the node is the one that the division makes
-  is_child : (arcs : List ArcId) (child : Node) (ground : Option Rows) → IsChildAt s id d.demand arcs child ground → child ≡ child_of div.node d.demand arcs
-  is_child arcs child ground made = made.is_child ∙ ap (λ (x : Node). child_of x d.demand arcs) (one_at s.nodes id.0 made.node div.node made.is_node is_node)
+  is_child : (last : Limit) (child : Node) (ground : Option Kept) → IsChildAt s id last child ground → child ≡ child_of div.node last
+  is_child last child ground made = made.is_child ∙ ap (λ (x : Node). child_of x last) (one_at s.nodes id.0 made.node div.node made.is_node is_node)
 
-  child-ground : (arcs : List ArcId) (child : Node) (ground : Option Rows) → IsChildAt s id d.demand arcs child ground
-      → IsGroundOf s.problem (restriction_of (child_of div.node d.demand arcs)) Undone ground
-  child-ground arcs child ground made =
+  child-ground : (last : Limit) (child : Node) (ground : Option Kept) → IsChildAt s id last child ground → IsGroundOf s.problem (region_of s.problem (child_of div.node last)) Undone ground
+  child-ground last child ground made =
       let same : made.node ≡ div.node = one_at s.nodes id.0 made.node div.node made.is_node is_node in
-      let forbids_more = made.below.forbids_more ∙ ap (λ (x : Node). restriction_of (child_of x d.demand arcs)) same in
-      subst (IsGroundOf s.problem (restriction_of (child_of div.node d.demand arcs)) Undone) (sym made.is_ground) (forbids_more, made.below.size)
+      let below : IsKeptRegion s.problem (region_of s.problem (child_of div.node last)) made.kept = subst (λ (x : Node). IsKeptRegion s.problem (region_of s.problem (child_of x last)) made.kept) same made.below in
+      subst (IsGroundOf s.problem (region_of s.problem (child_of div.node last)) Undone) (sym made.is_ground) below
 
-  module _ (children : List Node) (below : List (Option Rows)) (made : AreChildrenAt s id d children below) where
+  module _ (children : List Node) (below : List (Option Kept)) (made : AreChildrenAt s id d children below) where
     are_more : children ≡ more
-    are_more = made.children_are ∙ ap₂ (λ (x y : Node). x ∷ y ∷ []) (is_child d.left made.left made.left_ground made.is_left) (is_child d.right made.right made.right_ground made.is_right)
+    are_more = made.children_are ∙ ap₂ (λ (x y : Node). x ∷ y ∷ []) (is_child (left_limit d.by) made.left made.left_ground made.is_left) (is_child (right_limit d.by) made.right made.right_ground made.is_right)
 
     node-within : id.0 < length s.nodes
     node-within = slice_get_within s.nodes id.0 div.node is_node
@@ -124,11 +129,11 @@ module _ (s : State) (table : Parts) (grounds : List (Option Rows)) (places : Li
     after-grounds : HasGrounds s.problem after.nodes (set (grounds ++ below) id.0 None)
     after-grounds =
         let cleared = HasGrounds-cleared s.problem s.nodes grounds id.0 div.node new is_node refl h.has_grounds in
-        let both = HasGrounds-append s.problem (set s.nodes id.0 new) (set grounds id.0 None) (child_of div.node d.demand d.left) (child_of div.node d.demand d.right) made.left_ground made.right_ground cleared
-        (child-ground d.left made.left made.left_ground made.is_left) (child-ground d.right made.right made.right_ground made.is_right) in
+        let both = HasGrounds-append s.problem (set s.nodes id.0 new) (set grounds id.0 None) (child_of div.node (left_limit d.by)) (child_of div.node (right_limit d.by)) made.left_ground made.right_ground cleared
+        (child-ground (left_limit d.by) made.left made.left_ground made.is_left) (child-ground (right_limit d.by) made.right made.right_ground made.is_right) in
         let within : id.0 < length grounds = (let a = node-within in let same = h.has_grounds.count in omega arith) in
         let split : set (grounds ++ below) id.0 None ≡ set grounds id.0 None ++ (made.left_ground ∷ made.right_ground ∷ []) =
-        set-append_left grounds below id.0 None within ∙ ap (λ (xs : List (Option Rows)). set grounds id.0 None ++ xs) made.grounds_are in
+        set-append_left grounds below id.0 None within ∙ ap (λ (xs : List (Option Kept)). set grounds id.0 None ++ xs) made.grounds_are in
         subst (HasGrounds s.problem after.nodes) (sym split) both
 
     module _ (item : Node) (read : item ≡ get_or (s.nodes ++ children) id.0 item) where
@@ -153,7 +158,7 @@ module _ (s : State) (table : Parts) (grounds : List (Option Rows)) (places : Li
           → Divides s id d.left_child d.right_child (record s { nodes = set (s.nodes ++ children) id.0 written; examined = examined })
       divided-step written examined wrote more_by_one = subst (Divides s id d.left_child d.right_child) (sym (is_after written examined wrote more_by_one)) divides
 
-      pub divided-kept : (written : Node) (examined : ℕ) (left : Option Rows) (back : List Slot) → written ≡ divided_by d item → examined ≡ suc s.examined → left ≡ None
+      pub divided-kept : (written : Node) (examined : ℕ) (left : Option Kept) (back : List Slot) → written ≡ divided_by d item → examined ≡ suc s.examined → left ≡ None
           → back ≡ given_back places item.round
           → IsKeptPool (record s { nodes = set (s.nodes ++ children) id.0 written; examined = examined }) table (set (grounds ++ below) id.0 left) back
       divided-kept written examined left back wrote more_by_one none returned =
@@ -164,36 +169,41 @@ module _ (s : State) (table : Parts) (grounds : List (Option Rows)) (places : Li
           } in
           let give_back : back ≡ given_back places div.node.round = returned ∙ ap (λ (x : Node). given_back places x.round) is_item in
           subst (λ (x : State). IsKeptPool x table (set (grounds ++ below) id.0 left) back) (sym (is_after written examined wrote more_by_one))
-          (subst (λ (o : Option Rows). IsKeptPool after table (set (grounds ++ below) id.0 o) back) (sym none)
+          (subst (λ (o : Option Kept). IsKeptPool after table (set (grounds ++ below) id.0 o) back) (sym none)
           (subst (λ (xs : List Slot). IsKeptPool after table (set (grounds ++ below) id.0 None) xs) (sym give_back) kept))
 
   pub examined-small : s.examined < 4096
   examined-small = let spent = div.ready.open_node.not_spent in let budget = h.pool.budget in omega arith
 
--- Children
+-- a node that is read and written back as it was
+pub written-same : (nodes : List Node) (n : ℕ) (item written : Node) → item ≡ get_or nodes n item → written ≡ item → set nodes n written ≡ nodes
+written-same nodes n item written read same = ap (set nodes n) (same ∙ read) ∙ set-get_or nodes n item
 
-arc-within : (p : Parts) (a : ArcId) → IsTrue (is_arc p a) → a.0 < 2 * length p.links
-arc-within p a h = let link = ltb-true _ _ (and-first _ _ h) in below a.0 (length p.links) link
-  where
-    below : (n m : ℕ) → n / 2 < m → n < 2 * m
-    below n m h = grind arith
+-- Children
 
 -- the arcs of a side exist
 side-within : (p : Parts) (r : Forbidden) (id : DemandId) (node : NodeId) (arcs : List ArcId) → IsSide p r id node arcs → All (λ a. a.0 < 2 * length p.links) arcs
-side-within p r id node arcs side = λ i d within. arc-within p (get_or arcs i d) (side.are_arcs i d within)
+side-within p r id node arcs side = λ i d within. arc_within p (get_or arcs i d) (side.are_arcs i d within)
+
+-- the limits of both children are limits of the instance
+by-limits : (p : Parts) (g : Region) (by : Divider) → total_load p ≤ MAX_TOTAL_LOAD → AreRanges p g.ranges → PartsBy p g by → IsLimitOf p (left_limit by) × IsLimitOf p (right_limit by)
+by-limits p g (divider.Arcs d) total are parts = (
+  (parts.is_split.demand, side-within p g.forbidden d.demand d.at d.left parts.is_split.left_side),
+  (parts.is_split.demand, side-within p g.forbidden d.demand d.at d.right parts.is_split.right_side),
+)
+by-limits p g (divider.Load d) total are parts = let sides = load-sides p g d total are parts.0.is_split in (sides.left, sides.right)
 
 pub division-ready : (s : State) (id : BranchId) (d : Division) → IsDivisionAt s id d → IsReadyAt s id
 division-ready s id d h = record { node = h.node; ready = h.ready }
 
-pub left-within : (s : State) (id : BranchId) (d : Division) → IsDivisionAt s id d → All (λ a. a.0 < 2 * length s.problem.links) d.left
-left-within s id d h = side-within s.problem (restriction_of h.node) d.demand d.at d.left h.parts.is_split.left_side
-
-pub right-within : (s : State) (id : BranchId) (d : Division) → IsDivisionAt s id d → All (λ a. a.0 < 2 * length s.problem.links) d.right
-right-within s id d h = side-within s.problem (restriction_of h.node) d.demand d.at d.right h.parts.is_split.right_side
+pub division-limits : (s : State) (id : BranchId) (d : Division) → IsSound s → IsDivisionAt s id d → IsLimitOf s.problem (left_limit d.by) × IsLimitOf s.problem (right_limit d.by)
+division-limits s id d sound h =
+    let is = h.ready.open_node in
+    by-limits s.problem (region_of s.problem h.node) d.by sound.lawful.total (node_at s id.0 h.node sound is.is_node).ranges h.parts
 
 -- one child came first, and the other one behind it
-pub both-made : (s : State) (id : BranchId) (d : Division) (none one both : List Node) (no_ground one_ground both_grounds : List (Option Rows)) → none ≡ [] → no_ground ≡ []
-    → HasChildBehind s id d.demand d.left none no_ground one one_ground → HasChildBehind s id d.demand d.right one one_ground both both_grounds → AreChildrenAt s id d both both_grounds
+pub both-made : (s : State) (id : BranchId) (d : Division) (none one both : List Node) (no_ground one_ground both_grounds : List (Option Kept)) → none ≡ [] → no_ground ≡ []
+    → HasChildBehind s id (left_limit d.by) none no_ground one one_ground → HasChildBehind s id (right_limit d.by) one one_ground both both_grounds → AreChildrenAt s id d both both_grounds
 both-made s id d none one both no_ground one_ground both_grounds is_none is_no_ground left right = record {
   left = left.child;
   right = right.child;
@@ -202,5 +212,5 @@ both-made s id d none one both no_ground one_ground both_grounds is_none is_no_g
   is_left = left.is_child;
   is_right = right.is_child;
   children_are = right.nodes_are ∙ ap (λ (xs : List Node). xs ++ right.child ∷ []) (left.nodes_are ∙ ap (λ (xs : List Node). xs ++ left.child ∷ []) is_none);
-  grounds_are = right.grounds_are ∙ ap (λ (xs : List (Option Rows)). xs ++ right.ground ∷ []) (left.grounds_are ∙ ap (λ (xs : List (Option Rows)). xs ++ left.ground ∷ []) is_no_ground);
+  grounds_are = right.grounds_are ∙ ap (λ (xs : List (Option Kept)). xs ++ right.ground ∷ []) (left.grounds_are ∙ ap (λ (xs : List (Option Kept)). xs ++ left.ground ∷ []) is_no_ground);
 }

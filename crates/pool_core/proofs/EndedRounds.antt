@@ -8,15 +8,14 @@ use Rattle.std.proofs.lemmas.List.Sums.{sum_by-append, sum_by-cons}
 use Rattle.plan_base.specs.declared.ids.BranchId.{BranchId}
 use Rattle.plan_base.specs.declared.parts.Parts.{Parts}
 use Rattle.plan_base.specs.Places.{places}
-use Rattle.arc_restrict.specs.Rows.{Rows}
-use Rattle.pool_machine.specs.State.{Round, Node, State, restriction_of, rounds_by, rounds_in, active_count}
+use Rattle.pool_machine.specs.State.{Round, Node, State, restriction_of, region_of, rounds_by, rounds_in, active_count}
 use Rattle.pool_machine.specs.Opening.{HasSlot, IsTaken}
 use Rattle.pool_machine.specs.Nodes.{IsSoundRound}
 use Rattle.pool_machine.specs.Soundness.{IsSound}
 use Rattle.pool_machine.specs.Family.{badge_of}
 use Rattle.pool_nodes.specs.Slots.{is_free, given_back}
 use Rattle.pool_reading.specs.Views.{IsTakenBy, HasPlaces}
-use Rattle.pool_nodes.specs.Grounds.{IsGroundOf, HasGrounds}
+use Rattle.pool_nodes.specs.Grounds.{Kept, IsGroundOf, HasGrounds}
 use Rattle.pool_machine.proofs.Lists.{sum_by-set_at, slice_get-set_same, slice_get-set_other, slice_get-set_cases, slice_get-append_left, slice_get-append_cases}
 use Rattle.pool_machine.proofs.Frames.{same_or_other, one_at, badge_at-at}
 use Rattle.pool_machine.proofs.Replacing.{node_at}
@@ -165,9 +164,9 @@ module _ (s t : State) (id : ℕ) (old new : Node) (more : List Node) (e : HasEn
   pub round-within : (slots : List Slot) → HasPlaces s slots → (round : Round) → old.round ≡ Some round → round.slot < length slots
   round-within slots h round had = slot-within slots round had h
 
--- a node that is no open leaf keeps no restriction
-pub HasGrounds-cleared : (p : Parts) (nodes : List Node) (grounds : List (Option Rows)) (id : ℕ) (old new : Node) → slice_get nodes id ≡ Some old
-    → IsGroundOf p (restriction_of new) new.fate None → HasGrounds p nodes grounds → HasGrounds p (set nodes id new) (set grounds id None)
+-- a node that is no open leaf keeps no region
+pub HasGrounds-cleared : (p : Parts) (nodes : List Node) (grounds : List (Option Kept)) (id : ℕ) (old new : Node) → slice_get nodes id ≡ Some old
+    → IsGroundOf p (region_of p new) new.fate None → HasGrounds p nodes grounds → HasGrounds p (set nodes id new) (set grounds id None)
 HasGrounds-cleared p nodes grounds id old new is keeps_none h = record {
   count = length-set grounds id None ∙ (h.count ∙ sym (length-set nodes id new));
   each = λ m node at. elim (slice_get-set_cases nodes id m new node at) [
@@ -175,7 +174,7 @@ HasGrounds-cleared p nodes grounds id old new is keeps_none h = record {
         let g = h.each id old is in (
           None,
           subst (λ (i : ℕ). slice_get (set grounds id None) i ≡ Some None) (sym w.0) (slice_get-set_same grounds id g.0 None g.1),
-          subst (λ (x : Node). IsGroundOf p (restriction_of x) x.fate None) (sym w.1) keeps_none,
+          subst (λ (x : Node). IsGroundOf p (region_of p x) x.fate None) (sym w.1) keeps_none,
         )
     | inr w ↦
         let g = h.each m node w.1 in

@@ -106,7 +106,7 @@ some-completed completed h = grind (arith, nat_tests)
 ready-node : (s : State) (id : BranchId) (node : Node) → IsExamined s id node → node.cut ≡ None → ready_fault s (Some node) ≡ None → IsReady s id node
 ready-node s id node open_node none h =
     let a = when (node.completed == 0) examine_fault.Unpriced in
-    let b = when (is_closable (cutoff_of s) node) (examine_fault.Closable (bound_or_zero (bound_in (Some node))) (cutoff_of s)) in
+    let b = when (is_closable s.unit (cutoff_of s) node) (examine_fault.Closable (bound_or_zero (bound_in (Some node))) (cutoff_of s)) in
     let c = when (not node.settled && nat_lt node.completed MAX_VERSIONS) (examine_fault.Unsettled node.completed) in
     let one = or_else-none a (b or_else c) h in
     let two = or_else-none b c one.1 in

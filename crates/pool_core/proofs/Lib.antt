@@ -13,6 +13,7 @@ pub mod FarPool
 pub mod RoutedPool
 pub mod TaskLaws
 pub mod Leaves
+mod KeptRanges
 pub mod Steps
 pub mod Valuing
 pub mod Settlings

@@ -9,17 +9,17 @@ use Rattle.plan_base.specs.declared.parts.Parts.{Parts}
 use Rattle.plan_base.specs.Facts.{IsInstance}
 use Rattle.plan_base.specs.Places.{places}
 use Rattle.link_steps.specs.Values.{AreStartPrices}
-use Rattle.arc_restrict.specs.Restrictions.{none_forbidden}
+use Rattle.link_steps.specs.Unit.{IsUnit}
 use Rattle.arc_restrict.specs.Prices.{AreWithinLimit}
-use Rattle.arc_restrict.specs.Rows.{Rows, forbids, HasSizeOf}
 use Rattle.column_pool.specs.Columns.{Columns, no_columns}
 use Rattle.pool_machine.specs.declared.limits.TheConstants.{MAX_ROUNDS, MAX_BUDGET}
-use Rattle.pool_machine.specs.State.{Round, Node, State, rounds_in, restriction_of}
+use Rattle.pool_machine.specs.State.{Round, Node, State, rounds_in, region_of}
 use Rattle.pool_machine.specs.Machine.{root_with, IsOpeningState}
 use Rattle.pool_machine.specs.Opening.{IsTaken}
 use Rattle.pool_nodes.specs.Slots.{is_free}
 use Rattle.pool_reading.specs.Views.{AreFreePlaces, HasPlaces, IsKeptPool}
-use Rattle.pool_nodes.specs.Grounds.{IsGroundOf, HasGrounds}
+use Rattle.proof_tree.specs.Regions.{whole}
+use Rattle.pool_nodes.specs.Grounds.{Kept, IsKeptRegion, IsGroundOf, HasGrounds}
 use Rattle.pool_core.specs.Roots.{HasFreeRoot}
 use Rattle.pool_machine.proofs.Lists.{slice_get-append_left, slice_get-append_right}
 use Rattle.pool_machine.proofs.Frames.{one_at}
@@ -90,22 +90,23 @@ module _ (s : State) (prices : List ℕ) (nodes : s.nodes ≡ root_with prices �
         prices = λ k place is. ap (λ (r : Round). length r.prices) (sym (same k place is)) ∙ (free k (Free place) is).4;
       }
 
-  pub opening-grounds : (rows : Rows) → forbids rows ≡ none_forbidden → HasSizeOf s.problem rows → HasGrounds s.problem s.nodes (Some rows ∷ [])
-  opening-grounds rows none size = subst (λ (xs : List Node). HasGrounds s.problem xs (Some rows ∷ [])) (sym nodes) (record {
+  pub opening-grounds : (kept : Kept) → IsKeptRegion s.problem (whole s.problem) kept → HasGrounds s.problem s.nodes (Some kept ∷ [])
+  opening-grounds kept is_whole = subst (λ (xs : List Node). HasGrounds s.problem xs (Some kept ∷ [])) (sym nodes) (record {
     count = refl;
     each = at_root;
   })
     where
-      at_root : (n : ℕ) (node : Node) → slice_get (root_with prices ∷ []) n ≡ Some node → (ground : Option Rows) × (slice_get (Some rows ∷ []) n ≡ Some ground) × IsGroundOf s.problem (restriction_of node) node.fate ground
+      at_root : (n : ℕ) (node : Node) → slice_get (root_with prices ∷ []) n ≡ Some node → (ground : Option Kept) × (slice_get (Some kept ∷ []) n ≡ Some ground) × IsGroundOf s.problem (region_of s.problem node) node.fate ground
       at_root zero node is =
           let same : root_with prices ≡ node = cc in
-          (Some rows, refl, subst (λ (x : Node). IsGroundOf s.problem (restriction_of x) x.fate (Some rows)) same (none, size))
+          (Some kept, refl, subst (λ (x : Node). IsGroundOf s.problem (region_of s.problem x) x.fate (Some kept)) same is_whole)
       at_root (suc n) node is = let bad : ◌≡◌ {A = Option Node} None (Some node) = is in absurd (cc)
 
 -- the state before any event
-abbrev pub opening_with : Parts → ℕ → List ℕ → State
-opening_with p budget prices = record {
+abbrev pub opening_with : Parts → ℕ → ℕ → List ℕ → State
+opening_with p unit budget prices = record {
   problem = p;
+  unit = unit;
   nodes = root_with prices ∷ [];
   columns = no_columns p;
   incumbent = None;
@@ -115,35 +116,35 @@ opening_with p budget prices = record {
   accepted = 0;
 }
 
-module _ (p : Parts) (budget : ℕ) (prices : List ℕ) (lawful : IsInstance p) (start : AreStartPrices p prices) (within : AreWithinLimit p prices) where
-  pub opening-state : IsOpeningState p budget (opening_with p budget prices)
-  opening-state = record { lawful = lawful; prices = prices; are_start = start; within_limit = within; is_state = refl }
+module _ (p : Parts) (unit budget : ℕ) (prices : List ℕ) (lawful : IsInstance p) (is_unit : IsUnit p unit) (start : AreStartPrices p prices) (within : AreWithinLimit p prices) where
+  pub opening-state : IsOpeningState p budget (opening_with p unit budget prices)
+  opening-state = record { lawful = lawful; unit = unit; is_unit = is_unit; prices = prices; are_start = start; within_limit = within; is_state = refl }
 
-  pub opening-kept : (table : Parts) (rows : Rows) (slots : List Slot) → 0 < budget → budget ≤ MAX_BUDGET → table ≡ p
-      → AreFreePlaces MAX_ROUNDS (length p.demands) (places p) slots → forbids rows ≡ none_forbidden → HasSizeOf p rows
-      → IsKeptPool (opening_with p budget prices) table (Some rows ∷ []) slots
-  opening-kept table rows slots some most same free none size = record {
+  pub opening-kept : (table : Parts) (kept : Kept) (slots : List Slot) → 0 < budget → budget ≤ MAX_BUDGET → table ≡ p
+      → AreFreePlaces MAX_ROUNDS (length p.demands) (places p) slots → IsKeptRegion p (whole p) kept
+      → IsKeptPool (opening_with p unit budget prices) table (Some kept ∷ []) slots
+  opening-kept table kept slots some most same free is_whole = record {
     pool = record {
       some_budget = some;
       budget = most;
-      reachable = record { opening = opening_with p budget prices; entries = []; is_opening = opening-state; run = refl };
-      has_places = opening-slots (opening_with p budget prices) prices refl slots free;
+      reachable = record { opening = opening_with p unit budget prices; entries = []; is_opening = opening-state; run = refl };
+      has_places = opening-slots (opening_with p unit budget prices) prices refl slots free;
     };
     table_is = same;
-    has_grounds = opening-grounds (opening_with p budget prices) prices refl rows none size;
+    has_grounds = opening-grounds (opening_with p unit budget prices) prices refl kept is_whole;
   }
 
   -- the same on the pool's own fields
-  pub opening-kept-at : (table : Parts) (nodes : List Node) (columns : Columns) (grounds : List (Option Rows)) (slots : List Slot) → 0 < budget → budget ≤ MAX_BUDGET → table ≡ p
+  pub opening-kept-at : (table : Parts) (nodes : List Node) (columns : Columns) (grounds : List (Option Kept)) (slots : List Slot) → 0 < budget → budget ≤ MAX_BUDGET → table ≡ p
       → AreFreePlaces MAX_ROUNDS (length p.demands) (places p) slots → HasFreeRoot p grounds → nodes ≡ root_with prices ∷ [] → columns ≡ no_columns p
-      → IsKeptPool (record (opening_with p budget prices) { nodes = nodes; columns = columns }) table grounds slots
+      → IsKeptPool (record (opening_with p unit budget prices) { nodes = nodes; columns = columns }) table grounds slots
   opening-kept-at table nodes columns grounds slots some most same free root is_nodes is_columns =
-      let kept = opening-kept table root.rows slots some most same free root.empty root.size in
-      subst (λ (cs : Columns). IsKeptPool (record (opening_with p budget prices) { nodes = nodes; columns = cs }) table grounds slots) (sym is_columns)
-      (subst (λ (xs : List Node). IsKeptPool (record (opening_with p budget prices) { nodes = xs }) table grounds slots) (sym is_nodes)
-      (subst (λ (xs : List (Option Rows)). IsKeptPool (opening_with p budget prices) table xs slots) (sym root.is_ground) kept))
+      let kept = opening-kept table root.kept slots some most same free root.is_whole in
+      subst (λ (cs : Columns). IsKeptPool (record (opening_with p unit budget prices) { nodes = nodes; columns = cs }) table grounds slots) (sym is_columns)
+      (subst (λ (xs : List Node). IsKeptPool (record (opening_with p unit budget prices) { nodes = xs }) table grounds slots) (sym is_nodes)
+      (subst (λ (xs : List (Option Kept)). IsKeptPool (opening_with p unit budget prices) table xs slots) (sym root.is_ground) kept))
 
-  pub opening-state-at : (nodes : List Node) (columns : Columns) → nodes ≡ root_with prices ∷ [] → columns ≡ no_columns p → IsOpeningState p budget (record (opening_with p budget prices) { nodes = nodes; columns = columns })
+  pub opening-state-at : (nodes : List Node) (columns : Columns) → nodes ≡ root_with prices ∷ [] → columns ≡ no_columns p → IsOpeningState p budget (record (opening_with p unit budget prices) { nodes = nodes; columns = columns })
   opening-state-at nodes columns is is_columns =
-      subst (λ (cs : Columns). IsOpeningState p budget (record (opening_with p budget prices) { nodes = nodes; columns = cs })) (sym is_columns)
-      (subst (λ (xs : List Node). IsOpeningState p budget (record (opening_with p budget prices) { nodes = xs })) (sym is) opening-state)
+      subst (λ (cs : Columns). IsOpeningState p budget (record (opening_with p unit budget prices) { nodes = nodes; columns = cs })) (sym is_columns)
+      (subst (λ (xs : List Node). IsOpeningState p budget (record (opening_with p unit budget prices) { nodes = xs })) (sym is) opening-state)

@@ -8,7 +8,7 @@ use Rattle.plan_base.specs.declared.ids.BranchId.{BranchId}
 use Rattle.plan_base.specs.declared.parts.Parts.{Parts}
 use Rattle.plan_base.specs.First.{◌or_else◌, when}
 use Rattle.plan_base.proofs.FirstFault.{or_else-none, when-none}
-use Rattle.arc_restrict.specs.Rows.{Rows}
+use Rattle.pool_nodes.specs.Grounds.{Kept}
 use Rattle.path_pricing.specs.declared.priced.Priced.{Priced}
 use Rattle.path_pricing.specs.declared.priced.Priced.TheVariants as priced
 use Rattle.path_pricing.specs.declared.priced.Unfit.{Unfit}
@@ -16,6 +16,7 @@ use Rattle.path_pricing.specs.Priced.{IsLeastPath}
 use Rattle.path_pricing.specs.Faults.{priced_fault}
 use Rattle.path_pricing.proofs.FaultLaws.{IsPriced-priced_fault}
 use Rattle.pool_machine.specs.declared.answers.Offer.{Offer}
+use Rattle.branch_tree.specs.declared.node.Fate.TheVariants.{Undone}
 use Rattle.pool_machine.specs.declared.answers.Offered.{Offered}
 use Rattle.pool_machine.specs.declared.answers.Offered.TheVariants as offered
 use Rattle.pool_machine.specs.declared.tree.Found.{Found}
@@ -218,6 +219,12 @@ module _ (s : State) (offer : Offer) (may : MayOffer s offer) (item : Node) (rea
   item-is : item ≡ may.node
   item-is = read ∙ get_or_from_slice_get s.nodes offer.node.0 may.node item may.fits.is_node
 
+  pub put-limits : item.limits ≡ may.node.limits
+  put-limits = ap (λ (x : Node). x.limits) item-is
+
+  pub offer-undone : IsSound s → may.node.fate ≡ Undone
+  offer-undone sound = (round_at s offer.node.0 may.node may.round sound may.fits.is_node may.fits.is_round).0
+
   pub offer-within : offer.node.0 < length s.nodes
   offer-within = slice_get_within s.nodes offer.node.0 may.node may.fits.is_node
 
@@ -241,7 +248,7 @@ module _ (s : State) (offer : Offer) (may : MayOffer s offer) (item : Node) (rea
       becomes = ap (with_node s offer.node) cut-is;
     }
 
-    pub cut-kept : (table : Parts) (grounds : List (Option Rows)) (places : List Slot) → IsKeptPool s table grounds places → IsKeptPool (with_node s offer.node new) table grounds places
+    pub cut-kept : (table : Parts) (grounds : List (Option Kept)) (places : List Slot) → IsKeptPool s table grounds places → IsKeptPool (with_node s offer.node new) table grounds places
     cut-kept table grounds places h = record {
       pool = record {
         reachable = IsReachable-step s (with_node s offer.node new) (Offering offer) (to_offering offered.CutTaken) h.pool.reachable takes-cut;
@@ -298,7 +305,7 @@ module _ (s : State) (offer : Offer) (may : MayOffer s offer) (item : Node) (rea
         becomes = ap (λ (n : ℕ). let t : State = record s { nodes = set s.nodes offer.node.0 new; accepted = n } in t) risen;
       }
 
-      pub accepted-kept : (table : Parts) (grounds : List (Option Rows)) (places : List Slot) → IsKeptPool s table grounds places → IsKeptPool after table grounds places
+      pub accepted-kept : (table : Parts) (grounds : List (Option Kept)) (places : List Slot) → IsKeptPool s table grounds places → IsKeptPool after table grounds places
       accepted-kept table grounds places h = record {
         pool = record {
           reachable = IsReachable-step s after (Offering offer) (to_offering (offered.Accepted left)) h.pool.reachable accepts;

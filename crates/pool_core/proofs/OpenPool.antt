@@ -31,7 +31,7 @@ use Rattle.pool_core.proofs.Answering.{is_spent-false}
 use Rattle.pool_nodes.proofs.Grounds.{HasGrounds-set}
 use Rattle.pool_machine.proofs.Opening.{none_found}
 use Rattle.pool_nodes.proofs.Completing.{TakesRound-round, TakesRound-limits, TakesRound-fate, TakesRound-from}
-use Rattle.arc_restrict.specs.Rows.{Rows}
+use Rattle.pool_nodes.specs.Grounds.{Kept}
 use Rattle.pool_nodes.specs.Rounds.{MayComplete}
 
 -- the node waits, and there is room
@@ -131,10 +131,14 @@ module _ (s : State) (places : List Slot) (id : BranchId) (slot : ℕ) (h : IsPo
           let make : Node → Round → Node = λ x r. record x { round = Some r } in
           begun ∙ (ap₂ (λ (x : Node) (r : Round). make x (begun_round r x.first_prices)) item_is place_is ∙ ap (make may.node) is_empty)
 
+      pub begun-limits : mid.limits ≡ may.node.limits
+      begun-limits = ap (λ (x : Node). x.limits) mid_is
+
       pub begun-ready : MayComplete s.problem mid
       begun-ready = subst (MayComplete s.problem) (sym mid_is) (record {
         undone = may.undone;
         price_count = at_node.first_prices.count;
+        ranges = at_node.ranges;
         version_count = at_node.version_count;
         is_sound = empty-sound;
       })
@@ -226,7 +230,7 @@ module _ (s : State) (places : List Slot) (id : BranchId) (slot : ℕ) (h : IsPo
       has_places = has_places;
     }
 
-    pub opened-kept : (table : Parts) (grounds : List (Option Rows)) (item : Node) (left : Slot) → item ≡ get_or s.nodes id.0 item → left ≡ Of id → IsKeptPool s table grounds places
+    pub opened-kept : (table : Parts) (grounds : List (Option Kept)) (item : Node) (left : Slot) → item ≡ get_or s.nodes id.0 item → left ≡ Of id → IsKeptPool s table grounds places
         → IsKeptPool next table grounds (set places slot left)
     opened-kept table grounds item left at_item none kept =
         let same : item ≡ may.node = at_item ∙ get_or_from_slice_get s.nodes id.0 may.node item may.is_node in

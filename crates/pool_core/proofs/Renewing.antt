@@ -5,7 +5,7 @@ use Rattle.std.proofs.lemmas.List.{length-replicate}
 use Rattle.std.proofs.lemmas.Option.{slice_get_within, get_or_from_slice_get}
 use Rattle.plan_base.specs.declared.ids.BranchId.{BranchId}
 use Rattle.plan_base.specs.declared.parts.Parts.{Parts}
-use Rattle.arc_restrict.specs.Rows.{Rows}
+use Rattle.pool_nodes.specs.Grounds.{Kept}
 use Rattle.pool_machine.specs.declared.answers.Publish.TheVariants as publish
 use Rattle.pool_machine.specs.declared.limits.TheConstants.{MAX_ROUNDS}
 use Rattle.branch_tree.specs.declared.node.Fate.TheVariants.{Undone}
@@ -65,8 +65,8 @@ module _ (s : State) (places : List Slot) (id : BranchId) (seen : ℕ) (prices :
   at_node : IsSoundNode s.problem to.node
   at_node = node_at s id.0 to.node (IsReachable-sound s h.reachable) is_node
 
-  undone : to.node.fate ≡ Undone
-  undone = (rw is_round at (at_node.round)).0
+  pub renew-undone : to.node.fate ≡ Undone
+  renew-undone = (rw is_round at (at_node.round)).0
 
   had-sound : IsSoundRound s.problem (restriction_of to.node) to.round
   had-sound = (rw is_round at (at_node.round)).1
@@ -115,10 +115,14 @@ module _ (s : State) (places : List Slot) (id : BranchId) (seen : ℕ) (prices :
           let none : ℕ → Round = λ n. record { slot = to.round.slot; version = s.next_version; prices = prices; found = replicate n None } in
           at ∙ ap (λ (n : ℕ). make to.node (none n)) had-sound.count
 
+      pub renewed-limits : mid.limits ≡ to.node.limits
+      renewed-limits = ap (λ (x : Node). x.limits) mid_is
+
       pub renewed-ready : MayComplete s.problem mid
       renewed-ready = subst (MayComplete s.problem) (sym mid_is) (record {
-        undone = undone;
+        undone = renew-undone;
         price_count = at_node.first_prices.count;
+        ranges = at_node.ranges;
         version_count = at_node.version_count;
         is_sound = empty-sound;
       })
@@ -152,7 +156,7 @@ module _ (s : State) (places : List Slot) (id : BranchId) (seen : ℕ) (prices :
         let p = HasPlaces-slot s id to.node after to.round empty is_node is_round (TakesRound-round s.problem marked empty after takes) refl places s.accepted h.has_places in
         record { count = p.count; total = p.total; taken = p.taken; free = p.free; slot_is = p.slot_is; demands = p.demands; prices = p.prices }
 
-    pub renewed-kept : (table : Parts) (grounds : List (Option Rows)) (item : Node) → item ≡ get_or s.nodes id.0 item → IsKeptPool s table grounds places → IsKeptPool next table grounds places
+    pub renewed-kept : (table : Parts) (grounds : List (Option Kept)) (item : Node) → item ≡ get_or s.nodes id.0 item → IsKeptPool s table grounds places → IsKeptPool next table grounds places
     renewed-kept table grounds item at_item kept =
         let same : item ≡ to.node = at_item ∙ get_or_from_slice_get s.nodes id.0 to.node item is_node in
         record {

@@ -3,7 +3,9 @@ pub mod Valuing
 pub mod Foretold
 pub mod Children
 pub mod Roots
+pub mod Routes
 pub use Rattle.pool_reading.specs.Views
+pub use Rattle.pool_reading.specs.OpenBounds
 pub use Rattle.pool_machine.specs.State
 pub use Rattle.pool_machine.specs.Opening
 pub use Rattle.pool_machine.specs.Offering

@@ -42,11 +42,13 @@ pub struct Pool {
     alloc: Global,
     problem: Arc<Instance>,
     table: Arc<StepTable>,
+    /// What all costs are multiples of, in cost grains.
+    unit: u128,
     nodes: Vec<PoolNode>,
     columns: ColumnPool,
     /// Where steps are tried; no part of the state.
     room: Room,
-    /// For each node what is forbidden there, while it is an open leaf.
+    /// For each node its region, while it is an open leaf.
     grounds: Vec<Ground>,
     /// The slots of rounds, 64.
     places: Vec<Slot>,
@@ -72,6 +74,7 @@ impl Model for Pool {
 
     ghost view = { λ a. record {
       problem = arc_value a.problem;
+      unit = a.unit;
       nodes = a.nodes.items;
       columns = a.columns;
       incumbent = a.incumbent;
@@ -83,6 +86,7 @@ impl Model for Pool {
 
     ghost invariant = { λ a. IsFittedPool (record {
       problem = arc_value a.problem;
+      unit = a.unit;
       nodes = a.nodes.items;
       columns = a.columns;
       incumbent = a.incumbent;
@@ -109,6 +113,7 @@ impl Pool {
             alloc: self.alloc,
             problem: &*self.problem,
             table: &*self.table,
+            unit: self.unit,
             nodes: self.nodes.as_slice(),
             columns: &self.columns,
             grounds: self.grounds.as_slice(),
@@ -151,7 +156,8 @@ impl Pool {
         let version = self.next_version;
         let opened = &mut self.nodes[node.0 as usize];
         opened.begin(place, version);
-        opened.complete(&*self.problem, &*self.table);
+        let ranges = self.grounds[node.0 as usize].ranges().unwrap();
+        opened.complete(&*self.problem, &*self.table, &**ranges);
         self.next_version = version + 1;
         Ok(Opened {
             slot: slot as u32,

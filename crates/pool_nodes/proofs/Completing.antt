@@ -13,6 +13,7 @@ use Rattle.plan_base.specs.Places.{place_of}
 use Rattle.plan_base.proofs.PathLaws.{length-IsSimplePath}
 use Rattle.arc_restrict.specs.Restrictions.{Forbidden}
 use Rattle.arc_restrict.specs.Prices.{AreWithinLimit, IsLeastPrice}
+use Rattle.link_steps.specs.declared.range.LoadRange.{LoadRange}
 use Rattle.path_pricing.specs.Priced.{IsLeastPath}
 use Rattle.bound_assembly.specs.declared.limits.TheConstants.{MAX_PATH_LINKS}
 use Rattle.bound_assembly.specs.Rounds.{RoundState}
@@ -21,7 +22,7 @@ use Rattle.bound_assembly.proofs.LeastLengths.{round_bound-bound, round_crowd-cl
 use Rattle.pool_machine.specs.declared.tree.Found.{Found}
 use Rattle.branch_tree.specs.declared.node.Fate.{Fate}
 use Rattle.branch_tree.specs.declared.node.Fate.TheVariants.{Undone}
-use Rattle.pool_machine.specs.State.{Round, Best, Node, restriction_of, left_of}
+use Rattle.pool_machine.specs.State.{Round, Best, Node, restriction_of, ranges_of, region_of, left_of}
 use Rattle.pool_machine.specs.Changes.{better_of, KeepsCrowd, TakesRound}
 use Rattle.pool_machine.specs.Offering.{with_found}
 use Rattle.pool_machine.specs.Nodes.{IsSoundRound, IsSoundNode}
@@ -37,13 +38,13 @@ kept_count lengths found n kept is = ap length kept.same ∙ (length-map_price f
 pub kept_short : (p : Parts) (lengths : RoundState) (found : List (Option Found)) → IsKeptRound lengths found → AreShort p (map price_in found) → AreShort p lengths.lengths
 kept_short p lengths found kept short = subst (AreShort p) (sym kept.same) short
 
-pub kept_bound : (p : Parts) (lengths : RoundState) (found : List (Option Found)) (bound : Option ℤ) → IsKeptRound lengths found
-    → IfSome bound (IsRoundBound p lengths.prices lengths.lengths) → IfSome bound (IsRoundBound p lengths.prices (map price_in found))
-kept_bound p lengths found bound kept is = subst (λ (ls : List (Option ℕ)). IfSome bound (IsRoundBound p lengths.prices ls)) kept.same is
+pub kept_bound : (p : Parts) (ranges : List LoadRange) (lengths : RoundState) (found : List (Option Found)) (bound : Option ℤ) → IsKeptRound lengths found
+    → IfSome bound (IsRoundBound p ranges lengths.prices lengths.lengths) → IfSome bound (IsRoundBound p ranges lengths.prices (map price_in found))
+kept_bound p ranges lengths found bound kept is = subst (λ (ls : List (Option ℕ)). IfSome bound (IsRoundBound p ranges lengths.prices ls)) kept.same is
 
-pub kept_crowd : (p : Parts) (lengths : RoundState) (found : List (Option Found)) (crowded : Bool) → IsKeptRound lengths found
-    → IsTrue crowded ↔ IsRoundCrowd p lengths.prices lengths.lengths → IsTrue crowded ↔ IsRoundCrowd p lengths.prices (map price_in found)
-kept_crowd p lengths found crowded kept is = subst (λ (ls : List (Option ℕ)). IsTrue crowded ↔ IsRoundCrowd p lengths.prices ls) kept.same is
+pub kept_crowd : (p : Parts) (ranges : List LoadRange) (lengths : RoundState) (found : List (Option Found)) (crowded : Bool) → IsKeptRound lengths found
+    → IsTrue crowded ↔ IsRoundCrowd p ranges lengths.prices lengths.lengths → IsTrue crowded ↔ IsRoundCrowd p ranges lengths.prices (map price_in found)
+kept_crowd p ranges lengths found crowded kept is = subst (λ (ls : List (Option ℕ)). IsTrue crowded ↔ IsRoundCrowd p ranges lengths.prices ls) kept.same is
 
 pub ruleset bounded_rounds = (left_of_kept, kept_count, kept_short, kept_bound, kept_crowd)
 
@@ -111,11 +112,11 @@ module _ (p : Parts) (r : Forbidden) (round : Round) (inst : IsInstance p) (h : 
 
 -- A version that becomes complete
 
--- the round shows that it crowds the links, and the node has its prices as crowd proof; or else what it had
-abbrev pub TakesCrowd : Parts → Round → Option (List ℕ) → Option (List ℕ) → Type 0
-TakesCrowd p round old new =
-    (IsRoundCrowd p round.prices (lengths_of round) × (new ≡ Some round.prices))
-    ⊎ ((IsRoundCrowd p round.prices (lengths_of round) → ⊥) × (new ≡ old))
+-- the round shows that it crowds the links in their ranges, and the node has its prices as crowd proof; or else what it had
+abbrev pub TakesCrowd : Parts → List LoadRange → Round → Option (List ℕ) → Option (List ℕ) → Type 0
+TakesCrowd p ranges round old new =
+    (IsRoundCrowd p ranges round.prices (lengths_of round) × (new ≡ Some round.prices))
+    ⊎ ((IsRoundCrowd p ranges round.prices (lengths_of round) → ⊥) × (new ≡ old))
 
 module _ (p : Parts) (old : Node) (round : Round) (is : old.round ≡ Some round) where
   -- a round that is not complete changes nothing
@@ -123,22 +124,24 @@ module _ (p : Parts) (old : Node) (round : Round) (is : old.round ≡ Some round
   goes-on left = inr (record { incomplete = left; becomes = ap (λ (o : Option Round). let x : Node = record old { round = o } in x) is })
 
   module _ (inst : IsInstance p) (h : IsSoundRound p (restriction_of old) round) where
-    keeps-crowd : (bound : ℤ) (crowd : Option (List ℕ)) → IsRoundBound p round.prices (lengths_of round) bound → TakesCrowd p round old.crowd crowd → KeepsCrowd p old round.prices crowd
+    keeps-crowd : (bound : ℤ) (crowd : Option (List ℕ)) → IsRoundBound p (ranges_of p old) round.prices (lengths_of round) bound → TakesCrowd p (ranges_of p old) round old.crowd crowd
+        → KeepsCrowd p old round.prices crowd
     keeps-crowd bound crowd all takes =
-        let r = restriction_of old in
-        let least = lengths-least p r round inst h in
+        let g = region_of p old in
+        let least = lengths-least p (restriction_of old) round inst h in
         elim takes [
-          | inl w ↦ inl (round_crowd-closed p r round.prices (lengths_of round) h.prices.within_limit least w.0, w.1)
-          | inr w ↦ inr ((λ closed. w.0 (closed-round_crowd p r round.prices (lengths_of round) all.complete least closed)), w.1)
+          | inl w ↦ inl (round_crowd-closed p g round.prices (lengths_of round) h.prices.within_limit least w.0, w.1)
+          | inr w ↦ inr ((λ closed. w.0 (closed-round_crowd p g round.prices (lengths_of round) all.complete least closed)), w.1)
         ]
 
-    pub completes : (bound : ℤ) (crowd : Option (List ℕ)) (new : Node) → left_of round ≡ 0 → IsRoundBound p round.prices (lengths_of round) bound → TakesCrowd p round old.crowd crowd
+    pub completes : (bound : ℤ) (crowd : Option (List ℕ)) (new : Node) → left_of round ≡ 0 → IsRoundBound p (ranges_of p old) round.prices (lengths_of round) bound
+        → TakesCrowd p (ranges_of p old) round old.crowd crowd
         → new ≡ record old { best = Some (better_of old.best bound round.prices); completed = suc old.completed; crowd = crowd } → TakesRound p old round new
     completes bound crowd new complete all takes becomes = inl (record {
       complete = complete;
       bound = bound;
       crowd = crowd;
-      is_bound = round_bound-bound p (restriction_of old) round.prices (lengths_of round) bound (lengths-least p (restriction_of old) round inst h) all;
+      is_bound = round_bound-bound p (region_of p old) round.prices (lengths_of round) bound (lengths-least p (restriction_of old) round inst h) all;
       is_crowd = keeps-crowd bound crowd all takes;
       becomes = becomes ∙ ap (λ (o : Option Round). let x : Node = record old { best = Some (better_of old.best bound round.prices); completed = suc old.completed; crowd = crowd; round = o } in x) is;
     })
@@ -171,12 +174,14 @@ module _ (p : Parts) (old : Node) (round : Round) (is : old.round ≡ Some round
   pub ready-fits : (prices : List ℕ) → prices ≡ round.prices → length prices ≡ length old.first_prices
   ready-fits prices same = ap length same ∙ (ready-sound.prices.count ∙ sym ready.price_count)
 
-  pub completed-with : (bound : ℤ) (prices : List ℕ) (best : Option Best) (crowd : Option (List ℕ)) → prices ≡ round.prices → left_of round ≡ 0
-      → IsRoundBound p round.prices (lengths_of round) bound → best ≡ Some (better_of old.best bound prices) → TakesCrowd p round old.crowd crowd
+  pub completed-with : (ranges : List LoadRange) (bound : ℤ) (prices : List ℕ) (best : Option Best) (crowd : Option (List ℕ)) → ranges ≡ ranges_of p old → prices ≡ round.prices → left_of round ≡ 0
+      → IsRoundBound p ranges round.prices (lengths_of round) bound → best ≡ Some (better_of old.best bound prices) → TakesCrowd p ranges round old.crowd crowd
       → TakesRound p old round (record old { best = best; completed = old.completed + 1; crowd = crowd })
-  completed-with bound prices best crowd same none all is_best takes =
+  completed-with ranges bound prices best crowd mine same none all is_best takes =
       let better : best ≡ Some (better_of old.best bound round.prices) = is_best ∙ ap (λ (ps : List ℕ). Some (better_of old.best bound ps)) same in
-      completes p old round is inst ready-sound bound crowd (record old { best = best; completed = old.completed + 1; crowd = crowd }) none all takes
+      completes p old round is inst ready-sound bound crowd (record old { best = best; completed = old.completed + 1; crowd = crowd }) none
+      (subst (λ (rs : List LoadRange). IsRoundBound p rs round.prices (lengths_of round) bound) mine all)
+      (subst (λ (rs : List LoadRange). TakesCrowd p rs round old.crowd crowd) mine takes)
       (ap₂ (λ (b : Option Best) (n : ℕ). let x : Node = record old { best = b; completed = n; crowd = crowd } in x) better (add-one old.completed))
 
 -- the round is that of the node before
@@ -230,6 +235,7 @@ module _ (p : Parts) (old : Node) (demand : ℕ) (found : Found) (h : IsSoundNod
           subst (MayComplete p) (sym is) (record {
             undone = facts.0;
             price_count = h.first_prices.count;
+            ranges = h.ranges;
             version_count = h.version_count;
             is_sound = with_found-sound p (restriction_of old) round demand found facts.1 may.1;
           })

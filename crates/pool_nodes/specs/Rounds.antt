@@ -3,6 +3,7 @@ use Rattle.std.specs.Prelude.{ℕ, ◌≡◌, ◌≤◌, Bool, not, false, List,
 use Rattle.plan_base.specs.declared.parts.Parts.{Parts}
 use Rattle.plan_base.specs.declared.ids.BranchId.{BranchId}
 use Rattle.plan_base.specs.Places.{places}
+use Rattle.link_steps.specs.Ranges.{AreRanges}
 use Rattle.dual_versions.specs.declared.published.Published.{Published}
 use Rattle.bound_assembly.specs.Rounds.{RoundState}
 use Rattle.proof_tree.specs.declared.tree.Evidence.{Evidence}
@@ -18,7 +19,7 @@ use Rattle.pool_machine.specs.declared.tree.Found.{Found}
 use Rattle.pool_machine.specs.declared.tree.HeldCut.{HeldCut}
 use Rattle.branch_tree.specs.declared.node.Fate.{Fate}
 use Rattle.branch_tree.specs.declared.node.Fate.TheVariants.{Undone}
-use Rattle.pool_machine.specs.State.{Round, Best, Node, restriction_of, kept_prices}
+use Rattle.pool_machine.specs.State.{Round, Best, Node, restriction_of, ranges_of, kept_prices}
 
 -- the prices and version of the round, under this node, where it has the slot; else nothing
 abbrev pub IsPublishedBy : Option Round → BranchId → ℕ → Option Published → Type 0
@@ -76,10 +77,11 @@ abbrev pub is_below : Option ℤ → ℤ → Bool
 is_below None bound = true
 is_below (Some held) bound = int_lt held bound
 
--- an open leaf, whose round is sound, with one first price for each place and not too many complete versions
+-- an open leaf, whose round is sound, with one first price for each place, ranges with loads and not too many complete versions
 pub record MayComplete (p : Parts) (node : Node) : Type 0 where
   pub undone : node.fate ≡ Undone
   pub price_count : length node.first_prices ≡ places p
+  pub ranges : AreRanges p (ranges_of p node)
   pub version_count : node.completed ≤ MAX_VERSIONS
   pub is_sound : IfSome node.round (λ round. IsSoundRound p (restriction_of node) round)
 

@@ -1,4 +1,4 @@
-//! What the pool keeps of a node: the node itself, the place of its round, and the restriction of an open leaf.
+//! What the pool keeps of a node: the node itself, the place of its round, and the region of an open leaf.
 //!
 //! Promises that each change of a node is the one that the events of `pool_machine` make of it, and that none but a new
 //! node takes memory. Begin at `PoolNode` and `PoolRound`; what they keep beside a node of the machine stands in
@@ -15,9 +15,9 @@ mod round;
 mod shared;
 mod slot;
 
-pub use ground::Ground;
+pub use ground::{Ground, Plot};
 pub use node::PoolNode;
-pub use rank::Rank;
+pub use rank::{Rank, lesser};
 pub use reason::Reason;
 pub use round::PoolRound;
 pub use slot::{Slot, first_free, free_count, give_back, holder};

@@ -16,7 +16,7 @@ mod working;
 
 use crate::rank::{Rank, depth_below, either};
 use crate::round::PoolRound;
-use branch_tree::Limit;
+use branch_tree::{Limit, LoadSplit};
 use dual_versions::Published;
 use plan_base::{BranchId, DemandId, Items, Prices};
 use pool_machine::{Fate, HeldCut, NodeState};
@@ -24,10 +24,10 @@ use std::alloc::AllocError;
 use std::marker::Model;
 use std::sync::Arc;
 
-/// A node: what is forbidden there, what is recorded, what became of it, and its round.
+/// A node: what its splits leave, what is recorded, what became of it, and its round.
 #[derive(Debug, Drop)]
 pub struct PoolNode {
-    /// What the splits above it forbid, the last one first.
+    /// What the splits above it allow less, the last one first.
     limits: Items<Arc<Limit>>,
     first_prices: Prices,
     best_bound: Option<i128>,
@@ -44,6 +44,8 @@ pub struct PoolNode {
     round: Option<PoolRound>,
     /// What was recorded of its parent when it was made, in cost grains.
     above: Option<i128>,
+    /// By which loads it is to be divided; no contract rests on it.
+    split: Option<LoadSplit>,
 }
 
 impl Model for PoolNode {

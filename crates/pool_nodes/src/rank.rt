@@ -1,7 +1,7 @@
-//! By what open leaves are chosen. No contract of a search rests on it.
+//! By what open leaves are chosen, and the lesser of two bounds. No contract of a search rests on the choice.
 
 ghost use Rattle.std.specs.Prelude.{◌≡◌, ◌<◌, ◌^◌, ◌↔◌, Some, None, MatchOption, IsTrue};
-ghost use Rattle.pool_nodes.specs.Ranks.{ComesBefore};
+ghost use Rattle.pool_nodes.specs.Ranks.{ComesBefore, lesser_of};
 
 /// By what an open leaf is chosen.
 #[derive(Clone, Copy, Debug)]
@@ -19,6 +19,17 @@ pub(crate) fn either(bound: Option<i128>, other: Option<i128>) -> Option<i128>
     match bound {
         Some(_) => bound,
         None => other,
+    }
+}
+
+/// The lesser of two bounds, where there are any.
+pub fn lesser(bound: Option<i128>, other: Option<i128>) -> Option<i128>
+    ensures { result ≡ lesser_of bound other }
+{
+    match (bound, other) {
+        (Some(bound), Some(other)) => Some(if other < bound { other } else { bound }),
+        (Some(bound), None) => Some(bound),
+        (None, other) => other,
     }
 }
 

@@ -1,30 +1,29 @@
 -- What a node that may be examined leaves to the demands, and what is forbidden there.
 use Rattle.pool_nodes.specs.declared.slot.Slot.{Slot}
 use Rattle.std.proofs.Common.{[], ◌≡◌, ℕ, ◌<◌, Bool, true, false, not, ◌&&◌, List, length, get_or, Option, Some, None, refl, sym, ap, subst, ◌∙◌, arith}
-use Rattle.std.specs.Prelude.{IsTrue, IfOk, option_map, Result, Ok, Err}
+use Rattle.std.specs.Prelude.{IsTrue, IsSome, is_some, IfOk, Result, Ok, Err}
 use Rattle.plan_base.specs.declared.ids.BranchId.{BranchId}
 use Rattle.plan_base.specs.declared.ids.ArcId.{ArcId}
 use Rattle.plan_base.specs.declared.parts.Parts.{Parts}
 use Rattle.plan_base.specs.Arcs.{is_arc}
 use Rattle.arc_restrict.specs.Restrictions.{Forbidden, HasNoPath}
 use Rattle.std.proofs.lemmas.Option.{slice_get_within, get_or_from_slice_get}
-use Rattle.arc_restrict.specs.Rows.{Rows, forbids, HasSizeOf}
+use Rattle.link_steps.specs.Ranges.{AreRanges}
 use Rattle.path_pricing.specs.Priced.{is_open, IsClosedSet}
 use Rattle.path_pricing.specs.declared.priced.Priced.TheVariants as priced
 use Rattle.path_pricing.proofs.FaultLaws.{priced_fault-IsShown, IsPriced-priced_fault}
 use Rattle.second_path.specs.Others.{IsCutOff, IsFirstEmpty, IsDetermined}
 use Rattle.second_path.specs.declared.determined.Determined.{Determined}
 use Rattle.second_path.specs.declared.determined.Determined.TheVariants as determined
-use Rattle.branch_tree.specs.declared.node.Fate.{Fate}
-use Rattle.branch_tree.specs.declared.node.Fate.TheVariants.{Undone}
-use Rattle.pool_machine.specs.State.{Best, Node, State, restriction_of}
+use Rattle.pool_machine.specs.State.{Best, Node, State, restriction_of, ranges_of, region_of}
 use Rattle.pool_machine.specs.Machine.{IsReachable}
 use Rattle.pool_machine.specs.Nodes.{IsSoundNode, IsSoundBest}
-use Rattle.pool_nodes.specs.Grounds.{IsGroundOf}
+use Rattle.pool_nodes.specs.Grounds.{Kept}
 use Rattle.pool_reading.specs.Views.{IsKeptPool}
 use Rattle.pool_reading.specs.Examining.{IsReadyAt, IsNearAt, IsDeterminedAt}
 use Rattle.pool_machine.proofs.Runs.{IsReachable-sound}
 use Rattle.pool_machine.proofs.Replacing.{node_at}
+use Rattle.pool_reading.proofs.Reading.{HasKept, read-kept}
 
 -- What is determined
 
@@ -55,7 +54,7 @@ best-there (Some b) completed none some = (b, refl)
 never-empty : (p : Parts) (node : Node) (k : ℕ) (set : List Bool) → IsSoundNode p node → 0 < node.completed → IsFirstEmpty p (restriction_of node) k set → ⊥
 never-empty p node k set sound some empty =
     let best = best-there node.best node.completed sound.no_best some in
-    let b : IsSoundBest p (restriction_of node) node.first_prices node.completed best.0 = rw best.1 at (sound.best) in
+    let b : IsSoundBest p (region_of p node) node.first_prices node.completed best.0 = rw best.1 at (sound.best) in
     let least = b.is_bound.are_least k empty.is_demand in
     cut_off-none p (restriction_of node) k set empty.cut_off least.path least.permitted
 
@@ -71,24 +70,20 @@ abbrev pub near-ready : (s : State) (id : BranchId) → IsNearAt s id → IsRead
 near-ready s id at = record { node = at.node; ready = at.ready }
 
 -- The ground of a node that may be examined
-module _ (s : State) (table : Parts) (grounds : List (Option Rows)) (places : List Slot) (h : IsKeptPool s table grounds places) (id : BranchId) (at : IsReadyAt s id) where
+module _ (s : State) (table : Parts) (grounds : List (Option Kept)) (places : List Slot) (h : IsKeptPool s table grounds places) (id : BranchId) (at : IsReadyAt s id) where
   pub ready-node-within : id.0 < length s.nodes
   ready-node-within = slice_get_within s.nodes id.0 at.node at.ready.open_node.is_node
 
   pub ready-ground-within : id.0 < length grounds
   ready-ground-within = subst (λ (n : ℕ). id.0 < n) (sym h.has_grounds.count) (slice_get_within s.nodes id.0 at.node at.ready.open_node.is_node)
 
-  -- it has its restriction in rows of the instance's size
-  pub ready-ground : (ground : Option Rows) → ground ≡ get_or grounds id.0 ground → (rows : Rows) × (ground ≡ Some rows) × (forbids rows ≡ restriction_of at.node) × HasSizeOf s.problem rows
-  ready-ground ground read =
-      let g = h.has_grounds.each id.0 at.node at.ready.open_node.is_node in
-      let same : ground ≡ g.0 = read ∙ get_or_from_slice_get grounds id.0 g.0 ground g.1 in
-      by_cases ground (subst (λ (o : Option Rows). IsGroundOf s.problem (restriction_of at.node) Undone o) (sym same)
-      (subst (λ (f : Fate). IsGroundOf s.problem (restriction_of at.node) f g.0) at.ready.open_node.undone g.2))
-    where
-      by_cases : (o : Option Rows) → IsGroundOf s.problem (restriction_of at.node) Undone o → (rows : Rows) × (o ≡ Some rows) × (forbids rows ≡ restriction_of at.node) × HasSizeOf s.problem rows
-      by_cases None is = absurd is
-      by_cases (Some rows) is = (rows, refl, is.0, is.1)
+  -- it keeps its region
+  pub ready-kept : (ground : Option Kept) → ground ≡ get_or grounds id.0 ground → HasKept s.problem at.node ground
+  ready-kept ground read = read-kept s id grounds at.node ground h.has_grounds at.ready.open_node.is_node at.ready.open_node.undone read
+
+  -- and each place has a load there
+  pub ready-ranges : AreRanges s.problem (ranges_of s.problem at.node)
+  ready-ranges = (node_at s id.0 at.node (IsReachable-sound s h.pool.reachable) at.ready.open_node.is_node).ranges
 
   pub ready-item : (item : Node) → item ≡ get_or s.nodes id.0 item → item ≡ at.node
   ready-item item read = read ∙ get_or_from_slice_get s.nodes id.0 at.node item at.ready.open_node.is_node
@@ -98,9 +93,6 @@ pub determined-ok : {E : Type 0} (s : State) (id : BranchId) (result : Result De
 determined-ok s id (Ok found) r reachable at same h = determined-at s id found r reachable at same h
 determined-ok s id (Err fault) r reachable at same h = tt
 
--- a ground that is there is not read as none
-pub ground-none : {X Y : Type 0} (f : X → Y) (o : Option X) (ground : Option Y) (y : Y) → option_map f o ≡ ground → ground ≡ Some y → o ≡ None → ⊥
-ground-none {X} {Y} f o ground y mapped is none = let bad : ◌≡◌ {A = Option Y} None (Some y) = sym (ap (option_map f) none) ∙ (mapped ∙ is) in absurd (cc)
-
-pub ground-some : {X Y : Type 0} (f : X → Y) (o : Option X) (ground : Option Y) (y : Y) (x : X) → option_map f o ≡ ground → ground ≡ Some y → o ≡ Some x → f x ≡ y
-ground-some {X} {Y} f o ground y x mapped is there = let both : ◌≡◌ {A = Option Y} (Some (f x)) (Some y) = sym (ap (option_map f) there) ∙ (mapped ∙ is) in cc
+-- what is there is not read as none
+pub some-none : {X : Type 0} (o : Option X) → IsSome o → o ≡ None → ⊥
+some-none o some none = let bad : false ≡ true = sym (ap is_some none) ∙ some in absurd (cc)

@@ -1,5 +1,6 @@
 -- The columns that a node permits, and what a master step is told of them.
-use Rattle.std.proofs.Common.{[], ◌≡◌, ℕ, ◌+◌, ◌<◌, ◌⊎◌, inl, inr, List, ◌∷◌, ◌++◌, length, length-append, get_or, Some, refl, sym, ap, subst, ◌∙◌, arith}
+use Rattle.std.proofs.Common.{[], ◌≡◌, ℕ, ◌+◌, ◌<◌, ◌⊎◌, inl, inr, List, ◌∷◌, ◌++◌, length, length-append, get_or, Option, Some, slice_get, refl, sym, ap, subst, ◌∙◌, arith}
+use Rattle.std.specs.Prelude.{IfSome}
 use Rattle.std.proofs.lemmas.List.{get_or_append_left}
 use Rattle.std.proofs.Math.Seq.{get_or-append_seam}
 use Rattle.plan_base.specs.declared.ids.ArcId.{ArcId}
@@ -9,10 +10,11 @@ use Rattle.plan_base.specs.declared.parts.Parts.{Parts}
 use Rattle.arc_restrict.specs.Rows.{Rows, forbids}
 use Rattle.column_pool.specs.Columns.{Columns, columns_at, permitted_at}
 use Rattle.column_pool.specs.declared.brief.Brief.{Brief}
-use Rattle.pool_machine.specs.State.{Round, Node, State, restriction_of, cutoff_of, round_of}
+use Rattle.pool_machine.specs.State.{Round, Node, State, restriction_of, ranges_of, cutoff_of, round_of}
 use Rattle.pool_machine.specs.Changes.{is_version}
 use Rattle.pool_machine.specs.Gathering.{IsBriefOf}
 use Rattle.pool_machine.proofs.Frames.{one_at}
+use Rattle.pool_reading.specs.Work.{enough_in}
 use Rattle.pool_reading.specs.Valuing.{ForRound, ArePermittedLists}
 use Rattle.pool_reading.proofs.TaskLaws.{HasRound}
 use Rattle.pool_reading.proofs.Valuing.{read-node, same-round}
@@ -53,9 +55,11 @@ lists-for s id h p rows lists is_p is_rows are x round is_node is_round =
 
 pub briefs : (s t : State) (id : BranchId) (read : Round) (item : Node) (brief : Brief) → s ≡ t → Some read ≡ round_of t id → item ≡ get_or s.nodes id.0 item
     → brief.node ≡ id → brief.version ≡ read.version → brief.prices ≡ read.prices
+    → IfSome (slice_get t.nodes id.0) (λ x. brief.ranges ≡ ranges_of t.problem x)
     → ForRound t id (λ x round. ArePermittedLists (length t.problem.demands) (restriction_of x) t.columns brief.columns)
-    → brief.crowd_tried ≡ item.crowd_tried → brief.incumbent ≡ cutoff_of t → ForRound t id (λ x round. IsBriefOf t id x round brief)
-briefs s t id read item brief states is_read is_item is_id is_version is_prices lists is_tried is_cost x round is_node is_round =
+    → brief.crowd_tried ≡ item.crowd_tried → brief.has_enough ≡ enough_in t (slice_get t.nodes id.0) → brief.incumbent ≡ cutoff_of t → brief.unit ≡ t.unit
+    → ForRound t id (λ x round. IsBriefOf t id x round brief)
+briefs s t id read item brief states is_read is_item is_id is_version is_prices ranges lists is_tried is_enough is_cost is_unit x round is_node is_round =
     let rounds : read ≡ round = same-round t id read x round is_read is_node is_round in
     let nodes : item ≡ x = read-node s t id item x states is_item is_node in
     let are = lists x round is_node is_round in
@@ -63,8 +67,11 @@ briefs s t id read item brief states is_read is_item is_id is_version is_prices 
       node_is = is_id;
       version = is_version ∙ ap (λ (r : Round). r.version) rounds;
       prices = is_prices ∙ ap (λ (r : Round). r.prices) rounds;
+      ranges = subst (λ (o : Option Node). IfSome o (λ (n : Node). brief.ranges ≡ ranges_of t.problem n)) is_node ranges;
       count = are.count_is;
       columns = are.each;
       crowd_tried = is_tried ∙ ap (λ (n : Node). n.crowd_tried) nodes;
+      has_enough = is_enough ∙ ap (enough_in t) is_node;
       incumbent = is_cost;
+      unit = is_unit;
     }

@@ -5,15 +5,15 @@ use Rattle.std.specs.Prelude.{Result, Ok, Err, IfOk, is_some, option_map, option
 use Rattle.std.proofs.lemmas.Option.{slice_get_within, slice_get-get_or, get_or_from_slice_get}
 use Rattle.plan_base.specs.declared.ids.BranchId.{BranchId}
 use Rattle.plan_base.specs.declared.parts.Parts.{Parts}
-use Rattle.arc_restrict.specs.Restrictions.{Forbidden}
-use Rattle.arc_restrict.specs.Rows.{Rows, forbids}
+use Rattle.link_steps.specs.declared.range.LoadRange.{LoadRange}
+use Rattle.arc_restrict.specs.Rows.{Rows, forbids, HasSizeOf}
 use Rattle.path_pricing.specs.Priced.{ArePrices}
 use Rattle.branch_tree.specs.declared.node.Fate.{Fate}
 use Rattle.branch_tree.specs.declared.node.Fate.TheVariants.{Undone}
-use Rattle.pool_machine.specs.State.{Node, State, restriction_of}
+use Rattle.pool_machine.specs.State.{Node, State, restriction_of, ranges_of, region_of}
 use Rattle.pool_machine.specs.Nodes.{IsSoundRound}
 use Rattle.pool_machine.specs.Soundness.{IsSound}
-use Rattle.pool_nodes.specs.Grounds.{IsGroundOf, HasGrounds}
+use Rattle.pool_nodes.specs.Grounds.{Kept, rows_in, ranges_in, IsKeptRegion, IsGroundOf, HasGrounds}
 use Rattle.pool_reading.specs.Views.{IsPool}
 use Rattle.pool_machine.proofs.Replacing.{node_at}
 use Rattle.pool_machine.proofs.Small.{IsSound-nodes}
@@ -26,21 +26,29 @@ sound-round s id sound h = let in_round = rw h.is_round at ((node_at s id.0 h.no
 pub round-prices : (s : State) (id : BranchId) → IsSound s → (h : HasRound s id) → ArePrices s.problem h.round.prices
 round-prices s id sound h = let prices = (sound-round s id sound h).prices in record { count = prices.count; within_limit = prices.within_limit }
 
--- the ground of a node with a round
-pub record HasRows (s : State) (id : BranchId) (grounds : List (Option Rows)) (node : Node) : Type 0 where
-  pub rows : Rows
-  pub is_ground : slice_get grounds id.0 ≡ Some (Some rows)
-  pub forbids_is : forbids rows ≡ restriction_of node
+-- a ground keeps the region of the node
+pub record HasKept (p : Parts) (node : Node) (ground : Option Kept) : Type 0 where
+  pub kept : Kept
+  pub is_ground : ground ≡ Some kept
+  pub is_region : IsKeptRegion p (region_of p node) kept
 
-rows-by : (p : Parts) (r : Forbidden) (ground : Option Rows) → IsGroundOf p r Undone ground → (rows : Rows) × (ground ≡ Some rows) × (forbids rows ≡ r)
-rows-by p r None h = absurd h
-rows-by p r (Some rows) h = (rows, refl, h.0)
+kept-by : (p : Parts) (node : Node) (ground : Option Kept) → IsGroundOf p (region_of p node) Undone ground → HasKept p node ground
+kept-by p node None h = absurd h
+kept-by p node (Some kept) h = record { kept = kept; is_ground = refl; is_region = h }
 
-pub has-rows : (s : State) (id : BranchId) (grounds : List (Option Rows)) → IsSound s → HasGrounds s.problem s.nodes grounds → (h : HasRound s id) → HasRows s id grounds h.node
-has-rows s id grounds sound keeps h =
-    let ground = keeps.each id.0 h.node h.is_node in
-    let w = rows-by s.problem (restriction_of h.node) ground.0 (subst (λ (f : Fate). IsGroundOf s.problem (restriction_of h.node) f ground.0) (has-undone s id sound h) ground.2) in
-    record { rows = w.0; is_ground = ground.1 ∙ ap (λ (o : Option Rows). Some o) w.1; forbids_is = w.2 }
+-- the ground that is read at the place of an open leaf
+pub read-kept : (s : State) (id : BranchId) (grounds : List (Option Kept)) (node : Node) (item : Option Kept) → HasGrounds s.problem s.nodes grounds → slice_get s.nodes id.0 ≡ Some node → node.fate ≡ Undone
+    → item ≡ get_or grounds id.0 item → HasKept s.problem node item
+read-kept s id grounds node item keeps is undone read =
+    let g = keeps.each id.0 node is in
+    let same : item ≡ g.0 = read ∙ get_or_from_slice_get grounds id.0 g.0 item g.1 in
+    kept-by s.problem node item (subst (λ (o : Option Kept). IsGroundOf s.problem (region_of s.problem node) Undone o) (sym same)
+    (subst (λ (f : Fate). IsGroundOf s.problem (region_of s.problem node) f g.0) undone g.2))
+
+-- the same of a node with a round
+pub round-kept : (s : State) (id : BranchId) (grounds : List (Option Kept)) (item : Option Kept) → IsSound s → HasGrounds s.problem s.nodes grounds → (h : HasRound s id)
+    → item ≡ get_or grounds id.0 item → HasKept s.problem h.node item
+round-kept s id grounds item sound keeps h read = read-kept s id grounds h.node item keeps h.is_node (has-undone s id sound h) read
 
 pub nodes-few : (s : State) (places : List Slot) → IsPool s places → length s.nodes ≤ 8193
 nodes-few s places h =
@@ -67,24 +75,33 @@ shown-some f o q e some = map-some f o (ap is_some e ∙ some)
 pub shown-value : {A B : Type 0} (f : A → B) (o : Option A) (x : A) (q : Option B) → option_map f o ≡ q → o ≡ Some x → Some (f x) ≡ q
 shown-value f o x q e is = sym (ap (option_map f) is) ∙ e
 
--- the rows that are read at the place of a node with a round
-pub read-rows : (s : State) (id : BranchId) (grounds : List (Option Rows)) (item : Option Rows) → IsSound s → HasGrounds s.problem s.nodes grounds → (h : HasRound s id)
-    → item ≡ get_or grounds id.0 item → (rows : Rows) × (item ≡ Some rows) × (forbids rows ≡ restriction_of h.node)
-read-rows s id grounds item sound keeps h read =
-    let w = has-rows s id grounds sound keeps h in
-    (w.rows, read ∙ get_or_from_slice_get grounds id.0 (Some w.rows) item w.is_ground, w.forbids_is)
+-- what is shown of a ground that keeps the node's region, and unwrapped
+module _ {A : Type 0} (p : Parts) (node : Node) (item : Option Kept) (w : HasKept p node item) (o : Option A) where
+  pub kept-some : {B : Type 0} (f : A → B) (g : Kept → B) → option_map f o ≡ option_map g item → IsSome o
+  kept-some f g shown = shown-some f o (Some (g w.kept)) (shown ∙ ap (option_map g) w.is_ground) refl
 
--- what these rows forbid, where they are shown and unwrapped
-pub read-forbids : {A : Type 0} (f : A → Rows) (s : State) (id : BranchId) (grounds : List (Option Rows)) (item : Option Rows) (o : Option A) (x : A) (rows : Rows) → IsSound s → HasGrounds s.problem s.nodes grounds
-    → (h : HasRound s id) → item ≡ get_or grounds id.0 item → option_map f o ≡ item → o ≡ Some x → rows ≡ f x → forbids rows ≡ restriction_of h.node
-read-forbids f s id grounds item o x rows sound keeps h read shown is same =
-    let w = read-rows s id grounds item sound keeps h read in
-    let both : Some (f x) ≡ Some w.0 = shown-value f o x item shown is ∙ w.1 in
-    let there : f x ≡ w.0 = cc in
-    ap forbids (same ∙ there) ∙ w.2
+  kept-value : {B : Type 0} (f : A → B) (g : Kept → B) (x : A) → option_map f o ≡ option_map g item → o ≡ Some x → f x ≡ g w.kept
+  kept-value {B} f g x shown is = let both : ◌≡◌ {A = Option B} (Some (f x)) (Some (g w.kept)) = shown-value f o x (option_map g item) shown is ∙ ap (option_map g) w.is_ground in cc
 
-pub rows-within : (s : State) (id : BranchId) (grounds : List (Option Rows)) → HasGrounds s.problem s.nodes grounds → HasRound s id → id.0 < length grounds
-rows-within s id grounds keeps h = let count = keeps.count in let below = has-within s id h in omega arith
+  pub kept-rows : (f : A → Rows) (x : A) → option_map f o ≡ rows_in item → o ≡ Some x → (forbids (f x) ≡ restriction_of node) × HasSizeOf p (f x)
+  kept-rows f x shown is =
+      let same = kept-value f (λ kept. kept.rows) x shown is in
+      (ap forbids same ∙ w.is_region.forbidden, subst (HasSizeOf p) (sym same) w.is_region.size)
+
+  pub kept-ranges : (f : A → List LoadRange) (x : A) → option_map f o ≡ ranges_in item → o ≡ Some x → f x ≡ ranges_of p node
+  kept-ranges f x shown is = kept-value f (λ kept. kept.ranges) x shown is ∙ w.is_region.ranges
+
+  pub plot-some : (f : A → Kept) → option_map f o ≡ item → IsSome o
+  plot-some f shown = shown-some f o (Some w.kept) (shown ∙ w.is_ground) refl
+
+  pub plot-region : (f : A → Kept) (x : A) → option_map f o ≡ item → o ≡ Some x → IsKeptRegion p (region_of p node) (f x)
+  plot-region f x shown is =
+      let both : ◌≡◌ {A = Option Kept} (Some (f x)) (Some w.kept) = shown-value f o x item shown is ∙ w.is_ground in
+      let same : f x ≡ w.kept = cc in
+      subst (IsKeptRegion p (region_of p node)) (sym same) w.is_region
+
+pub ground-within : (s : State) (id : BranchId) (grounds : List (Option Kept)) → HasGrounds s.problem s.nodes grounds → HasRound s id → id.0 < length grounds
+ground-within s id grounds keeps h = let count = keeps.count in let below = has-within s id h in omega arith
 
 pub if_ok : {X E : Type 0} (r : Result X E) (P Q : X → Type 0) → ((x : X) → P x → Q x) → IfOk r P → IfOk r Q
 if_ok (Ok x) P Q f h = f x h

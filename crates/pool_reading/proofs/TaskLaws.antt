@@ -191,7 +191,7 @@ has-open s id sound h =
     ∙ ap (λ (o : Option Round). is_open_state (state_by Undone o)) h.is_round
 
 -- a closing is not refused
-pub none-close_fault : (s : State) (id : BranchId) → IsSound s → s.examined < s.budget → HasRound s id → closable_in (cutoff_of s) (slice_get s.nodes id.0) ≡ true → close_fault s id ≡ None
+pub none-close_fault : (s : State) (id : BranchId) → IsSound s → s.examined < s.budget → HasRound s id → closable_in s.unit (cutoff_of s) (slice_get s.nodes id.0) ≡ true → close_fault s id ≡ None
 unfolding close_fault
 none-close_fault s id sound unspent h closable =
     none-or_else _ _ (none-when _ (closing.Spent s.examined) (spent-false s unspent))
@@ -214,7 +214,7 @@ none-examine_cut s id sound unspent h cut =
     (none-or_else _ _ (none-when _ (examine_fault.NotOpen (state_of s id)) (not-true _ (has-open s id sound h)))
     (choice _ None (ready_fault s (slice_get s.nodes id.0)) cut))
 
-ready_fault-none : (s : State) (node : Node) → 0 < node.completed → is_closable (cutoff_of s) node ≡ false → may_go_on_in (Some node) ≡ false → ready_fault s (Some node) ≡ None
+ready_fault-none : (s : State) (node : Node) → 0 < node.completed → is_closable s.unit (cutoff_of s) node ≡ false → may_go_on_in (Some node) ≡ false → ready_fault s (Some node) ≡ None
 ready_fault-none s node priced not_closable goes_on =
     none-or_else _ _ (none-when _ examine_fault.Unpriced (eq-zero-test node.completed priced))
     (none-or_else _ _ (none-when _ (examine_fault.Closable (bound_or_zero (bound_in (Some node))) (cutoff_of s)) not_closable)
@@ -222,7 +222,7 @@ ready_fault-none s node priced not_closable goes_on =
 
 -- nor is one of a node that is priced, not closable, and settled or out of versions
 pub none-examine_ready : (s : State) (id : BranchId) → IsSound s → s.examined < s.budget → (h : HasRound s id) → has_cut (slice_get s.nodes id.0) ≡ false
-    → 0 < h.node.completed → is_closable (cutoff_of s) h.node ≡ false → may_go_on_in (Some h.node) ≡ false → examine_refusal s id ≡ None
+    → 0 < h.node.completed → is_closable s.unit (cutoff_of s) h.node ≡ false → may_go_on_in (Some h.node) ≡ false → examine_refusal s id ≡ None
 unfolding examine_refusal
 none-examine_ready s id sound unspent h cut priced not_closable goes_on =
     none-or_else _ _ (none-when _ (examine_fault.Spent s.examined) (spent-false s unspent))
@@ -296,7 +296,7 @@ not-false_of : (a : Bool) → not a ≡ true → a ≡ false
 not-false_of true h = absurd (let bad : false ≡ true = h in cc)
 not-false_of false h = refl
 
-pub to-advance : (s : State) (id : BranchId) (round : Round) (version : ℕ) → s.examined < s.budget → Some round ≡ round_of s id → closable_in (cutoff_of s) (slice_get s.nodes id.0) ≡ false
+pub to-advance : (s : State) (id : BranchId) (round : Round) (version : ℕ) → s.examined < s.budget → Some round ≡ round_of s id → closable_in s.unit (cutoff_of s) (slice_get s.nodes id.0) ≡ false
     → version ≡ round.version → first_in gap_at round.found ≡ None → may_go_on_in (slice_get s.nodes id.0) ≡ true → IsToAdvance s id version
 to-advance s id round version unspent is not_closable same_version no_gap goes_on =
     let h = has-read s id round is in
@@ -309,15 +309,15 @@ to-advance s id round version unspent is not_closable same_version no_gap goes_o
       complete = first_gap-none round no_gap;
       not_settled = not-false_of h.node.settled both.0;
       room = test-lt h.node.completed MAX_VERSIONS both.1;
-      not_closable = sym (ap (closable_in (cutoff_of s)) h.is_node) ∙ not_closable;
+      not_closable = sym (ap (closable_in s.unit (cutoff_of s)) h.is_node) ∙ not_closable;
     }
 
 pub to-examine : (s : State) (id : BranchId) (round : Round) → IsSound s → s.examined < s.budget → Some round ≡ round_of s id → has_cut (slice_get s.nodes id.0) ≡ false
-    → closable_in (cutoff_of s) (slice_get s.nodes id.0) ≡ false → first_in gap_at round.found ≡ None → may_go_on_in (slice_get s.nodes id.0) ≡ false → examine_refusal s id ≡ None
+    → closable_in s.unit (cutoff_of s) (slice_get s.nodes id.0) ≡ false → first_in gap_at round.found ≡ None → may_go_on_in (slice_get s.nodes id.0) ≡ false → examine_refusal s id ≡ None
 to-examine s id round sound unspent is cut not_closable no_gap goes_on =
     let h = with_read s id round (has-read s id round is) in
     none-examine_ready s id sound unspent h cut (complete-counted s id sound h (first_gap-none round no_gap))
-    (sym (ap (closable_in (cutoff_of s)) h.is_node) ∙ not_closable) (sym (ap may_go_on_in h.is_node) ∙ goes_on)
+    (sym (ap (closable_in s.unit (cutoff_of s)) h.is_node) ∙ not_closable) (sym (ap may_go_on_in h.is_node) ∙ goes_on)
 
 -- an open leaf that is next and not active may be entered
 pub next-opens : (s : State) (id : BranchId) → s.examined < s.budget → is_next s id ≡ true → (state_of s id ≡ state.Active → ⊥) → open_fault s id ≡ None

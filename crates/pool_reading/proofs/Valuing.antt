@@ -6,16 +6,19 @@ use Rattle.plan_base.specs.declared.ids.BranchId.{BranchId}
 use Rattle.plan_base.specs.declared.parts.Parts.{Parts}
 use Rattle.plan_base.specs.declared.limits.TheConstants.{MAX_DEMANDS}
 use Rattle.plan_base.specs.Places.{places}
+use Rattle.link_steps.specs.declared.range.LoadRange.{LoadRange}
+use Rattle.link_steps.specs.Ranges.{AreRanges}
 use Rattle.arc_restrict.specs.Restrictions.{Forbidden}
 use Rattle.arc_restrict.specs.Rows.{Rows, forbids}
 use Rattle.arc_restrict.specs.Prices.{AreWithinLimit}
 use Rattle.column_pool.specs.Columns.{permitted_at, AreColumns}
 use Rattle.master_step.specs.Columns.{Choices, HasColumns}
-use Rattle.pool_machine.specs.State.{Round, Node, State, round_of, restriction_of}
+use Rattle.pool_machine.specs.State.{Round, Node, State, round_of, restriction_of, ranges_of}
 use Rattle.pool_machine.specs.Gathering.{columns_for}
 use Rattle.pool_machine.specs.Nodes.{IsPriceList}
 use Rattle.pool_machine.specs.Soundness.{IsSound}
 use Rattle.pool_machine.proofs.Frames.{one_at}
+use Rattle.pool_machine.proofs.Replacing.{node_at}
 use Rattle.pool_machine.proofs.GatheredRounds.{gathered-columns}
 use Rattle.pool_reading.specs.Valuing.{IsGatheredAt, ForRound}
 use Rattle.pool_reading.proofs.TaskLaws.{HasRound, has-round, round_of-has}
@@ -69,22 +72,30 @@ module _ (s : State) (id : BranchId) (sound : IsSound s) (at : IsGatheredAt s id
   pub ask-permitted : HasColumns p (permitted_at (forbids rows) s.columns)
   ask-permitted = subst (λ (q : Parts). HasColumns q (permitted_at (forbids rows) s.columns)) (sym is_p) (rows-columns s id (forbids rows) sound at is_rows)
 
-  -- what is so of the instance and the restriction is so of the node
-  pub tell : (P : Parts → Choices → List ℕ → Type 0) (prices : List ℕ) → P p (permitted_at (forbids rows) s.columns) prices → ForRound s id (λ x round. P s.problem (columns_for s x) prices)
-  tell P prices h node round is_node is_round =
+  pub ask-ranges : (ranges : List LoadRange) → ranges ≡ ranges_of s.problem at.node → AreRanges p ranges
+  ask-ranges ranges same =
+      let is = at.is_gathered.complete_round in
+      subst (λ (q : Parts). AreRanges q ranges) (sym is_p) (subst (AreRanges s.problem) (sym same) (node_at s id.0 at.node sound is.is_node).ranges)
+
+  -- what is so of the instance, the ranges and the restriction is so of the node
+  pub tell : (P : Parts → List LoadRange → Choices → List ℕ → Type 0) (ranges : List LoadRange) (prices : List ℕ) → ranges ≡ ranges_of s.problem at.node → P p ranges (permitted_at (forbids rows) s.columns) prices
+      → ForRound s id (λ x round. P s.problem (ranges_of s.problem x) (columns_for s x) prices)
+  tell P ranges prices is_ranges h node round is_node is_round =
       let same : node ≡ at.node = one_at s.nodes id.0 node at.node is_node at.is_gathered.complete_round.is_node in
-      let here : P s.problem (permitted_at (restriction_of at.node) s.columns) prices =
-      subst (λ (q : Parts). P q (permitted_at (restriction_of at.node) s.columns) prices) is_p (subst (λ (r : Forbidden). P p (permitted_at r s.columns) prices) is_rows h) in
-      subst (λ (x : Node). P s.problem (columns_for s x) prices) (sym same) here
+      let here : P s.problem (ranges_of s.problem at.node) (permitted_at (restriction_of at.node) s.columns) prices =
+      subst (λ (q : Parts). P q (ranges_of s.problem at.node) (permitted_at (restriction_of at.node) s.columns) prices) is_p
+      (subst (λ (xs : List LoadRange). P p xs (permitted_at (restriction_of at.node) s.columns) prices) is_ranges (subst (λ (r : Forbidden). P p ranges (permitted_at r s.columns) prices) is_rows h)) in
+      subst (λ (x : Node). P s.problem (ranges_of s.problem x) (columns_for s x) prices) (sym same) here
 
   -- the same at the prices of the node's round
-  pub tell-round : (P : Parts → Choices → List ℕ → Type 0) (prices : List ℕ) → prices ≡ at.round.prices → P p (permitted_at (forbids rows) s.columns) prices → ForRound s id (λ x round. P s.problem (columns_for s x) round.prices)
-  tell-round P prices is_prices h node round is_node is_round =
+  pub tell-round : (P : Parts → List LoadRange → Choices → List ℕ → Type 0) (ranges : List LoadRange) (prices : List ℕ) → ranges ≡ ranges_of s.problem at.node → prices ≡ at.round.prices → P p ranges (permitted_at (forbids rows) s.columns) prices
+      → ForRound s id (λ x round. P s.problem (ranges_of s.problem x) (columns_for s x) round.prices)
+  tell-round P ranges prices is_ranges is_prices h node round is_node is_round =
       let same : node ≡ at.node = one_at s.nodes id.0 node at.node is_node at.is_gathered.complete_round.is_node in
       let both : Some round ≡ Some at.round = sym is_round ∙ ap (λ (x : Node). x.round) same ∙ at.is_gathered.complete_round.is_round in
       let rounds : round ≡ at.round = cc in
       let same_prices : prices ≡ round.prices = is_prices ∙ ap (λ (r : Round). r.prices) (sym rounds) in
-      subst (λ (ps : List ℕ). P s.problem (columns_for s node) ps) same_prices (tell P prices h node round is_node is_round)
+      subst (λ (ps : List ℕ). P s.problem (ranges_of s.problem node) (columns_for s node) ps) same_prices (tell P ranges prices is_ranges h node round is_node is_round)
 
 -- the node that is read at its place
 pub read-node : (s t : State) (id : BranchId) (item x : Node) → s ≡ t → item ≡ get_or s.nodes id.0 item → slice_get t.nodes id.0 ≡ Some x → item ≡ x

@@ -3,6 +3,7 @@ pub mod Shown
 pub mod Examining
 pub mod Work
 pub mod Valuing
+pub mod OpenBounds
 pub use Rattle.pool_machine.specs.State
 pub use Rattle.pool_machine.specs.Opening
 pub use Rattle.pool_machine.specs.Offering

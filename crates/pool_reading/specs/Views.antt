@@ -4,11 +4,10 @@ use Rattle.pool_machine.specs.declared.limits.TheConstants.{MAX_ROUNDS, MAX_BUDG
 use Rattle.plan_base.specs.declared.parts.Parts.{Parts}
 use Rattle.plan_base.specs.declared.path.Design.{Design}
 use Rattle.plan_base.specs.Places.{places}
-use Rattle.arc_restrict.specs.Rows.{Rows}
 use Rattle.dual_versions.specs.declared.published.Published.{Published}
 use Rattle.plan_base.specs.declared.ids.BranchId.{BranchId}
 use Rattle.pool_nodes.specs.declared.reason.Reason.{Reason}
-use Rattle.pool_nodes.specs.Grounds.{HasGrounds}
+use Rattle.pool_nodes.specs.Grounds.{Kept, HasGrounds}
 use Rattle.pool_machine.specs.State.{Round, Node, State, active_count}
 use Rattle.pool_nodes.specs.Rounds.{evidence_for}
 use Rattle.pool_machine.specs.Opening.{HasSlot, IsTaken}
@@ -47,14 +46,14 @@ pub record IsPool (s : State) (slots : List Slot) : Type 0 where
   pub budget : s.budget ≤ MAX_BUDGET
   pub has_places : HasPlaces s slots
 
--- a pool with the step table of its instance and the restrictions of its open leaves
-pub record IsKeptPool (s : State) (table : Parts) (grounds : List (Option Rows)) (slots : List Slot) : Type 0 where
+-- a pool with the step table of its instance and the regions of its open leaves
+pub record IsKeptPool (s : State) (table : Parts) (grounds : List (Option Kept)) (slots : List Slot) : Type 0 where
   pub pool : IsPool s slots
   pub table_is : table ≡ s.problem
   pub has_grounds : HasGrounds s.problem s.nodes grounds
 
 -- the same with room for the steps of its instance
-pub record IsFittedPool (s : State) (table : Parts) (room : ℕ) (grounds : List (Option Rows)) (slots : List Slot) : Type 0 where
+pub record IsFittedPool (s : State) (table : Parts) (room : ℕ) (grounds : List (Option Kept)) (slots : List Slot) : Type 0 where
   pub kept : IsKeptPool s table grounds slots
   pub room_is : room ≡ places s.problem
 

@@ -9,6 +9,7 @@ use Rattle.pool_machine.specs.declared.task.Task.TheVariants as task
 use Rattle.pool_machine.specs.State.{Node, State, active_count, state_of}
 use Rattle.pool_machine.specs.Opening.{open_fault}
 use Rattle.pool_machine.specs.Closing.{close_fault}
+use Rattle.pool_machine.specs.Gathering.{has_enough}
 use Rattle.pool_machine.specs.Readiness.{examine_refusal}
 use Rattle.pool_machine.specs.Tasks.{IsToPrice, IsToAdvance}
 
@@ -26,6 +27,11 @@ is_next s id = is_next_in (nat_lt (active_count s) MAX_ROUNDS) (state_of s id)
 abbrev pub may_go_on_in : Option Node → Bool
 may_go_on_in None = false
 may_go_on_in (Some node) = not node.settled && nat_lt node.completed MAX_VERSIONS
+
+-- no further version of the node is to follow
+abbrev pub enough_in : State → Option Node → Bool
+enough_in s None = false
+enough_in s (Some node) = has_enough s node
 
 -- the task is one at this node, and its call would not be refused now
 abbrev pub IsStepAt : State → BranchId → Task → Type 0

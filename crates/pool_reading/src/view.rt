@@ -11,6 +11,7 @@ mod dividing;
 mod examining;
 mod gathering;
 mod offering;
+mod open_bounds;
 pub mod publishing;
 mod reading;
 mod settling;
@@ -38,9 +39,11 @@ pub struct PoolView<'a> {
     pub alloc: Global,
     pub problem: &'a Instance,
     pub table: &'a StepTable,
+    /// What all costs are multiples of, in cost grains.
+    pub unit: u128,
     pub nodes: &'a [PoolNode],
     pub columns: &'a ColumnPool,
-    /// For each node what is forbidden there, while it is an open leaf.
+    /// For each node its region, while it is an open leaf.
     pub grounds: &'a [Ground],
     /// The slots of rounds, 64.
     pub places: &'a [Slot],

@@ -8,7 +8,7 @@ ghost use Rattle.pool_core.specs.Work.{IsCloser, KeepsNodes, IsBriefed};
 
 use super::Pool;
 use column_pool::Brief;
-use leaf_work::{Guide, next_prices};
+use leaf_work::{Guide, Next, next_step};
 use plan_base::BranchId;
 use pool_machine::Gather;
 use std::alloc::AllocError;
@@ -42,7 +42,9 @@ impl Pool {
     {
         self.seek_design(node, guide)?;
         let brief = self.told(node, version)?;
-        match next_prices(self.alloc, &*self.problem, &*self.table, &brief)? {
+        let Next { prices, split } = next_step(self.alloc, &*self.problem, &*self.table, &brief)?;
+        self.advise(node, split);
+        match prices {
             Some(prices) => {
                 let _answer = self.publish(node, version, &prices);
                 Ok(())

@@ -15,7 +15,7 @@ use pool_machine::{Better, Closing, Incumbent};
 use pool_nodes::{Reason, give_back};
 
 impl Pool {
-    /// Closes an open leaf for a reason: the place of its round is free again, and its restriction is let go. Takes
+    /// Closes an open leaf for a reason: the place of its round is free again, and its region is let go. Takes
     /// no memory.
     pub(crate) fn close(&mut self, node: BranchId, reason: Reason)
         requires leaf { is_open_state (state_of self.old node) ≡ true }
@@ -33,8 +33,8 @@ impl Pool {
         self.examined += 1;
     }
 
-    /// Closes an open leaf whose bound is at least the cost of the best design, or which has a crowd proof. Takes
-    /// no memory.
+    /// Closes an open leaf whose bound is above the cost of the best design less the unit of costs, or which has a crowd
+    /// proof. Takes no memory.
     ///
     /// - Gives: in this order, `Spent` where the budget is spent; `NotOpen` where the node is no open leaf;
     ///   `Closed` where it is closed now, by the crowd proof if there is one; else `Weak` with what is recorded.

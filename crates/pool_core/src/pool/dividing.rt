@@ -1,18 +1,19 @@
-//! Open leaves that are divided where two paths of a demand part.
+//! Open leaves that are divided, where two paths of a demand part or by the loads of a place.
 
-ghost use Rattle.std.specs.Prelude.{◌≡◌, ◌<◌, ◌*◌, ◌++◌, Ok, IfOk, OnOk, OnErr, All, length};
+ghost use Rattle.std.specs.Prelude.{◌≡◌, ◌++◌, Ok, IfOk, OnOk, OnErr};
+ghost use Rattle.branch_tree.specs.Branches.{IsLimitOf};
 ghost use Rattle.pool_machine.specs.Examining.{ExamineStep};
 ghost use Rattle.pool_reading.specs.Examining.{IsReadyAt, HasTwoPaths, IsDivisionAt, AreChildrenAt};
 ghost use Rattle.pool_core.specs.Children.{HasChildBehind};
 
 use super::Pool;
-use branch_tree::Division;
-use plan_base::{ArcId, BranchId, DemandId, Items, Path};
+use branch_tree::{Division, Limit, LoadSplit};
+use plan_base::{BranchId, DemandId, Path};
 use pool_machine::Examined;
 use pool_nodes::{Ground, PoolNode, give_back};
 use std::alloc::AllocError;
 
-/// Puts nodes behind others, and what is forbidden there behind theirs. On want of memory neither changes.
+/// Puts nodes behind others, and their regions behind theirs. On want of memory neither changes.
 fn append_both(
     nodes: &mut Vec<PoolNode>,
     grounds: &mut Vec<Ground>,
@@ -34,27 +35,25 @@ fn append_both(
 }
 
 impl Pool {
-    /// Makes a child of an open leaf that forbids these arcs too, and puts it and what is forbidden there behind others.
+    /// Makes a child of an open leaf that has this limit too, and puts it and its region behind others.
     fn add_child(
         &self,
         node: BranchId,
-        demand: DemandId,
-        arcs: &Items<ArcId>,
+        limit: Limit,
         children: &mut Vec<PoolNode>,
         grounds: &mut Vec<Ground>,
     ) -> Result<(), AllocError>
         requires leaf { IsReadyAt self.now node }
-        requires demand { demand.0 < length self.now.problem.demands }
-        requires arcs { All (λ a. a.0 < 2 * length self.now.problem.links) arcs.now }
-        ensures { OnOk result (HasChildBehind self.now node demand arcs.now children.old.items grounds.old.items children.new.items grounds.new.items) }
+        requires limit { IsLimitOf self.now.problem limit }
+        ensures { OnOk result (HasChildBehind self.now node limit children.old.items grounds.old.items children.new.items grounds.new.items) }
     {
-        let (child, ground) = self.view().child_at(node, demand, arcs)?;
+        let (child, ground) = self.view().child_at(node, limit)?;
         children.push(child)?;
         grounds.push(ground)?;
         Ok(())
     }
 
-    /// The children of a division of the node, and what is forbidden there.
+    /// The children of a division of the node, and their regions.
     fn children_of(
         &self,
         node: BranchId,
@@ -65,20 +64,10 @@ impl Pool {
     {
         let mut children = Vec::new(self.alloc);
         let mut grounds = Vec::new(self.alloc);
-        self.add_child(
-            node,
-            division.demand,
-            &division.left,
-            &mut children,
-            &mut grounds,
-        )?;
-        self.add_child(
-            node,
-            division.demand,
-            &division.right,
-            &mut children,
-            &mut grounds,
-        )?;
+        let left = division.by.left_limit()?;
+        let right = division.by.right_limit()?;
+        self.add_child(node, left, &mut children, &mut grounds)?;
+        self.add_child(node, right, &mut children, &mut grounds)?;
         Ok((children, grounds))
     }
 
@@ -109,7 +98,40 @@ impl Pool {
         Ok(Examined::Divided { left, right })
     }
 
-    /// Divides a node that may be examined where two paths of a demand part.
+    /// Keeps by which loads the node is to be divided once it is examined; no part of the state. Nothing happens where there
+    /// is no such node.
+    pub fn advise(&mut self, node: BranchId, split: Option<LoadSplit>)
+        ensures { self.new ≡ self.old }
+    {
+        let place = node.0 as usize;
+        if place < self.nodes.len() {
+            let advised = &mut self.nodes[place];
+            advised.advise(split);
+        }
+    }
+
+    /// How a node that may be examined is divided: by the loads that were advised, where that parts two steps there, else
+    /// where two paths of the demand part.
+    fn division_by(
+        &self,
+        node: BranchId,
+        demand: DemandId,
+        first: &Path,
+        second: &Path,
+    ) -> Result<Division, AllocError>
+        requires { HasTwoPaths self.now node demand first.now second.now }
+        ensures { IfOk result (IsDivisionAt self.now node) }
+    {
+        let view = self.view();
+        if let Some(split) = self.nodes[node.0 as usize].advised() {
+            if let Some(division) = view.load_division_at(node, demand, first, second, split) {
+                return Ok(division);
+            }
+        }
+        view.division_at(node, demand, first, second)
+    }
+
+    /// Divides a node that may be examined.
     pub(super) fn divide(
         &mut self,
         node: BranchId,
@@ -121,7 +143,7 @@ impl Pool {
         ensures event { IfOk result (λ answer. ExamineStep self.old node (Ok answer) self.new) }
         ensures kept { OnErr result (self.new ≡ self.old) }
     {
-        let division = self.view().division_at(node, demand, first, second)?;
+        let division = self.division_by(node, demand, first, second)?;
         let (mut children, mut grounds) = self.children_of(node, &division)?;
         self.put_children(node, division, &mut children, &mut grounds)
     }

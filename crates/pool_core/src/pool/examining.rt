@@ -1,12 +1,13 @@
 //! Examinations: an open leaf is closed or divided.
 
-ghost use Rattle.std.specs.Prelude.{◌≡◌, Ok, IfOk, OnErr};
+ghost use Rattle.std.specs.Prelude.{◌≡◌, Ok, IfOk, OnErr, IfSome, IfNone};
 ghost use Rattle.pool_machine.specs.Examining.{ClosesFar, ExamineStep};
 ghost use Rattle.pool_reading.specs.Examining.{IsReadyAt, IsFarAt, HasOnlyPaths};
+ghost use Rattle.pool_core.specs.Routes.{IsOverfullAt, AreCarriedAt};
 
 use super::Pool;
-use completions::{complete, overfull_link};
-use plan_base::{BranchId, DemandId, Design, Items, Path};
+use completions::{complete, outside_link, overfull_link};
+use plan_base::{BranchId, DemandId, Design, Items, LinkId, Path};
 use pool_machine::{ExamineFault, Examined};
 use pool_nodes::Reason;
 use proof_tree::Evidence;
@@ -24,8 +25,24 @@ impl Pool {
         self.close(node, Reason::Shown(Evidence::Far { demand }));
     }
 
-    /// Closes a node that leaves each demand one path: by the first link that these paths overfill, or else with
-    /// the cheapest design for them.
+    /// A link of which the paths that a node leaves put a load outside its range on a place, or else one that cannot carry
+    /// them. Takes no memory.
+    ///
+    /// - Takes: a design with these paths. Its counts are not read.
+    fn overfull_at(&self, node: BranchId, routing: &Design) -> Option<LinkId>
+        requires { HasOnlyPaths self.now node routing.now.paths }
+        ensures some { IfSome result (IsOverfullAt self.now node) }
+        ensures none { IfNone result (AreCarriedAt self.now node routing.now.paths) }
+    {
+        let ranges = self.grounds[node.0 as usize].ranges().unwrap();
+        if let Some(link) = outside_link(&*self.problem, &**ranges, routing) {
+            return Some(link);
+        }
+        overfull_link(&*self.problem, &*self.table, routing)
+    }
+
+    /// Closes a node that leaves each demand one path: by a link that these paths overfill or of which they put a load
+    /// outside its range on a place, or else with the cheapest design for them.
     fn close_routed(&mut self, node: BranchId, paths: Items<Path>) -> Result<Examined, AllocError>
         requires { HasOnlyPaths self.old node paths }
         ensures event { IfOk result (λ answer. ExamineStep self.old node (Ok answer) self.new) }
@@ -35,7 +52,7 @@ impl Pool {
             paths,
             counts: Items::new(self.alloc),
         };
-        if let Some(link) = overfull_link(&*self.problem, &*self.table, &routing) {
+        if let Some(link) = self.overfull_at(node, &routing) {
             self.close(node, Reason::Shown(Evidence::Overfull { link }));
             return Ok(Examined::Overfull);
         }
@@ -76,9 +93,10 @@ impl Pool {
     /// Closes or divides an open leaf.
     ///
     /// - Gives: `Cut` where the node has a cut; else `Far` with the first demand of which no permitted path keeps its
-    ///   limit; else `Divided` where a demand has two permitted paths, which part there; `Overfull` where each demand
-    ///   has one and a link cannot carry them; `Routed` where they can be carried, and they become the best design
-    ///   where they cost less.
+    ///   limit; else `Divided` where a demand has two permitted paths: by the loads that `advise` told, where that parts two
+    ///   steps of a link, else where these paths part; `Overfull` where each demand has one and a link cannot carry them or
+    ///   a place has a load outside its range; `Routed` where they can be carried, and they become the best design where
+    ///   they cost less.
     /// - Errors: in this order, `Spent` where the budget is spent; `NotOpen` where the node is no open leaf;
     ///   and, where it has no cut, `Unpriced` where no version was ever complete; `Closable` where
     ///   `close_by_bound` closes it; `Unsettled` where it is not settled and has room for more versions. Want of

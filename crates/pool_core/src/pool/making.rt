@@ -12,7 +12,7 @@ use super::Pool;
 use arc_restrict::Restriction;
 use column_pool::ColumnPool;
 use leaf_work::KnownAbove;
-use link_steps::StepTable;
+use link_steps::{Ranges, StepTable, cost_unit};
 use master_step::Room;
 use plan_base::{Instance, Items, Prices};
 use pool_machine::limits::MAX_ROUNDS;
@@ -45,13 +45,15 @@ fn root_alone(alloc: Global, prices: Prices) -> Result<Vec<PoolNode>, AllocError
     Ok(nodes)
 }
 
-/// What is forbidden at the root alone, which is nothing.
+/// The region of the root alone: nothing is forbidden, and each place may carry all loads.
 fn root_grounds(alloc: Global, inst: &Instance) -> Result<Vec<Ground>, AllocError>
     ensures { IfOk result (λ grounds. HasFreeRoot inst.now grounds.items) }
 {
     let none = Restriction::none(alloc, inst)?;
+    let whole = Ranges::whole(alloc, inst)?;
     let rows = Arc::new(alloc, none)?;
-    let grounds = vec![in alloc; Ground::of(rows)]?;
+    let ranges = Arc::new(alloc, whole)?;
+    let grounds = vec![in alloc; Ground::of(rows, ranges)]?;
     Ok(grounds)
 }
 
@@ -78,6 +80,7 @@ impl Pool {
         let places = free_places(alloc, &*inst, &prices)?;
         let nodes = root_alone(alloc, prices)?;
         let grounds = root_grounds(alloc, &*inst)?;
+        let unit = cost_unit(&*inst);
         let columns = ColumnPool::new(alloc, &*inst)?;
         let room = Room::new(alloc, &*inst)?;
         let claims = Claims::none(alloc)?;
@@ -86,6 +89,7 @@ impl Pool {
             alloc,
             problem: inst,
             table,
+            unit,
             nodes,
             columns,
             room,

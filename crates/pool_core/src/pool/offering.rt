@@ -50,7 +50,8 @@ impl Pool {
                     path,
                     price: length,
                 };
-                let left = priced.put(demand, found, &*self.problem, &*self.table);
+                let ranges = self.grounds[node.0 as usize].ranges().unwrap();
+                let left = priced.put(demand, found, &*self.problem, &*self.table, &**ranges);
                 self.accepted += 1;
                 Offered::Accepted { left }
             }

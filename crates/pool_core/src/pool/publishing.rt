@@ -111,7 +111,8 @@ impl Pool {
         let version = self.next_version;
         let renewed = &mut self.nodes[node.0 as usize];
         renewed.renew(version, prices, next.crowd_tried);
-        renewed.complete(&*self.problem, &*self.table);
+        let ranges = self.grounds[node.0 as usize].ranges().unwrap();
+        renewed.complete(&*self.problem, &*self.table, &**ranges);
         self.next_version = version + 1;
     }
 

@@ -10,6 +10,7 @@ ghost use Rattle.pool_machine.specs.Opening.{is_waiting};
 ghost use Rattle.pool_machine.specs.Machine.{IsReachable};
 ghost use Rattle.pool_machine.specs.Soundness.{IsSound};
 ghost use Rattle.pool_reading.specs.Views.{IsPublishedAt, design_of};
+ghost use Rattle.pool_reading.specs.OpenBounds.{open_bound_of};
 
 use super::Pool;
 use arc_restrict::Restriction;
@@ -40,6 +41,14 @@ impl Pool {
         ensures { result ≡ bound_in (slice_get self.now.nodes node.0) }
     {
         self.view().bound(node)
+    }
+
+    /// The least bound of the open leaves, in cost grains, where an open leaf of which none is recorded has that of its
+    /// parent; None where none is known. Each node is looked at.
+    pub fn open_bound(&self) -> Option<i128>
+        ensures { result ≡ open_bound_of self.now }
+    {
+        self.view().open_bound()
     }
 
     /// The cost of the best design so far, in cost grains; None exactly where there is none.

@@ -1,7 +1,8 @@
 //! Nodes of which no further version is published.
 
 ghost use Rattle.std.specs.Prelude.{◌≡◌, false, IfSome, IfNone};
-ghost use Rattle.pool_machine.specs.Gathering.{columns_for};
+ghost use Rattle.pool_machine.specs.State.{ranges_of};
+ghost use Rattle.pool_machine.specs.Gathering.{columns_for, has_enough};
 ghost use Rattle.pool_machine.specs.Settling.{Settles, SettleStep};
 ghost use Rattle.master_step.specs.Outcomes.{IsGain};
 ghost use Rattle.pool_reading.specs.Valuing.{IsGatheredAt, ForRound};
@@ -13,14 +14,16 @@ use pool_machine::Settle;
 
 impl Pool {
     /// The restricted value of the prices of the node's round, and what a master step raises it to, where one gains and
-    /// the node's crowd prices were not tried.
+    /// the node has not had enough versions.
     fn improvement(&mut self, node: BranchId) -> Option<(i128, i128)>
         requires { IsGatheredAt self.old node }
         ensures unchanged { self.new ≡ self.old }
-        ensures some { IfSome result (λ both. ForRound self.old node (λ x round. (x.crowd_tried ≡ false) × IsGain self.old.problem (columns_for self.old x) round.prices both.0 both.1)) }
+        ensures some { IfSome result (λ both. ForRound self.old node (λ x round. (has_enough self.old x ≡ false) × IsGain self.old.problem (ranges_of self.old.problem x) (columns_for self.old x) round.prices both.0 both.1)) }
         ensures none { IfNone result (ForRound self.old node (HasNoMore self.old)) }
     {
-        if self.nodes[node.0 as usize].crowd_tried() {
+        // Whoever looks into the pool knows what its type keeps, which the proof needs.
+        let _ = &self.nodes;
+        if self.view().has_enough(node) {
             return None;
         }
         let Some(new) = self.gain(node) else {
@@ -45,8 +48,9 @@ impl Pool {
     /// - Takes: the version of its round.
     /// - Gives: in this order, `Spent` where the budget is spent; `Stale` where the node has no round of the version;
     ///   `Incomplete` with the first demand that is not priced; `Ungathered` with the first demand whose path is none of
-    ///   its columns; `Improves` where a master step gains and the node's crowd prices were not tried, with the
-    ///   restricted values before and after that step; else `Done`.
+    ///   its columns; `Improves` where a master step gains and the node has not had enough versions (its crowd prices were
+    ///   not tried, and no design is known or fewer than two of its versions were complete), with the restricted values
+    ///   before and after that step; else `Done`.
     /// - Rule: docs/METHOD.md, "The search as a machine".
     pub fn settle(&mut self, node: BranchId, version: u64) -> Settle
         ensures event { SettleStep self.old node version result self.new }

@@ -1,6 +1,7 @@
 //! What prices are worth at a node, over the columns that it permits.
 
 ghost use Rattle.std.specs.Prelude.{◌≡◌, IfSome, IfNone};
+ghost use Rattle.pool_machine.specs.State.{ranges_of};
 ghost use Rattle.pool_machine.specs.Gathering.{columns_for};
 ghost use Rattle.master_step.specs.Outcomes.{HasGain, HasStalled};
 ghost use Rattle.pool_reading.specs.Valuing.{IsGatheredAt, ForRound};
@@ -14,17 +15,18 @@ impl Pool {
     pub(super) fn gain(&mut self, node: BranchId) -> Option<i128>
         requires { IsGatheredAt self.old node }
         ensures unchanged { self.new ≡ self.old }
-        ensures some { IfSome result (λ new. ForRound self.old node (λ x round. HasGain self.old.problem (columns_for self.old x) round.prices new)) }
-        ensures none { IfNone result (ForRound self.old node (λ x round. HasStalled self.old.problem (columns_for self.old x) round.prices)) }
+        ensures some { IfSome result (λ new. ForRound self.old node (λ x round. HasGain self.old.problem (ranges_of self.old.problem x) (columns_for self.old x) round.prices new)) }
+        ensures none { IfNone result (ForRound self.old node (λ x round. HasStalled self.old.problem (ranges_of self.old.problem x) (columns_for self.old x) round.prices)) }
     {
-        let rows = self.grounds[node.0 as usize].rows().unwrap();
+        let plot = self.grounds[node.0 as usize].plot().unwrap();
         let round = self.nodes[node.0 as usize].round().unwrap();
         master_step::gain(
             &*self.problem,
             &*self.table,
+            &**plot.ranges(),
             round.prices(),
             &self.columns,
-            &**rows,
+            &**plot.rows(),
             &mut self.room,
         )
     }

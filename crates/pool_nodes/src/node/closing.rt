@@ -1,6 +1,6 @@
 //! Whether what is recorded of a node closes it, and nodes that are closed.
 
-ghost use Rattle.std.specs.Prelude.{◌≡◌, not, pos, int_lt, if◌then◌else◌, length, is_some};
+ghost use Rattle.std.specs.Prelude.{◌≡◌, pos, int_lt, ◌+ℤ◌, if◌then◌else◌, length, is_some};
 ghost use Rattle.proof_tree.specs.declared.tree.Evidence.TheVariants as evidence;
 ghost use Rattle.branch_tree.specs.declared.node.Fate.TheVariants.{Undone};
 ghost use Rattle.pool_machine.specs.Closing.{reaches, is_closable, closed_by};
@@ -21,21 +21,21 @@ impl PoolNode {
         self.is_crowd && self.crowd_prices.is_some()
     }
 
-    /// Whether its recorded bound is at least the cost, in cost grains.
-    fn reaches(&self, cost: Option<u128>) -> bool
-        ensures { result ≡ reaches self.now.best cost }
+    /// Whether its recorded bound is above the cost less the unit of costs, all in cost grains.
+    fn reaches(&self, unit: u128, cost: Option<u128>) -> bool
+        ensures { result ≡ reaches unit self.now.best cost }
     {
         match (self.best_bound, cost) {
-            (Some(bound), Some(cost)) => is_reached(cost, bound),
+            (Some(bound), Some(cost)) => is_reached(unit, cost, bound),
             _ => false,
         }
     }
 
-    /// Whether it has a crowd proof, or its recorded bound is at least the cost, in cost grains.
-    pub fn is_closable(&self, cost: Option<u128>) -> bool
-        ensures { result ≡ is_closable cost self.now }
+    /// Whether it has a crowd proof, or its recorded bound is above the cost less the unit of costs, all in cost grains.
+    pub fn is_closable(&self, unit: u128, cost: Option<u128>) -> bool
+        ensures { result ≡ is_closable unit cost self.now }
     {
-        self.has_crowd() || self.reaches(cost)
+        self.has_crowd() || self.reaches(unit, cost)
     }
 
     /// Closes an open leaf for the reason, and hands out its round. Takes no memory.
@@ -62,11 +62,14 @@ impl PoolNode {
     }
 }
 
-/// Whether the bound is at least the cost.
-fn is_reached(cost: u128, bound: i128) -> bool
-    ensures { result ≡ not (int_lt bound (pos cost)) }
+/// Whether the bound is above the cost less the unit.
+fn is_reached(unit: u128, cost: u128, bound: i128) -> bool
+    ensures { result ≡ int_lt (pos cost) (bound +ℤ pos unit) }
 {
-    bound >= 0 && cost <= bound.unsigned_abs()
+    if bound >= 0 {
+        return cost < unit || cost - unit < bound.unsigned_abs();
+    }
+    cost < unit && bound.unsigned_abs() < unit - cost
 }
 
 /// The crowd proof that is in the room, or else the bound at the best prices, which are put there.

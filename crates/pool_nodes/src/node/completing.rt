@@ -2,14 +2,14 @@
 
 ghost use Rattle.std.specs.Prelude.{◌≡◌, None, Some, length, slice_get, IfSome, IsSomeAnd};
 ghost use Rattle.path_pricing.specs.Priced.{IsLeastPath};
-ghost use Rattle.pool_machine.specs.State.{left_of, restriction_of};
+ghost use Rattle.pool_machine.specs.State.{left_of, restriction_of, ranges_of};
 ghost use Rattle.pool_machine.specs.Nodes.{IsSoundNode};
 ghost use Rattle.pool_machine.specs.Offering.{with_found};
 ghost use Rattle.pool_machine.specs.Changes.{better_of, TakesRound};
 ghost use Rattle.pool_nodes.specs.Rounds.{best_in, is_below, MayComplete};
 
 use super::PoolNode;
-use link_steps::StepTable;
+use link_steps::{Ranges, StepTable};
 use plan_base::{DemandId, Instance, Prices};
 use pool_machine::Found;
 
@@ -18,8 +18,16 @@ impl PoolNode {
     /// complete. Takes no memory.
     ///
     /// - Gives: how many demands are left.
-    pub fn put(&mut self, demand: DemandId, found: Found, inst: &Instance, table: &StepTable) -> u32
+    pub fn put(
+        &mut self,
+        demand: DemandId,
+        found: Found,
+        inst: &Instance,
+        table: &StepTable,
+        ranges: &Ranges,
+    ) -> u32
         requires table { table.now ≡ inst.now }
+        requires ranges { ranges.now ≡ ranges_of inst.now self.old }
         requires sound { IsSoundNode inst.now self.old }
         requires round { IsSomeAnd self.old.round (λ round. (slice_get round.found demand.0 ≡ Some None)
             × IsLeastPath inst.now round.prices demand.0 (restriction_of self.old) found.path found.price) }
@@ -27,14 +35,15 @@ impl PoolNode {
         ensures takes { IfSome self.old.round (λ round. TakesRound inst.now self.old (with_found round demand.0 found) self.new) }
     {
         let left = self.add(demand, found);
-        self.complete(inst, table);
+        self.complete(inst, table, ranges);
         left
     }
 
     /// Where the node's round has priced each demand, the version is complete: its bound is recorded, with its prices
     /// where it is the greatest so far, and its crowd proof where it is one. Takes no memory.
-    pub fn complete(&mut self, inst: &Instance, table: &StepTable)
+    pub fn complete(&mut self, inst: &Instance, table: &StepTable, ranges: &Ranges)
         requires table { table.now ≡ inst.now }
+        requires ranges { ranges.now ≡ ranges_of inst.now self.old }
         requires ready { MayComplete inst.now self.old }
         ensures { IfSome self.old.round (λ round. TakesRound inst.now self.old round self.new) }
     {
@@ -42,7 +51,7 @@ impl PoolNode {
         let Some(round) = &self.round else {
             return;
         };
-        let Some(bound) = round.bound(inst, table) else {
+        let Some(bound) = round.bound(inst, table, ranges) else {
             return;
         };
         keep_better(
@@ -51,7 +60,7 @@ impl PoolNode {
             bound,
             round.prices(),
         );
-        if round.is_crowded(inst) {
+        if round.is_crowded(inst, ranges) {
             fill(&mut self.crowd_prices, round.prices());
             self.is_crowd = true;
         }

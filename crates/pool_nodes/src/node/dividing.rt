@@ -9,7 +9,7 @@ ghost use Rattle.pool_machine.specs.Dividing.{divided_by, child_of};
 
 use super::PoolNode;
 use crate::round::PoolRound;
-use branch_tree::{Division, Limit};
+use branch_tree::{Division, Limit, LoadSplit};
 use plan_base::{Items, Prices};
 use pool_machine::Fate;
 use std::alloc::{AllocError, Global};
@@ -28,6 +28,20 @@ impl PoolNode {
         ensures { result ≡ settled_in (Some self.now) }
     {
         self.settled
+    }
+
+    /// Keeps by which loads it is to be divided, where some are told. Takes no memory.
+    pub fn advise(&mut self, split: Option<LoadSplit>)
+        ensures { self.new ≡ self.old }
+    {
+        if split.is_some() {
+            self.split = split;
+        }
+    }
+
+    /// By which loads it is to be divided, where that was told.
+    pub fn advised(&self) -> Option<LoadSplit> {
+        self.split
     }
 
     /// Divides an open leaf, and hands out its round. Takes no memory.
@@ -50,12 +64,12 @@ impl PoolNode {
         }
     }
 
-    /// A node that forbids more, and waits with the prices that this one keeps.
+    /// A node with one limit more, which waits with the prices that this one keeps.
     ///
-    /// - Takes: what it forbids beside what is forbidden here.
+    /// - Takes: what it allows less than this one.
     /// - Errors: want of memory alone.
     pub fn child(&self, alloc: Global, limit: Arc<Limit>) -> Result<PoolNode, AllocError>
-        ensures { IfOk result (λ child. child ≡ child_of self.now (arc_value limit).demand (arc_value limit).arcs) }
+        ensures { IfOk result (λ child. child ≡ child_of self.now (arc_value limit)) }
     {
         let limits = limits_below(alloc, limit, self.limits.as_slice())?;
         PoolNode::new(limits, self.kept_prices().copy()?, self.best_bound)

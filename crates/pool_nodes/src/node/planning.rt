@@ -1,13 +1,13 @@
 //! What a plan takes from a node.
 
 ghost use Rattle.std.specs.Prelude.{◌≡◌};
-ghost use Rattle.proof_tree.specs.declared.tree.TreeNode.TheVariants.{Split};
+ghost use Rattle.branch_tree.specs.Records.{split_record};
 ghost use Rattle.pool_machine.specs.State.{kept_by};
 ghost use Rattle.pool_nodes.specs.Rounds.{best_in};
 ghost use Rattle.pool_nodes.specs.Records.{record_of, children_by};
 
 use super::PoolNode;
-use branch_tree::Division;
+use branch_tree::{ArcSplit, Divider, Division, LoadSplit};
 use plan_base::{BranchId, Prices};
 use pool_machine::Fate;
 use proof_tree::{Evidence, TreeNode};
@@ -24,21 +24,28 @@ fn kept(best_bound: Option<i128>, best: Prices, first: Prices) -> Prices
 
 /// The record of a split.
 fn split(division: Division) -> TreeNode
-    ensures { result ≡ Split division.demand division.at division.left division.right }
+    ensures { result ≡ split_record division.by }
 {
     let Division {
-        demand,
-        at,
-        left,
-        right,
+        by,
         left_child: _left_child,
         right_child: _right_child,
     } = division;
-    TreeNode::Split {
-        demand,
-        node: at,
-        left,
-        right,
+    match by {
+        Divider::Arcs(
+            ArcSplit {
+                demand,
+                at,
+                left,
+                right,
+            },
+        ) => TreeNode::Split {
+            demand,
+            node: at,
+            left,
+            right,
+        },
+        Divider::Load(LoadSplit { place, load }) => TreeNode::Loads { place, load },
     }
 }
 
@@ -72,6 +79,7 @@ impl PoolNode {
             crowd_tried: _crowd_tried,
             round: _round,
             above: _above,
+            split: _split,
         } = self;
         match fate {
             Fate::Undone => {

@@ -22,12 +22,12 @@ pub(super) fn is_open_state(state: NodeState) -> bool
 }
 
 impl<'a> PoolView<'a> {
-    /// Whether the node has a crowd proof, or a bound that is at least the cost of the best design.
+    /// Whether the node has a crowd proof, or a bound above the cost of the best design less the unit of costs.
     pub(super) fn is_closable(&self, node: BranchId) -> bool
-        ensures { result ≡ closable_in (cutoff_of self.now) (slice_get self.now.nodes node.0) }
+        ensures { result ≡ closable_in self.now.unit (cutoff_of self.now) (slice_get self.now.nodes node.0) }
     {
         match self.node(node) {
-            Some(node) => node.is_closable(self.incumbent()),
+            Some(node) => node.is_closable(self.unit, self.incumbent()),
             None => false,
         }
     }

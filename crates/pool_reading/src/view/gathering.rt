@@ -1,16 +1,19 @@
 //! Why a gathering is refused, and what a master step is told.
 
-ghost use Rattle.std.specs.Prelude.{◌≡◌, length, IfOk, IsSome};
+ghost use Rattle.std.specs.Prelude.{◌≡◌, length, IfOk, IfSome, IsSome, slice_get};
 ghost use Rattle.arc_restrict.specs.Rows.{forbids};
-ghost use Rattle.pool_machine.specs.State.{round_of, restriction_of};
+ghost use Rattle.pool_machine.specs.State.{round_of, restriction_of, ranges_of};
 ghost use Rattle.pool_machine.specs.Gathering.{gather_fault, IsBriefOf};
+ghost use Rattle.pool_reading.specs.Work.{enough_in};
 ghost use Rattle.pool_reading.specs.Valuing.{ForRound, ArePermittedLists};
 
 use super::PoolView;
 use arc_restrict::Restriction;
 use column_pool::{Brief, ColumnPool};
+use link_steps::Ranges;
 use plan_base::{BranchId, DemandId, Instance, Items, Path};
 use pool_machine::Gather;
+use pool_machine::limits::ENOUGH_VERSIONS;
 use std::alloc::{AllocError, Global};
 
 /// For each demand copies of the columns that the restriction permits, in their order.
@@ -59,20 +62,47 @@ impl<'a> PoolView<'a> {
         permitted_lists(self.alloc, self.problem, self.columns, &**rows)
     }
 
+    /// Whether no further version of a node is to follow: its crowd prices were tried, or a design is known and enough of
+    /// its versions were complete.
+    pub fn has_enough(&self, node: BranchId) -> bool
+        ensures { result ≡ enough_in self.now (slice_get self.now.nodes node.0) }
+    {
+        match self.node(node) {
+            Some(held) => {
+                held.crowd_tried()
+                    || (self.incumbent.is_some() && held.completed() >= ENOUGH_VERSIONS)
+            }
+            None => false,
+        }
+    }
+
+    /// The ranges of loads at a node that has a round.
+    fn ranges_at(&self, node: BranchId) -> &'a Ranges
+        requires { IsSome (round_of self.now node) }
+        ensures { IfSome (slice_get self.now.nodes node.0) (λ x. result.now ≡ ranges_of self.now.problem x) }
+    {
+        let ranges = self.grounds[node.0 as usize].ranges().unwrap();
+        &**ranges
+    }
+
     /// What a master step is told of the node's round.
     pub fn brief(&self, node: BranchId) -> Result<Brief, AllocError>
         requires { IsSome (round_of self.now node) }
         ensures { IfOk result (λ brief. ForRound self.now node (λ x round. IsBriefOf self.now node x round brief)) }
     {
         let columns = self.permitted_columns(node)?;
+        let ranges = self.ranges_at(node);
         let round = self.round_at(node);
         Ok(Brief {
             node,
             version: round.version(),
             prices: round.prices().copy()?,
+            ranges: ranges.copy()?,
             columns,
             crowd_tried: self.nodes[node.0 as usize].crowd_tried(),
+            has_enough: self.has_enough(node),
             incumbent: self.incumbent(),
+            unit: self.unit,
         })
     }
 }

@@ -1,7 +1,7 @@
 //! What prices are worth at a node, over the columns that it permits.
 
 ghost use Rattle.std.specs.Prelude.{◌≡◌};
-ghost use Rattle.pool_machine.specs.State.{round_of};
+ghost use Rattle.pool_machine.specs.State.{round_of, ranges_of};
 ghost use Rattle.pool_machine.specs.Gathering.{columns_for, first_ungathered};
 ghost use Rattle.pool_machine.specs.Nodes.{IsPriceList};
 ghost use Rattle.master_step.specs.Restricted.{IsRestrictedValue};
@@ -26,9 +26,16 @@ impl<'a> PoolView<'a> {
     pub fn value(&self, node: BranchId, prices: &Prices) -> i128
         requires gathered { IsGatheredAt self.now node }
         requires prices { IsPriceList self.now.problem prices.now }
-        ensures { ForRound self.now node (λ x round. IsRestrictedValue self.now.problem (columns_for self.now x) prices.now result) }
+        ensures { ForRound self.now node (λ x round. IsRestrictedValue self.now.problem (ranges_of self.now.problem x) (columns_for self.now x) prices.now result) }
     {
-        let rows = self.grounds[node.0 as usize].rows().unwrap();
-        master_step::value(self.problem, self.table, prices, self.columns, &**rows)
+        let plot = self.grounds[node.0 as usize].plot().unwrap();
+        master_step::value(
+            self.problem,
+            self.table,
+            &**plot.ranges(),
+            prices,
+            self.columns,
+            &**plot.rows(),
+        )
     }
 }

@@ -5,6 +5,8 @@ use Rattle.column_pool.specs.Briefs.{IsBriefFor}
 use Rattle.master_step.specs.Columns.{HasColumns}
 use Rattle.leaf_work.specs.Advances.{IsNext}
 use Rattle.pool_machine.specs.State.{State}
+use Rattle.pool_machine.specs.Publishing.{PublishStep}
+use Rattle.pool_machine.specs.Settling.{SettleStep}
 use Rattle.pool_machine.specs.Machine.{IsReachable}
 use Rattle.pool_machine.specs.Soundness.{IsSound}
 use Rattle.pool_machine.proofs.Leads.{LeadsTo-trans, LeadsTo-reachable}
@@ -29,14 +31,14 @@ returns-in_err-seek_design-clause-leads c = c.seek_design.ensures.leads
 pub returns-in_err-brief-clause-leads : goal.returns-in_err-brief-clause-leads
 returns-in_err-brief-clause-leads c = LeadsTo-trans c.args.self.now c.seek_design.new.self c.told.new.self c.seek_design.ensures.leads c.told.ensures.keeps.leads
 
-pub next_prices-requires : goal.next_prices-requires
-next_prices-requires c =
+pub next_step-requires : goal.next_step-requires
+next_step-requires c =
     let t = c.told.new.self in
     let sound : IsSound t = IsReachable-sound t (subst IsReachable c.self.view_is c.self.invariant.kept.pool.reachable) in
     let is_p : c.deref.result.now ≡ t.problem = c.deref.ensures ∙ ap (λ (s : State). s.problem) c.self.view_is in
     record {
       table = c.deref-2.ensures ∙ (c.self.invariant.kept.table_is ∙ sym c.deref.ensures);
-      brief = subst (λ (p : Parts). IsBriefFor p c.in_ok-brief.brief.prices c.in_ok-brief.brief.columns) (sym is_p) (briefed-fits t c.args.node c.args.version c.in_ok-brief.brief sound c.in_ok-brief.ensures.briefed);
+      brief = subst (λ (p : Parts). IsBriefFor p c.in_ok-brief.brief.prices c.in_ok-brief.brief.ranges c.in_ok-brief.brief.columns) (sym is_p) (briefed-fits t c.args.node c.args.version c.in_ok-brief.brief sound c.in_ok-brief.ensures.briefed);
       columns = subst (λ (p : Parts). HasColumns p (columns_at c.in_ok-brief.brief.columns)) (sym is_p) (briefed-columns t c.args.node c.args.version c.in_ok-brief.brief sound c.in_ok-brief.ensures.briefed);
     }
 
@@ -52,9 +54,11 @@ returns-in-Some c =
     let next : IsNext t.problem c.in_ok-brief.brief (Some c.in-Some.prices) =
     subst (λ (p : Parts). IsNext p c.in_ok-brief.brief (Some c.in-Some.prices)) (c.deref.ensures ∙ ap (λ (x : State). x.problem) c.self.view_is)
     (subst (λ (o : Option (List ℕ)). IsNext c.deref.result.now c.in_ok-brief.brief o) c.in-Some.is c.in_ok-prices.ensures) in
+    let event : PublishStep t c.args.node c.args.version c.in-Some.prices c.publish-answer.result c.publish-answer.new.self =
+    subst (λ (x : State). PublishStep x c.args.node c.args.version c.in-Some.prices c.publish-answer.result c.publish-answer.new.self) c.advise.ensures c.publish-answer.ensures.event in
     record {
-      leads = published-leads s t c.publish-answer.new.self c.args.node c.args.version c.requires.reachable sound c.requires.advance keeps c.in_ok-brief.brief c.in_ok-brief.ensures.briefed c.in-Some.prices c.publish-answer.result c.publish-answer.ensures.event;
-      closer = advanced-published s t c.publish-answer.new.self c.args.node c.args.version c.requires.reachable sound c.requires.advance keeps c.in_ok-brief.brief c.in_ok-brief.ensures.briefed c.in-Some.prices c.publish-answer.result next c.publish-answer.ensures.event;
+      leads = published-leads s t c.publish-answer.new.self c.args.node c.args.version c.requires.reachable sound c.requires.advance keeps c.in_ok-brief.brief c.in_ok-brief.ensures.briefed c.in-Some.prices c.publish-answer.result event;
+      closer = advanced-published s t c.publish-answer.new.self c.args.node c.args.version c.requires.reachable sound c.requires.advance keeps c.in_ok-brief.brief c.in_ok-brief.ensures.briefed c.in-Some.prices c.publish-answer.result next event;
     }
 
 pub returns : goal.returns
@@ -66,7 +70,9 @@ returns c =
     let next : IsNext t.problem c.in_ok-brief.brief None =
     subst (λ (p : Parts). IsNext p c.in_ok-brief.brief None) (c.deref.ensures ∙ ap (λ (x : State). x.problem) c.self.view_is)
     (subst (λ (o : Option (List ℕ)). IsNext c.deref.result.now c.in_ok-brief.brief o) c.in-None.is c.in_ok-prices.ensures) in
+    let event : SettleStep t c.args.node c.args.version c.settle-answer.result c.settle-answer.new.self =
+    subst (λ (x : State). SettleStep x c.args.node c.args.version c.settle-answer.result c.settle-answer.new.self) c.advise.ensures c.settle-answer.ensures.event in
     record {
-      leads = settled-leads_on s t c.settle-answer.new.self c.args.node c.args.version c.requires.reachable sound c.requires.advance keeps c.in_ok-brief.brief c.in_ok-brief.ensures.briefed c.settle-answer.result c.settle-answer.ensures.event;
-      closer = advanced-settled s t c.settle-answer.new.self c.args.node c.args.version c.requires.reachable sound c.requires.advance keeps c.in_ok-brief.brief c.in_ok-brief.ensures.briefed c.settle-answer.result next c.settle-answer.ensures.event;
+      leads = settled-leads_on s t c.settle-answer.new.self c.args.node c.args.version c.requires.reachable sound c.requires.advance keeps c.in_ok-brief.brief c.in_ok-brief.ensures.briefed c.settle-answer.result event;
+      closer = advanced-settled s t c.settle-answer.new.self c.args.node c.args.version c.requires.reachable sound c.requires.advance keeps c.in_ok-brief.brief c.in_ok-brief.ensures.briefed c.settle-answer.result next event;
     }

@@ -1,8 +1,8 @@
-use Rattle.std.proofs.Common.{◌≡◌, ℕ, length, Option, sym, ap, subst, ◌∙◌}
+use Rattle.std.proofs.Common.{◌≡◌, ℕ, Option, sym, ap, subst, ◌∙◌}
 use Rattle.std.specs.Prelude.{IfNone}
 use Rattle.plan_base.specs.declared.parts.Parts.{Parts}
 use Rattle.plan_base.specs.declared.path.Design.{Design}
-use Rattle.completions.specs.Completions.{CarryLoads, HasOverfull, IsFirstOverfull}
+use Rattle.completions.specs.Completions.{HasOverfull}
 use Rattle.pool_machine.specs.State.{State}
 use Rattle.pool_machine.specs.Examining.{ClosesOverfull, ClosesRouted}
 use Rattle.pool_machine.specs.Machine.{IsReachable}
@@ -12,38 +12,30 @@ use Rattle.pool_core.proofs.pool.Pool.close_routed.Goals as goal
 
 pub close-requires-clause-event : goal.close-requires-clause-event
 close-requires-clause-event c =
-    let s = c.args.self.now in
-    let same : c.deref.result.now ≡ s.problem = c.deref.ensures ∙ ap (λ (x : State). x.problem) c.self.view_is in
-    let first : IsFirstOverfull s.problem c.args.paths c.in-Some.link.0 = subst (λ (p : Parts). IsFirstOverfull p c.args.paths c.in-Some.link.0) same c.in-Some.ensures.some in
-    overfull-reachable s c.args.node c.args.paths c.requires c.in-Some.link first (subst IsReachable c.self.view_is c.self.invariant.kept.pool.reachable)
+    overfull-reachable c.args.self.now c.args.node c.args.paths c.requires c.in-Some.link c.in-Some.ensures.some (subst IsReachable c.self.view_is c.self.invariant.kept.pool.reachable)
 
 pub returns-in-Some-clause-event : goal.returns-in-Some-clause-event
 returns-in-Some-clause-event c =
-    let s = c.args.self.now in
-    let same : c.deref.result.now ≡ s.problem = c.deref.ensures ∙ ap (λ (x : State). x.problem) c.self.view_is in
-    let first : IsFirstOverfull s.problem c.args.paths c.in-Some.link.0 = subst (λ (p : Parts). IsFirstOverfull p c.args.paths c.in-Some.link.0) same c.in-Some.ensures.some in
-    subst (ClosesOverfull s c.args.node) (sym c.close.ensures) (overfull-closes s c.args.node c.args.paths c.requires c.in-Some.link first)
+    subst (ClosesOverfull c.args.self.now c.args.node) (sym c.close.ensures) (overfull-closes c.args.self.now c.args.node c.args.paths c.requires c.in-Some.link c.in-Some.ensures.some)
 
 pub unreachable-requires : goal.unreachable-requires
 unreachable-requires c =
     let s = c.args.self.now in
     let same : c.deref.result.now ≡ s.problem = c.deref.ensures ∙ ap (λ (x : State). x.problem) c.self.view_is in
-    let same_3 : c.deref-3.result.now ≡ s.problem = c.deref-3.ensures ∙ ap (λ (x : State). x.problem) c.self.view_is in
-    let carry : CarryLoads s.problem c.args.paths (length s.problem.links) = subst (λ (p : Parts). CarryLoads p c.args.paths (length p.links)) same c.in_default.ensures.none in
-    let none : IfNone c.in_ok-done.done (HasOverfull s.problem c.args.paths) = subst (λ (p : Parts). IfNone c.in_ok-done.done (HasOverfull p c.args.paths)) same_3 c.in_ok-done.ensures.none in
-    carry-overfull s.problem c.args.paths carry (subst (λ (o : Option (ℕ × Design)). IfNone o (HasOverfull s.problem c.args.paths)) c.in_default-done.is none)
+    let none : IfNone c.in_ok-done.done (HasOverfull s.problem c.args.paths) = subst (λ (p : Parts). IfNone c.in_ok-done.done (HasOverfull p c.args.paths)) same c.in_ok-done.ensures.none in
+    carry-overfull s.problem c.args.paths c.in_default.ensures.none.carry (subst (λ (o : Option (ℕ × Design)). IfNone o (HasOverfull s.problem c.args.paths)) c.in_default-done.is none)
 
 pub close-requires-2-clause-event : goal.close-requires-2-clause-event
 close-requires-2-clause-event c =
     let s = c.args.self.now in
-    let same : c.deref-3.result.now ≡ s.problem = c.deref-3.ensures ∙ ap (λ (x : State). x.problem) c.self.view_is in
-    routed-reachable s c.args.node c.args.paths c.requires c.in-Some-done._cost c.in-Some-done.design (rw (same, c.in-Some-done.is) at c.in_ok-done.ensures.some) (rw (same, c.in-Some-done.is) at c.in_ok-done.ensures.counts)
+    let same : c.deref.result.now ≡ s.problem = c.deref.ensures ∙ ap (λ (x : State). x.problem) c.self.view_is in
+    routed-reachable s c.args.node c.args.paths c.requires c.in_default.ensures.none c.in-Some-done._cost c.in-Some-done.design (rw (same, c.in-Some-done.is) at c.in_ok-done.ensures.some) (rw (same, c.in-Some-done.is) at c.in_ok-done.ensures.counts)
     c.better-held.new.self c.better-held.result c.better-held.ensures.event (subst IsReachable c.self.view_is c.self.invariant.kept.pool.reachable)
 
 pub returns-clause-event : goal.returns-clause-event
 returns-clause-event c =
     let s = c.args.self.now in
-    let same : c.deref-3.result.now ≡ s.problem = c.deref-3.ensures ∙ ap (λ (x : State). x.problem) c.self.view_is in
+    let same : c.deref.result.now ≡ s.problem = c.deref.ensures ∙ ap (λ (x : State). x.problem) c.self.view_is in
     subst (ClosesRouted s c.args.node) (sym c.close-2.ensures)
-    (routed-closes s c.args.node c.args.paths c.requires c.in-Some-done._cost c.in-Some-done.design (rw (same, c.in-Some-done.is) at c.in_ok-done.ensures.some) (rw (same, c.in-Some-done.is) at c.in_ok-done.ensures.counts)
+    (routed-closes s c.args.node c.args.paths c.requires c.in_default.ensures.none c.in-Some-done._cost c.in-Some-done.design (rw (same, c.in-Some-done.is) at c.in_ok-done.ensures.some) (rw (same, c.in-Some-done.is) at c.in_ok-done.ensures.counts)
     c.better-held.new.self c.better-held.result c.better-held.ensures.event)

@@ -1,32 +1,32 @@
-use Rattle.std.proofs.Common.{◌≡◌, ◌<◌, length, refl, sym, ap, subst, ◌∙◌, rules}
+use Rattle.std.proofs.Common.{◌≡◌, ◌<◌, length, sym, ap, subst, ◌∙◌, rules}
 use Rattle.arc_restrict.specs.Rows.{forbids}
 use Rattle.pool_core.specs.contracts.pool.Pool.{the_view}
 use Rattle.plan_base.specs.Places.{places}
 use Rattle.master_step.specs.Outcomes.{HasGain, HasStalled}
-use Rattle.pool_machine.specs.State.{State, restriction_of}
+use Rattle.pool_machine.specs.State.{State, restriction_of, ranges_of}
 use Rattle.pool_machine.specs.Gathering.{columns_for}
 use Rattle.pool_machine.specs.Nodes.{IsPriceList}
 use Rattle.pool_machine.specs.Soundness.{IsSound}
 use Rattle.pool_machine.proofs.Runs.{IsReachable-sound}
 use Rattle.pool_reading.specs.Valuing.{IsGatheredAt, ForRound}
-use Rattle.pool_reading.proofs.Valuing.{gathered-round, ask-count, ask-limit, ask-columns, ask-permitted, tell-round}
+use Rattle.pool_reading.proofs.Valuing.{gathered-round, ask-count, ask-limit, ask-ranges, ask-columns, ask-permitted, tell-round}
 use Rattle.pool_core.proofs.Valuing.{gathered-some, read-prices, round-price_list, some_then, none_then}
-use Rattle.pool_reading.proofs.Reading.{read-rows, read-forbids, read-round, rows-within, shown-some, has-within}
+use Rattle.pool_reading.proofs.Reading.{round-kept, plot-some, plot-region, read-round, ground-within, shown-some, has-within}
 use Rattle.pool_core.proofs.pool.Pool.gain.Goals as goal
 
 pub index-requires : goal.index-requires
 index-requires c =
     let s = the_view c.self.inside in
     let at : IsGatheredAt s c.args.node = subst (λ (x : State). IsGatheredAt x c.args.node) (sym c.self.view_is) c.requires in
-    let within : c.args.node.0 < length c.self.inside.grounds.items = rows-within s c.args.node c.self.inside.grounds.items c.self.invariant.kept.has_grounds (gathered-round s c.args.node at) in
+    let within : c.args.node.0 < length c.self.inside.grounds.items = ground-within s c.args.node c.self.inside.grounds.items c.self.invariant.kept.has_grounds (gathered-round s c.args.node at) in
     search rules
 
-pub unwrap-rows-requires : goal.unwrap-rows-requires
-unwrap-rows-requires c =
+pub unwrap-plot-requires : goal.unwrap-plot-requires
+unwrap-plot-requires c =
     let s = the_view c.self.inside in
     let at : IsGatheredAt s c.args.node = subst (λ (x : State). IsGatheredAt x c.args.node) (sym c.self.view_is) c.requires in
-    let w = read-rows s c.args.node c.self.inside.grounds.items c.index.result.now (IsReachable-sound s c.self.invariant.kept.pool.reachable) c.self.invariant.kept.has_grounds (gathered-round s c.args.node at) c.index.ensures in
-    shown-some _ _ _ (c.rows.ensures ∙ w.1) refl
+    let w = round-kept s c.args.node c.self.inside.grounds.items c.index.result.now (IsReachable-sound s c.self.invariant.kept.pool.reachable) c.self.invariant.kept.has_grounds (gathered-round s c.args.node at) c.index.ensures in
+    plot-some s.problem at.node c.index.result.now w c.plot.result _ c.plot.ensures
 
 pub index-requires-2 : goal.index-requires-2
 index-requires-2 c =
@@ -47,16 +47,19 @@ gain-requires c =
     let s = the_view c.self.inside in
     let sound : IsSound s = IsReachable-sound s c.self.invariant.kept.pool.reachable in
     let at : IsGatheredAt s c.args.node = subst (λ (x : State). IsGatheredAt x c.args.node) (sym c.self.view_is) c.requires in
-    let forbidden : forbids c.deref-3.result.now ≡ restriction_of at.node =
-    read-forbids _ s c.args.node c.self.inside.grounds.items c.index.result.now _ _ c.deref-3.result.now sound c.self.invariant.kept.has_grounds (gathered-round s c.args.node at) c.index.ensures c.rows.ensures c.unwrap-rows.ensures c.deref-3.ensures in
+    let w = round-kept s c.args.node c.self.inside.grounds.items c.index.result.now sound c.self.invariant.kept.has_grounds (gathered-round s c.args.node at) c.index.ensures in
+    let is = plot-region s.problem at.node c.index.result.now w c.plot.result _ c.unwrap-plot.result c.plot.ensures c.unwrap-plot.ensures in
+    let forbidden : forbids c.deref-4.result.now ≡ restriction_of at.node = ap forbids (c.deref-4.ensures ∙ c.rows.ensures) ∙ is.forbidden in
+    let ranges : c.deref-3.result.now ≡ ranges_of s.problem at.node = c.deref-3.ensures ∙ (c.ranges-2.ensures ∙ is.ranges) in
     let is_prices = read-prices _ s c.args.node c.index-2.result.now _ _ c.prices.result.now at c.index-2.ensures c.round.ensures c.unwrap-round.ensures c.prices.ensures in
     let prices : IsPriceList s.problem c.prices.result.now = subst (IsPriceList s.problem) (sym is_prices) (round-price_list s c.args.node sound at) in
     record {
       table = c.deref-2.ensures ∙ (c.self.invariant.kept.table_is ∙ sym c.deref.ensures);
-      price_count = ask-count s c.args.node sound at c.deref.result.now c.deref-3.result.now c.deref.ensures forbidden c.prices.result.now prices;
-      price_limit = ask-limit s c.args.node sound at c.deref.result.now c.deref-3.result.now c.deref.ensures forbidden c.prices.result.now prices;
-      columns = ask-columns s c.args.node sound at c.deref.result.now c.deref-3.result.now c.deref.ensures forbidden;
-      permitted = ask-permitted s c.args.node sound at c.deref.result.now c.deref-3.result.now c.deref.ensures forbidden;
+      are_ranges = ask-ranges s c.args.node sound at c.deref.result.now c.deref-4.result.now c.deref.ensures forbidden c.deref-3.result.now ranges;
+      price_count = ask-count s c.args.node sound at c.deref.result.now c.deref-4.result.now c.deref.ensures forbidden c.prices.result.now prices;
+      price_limit = ask-limit s c.args.node sound at c.deref.result.now c.deref-4.result.now c.deref.ensures forbidden c.prices.result.now prices;
+      columns = ask-columns s c.args.node sound at c.deref.result.now c.deref-4.result.now c.deref.ensures forbidden;
+      permitted = ask-permitted s c.args.node sound at c.deref.result.now c.deref-4.result.now c.deref.ensures forbidden;
       room = c.self.invariant.room_is ∙ ap places (sym c.deref.ensures);
     }
 
@@ -68,12 +71,14 @@ returns-clause-some c =
     let s = the_view c.self.inside in
     let sound : IsSound s = IsReachable-sound s c.self.invariant.kept.pool.reachable in
     let at : IsGatheredAt s c.args.node = subst (λ (x : State). IsGatheredAt x c.args.node) (sym c.self.view_is) c.requires in
-    let forbidden : forbids c.deref-3.result.now ≡ restriction_of at.node =
-    read-forbids _ s c.args.node c.self.inside.grounds.items c.index.result.now _ _ c.deref-3.result.now sound c.self.invariant.kept.has_grounds (gathered-round s c.args.node at) c.index.ensures c.rows.ensures c.unwrap-rows.ensures c.deref-3.ensures in
+    let w = round-kept s c.args.node c.self.inside.grounds.items c.index.result.now sound c.self.invariant.kept.has_grounds (gathered-round s c.args.node at) c.index.ensures in
+    let is = plot-region s.problem at.node c.index.result.now w c.plot.result _ c.unwrap-plot.result c.plot.ensures c.unwrap-plot.ensures in
+    let forbidden : forbids c.deref-4.result.now ≡ restriction_of at.node = ap forbids (c.deref-4.ensures ∙ c.rows.ensures) ∙ is.forbidden in
+    let ranges : c.deref-3.result.now ≡ ranges_of s.problem at.node = c.deref-3.ensures ∙ (c.ranges-2.ensures ∙ is.ranges) in
     let is_prices = read-prices _ s c.args.node c.index-2.result.now _ _ c.prices.result.now at c.index-2.ensures c.round.ensures c.unwrap-round.ensures c.prices.ensures in
     some_then c.gain.result _ _
-    (λ new has. subst (λ (x : State). ForRound x c.args.node (λ n round. HasGain x.problem (columns_for x n) round.prices new)) c.self.view_is
-    (tell-round s c.args.node sound at c.deref.result.now c.deref-3.result.now c.deref.ensures forbidden (λ p choices prices. HasGain p choices prices new) c.prices.result.now is_prices has))
+    (λ new has. subst (λ (x : State). ForRound x c.args.node (λ n round. HasGain x.problem (ranges_of x.problem n) (columns_for x n) round.prices new)) c.self.view_is
+    (tell-round s c.args.node sound at c.deref.result.now c.deref-4.result.now c.deref.ensures forbidden (λ p ranges choices prices. HasGain p ranges choices prices new) c.deref-3.result.now c.prices.result.now ranges is_prices has))
     c.gain.ensures.some
 
 pub returns-clause-none : goal.returns-clause-none
@@ -81,10 +86,12 @@ returns-clause-none c =
     let s = the_view c.self.inside in
     let sound : IsSound s = IsReachable-sound s c.self.invariant.kept.pool.reachable in
     let at : IsGatheredAt s c.args.node = subst (λ (x : State). IsGatheredAt x c.args.node) (sym c.self.view_is) c.requires in
-    let forbidden : forbids c.deref-3.result.now ≡ restriction_of at.node =
-    read-forbids _ s c.args.node c.self.inside.grounds.items c.index.result.now _ _ c.deref-3.result.now sound c.self.invariant.kept.has_grounds (gathered-round s c.args.node at) c.index.ensures c.rows.ensures c.unwrap-rows.ensures c.deref-3.ensures in
+    let w = round-kept s c.args.node c.self.inside.grounds.items c.index.result.now sound c.self.invariant.kept.has_grounds (gathered-round s c.args.node at) c.index.ensures in
+    let is = plot-region s.problem at.node c.index.result.now w c.plot.result _ c.unwrap-plot.result c.plot.ensures c.unwrap-plot.ensures in
+    let forbidden : forbids c.deref-4.result.now ≡ restriction_of at.node = ap forbids (c.deref-4.ensures ∙ c.rows.ensures) ∙ is.forbidden in
+    let ranges : c.deref-3.result.now ≡ ranges_of s.problem at.node = c.deref-3.ensures ∙ (c.ranges-2.ensures ∙ is.ranges) in
     let is_prices = read-prices _ s c.args.node c.index-2.result.now _ _ c.prices.result.now at c.index-2.ensures c.round.ensures c.unwrap-round.ensures c.prices.ensures in
     none_then c.gain.result _ _
-    (λ stalled. subst (λ (x : State). ForRound x c.args.node (λ n round. HasStalled x.problem (columns_for x n) round.prices)) c.self.view_is
-    (tell-round s c.args.node sound at c.deref.result.now c.deref-3.result.now c.deref.ensures forbidden HasStalled c.prices.result.now is_prices stalled))
+    (λ stalled. subst (λ (x : State). ForRound x c.args.node (λ n round. HasStalled x.problem (ranges_of x.problem n) (columns_for x n) round.prices)) c.self.view_is
+    (tell-round s c.args.node sound at c.deref.result.now c.deref-4.result.now c.deref.ensures forbidden HasStalled c.deref-3.result.now c.prices.result.now ranges is_prices stalled))
     c.gain.ensures.none

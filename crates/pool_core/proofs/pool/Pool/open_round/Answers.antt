@@ -10,7 +10,8 @@ use Rattle.pool_machine.specs.Opening.{open_fault, Opens}
 use Rattle.pool_machine.specs.Changes.{TakesRound, with_node}
 use Rattle.pool_nodes.specs.Rounds.{MayComplete}
 use Rattle.pool_nodes.specs.Slots.{IsFirstFree}
-use Rattle.pool_core.proofs.OpenPool.{MayOpen, open_fault-none, some_free, read-free, place-fits, version-small, slot-within, begun-ready, begun-takes, opens, opened-kept}
+use Rattle.pool_core.proofs.KeptRanges.{leaf-within, leaf-some, leaf-ranges}
+use Rattle.pool_core.proofs.OpenPool.{MayOpen, open_fault-none, some_free, read-free, place-fits, version-small, slot-within, begun-limits, begun-ready, begun-takes, opens, opened-kept}
 use Rattle.pool_core.proofs.pool.Pool.open_round.Goals as goal
 
 pub first_free-slot-requires : goal.first_free-slot-requires
@@ -42,6 +43,25 @@ begin-requires c =
     let may : MayOpen (the_view c.self.inside) c.args.node = open_fault-none (the_view c.self.inside) c.args.node (subst (λ (s : State). open_fault s c.args.node ≡ None) (sym c.self.view_is) (sym (c.open_refusal.ensures ∙ ap (λ (s : State). open_fault s c.args.node) c.view.ensures) ∙ c.in_default.is)) in
     let first : IsFirstFree c.self.inside.places.items c.first_free-slot.result = subst (λ (xs : List Slot). IsFirstFree xs c.first_free-slot.result) c.as_slice.ensures.value c.first_free-slot.ensures in
     place-fits (the_view c.self.inside) c.self.inside.places.items c.args.node c.first_free-slot.result c.self.invariant.kept.pool may first c.index_mut-opened.result.now c.in-Free.place c.index_mut-free.result.now c.index_mut-opened.ensures.value c.index_mut-free.ensures.value (sym c.replace.ensures.value ∙ c.in-Free.is)
+
+pub index-requires : goal.index-requires
+index-requires c =
+    let may : MayOpen (the_view c.self.inside) c.args.node = open_fault-none (the_view c.self.inside) c.args.node (subst (λ (s : State). open_fault s c.args.node ≡ None) (sym c.self.view_is) (sym (c.open_refusal.ensures ∙ ap (λ (s : State). open_fault s c.args.node) c.view.ensures) ∙ c.in_default.is)) in
+    let within : c.args.node.0 < length c.self.inside.grounds.items = leaf-within (the_view c.self.inside) c.args.node c.self.inside.grounds.items c.self.invariant.kept.has_grounds may.node may.is_node may.undone in
+    search rules
+
+pub unwrap-ranges-requires : goal.unwrap-ranges-requires
+unwrap-ranges-requires c =
+    let may : MayOpen (the_view c.self.inside) c.args.node = open_fault-none (the_view c.self.inside) c.args.node (subst (λ (s : State). open_fault s c.args.node ≡ None) (sym c.self.view_is) (sym (c.open_refusal.ensures ∙ ap (λ (s : State). open_fault s c.args.node) c.view.ensures) ∙ c.in_default.is)) in
+    leaf-some (the_view c.self.inside) c.args.node c.self.inside.grounds.items c.self.invariant.kept.has_grounds may.node may.is_node may.undone _ c.index.result.now c.index.ensures c.ranges-2.result c.ranges-2.ensures
+
+pub complete-requires-clause-ranges : goal.complete-requires-clause-ranges
+complete-requires-clause-ranges c =
+    let may : MayOpen (the_view c.self.inside) c.args.node = open_fault-none (the_view c.self.inside) c.args.node (subst (λ (s : State). open_fault s c.args.node ≡ None) (sym c.self.view_is) (sym (c.open_refusal.ensures ∙ ap (λ (s : State). open_fault s c.args.node) c.view.ensures) ∙ c.in_default.is)) in
+    let first : IsFirstFree c.self.inside.places.items c.first_free-slot.result = subst (λ (xs : List Slot). IsFirstFree xs c.first_free-slot.result) c.as_slice.ensures.value c.first_free-slot.ensures in
+    leaf-ranges (the_view c.self.inside) c.args.node c.self.inside.grounds.items c.self.invariant.kept.has_grounds may.node may.is_node may.undone _ c.index.result.now c.index.ensures c.ranges-2.result c.ranges-2.ensures c.unwrap-ranges.result
+    c.deref.result.now c.deref-3.result.now c.begin.new.self c.unwrap-ranges.ensures c.deref.ensures c.deref-3.ensures
+    (begun-limits (the_view c.self.inside) c.self.inside.places.items c.args.node c.first_free-slot.result c.self.invariant.kept.pool may first c.index_mut-opened.result.now c.in-Free.place c.index_mut-free.result.now c.index_mut-opened.ensures.value c.index_mut-free.ensures.value (sym c.replace.ensures.value ∙ c.in-Free.is) c.begin.new.self c.begin.ensures)
 
 pub complete-requires-clause-ready : goal.complete-requires-clause-ready
 complete-requires-clause-ready c =

@@ -8,7 +8,8 @@ use Rattle.pool_machine.specs.Changes.{TakesRound, with_node}
 use Rattle.pool_machine.specs.Publishing.{Publishes}
 use Rattle.pool_nodes.specs.Rounds.{MayComplete}
 use Rattle.pool_core.specs.Foretold.{IsFollowing}
-use Rattle.pool_core.proofs.Renewing.{to_publish-of, renew-within, renew-small, renew-fits, renewed-ready, renewed-takes, publishes, renewed-kept}
+use Rattle.pool_core.proofs.KeptRanges.{leaf-within, leaf-some, leaf-ranges}
+use Rattle.pool_core.proofs.Renewing.{to_publish-of, renew-within, renew-small, renew-fits, renew-undone, renewed-limits, renewed-ready, renewed-takes, publishes, renewed-kept}
 use Rattle.pool_core.proofs.pool.Pool.publish_following.Goals as goal
 
 pub index_mut-renewed-requires : goal.index_mut-renewed-requires
@@ -25,6 +26,33 @@ renew-requires c =
     let next : IsFollowing s c.args.node c.args.seen c.args.prices.now c.args.next = subst (λ (x : State). IsFollowing x c.args.node c.args.seen c.args.prices.now c.args.next) (sym c.self.view_is) c.requires in
     let to = to_publish-of s c.args.node c.args.seen c.args.prices.now c.args.next next in
     renew-fits s c.self.inside.places.items c.args.node c.args.seen c.args.prices.now c.args.next.crowd_tried c.self.invariant.kept.pool to c.index_mut-renewed.result.now c.index_mut-renewed.ensures.value
+
+pub index-requires : goal.index-requires
+index-requires c =
+    let s = the_view c.self.inside in
+    let next : IsFollowing s c.args.node c.args.seen c.args.prices.now c.args.next = subst (λ (x : State). IsFollowing x c.args.node c.args.seen c.args.prices.now c.args.next) (sym c.self.view_is) c.requires in
+    let to = to_publish-of s c.args.node c.args.seen c.args.prices.now c.args.next next in
+    let undone = renew-undone s c.self.inside.places.items c.args.node c.args.seen c.args.prices.now c.args.next.crowd_tried c.self.invariant.kept.pool to in
+    let within : c.args.node.0 < length c.self.inside.grounds.items = leaf-within s c.args.node c.self.inside.grounds.items c.self.invariant.kept.has_grounds to.node to.may.is_gathered.complete_round.is_node undone in
+    search rules
+
+pub unwrap-ranges-requires : goal.unwrap-ranges-requires
+unwrap-ranges-requires c =
+    let s = the_view c.self.inside in
+    let next : IsFollowing s c.args.node c.args.seen c.args.prices.now c.args.next = subst (λ (x : State). IsFollowing x c.args.node c.args.seen c.args.prices.now c.args.next) (sym c.self.view_is) c.requires in
+    let to = to_publish-of s c.args.node c.args.seen c.args.prices.now c.args.next next in
+    let undone = renew-undone s c.self.inside.places.items c.args.node c.args.seen c.args.prices.now c.args.next.crowd_tried c.self.invariant.kept.pool to in
+    leaf-some s c.args.node c.self.inside.grounds.items c.self.invariant.kept.has_grounds to.node to.may.is_gathered.complete_round.is_node undone _ c.index.result.now c.index.ensures c.ranges-2.result c.ranges-2.ensures
+
+pub complete-requires-clause-ranges : goal.complete-requires-clause-ranges
+complete-requires-clause-ranges c =
+    let s = the_view c.self.inside in
+    let next : IsFollowing s c.args.node c.args.seen c.args.prices.now c.args.next = subst (λ (x : State). IsFollowing x c.args.node c.args.seen c.args.prices.now c.args.next) (sym c.self.view_is) c.requires in
+    let to = to_publish-of s c.args.node c.args.seen c.args.prices.now c.args.next next in
+    let undone = renew-undone s c.self.inside.places.items c.args.node c.args.seen c.args.prices.now c.args.next.crowd_tried c.self.invariant.kept.pool to in
+    leaf-ranges s c.args.node c.self.inside.grounds.items c.self.invariant.kept.has_grounds to.node to.may.is_gathered.complete_round.is_node undone _ c.index.result.now c.index.ensures c.ranges-2.result c.ranges-2.ensures c.unwrap-ranges.result
+    c.deref.result.now c.deref-3.result.now c.renew.new.self c.unwrap-ranges.ensures c.deref.ensures c.deref-3.ensures
+    (renewed-limits s c.self.inside.places.items c.args.node c.args.seen c.args.prices.now c.args.next.crowd_tried c.self.invariant.kept.pool to c.index_mut-renewed.result.now c.index_mut-renewed.ensures.value c.renew.new.self c.renew.ensures)
 
 pub complete-requires-clause-ready : goal.complete-requires-clause-ready
 complete-requires-clause-ready c =

@@ -1,6 +1,6 @@
 use Rattle.std.proofs.Common.{◌≡◌, ◌<◌, ◌+◌, ◌++◌, length, List, get_or, set, Option, rules, add-one, sym, ap, subst, ◌∙◌}
 use Rattle.std.specs.Arc.{arc_value}
-use Rattle.arc_restrict.specs.Rows.{Rows}
+use Rattle.pool_nodes.specs.Grounds.{Kept}
 use Rattle.pool_core.specs.contracts.pool.Pool.{the_view}
 use Rattle.pool_machine.specs.State.{Node, State}
 use Rattle.pool_machine.specs.Dividing.{Divides}
@@ -31,7 +31,7 @@ pub index_mut-ground-requires : goal.index_mut-ground-requires
 index_mut-ground-requires c =
     let grounds : c.append_both.new.grounds.items ≡ c.self.inside.grounds.items ++ c.args.grounds.now.items = c.in_ok-append_both.ensures.grounds in
     let within : c.args.node.0 < length c.append_both.new.grounds.items =
-    subst (λ (xs : List (Option Rows)). c.args.node.0 < length xs) (sym grounds) (ground-within (the_view c.self.inside) _ c.self.inside.grounds.items c.self.inside.places.items c.args.node c.args.division c.self.invariant.kept (subst (λ (s : State). IsDivisionAt s c.args.node c.args.division) (sym c.self.view_is) c.requires.division) c.args.children.now.items c.args.grounds.now.items (subst (λ (s : State). AreChildrenAt s c.args.node c.args.division c.args.children.now.items c.args.grounds.now.items) (sym c.self.view_is) c.requires.children)) in
+    subst (λ (xs : List (Option Kept)). c.args.node.0 < length xs) (sym grounds) (ground-within (the_view c.self.inside) _ c.self.inside.grounds.items c.self.inside.places.items c.args.node c.args.division c.self.invariant.kept (subst (λ (s : State). IsDivisionAt s c.args.node c.args.division) (sym c.self.view_is) c.requires.division) c.args.children.now.items c.args.grounds.now.items (subst (λ (s : State). AreChildrenAt s c.args.node c.args.division c.args.children.now.items c.args.grounds.now.items) (sym c.self.view_is) c.requires.children)) in
     search rules
 
 pub overflow_add-self : goal.overflow_add-self
@@ -46,7 +46,7 @@ invariant_of-self-2 c = record {
       let grounds : c.append_both.new.grounds.items ≡ c.self.inside.grounds.items ++ c.args.grounds.now.items = c.in_ok-append_both.ensures.grounds in
       let after : List Node → State = λ xs. record (the_view c.self.inside) { nodes = set xs c.args.node.0 c.divide-round.new.self; examined = c.self.inside.examined + 1 } in
       subst (λ (xs : List Node). IsKeptPool (after xs) (arc_value c.self.inside.table) (set c.append_both.new.grounds.items c.args.node.0 c.clear.new.self) c.give_back.new.places.items) (sym nodes)
-      (subst (λ (gs : List (Option Rows)). IsKeptPool (after (c.self.inside.nodes.items ++ c.args.children.now.items)) (arc_value c.self.inside.table) (set gs c.args.node.0 c.clear.new.self) c.give_back.new.places.items) (sym grounds)
+      (subst (λ (gs : List (Option Kept)). IsKeptPool (after (c.self.inside.nodes.items ++ c.args.children.now.items)) (arc_value c.self.inside.table) (set gs c.args.node.0 c.clear.new.self) c.give_back.new.places.items) (sym grounds)
       (divided-kept (the_view c.self.inside) _ c.self.inside.grounds.items c.self.inside.places.items c.args.node c.args.division c.self.invariant.kept (subst (λ (s : State). IsDivisionAt s c.args.node c.args.division) (sym c.self.view_is) c.requires.division) c.args.children.now.items c.args.grounds.now.items (subst (λ (s : State). AreChildrenAt s c.args.node c.args.division c.args.children.now.items c.args.grounds.now.items) (sym c.self.view_is) c.requires.children) c.index_mut-divided.result.now (c.index_mut-divided.ensures.value ∙ ap (λ (xs : List Node). get_or xs c.args.node.0 c.index_mut-divided.result.now) nodes) c.divide-round.new.self (c.self.inside.examined + 1) c.clear.new.self c.give_back.new.places.items
       c.divide-round.ensures.node (add-one c.self.inside.examined) c.clear.ensures
       (c.give_back.ensures ∙ ap (given_back c.self.inside.places.items) c.divide-round.ensures.round)))

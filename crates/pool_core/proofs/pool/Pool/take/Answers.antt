@@ -10,7 +10,8 @@ use Rattle.pool_machine.specs.Changes.{TakesRound, with_node}
 use Rattle.pool_machine.specs.Nodes.{IsSoundNode}
 use Rattle.pool_machine.specs.Soundness.{IsSound}
 use Rattle.pool_machine.proofs.Runs.{IsReachable-sound}
-use Rattle.pool_core.proofs.OfferPool.{MayOffer, offer_fault-none, put-sound, takes-cut, cut-kept, put-round, accepts, accepted-kept, accepted-small}
+use Rattle.pool_core.proofs.KeptRanges.{leaf-within, leaf-some, leaf-ranges}
+use Rattle.pool_core.proofs.OfferPool.{MayOffer, offer_fault-none, put-limits, offer-undone, put-sound, takes-cut, cut-kept, put-round, accepts, accepted-kept, accepted-small}
 use Rattle.pool_core.proofs.pool.Pool.take.Goals as goal
 
 pub index_mut-priced-requires : goal.index_mut-priced-requires
@@ -41,6 +42,32 @@ returns-in-NoPath c =
       event = subst (λ (s : State). TakesCut s c.args.offer (with_node (the_view c.self.inside) c.args.offer.node c.hold_cut.new.self)) c.self.view_is
           (takes-cut s c.args.offer may c.index_mut-priced.result.now c.index_mut-priced.ensures.value c.in-NoPath.reached c.in-NoPath.is c.hold_cut.new.self c.hold_cut.ensures);
     }
+
+pub index-requires : goal.index-requires
+index-requires c =
+    let s = the_view c.self.inside in
+    let sound : IsSound s = IsReachable-sound s c.self.invariant.kept.pool.reachable in
+    let may : MayOffer s c.args.offer = offer_fault-none s c.args.offer sound (subst (λ (s : State). offer_fault s c.args.offer ≡ None) (sym c.self.view_is) c.requires) in
+    let undone = offer-undone s c.args.offer may c.index_mut-priced.result.now c.index_mut-priced.ensures.value sound in
+    let within : c.args.offer.node.0 < length c.self.inside.grounds.items = leaf-within s c.args.offer.node c.self.inside.grounds.items c.self.invariant.kept.has_grounds may.node may.fits.is_node undone in
+    search rules
+
+pub unwrap-ranges-requires : goal.unwrap-ranges-requires
+unwrap-ranges-requires c =
+    let s = the_view c.self.inside in
+    let sound : IsSound s = IsReachable-sound s c.self.invariant.kept.pool.reachable in
+    let may : MayOffer s c.args.offer = offer_fault-none s c.args.offer sound (subst (λ (s : State). offer_fault s c.args.offer ≡ None) (sym c.self.view_is) c.requires) in
+    let undone = offer-undone s c.args.offer may c.index_mut-priced.result.now c.index_mut-priced.ensures.value sound in
+    leaf-some s c.args.offer.node c.self.inside.grounds.items c.self.invariant.kept.has_grounds may.node may.fits.is_node undone _ c.index.result.now c.index.ensures c.ranges-in-Path.result c.ranges-in-Path.ensures
+
+pub put-left-requires-clause-ranges : goal.put-left-requires-clause-ranges
+put-left-requires-clause-ranges c =
+    let s = the_view c.self.inside in
+    let sound : IsSound s = IsReachable-sound s c.self.invariant.kept.pool.reachable in
+    let may : MayOffer s c.args.offer = offer_fault-none s c.args.offer sound (subst (λ (s : State). offer_fault s c.args.offer ≡ None) (sym c.self.view_is) c.requires) in
+    let undone = offer-undone s c.args.offer may c.index_mut-priced.result.now c.index_mut-priced.ensures.value sound in
+    leaf-ranges s c.args.offer.node c.self.inside.grounds.items c.self.invariant.kept.has_grounds may.node may.fits.is_node undone _ c.index.result.now c.index.ensures c.ranges-in-Path.result c.ranges-in-Path.ensures c.unwrap-ranges.result
+    c.deref.result.now c.deref-in-Path-2.result.now c.index_mut-priced.result.now c.unwrap-ranges.ensures c.deref.ensures c.deref-in-Path-2.ensures (put-limits s c.args.offer may c.index_mut-priced.result.now c.index_mut-priced.ensures.value)
 
 pub put-left-requires-clause-sound : goal.put-left-requires-clause-sound
 put-left-requires-clause-sound c =

@@ -1,20 +1,22 @@
-use Rattle.std.proofs.Common.{◌≡◌, ◌<◌, ◌≤◌, ◌+◌, suc, length, Some, rules, add-one, refl, sym, ap, subst, ◌∙◌}
+use Rattle.std.proofs.Common.{◌≡◌, ◌<◌, length, Some, rules, refl, sym, ap, subst, ◌∙◌}
 use Rattle.std.specs.Prelude.{IsNone}
-use Rattle.std.specs.Arc.{arc_value}
 use Rattle.plan_base.specs.declared.parts.Parts.{Parts}
 use Rattle.arc_restrict.specs.Restrictions.{Forbidden}
 use Rattle.arc_restrict.specs.Rows.{forbids}
 use Rattle.pool_reading.specs.Shown.{shown}
-use Rattle.branch_tree.specs.declared.node.Division.{Division}
-use Rattle.pool_machine.specs.State.{State, restriction_of}
+use Rattle.branch_tree.specs.declared.node.Divider.TheVariants as divider
+use Rattle.pool_machine.specs.State.{ArcSplit, State, restriction_of, region_of}
+use Rattle.pool_machine.specs.Dividing.{PartsBy}
 use Rattle.arc_restrict.specs.Partings.{AreOfOneDemand, PartAt}
 use Rattle.plan_base.specs.Leaving.{AreLeaving}
 use Rattle.branch_tree.specs.Dealing.{goes_left, goes_right, picked, AreDealt}
 use Rattle.pool_reading.specs.Examining.{IsReadyAt}
-use Rattle.pool_reading.proofs.Examining.{ready-ground-within, ready-ground, ground-none, ground-some}
+use Rattle.pool_reading.proofs.Examining.{ready-ground-within, ready-kept, some-none}
+use Rattle.pool_reading.proofs.Reading.{kept-some, kept-rows}
+use Rattle.pool_nodes.specs.Grounds.{Kept, rows_in}
 use Rattle.std.specs.Prelude.{slice_get}
 use Rattle.pool_machine.proofs.Frames.{one_at}
-use Rattle.pool_reading.proofs.Dividings.{of_one_demand, parts-at, two-ready, numbers-small}
+use Rattle.pool_reading.proofs.Dividings.{of_one_demand, parts-at, two-ready, division-made}
 use Rattle.pool_reading.proofs.view.PoolView.division_at.Goals as goal
 
 pub bounds-self-inside-node : goal.bounds-self-inside-node
@@ -25,8 +27,8 @@ bounds-self-inside-node c =
 
 pub unreachable-requires : goal.unreachable-requires
 unreachable-requires c =
-    let g = ready-ground (shown c.self.inside) _ c.self.inside.grounds.now c.self.inside.places.now c.self.invariant c.args.node (subst (λ (s : State). IsReadyAt s c.args.node) (sym c.self.view_is) (two-ready c.args.self.now c.args.node c.args.demand c.args.first.now c.args.second.now c.requires)) c.index-self-node.result c.index-self-node.is in
-    ground-none _ c.rows.result c.index-self-node.result g.0 (c.rows.ensures ∙ sym c.index-self-node.is) g.1 c.in_default.is
+    let g = ready-kept (shown c.self.inside) _ c.self.inside.grounds.now c.self.inside.places.now c.self.invariant c.args.node (subst (λ (s : State). IsReadyAt s c.args.node) (sym c.self.view_is) (two-ready c.args.self.now c.args.node c.args.demand c.args.first.now c.args.second.now c.requires)) c.index-self-node.result c.index-self-node.is in
+    some-none c.rows.result (kept-some _ _ c.index-self-node.result g c.rows.result _ (λ (k : Kept). k.rows) (c.rows.ensures ∙ ap rows_in (sym c.index-self-node.is))) c.in_default.is
 
 pub divergence-requires : goal.divergence-requires
 divergence-requires c =
@@ -42,31 +44,21 @@ pub leaving-requires : goal.leaving-requires
 leaving-requires c =
     c.in-Some-divergence.ensures.within
 
-pub overflow_cast-count : goal.overflow_cast-count
-overflow_cast-count c =
-    let few : length c.self.inside.nodes.now ≤ 8193 = numbers-small (shown c.self.inside) c.self.invariant.pool.reachable c.self.invariant.pool.budget in
-    search rules
-
-pub overflow_add-result : goal.overflow_add-result
-overflow_add-result c =
-    let few : length c.self.inside.nodes.now ≤ 8193 = numbers-small (shown c.self.inside) c.self.invariant.pool.reachable c.self.invariant.pool.budget in
-    search rules
-
-pub returns-clause-division : goal.returns-clause-division
-returns-clause-division c =
+pub returns : goal.returns
+returns c =
     let at : IsReadyAt (shown c.self.inside) c.args.node = (subst (λ (s : State). IsReadyAt s c.args.node) (sym c.self.view_is) (two-ready c.args.self.now c.args.node c.args.demand c.args.first.now c.args.second.now c.requires)) in
-    let g = ready-ground (shown c.self.inside) _ c.self.inside.grounds.now c.self.inside.places.now c.self.invariant c.args.node (subst (λ (s : State). IsReadyAt s c.args.node) (sym c.self.view_is) (two-ready c.args.self.now c.args.node c.args.demand c.args.first.now c.args.second.now c.requires)) c.index-self-node.result c.index-self-node.is in
+    let g = ready-kept (shown c.self.inside) _ c.self.inside.grounds.now c.self.inside.places.now c.self.invariant c.args.node (subst (λ (s : State). IsReadyAt s c.args.node) (sym c.self.view_is) (two-ready c.args.self.now c.args.node c.args.demand c.args.first.now c.args.second.now c.requires)) c.index-self-node.result c.index-self-node.is in
     let p = c.args.self.now.problem in
     let problem : c.self.inside.problem.now ≡ p = ap (λ (s : State). s.problem) c.self.view_is in
     let one = c.in-Some-divergence.one in
     let other = c.in-Some-divergence.other in
     let leaving = c.leaving.result.now in
-    let rows : arc_value c.in-Some.rows.now ≡ g.0 = ground-some _ c.rows.result c.index-self-node.result g.0 c.in-Some.rows (c.rows.ensures ∙ sym c.index-self-node.is) g.1 c.in-Some.is in
+    let rows = kept-rows _ _ c.index-self-node.result g c.rows.result _ c.in-Some.rows (c.rows.ensures ∙ ap rows_in (sym c.index-self-node.is)) c.in-Some.is in
     let g_node : restriction_of at.node ≡ restriction_of c.requires.node =
     ap restriction_of (one_at (shown c.self.inside).nodes c.args.node.0 at.node c.requires.node at.ready.open_node.is_node
     (subst (λ (s : State). slice_get s.nodes c.args.node.0 ≡ Some c.requires.node) (sym c.self.view_is) c.requires.ready.open_node.is_node)) in
-    let same : forbids c.deref.result.now ≡ restriction_of c.requires.node = ap forbids (c.deref.ensures ∙ rows) ∙ (g.2 ∙ g_node) in
-    let d : Division = record { demand = c.args.demand; at = c.in-Some-divergence.at; left = c.from_vec.result; right = c.from_vec-2.result; left_child = record { 0 = length c.self.inside.nodes.now }; right_child = record { 0 = length c.self.inside.nodes.now + 1 } } in
+    let same : forbids c.deref.result.now ≡ restriction_of c.requires.node = ap forbids c.deref.ensures ∙ (rows.0 ∙ g_node) in
+    let d : ArcSplit = record { demand = c.args.demand; at = c.in-Some-divergence.at; left = c.from_vec.result; right = c.from_vec-2.result } in
     let within = subst (λ (q : Parts). d.at.0 < q.nodes) problem c.in-Some-divergence.ensures.within in
     let part = subst (λ (q : Parts). PartAt q c.args.first.now c.args.second.now d.at one other) problem c.in-Some-divergence.ensures.parts in
     let dealt : AreDealt p (restriction_of c.requires.node) d.demand d.at one other d.left d.right = record {
@@ -75,15 +67,5 @@ returns-clause-division c =
       left_is = c.from_vec.ensures ∙ (c.in_ok-sides.ensures.left ∙ ap (λ (r : Forbidden). picked (goes_left r d.demand.0 one other leaving) leaving (length leaving)) same);
       right_is = c.from_vec-2.ensures ∙ (c.in_ok-sides.ensures.right ∙ ap (λ (r : Forbidden). picked (goes_right r d.demand.0 one other leaving) leaving (length leaving)) same);
     } in
-    let count : length c.self.inside.nodes.now ≡ length c.args.self.now.nodes = ap (λ (s : State). length s.nodes) c.self.view_is in
-    record {
-      node = c.requires.node;
-      ready = c.requires.ready;
-      none_far = c.requires.none_far;
-      parts = parts-at p (restriction_of c.requires.node) d one other c.args.first.now c.args.second.now within c.requires.two part dealt;
-      left_next = count;
-      right_next = add-one (length c.self.inside.nodes.now) ∙ ap suc count;
-    }
-
-pub returns-clause-demand : goal.returns-clause-demand
-returns-clause-demand c = refl
+    let parts : PartsBy p (region_of p c.requires.node) (divider.Arcs d) = parts-at p (restriction_of c.requires.node) d one other c.args.first.now c.args.second.now within c.requires.two part dealt in
+    division-made c.args.self.now c.args.node c.args.demand c.args.first.now c.args.second.now c.requires c.division.result (subst (PartsBy p (region_of p c.requires.node)) (sym c.division.ensures.by) parts) c.division.ensures.left c.division.ensures.right

@@ -1,13 +1,13 @@
-use Rattle.std.proofs.Common.{◌≡◌, ◌<◌, ◌*◌, List, length, Some, All, rules, sym, ap, subst, ◌∙◌}
-use Rattle.std.specs.Arc.{arc_value}
-use Rattle.plan_base.specs.declared.ids.ArcId.{ArcId}
-use Rattle.arc_restrict.specs.Restrictions.{with_forbidden}
-use Rattle.arc_restrict.specs.Rows.{Rows, forbids, HasSizeOf}
+use Rattle.std.proofs.Common.{◌<◌, length, rules, sym, ap, subst, ◌∙◌}
 use Rattle.pool_reading.specs.Shown.{shown}
-use Rattle.pool_machine.specs.State.{State, restriction_of}
+use Rattle.branch_tree.specs.Branches.{IsLimitOf}
+use Rattle.branch_tree.proofs.LimitLaws.{limit-row, limit-range}
+use Rattle.pool_nodes.specs.Grounds.{IsKeptRegion}
+use Rattle.pool_machine.specs.State.{State, region_of}
 use Rattle.pool_reading.specs.Examining.{IsReadyAt, HasGroundBelow}
-use Rattle.pool_reading.proofs.Examining.{ready-ground-within, ready-ground, ground-none, ground-some}
-use Rattle.pool_reading.proofs.Dividings.{forbid-demand, forbid-arcs, ground-made}
+use Rattle.pool_reading.proofs.Examining.{ready-ground-within, ready-kept, ready-ranges, some-none}
+use Rattle.pool_reading.proofs.Reading.{plot-some, plot-region, if_ok}
+use Rattle.pool_reading.proofs.Dividings.{ground-made}
 use Rattle.pool_reading.proofs.view.PoolView.ground_below.Goals as goal
 
 pub bounds-self-inside-node : goal.bounds-self-inside-node
@@ -18,41 +18,32 @@ bounds-self-inside-node c =
 
 pub unreachable-requires : goal.unreachable-requires
 unreachable-requires c =
-    let g = ready-ground (shown c.self.inside) _ c.self.inside.grounds.now c.self.inside.places.now c.self.invariant c.args.node (subst (λ (s : State). IsReadyAt s c.args.node) (sym c.self.view_is) c.requires.leaf) c.index-self-node.result c.index-self-node.is in
-    ground-none _ c.rows.result c.index-self-node.result g.0 (c.rows.ensures ∙ sym c.index-self-node.is) g.1 c.in_default.is
+    let g = ready-kept (shown c.self.inside) _ c.self.inside.grounds.now c.self.inside.places.now c.self.invariant c.args.node (subst (λ (s : State). IsReadyAt s c.args.node) (sym c.self.view_is) c.requires.leaf) c.index-self-node.result c.index-self-node.is in
+    some-none c.plot.result (plot-some _ _ c.index-self-node.result g c.plot.result _ (c.plot.ensures ∙ sym c.index-self-node.is)) c.in_default.is
 
-pub forbid-requires-clause-demand : goal.forbid-requires-clause-demand
-forbid-requires-clause-demand c =
-    let at : IsReadyAt (shown c.self.inside) c.args.node = (subst (λ (s : State). IsReadyAt s c.args.node) (sym c.self.view_is) c.requires.leaf) in
-    let g = ready-ground (shown c.self.inside) _ c.self.inside.grounds.now c.self.inside.places.now c.self.invariant c.args.node at c.index-self-node.result c.index-self-node.is in
-    let above : arc_value c.in-Some.above.now ≡ g.0 = ground-some _ c.rows.result c.index-self-node.result g.0 c.in-Some.above (c.rows.ensures ∙ sym c.index-self-node.is) g.1 c.in-Some.is in
-    let copied : c.in_ok-rows.rows ≡ g.0 = c.in_ok-rows.ensures ∙ (c.deref.ensures ∙ above) in
-    let same : forbids c.in_ok-rows.rows ≡ restriction_of at.node = ap forbids copied ∙ g.2 in
-    let size : HasSizeOf (shown c.self.inside).problem c.in_ok-rows.rows = subst (HasSizeOf (shown c.self.inside).problem) (sym copied) g.3 in
-    forbid-demand (shown c.self.inside) c.args.node at c.args.demand c.args.arcs.now c.in_ok-rows.rows same size (subst (λ (s : State). c.args.demand.0 < length s.problem.demands) (sym c.self.view_is) c.requires.demand)
+pub below-requires-clause-row : goal.below-requires-clause-row
+below-requires-clause-row c =
+    let s = shown c.self.inside in
+    let at : IsReadyAt s c.args.node = (subst (λ (x : State). IsReadyAt x c.args.node) (sym c.self.view_is) c.requires.leaf) in
+    let g = ready-kept s _ c.self.inside.grounds.now c.self.inside.places.now c.self.invariant c.args.node at c.index-self-node.result c.index-self-node.is in
+    let is : IsKeptRegion s.problem (region_of s.problem at.node) c.in-Some.plot.now = plot-region _ _ c.index-self-node.result g c.plot.result _ c.in-Some.plot (c.plot.ensures ∙ sym c.index-self-node.is) c.in-Some.is in
+    limit-row s.problem c.in-Some.plot.now.rows c.args.limit.now is.size (subst (λ (x : State). IsLimitOf x.problem c.args.limit.now) (sym c.self.view_is) c.requires.limit)
 
-pub forbid-requires-clause-arcs : goal.forbid-requires-clause-arcs
-forbid-requires-clause-arcs c =
-    let at : IsReadyAt (shown c.self.inside) c.args.node = (subst (λ (s : State). IsReadyAt s c.args.node) (sym c.self.view_is) c.requires.leaf) in
-    let g = ready-ground (shown c.self.inside) _ c.self.inside.grounds.now c.self.inside.places.now c.self.invariant c.args.node at c.index-self-node.result c.index-self-node.is in
-    let above : arc_value c.in-Some.above.now ≡ g.0 = ground-some _ c.rows.result c.index-self-node.result g.0 c.in-Some.above (c.rows.ensures ∙ sym c.index-self-node.is) g.1 c.in-Some.is in
-    let copied : c.in_ok-rows.rows ≡ g.0 = c.in_ok-rows.ensures ∙ (c.deref.ensures ∙ above) in
-    let same : forbids c.in_ok-rows.rows ≡ restriction_of at.node = ap forbids copied ∙ g.2 in
-    let size : HasSizeOf (shown c.self.inside).problem c.in_ok-rows.rows = subst (HasSizeOf (shown c.self.inside).problem) (sym copied) g.3 in
-    subst (λ (arcs : List ArcId). All (λ (a : ArcId). a.0 < c.in_ok-rows.rows.arcs) arcs) (sym c.as_slice.ensures.value)
-    (forbid-arcs (shown c.self.inside) c.args.node at c.args.demand c.args.arcs.now c.in_ok-rows.rows same size (subst (λ (s : State). All (λ (a : ArcId). a.0 < 2 * length s.problem.links) c.args.arcs.now) (sym c.self.view_is) c.requires.arcs))
+pub below-requires-clause-range : goal.below-requires-clause-range
+below-requires-clause-range c =
+    let s = shown c.self.inside in
+    let at : IsReadyAt s c.args.node = (subst (λ (x : State). IsReadyAt x c.args.node) (sym c.self.view_is) c.requires.leaf) in
+    let g = ready-kept s _ c.self.inside.grounds.now c.self.inside.places.now c.self.invariant c.args.node at c.index-self-node.result c.index-self-node.is in
+    let is : IsKeptRegion s.problem (region_of s.problem at.node) c.in-Some.plot.now = plot-region _ _ c.index-self-node.result g c.plot.result _ c.in-Some.plot (c.plot.ensures ∙ sym c.index-self-node.is) c.in-Some.is in
+    let are = ready-ranges s _ c.self.inside.grounds.now c.self.inside.places.now c.self.invariant c.args.node at in
+    limit-range s.problem c.in-Some.plot.now.ranges c.args.limit.now (ap length is.ranges ∙ are.count) (subst (λ (x : State). IsLimitOf x.problem c.args.limit.now) (sym c.self.view_is) c.requires.limit)
 
 pub returns : goal.returns
 returns c =
-    let at : IsReadyAt (shown c.self.inside) c.args.node = (subst (λ (s : State). IsReadyAt s c.args.node) (sym c.self.view_is) c.requires.leaf) in
-    let g = ready-ground (shown c.self.inside) _ c.self.inside.grounds.now c.self.inside.places.now c.self.invariant c.args.node at c.index-self-node.result c.index-self-node.is in
-    let above : arc_value c.in-Some.above.now ≡ g.0 = ground-some _ c.rows.result c.index-self-node.result g.0 c.in-Some.above (c.rows.ensures ∙ sym c.index-self-node.is) g.1 c.in-Some.is in
-    let copied : c.in_ok-rows.rows ≡ g.0 = c.in_ok-rows.ensures ∙ (c.deref.ensures ∙ above) in
-    let same : forbids c.in_ok-rows.rows ≡ restriction_of at.node = ap forbids copied ∙ g.2 in
-    let size : HasSizeOf (shown c.self.inside).problem c.in_ok-rows.rows = subst (HasSizeOf (shown c.self.inside).problem) (sym copied) g.3 in
-    subst (λ (s : State). HasGroundBelow s c.args.node c.args.demand c.args.arcs.now c.of.result) c.self.view_is
-    (ground-made (shown c.self.inside) c.args.node at c.args.demand c.args.arcs.now c.in_ok-rows.rows same size c.of.result c.forbid.new.self
-    (c.forbid.ensures.value ∙ ap (with_forbidden (forbids c.in_ok-rows.rows) c.args.demand) c.as_slice.ensures.value)
-    c.forbid.ensures.demands
-    c.forbid.ensures.arcs
-    (c.of.ensures ∙ ap (λ (rows : Rows). Some rows) c.in_ok-new.ensures.ok))
+    let s = shown c.self.inside in
+    let at : IsReadyAt s c.args.node = (subst (λ (x : State). IsReadyAt x c.args.node) (sym c.self.view_is) c.requires.leaf) in
+    let g = ready-kept s _ c.self.inside.grounds.now c.self.inside.places.now c.self.invariant c.args.node at c.index-self-node.result c.index-self-node.is in
+    let is : IsKeptRegion s.problem (region_of s.problem at.node) c.in-Some.plot.now = plot-region _ _ c.index-self-node.result g c.plot.result _ c.in-Some.plot (c.plot.ensures ∙ sym c.index-self-node.is) c.in-Some.is in
+    if_ok c.below.result _ _
+    (λ ground made. subst (λ (x : State). HasGroundBelow x c.args.node c.args.limit.now ground) c.self.view_is (ground-made s c.args.node at c.args.limit.now c.in-Some.plot.now ground is made))
+    c.below.ensures

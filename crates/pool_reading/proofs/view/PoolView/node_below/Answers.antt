@@ -1,7 +1,5 @@
-use Rattle.std.proofs.Common.{◌<◌, length, get_or, rules, sym, ap, subst, ◌∙◌}
-use Rattle.branch_tree.specs.declared.node.Limit.{Limit}
+use Rattle.std.proofs.Common.{◌<◌, length, get_or, rules, sym, subst, ◌∙◌}
 use Rattle.pool_machine.specs.State.{State}
-use Rattle.pool_machine.specs.Dividing.{child_of}
 use Rattle.pool_reading.specs.Shown.{shown}
 use Rattle.pool_reading.specs.Examining.{IsReadyAt, IsNodeBelow}
 use Rattle.pool_reading.proofs.Examining.{ready-node-within, ready-item}
@@ -21,9 +19,6 @@ returns c =
     let item = ready-item (shown c.self.inside) _ c.self.inside.grounds.now c.self.inside.places.now c.self.invariant c.args.node at c.index-self-node.result c.index-self-node.is in
     let parent = get_or c.self.inside.nodes.now c.args.node.0 c.index-self-node.result in
     if_ok c.child.result _ _
-    (λ child made. subst (λ (s : State). IsNodeBelow s c.args.node c.args.demand c.args.arcs.now child) c.self.view_is
-    (node-made (shown c.self.inside) c.args.node at c.args.demand c.args.arcs.now c.in_ok-copy.field-0 parent child
-    (sym c.index-self-node.is ∙ item)
-    (made ∙ ap (λ (l : Limit). child_of parent l.demand l.arcs) c.in_ok-new.ensures.ok)
-    c.in_ok-copy.ensures))
+    (λ child made. subst (λ (s : State). IsNodeBelow s c.args.node c.args.limit child) c.self.view_is
+    (node-made (shown c.self.inside) c.args.node at c.args.limit _ parent child (sym c.index-self-node.is ∙ item) made c.in_ok-new.ensures.ok))
     c.child.ensures
