@@ -15,6 +15,7 @@ ghost use Rattle.linear_hub.specs.Seats.{HasCalled, HasFound};
 use crate::hub::{LinearHub, LinearSeat};
 use crate::naming::{Designs, Naming, Offers, Versions};
 use arc_restrict::Restriction;
+use branch_tree::LoadSplit;
 use dual_versions::Published;
 use plan_base::{BranchId, Design, DesignFault, Prices};
 use plan_io::Standing;
@@ -35,22 +36,27 @@ impl<N: Naming, R: Wait + Drop> LinearHub<N, R> {
         ensures called { HasCalled N.opening (view_of seat.old.pass) (view_of seat.new.pass) (Tasking result) }
         ensures same { (seat.new.number ≡ seat.old.number) × (seat.new.calls ≡ seat.old.calls + 1) × (seat.new.reader ≡ seat.old.reader) }
     {
-        let (task, _standing) = self.standing_task(rt, seat);
+        let (task, _standing) = self.standing_task(rt, seat, false);
         task
     }
 
-    /// What may be done next, and how far the search is then. The standing is told beside the answer, and stands in no
-    /// entry.
-    pub fn standing_task<T: Wait>(&self, rt: &T, seat: &mut LinearSeat<N, R>) -> (Task, Standing)
+    /// What may be done next, and how far the search is then, with its bound where it is asked for. The standing is told
+    /// beside the answer, and stands in no entry.
+    pub fn standing_task<T: Wait>(
+        &self,
+        rt: &T,
+        seat: &mut LinearSeat<N, R>,
+        asks: bool,
+    ) -> (Task, Standing)
         requires hub { seat.old.pass.table_id ≡ self.now.turns.table.shared.table_id }
         requires calls { seat.old.calls < MAX_CALLS }
         ensures hub { seat.new.pass.table_id ≡ seat.old.pass.table_id }
         ensures called { HasCalled N.opening (view_of seat.old.pass) (view_of seat.new.pass) (Tasking result.0) }
-        ensures standing { HasFound N.opening (view_of seat.new.pass).seen (λ s. result.1 ≡ standing_of s) }
+        ensures standing { HasFound N.opening (view_of seat.new.pass).seen (λ s. result.1 ≡ standing_of asks s) }
         ensures same { (seat.new.number ≡ seat.old.number) × (seat.new.calls ≡ seat.old.calls + 1) × (seat.new.reader ≡ seat.old.reader) }
     {
         let mut desk = self.turns.enter(rt, &mut seat.pass);
-        let standing = desk.standing();
+        let standing = desk.standing(asks);
         let answer = desk.task(seat.number);
         self.turns
             .leave::<Brand, (), Task>(&mut seat.pass, desk, &(), &answer);
@@ -164,6 +170,7 @@ impl<N: Naming, R: Wait + Drop> LinearHub<N, R> {
         node: BranchId,
         seen: u64,
         prices: &Prices,
+        split: Option<LoadSplit>,
     ) -> Result<Publish, AllocError>
         requires hub { seat.old.pass.table_id ≡ self.now.turns.table.shared.table_id }
         requires calls { seat.old.calls < MAX_CALLS }
@@ -175,7 +182,7 @@ impl<N: Naming, R: Wait + Drop> LinearHub<N, R> {
         ensures refused { IfOk result (λ answer. IfRefused answer (seat.new.reader ≡ seat.old.reader)) }
         ensures unchanged { OnErr result (seat.new.reader ≡ seat.old.reader) }
     {
-        self.publish_as::<Brand, T>(rt, seat, node, seen, prices)
+        self.publish_as::<Brand, T>(rt, seat, node, seen, prices, split)
     }
 
     /// The same, of a node and a version that the type names.
@@ -186,6 +193,7 @@ impl<N: Naming, R: Wait + Drop> LinearHub<N, R> {
         node: BranchId,
         seen: u64,
         prices: &Prices,
+        split: Option<LoadSplit>,
     ) -> Result<Publish, AllocError>
         requires named { (W.node ≡ node) × (W.seen ≡ seen) }
         requires hub { seat.old.pass.table_id ≡ self.now.turns.table.shared.table_id }
@@ -199,7 +207,7 @@ impl<N: Naming, R: Wait + Drop> LinearHub<N, R> {
         ensures unchanged { OnErr result (seat.new.reader ≡ seat.old.reader) }
     {
         let mut desk = self.turns.enter(rt, &mut seat.pass);
-        let answer = desk.publish(rt, node, seen, prices, &mut seat.reader);
+        let answer = desk.publish(rt, node, seen, prices, split, &mut seat.reader);
         self.turns
             .leave::<Brand, Prices, Result<Publish, AllocError>>(
                 &mut seat.pass,
@@ -218,6 +226,7 @@ impl<N: Naming, R: Wait + Drop> LinearHub<N, R> {
         seat: &mut LinearSeat<N, R>,
         node: BranchId,
         version: u64,
+        split: Option<LoadSplit>,
     ) -> Settle
         requires hub { seat.old.pass.table_id ≡ self.now.turns.table.shared.table_id }
         requires calls { seat.old.calls < MAX_CALLS }
@@ -226,7 +235,7 @@ impl<N: Naming, R: Wait + Drop> LinearHub<N, R> {
         ensures same { (seat.new.number ≡ seat.old.number) × (seat.new.calls ≡ seat.old.calls + 1) × (seat.new.reader ≡ seat.old.reader) }
     {
         let mut desk = self.turns.enter(rt, &mut seat.pass);
-        let answer = desk.settle(node, version);
+        let answer = desk.settle(node, version, split);
         self.turns
             .leave::<Brand, (BranchId, u64), Settle>(
                 &mut seat.pass,

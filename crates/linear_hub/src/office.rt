@@ -5,6 +5,7 @@ ghost use Rattle.std.specs.Prelude.{◌≡◌, IfOk, IfSome};
 use crate::hub::{LinearHub, LinearSeat};
 use crate::naming::Naming;
 use arc_restrict::Restriction;
+use branch_tree::LoadSplit;
 use dual_versions::Published;
 use link_steps::StepTable;
 use one_history::MAX_CALLS;
@@ -76,8 +77,13 @@ impl<N: Naming, R: Wait + Drop> Office<N> for LinearHub<N, R> {
     }
 
     #[tactic(auto, using(crate::proofs::WorkedCalls::called_worked, crate::proofs::WorkedCalls::task_ended))]
-    fn standing_task<T: Wait>(&self, rt: &T, seat: &mut LinearSeat<N, R>) -> (Task, Standing) {
-        self.standing_task(rt, seat)
+    fn standing_task<T: Wait>(
+        &self,
+        rt: &T,
+        seat: &mut LinearSeat<N, R>,
+        asks: bool,
+    ) -> (Task, Standing) {
+        self.standing_task(rt, seat, asks)
     }
 
     /// As the board shows them, where its entry is of this version of the node. No call is made for them.
@@ -146,8 +152,9 @@ impl<N: Naming, R: Wait + Drop> Office<N> for LinearHub<N, R> {
         node: BranchId,
         seen: u64,
         prices: &Prices,
+        split: Option<LoadSplit>,
     ) -> Result<Publish, AllocError> {
-        self.publish(rt, seat, node, seen, prices)
+        self.publish(rt, seat, node, seen, prices, split)
     }
 
     #[tactic(auto, using(crate::proofs::WorkedCalls::called_worked))]
@@ -157,8 +164,9 @@ impl<N: Naming, R: Wait + Drop> Office<N> for LinearHub<N, R> {
         seat: &mut LinearSeat<N, R>,
         node: BranchId,
         version: u64,
+        split: Option<LoadSplit>,
     ) -> Settle {
-        self.settle(rt, seat, node, version)
+        self.settle(rt, seat, node, version, split)
     }
 
     #[tactic(auto, using(crate::proofs::WorkedCalls::called_worked))]

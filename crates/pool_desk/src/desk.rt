@@ -21,10 +21,11 @@ ghost use Rattle.pool_machine.specs.PlanOf.{is_done};
 ghost use Rattle.pool_machine.specs.Tasks.{IsLawfulTask, IsSearchState};
 ghost use Rattle.pool_core.specs.Views.{IsPublishedAt, design_of};
 ghost use Rattle.pool_core.specs.Foretold.{IfPublished, IfRefused};
-ghost use Rattle.pool_desk.specs.Standings.{standing_of};
+ghost use Rattle.pool_desk.specs.Standings.{at_most, told_bound, bound_of, standing_of};
 ghost use Rattle.pool_desk.specs.Shown.{entry_for, with_entry, ShowsFirst, HasFirst, HasEntry};
 
 use arc_restrict::Restriction;
+use branch_tree::LoadSplit;
 use dual_versions::{BoardReader, BoardWriter, Published};
 use plan_base::{BranchId, Design, DesignFault, Prices};
 use plan_io::Standing;
@@ -78,6 +79,26 @@ fn put_entry<R: Wait + Drop>(
     Ok(shown)
 }
 
+/// A bound, or the cost where that is less.
+fn at_most(cost: Option<u128>, bound: u128) -> u128
+    ensures { result ≡ at_most cost bound }
+{
+    match cost {
+        Some(cost) => bound.min(cost),
+        None => bound,
+    }
+}
+
+/// What is told of a bound beside the cost: nothing where it is negative.
+fn told_bound(cost: Option<u128>, bound: i128) -> Option<u128>
+    ensures { result ≡ told_bound cost bound }
+{
+    if bound < 0 {
+        return None;
+    }
+    Some(at_most(cost, bound.unsigned_abs()))
+}
+
 impl<N: Search, R: Wait + Drop> Desk<N, R> {
     /// A pool and the writer of a board that fits it, on which nothing is pending.
     pub fn new(pool: Pool, board: BoardWriter<R>) -> Desk<N, R>
@@ -113,14 +134,22 @@ impl<N: Search, R: Wait + Drop> Desk<N, R> {
         self.pool.next_task(worker)
     }
 
-    /// How far the search is.
-    pub fn standing(&self) -> Standing
-        ensures { result ≡ standing_of self.now.pool }
+    /// The bound of the search, where it is known and not negative.
+    fn bound(&self) -> Option<u128>
+        ensures { result ≡ bound_of self.now.pool }
+    {
+        told_bound(self.pool.incumbent(), self.pool.open_bound()?)
+    }
+
+    /// How far the search is, with its bound where it is asked for.
+    pub fn standing(&self, asks: bool) -> Standing
+        ensures { result ≡ standing_of asks self.now.pool }
     {
         Standing {
             examined: self.pool.examined(),
             budget: self.pool.budget(),
             cost: self.pool.incumbent(),
+            bound: if asks { self.bound() } else { None },
         }
     }
 
@@ -217,6 +246,7 @@ impl<N: Search, R: Wait + Drop> Desk<N, R> {
         node: BranchId,
         seen: u64,
         prices: &Prices,
+        split: Option<LoadSplit>,
         reader: &mut BoardReader,
     ) -> Result<Publish, AllocError>
         ensures search { IsSearchState N.problem N.budget self.old.pool }
@@ -234,6 +264,7 @@ impl<N: Search, R: Wait + Drop> Desk<N, R> {
         };
         let shown = put_entry(&mut self.board, next.slot, node, next.version, prices)?;
         self.pool.publish_following(node, seen, prices, next);
+        self.pool.advise(node, split);
         self.board.show();
         reader.reach(rt, next.slot, &shown);
         Ok(Publish::Published {
@@ -243,12 +274,13 @@ impl<N: Search, R: Wait + Drop> Desk<N, R> {
     }
 
     /// A settling.
-    pub fn settle(&mut self, node: BranchId, version: u64) -> Settle
+    pub fn settle(&mut self, node: BranchId, version: u64, split: Option<LoadSplit>) -> Settle
         ensures search { IsSearchState N.problem N.budget self.old.pool }
         ensures event { SettleStep self.old.pool node version result self.new.pool }
         ensures board { self.new.board ≡ self.old.board }
     {
         self.look();
+        self.pool.advise(node, split);
         self.pool.settle(node, version)
     }
 

@@ -1,5 +1,5 @@
 -- A task that tells that nothing is left to do.
-use Rattle.std.proofs.Common.{◌≡◌, ℕ, true, subst}
+use Rattle.std.proofs.Common.{◌≡◌, ℕ, Bool, true, subst}
 use Rattle.plan_base.specs.declared.parts.Parts.{Parts}
 use Rattle.plan_io.specs.declared.gate.Standing.{Standing}
 use Rattle.pool_machine.specs.declared.task.Task.{Task}
@@ -9,6 +9,6 @@ use Rattle.pool_machine.specs.Tasks.{IsLawfulTask}
 use Rattle.pool_desk.specs.Standings.{standing_of}
 use Rattle.pool_hub.specs.States.{HasState}
 
-pub nothing_left : (p : Parts) (budget : ℕ) (answer : Task) (standing : Standing) → HasState p budget (λ s. IsLawfulTask s answer × (standing ≡ standing_of s)) → answer ≡ task.Done
+pub nothing_left : (p : Parts) (budget : ℕ) (answer : Task) (standing : Standing) (asks : Bool) → HasState p budget (λ s. IsLawfulTask s answer × (standing ≡ standing_of asks s)) → answer ≡ task.Done
     → HasState p budget (λ s. is_done s ≡ true)
-nothing_left p budget answer standing h is = record { state = h.state; of_search = h.of_search; fact = subst (IsLawfulTask h.state) is h.fact.0 }
+nothing_left p budget answer standing asks h is = record { state = h.state; of_search = h.of_search; fact = subst (IsLawfulTask h.state) is h.fact.0 }

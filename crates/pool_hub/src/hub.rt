@@ -28,6 +28,7 @@ use crate::kept::Kept;
 use crate::naming::Naming;
 use crate::seat::Seat;
 use arc_restrict::Restriction;
+use branch_tree::LoadSplit;
 use dual_versions::{BoardReader, BoardWriter, Published};
 use link_steps::StepTable;
 use plan_base::{BranchId, Design, DesignFault, Instance, Prices};
@@ -189,13 +190,13 @@ impl<N: Naming, R: Wait + Drop> Hub<N, R> {
         self.kept.lock(rt).desk.task(seat.number)
     }
 
-    /// What may be done next, and how far the search is then.
-    pub fn standing_task<W: Wait>(&self, rt: &W, seat: &mut Seat<N>) -> (Task, Standing)
-        ensures answer { HasState N.problem N.budget (λ s. IsLawfulTask s result.0 × (result.1 ≡ standing_of s)) }
+    /// What may be done next, and how far the search is then, with its bound where it is asked for.
+    pub fn standing_task<W: Wait>(&self, rt: &W, seat: &mut Seat<N>, asks: bool) -> (Task, Standing)
+        ensures answer { HasState N.problem N.budget (λ s. IsLawfulTask s result.0 × (result.1 ≡ standing_of asks s)) }
         ensures seat { seat.new ≡ seat.old }
     {
         let mut kept = self.kept.lock(rt);
-        let standing = kept.desk.standing();
+        let standing = kept.desk.standing(asks);
         (kept.desk.task(seat.number), standing)
     }
 
@@ -308,6 +309,7 @@ impl<N: Naming, R: Wait + Drop> Hub<N, R> {
         node: BranchId,
         seen: u64,
         prices: &Prices,
+        split: Option<LoadSplit>,
     ) -> Result<Publish, AllocError>
         ensures answer { IfOk result (λ answer. HasStep N.problem N.budget (λ old new. PublishStep old node seen prices.now answer new)) }
         ensures seen { IfOk result (λ answer. IfPublished answer (HasEntry seat.new.reader node prices.now)) }
@@ -319,7 +321,7 @@ impl<N: Naming, R: Wait + Drop> Hub<N, R> {
         self.kept
             .lock(rt)
             .desk
-            .publish(rt, node, seen, prices, &mut seat.reader)
+            .publish(rt, node, seen, prices, split, &mut seat.reader)
     }
 
     /// Marks a node of which no further version is published, as `Pool::settle` says. Takes no memory.
@@ -329,12 +331,13 @@ impl<N: Naming, R: Wait + Drop> Hub<N, R> {
         seat: &mut Seat<N>,
         node: BranchId,
         version: u64,
+        split: Option<LoadSplit>,
     ) -> Settle
         ensures answer { HasStep N.problem N.budget (λ old new. SettleStep old node version result new) }
         ensures seat { seat.new ≡ seat.old }
     {
         let _seat = seat;
-        self.kept.lock(rt).desk.settle(node, version)
+        self.kept.lock(rt).desk.settle(node, version, split)
     }
 
     /// Closes a leaf, as `Pool::close_by_bound` says. Takes no memory.

@@ -4,6 +4,7 @@ use crate::hub::Hub;
 use crate::naming::Naming;
 use crate::seat::Seat;
 use arc_restrict::Restriction;
+use branch_tree::LoadSplit;
 use dual_versions::Published;
 use link_steps::StepTable;
 use plan_base::{BranchId, Design, DesignFault, Instance, Prices};
@@ -49,8 +50,8 @@ impl<N: Naming, R: Wait + Drop> Office<N> for Hub<N, R> {
     }
 
     #[tactic(auto, using(crate::proofs::Done::nothing_left))]
-    fn standing_task<T: Wait>(&self, rt: &T, seat: &mut Seat<N>) -> (Task, Standing) {
-        self.standing_task(rt, seat)
+    fn standing_task<T: Wait>(&self, rt: &T, seat: &mut Seat<N>, asks: bool) -> (Task, Standing) {
+        self.standing_task(rt, seat, asks)
     }
 
     /// As the board shows them, where its entry is of this version of the node, else as they come out of the lock.
@@ -117,12 +118,20 @@ impl<N: Naming, R: Wait + Drop> Office<N> for Hub<N, R> {
         node: BranchId,
         seen: u64,
         prices: &Prices,
+        split: Option<LoadSplit>,
     ) -> Result<Publish, AllocError> {
-        self.publish(rt, seat, node, seen, prices)
+        self.publish(rt, seat, node, seen, prices, split)
     }
 
-    fn settle<T: Wait>(&self, rt: &T, seat: &mut Seat<N>, node: BranchId, version: u64) -> Settle {
-        self.settle(rt, seat, node, version)
+    fn settle<T: Wait>(
+        &self,
+        rt: &T,
+        seat: &mut Seat<N>,
+        node: BranchId,
+        version: u64,
+        split: Option<LoadSplit>,
+    ) -> Settle {
+        self.settle(rt, seat, node, version, split)
     }
 
     fn close<T: Wait>(&self, rt: &T, seat: &mut Seat<N>, node: BranchId) -> Closing {

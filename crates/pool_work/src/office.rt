@@ -6,6 +6,7 @@ ghost use Rattle.pool_machine.specs.declared.task.Task.{Task as AnyTask};
 
 use crate::search::Search;
 use arc_restrict::Restriction;
+use branch_tree::LoadSplit;
 use dual_versions::Published;
 use link_steps::StepTable;
 use plan_base::{BranchId, Design, DesignFault, Instance, Prices};
@@ -53,8 +54,8 @@ pub trait Office<N: Search> {
         ensures free { OnOk result (free seat.now) }
         ensures full { OnErr result (ended self.now seat.now) };
 
-    /// What may be done next, and how far the search is then.
-    fn standing_task<T: Wait>(&self, rt: &T, seat: &mut Self::Seat) -> (Task, Standing)
+    /// What may be done next, and how far the search is then, with its bound where it is asked for.
+    fn standing_task<T: Wait>(&self, rt: &T, seat: &mut Self::Seat, asks: bool) -> (Task, Standing)
         requires of { of self.now seat.old }
         requires free { free seat.old }
         ensures of { of self.now seat.new }
@@ -137,6 +138,7 @@ pub trait Office<N: Search> {
         node: BranchId,
         seen: u64,
         prices: &Prices,
+        split: Option<LoadSplit>,
     ) -> Result<Publish, AllocError>
         requires of { of self.now seat.old }
         requires free { free seat.old }
@@ -144,7 +146,14 @@ pub trait Office<N: Search> {
         ensures keeps { keeps seat.old seat.new };
 
     /// Marks a node of which no further version is published.
-    fn settle<T: Wait>(&self, rt: &T, seat: &mut Self::Seat, node: BranchId, version: u64) -> Settle
+    fn settle<T: Wait>(
+        &self,
+        rt: &T,
+        seat: &mut Self::Seat,
+        node: BranchId,
+        version: u64,
+        split: Option<LoadSplit>,
+    ) -> Settle
         requires of { of self.now seat.old }
         requires free { free seat.old }
         ensures of { of self.now seat.new }

@@ -8,7 +8,7 @@ use crate::bench::Bench;
 use crate::office::Office;
 use crate::search::Search;
 use crate::told::Told;
-use leaf_work::{keep_limits, next_prices};
+use leaf_work::{Next, keep_limits, next_step};
 use plan_base::{BranchId, DemandId, Items, Path};
 use pool_machine::{Better, ExamineFault, Gather, Offered, Opened, Publish, Task};
 use std::alloc::{AllocError, Global};
@@ -131,15 +131,15 @@ fn go_on<N: Search, H: Office<N>, T: Wait>(
     ensures of { H.of hub.now seat.new }
     ensures keeps { H.keeps seat.old seat.new }
 {
-    let next = next_prices(alloc, &**hub.instance(), &**hub.table(), told.brief())?;
+    let Next { prices, split } = next_step(alloc, &**hub.instance(), &**hub.table(), told.brief())?;
     let Ok(()) = hub.may_call(seat) else {
         return Ok(None);
     };
-    let Some(prices) = next else {
-        let _answer = hub.settle(rt, seat, node, version);
+    let Some(prices) = prices else {
+        let _answer = hub.settle(rt, seat, node, version, split);
         return Ok(None);
     };
-    match hub.publish(rt, seat, node, version, &prices)? {
+    match hub.publish(rt, seat, node, version, &prices, split)? {
         Publish::Published { slot, version } => Ok(Some(Shown {
             slot,
             node,
@@ -255,12 +255,40 @@ fn open<N: Search, H: Office<N>, T: Wait>(
     }
 }
 
-/// Goes on with a complete version. A search for a design comes only after that, so that no other worker waits for it.
+/// What a master step is told of a complete version. Where no design is known, one is searched for first, since what comes
+/// next depends on its cost.
+fn told_with_design<N: Search, H: Office<N>, T: Wait>(
+    rt: &T,
+    alloc: Global,
+    hub: &H,
+    seat: &mut H::Seat,
+    bench: &mut Bench<N>,
+    node: BranchId,
+    version: u64,
+) -> Result<Option<Told<N>>, AllocError>
+    requires of { H.of hub.now seat.old }
+    ensures of { H.of hub.now seat.new }
+    ensures keeps { H.keeps seat.old seat.new }
+{
+    let told = told_of(rt, hub, seat, node, version)?;
+    let is_first = match &told {
+        Some(told) => told.brief().incumbent.is_none(),
+        None => false,
+    };
+    if is_first && seek_design(rt, alloc, hub, seat, bench, &told)? {
+        return told_of(rt, hub, seat, node, version);
+    }
+    Ok(told)
+}
+
+/// Goes on with a complete version. A search for a design that is not the first one comes only after that, so that no other
+/// worker waits for it.
 fn advance<N: Search, H: Office<N>, T: Wait>(
     rt: &T,
     alloc: Global,
     hub: &H,
     seat: &mut H::Seat,
+    bench: &mut Bench<N>,
     node: BranchId,
     version: u64,
 ) -> Result<Left<N>, AllocError>
@@ -268,7 +296,7 @@ fn advance<N: Search, H: Office<N>, T: Wait>(
     ensures of { H.of hub.now seat.new }
     ensures keeps { H.keeps seat.old seat.new }
 {
-    let Some(told) = told_of(rt, hub, seat, node, version)? else {
+    let Some(told) = told_with_design(rt, alloc, hub, seat, bench, node, version)? else {
         return Ok(Left::nothing());
     };
     let shown = go_on(rt, alloc, hub, seat, &told, node, version)?;
@@ -309,7 +337,7 @@ pub(crate) fn do_task<N: Search, H: Office<N>, T: Wait>(
             let _answer = price(rt, hub, seat, bench, node, version, demand)?;
             Ok(Left::nothing())
         }
-        Task::Master { node, version } => advance(rt, alloc, hub, seat, node, version),
+        Task::Master { node, version } => advance(rt, alloc, hub, seat, bench, node, version),
         Task::Close { node } => {
             let _answer = hub.close(rt, seat, node);
             Ok(Left::nothing())

@@ -23,7 +23,7 @@ use std::marker::PhantomData;
 pub struct Told<N: Search> {
     brief: Brief,
     of: PhantomData<N>,
-    ghost fits: { IsBriefFor N.problem brief.prices brief.columns },
+    ghost fits: { IsBriefFor N.problem brief.prices brief.ranges brief.columns },
     ghost has_columns: { HasColumns N.problem (columns_at brief.columns) },
 }
 
@@ -59,7 +59,7 @@ impl<N: Search> Told<N> {
     /// What came out of the lock, where it fits the instance and each demand has a column.
     pub fn tested(inst: &Instance, brief: Brief) -> Option<Told<N>>
         requires { inst.now ≡ N.problem }
-        ensures some { IsSome result ↔ IsBriefFor inst.now brief.prices brief.columns × HasColumns inst.now (columns_at brief.columns) }
+        ensures some { IsSome result ↔ IsBriefFor inst.now brief.prices brief.ranges brief.columns × HasColumns inst.now (columns_at brief.columns) }
         ensures brief { IfSome result (λ told. told.brief ≡ brief) }
     {
         if !brief.fits(inst) {
@@ -77,7 +77,7 @@ impl<N: Search> Told<N> {
     /// The brief.
     pub fn brief(&self) -> &Brief
         ensures value { result.now ≡ self.now.brief }
-        ensures fits { IsBriefFor N.problem result.now.prices result.now.columns }
+        ensures fits { IsBriefFor N.problem result.now.prices result.now.ranges result.now.columns }
         ensures has_columns { HasColumns N.problem (columns_at result.now.columns) }
     {
         &self.brief

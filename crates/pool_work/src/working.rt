@@ -34,7 +34,7 @@ fn do_tasks<N: Search, H: Office<N>, T: Wait, G: Gate>(
         let Ok(()) = hub.may_call(seat) else {
             return Ok(());
         };
-        let (task, standing) = hub.standing_task(rt, seat);
+        let (task, standing) = hub.standing_task(rt, seat, gate.asks());
         if let Task::Done = task {
             return Ok(());
         }
@@ -140,7 +140,7 @@ fn take_turn<N: Search, H: Office<N>, T: Wait, G: Gate>(
         do_block(rt, hub, seat, deck, bench, block)?;
         return Ok(false);
     }
-    let (task, standing) = hub.standing_task(rt, seat);
+    let (task, standing) = hub.standing_task(rt, seat, gate.asks());
     if let Task::Done = task {
         return Ok(true);
     }

@@ -19,5 +19,5 @@ returns-clause-called g c =
     has_called c.enter-desk.result (λ d. d.pool) g.N.Naming.opening c.task-answer.new.self.pool c.args.seat.now.pass _ _ _ _ (Tasking c.task-answer.result) c.args.seat.now.resting c.enter-desk.ensures.entered moves c.leave.ensures.left
 
 pub returns-clause-standing : goal.returns-clause-standing
-returns-clause-standing g c = has_found c.enter-desk.result (λ d. d.pool) g.N.Naming.opening c.task-answer.new.self.pool c.args.seat.now.pass _ _ _ _ (Tasking c.task-answer.result) (λ s. c.standing-standing.result ≡ standing_of s)
+returns-clause-standing g c = has_found c.enter-desk.result (λ d. d.pool) g.N.Naming.opening c.task-answer.new.self.pool c.args.seat.now.pass _ _ _ _ (Tasking c.task-answer.result) (λ s. c.standing-standing.result ≡ standing_of c.args.asks s)
     c.args.seat.now.resting c.enter-desk.ensures.entered c.leave.ensures.left c.standing-standing.ensures
