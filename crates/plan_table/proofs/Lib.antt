@@ -1,1 +1,3 @@
+mod Raised
 mod Stated
+mod RangeSteps

@@ -1,6 +1,7 @@
 -- A valid plan states a cost that is no more than any design's may be, and no bound above it.
-use Rattle.std.proofs.Common.{◌≡◌, ℕ, ◌^◌, ◌<◌, ◌≤◌, Option, Some, None, refl, subst, arith, inl}
+use Rattle.std.proofs.Common.{◌≡◌, ℕ, ◌^◌, ◌<◌, ◌≤◌, Option, Some, None, refl, sym, subst, arith, inl}
 use Rattle.std.proofs.lemmas.Int.{ints}
+use Rattle.std.specs.Option.{option_map}
 use Rattle.std.specs.Prelude.{IfSome, IsSomeAnd, MatchOption, max, ℤ, pos, ◌≤ℤ◌}
 use Rattle.plan_base.specs.declared.parts.Parts.{Parts}
 use Rattle.plan_base.specs.declared.path.Design.{Design}
@@ -9,12 +10,14 @@ use Rattle.plan_base.specs.Facts.{IsInstance, total_load}
 use Rattle.plan_base.specs.Places.{there_of, back_of}
 use Rattle.plan_base.specs.Designs.{load_at, need}
 use Rattle.plan_base.proofs.LoadLaws.{need-le-total}
+use Rattle.link_steps.specs.Unit.{IsUnit}
 use Rattle.proof_tree.specs.declared.plan.PlanStatus.{PlanStatus}
 use Rattle.proof_tree.specs.declared.plan.PlanStatus.TheVariants.{Optimal, Infeasible, Undecided}
 use Rattle.proof_tree.specs.declared.plan.Plan.{Plan}
 use Rattle.proof_tree.specs.Plans.{stated_cost, IsStatedDesign, IsCandidate, IsLeastCandidate, HasStatus, IsValidPlan}
 use Rattle.cert_verifier.proofs.CostBounds.{good-cost}
-use Rattle.plan_table.specs.Tables.{claimed_bound}
+use Rattle.plan_table.specs.Tables.{raised, claimed_bound}
+use Rattle.plan_table.proofs.Raised.{raised-le}
 
 -- ---- the cost
 
@@ -38,21 +41,22 @@ need_small p d e there back most inst is_there is_back is_most =
 no-more : (v : ℤ) → v ≤ℤ v
 no-more v = omega (arith, ints)
 
-undecided : (p : Parts) (plan : Plan) (cost : ℕ) (d : Design) → plan.design ≡ Some (cost, d) → (bound : Option ℤ) → MatchOption bound ((b : ℤ) → IsCandidate p plan b → ⊥) (λ b. IsLeastCandidate p plan b) → IfSome bound (λ b. b ≤ℤ pos cost)
-undecided p plan cost d same None none = tt
-undecided p plan cost d same (Some b) is =
+undecided : (p : Parts) (plan : Plan) (unit cost : ℕ) (d : Design) → IsUnit p unit → IsStatedDesign p cost d → plan.design ≡ Some (cost, d) → (bound : Option ℤ) → MatchOption bound ((b : ℤ) → IsCandidate p plan b → ⊥) (λ b. IsLeastCandidate p plan b) → IfSome (option_map (raised unit) bound) (λ b. b ≤ℤ pos cost)
+undecided p plan unit cost d is_unit stated same None none = tt
+undecided p plan unit cost d is_unit stated same (Some b) is =
     let own : IsSomeAnd (stated_cost plan) (λ c. pos c ≡ pos cost) = rw same refl in
-    is.least (pos cost) (inl own)
+    let below : b ≤ℤ pos cost = is.least (pos cost) (inl own) in
+    subst (λ n. raised unit b ≤ℤ pos n) stated.cost_is (raised-le p unit b d is_unit (subst (λ n. b ≤ℤ pos n) (sym stated.cost_is) below))
 
-of_status : (p : Parts) (plan : Plan) (cost : ℕ) (d : Design) → plan.design ≡ Some (cost, d) → (status : PlanStatus) → HasStatus p plan status → IfSome (claimed_bound status (Some (cost, d)) plan.bound) (λ b. b ≤ℤ pos cost)
-of_status p plan cost d same Optimal has = no-more (pos cost)
-of_status p plan cost d same Infeasible has = tt
-of_status p plan cost d same Undecided has = undecided p plan cost d same plan.bound has.bound
+of_status : (p : Parts) (plan : Plan) (unit cost : ℕ) (d : Design) → IsUnit p unit → IsStatedDesign p cost d → plan.design ≡ Some (cost, d) → (status : PlanStatus) → HasStatus p plan status → IfSome (claimed_bound unit status (Some (cost, d)) plan.bound) (λ b. b ≤ℤ pos cost)
+of_status p plan unit cost d is_unit stated same Optimal has = no-more (pos cost)
+of_status p plan unit cost d is_unit stated same Infeasible has = tt
+of_status p plan unit cost d is_unit stated same Undecided has = undecided p plan unit cost d is_unit stated same plan.bound has.bound
 
-of_design : (p : Parts) (plan : Plan) → HasStatus p plan plan.status → (design : Option (ℕ × Design)) → plan.design ≡ design → IfSome design (λ d. IfSome (claimed_bound plan.status design plan.bound) (λ b. b ≤ℤ pos d.0))
-of_design p plan has None same = tt
-of_design p plan has (Some (cost, d)) same = of_status p plan cost d same plan.status has
+of_design : (p : Parts) (plan : Plan) (unit : ℕ) → IsUnit p unit → HasStatus p plan plan.status → (design : Option (ℕ × Design)) → IfSome design (λ d. IsStatedDesign p d.0 d.1) → plan.design ≡ design → IfSome design (λ d. IfSome (claimed_bound unit plan.status design plan.bound) (λ b. b ≤ℤ pos d.0))
+of_design p plan unit is_unit has None stated same = tt
+of_design p plan unit is_unit has (Some (cost, d)) stated same = of_status p plan unit cost d is_unit stated same plan.status has
 
 -- what it claims that no design undercuts is no more than the cost of its own
-pub bound_below : (p : Parts) (plan : Plan) → IsValidPlan p plan → IfSome plan.design (λ d. IfSome (claimed_bound plan.status plan.design plan.bound) (λ b. b ≤ℤ pos d.0))
-bound_below p plan valid = of_design p plan valid.status plan.design refl
+pub bound_below : (p : Parts) (plan : Plan) (unit : ℕ) → IsValidPlan p plan → IsUnit p unit → IfSome plan.design (λ d. IfSome (claimed_bound unit plan.status plan.design plan.bound) (λ b. b ≤ℤ pos d.0))
+bound_below p plan unit valid is_unit = of_design p plan unit is_unit valid.status plan.design valid.design refl

@@ -1,20 +1,27 @@
 -- The tables of a plan by the names of the network: lines of fields parted by commas, of which the first tells the table. Loads and costs are decimals in units; shares and gaps are in per cent.
-use Rattle.std.specs.Prelude.{ℕ, ◌-◌, ◌*◌, ◌/◌, ◌==◌, ◌<◌, nat_lt, Bool, ◌||◌, false, List, [], ◌∷◌, ◌++◌, length, codes, decimal, slice_index, slice_index_or, flat_map, if◌then◌else◌, Option, Some, None, ℤ, pos, negsuc}
+use Rattle.std.specs.Prelude.{ℕ, ◌≡◌, ◌+◌, ◌-◌, ◌*◌, ◌/◌, ◌%◌, ◌==◌, nat_eq, nat_lt, Bool, ◌&&◌, ◌||◌, false, List, [], ◌∷◌, ◌++◌, length, codes, decimal, slice_index, slice_index_or, flat_map, if◌then◌else◌, Option, Some, None, ℤ, pos, negsuc}
+use Rattle.std.specs.Int.{div_ceil}
 use Rattle.std.specs.List.{range_with_len}
+use Rattle.std.specs.Option.{option_map}
 use Rattle.plan_base.specs.declared.ids.NodeId.{NodeId}
 use Rattle.plan_base.specs.declared.parts.Parts.{Parts}
 use Rattle.plan_base.specs.declared.path.Design.{Design}
 use Rattle.plan_base.specs.Arcs.{link_at, demand_at}
-use Rattle.plan_base.specs.Places.{is_two_way, there_of, back_of}
+use Rattle.plan_base.specs.Places.{is_two_way, places, link_of_place, there_of, back_of}
 use Rattle.plan_base.specs.Designs.{path_at, counts_at, load_at, need, capacity_with, link_cost}
 use Rattle.scaled_numbers.specs.Canonical.{grains_text}
+use Rattle.link_steps.specs.declared.range.LoadRange.{LoadRange}
+use Rattle.link_steps.specs.Ranges.{range_at, whole_range}
+use Rattle.link_steps.specs.Unit.{IsUnit}
 use Rattle.snd_network.specs.declared.file.NetworkFile.{NetworkFile}
 use Rattle.proof_tree.specs.declared.tree.Evidence.TheVariants.{Routed, Overfull, Cut, Far, Crowd}
 use Rattle.proof_tree.specs.declared.tree.TreeNode.{TreeNode}
-use Rattle.proof_tree.specs.declared.tree.TreeNode.TheVariants.{Leaf}
+use Rattle.proof_tree.specs.declared.tree.TreeNode.TheVariants.{Split, Loads, Leaf}
 use Rattle.proof_tree.specs.declared.plan.PlanStatus.{PlanStatus}
 use Rattle.proof_tree.specs.declared.plan.PlanStatus.TheVariants.{Optimal, Infeasible, Undecided}
 use Rattle.proof_tree.specs.declared.plan.Plan.{Plan}
+use Rattle.proof_tree.specs.Regions.{Region, whole}
+use Rattle.proof_tree.specs.Trees.{children_at}
 use Rattle.plan_report.specs.Lines.{numbers}
 use Rattle.plan_report.specs.Verdicts.{cost_text, signed_text, status_word}
 use Rattle.plan_report.specs.Reports.{load_text, node_name, link_name, demand_name, way_text}
@@ -41,12 +48,17 @@ gap_text cost (negsuc n) = []
 
 -- ---- the plan
 
--- what no feasible design costs less than: the cost of an optimal plan, the bound of an undecided one
-abbrev pub claimed_bound : PlanStatus → Option (ℕ × Design) → Option ℤ → Option ℤ
-claimed_bound Optimal None bound = None
-claimed_bound Optimal (Some design) bound = Some (pos design.0)
-claimed_bound Infeasible design bound = None
-claimed_bound Undecided design bound = bound
+-- a bound rounded up to a multiple of the unit of costs; a negative one as it is
+abbrev pub raised : ℕ → ℤ → ℤ
+raised unit (pos n) = pos (div_ceil n unit * unit)
+raised unit (negsuc n) = negsuc n
+
+-- what no feasible design costs less than: the cost of an optimal plan, the raised bound of an undecided one
+abbrev pub claimed_bound : ℕ → PlanStatus → Option (ℕ × Design) → Option ℤ → Option ℤ
+claimed_bound unit Optimal None bound = None
+claimed_bound unit Optimal (Some design) bound = Some (pos design.0)
+claimed_bound unit Infeasible design bound = None
+claimed_bound unit Undecided design bound = option_map (raised unit) bound
 
 -- the cost of a design, where there is one
 abbrev pub cost_field : Option (ℕ × Design) → List ℕ
@@ -63,23 +75,23 @@ abbrev pub gap_field : Option (ℕ × Design) → Option ℤ → List ℕ
 gap_field (Some design) (Some bound) = gap_text design.0 bound
 gap_field design bound = []
 
--- the cost of a design, a bound, and the gap between them
-unfoldable pub worth_fields : Option (ℕ × Design) → Option ℤ → List ℕ
-worth_fields design bound = 44 ∷ cost_field design ++ 44 ∷ bound_field bound ++ 44 ∷ gap_field design bound
+-- a bound, and the gap between it and the cost of a design
+unfoldable pub bound_fields : Option (ℕ × Design) → Option ℤ → List ℕ
+bound_fields design bound = 44 ∷ bound_field bound ++ 44 ∷ gap_field design bound
 
 -- the names of the fields of the plan
 unfoldable pub plan_names : List ℕ
 plan_names = codes "kind,status,cost,bound,gap_percent,examined\n"
 
 -- the line of the plan
-unfoldable pub plan_row : Plan → List ℕ
-plan_row plan =
-    codes "plan," ++ status_word plan.status ++ worth_fields plan.design (claimed_bound plan.status plan.design plan.bound)
-    ++ 44 ∷ decimal plan.examined ++ codes "\n"
+unfoldable pub plan_row : ℕ → Plan → List ℕ
+plan_row unit plan =
+    codes "plan," ++ status_word plan.status ++ 44 ∷ cost_field plan.design
+    ++ bound_fields plan.design (claimed_bound unit plan.status plan.design plan.bound) ++ 44 ∷ decimal plan.examined ++ codes "\n"
 
 -- the table of the plan
-abbrev pub plan_table : Plan → List ℕ
-plan_table plan = plan_names ++ plan_row plan
+abbrev pub plan_table : ℕ → Plan → List ℕ
+plan_table unit plan = plan_names ++ plan_row unit plan
 
 -- ---- links
 
@@ -206,8 +218,79 @@ abbrev pub evidence_table : NetworkFile → Parts → PlanStatus → List TreeNo
 evidence_table net p Infeasible nodes = evidence_names ++ record_rows net p nodes (length nodes)
 evidence_table net p status nodes = []
 
+-- ---- ranges
+
+-- the range of a place has all its loads
+abbrev pub is_whole : Parts → LoadRange → ℕ → Bool
+is_whole p range q = nat_eq range.least 0 && nat_eq range.most (whole_range p q).most
+
+-- the place is that of an arc from a link's target to its source
+abbrev pub is_back : Parts → ℕ → Bool
+is_back p q = is_two_way p.orient && nat_eq (q % 2) 1
+
+-- the names of the ends of a place's link, each behind a comma, in the order in which the place leads
+abbrev pub place_ends : NetworkFile → Parts → ℕ → List ℕ
+place_ends net p q =
+    if is_back p q then ends_fields net (link_at p (link_of_place p q)).target (link_at p (link_of_place p q)).source
+    else ends_fields net (link_at p (link_of_place p q)).source (link_at p (link_of_place p q)).target
+
+-- the record's place in the tree, and the names of a place's link and of its ends
+unfoldable pub range_head : NetworkFile → Parts → ℕ → ℕ → List ℕ
+range_head net p record_ q = codes "range," ++ decimal record_ ++ 44 ∷ field (link_name net (link_of_place p q)) ++ place_ends net p q
+
+-- the least and the most load of a range
+unfoldable pub range_fields : LoadRange → List ℕ
+range_fields range = 44 ∷ load_text range.least ++ 44 ∷ load_text range.most
+
+-- the line of the range of a place
+abbrev pub range_line : NetworkFile → Parts → ℕ → ℕ → LoadRange → List ℕ
+range_line net p record_ q range = range_head net p record_ q ++ range_fields range ++ codes "\n"
+
+-- the line of the range of a place, where it has not all loads
+abbrev pub range_row : NetworkFile → Parts → ℕ → List LoadRange → ℕ → List ℕ
+range_row net p record_ ranges q = if is_whole p (range_at ranges q) q then [] else range_line net p record_ q (range_at ranges q)
+
+-- the lines of the ranges of so many places
+abbrev pub range_rows : NetworkFile → Parts → ℕ → List LoadRange → ℕ → List ℕ
+range_rows net p record_ ranges count = flat_map (range_row net p record_ ranges) (range_with_len 0 count)
+
+-- the lines of a record with these ranges: those of a leaf
+abbrev pub leaf_ranges : NetworkFile → Parts → ℕ → List LoadRange → TreeNode → List ℕ
+leaf_ranges net p i ranges (Split demand at left right) = []
+leaf_ranges net p i ranges (Loads place load) = []
+leaf_ranges net p i ranges (Leaf evidence) = range_rows net p i ranges (places p)
+
+-- the lines of the leaves of trees that stand at these regions, where the first record has this place
+unfoldable pub tree_ranges : NetworkFile → Parts → ℕ → List Region → List TreeNode → List ℕ
+tree_ranges net p i [] nodes = []
+tree_ranges net p i (g ∷ gs) [] = []
+tree_ranges net p i (g ∷ gs) (node ∷ nodes) = leaf_ranges net p i g.ranges node ++ tree_ranges net p (i + 1) (children_at g node ++ gs) nodes
+
+-- the names of the fields of ranges
+unfoldable pub range_names : List ℕ
+range_names = codes "kind,record,link,source,target,least,most\n"
+
+-- lines behind the names of their fields, where there are lines
+abbrev pub titled : List ℕ → List ℕ → List ℕ
+titled names [] = []
+titled names (byte ∷ bytes) = names ++ byte ∷ bytes
+
+-- the table of the ranges of the leaves of a plan that says that there is no design
+abbrev pub range_table : NetworkFile → Parts → PlanStatus → List TreeNode → List ℕ
+range_table net p Optimal nodes = []
+range_table net p Infeasible nodes = titled range_names (tree_ranges net p 0 (whole p ∷ []) nodes)
+range_table net p Undecided nodes = []
+
 -- ---- all tables
 
--- the text of a plan's tables: what it claims, its design, and where there is none its evidence
-abbrev pub table_text : NetworkFile → Parts → Plan → List ℕ
-table_text net p plan = plan_table plan ++ design_tables net p plan.design ++ evidence_table net p plan.status plan.tree
+-- the text of a plan's tables at this unit of costs: what it claims, its design, and where there is none its evidence with the ranges of leaves
+abbrev pub table_text : NetworkFile → Parts → ℕ → Plan → List ℕ
+table_text net p unit plan =
+    plan_table unit plan ++ design_tables net p plan.design ++ evidence_table net p plan.status plan.tree
+    ++ range_table net p plan.status plan.tree
+
+-- this is the text of a plan's tables, at the unit of costs of its instance
+pub record IsTableText (net : NetworkFile) (p : Parts) (plan : Plan) (text : List ℕ) : Type 0 where
+  pub unit : ℕ
+  pub is_unit : IsUnit p unit
+  pub text_is : text ≡ table_text net p unit plan

@@ -1,9 +1,10 @@
 //! The table of what a plan claims.
 
-ghost use Rattle.std.specs.Prelude.{ℕ, ◌≡◌, ◌<◌, ◌≤◌, ◌^◌, ◌++◌, ◌∷◌, length, option_map, OnOk, IfSome, IsTrue, IsSomeAnd, pos, ◌≤ℤ◌};
-ghost use Rattle.plan_base.specs.Facts.{IsInstance};
+ghost use Rattle.std.specs.Prelude.{◌≡◌, ◌<◌, ◌≤◌, ◌^◌, ◌*◌, ◌++◌, ◌∷◌, Some, None, OnOk, IfSome, pos, ◌≤ℤ◌, ◌<ℤ◌};
+ghost use Rattle.std.specs.Int.{div_ceil};
+ghost use Rattle.link_steps.specs.Unit.{IsUnit};
 ghost use Rattle.proof_tree.specs.Plans.{IsValidPlan};
-ghost use Rattle.plan_table.specs.Tables.{share_of, percent_text, used_text, gap_text, claimed_bound, cost_field, bound_field, gap_field, worth_fields, plan_names, plan_row, plan_table};
+ghost use Rattle.plan_table.specs.Tables.{used_text, gap_text, raised, claimed_bound, cost_field, gap_field, bound_fields, plan_names, plan_row, plan_table};
 
 use crate::fields::push_digits;
 use plan_base::Instance;
@@ -27,28 +28,98 @@ pub fn push_used(text: &mut Vec<u8>, used: u128, capacity: u128) -> Result<(), A
     write_grains(used * 1000 / capacity, PERCENT_SCALE, text)
 }
 
-/// Writes what a bound leaves open of a cost, in per cent, rounded up; nothing where that says nothing.
+/// Writes what a bound leaves open of a cost, in per cent, rounded up; nothing where the cost is 0.
 #[tactic(auto, unfolding(crate::specs::Tables::gap_text))]
-fn push_gap(text: &mut Vec<u8>, cost: u128, bound: i128) -> Result<(), AllocError>
+fn push_gap(text: &mut Vec<u8>, cost: u128, bound: u128) -> Result<(), AllocError>
     requires small { cost < 2 ^ 115 }
-    requires below { bound ≤ℤ pos cost }
-    ensures { OnOk result (text.new.items ≡ text.old.items ++ gap_text cost bound) }
+    requires below { bound ≤ cost }
+    ensures { OnOk result (text.new.items ≡ text.old.items ++ gap_text cost (pos bound)) }
 {
-    if cost == 0 || bound < 0 {
+    if cost == 0 {
         return Ok(());
     }
-    write_grains(1000 - bound as u128 * 1000 / cost, PERCENT_SCALE, text)
+    write_grains(1000 - bound * 1000 / cost, PERCENT_SCALE, text)
 }
 
-/// What no feasible design costs less than, as the plan claims.
-fn claimed_bound(plan: &Plan) -> Option<i128>
-    requires { IfSome plan.now.design (λ design. design.0 < 2 ^ 115) }
-    ensures { result ≡ claimed_bound plan.now.status plan.now.design plan.now.bound }
+/// Writes the gap between a bound and the cost of a plan's design, where it has one.
+fn push_gap_of(text: &mut Vec<u8>, plan: &Plan, bound: u128) -> Result<(), AllocError>
+    requires small { IfSome plan.now.design (λ design. design.0 < 2 ^ 115) }
+    requires below { IfSome plan.now.design (λ design. bound ≤ design.0) }
+    ensures { OnOk result (text.new.items ≡ text.old.items ++ gap_field plan.now.design (Some (pos bound))) }
 {
-    match (plan.status, &plan.design) {
-        (PlanStatus::Optimal, Some((cost, _))) => Some(*cost as i128),
-        (PlanStatus::Undecided, _) => plan.bound,
-        _ => None,
+    match &plan.design {
+        Some((cost, _)) => push_gap(text, *cost, bound),
+        None => Ok(()),
+    }
+}
+
+/// Writes a bound that is not negative, and the gap between it and the cost of a plan's design, where it has one.
+#[tactic(auto, unfolding(crate::specs::Tables::bound_fields))]
+fn push_number(text: &mut Vec<u8>, plan: &Plan, bound: u128) -> Result<(), AllocError>
+    requires small { IfSome plan.now.design (λ design. design.0 < 2 ^ 115) }
+    requires below { IfSome plan.now.design (λ design. bound ≤ design.0) }
+    ensures { OnOk result (text.new.items ≡ text.old.items ++ bound_fields plan.now.design (Some (pos bound))) }
+{
+    text.push(b',')?;
+    write_grains(bound, COST_SCALE, text)?;
+    text.push(b',')?;
+    push_gap_of(text, plan, bound)
+}
+
+/// Writes a bound that is negative, which leaves no gap.
+#[tactic(auto, unfolding(crate::specs::Tables::bound_fields, crate::specs::Tables::gap_text))]
+fn push_negative(text: &mut Vec<u8>, plan: &Plan, bound: i128) -> Result<(), AllocError>
+    requires { bound <ℤ pos 0 }
+    ensures { OnOk result (text.new.items ≡ text.old.items ++ bound_fields plan.now.design (Some bound)) }
+{
+    text.push(b',')?;
+    push_signed(text, bound)?;
+    text.push(b',')?;
+    Ok(())
+}
+
+/// Writes that there is no bound.
+#[tactic(auto, unfolding(crate::specs::Tables::bound_fields))]
+fn push_none(text: &mut Vec<u8>, plan: &Plan) -> Result<(), AllocError>
+    ensures { OnOk result (text.new.items ≡ text.old.items ++ bound_fields plan.now.design None) }
+{
+    text.extend_from_slice(b",,")
+}
+
+/// A number rounded up to a multiple of the unit.
+fn raised(number: u128, unit: u128) -> u128
+    requires number { number < 2 ^ 127 }
+    requires unit { 0 < unit }
+    ensures { result ≡ div_ceil number unit * unit }
+{
+    number.div_ceil(unit) * unit
+}
+
+/// Writes the bound of an undecided plan, raised to the unit of costs, and the gap between it and the cost of its design.
+fn push_raised(text: &mut Vec<u8>, plan: &Plan, bound: i128, unit: u128) -> Result<(), AllocError>
+    requires unit { 0 < unit }
+    requires small { IfSome plan.now.design (λ design. design.0 < 2 ^ 115) }
+    requires below { IfSome plan.now.design (λ design. raised unit bound ≤ℤ pos design.0) }
+    ensures { OnOk result (text.new.items ≡ text.old.items ++ bound_fields plan.now.design (Some (raised unit bound))) }
+{
+    if bound < 0 {
+        push_negative(text, plan, bound)
+    } else {
+        push_number(text, plan, raised(bound as u128, unit))
+    }
+}
+
+/// Writes what no feasible design costs less than, as the plan claims, and the gap between that and the cost of its design.
+fn push_bound(text: &mut Vec<u8>, plan: &Plan, unit: u128) -> Result<(), AllocError>
+    requires unit { 0 < unit }
+    requires small { IfSome plan.now.design (λ design. design.0 < 2 ^ 115) }
+    requires below { IfSome plan.now.design (λ design. IfSome (claimed_bound unit plan.now.status plan.now.design plan.now.bound) (λ bound. bound ≤ℤ pos design.0)) }
+    ensures { OnOk result (text.new.items ≡ text.old.items ++ bound_fields plan.now.design (claimed_bound unit plan.now.status plan.now.design plan.now.bound)) }
+{
+    match (plan.status, &plan.design, plan.bound) {
+        (PlanStatus::Optimal, Some((cost, _)), _) => push_number(text, plan, *cost),
+        (PlanStatus::Undecided, _, Some(bound)) => push_raised(text, plan, bound, unit),
+        _ => push_none(text, plan),
     }
 }
 
@@ -62,43 +133,6 @@ fn push_cost(text: &mut Vec<u8>, plan: &Plan) -> Result<(), AllocError>
     }
 }
 
-/// Writes a bound, where there is one.
-fn push_bound(text: &mut Vec<u8>, bound: Option<i128>) -> Result<(), AllocError>
-    ensures { OnOk result (text.new.items ≡ text.old.items ++ bound_field bound) }
-{
-    match bound {
-        Some(bound) => push_signed(text, bound),
-        None => Ok(()),
-    }
-}
-
-/// Writes the gap between a bound and the cost of a plan's design, where there are both.
-fn push_gap_of(text: &mut Vec<u8>, plan: &Plan, bound: Option<i128>) -> Result<(), AllocError>
-    requires small { IfSome plan.now.design (λ design. design.0 < 2 ^ 115) }
-    requires below { IfSome plan.now.design (λ design. IfSome bound (λ bound. bound ≤ℤ pos design.0)) }
-    ensures { OnOk result (text.new.items ≡ text.old.items ++ gap_field plan.now.design bound) }
-{
-    match (&plan.design, bound) {
-        (Some((cost, _)), Some(bound)) => push_gap(text, *cost, bound),
-        _ => Ok(()),
-    }
-}
-
-/// Writes the cost of a plan's design, a bound, and the gap between them.
-#[tactic(auto, unfolding(crate::specs::Tables::worth_fields))]
-fn push_worth(text: &mut Vec<u8>, plan: &Plan, bound: Option<i128>) -> Result<(), AllocError>
-    requires small { IfSome plan.now.design (λ design. design.0 < 2 ^ 115) }
-    requires below { IfSome plan.now.design (λ design. IfSome bound (λ bound. bound ≤ℤ pos design.0)) }
-    ensures { OnOk result (text.new.items ≡ text.old.items ++ worth_fields plan.now.design bound) }
-{
-    text.push(b',')?;
-    push_cost(text, plan)?;
-    text.push(b',')?;
-    push_bound(text, bound)?;
-    text.push(b',')?;
-    push_gap_of(text, plan, bound)
-}
-
 /// The names of the fields of the plan.
 #[tactic(auto, unfolding(crate::specs::Tables::plan_names))]
 fn plan_names() -> &'static [u8]
@@ -109,28 +143,36 @@ fn plan_names() -> &'static [u8]
 
 /// Writes the line of what a valid plan claims.
 #[tactic(auto, unfolding(crate::specs::Tables::plan_row))]
-fn push_row(text: &mut Vec<u8>, plan: &Plan) -> Result<(), AllocError>
+fn push_row(text: &mut Vec<u8>, plan: &Plan, unit: u128) -> Result<(), AllocError>
+    requires unit { 0 < unit }
     requires small { IfSome plan.now.design (λ design. design.0 < 2 ^ 115) }
-    requires below { IfSome plan.now.design (λ design. IfSome (claimed_bound plan.now.status plan.now.design plan.now.bound) (λ bound. bound ≤ℤ pos design.0)) }
-    ensures { OnOk result (text.new.items ≡ text.old.items ++ plan_row plan.now) }
+    requires below { IfSome plan.now.design (λ design. IfSome (claimed_bound unit plan.now.status plan.now.design plan.now.bound) (λ bound. bound ≤ℤ pos design.0)) }
+    ensures { OnOk result (text.new.items ≡ text.old.items ++ plan_row unit plan.now) }
 {
-    let bound = claimed_bound(plan);
     text.extend_from_slice(b"plan,")?;
     text.extend_from_slice(status_word(plan.status))?;
-    push_worth(text, plan, bound)?;
+    text.push(b',')?;
+    push_cost(text, plan)?;
+    push_bound(text, plan, unit)?;
     text.push(b',')?;
     push_digits(text, u64::from(plan.examined))?;
     text.push(b'\n')?;
     Ok(())
 }
 
-/// Writes the table of what a valid plan claims.
-pub fn push_plan(text: &mut Vec<u8>, inst: &Instance, plan: &Plan) -> Result<(), AllocError>
-    requires { IsValidPlan inst.now plan.now }
-    ensures { OnOk result (text.new.items ≡ text.old.items ++ plan_table plan.now) }
+/// Writes the table of what a valid plan claims, at the unit of costs.
+pub fn push_plan(
+    text: &mut Vec<u8>,
+    inst: &Instance,
+    plan: &Plan,
+    unit: u128,
+) -> Result<(), AllocError>
+    requires valid { IsValidPlan inst.now plan.now }
+    requires unit { IsUnit inst.now unit }
+    ensures { OnOk result (text.new.items ≡ text.old.items ++ plan_table unit plan.now) }
 {
     inst.lawful();
     text.extend_from_slice(plan_names())?;
-    push_row(text, plan)?;
+    push_row(text, plan, unit)?;
     Ok(())
 }

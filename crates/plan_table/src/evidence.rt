@@ -22,7 +22,7 @@ fn node_name(net: &NetworkFile, id: NodeId) -> &[u8]
 }
 
 /// The name of a link; nothing where there is no such link.
-fn link_name(net: &NetworkFile, id: LinkId) -> &[u8]
+pub fn link_name(net: &NetworkFile, id: LinkId) -> &[u8]
     ensures { result.now ≡ link_name net.now id.0 }
 {
     match net.links.as_slice().get(id.0 as usize) {

@@ -3,12 +3,14 @@
 ghost use Rattle.std.specs.Prelude.{◌≡◌, ◌++◌, length, OnOk, IfOk};
 ghost use Rattle.proof_tree.specs.Plans.{IsValidPlan};
 ghost use Rattle.plan_report.specs.Reports.{IsReadFrom, HasNames};
-ghost use Rattle.plan_table.specs.Tables.{link_names, demand_names, evidence_names, design_tables, evidence_table, table_text};
+ghost use Rattle.plan_table.specs.Tables.{link_names, demand_names, evidence_names, range_names, titled, design_tables, evidence_table, range_table, IsTableText};
 
 use crate::claims::push_plan;
 use crate::demands::push_demands;
 use crate::evidence::push_records;
 use crate::links::push_links;
+use crate::ranges::push_ranges;
+use link_steps::cost_unit;
 use plan_base::{Instance, loads_of};
 use proof_tree::{Plan, PlanStatus};
 use snd_network::NetworkFile;
@@ -82,14 +84,58 @@ fn push_evidence(
     }
 }
 
+/// The names of the fields of ranges.
+#[tactic(auto, unfolding(crate::specs::Tables::range_names))]
+fn range_names() -> &'static [u8]
+    ensures { result.now ≡ range_names }
+{
+    b"kind,record,link,source,target,least,most\n"
+}
+
+/// Writes lines behind the names of their fields, where there are lines.
+fn push_titled(text: &mut Vec<u8>, names: &[u8], lines: &[u8]) -> Result<(), AllocError>
+    ensures { OnOk result (text.new.items ≡ text.old.items ++ titled names.now lines.now) }
+{
+    if lines.is_empty() {
+        return Ok(());
+    }
+    text.extend_from_slice(names)?;
+    text.extend_from_slice(lines)
+}
+
+/// Writes the table of the ranges of the leaves of a plan that says that there is no design. The room for words is written
+/// over.
+fn push_range_table(
+    alloc: Global,
+    text: &mut Vec<u8>,
+    words: &mut Vec<u8>,
+    net: &NetworkFile,
+    inst: &Instance,
+    plan: &Plan,
+) -> Result<(), AllocError>
+    requires nodes { length net.now.nodes ≡ inst.now.nodes }
+    requires valid { IsValidPlan inst.now plan.now }
+    ensures { OnOk result (text.new.items ≡ text.old.items ++ range_table net.now inst.now plan.now.status plan.now.tree) }
+{
+    match plan.status {
+        PlanStatus::Infeasible => {
+            words.clear();
+            push_ranges(alloc, words, net, inst, plan)?;
+            push_titled(text, range_names(), words.as_slice())
+        }
+        PlanStatus::Optimal | PlanStatus::Undecided => Ok(()),
+    }
+}
+
 /// The tables of a valid plan, as comma-separated values: what it claims; where it has a design, each link with what is
 /// installed, its loads, how much of its capacity is used and what it costs, and each demand with its path; and where it
-/// says that there is none, what each leaf of its tree names.
+/// says that there is none, what each leaf of its tree names, and each place whose range of loads is cut there.
 ///
 /// - Takes: the network, the instance that it stands for, and a valid plan of the instance.
 /// - Errors: want of memory alone.
 /// - Rule: docs/FORMATS.md, "Tables".
-/// - Time: linear in the text, in the arcs of all paths, and for each leaf in the nodes and links.
+/// - Time: linear in the text, in the arcs of all paths, and for each leaf in the nodes and links; where no design
+///   exists, for each record in the places.
 pub fn table_text(
     alloc: Global,
     net: &NetworkFile,
@@ -98,12 +144,13 @@ pub fn table_text(
 ) -> Result<Vec<u8>, AllocError>
     requires read { IsReadFrom net.now inst.now }
     requires valid { IsValidPlan inst.now plan.now }
-    ensures { IfOk result (λ text. text.items ≡ table_text net.now inst.now plan.now) }
+    ensures { IfOk result (λ text. IsTableText net.now inst.now plan.now text.items) }
 {
     let mut text = Vec::new(alloc);
     let mut words = Vec::new(alloc);
-    push_plan(&mut text, inst, plan)?;
+    push_plan(&mut text, inst, plan, cost_unit(inst))?;
     push_design(&mut text, &mut words, net, inst, plan)?;
     push_evidence(&mut text, &mut words, net, inst, plan)?;
+    push_range_table(alloc, &mut text, &mut words, net, inst, plan)?;
     Ok(text)
 }

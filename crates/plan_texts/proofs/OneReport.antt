@@ -5,8 +5,7 @@ use Rattle.plan_base.specs.declared.parts.Parts.{Parts}
 use Rattle.snd_network.specs.declared.file.NetworkFile.{NetworkFile}
 use Rattle.proof_tree.specs.declared.plan.Plan.{Plan}
 use Rattle.proof_tree.specs.Plans.{IsValidPlan}
-use Rattle.cert_format.specs.declared.form.Form.TheVariants.{Second}
-use Rattle.cert_format.specs.Grammar.{plan_text}
+use Rattle.cert_format.specs.Grammar.{written_text}
 use Rattle.plan_texts.specs.declared.status.Status.{Status}
 use Rattle.plan_texts.specs.declared.status.Status.TheVariants.{Good, Rejected}
 use Rattle.plan_texts.specs.Texts.{Texts, alone}
@@ -66,9 +65,9 @@ alone-plan below (Some text) one other spelt its = below.one_plan text one other
 pub one_upgrade : Below → (texts : Texts) (status other : Status) (bytes more : List ℕ) → IsUpgraded texts status bytes → IsUpgraded texts other more → (status ≡ other) × (bytes ≡ more)
 one_upgrade below texts status other bytes more one two =
     let same : one.plan ≡ two.plan = alone-plan below texts.plan one.plan two.plan one.read.plan_text two.read.plan_text in
-    (one.written.good ∙ sym two.written.good, one.written.text ∙ ap (plan_text Second) same ∙ sym two.written.text)
+    (one.written.good ∙ sym two.written.good, one.written.text ∙ ap written_text same ∙ sym two.written.text)
 
 pub upgraded_again : Below → (texts : Texts) (status other : Status) (bytes more : List ℕ) → IsUpgraded texts status bytes → IsUpgraded (alone bytes) other more → bytes ≡ more
 upgraded_again below texts status other bytes more one two =
     let same : one.plan ≡ two.plan = below.one_plan bytes one.plan two.plan one.written.spelt two.read.plan_text in
-    one.written.text ∙ ap (plan_text Second) same ∙ sym two.written.text
+    one.written.text ∙ ap written_text same ∙ sym two.written.text

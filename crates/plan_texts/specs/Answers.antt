@@ -5,8 +5,7 @@ use Rattle.plan_base.specs.declared.parts.Parts.{Parts}
 use Rattle.snd_network.specs.declared.file.NetworkFile.{NetworkFile}
 use Rattle.proof_tree.specs.declared.plan.Plan.{Plan}
 use Rattle.proof_tree.specs.Plans.{IsValidPlan, HasItsClaim}
-use Rattle.cert_format.specs.declared.form.Form.TheVariants.{Second}
-use Rattle.cert_format.specs.Grammar.{plan_text, SpellsPlan}
+use Rattle.cert_format.specs.Grammar.{written_text, SpellsPlan}
 use Rattle.cert_verifier.specs.declared.rejected.Rejected.{Rejected as Rejection}
 use Rattle.cert_verifier.specs.declared.rejected.Rejected.TheVariants as rejections
 use Rattle.cert_verifier.specs.PlanRules.{PlanFinds}
@@ -59,10 +58,10 @@ pub data IsReport (net : NetworkFile) (parts : Parts) (plan : Plan) (status : St
   reported : status ≡ Good → IsReportOf net parts plan bytes → IsReport net parts plan status bytes
   unreported : status ≡ Rejected → IsRejection parts plan bytes → IsReport net parts plan status bytes
 
--- the plan's text of version 2, with the status that goes with it
+-- the text that is written of the plan, with the status that goes with it
 pub record IsRewritten (plan : Plan) (status : Status) (bytes : List ℕ) : Type 0 where
   pub good : status ≡ Good
-  pub text : bytes ≡ plan_text Second plan
+  pub text : bytes ≡ written_text plan
   pub spelt : SpellsPlan bytes plan
 
 -- ---- what is written of texts

@@ -11,7 +11,7 @@ use Rattle.plan_texts.specs.Refusals.{HoldsOfProblem, Counts}
 use Rattle.plan_texts.specs.Texts.{Name, Told, Texts}
 use Rattle.run_ends.specs.Ends.{IsTextRun}
 use Rattle.text_runs.specs.VerifyRuns.{names_in}
-use Rattle.plan_table.specs.Tables.{table_text}
+use Rattle.plan_table.specs.Tables.{IsTableText}
 
 -- how the program is called
 abbrev pub usage_line : List ℕ
@@ -21,7 +21,7 @@ usage_line = codes "usage: sndtable NET MODEL PLAN\n"
 pub record IsTableOf (net : NetworkFile) (p : Parts) (plan : Plan) (bytes : List ℕ) : Type 0 where
   pub valid : IsValidPlan p plan
   pub claim : HasItsClaim p plan
-  pub text : bytes ≡ table_text net p plan
+  pub text : IsTableText net p plan bytes
 
 -- a valid plan is told, and any other is rejected, with the status that goes with it
 pub data IsTable (net : NetworkFile) (p : Parts) (plan : Plan) (status : Status) (bytes : List ℕ) : Type 0 where
