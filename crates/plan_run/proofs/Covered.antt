@@ -6,7 +6,7 @@ use Rattle.proof_tree.specs.declared.plan.Plan.{Plan}
 use Rattle.proof_tree.specs.declared.plan.PlanStatus.{PlanStatus}
 use Rattle.proof_tree.specs.declared.plan.PlanStatus.TheVariants as plan_statuses
 use Rattle.proof_tree.specs.Plans.{HasStatus}
-use Rattle.pool_machine.specs.Depth.{branching_depth}
+use Rattle.pool_machine.specs.Depth.{IsBranchingDepth}
 use Rattle.pool_machine.specs.declared.tree.Incumbent.{Incumbent}
 use Rattle.pool_core.specs.State.{State}
 use Rattle.pool_core.specs.Soundness.{IsSound}
@@ -20,7 +20,7 @@ use Rattle.plan_run.specs.Plans.{IsPlanned}
 
 -- with such a budget no leaf stays open
 abbrev pub Decides : Type 0
-Decides = (s : State) → IsSound s → 2 ^ (branching_depth s.problem + 1) - 1 ≤ s.budget → s.examined ≡ s.budget → open_count s ≡ 0
+Decides = (s : State) (depth : ℕ) → IsSound s → IsBranchingDepth s.problem depth → 2 ^ (depth + 1) - 1 ≤ s.budget → s.examined ≡ s.budget → open_count s ≡ 0
 
 -- a state without an open leaf is not undecided
 none-undecided : (open_leaves : ℕ) (held : Option Incumbent) → open_leaves ≡ 0 → status_by (nat_lt 0 open_leaves) held ≡ plan_statuses.Undecided → ⊥
@@ -32,8 +32,9 @@ decided decides p budget plan h covers is =
     let of = h.of_search in
     let undecided = subst (HasStatus p plan) is h.valid.status in
     let spent : of.state.examined ≡ of.state.budget = sym of.is_plan.examined ∙ undecided.spent ∙ of.is_plan.budget in
-    let covered : 2 ^ (branching_depth of.state.problem + 1) - 1 ≤ of.state.budget = rw (of.problem_is, of.budget_is) covers in
-    none-undecided (open_count of.state) of.state.incumbent (decides of.state of.sound covered spent) (sym of.is_plan.status ∙ is)
+    let is_depth : IsBranchingDepth of.state.problem covers.depth = subst (λ (q : Parts). IsBranchingDepth q covers.depth) (sym of.problem_is) covers.is_depth in
+    let covered : 2 ^ (covers.depth + 1) - 1 ≤ of.state.budget = subst (λ (b : ℕ). 2 ^ (covers.depth + 1) - 1 ≤ b) (sym of.budget_is) covers.enough in
+    none-undecided (open_count of.state) of.state.incumbent (decides of.state covers.depth of.sound is_depth covered spent) (sym of.is_plan.status ∙ is)
 
 -- only an undecided plan ends so
 undecided-plan : (status : PlanStatus) → Undecided ≡ status_of_plan status → status ≡ plan_statuses.Undecided

@@ -1,5 +1,5 @@
 -- What a run found, from what its commands ensure.
-use Rattle.std.proofs.Common.{◌≡◌, ◌≤◌, ℕ, List, Option, Some, None, option_map, Result, Ok, Err, refl, subst, arith}
+use Rattle.std.proofs.Common.{◌≡◌, ℕ, List, Option, Some, None, option_map, Result, Ok, Err, refl, subst, arith}
 use Rattle.std.specs.Prelude.{IfOk, IfErr, IsSomeAnd}
 use Rattle.plan_io.specs.Causes.{Rose}
 use Rattle.plan_report.specs.declared.run_fault.RunFault.TheVariants as faults

@@ -5,8 +5,7 @@ use Rattle.snd_network.specs.declared.file.NetworkFile.{NetworkFile}
 use Rattle.proof_tree.specs.declared.plan.Plan.{Plan as AnyPlan}
 use Rattle.proof_tree.specs.Spellings.{IsSpellable}
 use Rattle.cert_format.specs.declared.limits.TheConstants.{MAX_PLAN_BYTES}
-use Rattle.cert_format.specs.declared.form.Form.TheVariants.{Second}
-use Rattle.cert_format.specs.Grammar.{plan_text, HasFields}
+use Rattle.cert_format.specs.Grammar.{written_text, HasFields}
 use Rattle.plan_report.specs.declared.run_fault.RunFault.{RunFault}
 use Rattle.command_words.specs.declared.command.Command.{Command}
 use Rattle.command_words.specs.declared.command.Command.TheVariants.{OfNetwork, OfPlan, Upgrade, OfSample}
@@ -43,17 +42,17 @@ pub spelt_where_planned : Below → (budget : ℕ) (network model text : Text) (
 spelt_where_planned below budget network model text status fault done refused =
     refused_or_read below (three network model text) fault refused (a_problem done.net done.parts (Some done.holds.plan) record {
       reads = reads-with network model text done.net done.parts done.problem.reads;
-      plan_text = done.holds.text;
+      plan_text = done.holds.spelt;
       few_steps = done.problem.few_steps;
     })
 
 pub good_where_planned : Below → (budget : ℕ) (network model text : Text) (status other : Status) (bytes : List ℕ) → IsPlanDone budget (two network model) status text → IsVerified (three network model text) other bytes → other ≡ Good
 good_where_planned below budget network model text status other bytes done verified =
     good-if done.parts done.holds.plan other bytes
-    (verdict-of below (three network model text) done.net done.parts done.holds.plan other bytes (reads-with network model text done.net done.parts done.problem.reads) done.holds.text verified)
+    (verdict-of below (three network model text) done.net done.parts done.holds.plan other bytes (reads-with network model text done.net done.parts done.problem.reads) done.holds.spelt verified)
     done.holds.searched.valid
 
-pub short_where_planned : ((plan : AnyPlan) → IsSpellable plan → HasFields plan → length (plan_text Second plan) ≤ MAX_PLAN_BYTES)
+pub short_where_planned : ((plan : AnyPlan) → IsSpellable plan → HasFields plan → length (written_text plan) ≤ MAX_PLAN_BYTES)
     → (budget : ℕ) (network model text : Text) (status : Status) → IsPlanDone budget (two network model) status text → length text ≤ MAX_PLAN_BYTES
 short_where_planned within budget network model text status done =
-    rw done.holds.second (within done.holds.plan done.holds.text.spellable done.holds.text.fields)
+    rw done.holds.text (within done.holds.plan done.holds.spelt.spellable done.holds.spelt.fields)

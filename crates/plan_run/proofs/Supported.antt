@@ -1,5 +1,5 @@
 -- Where the texts of a command are supported, nothing refuses them.
-use Rattle.std.proofs.Common.{◌≡◌, ◌<◌, ◌≤◌, ◌⊎◌, ℕ, List, length, Option, Some, None, option_map, refl, sym, subst, ◌∙◌, arith, inl, inr}
+use Rattle.std.proofs.Common.{◌≡◌, ◌<◌, ◌≤◌, ◌⊎◌, ℕ, List, length, Option, Some, None, option_map, refl, subst, ◌∙◌, arith, inl, inr}
 use Rattle.std.specs.Prelude.{IfSome, IsSomeAnd}
 use Rattle.plan_report.specs.declared.run_fault.FileKind.{FileKind}
 use Rattle.plan_report.specs.declared.run_fault.FileKind.TheVariants as files
@@ -7,7 +7,7 @@ use Rattle.plan_report.specs.declared.run_fault.RunFault.{RunFault}
 use Rattle.plan_report.specs.declared.run_fault.RunFault.TheVariants as faults
 use Rattle.plan_report.specs.Lines.{fault_line}
 use Rattle.command_words.specs.declared.command.Command.{Command}
-use Rattle.command_words.specs.Words.{Word, command_in}
+use Rattle.command_words.specs.Words.{Word}
 use Rattle.plan_texts.specs.declared.status.Status.{Status}
 use Rattle.plan_texts.specs.declared.status.Status.TheVariants.{Good, Usage, BadText, Unsupported, OverLimit, ReadFault, WriteFault, OutOfMemory, Infeasible, Undecided, Rejected}
 use Rattle.plan_texts.specs.Statuses.{status_of}

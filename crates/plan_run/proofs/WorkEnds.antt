@@ -1,5 +1,5 @@
 -- How a command ends that does its work.
-use Rattle.std.proofs.Common.{◌≡◌, ◌⊎◌, ℕ, List, Option, Some, None, refl, inl, inr, arith}
+use Rattle.std.proofs.Common.{◌≡◌, ◌⊎◌, ℕ, List, Option, Some, None, inl, inr, arith}
 use Rattle.std.specs.Prelude.{IsSomeAnd}
 use Rattle.proof_tree.specs.declared.plan.Plan.{Plan as AnyPlan}
 use Rattle.proof_tree.specs.declared.plan.PlanStatus.{PlanStatus}

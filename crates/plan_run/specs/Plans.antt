@@ -2,19 +2,18 @@
 use Rattle.std.specs.Prelude.{ℕ, ◌≡◌, List}
 use Rattle.plan_base.specs.declared.parts.Parts.{Parts}
 use Rattle.proof_tree.specs.declared.plan.Plan.{Plan}
-use Rattle.cert_format.specs.declared.form.Form.TheVariants.{Second}
-use Rattle.cert_format.specs.Grammar.{plan_text, SpellsPlan}
+use Rattle.cert_format.specs.Grammar.{written_text, SpellsPlan}
 use Rattle.plan_texts.specs.declared.status.Status.{Status}
 use Rattle.plan_texts.specs.Statuses.{status_of_plan}
 use Rattle.plan_texts.specs.Texts.{Texts}
 use Rattle.plan_texts.specs.Refusals.{HoldsOfProblem}
 use Rattle.plan_run.specs.Searches.{IsSearched}
 
--- the version 2 text of a plan that a search gives for the instance and the budget, with the status of that plan
+-- the text that is written of a plan that a search gives for the instance and the budget, with the status of that plan
 pub record IsPlanned (parts : Parts) (budget : ℕ) (status : Status) (bytes : List ℕ) : Type 0 where
   pub plan : Plan
-  pub text : SpellsPlan bytes plan
-  pub second : bytes ≡ plan_text Second plan
+  pub spelt : SpellsPlan bytes plan
+  pub text : bytes ≡ written_text plan
   pub searched : IsSearched parts budget plan
   pub is_status : status ≡ status_of_plan plan.status
 

@@ -18,7 +18,7 @@ pub record IsOfSearch (p : Parts) (budget : ℕ) (plan : Plan) : Type 0 where
   pub is_plan : IsPlanOf state plan
 
 -- the plan is a valid one of the instance, so what it claims is so; it states this budget, each of its splits parts
--- two paths, and a bound that it states is at least the bound of the whole at the start prices
+-- two paths of a demand or two steps of a link, and a bound that it states is at least the bound of the whole at the start prices
 pub record IsSearched (p : Parts) (budget : ℕ) (plan : Plan) : Type 0 where
   pub valid : IsValidPlan p plan
   pub claim : HasItsClaim p plan

@@ -54,9 +54,9 @@ pub fn search_alone(
 ///
 /// - Takes: what starts threads; an instance and its step table; 1 to 64 workers; a budget of 1 to 4,096 nodes; a gate
 ///   that each worker passes with each task.
-/// - Gives: a valid plan with this budget, which a plan text can hold, and each split of which parts two paths; the bound
-///   of an undecided plan is at least the bound of the root at the start prices. The plan of one worker is the same at
-///   each run; that of several may be another one each time.
+/// - Gives: a valid plan with this budget, which a plan text can hold, and each split of which parts two paths of a demand
+///   or two steps of a link; the bound of an undecided plan is at least the bound of the root at the start prices. The
+///   plan of one worker is the same at each run; that of several may be another one each time.
 /// - Errors: want of memory alone. What a worker leaves that stops for want of memory is finished by one thread.
 /// - Rule: docs/DEFINITIONS.md, "Runs".
 /// - Time: a worker goes through the same steps as one thread; it may wait for another one, or do what that one did.
