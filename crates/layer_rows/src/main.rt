@@ -2,15 +2,17 @@
 //!
 //! The file of rows, whose name is the program's one word, has networks and questions about them: what loads cost on a
 //! link, what prices are worth, ways of least weight, least paths with and without a limit on arcs, columns, what a
-//! restriction allows and leaves, and splits of a tree. To add one, write it there in the form that the head of the file explains, and the answer, worked
-//! out by hand, at the same place of the file `stdout`. Three rows compare the answers for made links, networks and
-//! columns with plain twins (`made`). Begin at `tell_about`. Stands on `link_steps`, `least_path`, `arc_restrict`,
-//! `path_pricing`, `hop_pricing`, `second_path`, `column_pool` and `branch_tree`, and promises nothing of its own.
+//! restriction allows and leaves, and splits of a tree. To add one, write it there in the form that the head of the file
+//! explains, and the answer, worked out by hand, at the same place of the file `stdout`. Three rows compare the answers for
+//! made links, networks and columns with plain twins (`made`). Begin at `tell_about`. Stands on `link_steps`, `least_path`,
+//! `arc_restrict`, `path_pricing`, `hop_pricing`, `second_path`, `column_pool` and `branch_tree`, and promises nothing of its
+//! own.
 #![tactic(auto)]
 
 mod asking;
 mod columns;
 mod limits;
+mod load_splits;
 mod made;
 mod paths;
 mod restricting;
@@ -33,7 +35,10 @@ fn tell_about(question: Question<'_>, text: &mut String) -> Option<()> {
     match word_at(question.row, 0) {
         "steps" => steps::tell_steps(question, text),
         "start" => steps::tell_start(question, text),
-        "cost" | "counts" | "value" => steps::tell_link(question, text),
+        "unit" => steps::tell_unit(question, text),
+        "cost" | "counts" | "value" | "ranged" | "below" | "end" => steps::tell_link(
+            question, text,
+        ),
         "way" | "tree" => ways::tell_nodes(question, text),
         "price" => paths::tell_price(question, Body::Heap, text),
         "slow" => paths::tell_price(question, Body::Walk, text),
@@ -44,6 +49,7 @@ fn tell_about(question: Question<'_>, text: &mut String) -> Option<()> {
         "allowed" => paths::tell_allowed(question, text),
         "left" => paths::tell_left(question, text),
         "split" => splits::tell_split(question, text),
+        "loads" => load_splits::tell_loads(question, text),
         _ => None,
     }
 }

@@ -1,4 +1,4 @@
-//! Splits of a search tree's root.
+//! Splits of a search tree's root where two paths part.
 
 ghost use Rattle.std.specs.Prelude.{◌<◌, length, IfSome};
 ghost use Rattle.plan_base.specs.Arcs.{demand_at};
@@ -15,7 +15,7 @@ use proof_tree::Evidence;
 use std::alloc::Global;
 
 /// The tree of a root whose prices were raised to 4, 5 and 6.
-fn root_of(alloc: Global) -> Option<Branch>
+pub(crate) fn root_of(alloc: Global) -> Option<Branch>
     ensures { (p : AnyParts) → IfSome result (IsTreeOf p) }
 {
     let first = Prices::from_vec(vec![in alloc; 1, 2, 3].ok()?);
@@ -81,7 +81,7 @@ fn tell_nodes(inst: &Instance, branch: &Branch, text: &mut String) -> Option<()>
 }
 
 /// Adds the records of a tree, where the right child of its root is closed.
-fn tell_records(branch: Branch, text: &mut String) -> Option<()> {
+pub(crate) fn tell_records(branch: Branch, text: &mut String) -> Option<()> {
     let mut branch = branch;
     if branch.is_open(BranchId(2)) {
         branch.close(BranchId(2), Evidence::Routed);

@@ -1,12 +1,13 @@
 //! What loads cost on links, and what prices give to links.
 
-ghost use Rattle.std.specs.Prelude.{◌≡◌, ◌<◌, ◌≤◌, false, length};
+ghost use Rattle.std.specs.Prelude.{◌≡◌, ◌<◌, ◌≤◌, false, length, IfSome};
 ghost use Rattle.plan_base.specs.Facts.{price_limit, total_load};
 ghost use Rattle.plan_base.specs.Places.{is_two_way};
+ghost use Rattle.link_steps.specs.Ranges.{AreRanges};
 
 use crate::asking::{Question, word_at};
 use crate::telling::{tell_list, tell_number};
-use link_steps::StepTable;
+use link_steps::{LoadRange, Ranges, StepTable, cost_unit};
 use plan_base::{Instance, LinkId, Prices};
 use row_networks::table_of;
 use std::alloc::Global;
@@ -40,7 +41,13 @@ pub(crate) fn tell_start(question: Question<'_>, text: &mut String) -> Option<()
     tell_list("", prices.as_slice(), text)
 }
 
-/// Adds the least module cost of a load on a link, or counts of modules that carry it at that cost.
+/// Adds the unit of costs.
+pub(crate) fn tell_unit(question: Question<'_>, text: &mut String) -> Option<()> {
+    tell_number("", cost_unit(question.inst), text)
+}
+
+/// Adds the least module cost of a load on a link, counts of modules that carry it at that cost, or where a step ends below
+/// it.
 fn tell_load(
     table: &StepTable,
     link: LinkId,
@@ -54,8 +61,34 @@ fn tell_load(
     if word_at(question.row, 0) == "cost" {
         return write!(text, " {:?}", table.at(link, load)).ok();
     }
+    if word_at(question.row, 0) == "below" {
+        return write!(text, " {:?}", table.step_below(link, load)).ok();
+    }
     let counts = table.counts(question.alloc, link, load).ok()??;
     write!(text, " {:?}", counts.as_slice()).ok()
+}
+
+/// Adds where a step of a link ends first from one load to below another.
+fn tell_end(
+    table: &StepTable,
+    link: LinkId,
+    question: Question<'_>,
+    text: &mut String,
+) -> Option<()>
+    requires table { table.now ≡ question.inst.now }
+    requires link { link.0 < length table.now.links }
+{
+    let least = question.amount(3);
+    let most = question.amount(4);
+    if most > question.inst.total_load() {
+        return None;
+    }
+    write!(
+        text,
+        " {:?}",
+        table.first_step_end(link, LoadRange { least, most })
+    )
+    .ok()
 }
 
 /// The price of the link's other place, 0 where it has one place.
@@ -69,7 +102,37 @@ fn back_price(question: Question<'_>) -> u128
     }
 }
 
-/// Adds the link value of the prices of a link's places, and the first loads that have it.
+/// All ranges, but of one place the loads that the row tells.
+fn cut_ranges(question: Question<'_>) -> Option<Ranges>
+    ensures { IfSome result (AreRanges question.entry.inst.now) }
+{
+    let mut ranges = Ranges::whole(question.alloc, question.inst).ok()?;
+    let place = question.number(5);
+    if place >= question.inst.places() {
+        return None;
+    }
+    let least = question.amount(6);
+    let most = question.amount(7);
+    ranges.set(place, LoadRange { least, most });
+    if ranges.fits(question.inst) {
+        Some(ranges)
+    } else {
+        None
+    }
+}
+
+/// The ranges that a row asks about.
+fn ranges_of(question: Question<'_>) -> Option<Ranges>
+    ensures { IfSome result (AreRanges question.entry.inst.now) }
+{
+    if word_at(question.row, 0) == "ranged" {
+        cut_ranges(question)
+    } else {
+        Ranges::whole(question.alloc, question.inst).ok()
+    }
+}
+
+/// Adds the link value of the prices of a link's places over its ranges, and the first loads that have it.
 fn tell_value(
     table: &StepTable,
     link: LinkId,
@@ -85,7 +148,8 @@ fn tell_value(
     if back > question.inst.price_limit() {
         return None;
     }
-    let found = table.link_value(link, price, back);
+    let ranges = ranges_of(question)?.of_link(question.inst, link);
+    let found = table.link_value(link, ranges, price, back);
     write!(text, " {} at {}", found.value, found.load).ok()?;
     if question.inst.orient().is_two_way() {
         write!(text, " back {}", found.back).ok()?;
@@ -103,13 +167,16 @@ fn tell_amount(table: &StepTable, question: Question<'_>, text: &mut String) -> 
     if link.0 >= question.inst.links() {
         return None;
     }
-    if word_at(question.row, 0) != "value" && amount <= question.inst.total_load() {
-        return tell_load(table, link, amount, question, text);
+    match word_at(question.row, 0) {
+        "value" | "ranged" if price <= question.inst.price_limit() => {
+            tell_value(table, link, price, question, text)
+        }
+        "end" => tell_end(table, link, question, text),
+        "cost" | "counts" | "below" if amount <= question.inst.total_load() => {
+            tell_load(table, link, amount, question, text)
+        }
+        _ => None,
     }
-    if word_at(question.row, 0) == "value" && price <= question.inst.price_limit() {
-        return tell_value(table, link, price, question, text);
-    }
-    None
 }
 
 /// Adds the answer to a question about a link.

@@ -7,25 +7,27 @@ ghost use Rattle.one_history.specs.declared.limits.TheConstants.{MAX_CALLERS, MA
 ghost use Rattle.least_path.specs.declared.limits.TheConstants.{MAX_WEIGHT};
 ghost use Rattle.verifier_paths.specs.declared.limits.TheConstants.{MAX_WAY_ARCS};
 ghost use Rattle.bound_assembly.specs.declared.limits.TheConstants.{MAX_PATH_LINKS};
-ghost use Rattle.master_step.specs.declared.limits.TheConstants.{MAX_TRIALS};
+ghost use Rattle.master_step.specs.declared.limits.TheConstants.{MAX_TRIALS, MAX_TURNS};
 ghost use Rattle.column_pool.specs.declared.limits.TheConstants.{MAX_COLUMNS};
 ghost use Rattle.pool_machine.specs.State.{State};
 ghost use Rattle.pool_machine.specs.Machine.{Event, Answer, Step};
 ghost use Rattle.pool_machine.specs.Soundness.{IsSound};
-ghost use Rattle.pool_machine.specs.declared.limits.TheConstants.{MAX_BUDGET, MAX_ROUNDS, MAX_VERSIONS};
+ghost use Rattle.pool_machine.specs.declared.limits.TheConstants.{MAX_BUDGET, MAX_ROUNDS, MAX_VERSIONS, ENOUGH_VERSIONS};
 
-/// How many nodes a search examines at most, how many rounds are active, versions of a node complete, and columns of a
-/// demand kept.
+/// How many nodes a search examines at most, how many rounds are active, versions of a node complete at most and enough
+/// where a design is known, and columns of a demand kept.
 pub fn sizes_of_searches()
     ensures budget { MAX_BUDGET ≡ 4096 }
     ensures rounds { MAX_ROUNDS ≡ 64 }
     ensures versions { MAX_VERSIONS ≡ 16 }
+    ensures enough { ENOUGH_VERSIONS ≡ 2 }
     ensures columns { MAX_COLUMNS ≡ 64 }
 {}
 
-/// How many trials a master step makes.
+/// How many trials a master step makes, and turns an averaged ascent.
 pub fn trials_of_steps()
-    ensures { MAX_TRIALS ≡ 24 }
+    ensures trials { MAX_TRIALS ≡ 24 }
+    ensures turns { MAX_TURNS ≡ 100 }
 {}
 
 /// How many arcs a simple path has at most, for whoever assembles a bound and for the verifier, and the greatest weight of an

@@ -20,6 +20,23 @@ pub(crate) struct Range {
     pub(crate) upper: i128,
 }
 
+/// How many nodes of the search tree are divided, by what.
+#[derive(Clone, Copy)]
+pub(crate) struct Splits {
+    /// By the arcs of a demand.
+    pub(crate) arcs: u32,
+    /// By the loads of a place.
+    pub(crate) loads: u32,
+}
+
+/// What is known of a network.
+#[derive(Clone, Copy)]
+pub(crate) struct Known {
+    pub(crate) range: Range,
+    /// Those of the plan that tells it.
+    pub(crate) splits: Splits,
+}
+
 /// What a plan claims.
 #[derive(Clone, Copy)]
 pub(crate) struct Claim<'a> {
@@ -30,7 +47,18 @@ pub(crate) struct Claim<'a> {
     pub(crate) examined: u32,
     /// The cost as it is written, or `none`.
     pub(crate) cost: &'a str,
-    pub(crate) range: Range,
+    pub(crate) known: Known,
+}
+
+impl Splits {
+    /// The first line of the text of a plan with these.
+    pub(crate) fn first_line(self) -> &'static str {
+        if self.loads == 0 {
+            "SNDPLAN 2\n"
+        } else {
+            "SNDPLAN 3\n"
+        }
+    }
 }
 
 impl Range {
@@ -59,6 +87,22 @@ impl fmt::Display for Range {
         let whole = self.upper / GRAINS;
         let part = self.upper % GRAINS / 1_000_000_000;
         write!(f, "cost {whole}.{part:03}")
+    }
+}
+
+impl fmt::Display for Splits {
+    fn fmt<W: fmt::Write>(&self, f: &mut fmt::Formatter<W>) -> fmt::Result {
+        let arcs = self.arcs;
+        let loads = self.loads;
+        write!(f, "splits of arcs {arcs} and of loads {loads}")
+    }
+}
+
+impl fmt::Display for Known {
+    fn fmt<W: fmt::Write>(&self, f: &mut fmt::Formatter<W>) -> fmt::Result {
+        let range = self.range;
+        let splits = self.splits;
+        write!(f, "{range}, {splits}")
     }
 }
 
@@ -140,6 +184,19 @@ fn range_of(plan: &str, status: &str, cost: &str) -> Result<Range> {
     Ok(Range { lower, upper })
 }
 
+/// The splits of this plan.
+fn splits_of(plan: &str) -> Splits {
+    let mut splits = Splits { arcs: 0, loads: 0 };
+    for line in plan.lines() {
+        if line.starts_with("SPLIT ") {
+            splits.arcs = splits.arcs.saturating_add(1);
+        } else if line.starts_with("LOADS ") {
+            splits.loads = splits.loads.saturating_add(1);
+        }
+    }
+    splits
+}
+
 /// What the plan of this text claims.
 pub(crate) fn claim_of(plan: &str) -> Result<Claim<'_>> {
     let status = value_of(plan, "STATUS ")?;
@@ -149,6 +206,9 @@ pub(crate) fn claim_of(plan: &str) -> Result<Claim<'_>> {
         budget: number_of(plan, "BUDGET ")?,
         examined: number_of(plan, "EXAMINED ")?,
         cost,
-        range: range_of(plan, status, cost)?,
+        known: Known {
+            range: range_of(plan, status, cost)?,
+            splits: splits_of(plan),
+        },
     })
 }

@@ -2,13 +2,14 @@
 //!
 //! The networks have 4 to 12 nodes and come from a small generator (`made`), the same ones in each run: with directed,
 //! undirected and bidirected links, none to three modules on a link, whole and decimal numbers, some that have no
-//! design, some with limits on the links of paths, and some with explicit capacities. Each plan must be accepted by `verify`, and state its status and its budget. `upgrade` must give its text
-//! again, and read the same plan in version 1, which `versions` writes where there is one. The plans of one
+//! design, some with limits on the links of paths, and some with explicit capacities. Each plan must be accepted by
+//! `verify`, state its status and its budget, and stand in version 3 exactly where it splits loads. `upgrade` must give
+//! its text again, and read the same plan in version 1, which `versions` writes where there is one. The plans of one
 //! network must agree: a greater budget never knows less, and what several workers find contradicts nothing. Where few
 //! paths can be chosen from, the least cost of all choices, which `choices` finds by trying them, must lie where each
-//! plan says. The program writes a line for each network, and ends with an error at the first plan that is not as it
-//! must be; the error names the network and the budget. Begin at `plan_network`. Stands on `plan_run` and promises
-//! nothing of its own.
+//! plan says. The program writes a line for each network, with the splits of either kind in its last plan by one worker,
+//! and ends with an error at the first plan that is not as it must be; the error names the network and the budget. Begin
+//! at `plan_network`. Stands on `plan_run` and promises nothing of its own.
 #![tactic(auto)]
 
 mod choices;
@@ -21,7 +22,7 @@ mod versions;
 
 use anyhow::{Context, Result, ensure};
 use choices::{Tried, least_cost};
-use claims::Range;
+use claims::{Known, Range};
 use made::made_network;
 use network::{Extra, Network};
 use std::alloc::{AllocError, Global};
@@ -42,19 +43,16 @@ const BIDIRECTED: u32 = 40;
 const EXTRA: u32 = 20;
 
 /// With how many nodes of the search tree each network is planned, in turn, until its best design is known.
-const BUDGETS: [u32; 6] = [1, 2, 3, 10, 100, 1_000];
+const BUDGETS: [u32; 4] = [1, 3, 10, 100];
 
-/// The most nodes of the search tree. Each network whose best design is known is planned with them too.
-const MOST_NODES: u32 = 4_096;
+/// The most nodes of the search tree. Each network is planned with them too, whatever is known.
+const MOST_NODES: u32 = 1_000;
 
 /// How many workers plan each network once more.
 const WORKERS: u32 = 3;
 
 /// With how many nodes of the search tree these plan.
 const SHARED_NODES: u32 = 64;
-
-/// Of so many networks, one is planned with the most nodes whatever is known.
-const ONE_OF: u32 = 10;
 
 /// Looks whether a plan may claim this.
 fn look_over(claimed: Range, tried: Tried) -> Result<()> {
@@ -77,7 +75,7 @@ fn compare(former: Range, claimed: Range, tried: Tried) -> Result<()> {
     Ok(())
 }
 
-/// Plans a network by one worker with this budget. Gives what the plan claims.
+/// Plans a network by one worker with this budget. Gives what the plan tells.
 fn claimed_within<R: Threads + Wait + Sync>(
     rt: &R,
     alloc: Global,
@@ -85,12 +83,10 @@ fn claimed_within<R: Threads + Wait + Sync>(
     budget: u32,
     former: Range,
     tried: Tried,
-) -> Result<Range> {
-    let claimed = plan_within(rt, alloc, texts, 1, budget).context(format_args!(
-        "budget {budget}"
-    ))?;
-    compare(former, claimed, tried).context(format_args!("budget {budget}"))?;
-    Ok(claimed)
+) -> Result<Known> {
+    let known = plan_within(rt, alloc, texts, 1, budget).context(format_args!("budget {budget}"))?;
+    compare(former, known.range, tried).context(format_args!("budget {budget}"))?;
+    Ok(known)
 }
 
 /// Plans a network by several workers. Their plan must agree with what one worker's claims.
@@ -101,7 +97,7 @@ fn plan_together<R: Threads + Wait + Sync>(
     known: Range,
     tried: Tried,
 ) -> Result<()> {
-    let claimed = plan_within(rt, alloc, texts, WORKERS, SHARED_NODES)?;
+    let claimed = plan_within(rt, alloc, texts, WORKERS, SHARED_NODES)?.range;
     look_over(claimed, tried)?;
     ensure!(
         claimed.lower <= known.upper,
@@ -114,26 +110,22 @@ fn plan_together<R: Threads + Wait + Sync>(
     Ok(())
 }
 
-/// Plans the network of this number with its budgets, by one worker and then by several. Gives what the last plan of
-/// one worker claims.
+/// Plans a network with the budgets, by one worker and then by several. Gives what the last plan of one worker tells.
 fn plan_network<R: Threads + Wait + Sync>(
     rt: &R,
     alloc: Global,
-    number: u32,
     texts: &Texts,
     tried: Tried,
-) -> Result<Range> {
-    let mut known = Range::any();
+) -> Result<Known> {
+    let mut range = Range::any();
     for budget in BUDGETS.iter() {
-        known = claimed_within(rt, alloc, texts, *budget, known, tried)?;
-        if known.is_decided() {
+        range = claimed_within(rt, alloc, texts, *budget, range, tried)?.range;
+        if range.is_decided() {
             break;
         }
     }
-    if known.is_decided() || number % ONE_OF == 0 {
-        known = claimed_within(rt, alloc, texts, MOST_NODES, known, tried)?;
-    }
-    plan_together(rt, alloc, texts, known, tried).context("several workers")?;
+    let known = claimed_within(rt, alloc, texts, MOST_NODES, range, tried)?;
+    plan_together(rt, alloc, texts, known.range, tried).context("several workers")?;
     Ok(known)
 }
 
@@ -163,9 +155,7 @@ fn write_network<R: Threads + Wait + Sync, W: Write>(
     let network = numbered_network(alloc, number)?;
     let texts = Texts::of(alloc, &network)?;
     let tried = least_cost(alloc, &network)?;
-    let known = plan_network(rt, alloc, number, &texts, tried).context(format_args!(
-        "network {number}"
-    ))?;
+    let known = plan_network(rt, alloc, &texts, tried).context(format_args!("network {number}"))?;
     writeln!(out, "{number}: {network}, {known}, {tried}")?;
     Ok(())
 }

@@ -1,6 +1,6 @@
 //! Runs of `plan`, each with runs of `verify` and `upgrade` on what it wrote.
 
-use crate::claims::{Claim, Range, claim_of};
+use crate::claims::{Claim, Known, claim_of};
 use crate::texts::Texts;
 use crate::versions::first_text;
 use anyhow::{Context, Result, ensure};
@@ -94,7 +94,7 @@ fn read_plan_again<R: Threads + Wait + Sync>(
 ) -> Result<()> {
     verify_plan(rt, alloc, texts, plan, claim)?;
     upgrade_plan(rt, alloc, plan, plan)?;
-    if texts.has_first_text && !plan.contains("\nFAR ") {
+    if texts.has_first_text && claim.known.splits.loads == 0 && !plan.contains("\nFAR ") {
         let first = first_text(alloc, plan)?;
         verify_plan(rt, alloc, texts, first.as_str(), claim).context("version 1")?;
         upgrade_plan(rt, alloc, first.as_str(), plan).context("version 1")?;
@@ -102,15 +102,14 @@ fn read_plan_again<R: Threads + Wait + Sync>(
     Ok(())
 }
 
-/// Plans a network with so many workers and this budget, and has the plan verified. Gives what it claims of the cost of
-/// the best design.
+/// Plans a network with so many workers and this budget, and has the plan verified. Gives what the plan tells.
 pub(crate) fn plan_within<R: Threads + Wait + Sync>(
     rt: &R,
     alloc: Global,
     texts: &Texts,
     workers: u32,
     budget: u32,
-) -> Result<Range> {
+) -> Result<Known> {
     let named = [
         ("net", texts.network.as_bytes()),
         ("model", texts.model.as_bytes()),
@@ -122,6 +121,10 @@ pub(crate) fn plan_within<R: Threads + Wait + Sync>(
     ensure!(status == claim.ends_with()?, "another status");
     ensure!(claim.budget == budget, "another budget");
     ensure!(claim.keeps_budget(), "examined: {}", claim.examined);
+    ensure!(
+        plan.starts_with(claim.known.splits.first_line()),
+        "another version"
+    );
     read_plan_again(rt, alloc, texts, plan, &claim)?;
-    Ok(claim.range)
+    Ok(claim.known)
 }

@@ -23,6 +23,7 @@ fn tell(alloc: Global, pool: &mut Pool, kind: &str, rest: &str, text: &mut Strin
         "offer" => handing::tell_offered(alloc, pool, rest, text),
         "better" => handing::tell_better(alloc, pool, rest, text),
         "publish" => handing::tell_raised(alloc, pool, rest, text),
+        "advise" => handing::take_advice(pool, rest),
         "node" => telling::tell_node(pool, rest, text),
         "slot" => telling::tell_slot(pool, rest, text),
         "counts" => telling::tell_counts(pool, text),

@@ -5,8 +5,8 @@
 //! - `runs.txt`: each key and spelling of a model, each status, the order in which texts are looked at, shelves and sinks
 //!   that fail at each call and after each byte, and command lines;
 //! - `plans.txt`: a plan of every kind of evidence and of every status; for each rule of each kind of record a plan that
-//!   breaks just this rule; pairs of broken rules in both orders; changes of the triangle's plan; plan texts of both
-//!   versions that are read or not. The verifier alone must end as the top call does;
+//!   breaks just this rule; pairs of broken rules in both orders; changes of the triangle's plan; plan texts of each
+//!   version that are read or not. The verifier alone must end as the top call does;
 //! - `pictures.txt`: the marks and names of nodes and links, links by how full they are, names that are escaped.
 //!
 //! To add a row, write it there, and what it writes, worked out by hand, at the same place of the file `stdout`. Begin at

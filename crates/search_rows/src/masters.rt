@@ -2,10 +2,11 @@
 //!
 //! The instances are small and come from a small generator, the same ones in each run: three nodes with eight links
 //! between them, loads and capacities of a few grains, and up to six columns a demand. The links of most share the capacity
-//! of both directions, those of some have it for each. The twin tries all loads for each link's value, there and back, and
-//! works with signed numbers. `advance`, `value` and `gain` must answer what it answers, and `best_step` must not be worse.
-//! Written is how many briefs were raised and how many stalled, and that the two links of docs/METHOD.md come out as they
-//! are worked out there (`worked`). Begin at `raises`.
+//! of both directions, those of some have it for each; of some briefs the places may carry only some of their loads. The
+//! twin tries all loads in the ranges for each link's value, there and back, and works with signed numbers. `advance`,
+//! `value` and `gain` must answer what it answers, and `best_step` must not be worse. Written is how many briefs were raised
+//! and how many stalled, and that the two links of docs/METHOD.md come out as they are worked out there (`worked`). Begin at
+//! `raises`.
 
 ghost use Rattle.std.specs.Prelude.{◌≡◌};
 
@@ -26,11 +27,38 @@ use std::alloc::Global;
 use twin::{Found, slow_step};
 use worked::are_as_worked_out;
 
-/// How many briefs of links with one place are compared.
-const BRIEFS: u32 = 400;
+/// Which briefs are compared.
+#[derive(Clone, Copy)]
+struct Kind {
+    briefs: u32,
+    orient: Orient,
+    /// Whether some places may carry only some of their loads.
+    is_ranged: bool,
+}
 
-/// How many briefs of links with a place for each direction are compared.
-const TWO_WAY_BRIEFS: u32 = 60;
+/// Briefs of links with one place, and with a place for each direction, over whole ranges and over smaller ones.
+const KINDS: [Kind; 4] = [
+    Kind {
+        briefs: 400,
+        orient: Orient::Undirected,
+        is_ranged: false,
+    },
+    Kind {
+        briefs: 60,
+        orient: Orient::Bidirected,
+        is_ranged: false,
+    },
+    Kind {
+        briefs: 200,
+        orient: Orient::Undirected,
+        is_ranged: true,
+    },
+    Kind {
+        briefs: 60,
+        orient: Orient::Bidirected,
+        is_ranged: true,
+    },
+];
 
 /// Whether a step is what the twin found.
 fn is_step(step: &Step, found: &Found) -> bool {
@@ -99,26 +127,38 @@ fn brief_raises(alloc: Global, inst: &Instance, brief: &Brief) -> Option<bool> {
 }
 
 /// Whether the prices of the brief of this number are raised. None where an answer is not what the twin found.
-fn raises(alloc: Global, number: u32, orient: Orient) -> Option<bool> {
+fn raises(alloc: Global, number: u32, kind: Kind) -> Option<bool> {
     let mut draws = Draws::begin(number);
-    let inst = made_instance(alloc, &mut draws, orient)?;
-    brief_raises(alloc, &inst, &made_brief(alloc, &inst, &mut draws)?)
+    let inst = made_instance(alloc, &mut draws, kind.orient)?;
+    let brief = made_brief(alloc, &inst, &mut draws, kind.is_ranged)?;
+    brief_raises(alloc, &inst, &brief)
+}
+
+/// What the briefs of a kind are called.
+fn name_of(kind: Kind) -> &'static str {
+    if kind.is_ranged {
+        "briefs under ranges"
+    } else {
+        "briefs"
+    }
 }
 
 /// Adds how many briefs are raised, or the first one of which an answer is not what the twin found.
-fn tell_briefs(alloc: Global, briefs: u32, orient: Orient, text: &mut String) -> Option<()> {
+fn tell_briefs(alloc: Global, kind: Kind, text: &mut String) -> Option<()> {
+    let Kind { briefs, .. } = kind;
     let mut raised: u32 = 0;
     for number in 0..briefs {
-        match raises(alloc, number, orient) {
+        match raises(alloc, number, kind) {
             Some(true) => raised = raised.saturating_add(1),
             Some(false) => {}
             None => return write!(text, "brief {number} differs\n").ok(),
         }
     }
     let stalled = briefs.saturating_sub(raised);
+    let name = name_of(kind);
     write!(
         text,
-        "{briefs} briefs, {raised} raised, {stalled} stalled\n"
+        "{briefs} {name}, {raised} raised, {stalled} stalled\n"
     )
     .ok()
 }
@@ -133,7 +173,8 @@ fn tell_two_links(alloc: Global, text: &mut String) -> Option<()> {
 
 /// Adds what becomes of all briefs, and of the two links.
 pub(crate) fn tell_masters(alloc: Global, text: &mut String) -> Option<()> {
-    tell_briefs(alloc, BRIEFS, Orient::Undirected, text)?;
-    tell_briefs(alloc, TWO_WAY_BRIEFS, Orient::Bidirected, text)?;
+    for kind in KINDS {
+        tell_briefs(alloc, kind, text)?;
+    }
     tell_two_links(alloc, text)
 }

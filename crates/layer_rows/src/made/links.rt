@@ -1,12 +1,17 @@
 //! Made links, whose tables are compared with what trying all counts tells.
 
-ghost use Rattle.std.specs.Prelude.{◌<◌, ◌≡◌, ◌≤◌, false, length, IfSome};
+ghost use Rattle.std.specs.Prelude.{ℕ, ◌<◌, ◌≡◌, ◌≤◌, false, length, IfSome};
+ghost use Rattle.plan_base.specs.declared.parts.Parts.{Parts as AnyParts};
 ghost use Rattle.plan_base.specs.Facts.{price_limit, total_load};
 ghost use Rattle.plan_base.specs.Places.{is_two_way};
+ghost use Rattle.link_steps.specs.Ranges.{IsRange, AreRanges};
+ghost use Rattle.link_steps.specs.Values.{AreLinkRanges};
 
-use super::trying::{Costs, Gain, SmallLink, tried_costs, tried_gain, tried_start};
+use super::trying::{
+    Costs, DEPTH, Rest, SmallLink, tried_below, tried_costs, tried_end, tried_rest, tried_start,
+};
 use crate::telling::tell_differing;
-use link_steps::StepTable;
+use link_steps::{LinkRanges, LoadRange, Ranges, StepTable};
 use plan_base::{
     CountLaw, Demand, Instance, Items, Link, LinkId, Module, NodeId, Orient, Parts, Prices,
 };
@@ -64,10 +69,10 @@ fn made_parts(alloc: Global, orient: Orient, law: CountLaw) -> Result<Parts, All
     })
 }
 
-/// The table of all made links.
-fn made_table(alloc: Global, orient: Orient, law: CountLaw) -> Option<StepTable>
-    ensures { IfSome result (λ table. (table.orient ≡ orient) × (length table.links ≡ 300) × (total_load table ≡ 8)
-        × (1_000_000_000 ≤ price_limit table)) }
+/// The instance of all made links.
+fn made_instance(alloc: Global, orient: Orient, law: CountLaw) -> Option<Instance>
+    ensures { IfSome result (λ inst. (inst.orient ≡ orient) × (length inst.links ≡ 300) × (total_load inst ≡ 8)
+        × (1_000_000_000 ≤ price_limit inst)) }
 {
     let inst = Instance::build(alloc, made_parts(alloc, orient, law).ok()?).ok()?;
     if inst.orient() != orient || inst.links() != LINKS {
@@ -76,7 +81,7 @@ fn made_table(alloc: Global, orient: Orient, law: CountLaw) -> Option<StepTable>
     if inst.total_load() != 8 || inst.price_limit() < 1_000_000_000 {
         return None;
     }
-    table_of(alloc, &inst)
+    Some(inst)
 }
 
 /// Whether the table tells of a load what trying tells, from wherever its step is looked for.
@@ -101,6 +106,26 @@ fn costs_agree(table: &StepTable, link: LinkId, costs: &Costs) -> bool
         if !cost_agrees(table, link, load as u64, costs[load]) {
             return false;
         }
+        if table.step_below(link, load as u64) != tried_below(costs, load as u64) {
+            return false;
+        }
+    }
+    true
+}
+
+/// Whether the table tells where a step ends first in each range what trying tells.
+fn ends_agree(table: &StepTable, link: LinkId, costs: &Costs) -> bool
+    requires link { link.0 < length table.now.links }
+    requires total { total_load table.now ≡ 8 }
+{
+    for number in 0..81u64 {
+        let range = LoadRange {
+            least: number / 9,
+            most: number % 9,
+        };
+        if table.first_step_end(link, range) != tried_end(costs, range) {
+            return false;
+        }
     }
     true
 }
@@ -117,38 +142,89 @@ fn back_price(orient: Orient, step: u64) -> u128
     }
 }
 
-/// What the table tells of the worth of a link at prices.
-fn found_gain(table: &StepTable, link: LinkId, price: u128, back: u128) -> Gain
+/// Some of the loads of a range.
+fn part_of(range: LoadRange, number: u64) -> LoadRange
+    ensures { (top : ℕ) → IsRange top range → IsRange top result }
+{
+    let least = range.most.min(range.least.saturating_add(number % 4));
+    LoadRange {
+        least,
+        most: range.most.min(least.saturating_add(number / 4 % 5)),
+    }
+}
+
+/// Some of the loads of the places of a link.
+fn parts_of(ranges: LinkRanges, number: u64) -> LinkRanges
+    ensures { (p : AnyParts) (e : ℕ) → AreLinkRanges p e ranges → AreLinkRanges p e result }
+{
+    LinkRanges {
+        there: part_of(ranges.there, number),
+        back: part_of(ranges.back, number.wrapping_mul(3)),
+    }
+}
+
+/// What the table tells that loads in the ranges leave of their cost at prices.
+fn found_rest(table: &StepTable, link: LinkId, ranges: LinkRanges, price: u128, back: u128) -> Rest
     requires link { link.0 < length table.now.links }
+    requires ranges { AreLinkRanges table.now link.0 ranges }
     requires price { price ≤ price_limit table.now }
     requires back { back ≤ price_limit table.now }
     requires one_way { is_two_way table.now.orient ≡ false → back ≡ 0 }
 {
-    let found = table.link_value(link, price, back);
-    Gain {
-        worth: found.value.unsigned_abs(),
+    let found = table.link_value(link, ranges, price, back);
+    let size = found.value.unsigned_abs();
+    Rest {
+        value: if found.value < 0 {
+            DEPTH.saturating_sub(size)
+        } else {
+            DEPTH.saturating_add(size)
+        },
         load: found.load,
         back: found.back,
     }
 }
 
-/// Whether the table tells of some prices what trying tells.
-fn values_agree(
+/// Whether the table tells of prices, over the loads in the ranges, what trying tells.
+fn value_agrees(
     table: &StepTable,
-    orient: Orient,
+    ranges: LinkRanges,
     link: LinkId,
     small: &SmallLink,
     costs: &Costs,
+    price: u128,
+    back: u128,
+) -> bool
+    requires link { link.0 < length table.now.links }
+    requires ranges { AreLinkRanges table.now link.0 ranges }
+    requires price { price ≤ price_limit table.now }
+    requires back { back ≤ price_limit table.now }
+    requires one_way { is_two_way table.now.orient ≡ false → back ≡ 0 }
+{
+    let tried = tried_rest(small, costs, (price, back), ranges);
+    Some(found_rest(table, link, ranges, price, back)) == tried
+}
+
+/// Whether the table tells of some prices, over all loads in the ranges and over some of them, what trying tells.
+fn values_agree(
+    table: &StepTable,
+    ranges: LinkRanges,
+    link: LinkId,
+    small: &SmallLink,
+    costs: &Costs,
+    orient: Orient,
 ) -> bool
     requires orient { table.now.orient ≡ orient }
     requires link { link.0 < length table.now.links }
+    requires ranges { AreLinkRanges table.now link.0 ranges }
     requires limit { 1_000_000_000 ≤ price_limit table.now }
 {
     for step in 0..30u64 {
         let price = u128::from(step * 300);
         let back = back_price(orient, step);
-        let tried = tried_gain(small, costs, (price, back), orient.is_two_way());
-        if found_gain(table, link, price, back) != tried {
+        let parts = parts_of(ranges, step);
+        if !value_agrees(table, ranges, link, small, costs, price, back)
+            || !value_agrees(table, parts, link, small, costs, price, back)
+        {
             return false;
         }
     }
@@ -180,6 +256,7 @@ fn starts_agree(
 /// Whether the table and the start prices tell of a link what trying tells.
 fn all_agree(
     table: &StepTable,
+    ranges: LinkRanges,
     orient: Orient,
     law: CountLaw,
     prices: &Prices,
@@ -188,37 +265,76 @@ fn all_agree(
 ) -> bool
     requires orient { table.now.orient ≡ orient }
     requires link { link.0 < length table.now.links }
+    requires ranges { AreLinkRanges table.now link.0 ranges }
     requires total { total_load table.now ≡ 8 }
     requires limit { 1_000_000_000 ≤ price_limit table.now }
 {
     let costs = tried_costs(small, law);
     costs_agree(table, link, &costs)
-        && values_agree(table, orient, link, small, &costs)
+        && ends_agree(table, link, &costs)
+        && values_agree(table, ranges, link, small, &costs, orient)
         && starts_agree(prices, orient, link, small, &costs)
 }
 
 /// The first made link of which the table and the start prices do not tell what trying tells.
-fn first_differing(table: &StepTable, orient: Orient, law: CountLaw, prices: &Prices) -> Option<u32>
-    requires orient { table.now.orient ≡ orient }
-    requires links { length table.now.links ≡ 300 }
-    requires total { total_load table.now ≡ 8 }
-    requires limit { 1_000_000_000 ≤ price_limit table.now }
+fn first_differing(
+    inst: &Instance,
+    table: &StepTable,
+    whole: &Ranges,
+    orient: Orient,
+    law: CountLaw,
+    prices: &Prices,
+) -> Option<u32>
+    requires table { table.now ≡ inst.now }
+    requires whole { AreRanges inst.now whole.now }
+    requires orient { inst.now.orient ≡ orient }
+    requires links { length inst.now.links ≡ 300 }
+    requires total { total_load inst.now ≡ 8 }
+    requires limit { 1_000_000_000 ≤ price_limit inst.now }
 {
     let mut draws = Draws::begin(1);
     for place in 0..LINKS {
         let small = made_link(&mut draws);
-        if !all_agree(table, orient, law, prices, LinkId(place), &small) {
+        let link = LinkId(place);
+        let ranges = whole.of_link(inst, link);
+        if !all_agree(table, ranges, orient, law, prices, link, &small) {
             return Some(place);
         }
     }
     None
 }
 
+/// All loads of each place.
+fn whole_of(alloc: Global, inst: &Instance) -> Option<Ranges>
+    ensures { IfSome result (AreRanges inst.now) }
+{
+    Ranges::whole(alloc, inst).ok()
+}
+
+/// Adds the first made link of these of which the tables do not tell what trying tells.
+fn tell_made(
+    alloc: Global,
+    inst: &Instance,
+    orient: Orient,
+    law: CountLaw,
+    text: &mut String,
+) -> Option<()>
+    requires orient { inst.now.orient ≡ orient }
+    requires links { length inst.now.links ≡ 300 }
+    requires total { total_load inst.now ≡ 8 }
+    requires limit { 1_000_000_000 ≤ price_limit inst.now }
+{
+    let table = table_of(alloc, inst)?;
+    let whole = whole_of(alloc, inst)?;
+    let prices = table.start_prices(alloc).ok()?;
+    let first = first_differing(inst, &table, &whole, orient, law, &prices);
+    tell_differing("link", first, text)
+}
+
 /// Adds the first made link of this orientation and law of which the tables do not tell what trying tells.
 fn tell_oriented(alloc: Global, orient: Orient, law: CountLaw, text: &mut String) -> Option<()> {
-    let table = made_table(alloc, orient, law)?;
-    let prices = table.start_prices(alloc).ok()?;
-    tell_differing("link", first_differing(&table, orient, law, &prices), text)
+    let inst = made_instance(alloc, orient, law)?;
+    tell_made(alloc, &inst, orient, law, text)
 }
 
 /// Adds the first made link under this law of which the tables do not tell what trying tells, with one place and with two.

@@ -2,6 +2,7 @@
 
 ghost use Rattle.std.specs.Prelude.{◌<◌};
 
+use link_steps::{LinkRanges, LoadRange};
 use plan_base::{CountLaw, Module};
 
 /// A link whose least costs are found by trying.
@@ -77,61 +78,118 @@ fn step_cost(small: &SmallLink, costs: &Costs, load: usize, back: usize) -> Opti
     Some(modules.saturating_add(routing).saturating_mul(1000))
 }
 
-/// How much more than it costs some load there, and back, is worth at prices.
+/// What loads there and back leave of their cost at prices, above the lowest number that is told.
 #[derive(Clone, Copy, PartialEq, Eq)]
-pub(crate) struct Gain {
-    pub(crate) worth: u128,
+pub(crate) struct Rest {
+    pub(crate) value: u128,
     pub(crate) load: u64,
     pub(crate) back: u64,
 }
 
-/// Takes the loads there and back, where they are worth more than what is known.
+/// How far below 0 values are told.
+pub(crate) const DEPTH: u128 = 1_000_000_000_000;
+
+/// What these loads leave, where counts carry them.
+fn rest_at(
+    small: &SmallLink,
+    costs: &Costs,
+    prices: (u128, u128),
+    load: usize,
+    back: usize,
+) -> Option<Rest>
+    requires load { load < 9 }
+    requires back { back < 9 }
+{
+    let cost = step_cost(small, costs, load, back)?;
+    let there_paid = prices.0.saturating_mul(load as u128);
+    let back_paid = prices.1.saturating_mul(back as u128);
+    let paid = there_paid.saturating_add(back_paid);
+    Some(Rest {
+        value: DEPTH.saturating_add(cost).saturating_sub(paid),
+        load: load as u64,
+        back: back as u64,
+    })
+}
+
+/// Whether the range has the load.
+fn has(range: LoadRange, load: usize) -> bool {
+    range.least <= load as u64 && load as u64 <= range.most
+}
+
+/// Whether what is left is less than what is known.
+fn is_less(rest: Rest, best: Option<Rest>) -> bool {
+    match best {
+        Some(best) => rest.value < best.value,
+        None => true,
+    }
+}
+
+/// Takes the loads there and back, where they leave less than what is known.
 fn offer_loads(
     small: &SmallLink,
     costs: &Costs,
     prices: (u128, u128),
     load: usize,
     back: usize,
-    best: &mut Gain,
+    best: &mut Option<Rest>,
 )
     requires load { load < 9 }
     requires back { back < 9 }
 {
-    let Some(cost) = step_cost(small, costs, load, back) else {
-        return;
-    };
-    let there_paid = prices.0.saturating_mul(load as u128);
-    let back_paid = prices.1.saturating_mul(back as u128);
-    let worth = there_paid.saturating_add(back_paid).saturating_sub(cost);
-    if worth > best.worth {
-        *best = Gain {
-            worth,
-            load: load as u64,
-            back: back as u64,
-        };
+    if let Some(rest) = rest_at(small, costs, prices, load, back)
+        && is_less(rest, *best)
+    {
+        *best = Some(rest);
     }
 }
 
-/// How much more the best loads are worth at prices than they cost, and the first such loads: those whose larger one is
-/// smallest, and of these the smallest. A link of one place has no load back.
-pub(crate) fn tried_gain(
+/// The least that loads in the ranges leave of their cost at prices, and the first such loads: those whose larger one is
+/// smallest, and of these the smallest.
+pub(crate) fn tried_rest(
     small: &SmallLink,
     costs: &Costs,
     prices: (u128, u128),
-    is_two_way: bool,
-) -> Gain {
-    let mut best = Gain {
-        worth: 0,
-        load: 0,
-        back: 0,
-    };
+    ranges: LinkRanges,
+) -> Option<Rest> {
+    let mut best = None;
     for number in 0..9 * 9 * 9 {
         let (larger, load, back) = (number / 81, number / 9 % 9, number % 9);
-        if load.max(back) == larger && (is_two_way || back == 0) {
+        if load.max(back) == larger && has(ranges.there, load) && has(ranges.back, back) {
             offer_loads(small, costs, prices, load, back, &mut best);
         }
     }
     best
+}
+
+/// Whether a step ends at a load: a further grain is dearer, or none is carried.
+fn is_end(costs: &Costs, load: usize) -> bool
+    requires { load < 8 }
+{
+    match (costs[load], costs[load + 1]) {
+        (Some(cost), Some(more)) => cost < more,
+        (cost, _) => cost.is_some(),
+    }
+}
+
+/// The first load of these where a step ends.
+pub(crate) fn tried_end(costs: &Costs, range: LoadRange) -> Option<u64> {
+    for load in 0..8 {
+        if range.least <= load as u64 && (load as u64) < range.most && is_end(costs, load) {
+            return Some(load as u64);
+        }
+    }
+    None
+}
+
+/// The greatest load below this one where a step ends.
+pub(crate) fn tried_below(costs: &Costs, load: u64) -> Option<u64> {
+    let mut found = None;
+    for other in 0..8 {
+        if (other as u64) < load && is_end(costs, other) {
+            found = Some(other as u64);
+        }
+    }
+    found
 }
 
 /// The least cost of a load grain in thousandths, rounded down, where each place of the link bears so many of them.

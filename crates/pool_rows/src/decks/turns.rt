@@ -10,7 +10,7 @@ use std::alloc::{AllocError, Global};
 use std::sync::Wait;
 
 /// The two decks of one making.
-fn two_decks(alloc: Global) -> Result<Option<(Deck, Deck)>, AllocError>
+pub(crate) fn two_decks(alloc: Global) -> Result<Option<(Deck, Deck)>, AllocError>
     ensures { IfOk result (λ found. IfSome found (λ two. AreOneMaking (two.0 ∷ two.1 ∷ []))) }
 {
     let mut all = decks(alloc, 2)?;
@@ -24,7 +24,7 @@ fn two_decks(alloc: Global) -> Result<Option<(Deck, Deck)>, AllocError>
 }
 
 /// The blocks that are left on the two decks of one making.
-fn gather_two(alloc: Global, zero: Deck, one: Deck) -> Result<Vec<Block>, AllocError>
+pub(crate) fn gather_two(alloc: Global, zero: Deck, one: Deck) -> Result<Vec<Block>, AllocError>
     requires { AreOneMaking (zero ∷ one ∷ []) }
 {
     let all = vec![in alloc; one, zero]?;
@@ -48,7 +48,7 @@ fn tell_pop(deck: &mut Deck, text: &mut String) -> Option<()>
 }
 
 /// Steals a block from deck 0, and adds it.
-fn tell_steal<R: Wait>(rt: &R, deck: &mut Deck, text: &mut String) -> Option<()>
+pub(crate) fn tell_steal<R: Wait>(rt: &R, deck: &mut Deck, text: &mut String) -> Option<()>
     ensures { IsSameDeck deck.old deck.new }
 {
     let block = steal_from(rt, deck, 0);
@@ -78,7 +78,7 @@ fn tell_deck(deck: &Deck, text: &mut String) -> Option<()> {
 }
 
 /// Adds the blocks that are left.
-fn tell_left(left: &[Block], text: &mut String) -> Option<()> {
+pub(crate) fn tell_left(left: &[Block], text: &mut String) -> Option<()> {
     for block in left {
         write!(text, "left: {block:?}\n").ok()?;
     }

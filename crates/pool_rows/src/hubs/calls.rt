@@ -56,11 +56,14 @@ impl<'r, R: Wait> Common<'r, R> {
             }
             "settle" => {
                 let (node, version) = round_of(rest)?;
-                tell_answer(hub.settle(rt, seat, node, version), text)
+                tell_answer(hub.settle(rt, seat, node, version, None), text)
             }
             "publish" => {
                 let (node, version, prices) = raise_of(self.alloc, rest)?;
-                tell_answer(hub.publish(rt, seat, node, version, &prices).ok()?, text)
+                tell_answer(
+                    hub.publish(rt, seat, node, version, &prices, None).ok()?,
+                    text,
+                )
             }
             _ => None,
         }

@@ -1,6 +1,8 @@
-//! Paths, prices and designs that are handed in.
+//! Paths, prices, designs and advice that are handed in.
 
-use crate::calling::{design_of, offer_of, raise_of, tell_answer};
+use crate::calling::{design_of, first_number, offer_of, raise_of, tell_answer};
+use branch_tree::LoadSplit;
+use plan_base::BranchId;
 use pool_core::Pool;
 use std::alloc::Global;
 
@@ -35,4 +37,13 @@ pub(crate) fn tell_better(
 ) -> Option<()> {
     let design = design_of(alloc, rest)?;
     tell_answer(pool.better(design), text)
+}
+
+/// Advises by which loads of a place a node is to be divided.
+pub(crate) fn take_advice(pool: &mut Pool, rest: &str) -> Option<()> {
+    let (node, rest) = first_number(rest)?;
+    let (place, load) = first_number(rest)?;
+    let load = load.parse::<u64>().ok()?;
+    pool.advise(BranchId(node), Some(LoadSplit { place, load }));
+    Some(())
 }

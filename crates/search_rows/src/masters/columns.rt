@@ -98,7 +98,7 @@ fn both_agree(
     found: &Found,
 ) -> Option<bool>
     requires table { table.now ≡ inst.now }
-    requires brief { IsBriefFor inst.now brief.now.prices brief.now.columns }
+    requires brief { IsBriefFor inst.now brief.now.prices brief.now.ranges brief.now.columns }
     requires columns { AreColumns inst.now pool.now }
 {
     let restriction = Restriction::none(alloc, inst).ok()?;
@@ -106,8 +106,23 @@ fn both_agree(
         return None;
     }
     let mut room = Room::new(alloc, inst).ok()?;
-    let value = value(inst, table, &brief.prices, pool, &restriction);
-    let gain = gain(inst, table, &brief.prices, pool, &restriction, &mut room);
+    let value = value(
+        inst,
+        table,
+        &brief.ranges,
+        &brief.prices,
+        pool,
+        &restriction,
+    );
+    let gain = gain(
+        inst,
+        table,
+        &brief.ranges,
+        &brief.prices,
+        pool,
+        &restriction,
+        &mut room,
+    );
     Some(value == found.old && gain == found.new)
 }
 

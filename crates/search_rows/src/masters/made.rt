@@ -1,6 +1,10 @@
 //! Instances and briefs that are made from a number. None stands where memory is wanting.
 
+ghost use Rattle.std.specs.Prelude.{◌≡◌, ◌<◌, length};
+ghost use Rattle.plan_base.specs.Places.{places};
+
 use column_pool::Brief;
+use link_steps::{LoadRange, Ranges};
 use plan_base::{
     ArcId, BranchId, CountLaw, Demand, DemandId, Instance, Items, Link, Module, NodeId, Orient,
     Parts, Path, Prices,
@@ -139,14 +143,63 @@ fn all_columns(alloc: Global, draws: &mut Draws, inst: &Instance) -> Option<Item
     Some(Items::from_vec(columns))
 }
 
-/// A brief of the instance.
-pub(crate) fn made_brief(alloc: Global, inst: &Instance, draws: &mut Draws) -> Option<Brief> {
+/// Some of the loads up to a top load.
+fn made_range(draws: &mut Draws, top: u64) -> LoadRange {
+    let limit = u32::try_from(top).unwrap_or(0).saturating_add(1);
+    let (one, other) = (u64::from(draws.below(limit)), u64::from(draws.below(limit)));
+    LoadRange {
+        least: one.min(other),
+        most: one.max(other),
+    }
+}
+
+/// Leaves a place some of its loads, or all of them.
+fn cut(inst: &Instance, draws: &mut Draws, ranges: &mut Ranges, place: u32)
+    requires place { place < places inst.now }
+    requires count { length ranges.old ≡ places inst.now }
+    ensures { length ranges.new ≡ places inst.now }
+{
+    if draws.one_of(2) {
+        let top = inst.top_load(inst.link_of_place(place));
+        let range = made_range(draws, top);
+        ranges.set(place, range);
+    }
+}
+
+/// Ranges of which some places have all their loads, and some have fewer.
+fn made_ranges(alloc: Global, draws: &mut Draws, inst: &Instance) -> Option<Ranges> {
+    let mut ranges = Ranges::whole(alloc, inst).ok()?;
+    for place in 0..inst.places() {
+        cut(inst, draws, &mut ranges, place);
+    }
+    Some(ranges)
+}
+
+/// The ranges of a brief: whole ones, or made ones.
+fn ranges_of(alloc: Global, draws: &mut Draws, inst: &Instance, is_ranged: bool) -> Option<Ranges> {
+    if is_ranged {
+        made_ranges(alloc, draws, inst)
+    } else {
+        Ranges::whole(alloc, inst).ok()
+    }
+}
+
+/// A brief of the instance, whose places have all loads, or where it is ranged some have fewer.
+pub(crate) fn made_brief(
+    alloc: Global,
+    inst: &Instance,
+    draws: &mut Draws,
+    is_ranged: bool,
+) -> Option<Brief> {
     Some(Brief {
         node: BranchId(0),
         version: 1,
         prices: made_prices(alloc, draws, inst.places())?,
+        ranges: ranges_of(alloc, draws, inst, is_ranged)?,
         columns: all_columns(alloc, draws, inst)?,
         crowd_tried: false,
+        has_enough: false,
         incumbent: None,
+        unit: 1,
     })
 }

@@ -3,6 +3,7 @@
 ghost use Rattle.std.specs.Prelude.{◌<◌, length};
 
 use column_pool::Brief;
+use link_steps::LoadRange;
 use plan_base::{ArcId, DemandId, Instance, Items, Link, LinkId, Orient, Path};
 use row_networks::module_costs;
 use std::alloc::Global;
@@ -19,11 +20,12 @@ pub(crate) struct Found {
     pub(crate) new: Option<i128>,
 }
 
-/// An instance, and the columns of each demand.
+/// An instance, the range of each place, and the columns of each demand.
 #[derive(Clone, Copy)]
 struct Asked<'a> {
     alloc: Global,
     inst: &'a Instance,
+    ranges: &'a [LoadRange],
     lists: &'a [Items<Path>],
 }
 
@@ -51,37 +53,51 @@ struct Worth {
     loads: [i128; 2],
 }
 
-/// What loads there and back cost on the link, less what the prices give for them. None where it cannot carry them.
-fn cost_at(
-    link: &Link,
-    costs: &[Option<i128>],
+/// A link with what its modules cost for each need, and the prices and ranges of its places: where it has one, the second
+/// price is 0, and the second range has the load 0 alone.
+#[derive(Clone, Copy)]
+struct Priced<'a> {
+    link: &'a Link,
+    costs: &'a [Option<i128>],
     prices: [i128; 2],
-    loads: [u64; 2],
-) -> Option<i128> {
-    let need = loads[0].max(loads[1]).saturating_sub(link.pre) as usize;
-    let modules = costs.get(need).copied().flatten()?;
-    let [there, back] = [i128::from(loads[0]), i128::from(loads[1])];
-    let routing = i128::from(link.routing).saturating_mul(there.saturating_add(back));
-    let cost = routing.saturating_add(modules).saturating_mul(1000);
-    let paid = prices[0].saturating_mul(there);
-    Some(cost.saturating_sub(paid.saturating_add(prices[1].saturating_mul(back))))
+    ranges: [LoadRange; 2],
 }
 
-/// Takes the loads there and back, where their value is less than what is found.
-fn take_loads(
-    link: &Link,
-    costs: &[Option<i128>],
-    prices: [i128; 2],
-    loads: [u64; 2],
-    best: &mut Worth,
-) {
-    if let Some(value) = cost_at(link, costs, prices, loads)
-        && value < best.value
+/// Whether the range has the load.
+fn has(range: LoadRange, load: u64) -> bool {
+    range.least <= load && load <= range.most
+}
+
+/// What loads there and back cost on the link, less what the prices give for them. None where it cannot carry them.
+fn cost_at(priced: Priced<'_>, loads: [u64; 2]) -> Option<i128> {
+    let need = loads[0].max(loads[1]).saturating_sub(priced.link.pre) as usize;
+    let modules = priced.costs.get(need).copied().flatten()?;
+    let [there, back] = [i128::from(loads[0]), i128::from(loads[1])];
+    let routing = i128::from(priced.link.routing).saturating_mul(there.saturating_add(back));
+    let cost = routing.saturating_add(modules).saturating_mul(1000);
+    let paid = priced.prices[0].saturating_mul(there);
+    Some(cost.saturating_sub(paid.saturating_add(priced.prices[1].saturating_mul(back))))
+}
+
+/// Whether a value is less than what is found.
+fn is_less(value: i128, best: Option<Worth>) -> bool {
+    match best {
+        Some(best) => value < best.value,
+        None => true,
+    }
+}
+
+/// Takes the loads there and back, where they are in their ranges and their value is less than what is found.
+fn take_loads(priced: Priced<'_>, loads: [u64; 2], best: &mut Option<Worth>) {
+    if has(priced.ranges[0], loads[0])
+        && has(priced.ranges[1], loads[1])
+        && let Some(value) = cost_at(priced, loads)
+        && is_less(value, *best)
     {
-        *best = Worth {
+        *best = Some(Worth {
             value,
             loads: [i128::from(loads[0]), i128::from(loads[1])],
-        };
+        });
     }
 }
 
@@ -102,43 +118,53 @@ fn prices_at(inst: &Instance, prices: &[i128], link: LinkId) -> [i128; 2] {
     }
 }
 
+/// The range at a place; past the end it has the load 0 alone.
+fn range_at(ranges: &[LoadRange], place: u32) -> LoadRange {
+    let none = LoadRange { least: 0, most: 0 };
+    ranges.get(place as usize).copied().unwrap_or(none)
+}
+
+/// The ranges of a link's places; the second has the load 0 alone where it has one place.
+fn ranges_at(asked: Asked<'_>, link: LinkId) -> [LoadRange; 2] {
+    let place = place_there(asked.inst, link);
+    let there = range_at(asked.ranges, place);
+    match asked.inst.orient() {
+        Orient::Bidirected => [there, range_at(asked.ranges, place.saturating_add(1))],
+        Orient::Directed | Orient::Undirected => [there, LoadRange { least: 0, most: 0 }],
+    }
+}
+
 /// The value of a link at its prices, and of the loads that give it those whose larger one is smallest, and of these the
 /// smallest: all loads are tried.
 fn slow_value(asked: Asked<'_>, prices: &[i128], link: LinkId) -> Option<Worth>
     requires { link.0 < length asked.inst.now.links }
 {
     let total = u64::from(u32::try_from(asked.inst.total_load()).unwrap_or(0));
-    let prices = prices_at(asked.inst, prices, link);
-    let is_two_way = asked.inst.orient() == Orient::Bidirected;
-    let link = asked.inst.link(link);
-    let costs = module_costs(asked.alloc, link, total)?;
-    let mut best = Worth {
-        value: 0,
-        loads: [0, 0],
+    let costs = module_costs(asked.alloc, asked.inst.link(link), total)?;
+    let priced = Priced {
+        link: asked.inst.link(link),
+        costs: &costs,
+        prices: prices_at(asked.inst, prices, link),
+        ranges: ranges_at(asked, link),
     };
+    let mut best = None;
     for larger in 0..total.saturating_add(1) {
-        if is_two_way {
-            take_pairs(link, &costs, prices, larger, &mut best);
+        if asked.inst.orient() == Orient::Bidirected {
+            take_pairs(priced, larger, &mut best);
         } else {
-            take_loads(link, &costs, prices, [larger, 0], &mut best);
+            take_loads(priced, [larger, 0], &mut best);
         }
     }
-    Some(best)
+    best
 }
 
 /// Takes the loads whose larger one is this, where their value is less than what is found: smaller loads there first.
-fn take_pairs(
-    link: &Link,
-    costs: &[Option<i128>],
-    prices: [i128; 2],
-    larger: u64,
-    best: &mut Worth,
-) {
+fn take_pairs(priced: Priced<'_>, larger: u64, best: &mut Option<Worth>) {
     for load in 0..larger {
-        take_loads(link, costs, prices, [load, larger], best);
+        take_loads(priced, [load, larger], best);
     }
     for back in 0..larger.saturating_add(1) {
-        take_loads(link, costs, prices, [larger, back], best);
+        take_loads(priced, [larger, back], best);
     }
 }
 
@@ -325,10 +351,27 @@ fn signed(alloc: Global, prices: &[u128]) -> Option<Vec<i128>> {
     Some(numbers)
 }
 
+/// The ranges of a brief, one for each place. None where they are not those of the instance.
+fn ranges_of(alloc: Global, inst: &Instance, brief: &Brief) -> Option<Vec<LoadRange>> {
+    if !brief.fits(inst) {
+        return None;
+    }
+    let mut ranges = Vec::new(alloc);
+    for place in 0..inst.places() {
+        ranges.push(brief.ranges.at(place)).ok()?;
+    }
+    Some(ranges)
+}
+
 /// What the step of a brief is.
 pub(crate) fn slow_step(alloc: Global, inst: &Instance, brief: &Brief) -> Option<Found> {
-    let lists = brief.columns.as_slice();
-    let asked = Asked { alloc, inst, lists };
+    let ranges = ranges_of(alloc, inst, brief)?;
+    let asked = Asked {
+        alloc,
+        inst,
+        ranges: &ranges,
+        lists: brief.columns.as_slice(),
+    };
     let prices = signed(alloc, brief.prices.as_slice())?;
     let mut found = Found {
         old: slow_restricted(asked, &prices)?,

@@ -1,6 +1,7 @@
 //! The two links between a and b of docs/METHOD.md, "Master step", which that section works out by hand.
 
 use column_pool::Brief;
+use link_steps::Ranges;
 use master_step::{Step, advance, best_step, crowd_prices};
 use plan_base::{
     ArcId, BranchId, CountLaw, Demand, Instance, Items, Link, Module, NodeId, Orient, Parts, Path,
@@ -60,15 +61,18 @@ fn first_link(alloc: Global) -> Option<Items<Path>> {
 }
 
 /// Start prices, and the first link as the only column of each demand.
-fn brief_of(alloc: Global) -> Option<Brief> {
+fn brief_of(alloc: Global, inst: &Instance) -> Option<Brief> {
     let columns = vec![in alloc; first_link(alloc)?, first_link(alloc)?];
     Some(Brief {
         node: BranchId(0),
         version: 1,
         prices: start_prices(alloc)?,
+        ranges: Ranges::whole(alloc, inst).ok()?,
         columns: Items::from_vec(columns.ok()?),
         crowd_tried: false,
+        has_enough: false,
         incumbent: None,
+        unit: 1,
     })
 }
 
@@ -96,7 +100,7 @@ fn step_of(alloc: Global, inst: &Instance, brief: &Brief, is_best: bool) -> Opti
 
 /// Whether the step, and the better of it and an ascent, are as worked out.
 fn has_steps(alloc: Global, inst: &Instance) -> Option<bool> {
-    let brief = brief_of(alloc)?;
+    let brief = brief_of(alloc, inst)?;
     let step = step_of(alloc, inst, &brief, false)?;
     let best = step_of(alloc, inst, &brief, true)?;
     let prices = [4_000_000_000, 3_000_000_000];

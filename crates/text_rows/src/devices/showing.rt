@@ -76,22 +76,31 @@ const HALF: Standing = Standing {
     examined: 500,
     budget: 1_000,
     cost: None,
+    bound: None,
 };
 
-/// How far a run is, in the first three of these words: how many nodes it has examined, its budget and the cost of its
-/// design; and the words behind them.
+/// The number of the first of these words, which is `-` where there is none; and the words behind it.
+fn first_amount(words: &str) -> Option<(Option<u128>, &str)> {
+    let (word, words) = words.split_once(' ')?;
+    let amount = match word {
+        "-" => None,
+        _ => Some(u128::from(word.parse::<u64>().ok()?)),
+    };
+    Some((amount, words))
+}
+
+/// How far a run is, in the first four of these words: how many nodes it has examined, its budget, the cost of its design
+/// and the bound; and the words behind them.
 fn standing_of(words: &str) -> Option<(Standing, &str)> {
     let (examined, words) = first_number(words)?;
     let (budget, words) = first_number(words)?;
-    let (cost, words) = words.split_once(' ')?;
-    let cost = match cost {
-        "-" => None,
-        _ => Some(u128::from(cost.parse::<u64>().ok()?)),
-    };
+    let (cost, words) = first_amount(words)?;
+    let (bound, words) = first_amount(words)?;
     let standing = Standing {
         examined,
         budget,
         cost,
+        bound,
     };
     Some((standing, words))
 }

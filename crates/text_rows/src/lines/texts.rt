@@ -50,6 +50,24 @@ OPEN 0 0
 END
 ";
 
+/// A plan of two nodes whose root splits the loads of a place.
+const LOADS_PLAN: &str = "SNDPLAN 3
+SIZE 2 1 1 ONE
+STATUS UNDECIDED
+BUDGET 1
+EXAMINED 1
+COST none
+BOUND none
+CUTS 0
+PRICES 1
+P 0
+TREE 3
+LOADS 0 18446744073709551615
+OPEN 0
+OPEN 0
+END
+";
+
 /// Adds the text of the plan that this text spells.
 fn tell_again(alloc: Global, plan: &str, text: &mut Vec<u8>) -> Option<()> {
     if plan.len() > 1000 {
@@ -84,9 +102,10 @@ fn tell_cut(alloc: Global, text: &mut Vec<u8>) -> Option<()> {
     tell_fits(&plan, text)
 }
 
-/// Adds two texts of plans again, and which plan has one.
+/// Adds three texts of plans again, and which plan has one.
 pub(crate) fn tell_texts(alloc: Global, text: &mut Vec<u8>) -> Option<()> {
     tell_again(alloc, TRIANGLE_PLAN, text)?;
     tell_again(alloc, EACH_KIND, text)?;
+    tell_again(alloc, LOADS_PLAN, text)?;
     tell_cut(alloc, text)
 }

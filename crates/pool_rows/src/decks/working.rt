@@ -1,0 +1,66 @@
+//! A worker that puts the demands of its versions on the first of two decks.
+//!
+//! The network is a sample of 64 demands, two blocks for each version. The worker takes its own blocks before it asks for a
+//! task, so none is left when it is told that nothing is left to do.
+
+ghost use Rattle.std.specs.Prelude.{◌≡◌, All, IfSome};
+ghost use Rattle.block_deques.specs.Decks.{IsSameDeck};
+
+use super::turns::{gather_two, tell_left, tell_steal, two_decks};
+use block_deques::Deck;
+use dual_versions::board;
+use instance_maker::sample_problem;
+use linear_hub::{LinearHub, LinearSeat, Naming, work_blocks};
+use plan_io::NoGate;
+use pool_core::Pool;
+use pool_machine::limits::MAX_ROUNDS;
+use std::alloc::Global;
+use std::marker::Brand;
+use std::sync::{Arc, Wait};
+
+/// A pool on the fifth sample of 16 nodes and 64 demands, of which two nodes may be examined.
+fn sample_pool(alloc: Global) -> Option<Pool> {
+    let problem = sample_problem(alloc, 5, 16, 64).ok()?;
+    let inst = Arc::new(alloc, problem.inst).ok()?;
+    let table = Arc::new(alloc, problem.table).ok()?;
+    Pool::new(alloc, inst, table, 2).ok()
+}
+
+/// The last seat of a hub.
+fn last_seat<N: Naming, R: Wait + Drop>(
+    hub: &LinearHub<N, R>,
+    mut seats: Vec<LinearSeat<N, R>>,
+) -> Option<LinearSeat<N, R>>
+    requires { All (λ s. s.pass.table_id ≡ hub.now.turns.table.shared.table_id) seats.items }
+    ensures { IfSome result (λ seat. seat.pass.table_id ≡ hub.now.turns.table.shared.table_id) }
+{
+    seats.pop()
+}
+
+/// Lets one seat of a hub work with a deck until nothing is left to do.
+fn work_with<N: Naming, R: Wait>(rt: &R, alloc: Global, pool: Pool, deck: &mut Deck) -> Option<()>
+    requires opening { pool ≡ N.opening }
+    requires search { (pool.problem ≡ N.problem) × (pool.budget ≡ N.budget) }
+    ensures { IsSameDeck deck.old deck.new }
+{
+    let places = pool.instance().places();
+    let (writer, readers) = board(rt, alloc, MAX_ROUNDS, 1, places).ok()?;
+    let Ok((hub, seats)) = LinearHub::<N, &R>::new(alloc, pool, 1, writer, readers) else {
+        return None;
+    };
+    let mut seat = last_seat(&hub, seats)?;
+    work_blocks(rt, alloc, &hub, &mut seat, deck, &NoGate).ok()
+}
+
+/// Adds whether the worker put at least two blocks, what another deck then steals, and what is left.
+pub(crate) fn tell_worked<R: Wait>(rt: &R, alloc: Global, text: &mut String) -> Option<()> {
+    let pool = sample_pool(alloc)?;
+    let Ok(Some((mut zero, mut one))) = two_decks(alloc) else {
+        return None;
+    };
+    work_with::<Brand, R>(rt, alloc, pool, &mut zero)?;
+    write!(text, "worked: two blocks put {}\n", zero.puts() >= 2).ok()?;
+    tell_steal(rt, &mut one, text)?;
+    let left = gather_two(alloc, zero, one).ok()?;
+    tell_left(left.as_slice(), text)
+}
