@@ -57,10 +57,10 @@ pub record IsGathered (s : State) (id : BranchId) (version : ℕ) (node : Node) 
   pub complete_round : IsCompleteRound s id version node round
   pub gathered_all : first_ungathered s.columns (Some round) ≡ None
 
--- no further version of the node is to follow: its crowd prices were tried, or a design is known and enough of its versions
--- were complete
+-- no further version of the node is to follow: its crowd prices were tried; or a design is known, some node was examined, and
+-- enough versions of this one were complete
 abbrev pub has_enough : State → Node → Bool
-has_enough s node = node.crowd_tried || (is_some s.incumbent && not (nat_lt node.completed ENOUGH_VERSIONS))
+has_enough s node = node.crowd_tried || (is_some s.incumbent && (nat_lt 0 s.examined && not (nat_lt node.completed ENOUGH_VERSIONS)))
 
 -- what a master step is told: the prices of the round, and for each demand the columns that the node permits
 pub record IsBriefOf (s : State) (id : BranchId) (node : Node) (round : Round) (brief : Brief) : Type 0 where

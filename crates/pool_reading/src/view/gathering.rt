@@ -62,15 +62,17 @@ impl<'a> PoolView<'a> {
         permitted_lists(self.alloc, self.problem, self.columns, &**rows)
     }
 
-    /// Whether no further version of a node is to follow: its crowd prices were tried, or a design is known and enough of
-    /// its versions were complete.
+    /// Whether no further version of a node is to follow: its crowd prices were tried; or a design is known, some node was
+    /// examined, and enough versions of this one were complete.
     pub fn has_enough(&self, node: BranchId) -> bool
         ensures { result ≡ enough_in self.now (slice_get self.now.nodes node.0) }
     {
         match self.node(node) {
             Some(held) => {
                 held.crowd_tried()
-                    || (self.incumbent.is_some() && held.completed() >= ENOUGH_VERSIONS)
+                    || (self.incumbent.is_some()
+                        && self.examined > 0
+                        && held.completed() >= ENOUGH_VERSIONS)
             }
             None => false,
         }
