@@ -1,5 +1,5 @@
 -- How the next step is chosen, module by module.
-use Rattle.std.proofs.Common.{◌≡◌, ℕ, ◌+◌, ◌<◌, ◌≤◌, ◌⊎◌, inl, inr, List, length, Option, Some, None, IfSome, arith}
+use Rattle.std.proofs.Common.{◌≡◌, ℕ, ◌+◌, ◌<◌, ◌≤◌, inl, inr, List, length, Option, Some, None, arith}
 use Rattle.std.proofs.Math.ListN.{set, length-set}
 use Rattle.std.proofs.lemmas.List.{get_or-set_same, get_or-set_other}
 use Rattle.plan_base.specs.declared.parts.Link.{Link}
@@ -18,17 +18,22 @@ Beats-not_worse l steps (Some x) None m no_worse beats = λ j within past. absur
 Beats-not_worse l steps None (Some y) m no_worse beats = absurd no_worse
 Beats-not_worse l steps (Some x) (Some y) m no_worse beats = λ j within past. IsNoWorse-trans x y _ no_worse (beats j within past)
 
--- the best so far, or of the module at hand
-pub Beats-next : (l : Link) (steps : List Step) (result best other : Option Step) (n : ℕ) → IsNotWorse result best → IsNotWorse result other → ((m : ℕ) → m < n → Beats l steps best m) → Beats l steps other n → (m : ℕ) → m < n + 1 → Beats l steps result m
-Beats-next l steps result best other n over_best over_other before here m within =
+pub IsNotWorse-same : (best : Option Step) → IsNotWorse best best
+IsNotWorse-same None = tt
+IsNotWorse-same (Some step) = record { cost = omega arith; reach = λ cheap. omega arith }
+
+-- where no step with the module added goes past the last one, nothing is better
+pub Beats-passed : (l : Link) (steps : List Step) (best : Option Step) (m : ℕ) → IsPassedBy l steps m (length steps) → Beats l steps best m
+Beats-passed l steps None m passed = λ j within. passed j within
+Beats-passed l steps (Some best) m passed = λ j within past. absurd (omega (arith, passed j within))
+
+-- the modules before one, and that one
+pub Beats-next : (l : Link) (steps : List Step) (result best : Option Step) (n : ℕ) → IsNotWorse result best → ((m : ℕ) → m < n → Beats l steps best m) → Beats l steps result n → (m : ℕ) → m < n + 1 → Beats l steps result m
+Beats-next l steps result best n over_best before here m within =
     elim (before_or_last m n within) [
       | inl old ↦ Beats-not_worse l steps result best m over_best (before m old)
-      | inr new ↦ rw new (Beats-not_worse l steps result other n over_other here)
+      | inr new ↦ rw new here
     ]
-
-pub IfSome-either : (P : Step → Type 0) (result best other : Option Step) → (result ≡ best) ⊎ (result ≡ other) → IfSome best P → IfSome other P → IfSome result P
-IfSome-either P result best other (inl is) h k = rw is h
-IfSome-either P result best other (inr is) h k = rw is k
 
 -- one place moves on
 pub AreStarts-set : (l : Link) (steps : List Step) (starts : List ℕ) (n place : ℕ) → n < length starts → place ≤ length steps → IsPassedBy l steps n place → AreStarts l steps starts → AreStarts l steps (set starts n place)
@@ -47,5 +52,3 @@ AreStarts-set l steps starts n place within bound passed starts_ok =
             | inr is_not ↦ rw (get_or-set_other {A = ℕ} starts n m place 0 is_not) (starts_ok.passed m (omega arith))
           ];
     }
-
-pub ruleset choosing = (Beats-next, IfSome-either, AreStarts-set)

@@ -18,7 +18,8 @@ use Rattle.link_steps.specs.Steps.{step_at, AreAllSteps, IsBestEnd}
 use Rattle.link_steps.specs.Candidates.{whole_link, load_up_to, candidate}
 use Rattle.link_steps.proofs.Order.{either_way}
 use Rattle.link_steps.proofs.Prices.{below-top}
-use Rattle.link_steps.proofs.FirstBest.{AreMet, IsBestValue, IsFirstBest-value, same-parts}
+use Rattle.link_steps.proofs.FirstBest.{IsBestValue, IsFirstBest-value, same-parts}
+use Rattle.link_steps.proofs.FirstLeast.{AreMet}
 
 difference-le : (a b c d : ℕ) → a + d ≤ c + b → (pos a -ℤ pos b) ≤ℤ (pos c -ℤ pos d)
 difference-le a b c d h = omega (arith, ints)
@@ -135,8 +136,8 @@ module _ (p : Parts) (e : ℕ) (price back_price : ℕ) (steps : List Step) (are
       → IsBestValue p e (whole_link p e) price back_price (record { value = pos (1000 * best.cost) -ℤ pos ((slope + back_slope) * best.load); load = load; back = back })
   best_end-value best load back is_best at at_back =
       let place = is_best.is_end_of.place in
-      let cost_is : best.cost ≡ (step_at steps place).cost = ap (λ (end : End). end.cost) is_best.is_end_of.is_end in
-      let load_is : best.load ≡ whole place = ap (λ (end : End). end.load) is_best.is_end_of.is_end in
+      let cost_is : best.cost ≡ (step_at steps place).cost = is_best.is_end_of.cost in
+      let load_is : best.load ≡ whole place = is_best.is_end_of.load in
       let there_is = same-load slope (whole place) load (candidate (link_at p e) (whole_link p e) price back_price (step_at steps place)).load (rw load_is at at) (there-at place) in
       let back_is = same-load back_slope (whole place) back (candidate (link_at p e) (whole_link p e) price back_price (step_at steps place)).back (rw load_is at at_back) (back-at place) in
       IsFirstBest-value p e (whole_link p e) price back_price steps 0 (length steps) _ are whole-in_ranges whole-met

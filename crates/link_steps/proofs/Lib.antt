@@ -14,6 +14,11 @@ pub mod Counted
 pub mod Tables
 pub mod Prices
 pub mod Made
+pub mod TallyLaws
+pub mod FirstLeast
+pub mod NetValues
+pub mod RatedLoads
+pub mod RatedPrices
 pub mod FirstBest
 pub mod BestEnds
 pub mod HullValue

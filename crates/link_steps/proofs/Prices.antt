@@ -14,7 +14,7 @@ use Rattle.plan_base.specs.Arcs.{link_at, no_link}
 use Rattle.plan_base.specs.Facts.{total_load, top_load, price_limit, IsInstance}
 use Rattle.link_steps.specs.declared.step.Step.{Step}
 use Rattle.link_steps.specs.declared.ends.End.{End}
-use Rattle.link_steps.specs.Costs.{IsLeastModuleCostOn}
+use Rattle.link_steps.specs.Costs.{IsLeastModuleCostOn, IsStepCost}
 use Rattle.link_steps.specs.declared.range.LinkRanges.{LinkRanges}
 use Rattle.link_steps.specs.Values.{top_back, IsLinkValue, AreLinkRanges, share, IsLeastUnitPrice, IsStartPrice}
 use Rattle.plan_base.specs.Places.{is_two_way, link_of_place}
@@ -148,18 +148,22 @@ routing-within p e load lawful within few =
     let product : (link_at p e).routing * load ≤ (link_at p e).routing * total_load p = mul-le-mul_left (link_at p e).routing (let le : load ≤ total_load p = omega (arith, few, top-le p (link_at p e)) in le) in
     omega (arith, whole, product)
 
--- a link value is not far above 0: a thousand step costs are small
+-- a thousand step costs of loads up to the top load are small
+pub step_cost-small : (p : Parts) (e load back cost : ℕ) (steps : List Step) → IsInstance p → e < length p.links → AreAllSteps p.law (total_load p) (link_at p e) steps → load ≤ top_load p (link_at p e) → back ≤ top_load p (link_at p e)
+    → IsStepCost p e load back cost → 1000 * cost ≤ MAX_PRICED_LOAD
+step_cost-small p e load back cost steps lawful within are few back_few is_cost =
+    let found = cost-of p (link_at p e) steps (max load back) is_cost.module_cost are (omega arith) is_cost.is_least in
+    let cheap = are.are_steps.in_order.cheap found.place found.first.within in
+    let small : cost ≤ 2 * MAX_ROUTING_COST + MAX_STEPS * MODULE_COST_BOUND =
+    omega (arith, is_cost.is_sum, found.is, cheap, found.first.within, are.within, routing-within p e load lawful within few, routing-within p e back lawful within back_few) in
+    omega (arith, small)
+
+-- so a link value is not far above 0
 pub IsLinkValue-not_above : (p : Parts) (e : ℕ) (ranges : LinkRanges) (price back_price : ℕ) (steps : List Step) (value : ℤ) → IsInstance p → e < length p.links → AreAllSteps p.law (total_load p) (link_at p e) steps
     → AreLinkRanges p e ranges → IsLinkValue p e ranges price back_price value → value ≤ℤ pos MAX_PRICED_LOAD
 IsLinkValue-not_above p e ranges price back_price steps value lawful within are in_ranges is =
-    let l = link_at p e in
-    let load_top : is.load ≤ top_load p l = omega (arith, is.give.in_range.few, in_ranges.there.carried) in
-    let back_within : is.back ≤ top_load p l = omega (arith, is.give.back_in_range.few, in_ranges.other.carried, back-top p e) in
-    let found = cost-of p l steps (max is.load is.back) is.give.is_cost.module_cost are (omega arith) is.give.is_cost.is_least in
-    let cheap = are.are_steps.in_order.cheap found.place found.first.within in
-    let small : is.give.cost ≤ 2 * MAX_ROUTING_COST + MAX_STEPS * MODULE_COST_BOUND =
-    omega (arith, is.give.is_cost.is_sum, found.is, cheap, found.first.within, are.within, routing-within p e is.load lawful within load_top, routing-within p e is.back lawful within back_within) in
-    rw (← is.give.attained) (below (1000 * is.give.cost) (price * is.load + back_price * is.back) (omega (arith, small)))
+    let small = step_cost-small p e is.load is.back is.give.cost steps lawful within are (omega (arith, is.give.in_range.few, in_ranges.there.carried)) (omega (arith, is.give.back_in_range.few, in_ranges.other.carried, back-top p e)) is.give.is_cost in
+    rw (← is.give.attained) (below (1000 * is.give.cost) (price * is.load + back_price * is.back) small)
   where
     below : (cost priced : ℕ) → cost ≤ MAX_PRICED_LOAD → (pos cost -ℤ pos priced) ≤ℤ pos MAX_PRICED_LOAD
     below cost priced le = omega (arith, ints)
@@ -178,13 +182,13 @@ AreEndsOf-some p l ends are =
 pub AreEndsOf-cheap : (p : Parts) (l : Link) (ends : List End) (i : ℕ) → AreEndsOf p l ends → i < length ends → (end_in ends i).cost ≤ MAX_STEPS * MODULE_COST_BOUND
 AreEndsOf-cheap p l ends i are within =
     let each = are.are_best.each i within in
-    let cost_is : (end_in ends i).cost ≡ (step_at are.steps each.place).cost = ap (λ (e : End). e.cost) each.is_end in
+    let cost_is : (end_in ends i).cost ≡ (step_at are.steps each.place).cost = each.cost in
     omega (arith, cost_is, are.are_all.are_steps.in_order.cheap each.place each.within, each.within, are.are_all.within)
 
 pub AreEndsOf-low : (p : Parts) (l : Link) (ends : List End) (i : ℕ) → AreEndsOf p l ends → i < length ends → (end_in ends i).load ≤ top_load p l
 AreEndsOf-low p l ends i are within =
     let each = are.are_best.each i within in
-    let load_is : (end_in ends i).load ≡ min (step_at are.steps each.place).reach (top_load p l) = ap (λ (e : End). e.load) each.is_end in
+    let load_is : (end_in ends i).load ≡ min (step_at are.steps each.place).reach (top_load p l) = each.load in
     omega (arith, load_is)
 
 -- loads in the ranges cost little

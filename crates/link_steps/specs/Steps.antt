@@ -1,5 +1,5 @@
 -- How a table keeps the steps of links, and how they are made. No public contract cites it.
-use Rattle.std.specs.Prelude.{ℕ, ◌≡◌, ◌<◌, ◌≤◌, ◌+◌, ◌-◌, ◌*◌, ◌/◌, min, List, [], ◌∷◌, ◌++◌, length, Option, Some, None, slice_index, slice_index_or}
+use Rattle.std.specs.Prelude.{ℕ, ◌≡◌, ◌<◌, ◌≤◌, ◌+◌, ◌-◌, ◌*◌, ◌/◌, ◌⊎◌, min, List, [], length, Option, Some, None, slice_index, slice_index_or}
 use Rattle.plan_base.specs.declared.parts.CountLaw.{CountLaw}
 use Rattle.plan_base.specs.declared.parts.CountLaw.TheVariants.{Any, AtMostOne}
 use Rattle.plan_base.specs.declared.parts.Link.{Link}
@@ -173,11 +173,11 @@ pub record IsMadeOf (law : CountLaw) (l : Link) (step : Step) (load : ℕ) (coun
 
 -- where a step ends, for a link with this top load
 abbrev pub end_at : ℕ → Step → End
-end_at top step = record { cost = step.cost; load = min step.reach top }
+end_at top step = record { cost = step.cost; load = min step.reach top; from = 0 }
 
 -- what is read past the last end
 abbrev pub no_end : End
-no_end = record { cost = 0; load = 0 }
+no_end = record { cost = 0; load = 0; from = 0 }
 
 -- the end at a place
 abbrev pub end_in : List End → ℕ → End
@@ -187,6 +187,21 @@ end_in ends i = slice_index_or ends i no_end
 pub record AreRisingEnds (ends : List End) : Type 0 where
   pub farther : (i j : ℕ) → i < j → j < length ends → (end_in ends i).load < (end_in ends j).load
   pub dearer : (i j : ℕ) → i < j → j < length ends → (end_in ends i).cost < (end_in ends j).cost
+
+-- the greatest slope at which an end is as good as a later one, in thousandths of a cost grain per load grain
+abbrev pub turn : End → End → ℕ
+turn end later = 1000 * (later.cost - end.cost) / (later.load - end.load)
+
+-- each end but the first has the greatest slope at which the one before is as good, and these slopes rise
+pub record AreCorners (ends : List End) : Type 0 where
+  pub rising : AreRisingEnds ends
+  pub turned : (i : ℕ) → i + 1 < length ends → (end_in ends (i + 1)).from ≡ turn (end_in ends i) (end_in ends (i + 1))
+  pub steeper : (i j : ℕ) → 0 < i → i < j → j < length ends → (end_in ends i).from < (end_in ends j).from
+
+-- the slope of an end behind these ones, where it is greater than theirs
+pub record IsFrom (ends : List End) (next : End) (from : ℕ) : Type 0 where
+  pub turned : (i : ℕ) → i + 1 ≡ length ends → from ≡ turn (end_in ends i) next
+  pub steeper : (i : ℕ) → 0 < i → i < length ends → (end_in ends i).from < from
 
 -- At this slope a thousand costs less the slope times the load are no more at the first end, and less where it is farther.
 pub record Outdoes (slope : ℕ) (a b : End) : Type 0 where
@@ -205,7 +220,8 @@ pub record IsBestSoFar (ends : List End) (slope count : ℕ) (best : End) : Type
 pub record IsEndOf (steps : List Step) (top count : ℕ) (end : End) : Type 0 where
   pub place : ℕ
   pub within : place < count
-  pub is_end : end ≡ end_at top (step_at steps place)
+  pub cost : end.cost ≡ (step_at steps place).cost
+  pub load : end.load ≡ min (step_at steps place).reach top
 
 -- one of the ends outdoes this one
 pub record AreAhead (ends : List End) (slope : ℕ) (end : End) : Type 0 where
@@ -215,20 +231,15 @@ pub record AreAhead (ends : List End) (slope : ℕ) (end : End) : Type 0 where
 
 -- ends of steps of which one, at each slope, outdoes the end of each step before a count
 pub record AreBestEnds (steps : List Step) (top count : ℕ) (ends : List End) : Type 0 where
-  pub rising : AreRisingEnds ends
+  pub corners : AreCorners ends
   pub each : (i : ℕ) → i < length ends → IsEndOf steps top count (end_in ends i)
   pub ahead : (slope k : ℕ) → k < count → AreAhead ends slope (end_at top (step_at steps k))
-
--- the middle one is not below the line through the others
-abbrev pub IsNotBelow : End → End → End → Type 0
-IsNotBelow before middle after =
-    (after.cost - middle.cost) * (middle.load - before.load) ≤ (middle.cost - before.cost) * (after.load - middle.load)
 
 -- The first ones of these ends: at each slope one of them, or the next one, outdoes each that was dropped.
 pub record IsRestOf (old : List End) (next : End) (ends : List End) : Type 0 where
   pub within : length ends ≤ length old
   pub front : (i : ℕ) → i < length ends → end_in ends i ≡ end_in old i
-  pub ahead : (slope i : ℕ) → i < length old → AreAhead (ends ++ next ∷ []) slope (end_in old i)
+  pub ahead : (slope i : ℕ) → i < length old → AreAhead ends slope (end_in old i) ⊎ Outdoes slope next (end_in old i)
 
 -- the end of a step, which outdoes the end of each step
 pub record IsBestEnd (steps : List Step) (top slope : ℕ) (best : End) : Type 0 where

@@ -1,7 +1,7 @@
 //! The ends of steps: what is best at a price lies at one of them.
 
-ghost use Rattle.std.specs.Prelude.{ℕ, ◌≡◌, ◌<◌, ◌≤◌, ◌+◌, ◌-◌, ◌*◌, ◌⊎◌, ◌-ℤ◌, pos, length, Some, IfOk, IfSome, IsTrue};
-ghost use Rattle.link_steps.specs.Steps.{step_at, AreInOrder, end_at, end_in, AreRisingEnds, IsBestSoFar, AreBestEnds, IsNotBelow, IsRestOf, IsLeastUnit};
+ghost use Rattle.std.specs.Prelude.{ℕ, ◌≡◌, ◌<◌, ◌≤◌, ◌+◌, ◌-◌, ◌*◌, ◌⊎◌, ◌-ℤ◌, pos, length, Some, IfOk, IfSome};
+ghost use Rattle.link_steps.specs.Steps.{step_at, AreInOrder, end_at, end_in, turn, AreCorners, IsBestSoFar, AreBestEnds, IsFrom, IsRestOf, IsLeastUnit};
 
 use crate::limits::MAX_STEPS;
 use crate::step::Step;
@@ -15,6 +15,9 @@ pub struct End {
     pub cost: u128,
     /// In load grains.
     pub load: u64,
+    /// The greatest slope at which the best end before it is as good, in thousandths of a cost grain per load grain. Means
+    /// nothing in the first one.
+    pub from: u128,
 }
 
 /// The end of a step, for a link with this top load.
@@ -24,38 +27,42 @@ fn end_of(step: Step, top: u64) -> End
     End {
         cost: step.cost,
         load: step.reach.min(top),
+        from: 0,
     }
 }
 
-/// Whether the middle end is seen not to lie below the line through the others; a product past 128 bits is not looked at.
-fn is_not_below(before: End, middle: End, after: End) -> bool
-    requires first_load { before.load ≤ middle.load }
-    requires second_load { middle.load ≤ after.load }
-    requires first_cost { before.cost ≤ middle.cost }
-    requires second_cost { middle.cost ≤ after.cost }
-    ensures { IsTrue result → IsNotBelow before middle after }
+/// The greatest slope at which an end is as good as a later one, in thousandths of a cost grain per load grain.
+fn turn(end: End, later: End) -> u128
+    requires load { end.load < later.load }
+    requires cost { end.cost < later.cost }
+    requires cheap { later.cost ≤ MAX_STEPS * MODULE_COST_BOUND }
+    ensures { result ≡ turn end later }
 {
-    let steep = (after.cost - middle.cost).checked_mul(u128::from(middle.load - before.load));
-    let flat = (middle.cost - before.cost).checked_mul(u128::from(after.load - middle.load));
-    match (steep, flat) {
-        (Some(steep), Some(flat)) => steep <= flat,
-        _ => false,
-    }
+    1000 * (later.cost - end.cost) / u128::from(later.load - end.load)
 }
 
-/// Drops the last ends that lie on or above the line from the end before them to the next one.
-fn drop_outdone(ends: &mut Vec<End>, next: End)
-    requires rising { AreRisingEnds ends.old.items }
+/// Drops the last ends that are at no slope better than the one before them and the next one, and gives the slope of the
+/// next one.
+fn drop_outdone(ends: &mut Vec<End>, next: End) -> u128
+    requires corners { AreCorners ends.old.items }
     requires farther { (i : ℕ) → i < length ends.old.items → (end_in ends.old.items i).load < next.load }
     requires dearer { (i : ℕ) → i < length ends.old.items → (end_in ends.old.items i).cost < next.cost }
-    ensures { IsRestOf ends.old.items next ends.new.items }
+    requires cheap { next.cost ≤ MAX_STEPS * MODULE_COST_BOUND }
+    ensures rest { IsRestOf ends.old.items next ends.new.items }
+    ensures from { IsFrom ends.new.items next result }
 {
     while ends.len() >= 2 {
         let last = ends.len() - 1;
-        if !is_not_below(ends[last - 1], ends[last], next) {
-            return;
+        let from = turn(ends[last], next);
+        if ends[last].from < from {
+            return from;
         }
         ends.truncate(last);
+    }
+    if ends.len() == 1 {
+        turn(ends[0], next)
+    } else {
+        0
     }
 }
 
@@ -63,13 +70,18 @@ fn drop_outdone(ends: &mut Vec<End>, next: End)
 pub fn best_ends(alloc: Global, steps: &[Step], top: u64) -> Result<Vec<End>, AllocError>
     requires in_order { AreInOrder steps.now }
     requires low { (i : ℕ) → i + 1 < length steps.now → (step_at steps.now i).reach < top }
+    requires few { length steps.now ≤ MAX_STEPS }
     ensures { IfOk result (λ ends. AreBestEnds steps.now top (length steps.now) ends.items) }
 {
     let mut ends = Vec::new(alloc);
     for step in steps {
         let end = end_of(*step, top);
-        drop_outdone(&mut ends, end);
-        ends.push(end)?;
+        let from = drop_outdone(&mut ends, end);
+        ends.push(End {
+            cost: end.cost,
+            load: end.load,
+            from,
+        })?;
     }
     Ok(ends)
 }
@@ -78,18 +90,16 @@ pub fn best_ends(alloc: Global, steps: &[Step], top: u64) -> Result<Vec<End>, Al
 /// grain per load grain.
 pub fn best_end(ends: &[End], slope: u128) -> End
     requires some { 0 < length ends.now }
-    requires rising { AreRisingEnds ends.now }
-    requires cost { (i : ℕ) → i < length ends.now → (end_in ends.now i).cost ≤ MAX_STEPS * MODULE_COST_BOUND }
-    requires slope { (i : ℕ) → i < length ends.now → slope * (end_in ends.now i).load ≤ 2 * MAX_PRICED_LOAD }
+    requires corners { AreCorners ends.now }
     ensures { IsBestSoFar ends.now slope (length ends.now) result }
 {
     let mut best = ends[0];
-    for end in ends {
-        if 1000 * end.cost + slope * u128::from(best.load)
-            < 1000 * best.cost + slope * u128::from(end.load)
-        {
-            best = *end;
+    for place in 1..ends.len() {
+        let end = ends[place];
+        if slope <= end.from {
+            return best;
         }
+        best = end;
     }
     best
 }

@@ -1,6 +1,6 @@
 //! The steps of a link, under the law of any counts made one by one in rising cost.
 
-ghost use Rattle.std.specs.Prelude.{ℕ, ◌≡◌, ◌<◌, ◌≤◌, ◌+◌, ◌⊎◌, length, All, Some, IfOk, IfErr, IfSome, IfNone};
+ghost use Rattle.std.specs.Prelude.{ℕ, ◌≡◌, ◌<◌, ◌≤◌, ◌+◌, length, All, Some, IfOk, IfErr, IfSome, IfNone, IsTrue, IsFalse};
 ghost use Rattle.plan_base.specs.declared.parts.CountLaw.TheVariants.{Any, AtMostOne};
 ghost use Rattle.plan_base.specs.Facts.{IsModule};
 ghost use Rattle.plan_base.specs.Designs.{module_at};
@@ -71,29 +71,51 @@ fn first_past(steps: &[Step], from: usize, reach: u64, capacity: u64) -> usize
     steps.len()
 }
 
-/// The better of two steps, each of which may be missing.
-fn better(best: Option<Step>, other: Option<Step>) -> Option<Step>
-    ensures either { (result ≡ best) ⊎ (result ≡ other) }
-    ensures best { IsNotWorse result best }
-    ensures other { IsNotWorse result other }
+/// Whether a step costs less than the best one so far, or as much and reaches farther, or none is known so far.
+fn is_better(step: &Step, best: Option<Step>) -> bool
+    ensures better { IsTrue result → IsNotWorse (Some step.now) best }
+    ensures no_better { IsFalse result → IsNotWorse best (Some step.now) }
 {
-    match (best, other) {
-        (Some(first), Some(second)) => {
-            if second.cost < first.cost
-                || (second.cost == first.cost && second.reach > first.reach)
-            {
-                other
-            } else {
-                best
-            }
+    match best {
+        Some(found) => {
+            step.cost <= found.cost && (step.cost < found.cost || step.reach > found.reach)
         }
-        (None, _) => other,
-        (_, None) => best,
+        None => true,
     }
 }
 
-/// The step at a place with one module added, unless that goes no farther than the last one.
-fn extended(link: &Link, steps: &[Step], place: usize, number: usize) -> Option<Step>
+/// The step at a place with one module added, which goes past the last one.
+fn extended(link: &Link, steps: &[Step], place: usize, number: usize) -> Step
+    requires in_order { AreInOrder steps.now }
+    requires few { length steps.now ≤ MAX_STEPS }
+    requires modules { All IsModule link.now.modules }
+    requires count { length link.now.modules ≤ MAX_MODULES }
+    requires number { number < length link.now.modules }
+    requires reach { (last_of steps.now).reach ≤ MAX_TOTAL_LOAD }
+    requires within { place < length steps.now }
+    requires before { IsPassedBy link.now steps.now number place }
+    requires here { (last_of steps.now).reach < (step_at steps.now place).reach + (module_at link.now number).capacity }
+    ensures next { IsNextStep link.now steps.now result }
+    ensures best { Beats link.now steps.now (Some result) number }
+{
+    let step = &steps[place];
+    let module = &link.modules.as_slice()[number];
+    Step {
+        reach: step.reach + module.capacity,
+        cost: step.cost + module.cost,
+        before: place as u32,
+        added: number as u32,
+    }
+}
+
+/// The better of the best step so far and the one at a place with one module added, where there is a step at the place.
+fn better_with(
+    link: &Link,
+    steps: &[Step],
+    place: usize,
+    number: usize,
+    best: Option<Step>,
+) -> Option<Step>
     requires in_order { AreInOrder steps.now }
     requires few { length steps.now ≤ MAX_STEPS }
     requires modules { All IsModule link.now.modules }
@@ -103,19 +125,20 @@ fn extended(link: &Link, steps: &[Step], place: usize, number: usize) -> Option<
     requires within { place ≤ length steps.now }
     requires before { IsPassedBy link.now steps.now number place }
     requires here { place < length steps.now → (last_of steps.now).reach < (step_at steps.now place).reach + (module_at link.now number).capacity }
+    requires next { IfSome best (IsNextStep link.now steps.now) }
     ensures next { IfSome result (IsNextStep link.now steps.now) }
+    ensures kept { IsNotWorse result best }
     ensures best { Beats link.now steps.now result number }
 {
     if place == steps.len() {
-        return None;
+        return best;
     }
-    let module = link.modules.as_slice()[number];
-    Some(Step {
-        reach: steps[place].reach + module.capacity,
-        cost: steps[place].cost + module.cost,
-        before: place as u32,
-        added: number as u32,
-    })
+    let other = extended(link, steps, place, number);
+    if is_better(&other, best) {
+        Some(other)
+    } else {
+        best
+    }
 }
 
 /// The cheapest step past the last one, and of those that cost the same the farthest.
@@ -138,7 +161,7 @@ fn next_step(link: &Link, steps: &[Step], starts: &mut Vec<usize>) -> Option<Ste
     for (number, module) in link.modules.as_slice().iter().enumerate() {
         let place = first_past(steps, starts[number], last.reach, module.capacity);
         starts[number] = place;
-        best = better(best, extended(link, steps, place, number));
+        best = better_with(link, steps, place, number, best);
     }
     best
 }

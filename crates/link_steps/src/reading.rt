@@ -20,9 +20,6 @@ pub struct LinkValue {
     pub back: u64,
 }
 
-/// How many steps are looked at one by one before the others are halved.
-const NEAR: usize = 4;
-
 /// A least module cost, and where its step stands among those of its link.
 #[derive(Clone, Copy, Debug, PartialEq, Eq)]
 pub struct PlacedCost {
@@ -39,20 +36,22 @@ pub fn first_reaching(steps: &[Step], load: u64) -> usize
     ensures before { (j : ℕ) → j < result → (step_at steps.now j).reach < load }
     ensures here { result < length steps.now → load ≤ (step_at steps.now result).reach }
 {
-    first_reaching_from(steps, load, 0)
+    first_reaching_between(steps, load, 0, steps.len())
 }
 
-/// The same, where no step before this place reaches the load.
-fn first_reaching_from(steps: &[Step], load: u64, from: usize) -> usize
+/// The same, where no step before the first place reaches the load, and that at the second one does, if there is one.
+fn first_reaching_between(steps: &[Step], load: u64, from: usize, to: usize) -> usize
     requires rising { AreRising steps.now }
-    requires from { from ≤ length steps.now }
+    requires from { from ≤ to }
+    requires to { to ≤ length steps.now }
     requires before { (j : ℕ) → j < from → (step_at steps.now j).reach < load }
+    requires here { to < length steps.now → load ≤ (step_at steps.now to).reach }
     ensures within { result ≤ length steps.now }
     ensures before { (j : ℕ) → j < result → (step_at steps.now j).reach < load }
     ensures here { result < length steps.now → load ≤ (step_at steps.now result).reach }
 {
     let mut low = from;
-    let mut high = steps.len();
+    let mut high = to;
     while low < high {
         let middle = low + (high - low) / 2;
         if steps[middle].reach < load {
@@ -64,23 +63,64 @@ fn first_reaching_from(steps: &[Step], load: u64, from: usize) -> usize
     low
 }
 
-/// The same, found at once where it is this place or one of the next few.
+/// The same, where no step before this place reaches the load: looked for in stretches that double.
+fn first_reaching_from(steps: &[Step], load: u64, from: usize) -> usize
+    requires rising { AreRising steps.now }
+    requires from { from ≤ length steps.now }
+    requires before { (j : ℕ) → j < from → (step_at steps.now j).reach < load }
+    ensures within { result ≤ length steps.now }
+    ensures before { (j : ℕ) → j < result → (step_at steps.now j).reach < load }
+    ensures here { result < length steps.now → load ≤ (step_at steps.now result).reach }
+{
+    let mut low = from;
+    let mut stretch = 1usize;
+    while stretch <= steps.len() - low {
+        let last = low + (stretch - 1);
+        if steps[last].reach >= load {
+            return first_reaching_between(steps, load, low, last);
+        }
+        low = last + 1;
+        stretch = stretch.saturating_mul(2);
+    }
+    first_reaching_between(steps, load, low, steps.len())
+}
+
+/// The same, where the step at this place reaches the load: looked for in stretches that double.
+fn first_reaching_to(steps: &[Step], load: u64, to: usize) -> usize
+    requires rising { AreRising steps.now }
+    requires to { to < length steps.now }
+    requires here { load ≤ (step_at steps.now to).reach }
+    ensures within { result ≤ length steps.now }
+    ensures before { (j : ℕ) → j < result → (step_at steps.now j).reach < load }
+    ensures here { result < length steps.now → load ≤ (step_at steps.now result).reach }
+{
+    let mut high = to;
+    let mut stretch = 1usize;
+    while stretch <= high {
+        let first = high - stretch;
+        if steps[first].reach < load {
+            return first_reaching_between(steps, load, first + 1, high);
+        }
+        high = first;
+        stretch = stretch.saturating_mul(2);
+    }
+    first_reaching_between(steps, load, 0, high)
+}
+
+/// The same as `first_reaching`, found the sooner the nearer it lies to this place.
 pub fn first_reaching_near(steps: &[Step], load: u64, near: usize) -> usize
     requires { AreRising steps.now }
     ensures within { result ≤ length steps.now }
     ensures before { (j : ℕ) → j < result → (step_at steps.now j).reach < load }
     ensures here { result < length steps.now → load ≤ (step_at steps.now result).reach }
 {
-    if near > steps.len() || near > 0 && steps[near - 1].reach >= load {
-        return first_reaching(steps, load);
+    if near > steps.len() {
+        first_reaching(steps, load)
+    } else if near > 0 && steps[near - 1].reach >= load {
+        first_reaching_to(steps, load, near - 1)
+    } else {
+        first_reaching_from(steps, load, near)
     }
-    let end = near.saturating_add(NEAR).min(steps.len());
-    for place in near..end {
-        if steps[place].reach >= load {
-            return place;
-        }
-    }
-    first_reaching_from(steps, load, end)
 }
 
 /// The counts of the modules that the steps to a place add, one after the other.

@@ -9,13 +9,17 @@ ghost use Rattle.link_steps.specs.Costs.{CannotCarry, IsLeastModuleCost, AreLeas
 ghost use Rattle.link_steps.specs.declared.step_fault.StepFault.TheVariants.{OutOfMemory};
 ghost use Rattle.link_steps.specs.Candidates.{whole_link};
 ghost use Rattle.link_steps.specs.Ranges.{AreRanges};
+ghost use Rattle.link_steps.specs.Tallies.{ArePlaceRates};
 ghost use Rattle.link_steps.specs.Values.{share, IsLinkValue, AreLinkRanges, IsValueTotal, AreFirstLoads, IsStartPrice, AreStartPrices};
+ghost use Rattle.link_steps.specs.WorthValues.{IsWorthValue, AreFirstWorthLoads};
 ghost use Rattle.plan_base.specs.Places.{is_two_way, places};
 
 use crate::ends::{End, best_end, best_ends, least_unit, value_of};
 use crate::limits::MAX_STEPS;
 use crate::making::steps_of;
 use crate::range::{LinkRanges, LoadRange, Ranges};
+use crate::rated::Rated;
+use crate::rated_value::{best_load, first_rated};
 use crate::reading::{LinkValue, PlacedCost, counts_of, first_reaching, first_reaching_near};
 use crate::step::Step;
 use crate::step_fault::StepFault;
@@ -124,10 +128,10 @@ impl StepTable {
     /// The least module cost of a load on a link, and the place of its step. Takes no memory.
     ///
     /// - Takes: a link of the instance; a load of at most the total load, in load grains; any place: where it is that of
-    ///   a load a little smaller, the answer is found at once.
+    ///   a load near this one, the answer is found soon.
     /// - Gives: what `at` gives.
     /// - Rule: docs/DEFINITIONS.md, "Least module cost".
-    /// - Time: a few steps behind that place, else the logarithm of the number of steps.
+    /// - Time: the logarithm of the number of steps between that place and the one found.
     pub fn at_near(&self, link: LinkId, load: u64, near: u32) -> Option<PlacedCost>
         requires link { link.0 < length self.now.links }
         requires load { load ≤ total_load self.now }
@@ -278,6 +282,86 @@ impl StepTable {
             whole
         } else {
             self.ranged_value(link, steps, ranges, price, back)
+        }
+    }
+
+    /// What `rated_value` gives, found among the steps that the ranges meet, up to the first that reaches the loads that are
+    /// best where steps cost nothing.
+    fn ranged_rated_value(
+        &self,
+        link: LinkId,
+        steps: &[Step],
+        ranges: LinkRanges,
+        price: u128,
+        there: &[Rated],
+        back_price: u128,
+        back: &[Rated],
+    ) -> LinkValue
+        requires link { link.0 < length self.now.links }
+        requires steps { AreAllSteps self.now.law (total_load self.now) (link_at self.now link.0) steps.now }
+        requires ranges { AreLinkRanges self.now link.0 ranges }
+        requires there { ArePlaceRates self.now link.0 price there.now }
+        requires back { ArePlaceRates self.now link.0 back_price back.now }
+        ensures value { IsWorthValue self.now link.0 ranges price there.now back_price back.now result.value }
+        ensures loads { AreFirstWorthLoads self.now link.0 ranges price there.now back_price back.now result.value result.load result.back }
+    {
+        self.inst.lawful();
+        let link = self.inst.link(link);
+        let load = best_load(link, price, there, ranges.there, ranges.there.most);
+        let back_load = best_load(link, back_price, back, ranges.back, ranges.back.most);
+        let from = first_reaching(steps, ranges.there.least.max(ranges.back.least));
+        let last = first_reaching(steps, load.max(back_load));
+        first_rated(
+            link,
+            steps,
+            from,
+            last + 1,
+            ranges,
+            price,
+            there,
+            back_price,
+            back,
+        )
+    }
+
+    /// The least that the worths of loads leave of the step costs of a link: of a thousand step costs less what the
+    /// loads are worth at prices and at rates for counted grains, over the loads of its places in their ranges. Takes no
+    /// memory.
+    ///
+    /// - Takes: a link of the instance; the ranges of its places; for each of its places a price, in thousandths of a
+    ///   cost grain per load grain, and rates, in thousandths of a cost grain per counted grain, together at most the
+    ///   price limit. Where a rate is above 0 the price is at least the routing cost. The price of the second place is 0
+    ///   where it has one place.
+    /// - Gives: that value, in thousandths of a cost grain, and of the loads that give it those whose larger one is
+    ///   smallest, and then each as small as possible, in load grains.
+    /// - Rule: docs/DEFINITIONS.md, "Link value".
+    /// - Time: the number of steps that the ranges meet, where no price is above the routing costs only up to the last
+    ///   counted grain, times that of the rates; without rates that of `link_value`.
+    pub fn rated_value(
+        &self,
+        link: LinkId,
+        ranges: LinkRanges,
+        price: u128,
+        there: &[Rated],
+        back_price: u128,
+        back: &[Rated],
+    ) -> LinkValue
+        requires link { link.0 < length self.now.links }
+        requires ranges { AreLinkRanges self.now link.0 ranges }
+        requires there { ArePlaceRates self.now link.0 price there.now }
+        requires back { ArePlaceRates self.now link.0 back_price back.now }
+        requires one_way { is_two_way self.now.orient ≡ false → back_price ≡ 0 }
+        ensures value { IsWorthValue self.now link.0 ranges price there.now back_price back.now result.value }
+        ensures loads { AreFirstWorthLoads self.now link.0 ranges price there.now back_price back.now result.value result.load result.back }
+        ensures not_above { result.value ≤ℤ pos MAX_PRICED_LOAD }
+        ensures bounded { (pos 0 -ℤ pos (2 * MAX_PRICED_LOAD)) ≤ℤ result.value }
+    {
+        self.inst.lawful();
+        let steps = self.steps_of_link(link);
+        if there.is_empty() && back.is_empty() {
+            self.link_value(link, ranges, price, back_price)
+        } else {
+            self.ranged_rated_value(link, steps, ranges, price, there, back_price, back)
         }
     }
 

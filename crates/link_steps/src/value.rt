@@ -1,6 +1,6 @@
 //! The least value of a link, looked for step by step.
 
-ghost use Rattle.std.specs.Prelude.{◌≡◌, ◌<◌, ◌≤◌, ◌*◌, ◌-ℤ◌, ◌≤ℤ◌, ◌<ℤ◌, pos, length, IsTrue, IsFalse};
+ghost use Rattle.std.specs.Prelude.{◌≡◌, ◌<◌, ◌≤◌, ◌↔◌, ◌*◌, ◌-ℤ◌, ◌≤ℤ◌, ◌<ℤ◌, pos, length, IsTrue, IsFalse};
 ghost use Rattle.link_steps.specs.Ranges.{IsIn};
 ghost use Rattle.link_steps.specs.Steps.{AreInOrder};
 ghost use Rattle.link_steps.specs.Candidates.{load_up_to, candidate, IsFirstBest, AreSmall, AreCheap};
@@ -26,7 +26,7 @@ fn load_up_to(link: &Link, price: u128, range: LoadRange, reach: u64) -> u64
 }
 
 /// What prices leave of costs, both in thousandths of a cost grain.
-fn left(cost: u128, priced: u128) -> i128
+pub fn left(cost: u128, priced: u128) -> i128
     requires cost { cost ≤ MAX_PRICED_LOAD }
     requires priced { priced ≤ 2 * MAX_PRICED_LOAD }
     ensures { result ≡ (pos cost -ℤ pos priced) }
@@ -61,7 +61,7 @@ fn candidate(
 
 /// Whether the range has the load.
 fn is_within(range: LoadRange, load: u64) -> bool
-    ensures { IsTrue result → IsIn range load }
+    ensures { IsTrue result ↔ IsIn range load }
 {
     range.least <= load && load <= range.most
 }
@@ -70,6 +70,7 @@ fn is_within(range: LoadRange, load: u64) -> bool
 pub fn are_within(ranges: LinkRanges, found: LinkValue) -> bool
     ensures there { IsTrue result → IsIn ranges.there found.load }
     ensures back { IsTrue result → IsIn ranges.back found.back }
+    ensures both { IsIn ranges.there found.load → IsIn ranges.back found.back → IsTrue result }
 {
     is_within(ranges.there, found.load) && is_within(ranges.back, found.back)
 }
@@ -84,7 +85,7 @@ fn is_level(link: &Link, price: u128, back_price: u128) -> bool
 }
 
 /// Whether a value is below another one, both in thousandths of a cost grain.
-fn is_less(value: i128, other: i128) -> bool
+pub fn is_less(value: i128, other: i128) -> bool
     ensures less { IsTrue result → value <ℤ other }
     ensures no_less { IsFalse result → other ≤ℤ value }
 {

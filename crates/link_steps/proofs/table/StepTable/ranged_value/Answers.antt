@@ -1,6 +1,7 @@
 use Rattle.std.proofs.Common.{◌+◌, arith}
 use Rattle.link_steps.proofs.Prices.{AreSmall-ranges}
-use Rattle.link_steps.proofs.FirstBest.{AreFound-searches, AreMet-found, IsFirstBest-value}
+use Rattle.link_steps.proofs.FirstBest.{IsFirstBest-value}
+use Rattle.link_steps.proofs.FirstLeast.{AreFound-searches, AreMet-found}
 use Rattle.link_steps.proofs.table.StepTable.ranged_value.Goals as goal
 
 pub first_best-requires-clause-some : goal.first_best-requires-clause-some

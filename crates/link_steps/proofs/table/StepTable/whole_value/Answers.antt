@@ -12,16 +12,8 @@ use Rattle.link_steps.proofs.table.StepTable.whole_value.Goals as goal
 pub best_end-end-requires-clause-some : goal.best_end-end-requires-clause-some
 best_end-end-requires-clause-some c = AreEndsOf-some c.args.self.now (link_at c.args.self.now c.args.link.0) c.ends_of_link-ends.result.now c.ends_of_link-ends.ensures
 
-pub best_end-end-requires-clause-rising : goal.best_end-end-requires-clause-rising
-best_end-end-requires-clause-rising c = c.ends_of_link-ends.ensures.are_best.rising
-
-pub best_end-end-requires-clause-cost : goal.best_end-end-requires-clause-cost
-best_end-end-requires-clause-cost c = λ i within. AreEndsOf-cheap c.args.self.now (link_at c.args.self.now c.args.link.0) c.ends_of_link-ends.result.now i c.ends_of_link-ends.ensures within
-
-pub best_end-end-requires-clause-slope : goal.best_end-end-requires-clause-slope
-best_end-end-requires-clause-slope c = λ i within.
-    slopes-within c.args.self.now (link_at c.args.self.now c.args.link.0) c.args.price c.args.back c.saturating_sub-slope.result c.saturating_sub-back_slope.result _ c.requires.price c.requires.back (omega arith) (omega arith)
-    (AreEndsOf-low c.args.self.now (link_at c.args.self.now c.args.link.0) c.ends_of_link-ends.result.now i c.ends_of_link-ends.ensures within)
+pub best_end-end-requires-clause-corners : goal.best_end-end-requires-clause-corners
+best_end-end-requires-clause-corners c = c.ends_of_link-ends.ensures.are_best.corners
 
 pub value_of-requires-clause-cost : goal.value_of-requires-clause-cost
 value_of-requires-clause-cost c =
