@@ -22,10 +22,8 @@ use Rattle.proof_tree.specs.declared.tree.TreeNode.TheVariants.{Split, Loads, Le
 use Rattle.link_steps.specs.Ranges.{AreRanges}
 use Rattle.proof_tree.specs.Regions.{Region, whole, with_arcs, up_to, above, LiesWithin}
 use Rattle.proof_tree.specs.Splits.{IsSide, IsSplit}
-use Rattle.proof_tree.specs.Evidence.{HasEvidence}
 use Rattle.proof_tree.specs.Trees.{AreValidTrees, LeafAt, leaves_at, leaves_of, IsValidTree}
-use Rattle.link_steps.proofs.WholeRanges.{AreRanges-whole}
-use Rattle.proof_tree.proofs.RangeLaws.{AreRanges-up_to, AreRanges-above, in_one_range, lies-whole}
+use Rattle.proof_tree.proofs.RangeLaws.{in_one_range, lies-whole}
 
 arc-same : (a b : ArcId) → b.0 ≡ a.0 → b ≡ a
 arc-same a b h = ap (λ (n : ℕ). let c : ArcId = record { 0 = n } in c) h
@@ -83,14 +81,14 @@ in_one_child p r id node left right d split design lies = by_cases (list_any (is
     by_cases true false x y = inr (lies_in-with_forbidden p r id right d lies y)
     by_cases true true x y = absurd (meets_one_side p r id node left right d split design (Meets-list_any left (path_at d id.0) x) (Meets-list_any right (path_at d id.0) y))
 
-Any-here : {X : Type 0} (P : X → Type 0) (x : X) (xs : List X) → P x → Any P (x ∷ xs)
+pub Any-here : {X : Type 0} (P : X → Type 0) (x : X) (xs : List X) → P x → Any P (x ∷ xs)
 Any-here P x xs h = (0, x, omega arith, refl, h)
 
-Any-there : {X : Type 0} (P : X → Type 0) (x : X) (xs : List X) → Any P xs → Any P (x ∷ xs)
+pub Any-there : {X : Type 0} (P : X → Type 0) (x : X) (xs : List X) → Any P xs → Any P (x ∷ xs)
 Any-there P x xs h = (suc h.0, h.1, (let below = h.2 in omega arith), h.3, h.4)
 
 -- a design in a region lies in a child of each split of it
-in_one_side : (p : Parts) (g : Region) (id : DemandId) (node : NodeId) (left right : List ArcId) (d : Design) → IsSplit p g.forbidden id node left right → IsDesign p d → LiesWithin p d g
+pub in_one_side : (p : Parts) (g : Region) (id : DemandId) (node : NodeId) (left right : List ArcId) (d : Design) → IsSplit p g.forbidden id node left right → IsDesign p d → LiesWithin p d g
     → LiesWithin p d (with_arcs g id left) ⊎ LiesWithin p d (with_arcs g id right)
 in_one_side p g id node left right d split design lies = elim (in_one_child p g.forbidden id node left right d split design lies.paths) [
   | inl paths ↦ inl (record { paths = paths; loads = lies.loads })
@@ -98,7 +96,7 @@ in_one_side p g id node left right d split design lies = elim (in_one_child p g.
 ]
 
 -- the design lies in one of the regions
-abbrev LiesInOne : Parts → Design → List Region → Type 0
+abbrev pub LiesInOne : Parts → Design → List Region → Type 0
 LiesInOne p d [] = ⊥
 LiesInOne p d (g ∷ gs) = LiesWithin p d g ⊎ LiesInOne p d gs
 
@@ -128,30 +126,10 @@ pub tree-covers : (p : Parts) (cost : Option ℕ) (records : List TreeNode) (d :
 tree-covers p cost records d valid design feasible =
     covers p cost d design (whole p ∷ []) records valid (inl (lies-whole p d design feasible))
 
--- each leaf of valid trees has its evidence
-pub leaves-evidence : (p : Parts) (cost : Option ℕ) (gs : List Region) (records : List TreeNode) → AreValidTrees p cost gs records → All (λ leaf. HasEvidence p cost leaf.region leaf.evidence) (leaves_at gs records)
-leaves-evidence p cost [] records trees = All-nil (λ (leaf : LeafAt). HasEvidence p cost leaf.region leaf.evidence)
-leaves-evidence p cost (g ∷ gs) [] trees = absurd trees
-leaves-evidence p cost (g ∷ gs) (Leaf evidence ∷ records) trees = All-cons (λ (leaf : LeafAt). HasEvidence p cost leaf.region leaf.evidence) _ _ trees.0 (leaves-evidence p cost gs records trees.1)
-leaves-evidence p cost (g ∷ gs) (Split id node left right ∷ records) trees = leaves-evidence p cost (with_arcs g id left ∷ with_arcs g id right ∷ gs) records trees.1
-leaves-evidence p cost (g ∷ gs) (Loads place load ∷ records) trees = leaves-evidence p cost (up_to g place load ∷ above g place load ∷ gs) records trees.1
-
 -- the ranges of these regions are ranges
-abbrev HaveRanges : Parts → List Region → Type 0
+abbrev pub HaveRanges : Parts → List Region → Type 0
 HaveRanges p [] = ⊤
 HaveRanges p (g ∷ gs) = AreRanges p g.ranges × HaveRanges p gs
-
-leaves-have_ranges : (p : Parts) (cost : Option ℕ) (gs : List Region) (records : List TreeNode) → AreValidTrees p cost gs records → HaveRanges p gs → All (λ leaf. AreRanges p leaf.region.ranges) (leaves_at gs records)
-leaves-have_ranges p cost [] records trees have = All-nil (λ (leaf : LeafAt). AreRanges p leaf.region.ranges)
-leaves-have_ranges p cost (g ∷ gs) [] trees have = absurd trees
-leaves-have_ranges p cost (g ∷ gs) (Leaf evidence ∷ records) trees have = All-cons (λ (leaf : LeafAt). AreRanges p leaf.region.ranges) _ _ have.0 (leaves-have_ranges p cost gs records trees.1 have.1)
-leaves-have_ranges p cost (g ∷ gs) (Split id node left right ∷ records) trees have = leaves-have_ranges p cost (with_arcs g id left ∷ with_arcs g id right ∷ gs) records trees.1 (have.0, (have.0, have.1))
-leaves-have_ranges p cost (g ∷ gs) (Loads place load ∷ records) trees have =
-    leaves-have_ranges p cost (up_to g place load ∷ above g place load ∷ gs) records trees.1 (AreRanges-up_to p g place load trees.0 have.0, (AreRanges-above p g place load trees.0 have.0, have.1))
-
--- the ranges of each leaf of a valid tree are ranges
-pub leaves-ranges : (p : Parts) (cost : Option ℕ) (records : List TreeNode) → IsValidTree p cost records → All (λ leaf. AreRanges p leaf.region.ranges) (leaves_of p records)
-leaves-ranges p cost records valid = leaves-have_ranges p cost (whole p ∷ []) records valid (AreRanges-whole p, tt)
 
 -- where no record passes a test, no leaf does
 pub leaves-fail : (test : TreeNode → Bool) (gs : List Region) (records : List TreeNode) → list_any test records ≡ false → All (λ leaf. test (Leaf leaf.evidence) ≡ false) (leaves_at gs records)

@@ -1,5 +1,5 @@
 -- The plan of a demand whose paths are all too long is valid, and with a limit of one arc more it is not.
-use Rattle.std.proofs.Common.{◌≡◌, ℕ, ◌<◌, List, [], ◌∷◌, length, refl, arith, lit≤}
+use Rattle.std.proofs.Common.{◌≡◌, ℕ, ◌<◌, List, [], ◌∷◌, length, refl, arith, None, lit≤}
 use Rattle.plan_base.specs.declared.ids.ArcId.{ArcId}
 use Rattle.plan_base.specs.Arcs.{demand_at}
 use Rattle.plan_base.specs.DesignFaults.{step_fault, path_fault}
@@ -9,6 +9,7 @@ use Rattle.proof_tree.specs.Evidence.{ClosedByFar}
 use Rattle.proof_tree.specs.Plans.{IsValidPlan}
 use Rattle.proof_tree.specs.Triangle.{arc, limited_triangle, far_plan}
 use Rattle.proof_tree.proofs.TriangleLaws.{first_demand}
+use Rattle.proof_tree.proofs.CutlessPlans.{tree-without, no_cuts}
 
 -- a path from a to c has an arc
 some_arc : (limit : ℕ) (arcs : List ArcId) → IsPermittedPath (limited_triangle limit) none_forbidden 0 arcs → 0 < length arcs
@@ -20,7 +21,8 @@ far-valid = record {
   sizes = record { nodes = refl; links = refl; demands = refl; both = refl };
   examined = refl;
   design = tt;
-  tree = (record { demand = omega arith; far = some_arc 0 }, tt);
+  cuts = no_cuts (limited_triangle 0);
+  tree = tree-without (limited_triangle 0) None far_plan.tree (record { demand = omega arith; far = some_arc 0 }, tt);
   status = record { no_design = refl; closed = refl; without_cost = refl; within_budget = lit≤ tt };
 }
 

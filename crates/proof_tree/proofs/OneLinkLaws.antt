@@ -1,5 +1,5 @@
 -- The plans of the worked instance with one link: what the unit of costs closes, and splits of its loads.
-use Rattle.std.proofs.Common.{◌≡◌, ℕ, zero, suc, ◌+◌, ◌*◌, ◌/◌, ◌<◌, ◌≤◌, max, inr, true, false, List, [], ◌∷◌, length, IsTrue, slice_index, refl, sym, ap, subst, ◌∙◌, arith, lit≤, lit<}
+use Rattle.std.proofs.Common.{◌≡◌, ℕ, zero, suc, ◌+◌, ◌*◌, ◌/◌, ◌<◌, ◌≤◌, max, inr, true, false, List, [], ◌∷◌, length, IsTrue, slice_index, refl, sym, ap, subst, ◌∙◌, arith, lit≤, Some, lit<}
 use Rattle.std.specs.Prelude.{pos}
 use Rattle.std.proofs.lemmas.Int.{ints}
 use Rattle.std.proofs.lemmas.Bool.{ltb-true}
@@ -28,17 +28,18 @@ use Rattle.proof_tree.specs.Triangle.{arc, link}
 use Rattle.proof_tree.specs.OneLink.{six, one_link, two_modules, unit_plan, loads_plan}
 use Rattle.proof_tree.proofs.TriangleLaws.{first_demand, same_arc, nothing_free, nothing_left, from_nothing}
 use Rattle.proof_tree.proofs.OpeningLaws.{count_of, worth_step, start_price}
+use Rattle.proof_tree.proofs.CutlessPlans.{tree-without, no_cuts}
 
-two_modules-good : IsGoodDesign one_link two_modules
+pub two_modules-good : IsGoodDesign one_link two_modules
 unfolding design_fault demand_path_fault path_fault step_fault counts_fault carries_fault load_from
 two_modules-good = IsGoodDesign-design_fault one_link two_modules refl
 
-two_modules-cost : cost_of one_link two_modules ≡ 10_000_000_000_000
+pub two_modules-cost : cost_of one_link two_modules ≡ 10_000_000_000_000
 unfolding load_from
 two_modules-cost = refl
 
 -- the unit of costs is 5
-unit : IsUnit one_link 5_000_000_000_000
+pub unit : IsUnit one_link 5_000_000_000_000
 unit = record {
   divisor = 5_000_000_000_000;
   is_greatest = record { divides = record { modules = modules; routing = routing }; greatest = λ other divides. divides.modules 0 0 (lit< tt) (lit< tt) };
@@ -77,10 +78,10 @@ one_path (a ∷ rest) h =
     let first : (a ∷ rest) ≡ (arc 0 ∷ rest) = ap (λ (x : ArcId). x ∷ rest) (same_arc a 0 (leaving_a a.0 (h.are_arcs 0 (omega arith)) (h.goes_on 0 (omega arith)))) in
     first ∙ ends rest (subst (IsSimplePath one_link six) first h)
 
-permitted : IsPermittedPath one_link none_forbidden 0 (arc 0 ∷ [])
+pub permitted : IsPermittedPath one_link none_forbidden 0 (arc 0 ∷ [])
 permitted = record { simple = simple; permitted = λ i d within. refl }
 
-also_permitted : IsPermittedPath one_link none_forbidden 1 (arc 0 ∷ [])
+pub also_permitted : IsPermittedPath one_link none_forbidden 1 (arc 0 ∷ [])
 also_permitted = record { simple = simple; permitted = λ i d within. refl }
 
 only : (k : ℕ) → k < 2 → IsOnlyPath one_link none_forbidden k (path_at two_modules k)
@@ -124,7 +125,8 @@ unit_plan-valid = record {
   sizes = record { nodes = refl; links = refl; demands = refl; both = refl };
   examined = refl;
   design = record { good = two_modules-good; cost_is = two_modules-cost };
-  tree = (record { within_limit = within_limit 500_000_000 (lit≤ tt); bound = pos 6_000_000_000_000; is_bound = start_bound; unit = 5_000_000_000_000; is_unit = unit; enough = omega (arith, ints) }, tt);
+  cuts = no_cuts one_link;
+  tree = tree-without one_link (Some 10_000_000_000_000) unit_plan.tree (record { within_limit = within_limit 500_000_000 (lit≤ tt); bound = pos 6_000_000_000_000; is_bound = start_bound; unit = 5_000_000_000_000; is_unit = unit; enough = omega (arith, ints) }, tt);
   status = record { design = refl; closed = refl; within_budget = lit≤ tt };
 }
 
@@ -209,7 +211,8 @@ loads_plan-valid = record {
   sizes = record { nodes = refl; links = refl; demands = refl; both = refl };
   examined = refl;
   design = record { good = two_modules-good; cost_is = two_modules-cost };
-  tree = (
+  cuts = no_cuts one_link;
+  tree = tree-without one_link (Some 10_000_000_000_000) (loads_plan 10_000_000).tree (
     record { is_place = lit< tt; some_left = lit≤ tt; some_right = lit< tt },
     (
       record { is_place = lit< tt; some_left = lit≤ tt; some_right = lit< tt },

@@ -14,13 +14,13 @@ use Rattle.proof_tree.specs.Regions.{Region}
 use Rattle.proof_tree.specs.Bounds.{IsThousandthUp, price_total, IsBound}
 use Rattle.plan_base.proofs.SumsBelow.{sum_below-same}
 
-least_price-unique : (p : Parts) (r : Forbidden) (prices : List ℕ) (k a b : ℕ) → IsLeastPrice p r prices k a → IsLeastPrice p r prices k b → a ≡ b
+pub least_price-unique : (p : Parts) (r : Forbidden) (prices : List ℕ) (k a b : ℕ) → IsLeastPrice p r prices k a → IsLeastPrice p r prices k b → a ≡ b
 least_price-unique p r prices k a b ha hb =
     let to_b = ha.least hb.path hb.permitted in
     let to_a = hb.least ha.path ha.permitted in
     omega (arith, ha.attained, hb.attained)
 
-antisymmetric : (v w : ℤ) → v ≤ℤ w → w ≤ℤ v → v ≡ w
+pub antisymmetric : (v w : ℤ) → v ≤ℤ w → w ≤ℤ v → v ≡ w
 antisymmetric v w h k = omega (arith, ints)
 
 pub link_value-unique : (p : Parts) (e : ℕ) (ranges : LinkRanges) (price back_price : ℕ) (v w : ℤ) → IsLinkValue p e ranges price back_price v → IsLinkValue p e ranges price back_price w → v ≡ w
@@ -33,7 +33,7 @@ pub int_sum_below-same : (f g : ℕ → ℤ) (n : ℕ) → ((i : ℕ) → i < n 
 int_sum_below-same f g zero h = refl
 int_sum_below-same f g (suc n) h = ap (λ x. x +ℤ f n) (int_sum_below-same f g n (λ i below. h i (omega arith))) ∙ ap (λ x. int_sum_below g n +ℤ x) (h n (omega arith))
 
-thousandth-unique : (total v w : ℤ) → IsThousandthUp total v → IsThousandthUp total w → v ≡ w
+pub thousandth-unique : (total v w : ℤ) → IsThousandthUp total v → IsThousandthUp total w → v ≡ w
 thousandth-unique total v w hv hw = antisymmetric v w (hv.least w hw.reaches) (hw.least v hv.reaches)
 
 pub bound-unique : (p : Parts) (g : Region) (prices : List ℕ) (v w : ℤ) → IsBound p g prices v → IsBound p g prices w → v ≡ w

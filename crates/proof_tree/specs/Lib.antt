@@ -1,6 +1,7 @@
 pub mod Regions
 pub mod Splits
 pub mod Bounds
+pub mod NodeSets
 pub mod Evidence
 pub mod Shapes
 pub mod Trees
@@ -9,3 +10,8 @@ pub mod Spellings
 pub mod Triangle
 pub mod TwoNodes
 pub mod OneLink
+pub mod Cuts
+pub mod RatedBounds
+pub mod RatedEvidence
+pub mod RatedTrees
+pub mod WorkedCuts

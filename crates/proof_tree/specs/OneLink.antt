@@ -36,6 +36,7 @@ unit_plan = record {
   examined = 1;
   design = Some (10_000_000_000_000, two_modules);
   bound = None;
+  cuts = [];
   tree = Leaf (Bound (500_000_000 ∷ [])) ∷ [];
 }
 
@@ -52,5 +53,6 @@ loads_plan load = record {
   examined = 5;
   design = Some (10_000_000_000_000, two_modules);
   bound = None;
+  cuts = [];
   tree = Loads 0 load ∷ Loads 0 5_000_000 ∷ Leaf (Overfull (record { 0 = 0 })) ∷ Leaf (Crowd (1 ∷ [])) ∷ Leaf (Bound (0 ∷ [])) ∷ [];
 }

@@ -1,11 +1,12 @@
--- Valid plans, and what they claim.
-use Rattle.std.specs.Prelude.{ℕ, ◌≡◌, ◌≤◌, ◌⊎◌, Bool, true, false, not, length, count_by, IsTrue, Any, Option, IsSome, IsNone, IfSome, IfNone, IsSomeAnd, MatchOption, ℤ, pos, ◌≤ℤ◌}
+-- Valid plans, with their cuts, and what they claim.
+use Rattle.std.specs.Prelude.{ℕ, ◌≡◌, ◌≤◌, ◌⊎◌, Bool, true, false, not, List, length, count_by, IsTrue, Any, Option, IsSome, IsNone, IfSome, IfNone, IsSomeAnd, MatchOption, ℤ, pos, ◌≤ℤ◌}
 use Rattle.std.specs.Option.{option_map}
 use Rattle.std.specs.List.{list_any}
 use Rattle.plan_base.specs.declared.parts.Parts.{Parts}
 use Rattle.plan_base.specs.declared.path.Design.{Design}
 use Rattle.plan_base.specs.Places.{is_two_way}
 use Rattle.plan_base.specs.Designs.{IsDesign, IsFeasible, IsGoodDesign, cost_of}
+use Rattle.proof_tree.specs.declared.cuts.Cut.{Cut}
 use Rattle.proof_tree.specs.declared.tree.Evidence.{Evidence}
 use Rattle.proof_tree.specs.declared.tree.Evidence.TheVariants.{Bound, Routed, Open}
 use Rattle.proof_tree.specs.declared.tree.TreeNode.{TreeNode}
@@ -15,8 +16,10 @@ use Rattle.proof_tree.specs.declared.plan.PlanStatus.TheVariants.{Optimal, Infea
 use Rattle.proof_tree.specs.declared.plan.Plan.{Plan}
 use Rattle.plan_base.specs.Claims.{IsOptimal, HasNoDesign}
 use Rattle.proof_tree.specs.Regions.{Region}
-use Rattle.proof_tree.specs.Bounds.{IsBound}
-use Rattle.proof_tree.specs.Trees.{leaves_of, IsValidTree}
+use Rattle.proof_tree.specs.Cuts.{IsCutList}
+use Rattle.proof_tree.specs.Trees.{leaves_of}
+use Rattle.proof_tree.specs.RatedEvidence.{IsBoundAt}
+use Rattle.proof_tree.specs.RatedTrees.{IsRatedTree}
 
 -- the cost that the plan states for its design
 abbrev pub stated_cost : Plan → Option ℕ
@@ -59,15 +62,15 @@ pub record IsInfeasiblePlan (plan : Plan) : Type 0 where
   pub within_budget : plan.examined ≤ plan.budget
 
 -- the bound of an open leaf with this region
-abbrev pub IsOpenBound : Parts → Region → Evidence → ℤ → Type 0
-IsOpenBound p g (Open prices) bound = IsBound p g prices bound
-IsOpenBound p g _ bound = ⊥
+abbrev pub IsOpenBound : Parts → List Cut → Region → Evidence → ℤ → Type 0
+IsOpenBound p cuts g (Open numbers) bound = IsBoundAt p cuts g numbers bound
+IsOpenBound p cuts g _ bound = ⊥
 
 -- the stated cost, or the bound of an open leaf: an undecided plan's bound is the least of these
 abbrev pub IsCandidate : Parts → Plan → ℤ → Type 0
 IsCandidate p plan bound =
     IsSomeAnd (stated_cost plan) (λ cost. pos cost ≡ bound)
-    ⊎ Any (λ leaf. IsOpenBound p leaf.region leaf.evidence bound) (leaves_of p plan.tree)
+    ⊎ Any (λ leaf. IsOpenBound p plan.cuts leaf.region leaf.evidence bound) (leaves_of p plan.tree)
 
 -- the least candidate
 pub record IsLeastCandidate (p : Parts) (plan : Plan) (bound : ℤ) : Type 0 where
@@ -87,12 +90,14 @@ HasStatus p plan Optimal = IsOptimalPlan plan
 HasStatus p plan Infeasible = IsInfeasiblePlan plan
 HasStatus p plan Undecided = IsUndecidedPlan p plan
 
--- the plan states what it has: sizes, a count, a design with its cost, a valid tree against that cost, and what its status asks
+-- the plan states what it has: sizes, a count, a list of cuts, a design with its cost, a tree that is valid with these cuts
+-- against that cost, and what its status asks
 pub record IsValidPlan (p : Parts) (plan : Plan) : Type 0 where
   pub sizes : HasSizes p plan
   pub examined : plan.examined ≡ count_by (λ node. not (is_open node)) plan.tree
+  pub cuts : IsCutList p plan.cuts
   pub design : IfSome plan.design (λ design. IsStatedDesign p design.0 design.1)
-  pub tree : IsValidTree p (stated_cost plan) plan.tree
+  pub tree : IsRatedTree p plan.cuts (stated_cost plan) plan.tree
   pub status : HasStatus p plan plan.status
 
 -- each feasible design costs at least the bound

@@ -1,10 +1,11 @@
 -- Plans that a plan text can spell: their sizes, numbers and lists go together.
-use Rattle.std.specs.Prelude.{ℕ, suc, ◌≡◌, ◌<◌, ◌≤◌, ◌*◌, Bool, if◌then◌else◌, List, length, IsTrue, All, ⊤, Option, IsSome, IsNone, IfSome, ℤ}
+use Rattle.std.specs.Prelude.{ℕ, suc, ◌≡◌, ◌<◌, ◌≤◌, ◌+◌, ◌*◌, Bool, if◌then◌else◌, List, length, IsTrue, All, ⊤, Option, IsSome, IsNone, IfSome, ℤ}
 use Rattle.plan_base.specs.declared.ids.ArcId.{ArcId}
 use Rattle.plan_base.specs.declared.path.Design.{Design}
 use Rattle.plan_base.specs.declared.limits.TheConstants.{MAX_NODES, MAX_LINKS, MAX_DEMANDS, MAX_MODULES}
 use Rattle.plan_base.specs.Paths.{arc_at}
-use Rattle.proof_tree.specs.declared.limits.TheConstants.{MAX_BUDGET, MAX_RECORDS, MAX_PATH_ARCS, MAX_SIDE_ARCS}
+use Rattle.proof_tree.specs.declared.limits.TheConstants.{MAX_BUDGET, MAX_RECORDS, MAX_PATH_ARCS, MAX_SIDE_ARCS, MAX_CUTS}
+use Rattle.proof_tree.specs.declared.cuts.Cut.{Cut as LoadCut}
 use Rattle.proof_tree.specs.declared.tree.Evidence.{Evidence}
 use Rattle.proof_tree.specs.declared.tree.Evidence.TheVariants.{Bound, Routed, Overfull, Cut, Far, Crowd, Open}
 use Rattle.proof_tree.specs.declared.tree.TreeNode.{TreeNode}
@@ -27,26 +28,35 @@ pub record IsWrittenSide (arcs : List ArcId) : Type 0 where
 abbrev pub places_in : Bool → ℕ → ℕ
 places_in both links = if both then 2 * links else links
 
--- one price for each place, or for each node whether it is reached
-abbrev pub FitsEvidence : ℕ → ℕ → Evidence → Type 0
-FitsEvidence nodes places (Bound prices) = length prices ≡ places
-FitsEvidence nodes places Routed = ⊤
-FitsEvidence nodes places (Overfull link) = ⊤
-FitsEvidence nodes places (Cut demand reached) = length reached ≡ nodes
-FitsEvidence nodes places (Far demand) = ⊤
-FitsEvidence nodes places (Crowd prices) = length prices ≡ places
-FitsEvidence nodes places (Open prices) = length prices ≡ places
+-- how many numbers a leaf of a plan has: a price for each place, and a rate for each cut
+abbrev pub numbers_in : Plan → ℕ
+numbers_in plan = places_in plan.both plan.links + length plan.cuts
 
--- a record that can stand in a text of these counts of nodes and places
+-- so many numbers, or for each node whether it is reached
+abbrev pub FitsEvidence : ℕ → ℕ → Evidence → Type 0
+FitsEvidence nodes numbers (Bound list) = length list ≡ numbers
+FitsEvidence nodes numbers Routed = ⊤
+FitsEvidence nodes numbers (Overfull link) = ⊤
+FitsEvidence nodes numbers (Cut demand reached) = length reached ≡ nodes
+FitsEvidence nodes numbers (Far demand) = ⊤
+FitsEvidence nodes numbers (Crowd list) = length list ≡ numbers
+FitsEvidence nodes numbers (Open list) = length list ≡ numbers
+
+-- a record that can stand in a text of these counts of nodes and of numbers
 abbrev pub FitsRecord : ℕ → ℕ → TreeNode → Type 0
-FitsRecord nodes places (Split demand at left right) = IsWrittenSide left × IsWrittenSide right
-FitsRecord nodes places (Loads place load) = ⊤
-FitsRecord nodes places (Leaf evidence) = FitsEvidence nodes places evidence
+FitsRecord nodes numbers (Split demand at left right) = IsWrittenSide left × IsWrittenSide right
+FitsRecord nodes numbers (Loads place load) = ⊤
+FitsRecord nodes numbers (Leaf evidence) = FitsEvidence nodes numbers evidence
 
 -- few enough records, each of which can stand there
-pub record FitsTree (nodes places : ℕ) (records : List TreeNode) : Type 0 where
+pub record FitsTree (nodes numbers : ℕ) (records : List TreeNode) : Type 0 where
   pub few : length records ≤ MAX_RECORDS
-  pub each : All (FitsRecord nodes places) records
+  pub each : All (FitsRecord nodes numbers) records
+
+-- few enough cuts, each with an answer for each node
+pub record FitsCuts (nodes : ℕ) (cuts : List LoadCut) : Type 0 where
+  pub few : length cuts ≤ MAX_CUTS
+  pub each : All (λ cut. length cut.nodes ≡ nodes) cuts
 
 -- a path for each demand and a list of counts for each link, none of them too long
 pub record FitsDesign (demands links : ℕ) (d : Design) : Type 0 where
@@ -75,4 +85,5 @@ pub record IsSpellable (plan : Plan) : Type 0 where
   pub status : FitsStatus plan.status plan.design plan.bound
   pub design : IfSome plan.design (λ design. FitsDesign plan.demands plan.links design.1)
   pub whole : IsTrue (are_trees 1 plan.tree)
-  pub records : FitsTree plan.nodes (places_in plan.both plan.links) plan.tree
+  pub cuts : FitsCuts plan.nodes plan.cuts
+  pub records : FitsTree plan.nodes (numbers_in plan) plan.tree

@@ -2,9 +2,11 @@
 
 ghost use Rattle.std.specs.Prelude.{◌≡◌, ◌≤◌, ◌↔◌, length, IsTrue, IfSome, All};
 ghost use Rattle.plan_base.specs.declared.limits.TheConstants.{MAX_MODULES};
-ghost use Rattle.proof_tree.specs.Spellings.{IsAscending, IsWrittenSide, places_in, FitsEvidence, FitsRecord, FitsStatus, FitsSizes, FitsDesign, FitsTree};
+ghost use Rattle.proof_tree.specs.declared.limits.TheConstants.{MAX_CUTS};
+ghost use Rattle.proof_tree.specs.Spellings.{IsAscending, IsWrittenSide, places_in, numbers_in, FitsEvidence, FitsRecord, FitsStatus, FitsSizes, FitsCuts, FitsDesign, FitsTree};
 
-use crate::limits::{MAX_BUDGET, MAX_PATH_ARCS, MAX_RECORDS, MAX_SIDE_ARCS};
+use crate::cuts::Cut;
+use crate::limits::{MAX_BUDGET, MAX_CUTS, MAX_PATH_ARCS, MAX_RECORDS, MAX_SIDE_ARCS};
 use crate::plan::{Plan, PlanStatus};
 use crate::tree::{Evidence, TreeNode};
 use plan_base::limits::{MAX_DEMANDS, MAX_LINKS, MAX_MODULES, MAX_NODES};
@@ -30,7 +32,7 @@ fn is_side(arcs: &[ArcId]) -> bool
 }
 
 /// How many places there are: one for each link, or two where each direction has a price of its own.
-pub(crate) fn places(both: bool, links: u32) -> usize
+fn places(both: bool, links: u32) -> usize
     ensures { result ≡ places_in both links }
 {
     if both {
@@ -40,13 +42,28 @@ pub(crate) fn places(both: bool, links: u32) -> usize
     }
 }
 
-/// Whether the evidence has one price for each place, or one answer for each node.
-fn fits_evidence(nodes: u32, places: usize, evidence: &Evidence) -> bool
-    ensures { IsTrue result ↔ FitsEvidence nodes places evidence.now }
+/// How many numbers a leaf has: a price for each place, and a rate for each cut.
+pub(crate) fn numbers(plan: &Plan) -> usize
+    requires { length plan.now.cuts ≤ MAX_CUTS }
+    ensures { result ≡ numbers_in plan.now }
+{
+    places(plan.both, plan.links) + plan.cuts.len()
+}
+
+/// Whether there are few enough cuts, and each has an answer for each node.
+pub(crate) fn fits_cuts(nodes: u32, cuts: &[Cut]) -> bool
+    ensures { IsTrue result ↔ FitsCuts nodes cuts.now }
+{
+    cuts.len() <= MAX_CUTS && cuts.iter().all(|cut| cut.nodes.len() == nodes as usize)
+}
+
+/// Whether the evidence has so many numbers, or one answer for each node.
+fn fits_evidence(nodes: u32, numbers: usize, evidence: &Evidence) -> bool
+    ensures { IsTrue result ↔ FitsEvidence nodes numbers evidence.now }
 {
     match evidence {
-        Evidence::Bound(prices) | Evidence::Crowd(prices) | Evidence::Open(prices) => {
-            prices.as_slice().len() == places
+        Evidence::Bound(list) | Evidence::Crowd(list) | Evidence::Open(list) => {
+            list.as_slice().len() == numbers
         }
         Evidence::Cut { reached, .. } => reached.len() == nodes as usize,
         Evidence::Routed | Evidence::Overfull { .. } | Evidence::Far { .. } => true,
@@ -54,22 +71,22 @@ fn fits_evidence(nodes: u32, places: usize, evidence: &Evidence) -> bool
 }
 
 /// Whether the record can stand in a text.
-fn fits_record(nodes: u32, places: usize, node: &TreeNode) -> bool
-    ensures { IsTrue result ↔ FitsRecord nodes places node.now }
+fn fits_record(nodes: u32, numbers: usize, node: &TreeNode) -> bool
+    ensures { IsTrue result ↔ FitsRecord nodes numbers node.now }
 {
     match node {
         TreeNode::Split { left, right, .. } => is_side(left.as_slice())
             && is_side(right.as_slice()),
         TreeNode::Loads { .. } => true,
-        TreeNode::Leaf(evidence) => fits_evidence(nodes, places, evidence),
+        TreeNode::Leaf(evidence) => fits_evidence(nodes, numbers, evidence),
     }
 }
 
 /// Whether there are few enough records, and each can stand in a text.
-pub(crate) fn fits_records(nodes: u32, places: usize, records: &[TreeNode]) -> bool
-    ensures { IsTrue result ↔ FitsTree nodes places records.now }
+pub(crate) fn fits_records(nodes: u32, numbers: usize, records: &[TreeNode]) -> bool
+    ensures { IsTrue result ↔ FitsTree nodes numbers records.now }
 {
-    records.len() <= MAX_RECORDS && records.iter().all(|node| fits_record(nodes, places, node))
+    records.len() <= MAX_RECORDS && records.iter().all(|node| fits_record(nodes, numbers, node))
 }
 
 /// Whether the sizes are those of an instance, and the budget is one that may be given.

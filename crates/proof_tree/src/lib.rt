@@ -7,12 +7,18 @@
 //! crates above.
 #![tactic(auto)]
 
+mod cuts;
 mod fitting;
 pub mod laws;
 pub mod limits;
 mod plan;
+mod rates;
 mod shared;
+mod totals;
 mod tree;
 
+pub use cuts::{Cut, is_cut_list, is_new};
 pub use plan::{Plan, PlanStatus};
+pub use rates::{are_rated_prices, are_within_limit, put_rated, rests_of};
+pub use totals::{cut_total, rated_total};
 pub use tree::{Evidence, ShapeFault, Tree, TreeNode};

@@ -3,9 +3,10 @@
 ghost use Rattle.std.specs.Prelude.{◌↔◌, IsTrue};
 ghost use Rattle.proof_tree.specs.Spellings.{IsSpellable};
 
+use crate::cuts::Cut;
 use crate::fitting;
 use crate::tree::Tree;
-use plan_base::Design;
+use plan_base::{Design, Items};
 
 /// What a plan claims.
 #[derive(Clone, Copy, Debug, PartialEq, Eq)]
@@ -39,6 +40,8 @@ pub struct Plan {
     pub design: Option<(u128, Design)>,
     /// What no feasible design costs less than, in cost grains.
     pub bound: Option<i128>,
+    /// The cuts whose rates stand behind the prices of leaves.
+    pub cuts: Items<Cut>,
     /// The splits, and what closes the leaves.
     pub tree: Tree,
 }
@@ -55,10 +58,7 @@ impl Plan {
         fitting::fits_sizes(self)
             && fitting::fits_status(self)
             && fitting::fits_design(self)
-            && fitting::fits_records(
-                self.nodes,
-                fitting::places(self.both, self.links),
-                self.tree.nodes(),
-            )
+            && fitting::fits_cuts(self.nodes, self.cuts.as_slice())
+            && fitting::fits_records(self.nodes, fitting::numbers(self), self.tree.nodes())
     }
 }

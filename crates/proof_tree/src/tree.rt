@@ -11,8 +11,8 @@ use std::marker::Model;
 /// - Rule: docs/DEFINITIONS.md, "Evidence of a leaf".
 #[derive(Debug, Drop)]
 pub enum Evidence {
-    /// At these prices the leaf's bound is above the cost of the plan's design less the unit of costs. Prices are in
-    /// thousandths of a cost grain per load grain, one for each place.
+    /// At these prices and rates the leaf's bound is above the cost of the plan's design less the unit of costs. Prices are in
+    /// thousandths of a cost grain per load grain, one for each place; behind them is a rate for each cut of the plan.
     Bound(Prices),
     /// Each demand has one path left, within its limit on arcs, and these paths cost at least as much as the plan's design.
     Routed,
@@ -34,10 +34,11 @@ pub enum Evidence {
         /// The demand.
         demand: DemandId,
     },
-    /// At these prices the demands ask for more than ranges and pre-installed capacities give. Prices are as for `Bound`,
-    /// and 0 on each place of a link that has a module of positive capacity, where its range ends at the top load.
+    /// At these prices the demands ask for more than ranges and pre-installed capacities give. Numbers are as for `Bound`;
+    /// the rates do not matter, and prices are 0 on each place of a link that has a module of positive capacity, where its
+    /// range ends at the top load.
     Crowd(Prices),
-    /// The leaf may hold any design, and these prices give its bound. Prices are as for `Bound`.
+    /// The leaf may hold any design, and these numbers give its bound. They are as for `Bound`.
     Open(Prices),
 }
 

@@ -1,0 +1,7 @@
+use Rattle.std.proofs.Common.{◌≡◌}
+use Rattle.proof_tree.specs.RatedBounds.{rated_before}
+use Rattle.proof_tree.proofs.rates.put_rated.Given as goal
+
+-- those of the cuts before this one
+abbrev pub invariant-loop-number : goal.invariant-loop-number
+invariant-loop-number l = l.list.items ≡ rated_before l.inst l.cuts l.rates l.place l.number
