@@ -8,26 +8,28 @@ use Rattle.std.proofs.lemmas.List.{get_or_append_left}
 use Rattle.std.proofs.Math.Seq.{get_or-append_seam}
 use Rattle.std.proofs.lemmas.List.Quantifiers.{Any-push}
 use Rattle.plan_base.specs.declared.parts.Parts.{Parts}
+use Rattle.proof_tree.specs.declared.cuts.Cut.{Cut as LoadCut}
 use Rattle.proof_tree.specs.declared.tree.Evidence.{Evidence}
 use Rattle.proof_tree.specs.declared.tree.Evidence.TheVariants.{Bound, Routed, Overfull, Cut, Far, Crowd, Open}
 use Rattle.proof_tree.specs.declared.plan.Plan.{Plan}
 use Rattle.proof_tree.specs.Regions.{Region}
 use Rattle.proof_tree.specs.Trees.{LeafAt, leaves_of}
 use Rattle.proof_tree.specs.Plans.{IsOpenBound, IsCandidate, stated_cost}
-use Rattle.proof_tree.proofs.Uniqueness.{bound-unique}
+use Rattle.proof_tree.specs.RatedEvidence.{rates_in}
+use Rattle.proof_tree.proofs.RatedUniqueness.{rated_bound-unique}
 use Rattle.cert_verifier.proofs.WalkLaws.{some_same}
 use Rattle.cert_verifier.specs.Bounds.{IsBoundIn, IsLeastBoundIn, IsLowerOf}
 use Rattle.cert_verifier.specs.PlanRules.{IsLeastOfAll}
 
 -- a leaf has at most one bound
-pub open_bound-unique : (p : Parts) (g : Region) (evidence : Evidence) (a b : ℤ) → IsOpenBound p g evidence a → IsOpenBound p g evidence b → a ≡ b
-open_bound-unique p g (Open prices) a b x y = bound-unique p g prices a b x y
-open_bound-unique p g (Bound prices) a b x y = absurd x
-open_bound-unique p g Routed a b x y = absurd x
-open_bound-unique p g (Overfull link) a b x y = absurd x
-open_bound-unique p g (Cut demand reached) a b x y = absurd x
-open_bound-unique p g (Far demand) a b x y = absurd x
-open_bound-unique p g (Crowd prices) a b x y = absurd x
+pub open_bound-unique : (p : Parts) (cuts : List LoadCut) (g : Region) (evidence : Evidence) (a b : ℤ) → IsOpenBound p cuts g evidence a → IsOpenBound p cuts g evidence b → a ≡ b
+open_bound-unique p cuts g (Open prices) a b x y = rated_bound-unique p cuts g prices (rates_in p prices) a b x y
+open_bound-unique p cuts g (Bound prices) a b x y = absurd x
+open_bound-unique p cuts g Routed a b x y = absurd x
+open_bound-unique p cuts g (Overfull link) a b x y = absurd x
+open_bound-unique p cuts g (Cut demand reached) a b x y = absurd x
+open_bound-unique p cuts g (Far demand) a b x y = absurd x
+open_bound-unique p cuts g (Crowd prices) a b x y = absurd x
 
 -- some of the first is some of the whole
 any-front : {X : Type 0} (P : X → Type 0) (xs ys : List X) → Any P xs → Any P (xs ++ ys)
@@ -44,55 +46,55 @@ any-parts P xs y (k, x, within, read, holds) = elim (cases_lt k (length xs)) [
 ]
 
 -- the bounds of the leaves and of one more
-abbrev FromBoth : Parts → List LeafAt → Option ℤ → ℤ → Type 0
-FromBoth p leaves found b = IsBoundIn p leaves b ⊎ (found ≡ Some b)
+abbrev FromBoth : Parts → List LoadCut → List LeafAt → Option ℤ → ℤ → Type 0
+FromBoth p cuts leaves found b = IsBoundIn p cuts leaves b ⊎ (found ≡ Some b)
 
-parts-bound : (p : Parts) (leaves : List LeafAt) (leaf : LeafAt) (found : Option ℤ)
-    → IfSome found (IsOpenBound p leaf.region leaf.evidence) → IfNone found ((b : ℤ) → IsOpenBound p leaf.region leaf.evidence b → ⊥)
-    → (b : ℤ) → IsBoundIn p (leaves ++ leaf ∷ []) b → FromBoth p leaves found b
-parts-bound p leaves leaf found some none b is = elim (any-parts (λ l. IsOpenBound p l.region l.evidence b) leaves leaf is) [
+parts-bound : (p : Parts) (cuts : List LoadCut) (leaves : List LeafAt) (leaf : LeafAt) (found : Option ℤ)
+    → IfSome found (IsOpenBound p cuts leaf.region leaf.evidence) → IfNone found ((b : ℤ) → IsOpenBound p cuts leaf.region leaf.evidence b → ⊥)
+    → (b : ℤ) → IsBoundIn p cuts (leaves ++ leaf ∷ []) b → FromBoth p cuts leaves found b
+parts-bound p cuts leaves leaf found some none b is = elim (any-parts (λ l. IsOpenBound p cuts l.region l.evidence b) leaves leaf is) [
   | inl here ↦ inl here
   | inr last ↦ inr (cases found some none last)
 ]
   where
-    cases : (found : Option ℤ) → IfSome found (IsOpenBound p leaf.region leaf.evidence) → IfNone found ((b : ℤ) → IsOpenBound p leaf.region leaf.evidence b → ⊥) → IsOpenBound p leaf.region leaf.evidence b → found ≡ Some b
+    cases : (found : Option ℤ) → IfSome found (IsOpenBound p cuts leaf.region leaf.evidence) → IfNone found ((b : ℤ) → IsOpenBound p cuts leaf.region leaf.evidence b → ⊥) → IsOpenBound p cuts leaf.region leaf.evidence b → found ≡ Some b
     cases None s n is_bound = absurd (n b is_bound)
-    cases (Some f) s n is_bound = ap (λ (z : ℤ). Some z) (open_bound-unique p leaf.region leaf.evidence f b s is_bound)
+    cases (Some f) s n is_bound = ap (λ (z : ℤ). Some z) (open_bound-unique p cuts leaf.region leaf.evidence f b s is_bound)
 
-bound-parts : (p : Parts) (leaves : List LeafAt) (leaf : LeafAt) (found : Option ℤ)
-    → IfSome found (IsOpenBound p leaf.region leaf.evidence) → (b : ℤ) → FromBoth p leaves found b → IsBoundIn p (leaves ++ leaf ∷ []) b
-bound-parts p leaves leaf found some b (inl here) = any-front (λ l. IsOpenBound p l.region l.evidence b) leaves (leaf ∷ []) here
-bound-parts p leaves leaf found some b (inr is) = Any-push (λ l. IsOpenBound p l.region l.evidence b) leaves leaf (let at : IfSome (Some b) (IsOpenBound p leaf.region leaf.evidence) = subst (λ o. IfSome o (IsOpenBound p leaf.region leaf.evidence)) is some in at)
+bound-parts : (p : Parts) (cuts : List LoadCut) (leaves : List LeafAt) (leaf : LeafAt) (found : Option ℤ)
+    → IfSome found (IsOpenBound p cuts leaf.region leaf.evidence) → (b : ℤ) → FromBoth p cuts leaves found b → IsBoundIn p cuts (leaves ++ leaf ∷ []) b
+bound-parts p cuts leaves leaf found some b (inl here) = any-front (λ l. IsOpenBound p cuts l.region l.evidence b) leaves (leaf ∷ []) here
+bound-parts p cuts leaves leaf found some b (inr is) = Any-push (λ l. IsOpenBound p cuts l.region l.evidence b) leaves leaf (let at : IfSome (Some b) (IsOpenBound p cuts leaf.region leaf.evidence) = subst (λ o. IfSome o (IsOpenBound p cuts leaf.region leaf.evidence)) is some in at)
 
 -- what is least of the known leaves is one of their bounds, and no other is lower
-known-bound : (p : Parts) (leaves : List LeafAt) (known : Option ℤ) (b : ℤ) → IsLeastBoundIn p leaves known → known ≡ Some b → IsBoundIn p leaves b
-known-bound p leaves None b least is = absurd (let bad : None ≡ Some b = is in cc)
-known-bound p leaves (Some k) b least is = subst (IsBoundIn p leaves) (some_same k b is) least.0
+known-bound : (p : Parts) (cuts : List LoadCut) (leaves : List LeafAt) (known : Option ℤ) (b : ℤ) → IsLeastBoundIn p cuts leaves known → known ≡ Some b → IsBoundIn p cuts leaves b
+known-bound p cuts leaves None b least is = absurd (let bad : None ≡ Some b = is in cc)
+known-bound p cuts leaves (Some k) b least is = subst (IsBoundIn p cuts leaves) (some_same k b is) least.0
 
 -- a bound of the leaves is at least the known one
-known-least : (p : Parts) (leaves : List LeafAt) (known : Option ℤ) (other : ℤ) → IsLeastBoundIn p leaves known → IsBoundIn p leaves other → (k : ℤ) × (known ≡ Some k) × (k ≤ℤ other)
-known-least p leaves None other least is = absurd (least other is)
-known-least p leaves (Some k) other least is = (k, refl, least.1 other is)
+known-least : (p : Parts) (cuts : List LoadCut) (leaves : List LeafAt) (known : Option ℤ) (other : ℤ) → IsLeastBoundIn p cuts leaves known → IsBoundIn p cuts leaves other → (k : ℤ) × (known ≡ Some k) × (k ≤ℤ other)
+known-least p cuts leaves None other least is = absurd (least other is)
+known-least p cuts leaves (Some k) other least is = (k, refl, least.1 other is)
 
 transitive : (a b c : ℤ) → a ≤ℤ b → b ≤ℤ c → a ≤ℤ c
 transitive a b c x y = omega (arith, ints)
 
 -- with one more leaf, whose bound is found or which has none, the lower of both is the least
-pub least_more : (p : Parts) (leaves : List LeafAt) (leaf : LeafAt) (known found result : Option ℤ)
-    → IfSome found (IsOpenBound p leaf.region leaf.evidence) → IfNone found ((b : ℤ) → IsOpenBound p leaf.region leaf.evidence b → ⊥)
-    → IsLowerOf known found result → IsLeastBoundIn p leaves known → IsLeastBoundIn p (leaves ++ leaf ∷ []) result
-least_more p leaves leaf known found None some none lower least = λ b is. elim (parts-bound p leaves leaf found some none b is) [
-  | inl here ↦ (let k = known-least p leaves known b least here in let bad : None ≡ Some k.0 = sym (lower.none refl).0 ∙ k.1 in cc)
+pub least_more : (p : Parts) (cuts : List LoadCut) (leaves : List LeafAt) (leaf : LeafAt) (known found result : Option ℤ)
+    → IfSome found (IsOpenBound p cuts leaf.region leaf.evidence) → IfNone found ((b : ℤ) → IsOpenBound p cuts leaf.region leaf.evidence b → ⊥)
+    → IsLowerOf known found result → IsLeastBoundIn p cuts leaves known → IsLeastBoundIn p cuts (leaves ++ leaf ∷ []) result
+least_more p cuts leaves leaf known found None some none lower least = λ b is. elim (parts-bound p cuts leaves leaf found some none b is) [
+  | inl here ↦ (let k = known-least p cuts leaves known b least here in let bad : None ≡ Some k.0 = sym (lower.none refl).0 ∙ k.1 in cc)
   | inr last ↦ (let bad : None ≡ Some b = sym (lower.none refl).1 ∙ last in cc)
 ]
-least_more p leaves leaf known found (Some r) some none lower least = (attained, lowest)
+least_more p cuts leaves leaf known found (Some r) some none lower least = (attained, lowest)
   where
-    attained : IsBoundIn p (leaves ++ leaf ∷ []) r
-    attained = bound-parts p leaves leaf found some r (elim (lower.from r refl) as (λ _. FromBoth p leaves found r) [ inl is ↦ inl (known-bound p leaves known r least is) | inr is ↦ inr is ])
+    attained : IsBoundIn p cuts (leaves ++ leaf ∷ []) r
+    attained = bound-parts p cuts leaves leaf found some r (elim (lower.from r refl) as (λ _. FromBoth p cuts leaves found r) [ inl is ↦ inl (known-bound p cuts leaves known r least is) | inr is ↦ inr is ])
 
-    lowest : (other : ℤ) → IsBoundIn p (leaves ++ leaf ∷ []) other → r ≤ℤ other
-    lowest other is = elim (parts-bound p leaves leaf found some none other is) [
-      | inl here ↦ (let k = known-least p leaves known other least here in transitive r k.0 other (lower.least r k.0 refl (inl k.1)) k.2)
+    lowest : (other : ℤ) → IsBoundIn p cuts (leaves ++ leaf ∷ []) other → r ≤ℤ other
+    lowest other is = elim (parts-bound p cuts leaves leaf found some none other is) [
+      | inl here ↦ (let k = known-least p cuts leaves known other least here in transitive r k.0 other (lower.least r k.0 refl (inl k.1)) k.2)
       | inr last ↦ lower.least r other refl (inr last)
     ]
 
@@ -100,7 +102,7 @@ least_more p leaves leaf known found (Some r) some none lower least = (attained,
 abbrev pub cost_bound : Plan → Option ℤ
 cost_bound plan = option_map (λ cost. pos cost) (stated_cost plan)
 
-candidate-cases : (p : Parts) (plan : Plan) (b : ℤ) → IsCandidate p plan b → (cost_bound plan ≡ Some b) ⊎ IsBoundIn p (leaves_of p plan.tree) b
+candidate-cases : (p : Parts) (plan : Plan) (b : ℤ) → IsCandidate p plan b → (cost_bound plan ≡ Some b) ⊎ IsBoundIn p plan.cuts (leaves_of p plan.tree) b
 candidate-cases p plan b (inl cost) = inl (cases (stated_cost plan) cost)
   where
     cases : (cost : Option ℕ) → IsSomeAnd cost (λ cost. pos cost ≡ b) → option_map (λ cost. pos cost) cost ≡ Some b
@@ -116,18 +118,18 @@ cost-candidate p plan b h = inl (cases (stated_cost plan) h)
     cases (Some c) h = some_same (pos c) b h
 
 -- the lower of the stated cost and the least bound of open leaves is the least of all
-pub least_of_both : (p : Parts) (plan : Plan) (lowest result : Option ℤ) → IsLeastBoundIn p (leaves_of p plan.tree) lowest → IsLowerOf (cost_bound plan) lowest result → IsLeastOfAll p plan result
+pub least_of_both : (p : Parts) (plan : Plan) (lowest result : Option ℤ) → IsLeastBoundIn p plan.cuts (leaves_of p plan.tree) lowest → IsLowerOf (cost_bound plan) lowest result → IsLeastOfAll p plan result
 least_of_both p plan lowest None least lower = λ b is. elim (candidate-cases p plan b is) [
   | inl cost ↦ (let bad : None ≡ Some b = sym (lower.none refl).0 ∙ cost in cc)
-  | inr here ↦ (let k = known-least p (leaves_of p plan.tree) lowest b least here in let bad : None ≡ Some k.0 = sym (lower.none refl).1 ∙ k.1 in cc)
+  | inr here ↦ (let k = known-least p plan.cuts (leaves_of p plan.tree) lowest b least here in let bad : None ≡ Some k.0 = sym (lower.none refl).1 ∙ k.1 in cc)
 ]
 least_of_both p plan lowest (Some r) least lower = record { is_candidate = attained; least = smallest }
   where
     attained : IsCandidate p plan r
-    attained = elim (lower.from r refl) [ inl is ↦ cost-candidate p plan r is | inr is ↦ inr (known-bound p (leaves_of p plan.tree) lowest r least is) ]
+    attained = elim (lower.from r refl) [ inl is ↦ cost-candidate p plan r is | inr is ↦ inr (known-bound p plan.cuts (leaves_of p plan.tree) lowest r least is) ]
 
     smallest : (other : ℤ) → IsCandidate p plan other → r ≤ℤ other
     smallest other is = elim (candidate-cases p plan other is) [
       | inl cost ↦ lower.least r other refl (inl cost)
-      | inr here ↦ (let k = known-least p (leaves_of p plan.tree) lowest other least here in transitive r k.0 other (lower.least r k.0 refl (inr k.1)) k.2)
+      | inr here ↦ (let k = known-least p plan.cuts (leaves_of p plan.tree) lowest other least here in transitive r k.0 other (lower.least r k.0 refl (inr k.1)) k.2)
     ]

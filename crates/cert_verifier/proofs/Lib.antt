@@ -3,6 +3,7 @@ pub mod RuleLaws
 pub mod SplitLaws
 pub mod Terms
 pub mod PriceTotals
+pub mod WithoutCuts
 pub mod BoundOfTotals
 pub mod Rooms
 pub mod CostTotals
@@ -11,6 +12,7 @@ pub mod RoutingLaws
 pub mod LeafLaws
 pub mod LeafFindings
 pub mod TreeLaws
+pub mod CutRules
 pub mod PlanLaws
 pub mod CostBounds
 pub mod Verdicts

@@ -1,5 +1,5 @@
 -- A plan breaks no rule exactly where it is valid, and has at most one first broken rule.
-use Rattle.std.proofs.Common.{◌≡◌, ℕ, inl, inr, Bool, true, false, ◌||◌, ◌&&◌, List, [], ◌∷◌, Option, Some, None, refl, sym, ap, subst, ◌∙◌}
+use Rattle.std.proofs.Common.{◌≡◌, ℕ, inl, inr, Bool, true, false, ◌||◌, ◌&&◌, List, [], ◌∷◌, length, Option, Some, None, refl, sym, ap, subst, ◌∙◌}
 use Rattle.std.specs.Prelude.{IfSome, IfNone, ℤ, ◌≤ℤ◌}
 use Rattle.std.specs.Option.{option_map}
 use Rattle.std.specs.List.{list_any}
@@ -24,6 +24,7 @@ use Rattle.cert_verifier.specs.PlanRules.{DesignFinds, HasItsOpen, KeepsBudget, 
 use Rattle.cert_verifier.specs.Rules.{unless}
 use Rattle.cert_verifier.proofs.FirstRules.{unless-none}
 use Rattle.cert_verifier.proofs.RuleLaws.{then_by-none, FindsOne, unless-one, then_by-one}
+use Rattle.cert_verifier.proofs.CutRules.{cuts_found_none, cuts_find_none, cuts_find_one}
 use Rattle.cert_verifier.proofs.TreeLaws.{records_found_none, records_find_none, records_find_one}
 
 -- leaves of a wrong kind: open ones where none may be, and such as need a cost where there is none
@@ -137,7 +138,8 @@ unfolding PlanFinds
 none_is_valid p plan spelled h =
     let a = then_by-none h in
     let b = then_by-none a.1 in
-    let c = then_by-none b.1 in
+    let k = then_by-none b.1 in
+    let c = then_by-none k.1 in
     let d = then_by-none c.1 in
     let e = then_by-none d.0 in
     let f = then_by-none e.1 in
@@ -145,6 +147,7 @@ none_is_valid p plan spelled h =
     record {
       sizes = unless-none _ _ a.0;
       examined = unless-none _ _ f.0;
+      cuts = cuts_found_none p plan.cuts spelled.cuts.few k.0;
       design = stated_found_none p plan.design b.0;
       tree = tree.valid;
       status = status_found_none p plan plan.status spelled.status tree.kinds (unless-none _ _ e.0) (unless-none _ _ f.1) d.1;
@@ -159,10 +162,13 @@ valid_is_none p plan h =
       inr (
         stated_finds_none p plan.design h.design,
         inr (
-          records_find_none p plan plan.tree (whole p ∷ []) 0 h.tree (status-kinds p plan plan.status h.status),
+          cuts_find_none p plan.cuts h.cuts,
           inr (
-            inr (inl (status-open p plan plan.status h.status, refl), inr (inl (h.examined, refl), inl (status-budget p plan plan.status h.status, refl))),
-            status-bound p plan plan.status h.status,
+            records_find_none p plan plan.tree (whole p ∷ []) 0 h.tree (status-kinds p plan plan.status h.status),
+            inr (
+              inr (inl (status-open p plan plan.status h.status, refl), inr (inl (h.examined, refl), inl (status-budget p plan plan.status h.status, refl))),
+              status-bound p plan plan.status h.status,
+            ),
           ),
         ),
       ),
@@ -174,6 +180,7 @@ unfolding PlanFinds
 one_found p plan =
     then_by-one _ _ (unless-one _ _)
     (then_by-one _ _ (stated_finds_one p plan.design)
+    (then_by-one _ _ (cuts_find_one p plan.cuts (length plan.cuts))
     (then_by-one _ _ (records_find_one p plan plan.tree (whole p ∷ []) 0)
     (then_by-one _ _ (then_by-one _ _ (unless-one _ _) (then_by-one _ _ (unless-one _ _) (unless-one _ _)))
-    (bound_finds_one p plan plan.status))))
+    (bound_finds_one p plan plan.status)))))

@@ -8,6 +8,7 @@ use Rattle.std.proofs.Math.Seq.{drop-cons}
 use Rattle.plan_base.specs.declared.parts.Parts.{Parts}
 use Rattle.link_steps.specs.Ranges.{AreRanges}
 use Rattle.link_steps.proofs.WholeRanges.{AreRanges-whole}
+use Rattle.proof_tree.specs.declared.cuts.Cut.{Cut}
 use Rattle.proof_tree.specs.declared.tree.TreeNode.{TreeNode}
 use Rattle.proof_tree.specs.declared.tree.Evidence.TheVariants.{Routed}
 use Rattle.proof_tree.specs.declared.tree.TreeNode.TheVariants.{Leaf}
@@ -30,11 +31,11 @@ pub record IsSoFar (p : Parts) (plan : Plan) (index : ℕ) (turns : List Turn) (
   pub finds : (found : Option Rejected) → RecordsFind p plan gs index (drop index plan.tree) found → TreeFinds p plan plan.tree found
   pub whole : IsTrue (are_trees (length gs) (drop index plan.tree))
   pub leaves : leaves_of p plan.tree ≡ met ++ leaves_at gs (drop index plan.tree)
-  pub is_least : IsLeastBoundIn p met least
+  pub is_least : IsLeastBoundIn p plan.cuts met least
 
 -- no leaf has a bound where there is none
-none_met : (p : Parts) → IsLeastBoundIn p [] None
-none_met p b is = absurd (let below : is.0 < 0 = is.2 in omega arith)
+none_met : (p : Parts) (cuts : List Cut) → IsLeastBoundIn p cuts [] None
+none_met p cuts b is = absurd (let below : is.0 < 0 = is.2 in omega arith)
 
 pub so_far-start : (p : Parts) (plan : Plan) (turns : List Turn) (g : Region) (least : Option ℤ) → turns ≡ [] → g ≡ whole_region p → least ≡ None → IsTrue (are_trees 1 plan.tree) → IsSoFar p plan 0 turns g least
 so_far-start p plan turns g least at_root empty none whole = record {
@@ -44,7 +45,7 @@ so_far-start p plan turns g least at_root empty none whole = record {
   finds = λ found h. h;
   whole = whole;
   leaves = refl;
-  is_least = subst (λ least. IsLeastBoundIn p [] least) (sym none) (none_met p);
+  is_least = subst (λ least. IsLeastBoundIn p plan.cuts [] least) (sym none) (none_met p plan.cuts);
 }
 
 -- where a record follows, a region is left to be answered
@@ -85,7 +86,7 @@ so_far-stands p plan index turns g least node h within is = let here = so_far-he
 pub so_far-step : (p : Parts) (plan : Plan) (index : ℕ) (turns turns_after : List Turn) (g g_after : Region) (least least_after : Option ℤ) (node : TreeNode)
     → IsSoFar p plan index turns g least → index < length plan.tree → get_or plan.tree index node ≡ node → RecordFinds p plan g index node None
     → ((gs : List Region) → IsPlace p plan.tree turns g gs → AreLeft p plan.tree turns_after g_after (children_at g node ++ gs))
-    → ((met : List LeafAt) → IsLeastBoundIn p met least → IsLeastBoundIn p (met ++ leaf_here g node) least_after)
+    → ((met : List LeafAt) → IsLeastBoundIn p plan.cuts met least → IsLeastBoundIn p plan.cuts (met ++ leaf_here g node) least_after)
     → IsSoFar p plan (index + 1) turns_after g_after least_after
 so_far-step p plan index turns turns_after g g_after least least_after node h within is none left lower =
     let here = so_far-here p plan index turns g least node h within is in
@@ -106,12 +107,12 @@ so_far-fault p plan index turns g least node fault h within is found =
     (so_far-here p plan index turns g least node h within is).finds (Some fault) (inl (refl, found))
 
 -- at the end nothing is left
-pub so_far-end : (p : Parts) (plan : Plan) (index : ℕ) (turns : List Turn) (g : Region) (least : Option ℤ) → IsSoFar p plan index turns g least → length plan.tree ≤ index → TreeFinds p plan plan.tree None × IsLeastBoundIn p (leaves_of p plan.tree) least
+pub so_far-end : (p : Parts) (plan : Plan) (index : ℕ) (turns : List Turn) (g : Region) (least : Option ℤ) → IsSoFar p plan index turns g least → length plan.tree ≤ index → TreeFinds p plan plan.tree None × IsLeastBoundIn p plan.cuts (leaves_of p plan.tree) least
 so_far-end p plan index turns g least h ended =
     let none : drop index plan.tree ≡ [] = drop_of_length-le plan.tree ended in
     let no_more : h.gs ≡ [] = none_left h.gs (subst (λ nodes. IsTrue (are_trees (length h.gs) nodes)) none h.whole) in
     let leaves : leaves_of p plan.tree ≡ h.met = h.leaves ∙ ap (λ nodes. h.met ++ leaves_at h.gs nodes) none ∙ ap (λ gs. h.met ++ leaves_at gs []) no_more ∙ append-nil h.met in
-    (h.finds None (subst (λ gs. RecordsFind p plan gs index (drop index plan.tree) None) (sym no_more) refl), subst (λ ls. IsLeastBoundIn p ls least) (sym leaves) h.is_least)
+    (h.finds None (subst (λ gs. RecordsFind p plan gs index (drop index plan.tree) None) (sym no_more) refl), subst (λ ls. IsLeastBoundIn p plan.cuts ls least) (sym leaves) h.is_least)
   where
     none_left : (gs : List Region) → IsTrue (are_trees (length gs) []) → gs ≡ []
     none_left [] h = refl

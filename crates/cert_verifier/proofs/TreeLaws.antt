@@ -9,7 +9,8 @@ use Rattle.proof_tree.specs.declared.tree.TreeNode.TheVariants.{Split, Loads, Le
 use Rattle.proof_tree.specs.declared.plan.Plan.{Plan}
 use Rattle.proof_tree.specs.Regions.{Region}
 use Rattle.proof_tree.specs.Shapes.{are_trees}
-use Rattle.proof_tree.specs.Trees.{children_at, IsValidRecord, AreValidTrees}
+use Rattle.proof_tree.specs.Trees.{children_at}
+use Rattle.proof_tree.specs.RatedTrees.{IsRatedRecord, AreRatedTrees}
 use Rattle.proof_tree.specs.Plans.{stated_cost}
 use Rattle.cert_verifier.specs.Kinds.{asks_closed, asks_without_cost, is_wrong_kind}
 use Rattle.cert_verifier.specs.RecordRules.{RecordFinds, RecordsFind}
@@ -30,18 +31,18 @@ split-kind plan = both _ _
 
 -- what it says of a record that no rule is broken
 record IsSound (p : Parts) (plan : Plan) (g : Region) (node : TreeNode) : Type 0 where
-  valid : IsValidRecord p (stated_cost plan) g node
+  valid : IsRatedRecord p plan.cuts (stated_cost plan) g node
   kind : is_wrong_kind plan node ≡ false
 
 record_found_none : (p : Parts) (plan : Plan) (g : Region) (index : ℕ) (node : TreeNode) → RecordFinds p plan g index node None → IsSound p plan g node
 record_found_none p plan g index (Leaf evidence) h =
     let leaf = then_by-none h in
-    record { valid = leaf_found_none p (stated_cost plan) g index evidence leaf.1; kind = unless-none _ _ leaf.0 }
+    record { valid = leaf_found_none p plan.cuts (stated_cost plan) g index evidence leaf.1; kind = unless-none _ _ leaf.0 }
 record_found_none p plan g index (Split id at left right) h = record { valid = split_found_none p g.forbidden index id at left right h; kind = split-kind plan }
 record_found_none p plan g index (Loads place load) h = record { valid = loads_found_none p g.ranges index place load h; kind = split-kind plan }
 
-record_finds_none : (p : Parts) (plan : Plan) (g : Region) (index : ℕ) (node : TreeNode) → IsValidRecord p (stated_cost plan) g node → is_wrong_kind plan node ≡ false → RecordFinds p plan g index node None
-record_finds_none p plan g index (Leaf evidence) valid kind = inr (inl (kind, refl), leaf_finds_none p (stated_cost plan) g index evidence valid)
+record_finds_none : (p : Parts) (plan : Plan) (g : Region) (index : ℕ) (node : TreeNode) → IsRatedRecord p plan.cuts (stated_cost plan) g node → is_wrong_kind plan node ≡ false → RecordFinds p plan g index node None
+record_finds_none p plan g index (Leaf evidence) valid kind = inr (inl (kind, refl), leaf_finds_none p plan.cuts (stated_cost plan) g index evidence valid)
 record_finds_none p plan g index (Split id at left right) valid kind = split_finds_none p g.forbidden index id at left right valid
 record_finds_none p plan g index (Loads place load) valid kind = loads_find_none p g.ranges index place load valid
 
@@ -53,7 +54,7 @@ after-whole g (Loads place load) rest nodes h = h
 
 -- what it says of records that no rule is broken
 pub record AreSound (p : Parts) (plan : Plan) (gs : List Region) (nodes : List TreeNode) : Type 0 where
-  pub valid : AreValidTrees p (stated_cost plan) gs nodes
+  pub valid : AreRatedTrees p plan.cuts (stated_cost plan) gs nodes
   pub kinds : list_any (is_wrong_kind plan) nodes ≡ false
 
 pub records_found_none : (p : Parts) (plan : Plan) (nodes : List TreeNode) (gs : List Region) (index : ℕ) → IsTrue (are_trees (length gs) nodes) → RecordsFind p plan gs index nodes None → AreSound p plan gs nodes
@@ -66,7 +67,7 @@ records_found_none p plan (node ∷ nodes) (g ∷ gs) index whole h =
     let rest = records_found_none p plan nodes (children_at g node ++ gs) (suc index) (after-whole g node gs nodes whole) both.1 in
     record { valid = (here.valid, rest.valid); kinds = or-both_false _ _ here.kind rest.kinds }
 
-pub records_find_none : (p : Parts) (plan : Plan) (nodes : List TreeNode) (gs : List Region) (index : ℕ) → AreValidTrees p (stated_cost plan) gs nodes → list_any (is_wrong_kind plan) nodes ≡ false → RecordsFind p plan gs index nodes None
+pub records_find_none : (p : Parts) (plan : Plan) (nodes : List TreeNode) (gs : List Region) (index : ℕ) → AreRatedTrees p plan.cuts (stated_cost plan) gs nodes → list_any (is_wrong_kind plan) nodes ≡ false → RecordsFind p plan gs index nodes None
 records_find_none p plan [] [] index valid kinds = refl
 records_find_none p plan (node ∷ nodes) [] index valid kinds = absurd valid
 records_find_none p plan [] (g ∷ gs) index valid kinds = absurd valid
@@ -77,7 +78,7 @@ records_find_none p plan (node ∷ nodes) (g ∷ gs) index valid kinds =
 record_finds_one : (p : Parts) (plan : Plan) (g : Region) (index : ℕ) (node : TreeNode) → FindsOne (RecordFinds p plan g index node)
 record_finds_one p plan g index (Split id at left right) = split_finds_one p g.forbidden index id at left right
 record_finds_one p plan g index (Loads place load) = loads_find_one p g.ranges index place load
-record_finds_one p plan g index (Leaf evidence) = then_by-one _ _ (unless-one _ _) (leaf_finds_one p (stated_cost plan) g index evidence)
+record_finds_one p plan g index (Leaf evidence) = then_by-one _ _ (unless-one _ _) (leaf_finds_one p plan.cuts (stated_cost plan) g index evidence)
 
 pub records_find_one : (p : Parts) (plan : Plan) (nodes : List TreeNode) (gs : List Region) (index : ℕ) → FindsOne (RecordsFind p plan gs index nodes)
 records_find_one p plan nodes [] index a b x y = x ∙ sym y

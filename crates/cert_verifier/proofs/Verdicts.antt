@@ -6,9 +6,9 @@ use Rattle.plan_base.specs.declared.parts.Parts.{Parts}
 use Rattle.proof_tree.specs.declared.plan.Plan.{Plan}
 use Rattle.proof_tree.specs.Plans.{IsValidPlan, HasItsClaim}
 use Rattle.proof_tree.specs.Spellings.{IsSpellable}
-use Rattle.proof_tree.proofs.Claiming.{valid_plan-claim}
+use Rattle.proof_tree.proofs.RatedClaiming.{valid_plan-claim}
 use Rattle.cert_verifier.specs.declared.rejected.Rejected.{Rejected}
-use Rattle.cert_verifier.specs.declared.rejected.Rejected.TheVariants.{Design, Cost, Split, Leaf, Counts, Bound, Kind, OutOfMemory, Size, Budget}
+use Rattle.cert_verifier.specs.declared.rejected.Rejected.TheVariants.{Design, Cost, Cuts, Split, Leaf, Counts, Bound, Kind, OutOfMemory, Size, Budget}
 use Rattle.cert_verifier.specs.Told.{Tells}
 use Rattle.cert_verifier.specs.PlanRules.{PlanFinds, IsRejection}
 use Rattle.cert_verifier.proofs.PlanLaws.{none_is_valid, valid_is_none, one_found}
@@ -18,6 +18,7 @@ is_memory : (fault : Rejected) → (fault ≡ OutOfMemory) ⊎ (fault ≢ OutOfM
 is_memory OutOfMemory = inl refl
 is_memory (Design fault) = inr (λ e. cc)
 is_memory (Cost stated found) = inr (λ e. cc)
+is_memory (Cuts index) = inr (λ e. cc)
 is_memory (Split index rule) = inr (λ e. cc)
 is_memory (Leaf index rule) = inr (λ e. cc)
 is_memory (Counts stated found) = inr (λ e. cc)

@@ -1,31 +1,38 @@
 -- Least bounds of open leaves.
-use Rattle.std.specs.Prelude.{◌≡◌, List, Option, Some, None, MatchOption, Any, ⊤, ◌⊎◌, ℤ, ◌≤ℤ◌}
+use Rattle.std.specs.Prelude.{ℕ, ◌≡◌, List, Option, Some, None, MatchOption, Any, ⊤, ◌⊎◌, ℤ, ◌≤ℤ◌}
 use Rattle.plan_base.specs.declared.parts.Parts.{Parts}
-use Rattle.arc_restrict.specs.Prices.{AreWithinLimit}
+use Rattle.proof_tree.specs.declared.cuts.Cut.{Cut as LoadCut}
 use Rattle.proof_tree.specs.declared.tree.Evidence.{Evidence}
 use Rattle.proof_tree.specs.declared.tree.Evidence.TheVariants.{Bound, Routed, Overfull, Cut, Far, Crowd, Open}
+use Rattle.proof_tree.specs.Cuts.{IsCutList, AreRests}
+use Rattle.proof_tree.specs.RatedEvidence.{AreLawfulNumbers}
 use Rattle.proof_tree.specs.Trees.{LeafAt}
 use Rattle.proof_tree.specs.Plans.{IsOpenBound}
 
--- the prices of an open leaf are within the limit
-abbrev pub IsOpenWithin : Parts → Evidence → Type 0
-IsOpenWithin p (Open prices) = AreWithinLimit p prices
-IsOpenWithin p (Bound prices) = ⊤
-IsOpenWithin p Routed = ⊤
-IsOpenWithin p (Overfull link) = ⊤
-IsOpenWithin p (Cut demand reached) = ⊤
-IsOpenWithin p (Far demand) = ⊤
-IsOpenWithin p (Crowd prices) = ⊤
+-- a list of cuts, and what crosses each of them beyond what it leaves out
+pub record HasRests (p : Parts) (cuts : List LoadCut) (rests : List ℕ) : Type 0 where
+  pub is_list : IsCutList p cuts
+  pub are_rests : AreRests p cuts rests
+
+-- the numbers of an open leaf are as they have to be
+abbrev pub IsOpenLawful : Parts → List LoadCut → Evidence → Type 0
+IsOpenLawful p cuts (Open numbers) = AreLawfulNumbers p cuts numbers
+IsOpenLawful p cuts (Bound prices) = ⊤
+IsOpenLawful p cuts Routed = ⊤
+IsOpenLawful p cuts (Overfull link) = ⊤
+IsOpenLawful p cuts (Cut demand reached) = ⊤
+IsOpenLawful p cuts (Far demand) = ⊤
+IsOpenLawful p cuts (Crowd prices) = ⊤
 
 -- the bound of an open leaf among these
-abbrev pub IsBoundIn : Parts → List LeafAt → ℤ → Type 0
-IsBoundIn p leaves bound = Any (λ leaf. IsOpenBound p leaf.region leaf.evidence bound) leaves
+abbrev pub IsBoundIn : Parts → List LoadCut → List LeafAt → ℤ → Type 0
+IsBoundIn p cuts leaves bound = Any (λ leaf. IsOpenBound p cuts leaf.region leaf.evidence bound) leaves
 
 -- the least bound of the open leaves among these, or none where none has a bound
-abbrev pub IsLeastBoundIn : Parts → List LeafAt → Option ℤ → Type 0
-IsLeastBoundIn p leaves bound = MatchOption bound
-    ((bound : ℤ) → IsBoundIn p leaves bound → ⊥)
-    (λ bound. IsBoundIn p leaves bound × ((other : ℤ) → IsBoundIn p leaves other → bound ≤ℤ other))
+abbrev pub IsLeastBoundIn : Parts → List LoadCut → List LeafAt → Option ℤ → Type 0
+IsLeastBoundIn p cuts leaves bound = MatchOption bound
+    ((bound : ℤ) → IsBoundIn p cuts leaves bound → ⊥)
+    (λ bound. IsBoundIn p cuts leaves bound × ((other : ℤ) → IsBoundIn p cuts leaves other → bound ≤ℤ other))
 
 -- the lower of two bounds, where there are any
 pub record IsLowerOf (one other result : Option ℤ) : Type 0 where

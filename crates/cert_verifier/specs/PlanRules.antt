@@ -1,18 +1,20 @@
 -- The rules of a plan, in their order.
-use Rattle.std.specs.Prelude.{ℕ, ◌≡◌, ◌≢◌, ◌≤◌, not, List, length, count_by, IsTrue, Option, Some, None, MatchOption, ℤ}
+use Rattle.std.specs.Prelude.{ℕ, zero, suc, ◌≡◌, ◌≢◌, ◌<◌, ◌≤◌, not, List, length, count_by, IsTrue, Option, Some, None, MatchOption, ℤ}
 use Rattle.std.specs.Option.{option_map}
 use Rattle.std.specs.List.{list_any}
 use Rattle.plan_base.specs.declared.parts.Parts.{Parts}
 use Rattle.plan_base.specs.declared.path.Design.{Design}
 use Rattle.plan_base.specs.DesignFaults.{design_fault}
 use Rattle.plan_base.specs.Designs.{cost_of}
+use Rattle.proof_tree.specs.declared.cuts.Cut.{Cut}
 use Rattle.proof_tree.specs.declared.tree.TreeNode.{TreeNode}
 use Rattle.proof_tree.specs.declared.plan.PlanStatus.{PlanStatus}
 use Rattle.proof_tree.specs.declared.plan.PlanStatus.TheVariants.{Optimal, Infeasible, Undecided}
 use Rattle.proof_tree.specs.declared.plan.Plan.{Plan}
+use Rattle.proof_tree.specs.Cuts.{cut_at, IsCut}
 use Rattle.proof_tree.specs.Plans.{is_open, HasSizes, IsCandidate, IsLeastCandidate}
 use Rattle.cert_verifier.specs.declared.rejected.Rejected.{Rejected}
-use Rattle.cert_verifier.specs.declared.rejected.Rejected.TheVariants.{Design as WrongDesign, Cost, Counts, Bound, Kind, OutOfMemory, Size, Budget}
+use Rattle.cert_verifier.specs.declared.rejected.Rejected.TheVariants.{Design as WrongDesign, Cost, Cuts, Counts, Bound, Kind, OutOfMemory, Size, Budget}
 use Rattle.cert_verifier.specs.Rules.{unless, ◌then_by◌}
 use Rattle.cert_verifier.specs.RecordRules.{TreeFinds}
 
@@ -22,6 +24,16 @@ DesignFinds p None found = found ≡ None
 DesignFinds p (Some (cost, d)) found =
     ((λ first. first ≡ option_map WrongDesign (design_fault p d))
     then_by unless (cost_of p d ≡ cost) (Cost cost (cost_of p d))) found
+
+-- the cut of this number is one of the instance, and no earlier one is the same
+pub record IsNewCut (p : Parts) (cuts : List Cut) (number : ℕ) : Type 0 where
+  pub is_cut : IsCut p (cut_at cuts number)
+  pub is_new : (i : ℕ) → i < number → cut_at cuts i ≢ cut_at cuts number
+
+-- the first cut before a count that is none of the instance, or is the same as an earlier one
+abbrev pub CutsFind : Parts → List Cut → ℕ → Option Rejected → Type 0
+CutsFind p cuts zero found = found ≡ None
+CutsFind p cuts (suc n) found = (CutsFind p cuts n then_by unless (IsNewCut p cuts n) (Cuts n)) found
 
 -- how many records are splits or closed leaves
 abbrev pub examined_in : List TreeNode → ℕ
@@ -57,12 +69,13 @@ CountsFind plan =
     then_by unless (plan.examined ≡ examined_in plan.tree) (Counts plan.examined (examined_in plan.tree))
     then_by unless (KeepsBudget plan.status plan.examined plan.budget) (Budget plan.examined plan.budget)
 
--- the first rule that the plan breaks: sizes, the design and its cost, the records, an open leaf where it is undecided,
--- the count of what was examined, the budget, and the bound
+-- the first rule that the plan breaks: sizes, the design and its cost, the cuts, the records, an open leaf where it is
+-- undecided, the count of what was examined, the budget, and the bound
 unfoldable pub PlanFinds : Parts → Plan → Option Rejected → Type 0
 PlanFinds p plan =
     unless (HasSizes p plan) Size
     then_by DesignFinds p plan.design
+    then_by CutsFind p plan.cuts (length plan.cuts)
     then_by TreeFinds p plan plan.tree
     then_by CountsFind plan
     then_by BoundFinds p plan plan.status

@@ -24,7 +24,7 @@ RecordFinds p plan g index (Split id at left right) = SplitFinds p g.forbidden i
 RecordFinds p plan g index (Loads place load) = LoadsFind p g.ranges index place load
 RecordFinds p plan g index (Leaf evidence) =
     unless (MayHave plan (Leaf evidence)) (Kind index)
-    then_by LeafFinds p (stated_cost plan) g index evidence
+    then_by LeafFinds p plan.cuts (stated_cost plan) g index evidence
 
 -- the first rule that these records break, the first of them having this index, at the regions that are to be answered
 abbrev pub RecordsFind : Parts → Plan → List Region → ℕ → List TreeNode → Option Rejected → Type 0

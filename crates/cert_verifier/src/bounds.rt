@@ -1,20 +1,25 @@
-//! What prices prove of a region: its bound, and that the demands ask for more than there is.
+//! What prices and rates prove of a region: its bound, and that the demands ask for more than there is.
 
-ghost use Rattle.std.specs.Prelude.{◌≡◌, ◌≤◌, ◌<◌, ◌*◌, ◌^◌, ◌↔◌, ℤ, pos, ◌≤ℤ◌, ◌<ℤ◌, ◌+ℤ◌, ◌-ℤ◌, ◌*ℤ◌, length, IsTrue, IfOk, IfSome, IfNone};
+ghost use Rattle.std.specs.Prelude.{◌≡◌, ◌≤◌, ◌<◌, ◌+◌, ◌*◌, ◌^◌, ◌↔◌, ℤ, pos, ◌≤ℤ◌, ◌<ℤ◌, ◌+ℤ◌, ◌-ℤ◌, ◌*ℤ◌, length, IsTrue, IfOk, IfSome, IfNone};
 ghost use Rattle.plan_base.specs.Places.{places};
 ghost use Rattle.link_steps.specs.Ranges.{AreRanges};
 ghost use Rattle.arc_restrict.specs.Prices.{AreWithinLimit};
-ghost use Rattle.proof_tree.specs.Bounds.{IsBound};
+ghost use Rattle.proof_tree.specs.declared.limits.TheConstants.{MAX_CUTS};
+ghost use Rattle.proof_tree.specs.RatedBounds.{cut_total, IsRatedTotal};
+ghost use Rattle.proof_tree.specs.RatedEvidence.{rates_in, AreLawfulNumbers, IsBoundAt};
 ghost use Rattle.proof_tree.specs.Evidence.{is_cut_short, room_at};
 ghost use Rattle.verifier_paths.specs.declared.limits.TheConstants.{MAX_WAY_ARCS};
 ghost use Rattle.verifier_paths.specs.Kept.{forbidden_by};
 ghost use Rattle.verifier_paths.specs.OnlyPaths.{HavePaths};
+ghost use Rattle.cert_verifier.specs.Bounds.{HasRests};
 ghost use Rattle.cert_verifier.specs.Totals.{IsPriceTotal, room_price};
 ghost use Rattle.cert_verifier.specs.Walks.{region_by};
 
-use link_steps::{Ranges, StepTable};
+use crate::leaves::Place;
+use link_steps::Ranges;
 use plan_base::limits::{MAX_LINKS, MAX_PRICED_LOAD};
 use plan_base::{DemandId, Instance, Prices};
+use proof_tree::{are_rated_prices, are_within_limit, cut_total, rated_total};
 use std::alloc::{AllocError, Global};
 use verifier_paths::{Forbidden, prices_of_demands};
 
@@ -26,7 +31,7 @@ pub(crate) fn price_total(
     forbidden: &Forbidden,
     prices: &[u128],
 ) -> Result<Option<u128>, AllocError>
-    requires count { length prices.now ≡ places inst.now }
+    requires count { places inst.now ≤ length prices.now }
     requires limit { AreWithinLimit inst.now prices.now }
     ensures total { IfOk result (λ total. IfSome total (IsPriceTotal inst.now (forbidden_by forbidden.now) prices.now)) }
     ensures none { IfOk result (λ total. IfNone total (HavePaths inst.now (forbidden_by forbidden.now) → ⊥)) }
@@ -43,14 +48,71 @@ pub(crate) fn price_total(
     Ok(Some(total))
 }
 
-/// The two sums together, in thousandths of a cost grain.
-fn total_of(priced: u128, values: i128) -> i128
+/// The rates of the cuts, which stand behind the prices of places.
+fn rates_of<'a>(inst: &Instance, numbers: &'a [u128]) -> &'a [u128]
+    requires { places inst.now ≤ length numbers.now }
+    ensures value { result.now ≡ rates_in inst.now numbers.now }
+    ensures count { places inst.now + length result.now ≡ length numbers.now }
+{
+    numbers.split_at(inst.places() as usize).1
+}
+
+/// Whether the numbers are prices of places and rates of the cuts, as they have to be.
+pub(crate) fn are_lawful(at: &Place, numbers: &Prices) -> bool
+    requires few { length at.now.cuts.now ≤ MAX_CUTS }
+    requires count { length numbers.now ≡ places at.now.inst.now + length at.now.cuts.now }
+    ensures { IsTrue result ↔ AreLawfulNumbers at.now.inst.now at.now.cuts.now numbers.now }
+{
+    let list = numbers.as_slice();
+    let cuts = at.cuts.as_slice();
+    if cuts.is_empty() {
+        return are_within_limit(at.inst, list);
+    }
+    are_rated_prices(at.inst, cuts, list, rates_of(at.inst, list))
+}
+
+/// The rates times what the cuts count at least, in thousandths of a cost grain.
+fn counted_at(at: &Place, numbers: &Prices) -> u128
+    requires cuts { HasRests at.now.inst.now at.now.cuts.now at.now.rests.now }
+    requires count { length numbers.now ≡ places at.now.inst.now + length at.now.cuts.now }
+    requires lawful { AreLawfulNumbers at.now.inst.now at.now.cuts.now numbers.now }
+    ensures value { result ≡ cut_total at.now.inst.now at.now.cuts.now (rates_in at.now.inst.now numbers.now) }
+    ensures within { result ≤ MAX_CUTS * MAX_PRICED_LOAD }
+{
+    let cuts = at.cuts.as_slice();
+    let rates = rates_of(at.inst, numbers.as_slice());
+    cut_total(at.inst, cuts, at.rests, rates)
+}
+
+/// The sum of the values of all links at the leaf, in thousandths of a cost grain.
+fn values_at(alloc: Global, at: &Place, numbers: &Prices) -> Result<i128, AllocError>
+    requires table { at.now.table.now ≡ at.now.inst.now }
+    requires ranges { AreRanges at.now.inst.now at.now.ranges.now }
+    requires cuts { HasRests at.now.inst.now at.now.cuts.now at.now.rests.now }
+    requires count { length numbers.now ≡ places at.now.inst.now + length at.now.cuts.now }
+    requires lawful { AreLawfulNumbers at.now.inst.now at.now.cuts.now numbers.now }
+    ensures { IfOk result (λ values. IsRatedTotal at.now.inst.now at.now.cuts.now at.now.ranges.now numbers.now (rates_in at.now.inst.now numbers.now) (length at.now.inst.now.links) values) }
+{
+    let cuts = at.cuts.as_slice();
+    if cuts.is_empty() {
+        return Ok(at.table.value_total(at.ranges, numbers));
+    }
+    let list = numbers.as_slice();
+    let rates = rates_of(at.inst, list);
+    rated_total(
+        alloc, at.inst, at.table, at.ranges, cuts, at.rests, list, rates,
+    )
+}
+
+/// The three sums together, in thousandths of a cost grain.
+fn total_of(priced: u128, counted: u128, values: i128) -> i128
     requires priced { priced ≤ MAX_WAY_ARCS * MAX_PRICED_LOAD }
+    requires counted { counted ≤ MAX_CUTS * MAX_PRICED_LOAD }
     requires not_above { values ≤ℤ pos (MAX_LINKS * MAX_PRICED_LOAD) }
     requires bounded { (pos 0 -ℤ pos (MAX_LINKS * (2 * MAX_PRICED_LOAD))) ≤ℤ values }
-    ensures { result ≡ (pos priced +ℤ values) }
+    ensures { result ≡ (pos (priced + counted) +ℤ values) }
 {
-    priced as i128 + values
+    (priced + counted) as i128 + values
 }
 
 /// A thousandth of the total, rounded up: cost grains, from thousandths of one.
@@ -62,27 +124,26 @@ fn thousandth_up(total: i128) -> i128
     if total % 1000 > 0 { grains + 1 } else { grains }
 }
 
-/// The bound of the region at these prices, in cost grains, and none where a demand has no permitted path.
+/// The bound of the leaf's region at these prices and rates, in cost grains, and none where a demand has no permitted path.
 pub(crate) fn bound_at(
     alloc: Global,
-    inst: &Instance,
-    table: &StepTable,
-    forbidden: &Forbidden,
-    ranges: &Ranges,
-    prices: &Prices,
+    at: &Place,
+    numbers: &Prices,
 ) -> Result<Option<i128>, AllocError>
-    requires table { table.now ≡ inst.now }
-    requires ranges { AreRanges inst.now ranges.now }
-    requires count { length prices.now ≡ places inst.now }
-    requires limit { AreWithinLimit inst.now prices.now }
-    ensures bound { IfOk result (λ bound. IfSome bound (IsBound inst.now (region_by forbidden.now ranges.now) prices.now)) }
-    ensures none { IfOk result (λ bound. IfNone bound (HavePaths inst.now (forbidden_by forbidden.now) → ⊥)) }
+    requires table { at.now.table.now ≡ at.now.inst.now }
+    requires ranges { AreRanges at.now.inst.now at.now.ranges.now }
+    requires cuts { HasRests at.now.inst.now at.now.cuts.now at.now.rests.now }
+    requires count { length numbers.now ≡ places at.now.inst.now + length at.now.cuts.now }
+    requires lawful { AreLawfulNumbers at.now.inst.now at.now.cuts.now numbers.now }
+    ensures bound { IfOk result (λ bound. IfSome bound (IsBoundAt at.now.inst.now at.now.cuts.now (region_by at.now.forbidden.now at.now.ranges.now) numbers.now)) }
+    ensures none { IfOk result (λ bound. IfNone bound (HavePaths at.now.inst.now (forbidden_by at.now.forbidden.now) → ⊥)) }
 {
-    inst.lawful();
-    match price_total(alloc, inst, forbidden, prices.as_slice())? {
-        Some(total) => {
-            let values = table.value_total(ranges, prices);
-            Ok(Some(thousandth_up(total_of(total, values))))
+    at.inst.lawful();
+    match price_total(alloc, at.inst, at.forbidden, numbers.as_slice())? {
+        Some(priced) => {
+            let counted = counted_at(at, numbers);
+            let values = values_at(alloc, at, numbers)?;
+            Ok(Some(thousandth_up(total_of(priced, counted, values))))
         }
         None => Ok(None),
     }
@@ -125,7 +186,7 @@ fn room_at(inst: &Instance, ranges: &Ranges, place: u32) -> u64
 /// cost grain, and none where it is `2^128` or more.
 fn room_price(inst: &Instance, ranges: &Ranges, prices: &[u128]) -> Option<u128>
     requires ranges { length ranges.now ≡ places inst.now }
-    requires count { length prices.now ≡ places inst.now }
+    requires count { places inst.now ≤ length prices.now }
     ensures value { IfSome result (λ total. total ≡ room_price inst.now ranges.now prices.now) }
     ensures large { IfNone result (2 ^ 128 ≤ room_price inst.now ranges.now prices.now) }
 {
@@ -140,7 +201,7 @@ fn room_price(inst: &Instance, ranges: &Ranges, prices: &[u128]) -> Option<u128>
 /// Whether the demands' total is above what the places carry at most where no module is added, at these prices.
 pub(crate) fn is_crowded(inst: &Instance, ranges: &Ranges, prices: &[u128], total: u128) -> bool
     requires ranges { length ranges.now ≡ places inst.now }
-    requires count { length prices.now ≡ places inst.now }
+    requires count { places inst.now ≤ length prices.now }
     ensures { IsTrue result ↔ (room_price inst.now ranges.now prices.now < total) }
 {
     match room_price(inst, ranges, prices) {

@@ -1,16 +1,17 @@
-//! What a plan's status asks of its tree, its count and its budget.
+//! What is checked of a plan besides its records: sizes, design, cuts, and what its status asks of counts and leaves.
 
-ghost use Rattle.std.specs.Prelude.{◌≡◌, ◌↔◌, ◌<◌, ◌^◌, Some, IsTrue, length};
+ghost use Rattle.std.specs.Prelude.{◌≡◌, ◌↔◌, ◌<◌, ◌≤◌, ◌^◌, Some, IsTrue, length};
 ghost use Rattle.std.specs.List.{list_any};
 ghost use Rattle.std.specs.Result.{result_err};
 ghost use Rattle.plan_base.specs.Facts.{IsInstance};
+ghost use Rattle.proof_tree.specs.declared.limits.TheConstants.{MAX_CUTS};
 ghost use Rattle.proof_tree.specs.Plans.{is_open, needs_cost, stated_cost, HasSizes};
 ghost use Rattle.cert_verifier.specs.Kinds.{asks_closed, asks_without_cost, is_wrong_kind};
-ghost use Rattle.cert_verifier.specs.PlanRules.{DesignFinds, HasItsOpen, KeepsBudget, examined_in};
+ghost use Rattle.cert_verifier.specs.PlanRules.{DesignFinds, IsNewCut, CutsFind, HasItsOpen, KeepsBudget, examined_in};
 
 use crate::rejected::Rejected;
 use plan_base::{Design, Instance, check_design};
-use proof_tree::{Evidence, Plan, PlanStatus, TreeNode};
+use proof_tree::{Cut, Evidence, Plan, PlanStatus, TreeNode, is_new};
 
 /// Whether the record is a leaf that is left open.
 pub(crate) fn is_open(node: &TreeNode) -> bool
@@ -98,6 +99,29 @@ pub(crate) fn check_plan_design(inst: &Instance, plan: &Plan) -> Result<(), Reje
         Some((stated, design)) => check_stated(inst, *stated, design),
         None => Ok(()),
     }
+}
+
+/// Whether the cut of this number is one of the instance, and no earlier one is the same.
+fn is_new_cut(inst: &Instance, cuts: &[Cut], number: usize) -> bool
+    requires { number < length cuts.now }
+    ensures { IsTrue result ↔ IsNewCut inst.now cuts.now number }
+{
+    cuts[number].fits(inst) && is_new(cuts, number)
+}
+
+/// The first of the plan's cuts that is none of the instance, or is the same as an earlier one.
+pub(crate) fn check_cuts(inst: &Instance, cuts: &[Cut]) -> Result<(), Rejected>
+    requires { length cuts.now ≤ MAX_CUTS }
+    ensures { CutsFind inst.now cuts.now (length cuts.now) (result_err result) }
+{
+    for number in 0..cuts.len() {
+        if !is_new_cut(inst, cuts, number) {
+            return Err(Rejected::Cuts {
+                index: number as u32,
+            });
+        }
+    }
+    Ok(())
 }
 
 /// Whether one of the records is a leaf that is left open.

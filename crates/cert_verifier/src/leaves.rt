@@ -10,6 +10,7 @@ ghost use Rattle.plan_base.specs.Arcs.{demand_at, link_at};
 ghost use Rattle.plan_base.specs.Places.{places, link_of_place};
 ghost use Rattle.plan_base.specs.Paths.{IsSimplePath};
 ghost use Rattle.plan_base.specs.Designs.{load_at, KeepsLimits};
+ghost use Rattle.proof_tree.specs.declared.limits.TheConstants.{MAX_CUTS};
 ghost use Rattle.proof_tree.specs.declared.tree.Evidence.TheVariants as kind;
 ghost use Rattle.proof_tree.specs.Evidence.{holds, is_cut_short};
 ghost use Rattle.proof_tree.specs.Plans.{IsOpenBound};
@@ -20,11 +21,11 @@ ghost use Rattle.cert_verifier.specs.declared.rejected.Rejected.TheVariants.{Lea
 ghost use Rattle.cert_verifier.specs.Told.{Tells};
 ghost use Rattle.cert_verifier.specs.Leaving.{leads_out, IsNoWayOut};
 ghost use Rattle.cert_verifier.specs.Routings.{design_of, needed, IsCostOfLoads, HasOverfull, AreIn, AreLoadsInRange};
-ghost use Rattle.cert_verifier.specs.Bounds.{IsOpenWithin};
+ghost use Rattle.cert_verifier.specs.Bounds.{HasRests, IsOpenLawful};
 ghost use Rattle.cert_verifier.specs.LeafRules.{HasLimit, AreFreeOnUseful, LeafFinds};
 ghost use Rattle.cert_verifier.specs.Walks.{region_by};
 
-use crate::bounds::{bound_at, is_crowded, is_cut_short, is_enough, price_total};
+use crate::bounds::{are_lawful, bound_at, is_crowded, is_cut_short, is_enough, price_total};
 use crate::rejected::Rejected;
 use link_steps::limits::MAX_STEPS;
 use link_steps::{LinkRanges, LoadRange, Ranges, StepTable};
@@ -32,7 +33,7 @@ use plan_base::limits::{MAX_PLACES, MAX_ROUTING_COST, MODULE_COST_BOUND};
 use plan_base::{
     ArcId, DemandId, Design, Instance, Items, LinkId, LinkLoads, NodeId, Path, Prices, loads_of,
 };
-use proof_tree::Evidence;
+use proof_tree::{Cut, Evidence, are_within_limit};
 use std::alloc::{AllocError, Global};
 use verifier_paths::{Forbidden, OnlyPaths, fewest_arcs, only_paths};
 
@@ -43,6 +44,10 @@ pub(crate) struct Place<'a> {
     pub(crate) table: &'a StepTable,
     pub(crate) forbidden: &'a Forbidden,
     pub(crate) ranges: &'a Ranges,
+    /// The plan's cuts.
+    pub(crate) cuts: &'a Items<Cut>,
+    /// What crosses each of them beyond what it leaves out, in load grains.
+    pub(crate) rests: &'a [u64],
     /// The unit of costs, in cost grains.
     pub(crate) unit: u128,
     /// The cost that the plan states for its design, in cost grains.
@@ -76,17 +81,18 @@ fn is_above(bound: i128, cost: Option<u128>, unit: u128) -> bool
 }
 
 /// The rules of a leaf that is closed by its bound.
-fn check_bound(alloc: Global, at: &Place, prices: &Prices) -> Result<(), Rejected>
+fn check_bound(alloc: Global, at: &Place, numbers: &Prices) -> Result<(), Rejected>
     requires table { at.now.table.now ≡ at.now.inst.now }
     requires ranges { AreRanges at.now.inst.now at.now.ranges.now }
+    requires cuts { HasRests at.now.inst.now at.now.cuts.now at.now.rests.now }
     requires unit { IsUnit at.now.inst.now at.now.unit }
-    requires count { length prices.now ≡ places at.now.inst.now }
-    ensures { Tells (LeafFinds at.now.inst.now at.now.cost (region_by at.now.forbidden.now at.now.ranges.now) at.now.index (kind.Bound prices.now)) (result_err result) }
+    requires count { length numbers.now ≡ places at.now.inst.now + length at.now.cuts.now }
+    ensures { Tells (LeafFinds at.now.inst.now at.now.cuts.now at.now.cost (region_by at.now.forbidden.now at.now.ranges.now) at.now.index (kind.Bound numbers.now)) (result_err result) }
 {
-    if !prices.fits(at.inst) {
+    if !are_lawful(at, numbers) {
         return broken(at.index, 1);
     }
-    match bound_at(alloc, at.inst, at.table, at.forbidden, at.ranges, prices)? {
+    match bound_at(alloc, at, numbers)? {
         Some(bound) => holds_or(is_above(bound, at.cost, at.unit), at.index, 3),
         None => broken(at.index, 2),
     }
@@ -182,7 +188,7 @@ fn routing_or(enough: bool, within: bool, index: u32) -> Result<(), Rejected>
 /// The rules of a leaf that is closed by its routing.
 fn check_routed(alloc: Global, at: &Place) -> Result<(), Rejected>
     requires table { at.now.table.now ≡ at.now.inst.now }
-    ensures { Tells (LeafFinds at.now.inst.now at.now.cost (region_by at.now.forbidden.now at.now.ranges.now) at.now.index kind.Routed) (result_err result) }
+    ensures { Tells (LeafFinds at.now.inst.now at.now.cuts.now at.now.cost (region_by at.now.forbidden.now at.now.ranges.now) at.now.index kind.Routed) (result_err result) }
 {
     at.inst.lawful();
     match only_paths(alloc, at.inst, at.forbidden)? {
@@ -243,7 +249,7 @@ fn are_in_range(at: &Place, link: LinkId, loads: &[u128; MAX_PLACES]) -> bool
 fn check_overfull(alloc: Global, at: &Place, link: LinkId) -> Result<(), Rejected>
     requires table { at.now.table.now ≡ at.now.inst.now }
     requires ranges { AreRanges at.now.inst.now at.now.ranges.now }
-    ensures { Tells (LeafFinds at.now.inst.now at.now.cost (region_by at.now.forbidden.now at.now.ranges.now) at.now.index (kind.Overfull link)) (result_err result) }
+    ensures { Tells (LeafFinds at.now.inst.now at.now.cuts.now at.now.cost (region_by at.now.forbidden.now at.now.ranges.now) at.now.index (kind.Overfull link)) (result_err result) }
 {
     if link.0 >= at.inst.links() {
         return broken(at.index, 1);
@@ -293,7 +299,7 @@ fn is_closed(at: &Place, demand: DemandId, reached: &[bool]) -> bool
 /// The rules of a leaf that is closed by a cut.
 #[tactic(auto, using(crate::proofs::LeafFindings::cut_findings))]
 fn check_cut(at: &Place, demand: DemandId, reached: &[bool]) -> Result<(), Rejected>
-    ensures { LeafFinds at.now.inst.now at.now.cost (region_by at.now.forbidden.now at.now.ranges.now) at.now.index (kind.Cut demand reached.now) (result_err result) }
+    ensures { LeafFinds at.now.inst.now at.now.cuts.now at.now.cost (region_by at.now.forbidden.now at.now.ranges.now) at.now.index (kind.Cut demand reached.now) (result_err result) }
 {
     if demand.0 >= at.inst.demands() {
         return broken(at.index, 1);
@@ -334,7 +340,7 @@ fn is_past(fewest: Option<u128>, limit: u64) -> bool
 
 /// The rules of a leaf where no path of a demand keeps its limit.
 fn check_far(alloc: Global, at: &Place, demand: DemandId) -> Result<(), Rejected>
-    ensures { Tells (LeafFinds at.now.inst.now at.now.cost (region_by at.now.forbidden.now at.now.ranges.now) at.now.index (kind.Far demand)) (result_err result) }
+    ensures { Tells (LeafFinds at.now.inst.now at.now.cuts.now at.now.cost (region_by at.now.forbidden.now at.now.ranges.now) at.now.index (kind.Far demand)) (result_err result) }
 {
     let Some(limit) = limit_of(at.inst, demand) else {
         return broken(at.index, 1);
@@ -355,7 +361,7 @@ fn is_unlimited(inst: &Instance, ranges: &Ranges, place: u32) -> bool
 /// Whether the prices of the places of useful links are 0 where their ranges end at the top load.
 fn are_free_on_useful(inst: &Instance, ranges: &Ranges, prices: &[u128]) -> bool
     requires ranges { length ranges.now ≡ places inst.now }
-    requires count { length prices.now ≡ places inst.now }
+    requires count { places inst.now ≤ length prices.now }
     ensures { IsTrue result ↔ AreFreeOnUseful inst.now ranges.now prices.now }
 {
     for place in 0..inst.places() {
@@ -369,13 +375,13 @@ fn are_free_on_useful(inst: &Instance, ranges: &Ranges, prices: &[u128]) -> bool
 /// The rules of a leaf that is closed by a crowd.
 fn check_crowd(alloc: Global, at: &Place, prices: &Prices) -> Result<(), Rejected>
     requires ranges { length at.now.ranges.now ≡ places at.now.inst.now }
-    requires count { length prices.now ≡ places at.now.inst.now }
-    ensures { Tells (LeafFinds at.now.inst.now at.now.cost (region_by at.now.forbidden.now at.now.ranges.now) at.now.index (kind.Crowd prices.now)) (result_err result) }
+    requires count { places at.now.inst.now ≤ length prices.now }
+    ensures { Tells (LeafFinds at.now.inst.now at.now.cuts.now at.now.cost (region_by at.now.forbidden.now at.now.ranges.now) at.now.index (kind.Crowd prices.now)) (result_err result) }
 {
-    if !prices.fits(at.inst) {
+    let numerators = prices.as_slice();
+    if !are_within_limit(at.inst, numerators) {
         return broken(at.index, 1);
     }
-    let numerators = prices.as_slice();
     if !are_free_on_useful(at.inst, at.ranges, numerators) {
         return broken(at.index, 2);
     }
@@ -391,11 +397,12 @@ fn check_crowd(alloc: Global, at: &Place, prices: &Prices) -> Result<(), Rejecte
 
 /// The rule of a leaf that is left open.
 #[tactic(auto, using(crate::proofs::LeafFindings::open_findings))]
-fn check_open(at: &Place, prices: &Prices) -> Result<(), Rejected>
-    requires count { length prices.now ≡ places at.now.inst.now }
-    ensures { LeafFinds at.now.inst.now at.now.cost (region_by at.now.forbidden.now at.now.ranges.now) at.now.index (kind.Open prices.now) (result_err result) }
+fn check_open(at: &Place, numbers: &Prices) -> Result<(), Rejected>
+    requires few { length at.now.cuts.now ≤ MAX_CUTS }
+    requires count { length numbers.now ≡ places at.now.inst.now + length at.now.cuts.now }
+    ensures { LeafFinds at.now.inst.now at.now.cuts.now at.now.cost (region_by at.now.forbidden.now at.now.ranges.now) at.now.index (kind.Open numbers.now) (result_err result) }
 {
-    if !prices.fits(at.inst) {
+    if !are_lawful(at, numbers) {
         return broken(at.index, 1);
     }
     Ok(())
@@ -405,18 +412,19 @@ fn check_open(at: &Place, prices: &Prices) -> Result<(), Rejected>
 pub(crate) fn check_leaf(alloc: Global, at: &Place, evidence: &Evidence) -> Result<(), Rejected>
     requires table { at.now.table.now ≡ at.now.inst.now }
     requires ranges { AreRanges at.now.inst.now at.now.ranges.now }
+    requires cuts { HasRests at.now.inst.now at.now.cuts.now at.now.rests.now }
     requires unit { IsUnit at.now.inst.now at.now.unit }
-    requires fits { FitsEvidence at.now.inst.now.nodes (places at.now.inst.now) evidence.now }
-    ensures { Tells (LeafFinds at.now.inst.now at.now.cost (region_by at.now.forbidden.now at.now.ranges.now) at.now.index evidence.now) (result_err result) }
+    requires fits { FitsEvidence at.now.inst.now.nodes (places at.now.inst.now + length at.now.cuts.now) evidence.now }
+    ensures { Tells (LeafFinds at.now.inst.now at.now.cuts.now at.now.cost (region_by at.now.forbidden.now at.now.ranges.now) at.now.index evidence.now) (result_err result) }
 {
     match evidence {
-        Evidence::Bound(prices) => check_bound(alloc, at, prices),
+        Evidence::Bound(numbers) => check_bound(alloc, at, numbers),
         Evidence::Routed => check_routed(alloc, at),
         Evidence::Overfull { link } => check_overfull(alloc, at, *link),
         Evidence::Cut { demand, reached } => check_cut(at, *demand, reached.as_slice()),
         Evidence::Far { demand } => check_far(alloc, at, *demand),
         Evidence::Crowd(prices) => check_crowd(alloc, at, prices),
-        Evidence::Open(prices) => check_open(at, prices),
+        Evidence::Open(numbers) => check_open(at, numbers),
     }
 }
 
@@ -428,15 +436,14 @@ pub(crate) fn open_bound(
 ) -> Result<Option<i128>, AllocError>
     requires table { at.now.table.now ≡ at.now.inst.now }
     requires ranges { AreRanges at.now.inst.now at.now.ranges.now }
-    requires fits { FitsEvidence at.now.inst.now.nodes (places at.now.inst.now) evidence.now }
-    requires limit { IsOpenWithin at.now.inst.now evidence.now }
-    ensures bound { IfOk result (λ bound. IfSome bound (IsOpenBound at.now.inst.now (region_by at.now.forbidden.now at.now.ranges.now) evidence.now)) }
-    ensures none { IfOk result (λ bound. IfNone bound ((bound : ℤ) → IsOpenBound at.now.inst.now (region_by at.now.forbidden.now at.now.ranges.now) evidence.now bound → ⊥)) }
+    requires cuts { HasRests at.now.inst.now at.now.cuts.now at.now.rests.now }
+    requires fits { FitsEvidence at.now.inst.now.nodes (places at.now.inst.now + length at.now.cuts.now) evidence.now }
+    requires lawful { IsOpenLawful at.now.inst.now at.now.cuts.now evidence.now }
+    ensures bound { IfOk result (λ bound. IfSome bound (IsOpenBound at.now.inst.now at.now.cuts.now (region_by at.now.forbidden.now at.now.ranges.now) evidence.now)) }
+    ensures none { IfOk result (λ bound. IfNone bound ((bound : ℤ) → IsOpenBound at.now.inst.now at.now.cuts.now (region_by at.now.forbidden.now at.now.ranges.now) evidence.now bound → ⊥)) }
 {
     match evidence {
-        Evidence::Open(prices) => {
-            bound_at(alloc, at.inst, at.table, at.forbidden, at.ranges, prices)
-        }
+        Evidence::Open(numbers) => bound_at(alloc, at, numbers),
         _ => Ok(None),
     }
 }

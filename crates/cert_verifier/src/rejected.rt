@@ -18,6 +18,10 @@ pub enum Rejected {
         stated: u128,
         found: u128,
     },
+    /// The cut of this number, counted from 0, is none of the instance, or is the same as an earlier one.
+    Cuts {
+        index: u32,
+    },
     /// The split of this record breaks this rule of its kind.
     Split {
         index: u32,

@@ -14,13 +14,13 @@ ghost use Rattle.cert_verifier.specs.Told.{Tells};
 ghost use Rattle.cert_verifier.specs.PlanRules.{BoundFinds, CountsFind, PlanFinds, IsRejection};
 
 use crate::claims::{
-    check_plan_design, examined_in, has_its_open, has_sizes, keeps_budget, stated_cost,
+    check_cuts, check_plan_design, examined_in, has_its_open, has_sizes, keeps_budget, stated_cost,
 };
 use crate::rejected::Rejected;
 use crate::walk::{Against, lower, walk_tree};
 use link_steps::{StepTable, cost_unit};
 use plan_base::Instance;
-use proof_tree::{Plan, PlanStatus};
+use proof_tree::{Plan, PlanStatus, rests_of};
 use std::alloc::Global;
 
 /// The cost as a bound, both in cost grains.
@@ -48,7 +48,7 @@ fn check_stated_bound(stated: Option<i128>, found: Option<i128>) -> Result<(), R
 /// Whether an undecided plan states the bound that it has.
 fn check_bound(plan: &Plan, lowest: Option<i128>) -> Result<(), Rejected>
     requires { IfSome (stated_cost plan.now) (λ cost. cost < 2 ^ 127) }
-    ensures { (p : AnyParts) → IsLeastBoundIn p (leaves_of p plan.now.tree) lowest
+    ensures { (p : AnyParts) → IsLeastBoundIn p plan.now.cuts (leaves_of p plan.now.tree) lowest
         → BoundFinds p plan.now plan.now.status (result_err result) }
 {
     match plan.status {
@@ -103,10 +103,14 @@ fn check_plan(
         return Err(Rejected::Size);
     }
     check_plan_design(inst, plan)?;
+    let cuts = plan.cuts.as_slice();
+    check_cuts(inst, cuts)?;
+    let rests = rests_of(alloc, inst, cuts)?;
     let against = Against {
         inst,
         table,
         plan,
+        rests: rests.as_slice(),
         unit: cost_unit(inst),
     };
     let lowest = walk_tree(alloc, &against)?;
@@ -118,13 +122,14 @@ fn check_plan(
 ///
 /// - Takes: the instance's own table; a plan whose parts fit, as `Plan::fits` tells.
 /// - Gives: `Ok` exactly where the plan is valid, but for want of memory.
-/// - Errors: the first rule that is broken, in this order: the sizes, the design, its cost, each record in preorder (its
-///   kind first, then the rules of a split or of a leaf), an undecided plan without an open leaf, the count of examined
-///   nodes, the budget, the bound.
+/// - Errors: the first rule that is broken, in this order: the sizes, the design, its cost, each cut, each record in
+///   preorder (its kind first, then the rules of a split or of a leaf), an undecided plan without an open leaf, the count
+///   of examined nodes, the budget, the bound.
 /// - Rule: docs/FORMATS.md, "Rules of a plan".
 /// - Time: linear in the tree, but for each leaf: nodes times arcs to price it, for each source of a demand and for each
-///   demand that is forbidden an arc, and the steps of links whose loads are split; and where it is closed by its paths,
-///   for each demand and each arc of its path.
+///   demand that is forbidden an arc, and the steps of links whose loads are split; where the plan has cuts, the steps of
+///   all links times the cuts that they cross; and where it is closed by its paths, for each demand and each arc of its
+///   path. For each cut the demands and the places, and the earlier cuts.
 pub fn verify(
     alloc: Global,
     inst: &Instance,

@@ -1,6 +1,6 @@
 //! The walk over the records of a tree, with the region of the place where it is.
 
-ghost use Rattle.std.specs.Prelude.{◌≡◌, ◌≢◌, ◌<◌, ◌++◌, ◌∷◌, [], false, None, Some, List, All, length, reverse, slice_get, IfOk, IfErr, OnOk};
+ghost use Rattle.std.specs.Prelude.{◌≡◌, ◌≢◌, ◌<◌, ◌+◌, ◌++◌, ◌∷◌, [], false, None, Some, List, All, length, reverse, slice_get, IfOk, IfErr, OnOk};
 ghost use Rattle.std.specs.Result.{result_err};
 ghost use Rattle.plan_base.specs.Places.{places};
 ghost use Rattle.plan_base.specs.declared.parts.Parts.{Parts as AnyParts};
@@ -16,7 +16,7 @@ ghost use Rattle.proof_tree.specs.Spellings.{FitsRecord, IsSpellable};
 ghost use Rattle.verifier_paths.specs.Kept.{forbidden_by, without_forbidden, HasRows};
 ghost use Rattle.cert_verifier.specs.declared.rejected.Rejected.TheVariants.{OutOfMemory};
 ghost use Rattle.cert_verifier.specs.Told.{Tells};
-ghost use Rattle.cert_verifier.specs.Bounds.{IsLowerOf, IsLeastBoundIn};
+ghost use Rattle.cert_verifier.specs.Bounds.{HasRests, IsLowerOf, IsLeastBoundIn};
 ghost use Rattle.cert_verifier.specs.RecordRules.{RecordFinds, TreeFinds};
 ghost use Rattle.cert_verifier.specs.SplitRules.{SplitFinds, LoadsFind};
 ghost use Rattle.cert_verifier.specs.Walks.{region_by, Splits, IsWithin, IsPlace, StandsAt, AreLeft, IsAfter};
@@ -57,6 +57,8 @@ pub(crate) struct Against<'a> {
     pub(crate) inst: &'a Instance,
     pub(crate) table: &'a StepTable,
     pub(crate) plan: &'a Plan,
+    /// What crosses each of the plan's cuts beyond what it leaves out, in load grains.
+    pub(crate) rests: &'a [u64],
     /// The unit of costs, in cost grains.
     pub(crate) unit: u128,
 }
@@ -256,15 +258,16 @@ impl Walk {
     ) -> Result<(), Rejected>
         requires table { against.now.table.now ≡ against.now.inst.now }
         requires unit { IsUnit against.now.inst.now against.now.unit }
+        requires cuts { HasRests against.now.inst.now against.now.plan.now.cuts against.now.rests.now }
         requires ranges { AreRanges against.now.inst.now self.old.ranges }
         requires node { node.now ≡ Leaf evidence.now }
-        requires fits { FitsRecord against.now.inst.now.nodes (places against.now.inst.now) node.now }
+        requires fits { FitsRecord against.now.inst.now.nodes (places against.now.inst.now + length against.now.plan.now.cuts) node.now }
         ensures found { Tells (RecordFinds against.now.inst.now against.now.plan.now (region_by self.old.forbidden self.old.ranges) index node.now) (result_err result) }
         ensures forbidden { self.new.forbidden ≡ self.old.forbidden }
         ensures ranges { self.new.ranges ≡ self.old.ranges }
         ensures turns { self.new.turns ≡ self.old.turns }
-        ensures least { OnOk result ((leaves : List LeafAt) → IsLeastBoundIn against.now.inst.now leaves self.old.least
-            → IsLeastBoundIn against.now.inst.now (leaves ++ leaf_here (region_by self.old.forbidden self.old.ranges) node.now) self.new.least) }
+        ensures least { OnOk result ((leaves : List LeafAt) → IsLeastBoundIn against.now.inst.now against.now.plan.now.cuts leaves self.old.least
+            → IsLeastBoundIn against.now.inst.now against.now.plan.now.cuts (leaves ++ leaf_here (region_by self.old.forbidden self.old.ranges) node.now) self.new.least) }
     {
         if is_wrong_kind(against.plan, node) {
             return Err(Rejected::Kind { index });
@@ -274,6 +277,8 @@ impl Walk {
             table: against.table,
             forbidden: &self.forbidden,
             ranges: &self.ranges,
+            cuts: &against.plan.cuts,
+            rests: against.rests,
             unit: against.unit,
             cost: stated_cost(against.plan),
             index,
@@ -323,8 +328,9 @@ impl Walk {
     fn visit(&mut self, alloc: Global, against: &Against, index: u32) -> Result<(), Rejected>
         requires table { against.now.table.now ≡ against.now.inst.now }
         requires unit { IsUnit against.now.inst.now against.now.unit }
+        requires cuts { HasRests against.now.inst.now against.now.plan.now.cuts against.now.rests.now }
         requires index { index < length against.now.plan.now.tree }
-        requires fits { All (FitsRecord against.now.inst.now.nodes (places against.now.inst.now)) against.now.plan.now.tree }
+        requires fits { All (FitsRecord against.now.inst.now.nodes (places against.now.inst.now + length against.now.plan.now.cuts)) against.now.plan.now.tree }
         requires rows { HasRows against.now.inst.now self.old.forbidden }
         requires stands { StandsAt against.now.inst.now against.now.plan.now.tree (reverse self.old.turns.items) (region_by self.old.forbidden self.old.ranges) }
         ensures found { (node : AnyRecord) → slice_get against.now.plan.now.tree index ≡ Some node
@@ -334,8 +340,8 @@ impl Walk {
             → AreLeft against.now.inst.now against.now.plan.now.tree (reverse self.new.turns.items) (region_by self.new.forbidden self.new.ranges) (children_at (region_by self.old.forbidden self.old.ranges) node ++ gs)) }
         ensures rows { HasRows against.now.inst.now self.new.forbidden }
         ensures least { OnOk result ((node : AnyRecord) (leaves : List LeafAt) → slice_get against.now.plan.now.tree index ≡ Some node
-            → IsLeastBoundIn against.now.inst.now leaves self.old.least
-            → IsLeastBoundIn against.now.inst.now (leaves ++ leaf_here (region_by self.old.forbidden self.old.ranges) node) self.new.least) }
+            → IsLeastBoundIn against.now.inst.now against.now.plan.now.cuts leaves self.old.least
+            → IsLeastBoundIn against.now.inst.now against.now.plan.now.cuts (leaves ++ leaf_here (region_by self.old.forbidden self.old.ranges) node) self.new.least) }
     {
         let node = &against.plan.tree.nodes()[index as usize];
         match node {
@@ -370,11 +376,12 @@ impl Walk {
 pub(crate) fn walk_tree(alloc: Global, against: &Against) -> Result<Option<i128>, Rejected>
     requires table { against.now.table.now ≡ against.now.inst.now }
     requires unit { IsUnit against.now.inst.now against.now.unit }
+    requires cuts { HasRests against.now.inst.now against.now.plan.now.cuts against.now.rests.now }
     requires sizes { HasSizes against.now.inst.now against.now.plan.now }
     requires spelled { IsSpellable against.now.plan.now }
     ensures fault { IfErr result (λ fault. fault ≢ OutOfMemory → TreeFinds against.now.inst.now against.now.plan.now against.now.plan.now.tree (Some fault)) }
     ensures none { IfOk result (λ _. TreeFinds against.now.inst.now against.now.plan.now against.now.plan.now.tree None) }
-    ensures least { IfOk result (IsLeastBoundIn against.now.inst.now (leaves_of against.now.inst.now against.now.plan.now.tree)) }
+    ensures least { IfOk result (IsLeastBoundIn against.now.inst.now against.now.plan.now.cuts (leaves_of against.now.inst.now against.now.plan.now.tree)) }
 {
     let mut walk = Walk::new(alloc, against.inst)?;
     for index in 0..against.plan.tree.nodes().len() {

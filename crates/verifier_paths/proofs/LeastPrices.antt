@@ -16,6 +16,7 @@ use Rattle.verifier_paths.specs.Labels.{label_at, may_take, is_left_out, IsAtMos
 use Rattle.verifier_paths.proofs.Ways.{MeetOnce, route_of_way, simple_of_way, way-all, way_of_simple}
 use Rattle.verifier_paths.proofs.Rounding.{TakesArcs, price-few}
 
+-- what may be taken is an arc
 pub takes_arcs : (p : Parts) (r : Forbidden) (k : ℕ) (out : Option ArcId) → TakesArcs p (may_take p r k out)
 takes_arcs p r k out a taken = and-first (is_arc p a) _ taken
 
@@ -28,12 +29,15 @@ three false b c h = cc
 all-three : (a b c : Bool) → a ≡ true → b ≡ false → c ≡ false → (a && (not b && not c)) ≡ true
 all-three a b c is_a not_b not_c = rw (is_a, not_b, not_c) refl
 
+-- an arc that may be taken is not forbidden
 pub taken_permitted : (p : Parts) (r : Forbidden) (k : ℕ) (out : Option ArcId) (a : ArcId) → IsTrue (may_take p r k out a) → r k a ≡ false
 taken_permitted p r k out a taken = (three (is_arc p a) (r k a) (is_left_out out a) taken).0
 
+-- an arc that may be taken is not the one to be left out
 pub taken_not_left_out : (p : Parts) (r : Forbidden) (k : ℕ) (out : Option ArcId) (a : ArcId) → IsTrue (may_take p r k out a) → is_left_out out a ≡ false
 taken_not_left_out p r k out a taken = (three (is_arc p a) (r k a) (is_left_out out a) taken).1
 
+-- an arc that is neither forbidden nor left out may be taken
 pub takes_of : (p : Parts) (r : Forbidden) (k : ℕ) (out : Option ArcId) (a : ArcId) → IsTrue (is_arc p a) → r k a ≡ false → is_left_out out a ≡ false → IsTrue (may_take p r k out a)
 takes_of p r k out a is permitted kept = all-three (is_arc p a) (r k a) (is_left_out out a) is permitted kept
 
@@ -48,6 +52,7 @@ permitted_of_way p r k out arcs way once = record {
   permitted = All-weaker (λ a. IsTrue (may_take p r k out a)) (λ a. r k a ≡ false) (λ a taken. taken_permitted p r k out a taken) arcs (way-all p (may_take p r k out) (demand_at p k).source.0 (demand_at p k).target.0 arcs way);
 }
 
+-- a label that is at most a bound tells a price that is at most the bound
 pub label-below : (label : Option ℕ) (price bound : ℕ) → label ≡ Some price → IsAtMost label bound → price ≤ bound
 label-below label price bound is h = subst (λ (x : Option ℕ). IsAtMost x bound) is h
 
@@ -91,6 +96,7 @@ price-within p r prices k price inst source limit h =
     let nodes = inst.nodes in
     products (length h.path) (price_limit p) (total_load p) price (omega (arith, short, nodes)) (omega (arith, low, h.attained)) (limit-total p)
 
+-- least prices of a demand's paths, times the total load, fit a machine integer
 pub label-within : (p : Parts) (r : Forbidden) (prices : List ℕ) (k : ℕ) (label : Option ℕ) → IsInstance p → (demand_at p k).source.0 < p.nodes → AreWithinLimit p prices
     → MatchOption label (HasNoPath p r k) (λ price. IsLeastPrice p r prices k price) → IfSome label (λ price. price * total_load p ≤ 511 * MAX_PRICED_LOAD)
 label-within p r prices k None inst source limit h = tt

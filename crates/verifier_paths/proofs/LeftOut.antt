@@ -16,12 +16,14 @@ use Rattle.verifier_paths.proofs.LeastPrices.{taken_permitted, taken_not_left_ou
 
 -- ---- paths that may be taken are permitted
 
+-- a path of arcs that may be taken is permitted
 pub permitted_of_path : (p : Parts) (r : Forbidden) (k : ℕ) (out : Option ArcId) (arcs : List ArcId) → IsPathOf p (may_take p r k out) k arcs → IsPermittedPath p r k arcs
 permitted_of_path p r k out arcs h = record {
   simple = h.simple;
   permitted = All-weaker (λ a. IsTrue (may_take p r k out a)) (λ a. r k a ≡ false) (λ a taken. taken_permitted p r k out a taken) arcs h.taken;
 }
 
+-- a permitted path is one of arcs that may be taken
 pub path_of_permitted : (p : Parts) (r : Forbidden) (k : ℕ) (arcs : List ArcId) → IsPermittedPath p r k arcs → IsPathOf p (may_take p r k None) k arcs
 path_of_permitted p r k arcs h = record { simple = h.simple; taken = path-taken p r k arcs h }
 
@@ -137,6 +139,7 @@ paths_more p r n paths path h is = record {
   ];
 }
 
+-- no demands need no paths
 pub paths_none : (p : Parts) (r : Forbidden) → ArePathsTo p r 0 []
 paths_none p r = record { count = refl; each = λ k below. absurd (omega (arith, below)) }
 
@@ -165,6 +168,7 @@ only_more p r n paths h is k below = elim (before_or_at k n below) [
 
 -- ---- what a search answers
 
+-- a search that found nothing has shown what nothing stands for
 pub none_if : {A : Type 0} (found : Option A) (P : Type 0) → false ≡ is_some found → IfNone found P → P
 none_if None P none h = h
 none_if (Some a) P none h = absurd (let bad : false ≡ true = none in cc)

@@ -11,14 +11,17 @@ use Rattle.plan_base.specs.declared.ids.DemandId.{DemandId}
 use Rattle.arc_restrict.specs.Restrictions.{Forbidden, is_among, none_forbidden, with_forbidden}
 use Rattle.verifier_paths.specs.Kept.{Marks, forbidden_by, AreKept, AreClear, IsUnrestricted, without_forbidden}
 
+-- marks forbid nothing to demands that do not exist
 pub past_demands : (rows : Marks) (k : ℕ) (a : ArcId) → rows.demands ≤ k → forbidden_by rows k a ≡ false
 unfolding forbidden_by
 past_demands rows k a h = and_left _ _ (le-ltb k rows.demands h)
 
+-- marks forbid no arcs that do not exist
 pub past_arcs : (rows : Marks) (k : ℕ) (a : ArcId) → rows.arcs ≤ a.0 → forbidden_by rows k a ≡ false
 unfolding forbidden_by
 past_arcs rows k a h = and_right _ _ (and_left _ _ (le-ltb a.0 rows.arcs h))
 
+-- to a demand an arc is forbidden exactly where its mark is set
 pub within_rows : (rows : Marks) (k : ℕ) (a : ArcId) → k < rows.demands → a.0 < rows.arcs → forbidden_by rows k a ≡ slice_index_or rows.marks (k * rows.arcs + a.0) false
 unfolding forbidden_by
 within_rows rows k a demand arc =
@@ -44,6 +47,7 @@ unrestricted_row rows k here clear a = elim (cases_lt a.0 rows.arcs) [
   | inr past ↦ past_arcs rows k a past
 ]
 
+-- a demand to which nothing is forbidden has a row without marks
 pub clear_row : (rows : Marks) (k : ℕ) → k < rows.demands → IsUnrestricted (forbidden_by rows) k → AreClear rows.marks (k * rows.arcs) rows.arcs
 clear_row rows k here unrestricted i within = sym (within_rows rows k (record { 0 = i }) here within) ∙ unrestricted (record { 0 = i })
 

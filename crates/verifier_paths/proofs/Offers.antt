@@ -13,18 +13,22 @@ use Rattle.verifier_paths.specs.Labels.{label_at, lower_of, offered_to, IsAtMost
 
 -- ---- prices and bounds
 
+-- the label tells a price, and it is at most the bound
 pub record HasAtMost (label : Option ℕ) (bound : ℕ) : Type 0 where
   pub price : ℕ
   pub is : label ≡ Some price
   pub within : price ≤ bound
 
+-- a label that is at most a bound tells a price
 pub known : (label : Option ℕ) (bound : ℕ) → IsAtMost label bound → HasAtMost label bound
 known None bound h = absurd h
 known (Some price) bound h = record { price = price; is = refl; within = h }
 
+-- a price that is at most the bound makes its label so
 pub at_most : (label : Option ℕ) (price bound : ℕ) → label ≡ Some price → price ≤ bound → IsAtMost label bound
 at_most label price bound is within = subst (λ (x : Option ℕ). IsAtMost x bound) (sym is) within
 
+-- a label that is at most a bound is at most each larger one
 pub at_most-le : (label : Option ℕ) (bound more : ℕ) → IsAtMost label bound → bound ≤ more → IsAtMost label more
 at_most-le None bound more h le = absurd h
 at_most-le (Some price) bound more h le = omega (arith, h, le)
@@ -52,6 +56,7 @@ lower-from (Some old) offered price is = elim (cases_Bool (nat_le old offered)) 
 
 -- ---- a round so far
 
+-- with no arc to offer, labels stay as they are
 pub offered-none : (p : Parts) (takes : ArcId → Bool) (prices : List ℕ) (old before : List (Option ℕ)) (kind : ArcId → Type 0) → ((a : ArcId) → kind a → ⊥) → AreOffered p takes prices old kind before before
 offered-none p takes prices old before kind none = record {
   count = refl;
@@ -60,6 +65,7 @@ offered-none p takes prices old before kind none = record {
   offered = λ a price of_kind. absurd (none a of_kind);
 }
 
+-- of the numbers below the next one, each is before the last or the last
 pub before_or_at : (i n : ℕ) → i < n + 1 → (i < n) ⊎ (i ≡ n)
 before_or_at i n below = grind arith
 
@@ -187,9 +193,11 @@ pub record StandsBelow (arcs : List ArcId) (i : ℕ) (a : ArcId) : Type 0 where
   pub below : place < i
   pub is : arc_at arcs place ≡ a
 
+-- no arc stands at the first 0 places
 pub stands-none : (arcs : List ArcId) (a : ArcId) → StandsBelow arcs 0 a → ⊥
 stands-none arcs a h = omega (arith, h.below)
 
+-- an arc at one of the first places is before the last of them or at it
 pub stands-parts : (arcs : List ArcId) (i : ℕ) (a : ArcId) → StandsBelow arcs (i + 1) a → StandsBelow arcs i a ⊎ (a ≡ arc_at arcs i)
 stands-parts arcs i a h = elim (before_or_at h.place i h.below) [
   | inl below ↦ inl (record { place = h.place; below = below; is = h.is })

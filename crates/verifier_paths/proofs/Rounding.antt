@@ -31,6 +31,7 @@ either : {X : Type 0} (b : Bool) (P : X → Type 0) {x y : X} → P x → P y �
 either true P on_true on_false = on_true
 either false P on_true on_false = on_false
 
+-- the tail of an arc is a node
 pub tail-within : (p : Parts) (a : ArcId) → IsInstance p → IsTrue (is_arc p a) → (tail_of p a).0 < p.nodes
 tail-within p a inst is =
     let inside = ltb-true (link_of a) (length p.links) (and-first _ _ is) in
@@ -40,6 +41,7 @@ tail-within p a inst is =
 half-below : (n m : ℕ) → n / 2 < m → n < 2 * m
 half-below n m h = grind arith
 
+-- the number of an arc is below twice the count of links
 pub number-within : (p : Parts) (a : ArcId) → IsTrue (is_arc p a) → a.0 < 2 * length p.links
 number-within p a is = half-below a.0 (length p.links) (ltb-true (link_of a) (length p.links) (and-first _ _ is))
 
@@ -104,6 +106,7 @@ none_offers p takes prices old inst are = λ a price taken tail.
     let none : label_at (replicate p.nodes None) (tail_of p a).0 ≡ None = get_or-replicate p.nodes (tail_of p a).0 None None (tail-within p a inst (are a taken)) in
     absurd (let bad : None ≡ Some price = sym none ∙ tail in cc)
 
+-- before the first round the labels are least prices of ways without arcs
 pub first_least : (p : Parts) (takes : ArcId → Bool) (prices : List ℕ) (source : ℕ) → source < p.nodes → AreLeastWithin p takes (price_of p prices) source 0 (first_labels p.nodes source)
 first_least p takes prices source within = record {
   count = length-set (replicate p.nodes None) source (Some 0) ∙ length-replicate p.nodes None;
@@ -134,9 +137,11 @@ price-at_most p [] q limit = omega arith
 price-at_most p (x ∷ xs) zero limit = limit 0 0 (omega arith)
 price-at_most p (x ∷ xs) (suc q) limit = price-at_most p xs q (λ i d below. limit (suc i) d (omega (arith, below)))
 
+-- the price of a path is at most the price limit times its count of arcs
 pub price-few : (p : Parts) (prices : List ℕ) (arcs : List ArcId) → AreWithinLimit p prices → price_of p prices arcs ≤ length arcs * price_limit p
 price-few p prices arcs limit = sum_by-le (λ (a : ArcId). slice_index prices (place_of p a)) (price_limit p) arcs (λ i d below. price-at_most p prices (place_of p (get_or arcs i d)) limit)
 
+-- labels of few rounds are so small that one price more still fits a machine integer
 pub least-small : (p : Parts) (takes : ArcId → Bool) (prices : List ℕ) (source most : ℕ) (labels : List (Option ℕ)) → AreWithinLimit p prices → most ≤ 511
     → AreLeastWithin p takes (price_of p prices) source most labels → AreSmall labels
 least-small p takes prices source most labels limit few least =
@@ -174,6 +179,7 @@ more_rounds p takes cost source most labels fixed least zero all is = subst (λ 
 more_rounds p takes cost source most labels fixed least (suc more) zero is = absurd (omega (arith, is))
 more_rounds p takes cost source most labels fixed least (suc more) (suc all) is = fixed source all (more_rounds p takes cost source most labels fixed least more all (omega (arith, is)))
 
+-- a round that changes no label has found the least prices of all ways
 pub fixed_round : (p : Parts) (takes : ArcId → Bool) (cost : List ArcId → ℕ) (source most : ℕ) (labels : List (Option ℕ)) → IsRound p takes cost labels labels
     → most ≤ p.nodes → AreLeastWithin p takes cost source most labels → AreLeast p takes cost source labels
 fixed_round p takes cost source most labels fixed few least = record {

@@ -28,6 +28,7 @@ ones-count p takes prices from to (a ∷ arcs) ones are way =
     let one : slice_index prices (place_of p a) ≡ 1 = ones.each (place_of p a) 0 (omega (arith, inside, ones.count)) in
     omega (arith, price-cons p prices a arcs, rest, one)
 
+-- at prices of one, a least price is a fewest count of arcs
 pub fewest_of_least : (p : Parts) (takes : ArcId → Bool) (prices : List ℕ) (source : ℕ) (labels : List (Option ℕ)) → AreOnes p prices → TakesArcs p takes → AreLeast p takes (price_of p prices) source labels → AreFewest p takes source labels
 fewest_of_least p takes prices source labels ones are least = record {
   count = least.count;
@@ -75,6 +76,7 @@ step_of_way p takes source here steps labels (b ∷ arcs) inst are within least 
     let same : tail.price ≡ steps = omega (arith, low, joined, back.costs, tail.within, longer, size) in
     record { arc = l.last; is = record { taken = l.taken; leads = l.leads; nearer = tail.is ∙ ap (λ n. Some n) same } }
 
+-- from a node that is reached in some arcs, an arc leads back to one that is one arc nearer
 pub has_step : (p : Parts) (takes : ArcId → Bool) (source here steps : ℕ) (labels : List (Option ℕ)) → IsInstance p → TakesArcs p takes → here < p.nodes → AreFewest p takes source labels
     → label_at labels here ≡ Some (suc steps) → HasStep p takes labels here steps
 has_step p takes source here steps labels inst are within least is =
@@ -87,12 +89,14 @@ has_step p takes source here steps labels inst are within least is =
 abbrev pub HasNoStep : Parts → (ArcId → Bool) → List (Option ℕ) → ℕ → ℕ → ℕ → Type 0
 HasNoStep p takes labels here steps number = (a : ArcId) → a.0 < number → IsStep p takes labels here steps a → ⊥
 
+-- an arc that is no step back is one more of which none is
 pub no_step-more : (p : Parts) (takes : ArcId → Bool) (labels : List (Option ℕ)) (here steps number : ℕ) → (IsStep p takes labels here steps (arc_of number) → ⊥) → HasNoStep p takes labels here steps number → HasNoStep p takes labels here steps (number + 1)
 no_step-more p takes labels here steps number not_this h a below step = elim (before_or_at a.0 number below) [
   | inl before ↦ h a before step
   | inr is ↦ not_this (subst (IsStep p takes labels here steps) (ap arc_of is) step)
 ]
 
+-- where no arc at all is a step back, there is none
 pub no_step-all : (p : Parts) (takes : ArcId → Bool) (labels : List (Option ℕ)) (here steps number : ℕ) → TakesArcs p takes → number ≡ 2 * length p.links → HasNoStep p takes labels here steps number → (a : ArcId) → IsStep p takes labels here steps a → ⊥
 no_step-all p takes labels here steps number are all h a step = h a (let inside = number-within p a (are a step.taken) in omega (arith, inside, all)) step
 
@@ -110,9 +114,11 @@ pub record IsBack (p : Parts) (takes : ArcId → Bool) (labels : List (Option �
   pub way : IsWay p takes here target (reverse arcs)
   pub rising : IsRising p labels left (reverse arcs)
 
+-- at the target the way back has no arcs
 pub back-none : (p : Parts) (takes : ArcId → Bool) (labels : List (Option ℕ)) (target left : ℕ) → target < p.nodes → label_at labels target ≡ Some left → IsBack p takes labels target left target []
 back-none p takes labels target left inside steps = record { inside = inside; steps = steps; way = refl; rising = tt }
 
+-- one step back more
 pub back-more : (p : Parts) (takes : ArcId → Bool) (labels : List (Option ℕ)) (target left here : ℕ) (arcs : List ArcId) (a : ArcId) → IsInstance p → TakesArcs p takes
     → IsStep p takes labels here left a → IsBack p takes labels target (suc left) here arcs → IsBack p takes labels target left (tail_of p a).0 (arcs ++ a ∷ [])
 back-more p takes labels target left here arcs a inst are step h =

@@ -28,15 +28,18 @@ pub record HasLast (p : Parts) (takes : ArcId → Bool) (from to : ℕ) (arcs : 
   pub leads : (head_of p last).0 ≡ to
   pub is : arcs ≡ front ++ last ∷ []
 
+-- a way that has arcs has a last one
 pub has_last : (p : Parts) (takes : ArcId → Bool) (from to : ℕ) (a : ArcId) (arcs : List ArcId) → IsWay p takes from to (a ∷ arcs) → HasLast p takes from to (a ∷ arcs)
 has_last p takes from to a [] way = record { front = []; last = a; way = sym way.1; taken = way.0; leads = way.2; is = refl }
 has_last p takes from to a (b ∷ arcs) way =
     let rest = has_last p takes (head_of p a).0 to b arcs way.2 in
     record { front = a ∷ rest.front; last = rest.last; way = (way.0, way.1, rest.way); taken = rest.taken; leads = rest.leads; is = ap (λ (xs : List ArcId). a ∷ xs) rest.is }
 
+-- the price of a way with one arc in front
 pub price-cons : (p : Parts) (prices : List ℕ) (a : ArcId) (arcs : List ArcId) → price_of p prices (a ∷ arcs) ≡ slice_index prices (place_of p a) + price_of p prices arcs
 price-cons p prices a arcs = sum_by-cons (λ (a : ArcId). slice_index prices (place_of p a)) a arcs
 
+-- the price of a way with one arc at the end
 pub price-push : (p : Parts) (prices : List ℕ) (arcs : List ArcId) (a : ArcId) → price_of p prices (arcs ++ a ∷ []) ≡ price_of p prices arcs + slice_index prices (place_of p a)
 price-push p prices arcs a = sum_by_push (λ (a : ArcId). slice_index prices (place_of p a)) arcs a
 

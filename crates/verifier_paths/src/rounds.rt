@@ -55,7 +55,7 @@ fn relax_arc(
     old: &[Option<u128>],
     new: &mut Vec<Option<u128>>,
 )
-    requires count { length prices.now ≡ places ways.now.inst.now }
+    requires count { places ways.now.inst.now ≤ length prices.now }
     requires limit { AreWithinLimit ways.now.inst.now prices.now }
     requires old { length old.now ≡ ways.now.inst.now.nodes }
     requires small { AreSmall old.now }
@@ -83,7 +83,7 @@ fn relax_from(
     new: &mut Vec<Option<u128>>,
 )
     requires node { node.0 < ways.now.inst.now.nodes }
-    requires count { length prices.now ≡ places ways.now.inst.now }
+    requires count { places ways.now.inst.now ≤ length prices.now }
     requires limit { AreWithinLimit ways.now.inst.now prices.now }
     requires old { length old.now ≡ ways.now.inst.now.nodes }
     requires small { AreSmall old.now }
@@ -116,7 +116,7 @@ fn relax_all(
     old: &[Option<u128>],
     new: &mut Vec<Option<u128>>,
 )
-    requires count { length prices.now ≡ places ways.now.inst.now }
+    requires count { places ways.now.inst.now ≤ length prices.now }
     requires limit { AreWithinLimit ways.now.inst.now prices.now }
     requires earlier { length earlier.now ≡ ways.now.inst.now.nodes }
     requires old { length old.now ≡ ways.now.inst.now.nodes }
@@ -177,7 +177,7 @@ pub(crate) fn least_prices(
     prices: &[u128],
 ) -> Result<Vec<Option<u128>>, AllocError>
     requires demand { ways.now.demand.0 < length ways.now.inst.now.demands }
-    requires count { length prices.now ≡ places ways.now.inst.now }
+    requires count { places ways.now.inst.now ≤ length prices.now }
     requires limit { AreWithinLimit ways.now.inst.now prices.now }
     ensures lawful { IsInstance ways.now.inst.now }
     ensures least { IfOk result (λ labels. AreLeast ways.now.inst.now
@@ -203,7 +203,7 @@ pub(crate) fn least_prices(
 
 /// The least price of a permitted path of the demand, and none where it has none.
 ///
-/// - Takes: a demand of the instance, and one price for each place, within the limit, in thousandths of a cost grain per
+/// - Takes: a demand of the instance; at least one price for each place, within the limit, in thousandths of a cost grain per
 ///   load grain.
 /// - Gives: a price in the same unit.
 /// - Errors: want of memory.
@@ -217,7 +217,7 @@ pub fn least_price(
     prices: &[u128],
 ) -> Result<Option<u128>, AllocError>
     requires demand { demand.0 < length inst.now.demands }
-    requires count { length prices.now ≡ places inst.now }
+    requires count { places inst.now ≤ length prices.now }
     requires limit { AreWithinLimit inst.now prices.now }
     ensures value { IfOk result (λ price. MatchOption price
         (HasNoPath inst.now (forbidden_by forbidden.now) demand.0)

@@ -1,6 +1,6 @@
 //! Least prices of all demands: those that are forbidden nothing share one run of rounds for each source.
 
-ghost use Rattle.std.specs.Prelude.{◌≡◌, ◌<◌, ℕ, length, IfOk, OnOk, MatchOption};
+ghost use Rattle.std.specs.Prelude.{◌≡◌, ◌<◌, ◌≤◌, ℕ, length, IfOk, OnOk, MatchOption};
 ghost use Rattle.plan_base.specs.Places.{places};
 ghost use Rattle.arc_restrict.specs.Prices.{AreWithinLimit};
 ghost use Rattle.verifier_paths.specs.Kept.{forbidden_by};
@@ -19,7 +19,7 @@ fn unrestricted_prices(
     prices: &[u128],
 ) -> Result<Vec<Option<u128>>, AllocError>
     requires demand { demand.0 < length inst.now.demands }
-    requires count { length prices.now ≡ places inst.now }
+    requires count { places inst.now ≤ length prices.now }
     requires limit { AreWithinLimit inst.now prices.now }
     ensures { IfOk result (λ labels. AreUnrestricted inst.now prices.now demand.0 labels.items) }
 {
@@ -43,7 +43,7 @@ fn price_of_demand(
     labels: &[Option<u128>],
 ) -> Result<Option<u128>, AllocError>
     requires demand { demand.0 < length inst.now.demands }
-    requires count { length prices.now ≡ places inst.now }
+    requires count { places inst.now ≤ length prices.now }
     requires limit { AreWithinLimit inst.now prices.now }
     requires labels { AreUnrestricted inst.now prices.now demand.0 labels.now }
     ensures { IfOk result (IsPriceOf inst.now (forbidden_by forbidden.now) prices.now demand.0) }
@@ -78,7 +78,7 @@ fn price_all_from(
     labels: &[Option<u128>],
     found: &mut Vec<Option<u128>>,
 ) -> Result<(), AllocError>
-    requires count { length prices.now ≡ places inst.now }
+    requires count { places inst.now ≤ length prices.now }
     requires limit { AreWithinLimit inst.now prices.now }
     requires labels { (k : ℕ) → IsFrom inst.now source.0 k → AreUnrestricted inst.now prices.now k labels.now }
     requires found { length found.old.items ≡ length inst.now.demands }
@@ -103,7 +103,7 @@ fn price_source(
     source: NodeId,
     found: &mut Vec<Option<u128>>,
 ) -> Result<(), AllocError>
-    requires count { length prices.now ≡ places inst.now }
+    requires count { places inst.now ≤ length prices.now }
     requires limit { AreWithinLimit inst.now prices.now }
     requires found { length found.old.items ≡ length inst.now.demands }
     ensures { OnOk result (HasPriced inst.now (forbidden_by forbidden.now) prices.now source.0 found.old.items found.new.items) }
@@ -119,7 +119,7 @@ fn price_source(
 
 /// The least price of a permitted path of each demand, and none where it has none.
 ///
-/// - Takes: one price for each place, within the limit, in thousandths of a cost grain per load grain.
+/// - Takes: at least one price for each place, within the limit, in thousandths of a cost grain per load grain.
 /// - Gives: prices in the same unit, in the order of demands.
 /// - Errors: want of memory.
 /// - Rule: docs/DEFINITIONS.md, "Prices of paths".
@@ -130,7 +130,7 @@ pub fn prices_of_demands(
     forbidden: &Forbidden,
     prices: &[u128],
 ) -> Result<Vec<Option<u128>>, AllocError>
-    requires count { length prices.now ≡ places inst.now }
+    requires count { places inst.now ≤ length prices.now }
     requires limit { AreWithinLimit inst.now prices.now }
     ensures { IfOk result (λ found. ArePricesOf inst.now (forbidden_by forbidden.now) prices.now found.items) }
 {

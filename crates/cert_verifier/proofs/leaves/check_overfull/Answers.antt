@@ -38,7 +38,7 @@ returns-then-not-are_in_range c = λ differs.
     let few : places at.inst.now ≤ MAX_PLACES = places-few at.inst.now c.links.ensures.lawful in
     let are_loads : AreLoadsOf at.inst.now (design_of c.in-Only.paths) loads = λ q below. c.loads_of_paths-loads.ensures.value q (omega (arith, below, few)) in
     let fails : c.are_in_range.result ≡ false = search rules in
-    overfull_outside at.inst.now at.cost (region_by at.forbidden.now at.ranges.now) at.index c.args.link (design_of c.in-Only.paths) loads (omega arith) only.1 are_loads (not_so c.are_in_range.result _ c.are_in_range.ensures fails)
+    overfull_outside at.inst.now at.cuts.now at.cost (region_by at.forbidden.now at.ranges.now) at.index c.args.link (design_of c.in-Only.paths) loads (omega arith) only.1 are_loads (not_so c.are_in_range.result _ c.are_in_range.ensures fails)
 
 pub returns-else-not-are_in_range : goal.returns-else-not-are_in_range
 returns-else-not-are_in_range c = λ differs.
@@ -48,5 +48,5 @@ returns-else-not-are_in_range c = λ differs.
     let few : places at.inst.now ≤ MAX_PLACES = places-few at.inst.now c.links.ensures.lawful in
     let are_loads : AreLoadsOf at.inst.now (design_of c.in-Only.paths) loads = λ q below. c.loads_of_paths-loads.ensures.value q (omega (arith, below, few)) in
     let holds : c.are_in_range.result ≡ true = search rules in
-    overfull_decided at.inst.now at.cost (region_by at.forbidden.now at.ranges.now) at.index c.args.link (design_of c.in-Only.paths) loads c.cannot_carry.result _ (omega arith) only.1 are_loads (c.are_in_range.ensures.0 holds) c.cannot_carry.ensures
+    overfull_decided at.inst.now at.cuts.now at.cost (region_by at.forbidden.now at.ranges.now) at.index c.args.link (design_of c.in-Only.paths) loads c.cannot_carry.result _ (omega arith) only.1 are_loads (c.are_in_range.ensures.0 holds) c.cannot_carry.ensures
     c.holds_or.ensures.ok c.holds_or.ensures.broken

@@ -28,7 +28,7 @@ returns-in-Some c = λ differs.
     let only = rw c.in-Only.is at c.in_ok-only_paths.ensures.left in
     let few : places at.inst.now ≤ MAX_PLACES = places-few at.inst.now c.lawful.ensures in
     let are_loads : AreLoadsOf at.inst.now (design_of c.in-Only.paths) loads = λ q below. c.loads_of_paths-loads.ensures.value q (omega (arith, below, few)) in
-    routed_decided at.inst.now at.cost (region_by at.forbidden.now at.ranges.now) at.index (design_of c.in-Only.paths) loads c.in-Some.total c.costs_enough.result c.are_within-within.result _ only.1 are_loads c.in-Some.ensures.cost
+    routed_decided at.inst.now at.cuts.now at.cost (region_by at.forbidden.now at.ranges.now) at.index (design_of c.in-Only.paths) loads c.in-Some.total c.costs_enough.result c.are_within-within.result _ only.1 are_loads c.in-Some.ensures.cost
     c.costs_enough.ensures c.are_within-within.ensures c.routing_or.ensures.ok c.routing_or.ensures.cheap c.routing_or.ensures.long
 
 pub returns-in-None : goal.returns-in-None
@@ -38,4 +38,4 @@ returns-in-None c = λ differs.
     let only = rw c.in-Only.is at c.in_ok-only_paths.ensures.left in
     let few : places at.inst.now ≤ MAX_PLACES = places-few at.inst.now c.lawful.ensures in
     let are_loads : AreLoadsOf at.inst.now (design_of c.in-Only.paths) loads = λ q below. c.loads_of_paths-loads.ensures.value q (omega (arith, below, few)) in
-    rw c.broken-in-None.ensures (routed_overfull at.inst.now at.cost (region_by at.forbidden.now at.ranges.now) at.index (design_of c.in-Only.paths) loads only.1 are_loads c.in-None.ensures.none)
+    rw c.broken-in-None.ensures (routed_overfull at.inst.now at.cuts.now at.cost (region_by at.forbidden.now at.ranges.now) at.index (design_of c.in-Only.paths) loads only.1 are_loads c.in-None.ensures.none)

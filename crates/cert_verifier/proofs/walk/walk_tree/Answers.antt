@@ -5,12 +5,12 @@ use Rattle.cert_verifier.specs.declared.rejected.Rejected.{Rejected}
 use Rattle.cert_verifier.specs.declared.rejected.Rejected.TheVariants.{OutOfMemory}
 use Rattle.cert_verifier.specs.RecordRules.{TreeFinds}
 use Rattle.cert_verifier.specs.Walks.{region_by}
-use Rattle.cert_verifier.proofs.PlanSteps.{fits_places}
+use Rattle.cert_verifier.proofs.PlanSteps.{fits_numbers}
 use Rattle.cert_verifier.proofs.StepLaws.{so_far-start, so_far-stands, so_far-step, so_far-fault, so_far-end, record_at}
 use Rattle.cert_verifier.proofs.walk.walk_tree.Goals as goal
 
 pub visit-requires-clause-fits : goal.visit-requires-clause-fits
-visit-requires-clause-fits c = fits_places c.args.against.now.inst.now c.args.against.now.plan.now c.requires.sizes c.requires.spelled
+visit-requires-clause-fits c = fits_numbers c.args.against.now.inst.now c.args.against.now.plan.now c.requires.sizes c.requires.spelled
 
 pub loop-index-init : goal.loop-index-init
 loop-index-init c = record {

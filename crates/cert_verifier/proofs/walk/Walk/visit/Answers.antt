@@ -26,8 +26,8 @@ returns-in_ok-go_on-in-Leaf-clause-least c = λ node leaves found least.
     let p = c.args.against.now.inst.now in
     let g = region_by c.args.self.now.forbidden c.args.self.now.ranges in
     let same = record-is c.args.against.now.plan.now.tree c.nodes.result.now c.args.index c.index-nodes-index.result c.nodes.ensures.value c.index-nodes-index.is node found in
-    subst (λ n. IsLeastBoundIn p (leaves ++ leaf_here g n) c.go_on.new.self.least) same
-    (subst (λ b. IsLeastBoundIn p (leaves ++ leaf_here g c.index-nodes-index.result) b) (sym c.go_on.ensures.least) (c.in_ok-visit_leaf-in-Leaf.ensures.least leaves least))
+    subst (λ n. IsLeastBoundIn p c.args.against.now.plan.now.cuts (leaves ++ leaf_here g n) c.go_on.new.self.least) same
+    (subst (λ b. IsLeastBoundIn p c.args.against.now.plan.now.cuts (leaves ++ leaf_here g c.index-nodes-index.result) b) (sym c.go_on.ensures.least) (c.in_ok-visit_leaf-in-Leaf.ensures.least leaves least))
 
 pub returns-in_ok-visit_split-in-Split-clause-found : goal.returns-in_ok-visit_split-in-Split-clause-found
 returns-in_ok-visit_split-in-Split-clause-found c = λ node found other.
@@ -60,9 +60,9 @@ returns-in_ok-visit_split-in-Split-clause-least c = λ node leaves found least.
     let p = c.args.against.now.inst.now in
     let g = region_by c.args.self.now.forbidden c.args.self.now.ranges in
     let same = sym c.in-Split.is ∙ record-is c.args.against.now.plan.now.tree c.nodes.result.now c.args.index c.index-nodes-index.result c.nodes.ensures.value c.index-nodes-index.is node found in
-    subst (λ n. IsLeastBoundIn p (leaves ++ leaf_here g n) c.visit_split.new.self.least) same
-    (subst (λ b. IsLeastBoundIn p (leaves ++ leaf_here g (Split c.in-Split.demand c.in-Split.node c.in-Split.left c.in-Split.right)) b) (sym c.visit_split.ensures.least)
-    (subst (λ (ls : List LeafAt). IsLeastBoundIn p ls c.args.self.now.least) (sym (append-nil leaves)) least))
+    subst (λ n. IsLeastBoundIn p c.args.against.now.plan.now.cuts (leaves ++ leaf_here g n) c.visit_split.new.self.least) same
+    (subst (λ b. IsLeastBoundIn p c.args.against.now.plan.now.cuts (leaves ++ leaf_here g (Split c.in-Split.demand c.in-Split.node c.in-Split.left c.in-Split.right)) b) (sym c.visit_split.ensures.least)
+    (subst (λ (ls : List LeafAt). IsLeastBoundIn p c.args.against.now.plan.now.cuts ls c.args.self.now.least) (sym (append-nil leaves)) least))
 
 pub returns-in_ok-visit_loads-in-Loads-clause-found : goal.returns-in_ok-visit_loads-in-Loads-clause-found
 returns-in_ok-visit_loads-in-Loads-clause-found c = λ node found other.
@@ -87,6 +87,6 @@ returns-in_ok-visit_loads-in-Loads-clause-least c = λ node leaves found least.
     let p = c.args.against.now.inst.now in
     let g = region_by c.args.self.now.forbidden c.args.self.now.ranges in
     let same = sym c.in-Loads.is ∙ record-is c.args.against.now.plan.now.tree c.nodes.result.now c.args.index c.index-nodes-index.result c.nodes.ensures.value c.index-nodes-index.is node found in
-    subst (λ n. IsLeastBoundIn p (leaves ++ leaf_here g n) c.visit_loads.new.self.least) same
-    (subst (λ b. IsLeastBoundIn p (leaves ++ leaf_here g (Loads c.in-Loads.place c.in-Loads.load)) b) (sym c.visit_loads.ensures.least)
-    (subst (λ (ls : List LeafAt). IsLeastBoundIn p ls c.args.self.now.least) (sym (append-nil leaves)) least))
+    subst (λ n. IsLeastBoundIn p c.args.against.now.plan.now.cuts (leaves ++ leaf_here g n) c.visit_loads.new.self.least) same
+    (subst (λ b. IsLeastBoundIn p c.args.against.now.plan.now.cuts (leaves ++ leaf_here g (Loads c.in-Loads.place c.in-Loads.load)) b) (sym c.visit_loads.ensures.least)
+    (subst (λ (ls : List LeafAt). IsLeastBoundIn p c.args.against.now.plan.now.cuts ls c.args.self.now.least) (sym (append-nil leaves)) least))
