@@ -2,6 +2,7 @@
 use Rattle.std.proofs.Common.{◌≡◌, ℕ, zero, suc, ◌-◌, ◌<◌, ◌≤◌, ◌⊎◌, ◌==◌, inl, inr, Bool, true, false, List, [], ◌∷◌, ◌++◌, length, Option, Some, None, refl, sym, ap, subst, ◌∙◌, append_assoc, arith, if◌then◌else◌}
 use Rattle.std.specs.Prelude.{Result, Ok, Err}
 use Rattle.std.proofs.lemmas.List.{append-nil}
+use Rattle.proof_tree.specs.declared.cuts.Cut.{Cut as LoadCut}
 use Rattle.proof_tree.specs.declared.tree.TreeNode.{TreeNode}
 use Rattle.plan_words.specs.declared.stop.Stop.{Stop}
 use Rattle.plan_words.specs.declared.stop.Stop.TheVariants.{Memory, At}
@@ -10,12 +11,13 @@ use Rattle.plan_words.specs.Lines.{Line, whole, unfinished, onto, text_of, lines
 use Rattle.plan_words.proofs.Cutting.{text_of_lines}
 use Rattle.std.proofs.lemmas.Bool.{cases_Bool}
 use Rattle.proof_tree.specs.declared.plan.Plan.{Plan}
-use Rattle.cert_format.specs.Grammar.{end_line}
+use Rattle.cert_format.specs.Grammar.{cut_line, end_line}
 use Rattle.cert_format.specs.declared.numbering.Ground.{Ground}
 use Rattle.cert_format.specs.Lists.{is_among, named_behind}
-use Rattle.cert_format.specs.Bodies.{only_if, fixed_of, number_row, list_row}
+use Rattle.cert_format.specs.Bodies.{only_if, fixed_of, number_row, list_row, load_cut_row}
 use Rattle.cert_format.proofs.BodyLaws.{number_row_takes, list_takes}
-use Rattle.cert_format.proofs.ReadingLaws.{one_line}
+use Rattle.cert_format.proofs.ReadingLaws.{one_line, many_takes}
+use Rattle.cert_format.proofs.CutLaws.{GoodCut, cut_takes}
 use Rattle.cert_format.specs.Reading.{◌>>=◌, bind, done, judged, one, many, lists, record_on, records, place_of, nothing_behind, last_line, ending}
 use Rattle.cert_format.specs.Drafts.{left_open, Stated, is_complete}
 use Rattle.plan_words.specs.Cuts.{HasNoLine, IsNoLine}
@@ -97,27 +99,27 @@ many_end f (suc n) front ls none = absurd (omega arith)
 
 -- ---- price lists
 
-pub lists_more : (places left : ℕ) (before : List (List ℕ)) (ls : List Line) (list : List ℕ) (rest : List Line) → 0 < left → one (list_row places before) ls ≡ Ok (list, rest) → lists places left before ls ≡ lists places (left - 1) (before ++ list ∷ []) rest
+pub lists_more : (entries left : ℕ) (before : List (List ℕ)) (ls : List Line) (list : List ℕ) (rest : List Line) → 0 < left → one (list_row entries before) ls ≡ Ok (list, rest) → lists entries left before ls ≡ lists entries (left - 1) (before ++ list ∷ []) rest
 unfolding lists bind
-lists_more places zero before ls list rest some e = absurd (omega arith)
-lists_more places (suc n) before ls list rest some e =
+lists_more entries zero before ls list rest some e = absurd (omega arith)
+lists_more entries (suc n) before ls list rest some e =
     let less : suc n - 1 ≡ n = omega arith in
-    ap (λ r. r >>= λ p. lists places n (before ++ p.0 ∷ []) p.1) e ∙ ap (λ k. lists places k (before ++ list ∷ []) rest) (sym less)
+    ap (λ r. r >>= λ p. lists entries n (before ++ p.0 ∷ []) p.1) e ∙ ap (λ k. lists entries k (before ++ list ∷ []) rest) (sym less)
 
-pub lists_stop : (places left : ℕ) (before : List (List ℕ)) (ls : List Line) (e : Stop) → 0 < left → Stops e (one (list_row places before) ls) → Stops e (lists places left before ls)
+pub lists_stop : (entries left : ℕ) (before : List (List ℕ)) (ls : List Line) (e : Stop) → 0 < left → Stops e (one (list_row entries before) ls) → Stops e (lists entries left before ls)
 unfolding lists bind
-lists_stop places zero before ls e some s = absurd (omega arith)
-lists_stop places (suc n) before ls e some s = through e (one (list_row places before) ls) (λ p. lists places n (before ++ p.0 ∷ []) p.1) s
+lists_stop entries zero before ls e some s = absurd (omega arith)
+lists_stop entries (suc n) before ls e some s = through e (one (list_row entries before) ls) (λ p. lists entries n (before ++ p.0 ∷ []) p.1) s
 
-pub lists_end : (places left : ℕ) (before : List (List ℕ)) (ls : List Line) → left ≡ 0 → lists places left before ls ≡ Ok (before, ls)
+pub lists_end : (entries left : ℕ) (before : List (List ℕ)) (ls : List Line) → left ≡ 0 → lists entries left before ls ≡ Ok (before, ls)
 unfolding lists done
-lists_end places zero before ls none = refl
-lists_end places (suc n) before ls none = absurd (omega arith)
+lists_end entries zero before ls none = refl
+lists_end entries (suc n) before ls none = absurd (omega arith)
 
-pub list_fresh : (places : ℕ) (before : List (List ℕ)) (ls : List Line) (list : List ℕ) (rest : List Line) → one (list_row places before) ls ≡ Ok (list, rest) → is_among before list ≡ false
-list_fresh places before ls list rest e =
-    let (body, is, read) = one_line (list_row places before) ls list rest e in
-    (list_takes places before body list read).0.fresh
+pub list_fresh : (entries : ℕ) (before : List (List ℕ)) (ls : List Line) (list : List ℕ) (rest : List Line) → one (list_row entries before) ls ≡ Ok (list, rest) → is_among before list ≡ false
+list_fresh entries before ls list rest e =
+    let (body, is, read) = one_line (list_row entries before) ls list rest e in
+    (list_takes entries before body list read).0.fresh
 
 -- ---- the records of a tree
 
@@ -232,3 +234,7 @@ pub row_most : (word : List ℕ) (low high : ℕ) (ls : List Line) (n : ℕ) (re
 row_most word low high ls n rest e =
     let (body, is, read) = one_line (number_row word low high) ls n rest e in
     (number_row_takes word low high body n read).1
+
+-- as many cuts are read as are asked for
+pub cuts_counted : (nodes count : ℕ) (ls : List Line) (cuts : List LoadCut) (rest : List Line) → many count (load_cut_row nodes) ls ≡ Ok (cuts, rest) → length cuts ≡ count
+cuts_counted nodes count ls cuts rest e = (many_takes (load_cut_row nodes) (GoodCut nodes) cut_line (cut_takes nodes) count ls cuts rest e).0

@@ -438,19 +438,19 @@ modules_again counts few h =
 -- ---- price lists
 
 -- a list that can stand behind these
-pub record IsNewList (places : ℕ) (lists : List (List ℕ)) (list : List ℕ) : Type 0 where
-  pub count : length list ≡ places
+pub record IsNewList (entries : ℕ) (lists : List (List ℕ)) (list : List ℕ) : Type 0 where
+  pub count : length list ≡ entries
   pub small : AreSmall list
   pub fresh : is_among lists list ≡ false
 
-pub list_takes : (places : ℕ) (lists : List (List ℕ)) (body list : List ℕ) → list_row places lists body ≡ Some list → IsNewList places lists list × (body ≡ price_line list)
+pub list_takes : (entries : ℕ) (lists : List (List ℕ)) (body list : List ℕ) → list_row entries lists body ≡ Some list → IsNewList entries lists list × (body ≡ price_line list)
 unfolding list_row
-list_takes places lists body list e =
-    let (ns, first, test) = then-some (row_of (codes "P") body) (λ ns. only_if (length ns == places && not (is_among lists ns)) ns) list e in
-    let (both, same) = cond_some (length ns == places && not (is_among lists ns)) ns list test in
-    let parts = and_parts (length ns == places) (not (is_among lists ns)) both in
+list_takes entries lists body list e =
+    let (ns, first, test) = then-some (row_of (codes "P") body) (λ ns. only_if (length ns == entries && not (is_among lists ns)) ns) list e in
+    let (both, same) = cond_some (length ns == entries && not (is_among lists ns)) ns list test in
+    let parts = and_parts (length ns == entries) (not (is_among lists ns)) both in
     let r = row_takes (codes "P") body ns first in (
-      subst (IsNewList places lists) same (record { count = eqb-true (length ns) places parts.0; small = r.0; fresh = not-true (is_among lists ns) parts.1 }),
+      subst (IsNewList entries lists) same (record { count = eqb-true (length ns) entries parts.0; small = r.0; fresh = not-true (is_among lists ns) parts.1 }),
       r.1 ∙ ap price_line same,
     )
   where
@@ -458,8 +458,8 @@ list_takes places lists body list e =
     not-true true e = absurd (true≢false (sym e))
     not-true false e = refl
 
-pub list_again : (places : ℕ) (lists : List (List ℕ)) (list : List ℕ) → IsNewList places lists list → list_row places lists (price_line list) ≡ Some list
+pub list_again : (entries : ℕ) (lists : List (List ℕ)) (list : List ℕ) → IsNewList entries lists list → list_row entries lists (price_line list) ≡ Some list
 unfolding list_row
-list_again places lists list n =
-    ap (λ o. o >>= λ ns. only_if (length ns == places && not (is_among lists ns)) ns) (row_again (codes "P") list n.small)
-    ∙ only_true (length list == places && not (is_among lists list)) list (and_from (length list == places) (not (is_among lists list)) (eq-eqb (length list) places n.count) (ap not n.fresh))
+list_again entries lists list n =
+    ap (λ o. o >>= λ ns. only_if (length ns == entries && not (is_among lists ns)) ns) (row_again (codes "P") list n.small)
+    ∙ only_true (length list == entries && not (is_among lists list)) list (and_from (length list == entries) (not (is_among lists list)) (eq-eqb (length list) entries n.count) (ap not n.fresh))

@@ -9,6 +9,7 @@ use Rattle.std.proofs.lemmas.List.Elements.{recursion_from_All}
 use Rattle.scaled_numbers.specs.Canonical.{grains_text, behind_point, fraction_digits}
 use Rattle.plan_base.specs.declared.ids.ArcId.{ArcId}
 use Rattle.plan_base.specs.declared.path.Design.{Design}
+use Rattle.proof_tree.specs.declared.cuts.Cut.{Cut as LoadCut}
 use Rattle.proof_tree.specs.declared.tree.Evidence.{Evidence}
 use Rattle.proof_tree.specs.declared.tree.Evidence.TheVariants.{Bound, Routed, Overfull, Cut, Far, Crowd, Open}
 use Rattle.proof_tree.specs.declared.tree.TreeNode.{TreeNode}
@@ -17,22 +18,22 @@ use Rattle.proof_tree.specs.declared.plan.PlanStatus.{PlanStatus}
 use Rattle.proof_tree.specs.declared.plan.PlanStatus.TheVariants.{Optimal, Infeasible, Undecided}
 use Rattle.proof_tree.specs.declared.plan.Plan.{Plan}
 use Rattle.plan_base.specs.declared.limits.TheConstants.{MAX_NODES, MAX_MODULES}
-use Rattle.proof_tree.specs.declared.limits.TheConstants.{MAX_PATH_ARCS}
-use Rattle.proof_tree.specs.Spellings.{FitsEvidence, FitsRecord, FitsDesign, IsSpellable}
-use Rattle.proof_tree.specs.Spellings.{places_in}
+use Rattle.proof_tree.specs.declared.limits.TheConstants.{MAX_PATH_ARCS, MAX_CUTS}
+use Rattle.proof_tree.specs.Spellings.{numbers_in, FitsEvidence, FitsRecord, FitsDesign, FitsCuts, IsSpellable}
 use Rattle.cert_format.specs.declared.form.Form.{Form}
 use Rattle.cert_format.specs.declared.form.Form.TheVariants.{First, Second, Third}
 use Rattle.cert_format.specs.declared.limits.TheConstants.{MAX_LISTS}
 use Rattle.cert_format.specs.Lists.{lists_in, shown, width}
 use Rattle.cert_format.specs.Drafts.{AreStated, AreListed}
 use Rattle.plan_words.specs.Words.{numerals, row}
-use Rattle.cert_format.specs.Grammar.{header_line, both_word, both_text, count_line, status_line, signed_text, path_line, modules_line, leaf_line, record_line, end_line, head_lines, design_lines, bound_lines, cuts_line, cut_lines, price_line, list_lines, price_lines, front_lines, tree_lines, plan_lines, arc_numbers, counted, members, AreArcs, HasLeafFields, HasRecordFields, HasDesignFields, IsBoundField, HasFields}
+use Rattle.cert_format.specs.Grammar.{header_line, both_word, both_text, count_line, status_line, signed_text, path_line, modules_line, leaf_line, record_line, end_line, head_lines, design_lines, bound_lines, cut_numbers, cut_line, cut_lines, price_line, list_lines, price_lines, front_lines, tree_lines, plan_lines, arc_numbers, counted, members, AreArcs, HasCutFields, HasLeafFields, HasRecordFields, HasDesignFields, IsBoundField, HasFields}
 use Rattle.plan_words.specs.Cuts.{Lacks}
 use Rattle.plan_words.proofs.Cutting.{lacks-append}
 use Rattle.plan_words.proofs.NumberWords.{digits-lack, decimal_digits}
 use Rattle.plan_words.proofs.Digits.{grains_scaled}
 use Rattle.cert_format.proofs.BodyLaws.{AreSmall, arcs_small, counts_small}
 use Rattle.cert_format.proofs.RecordLaws.{cut_small, side_small, small_append}
+use Rattle.cert_format.proofs.CutLaws.{GoodCut, good_cuts, cut_numbers_small}
 use Rattle.cert_format.proofs.ListLaws.{AreReady, good_listed, lists_small}
 use Rattle.cert_format.proofs.ShownLaws.{shown_all}
 use Rattle.cert_format.proofs.ReadingLaws.{GoodPath, GoodCounts, pair_of}
@@ -159,40 +160,43 @@ record-lacks nodes links few (Split demand at left right) h =
 record-lacks nodes links few (Loads place load) h = row-lacks (codes "LOADS") (place ∷ load ∷ []) refl (omega (arith, h.1.0), (omega (arith, h.1.1), tt))
 record-lacks nodes links few (Leaf e) h = leaf-lacks nodes links e few h.0 h.1
 
-cuts-lack : (form : Form) → AllByRecursion (Lacks 10) (cut_lines form)
+cuts-lack : (form : Form) (nodes : ℕ) (cuts : List LoadCut) → nodes ≤ MAX_NODES → FitsCuts nodes cuts → AllByRecursion HasCutFields cuts → AllByRecursion (Lacks 10) (cut_lines form cuts)
 unfolding cut_lines
-cuts-lack First = tt
-cuts-lack Second = tt
-cuts-lack Third = (lacks-by cuts_line refl, tt)
-
-lists-lack : (places : ℕ) (lists : List (List ℕ)) → AreStated places (length lists) lists → AllByRecursion (Lacks 10) (list_lines (length lists) lists)
-lists-lack places lists h = (
-  row-lacks (codes "PRICES") (length lists ∷ []) refl (let few : length lists ≤ MAX_LISTS = h.0 in omega (arith, few), tt),
-  rec-map AreSmall price_line (λ list small. row-lacks (codes "P") list refl small) lists (lists_small places [] lists h.2),
+cuts-lack First nodes cuts few fits fields = tt
+cuts-lack Second nodes cuts few fits fields = tt
+cuts-lack Third nodes cuts few fits fields = (
+  row-lacks (codes "CUTS") (length cuts ∷ []) refl (let some : length cuts ≤ MAX_CUTS = fits.few in omega (arith, some), tt),
+  rec-map (GoodCut nodes) cut_line (λ cut g. row-lacks (codes "C") (cut_numbers cut) refl (cut_numbers_small nodes cut few g)) cuts (good_cuts nodes cuts fits fields),
 )
 
-prices-lack : (form : Form) (places : ℕ) (lists : List (List ℕ)) → AreListed form places (length lists) lists → AllByRecursion (Lacks 10) (price_lines form (length lists) lists)
-unfolding price_lines
-prices-lack First places lists h = tt
-prices-lack Second places lists h = lists-lack places lists h
-prices-lack Third places lists h = lists-lack places lists h
+lists-lack : (entries : ℕ) (lists : List (List ℕ)) → AreStated entries (length lists) lists → AllByRecursion (Lacks 10) (list_lines (length lists) lists)
+lists-lack entries lists h = (
+  row-lacks (codes "PRICES") (length lists ∷ []) refl (let few : length lists ≤ MAX_LISTS = h.0 in omega (arith, few), tt),
+  rec-map AreSmall price_line (λ list small. row-lacks (codes "P") list refl small) lists (lists_small entries [] lists h.2),
+)
 
-pub plan_lacks : (form : Form) (plan : Plan) → IsSpellable plan → HasFields plan → AreReady form (places_in plan.both plan.links) plan.tree → AllByRecursion (Lacks 10) (plan_lines form plan)
+prices-lack : (form : Form) (entries : ℕ) (lists : List (List ℕ)) → AreListed form entries (length lists) lists → AllByRecursion (Lacks 10) (price_lines form (length lists) lists)
+unfolding price_lines
+prices-lack First entries lists h = tt
+prices-lack Second entries lists h = lists-lack entries lists h
+prices-lack Third entries lists h = lists-lack entries lists h
+
+pub plan_lacks : (form : Form) (plan : Plan) → IsSpellable plan → HasFields plan → AreReady form (numbers_in plan) plan.tree → AllByRecursion (Lacks 10) (plan_lines form plan)
 unfolding front_lines
 plan_lacks form plan s f r =
     let lists : List (List ℕ) = lists_in form plan.tree in
-    let places : ℕ = places_in plan.both plan.links in
+    let entries : ℕ = numbers_in plan in
     let prices : List (List ℕ) = price_lines form (length lists) lists in
-    let fit = pair_of (FitsRecord plan.nodes places) HasRecordFields plan.tree (recursion_from_All (FitsRecord plan.nodes places) plan.tree s.records.each) f.record_fields in
+    let fit = pair_of (FitsRecord plan.nodes entries) HasRecordFields plan.tree (recursion_from_All (FitsRecord plan.nodes entries) plan.tree s.records.each) f.record_fields in
     rec-append (front_lines form (length lists) lists plan) (tree_lines form lists (length plan.tree) plan.tree ++ end_line ∷ [])
-    (rec-append (head_lines form plan) (design_lines plan.design ++ (bound_lines plan.status plan.bound ++ (cut_lines form ++ prices))) (head-lacks form plan s f)
-    (rec-append (design_lines plan.design) (bound_lines plan.status plan.bound ++ (cut_lines form ++ prices)) (design-lacks plan.demands plan.links plan.design s.design f.design_fields)
-    (rec-append (bound_lines plan.status plan.bound) (cut_lines form ++ prices) (bound-lacks plan.status plan.bound f.bound_field)
-    (rec-append (cut_lines form) prices (cuts-lack form) (prices-lack form places lists r.listed)))))
+    (rec-append (head_lines form plan) (design_lines plan.design ++ (bound_lines plan.status plan.bound ++ (cut_lines form plan.cuts ++ prices))) (head-lacks form plan s f)
+    (rec-append (design_lines plan.design) (bound_lines plan.status plan.bound ++ (cut_lines form plan.cuts ++ prices)) (design-lacks plan.demands plan.links plan.design s.design f.design_fields)
+    (rec-append (bound_lines plan.status plan.bound) (cut_lines form plan.cuts ++ prices) (bound-lacks plan.status plan.bound f.bound_field)
+    (rec-append (cut_lines form plan.cuts) prices (cuts-lack form plan.nodes plan.cuts s.sizes.nodes s.cuts f.cut_fields) (prices-lack form entries lists r.listed)))))
     (rec-append (tree_lines form lists (length plan.tree) plan.tree) (end_line ∷ []) (
       row-lacks (codes "TREE") (length plan.tree ∷ []) refl (omega (arith, s.records.few), tt),
-      rec-map (λ node. FitsRecord plan.nodes (width form places) (shown form lists node) × HasRecordFields (shown form lists node)) (λ node. record_line (shown form lists node))
-          (λ node. record-lacks plan.nodes (width form places) s.sizes.nodes (shown form lists node)) plan.tree
-          (shown_all form lists 0 plan.nodes places plan.tree (good_listed form places (length lists) lists r.listed) fit r.named),
+      rec-map (λ node. FitsRecord plan.nodes (width form entries) (shown form lists node) × HasRecordFields (shown form lists node)) (λ node. record_line (shown form lists node))
+          (λ node. record-lacks plan.nodes (width form entries) s.sizes.nodes (shown form lists node)) plan.tree
+          (shown_all form lists 0 plan.nodes entries plan.tree (good_listed form entries (length lists) lists r.listed) fit r.named),
     )
     (lacks-by end_line refl, tt))

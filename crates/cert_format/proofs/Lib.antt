@@ -3,6 +3,7 @@ pub mod Flags
 pub mod WrittenPieces
 pub mod BodyLaws
 pub mod RecordLaws
+pub mod CutLaws
 pub mod VersionLaws
 pub mod ListSets
 pub mod ListLaws

@@ -294,23 +294,23 @@ few-lists nodes e few = omega (arith, few, few-gathered [] nodes, half_leaves no
 
 -- lists that numbers can stand for
 abbrev pub AreNumbered : ℕ → List (List ℕ) → Type 0
-AreNumbered places lists = (length lists ≤ MAX_LISTS) × AreNew places [] lists
+AreNumbered entries lists = (length lists ≤ MAX_LISTS) × AreNew entries [] lists
 
 abbrev pub AreGood : Form → ℕ → List (List ℕ) → Type 0
-AreGood First places lists = ⊤
-AreGood Second places lists = AreNumbered places lists
-AreGood Third places lists = AreNumbered places lists
+AreGood First entries lists = ⊤
+AreGood Second entries lists = AreNumbered entries lists
+AreGood Third entries lists = AreNumbered entries lists
 
-numbered-stated : (places stated : ℕ) (lists : List (List ℕ)) → AreStated places stated lists → AreNumbered places lists
-numbered-stated places stated lists h =
+numbered-stated : (entries stated : ℕ) (lists : List (List ℕ)) → AreStated entries stated lists → AreNumbered entries lists
+numbered-stated entries stated lists h =
     let few : stated ≤ MAX_LISTS = h.0 in
     let within : length lists ≤ stated = h.1 in
     (omega (arith, few, within), h.2)
 
-pub good_listed : (form : Form) (places stated : ℕ) (lists : List (List ℕ)) → AreListed form places stated lists → AreGood form places lists
-good_listed First places stated lists h = tt
-good_listed Second places stated lists h = numbered-stated places stated lists h
-good_listed Third places stated lists h = numbered-stated places stated lists h
+pub good_listed : (form : Form) (entries stated : ℕ) (lists : List (List ℕ)) → AreListed form entries stated lists → AreGood form entries lists
+good_listed First entries stated lists h = tt
+good_listed Second entries stated lists h = numbered-stated entries stated lists h
+good_listed Third entries stated lists h = numbered-stated entries stated lists h
 
 -- in a text of the first version no list is named
 first-ends : (lists : List (List ℕ)) (named : ℕ) (nodes : List TreeNode) → named_from First lists named nodes ≡ named
@@ -340,32 +340,32 @@ second-named lists named [] h = tt
 second-named lists named (node ∷ nodes) h = (h.0, second-named lists (named_by lists named (prices_at node)) nodes h.1)
 
 -- the lists of a tree are those of a text
-pub record AreReady (form : Form) (places : ℕ) (nodes : List TreeNode) : Type 0 where
-  pub listed : AreListed form places (length (lists_in form nodes)) (lists_in form nodes)
+pub record AreReady (form : Form) (entries : ℕ) (nodes : List TreeNode) : Type 0 where
+  pub listed : AreListed form entries (length (lists_in form nodes)) (lists_in form nodes)
   pub named : AreNamed form (lists_in form nodes) 0 nodes
   pub ends : named_from form (lists_in form nodes) 0 nodes ≡ length (lists_in form nodes)
 
-second-ready : (count places : ℕ) (nodes : List TreeNode) → IsTrue (are_trees 1 nodes) → length nodes ≤ MAX_RECORDS → AllByRecursion (λ node. FitsRecord count places node × HasRecordFields node) nodes → AreReady Second places nodes
-second-ready count places nodes whole few h =
-    let g = gathering count places [] nodes h in
+second-ready : (count entries : ℕ) (nodes : List TreeNode) → IsTrue (are_trees 1 nodes) → length nodes ≤ MAX_RECORDS → AllByRecursion (λ node. FitsRecord count entries node × HasRecordFields node) nodes → AreReady Second entries nodes
+second-ready count entries nodes whole few h =
+    let g = gathering count entries [] nodes h in
     record {
-      listed = (few-lists nodes whole few, omega arith, subst (AreNew places []) (sym g.all_is) g.new);
+      listed = (few-lists nodes whole few, omega arith, subst (AreNew entries []) (sym g.all_is) g.new);
       named = subst (λ ls. AreNamed Second ls 0 nodes) (sym g.all_is) g.named;
       ends = subst (λ ls. named_from Second ls 0 nodes ≡ length ls) (sym g.all_is) g.ends;
     }
 
-pub lists_ready : (form : Form) (count places : ℕ) (nodes : List TreeNode) → IsTrue (are_trees 1 nodes) → length nodes ≤ MAX_RECORDS → AllByRecursion (λ node. FitsRecord count places node × HasRecordFields node) nodes → AreReady form places nodes
-lists_ready First count places nodes whole few h = record { listed = (refl, refl); named = first-named [] 0 nodes; ends = first-ends [] 0 nodes }
-lists_ready Second count places nodes whole few h = second-ready count places nodes whole few h
-lists_ready Third count places nodes whole few h =
-    let r = second-ready count places nodes whole few h in
+pub lists_ready : (form : Form) (count entries : ℕ) (nodes : List TreeNode) → IsTrue (are_trees 1 nodes) → length nodes ≤ MAX_RECORDS → AllByRecursion (λ node. FitsRecord count entries node × HasRecordFields node) nodes → AreReady form entries nodes
+lists_ready First count entries nodes whole few h = record { listed = (refl, refl); named = first-named [] 0 nodes; ends = first-ends [] 0 nodes }
+lists_ready Second count entries nodes whole few h = second-ready count entries nodes whole few h
+lists_ready Third count entries nodes whole few h =
+    let r = second-ready count entries nodes whole few h in
     record { listed = r.listed; named = third-named (lists_of nodes) 0 nodes r.named; ends = third-ends (lists_of nodes) 0 nodes ∙ r.ends }
 
 -- the lists that a whole text tells are those of its tree
-pub lists_told : (form : Form) (places stated : ℕ) (lists : List (List ℕ)) (nodes : List TreeNode) → AreListed form places stated lists → AreNamed form lists 0 nodes → named_from form lists 0 nodes ≡ length lists → lists ≡ lists_in form nodes
-lists_told First places stated lists nodes h named ends = h.1
-lists_told Second places stated lists nodes h named ends = sym (lists_named places lists nodes h.2 named ends)
-lists_told Third places stated lists nodes h named ends = sym (lists_named places lists nodes h.2 (second-named lists 0 nodes named) (sym (third-ends lists 0 nodes) ∙ ends))
+pub lists_told : (form : Form) (entries stated : ℕ) (lists : List (List ℕ)) (nodes : List TreeNode) → AreListed form entries stated lists → AreNamed form lists 0 nodes → named_from form lists 0 nodes ≡ length lists → lists ≡ lists_in form nodes
+lists_told First entries stated lists nodes h named ends = h.1
+lists_told Second entries stated lists nodes h named ends = sym (lists_named entries lists nodes h.2 named ends)
+lists_told Third entries stated lists nodes h named ends = sym (lists_named entries lists nodes h.2 (second-named lists 0 nodes named) (sym (third-ends lists 0 nodes) ∙ ends))
 
 -- ---- one record more
 

@@ -8,7 +8,7 @@ use Rattle.proof_tree.specs.declared.tree.Evidence.TheVariants.{Routed}
 use Rattle.proof_tree.specs.declared.tree.TreeNode.{TreeNode}
 use Rattle.proof_tree.specs.declared.tree.TreeNode.TheVariants.{Leaf}
 use Rattle.proof_tree.specs.declared.plan.Plan.{Plan}
-use Rattle.proof_tree.specs.Spellings.{places_in}
+use Rattle.proof_tree.specs.Spellings.{numbers_in}
 use Rattle.cert_format.specs.declared.fault.PlanFault.{PlanFault}
 use Rattle.cert_format.specs.declared.fault.PlanFault.TheVariants as faults
 use Rattle.plan_words.specs.Lines.{Line, whole, unfinished, line_text, text_of, lines_of}
@@ -25,7 +25,7 @@ use Rattle.plan_words.proofs.Cutting.{text_of_lines}
 use Rattle.cert_format.proofs.BodyLaws.{fixed_takes, fixed_again}
 use Rattle.cert_format.proofs.ListLaws.{good_listed}
 use Rattle.cert_format.proofs.ReadingLaws.{read_one, ok-parts, one_line, one_again, done_is, lines_of_head, lists_take, lists_again}
-use Rattle.cert_format.proofs.PlanLaws.{Front, IsFront, IsTreeRead, IsListCount, count_lines, front_text, front_takes, front_same, places_on, ground_on, listed_from, tree_takes, draft_from, before1, before2, draft_takes, draft_again, draft_short, spells_again}
+use Rattle.cert_format.proofs.PlanLaws.{Front, IsFront, IsTreeRead, IsListCount, count_lines, front_text, front_takes, front_same, entries_on, ground_on, listed_from, tree_takes, draft_from, before1, before2, draft_takes, draft_again, draft_short, spells_again}
 use Rattle.cert_format.proofs.Tidy.{err-same, Local, Holds, Taken, Stuck, ListsStuck, bind_stops, local_before, local_after, tidy_opening, tidy_tree, lists_stop}
 
 -- the lines before the stop begin a draft, and with the line at the stop they do not
@@ -43,10 +43,10 @@ abbrev tail_of : Stated → List Line
 tail_of s = cond (length s.lists == s.stated) (tree_of s ++ closing s) []
 
 -- a draft states no more price lists than there are
-few-by : (form : Form) (places n : ℕ) (found : List (List ℕ)) → AreListed form places n found → length found ≤ n
-few-by First places n found h = (let none : length found ≡ 0 = ap length h.1 in omega (arith, none))
-few-by Second places n found h = h.1
-few-by Third places n found h = h.1
+few-by : (form : Form) (entries n : ℕ) (found : List (List ℕ)) → AreListed form entries n found → length found ≤ n
+few-by First entries n found h = (let none : length found ≡ 0 = ap length h.1 in omega (arith, none))
+few-by Second entries n found h = h.1
+few-by Third entries n found h = h.1
 
 draft-read : (s : Stated) → IsDraft s → (before_end (draft_lines s) ≡ Ok (s, closing s)) ⊎ (before_end (draft_lines s) ≡ Err [])
 draft-read s g =
@@ -57,7 +57,7 @@ draft-read s g =
           inr (ap (λ b. before_end (front_of s ++ cond b (tree_of s ++ closing s) [])) other ∙ ap before_end (append-nil (front_of s)) ∙ draft_short s g short))
       | inr f ↦
           (let ge : s.stated ≤ length s.lists = ltb-false (length s.lists) s.stated f in
-          let same : length s.lists ≡ s.stated = omega (arith, ge, few-by s.form (places_in s.plan.both s.plan.links) s.stated s.lists g.listed) in
+          let same : length s.lists ≡ s.stated = omega (arith, ge, few-by s.form (numbers_in s.plan) s.stated s.lists g.listed) in
           inl (ap (λ b. before_end (front_of s ++ cond b (tree_of s ++ closing s) [])) (eq-eqb (length s.lists) s.stated same) ∙ draft_again s (closing s) g same))
     ]
 
@@ -109,21 +109,21 @@ leaf-read g = record { some = omega arith; few = omega arith; grown = refl; each
 front-lines : (front' : List Line) (f : Front) → Holds opening front' f → IsFront f × (front' ≡ front_text f [])
 front-lines front' f h = (let g = front_takes (front' ++ []) f [] (h.again []) in (g.0, sym (append-nil front') ∙ g.1))
 
-none-listed : (form : Form) (places n : ℕ) → IsListCount form n → AreListed form places n []
+none-listed : (form : Form) (entries n : ℕ) → IsListCount form n → AreListed form entries n []
 unfolding AreNew
-none-listed First places n h = (h, refl)
-none-listed Second places n h = (h, omega arith, tt)
-none-listed Third places n h = (h, omega arith, tt)
+none-listed First entries n h = (h, refl)
+none-listed Second entries n h = (h, omega arith, tt)
+none-listed Third entries n h = (h, omega arith, tt)
 
-some-listed : (form : Form) (places n : ℕ) (more : List (List ℕ)) → IsListCount form n → length more < n → AreNew places [] more → AreListed form places n more
-some-listed First places n more h few new = (let zero_is : n ≡ 0 = h in absurd (omega (arith, zero_is, few)))
-some-listed Second places n more h few new = (h, omega (arith, few), new)
-some-listed Third places n more h few new = (h, omega (arith, few), new)
+some-listed : (form : Form) (entries n : ℕ) (more : List (List ℕ)) → IsListCount form n → length more < n → AreNew entries [] more → AreListed form entries n more
+some-listed First entries n more h few new = (let zero_is : n ≡ 0 = h in absurd (omega (arith, zero_is, few)))
+some-listed Second entries n more h few new = (h, omega (arith, few), new)
+some-listed Third entries n more h few new = (h, omega (arith, few), new)
 
 -- lines of the front, and of price lists, are the front of a draft
-behind-front : (front' : List Line) (f : Front) (found : List (List ℕ)) (t : ℕ × List TreeNode) → front' ≡ front_text f [] → IsListCount f.0.form f.3 → AreListed f.0.form (places_on f) f.3 found → front_of (stated_on f found t) ≡ front' ++ map whole (map price_line found)
+behind-front : (front' : List Line) (f : Front) (found : List (List ℕ)) (t : ℕ × List TreeNode) → front' ≡ front_text f [] → IsListCount f.0.form f.4 → AreListed f.0.form (entries_on f) f.4 found → front_of (stated_on f found t) ≡ front' ++ map whole (map price_line found)
 behind-front front' f found t is count listed =
-    sym (ap (λ us. us ++ map whole (map price_line found)) is ∙ regroup (map whole (lines_of_head f.0)) (map whole (design_lines f.1)) (map whole (bound_lines f.0.status f.2)) (map whole (cut_lines f.0.form)) (map whole (count_lines f.0.form f.3)) (map whole (map price_line found))
+    sym (ap (λ us. us ++ map whole (map price_line found)) is ∙ regroup (map whole (lines_of_head f.0)) (map whole (design_lines f.1)) (map whole (bound_lines f.0.status f.2)) (map whole (cut_lines f.0.form f.3)) (map whole (count_lines f.0.form f.4)) (map whole (map price_line found))
     ∙ front_same f found t [] count listed ∙ append-nil (front_of (stated_on f found t)))
   where
     regroup : (a b c d e f : List Line) → (a ++ (b ++ (c ++ (d ++ (e ++ []))))) ++ f ≡ a ++ (b ++ (c ++ (d ++ (e ++ (f ++ [])))))
@@ -135,45 +135,45 @@ unfolding before_end
 early ls bad s =
     let f : Front = s.value in
     let g = front-lines (s.front ++ s.more) f s.begun in
-    let listed = none-listed f.0.form (places_on f) f.3 g.0.count_is in
+    let listed = none-listed f.0.form (entries_on f) f.4 g.0.count_is in
     stopped ls s.front bad s.parts (stated_on f [] (1, Leaf Routed ∷ [])) (draft_from f [] (1, Leaf Routed ∷ []) (record { front_is = g.0; listed = listed; tree_is = leaf-read (ground_on f []) })) s.more
     (behind-front (s.front ++ s.more) f [] (1, Leaf Routed ∷ []) g.1 g.0.count_is listed ∙ append-nil (s.front ++ s.more))
     (local_before opening (λ f. before1 f) s.front bad s.alone)
 
 -- it stops among the price lists
-among : (ls bad : List Line) (f : Front) (us : List Line) → Taken opening ls f us → ListsStuck (places_on f) f.3 [] us bad → StopsWell ls bad
+among : (ls bad : List Line) (f : Front) (us : List Line) → Taken opening ls f us → ListsStuck (entries_on f) f.4 [] us bad → StopsWell ls bad
 unfolding before_end
 among ls bad f us a s =
     let g = front-lines a.front f a.holds in
     let prices : List Line = map whole (map price_line s.more) in
-    let listed = some-listed f.0.form (places_on f) f.3 s.more g.0.count_is s.few s.new in
+    let listed = some-listed f.0.form (entries_on f) f.4 s.more g.0.count_is s.few s.new in
     stopped ls (a.front ++ prices) bad (a.parts ∙ ap (λ us. a.front ++ us) s.parts ∙ sym (append_assoc a.front prices bad))
     (stated_on f s.more (1, Leaf Routed ∷ [])) (draft_from f s.more (1, Leaf Routed ∷ []) (record { front_is = g.0; listed = listed; tree_is = leaf-read (ground_on f s.more) })) []
     (behind-front a.front f s.more (1, Leaf Routed ∷ []) g.1 g.0.count_is listed ∙ sym (append-nil (a.front ++ prices)))
-    (local_after opening (λ f. before1 f) a.front f prices bad a.holds (local_before (lists (places_on f) f.3 []) (λ found. before2 f found) prices bad s.alone))
+    (local_after opening (λ f. before1 f) a.front f prices bad a.holds (local_before (lists (entries_on f) f.4 []) (λ found. before2 f found) prices bad s.alone))
 
 -- it stops in the tree
-late : (ls bad : List Line) (f : Front) (us : List Line) (found : List (List ℕ)) (vs : List Line) → Taken opening ls f us → lists (places_on f) f.3 [] us ≡ read_one found vs → Stuck (tree (ground_on f found)) vs bad → StopsWell ls bad
+late : (ls bad : List Line) (f : Front) (us : List Line) (found : List (List ℕ)) (vs : List Line) → Taken opening ls f us → lists (entries_on f) f.4 [] us ≡ read_one found vs → Stuck (tree (ground_on f found)) vs bad → StopsWell ls bad
 unfolding before_end
 late ls bad f us found vs a e s =
     let g = front-lines a.front f a.holds in
-    let l = lists_take (places_on f) f.3 [] us found vs e in
+    let l = lists_take (entries_on f) f.4 [] us found vs e in
     let prices : List Line = map whole (map price_line found) in
-    let new : AreNew (places_on f) [] found = subst (AreNew (places_on f) []) (sym l.all) l.new in
-    let long : length found ≡ f.3 = ap length l.all ∙ l.count in
-    let listed = listed_from f.0.form (places_on f) f.3 found g.0.count_is long new in
+    let new : AreNew (entries_on f) [] found = subst (AreNew (entries_on f) []) (sym l.all) l.new in
+    let long : length found ≡ f.4 = ap length l.all ∙ l.count in
+    let listed = listed_from f.0.form (entries_on f) f.4 found g.0.count_is long new in
     let ground : Ground = ground_on f found in
     let x : ℕ × List TreeNode = s.value in
-    let t = tree_takes ground (good_listed f.0.form (places_on f) f.3 found listed) ((s.front ++ s.more) ++ []) x [] (s.begun.again []) in
+    let t = tree_takes ground (good_listed f.0.form (entries_on f) f.4 found listed) ((s.front ++ s.more) ++ []) x [] (s.begun.again []) in
     let whole_tree : s.front ++ s.more ≡ tree_of (stated_on f found x) = sym (append-nil (s.front ++ s.more)) ∙ t.1 ∙ append-nil (tree_of (stated_on f found x)) in
-    let lists_hold : Holds (lists (places_on f) f.3 []) prices found = record { again = λ others. ap (λ n. lists (places_on f) n [] (prices ++ others)) (sym long) ∙ lists_again (places_on f) [] found others new } in
+    let lists_hold : Holds (lists (entries_on f) f.4 []) prices found = record { again = λ others. ap (λ n. lists (entries_on f) n [] (prices ++ others)) (sym long) ∙ lists_again (entries_on f) [] found others new } in
     let state : Stated = stated_on f found x in
     let draft = draft_from f found x (record { front_is = g.0; listed = listed; tree_is = t.0 }) in
     let front' : List Line = a.front ++ (prices ++ s.front) in
     let alone : Local before_end front' bad =
     local_after opening (λ f. before1 f) a.front f (prices ++ s.front) bad a.holds
-    (local_after (lists (places_on f) f.3 []) (λ found. before2 f found) prices found s.front bad lists_hold (local_before (tree ground) (λ t. done (stated_on f found t)) s.front bad s.alone)) in
-    let same : (length found == f.3) ≡ true = eq-eqb (length found) f.3 long in
+    (local_after (lists (entries_on f) f.4 []) (λ found. before2 f found) prices found s.front bad lists_hold (local_before (tree ground) (λ t. done (stated_on f found t)) s.front bad s.alone)) in
+    let same : (length found == f.4) ≡ true = eq-eqb (length found) f.4 long in
     record {
       front = front';
       parts = a.parts ∙ ap (λ us. a.front ++ us) (l.lines ∙ ap (λ ls. map whole (map price_line ls) ++ vs) (sym l.all) ∙ ap (λ vs. prices ++ vs) s.parts) ∙ sym (regroup a.front prices s.front bad);
@@ -203,8 +203,8 @@ before-last ls bad e =
       | inl h ↦ early ls bad (tidy_opening.stops ls bad h)
       | inr (f, us, h, k) ↦
           (let a = tidy_opening.takes ls f us h in
-          elim (bind_stops (lists (places_on f) f.3 []) (λ found. before2 f found) us bad k) [
-            | inl m ↦ among ls bad f us a (lists_stop (places_on f) f.3 [] us bad m)
+          elim (bind_stops (lists (entries_on f) f.4 []) (λ found. before2 f found) us bad k) [
+            | inl m ↦ among ls bad f us a (lists_stop (entries_on f) f.4 [] us bad m)
             | inr (found, vs, m, n) ↦ elim (bind_stops (tree (ground_on f found)) (λ t. done (stated_on f found t)) vs bad n) [
               | inl o ↦ late ls bad f us found vs a m ((tidy_tree (ground_on f found)).stops vs bad o)
               | inr (t, ws, o, q) ↦ absurd (no-stop (stated_on f found t) ws bad q)

@@ -7,29 +7,31 @@ use Rattle.std.proofs.lemmas.List.{append-nil, map-append}
 use Rattle.std.proofs.lemmas.List.Elements.{All-from_recursion, recursion_from_All}
 use Rattle.plan_base.specs.declared.path.Design.{Design}
 use Rattle.plan_base.specs.declared.limits.TheConstants.{MAX_NODES}
-use Rattle.proof_tree.specs.declared.limits.TheConstants.{MAX_RECORDS}
+use Rattle.proof_tree.specs.declared.limits.TheConstants.{MAX_RECORDS, MAX_CUTS}
+use Rattle.proof_tree.specs.declared.cuts.Cut.{Cut as LoadCut}
 use Rattle.proof_tree.specs.declared.tree.TreeNode.{TreeNode}
 use Rattle.proof_tree.specs.declared.plan.PlanStatus.{PlanStatus}
 use Rattle.proof_tree.specs.declared.plan.PlanStatus.TheVariants.{Optimal, Infeasible, Undecided}
 use Rattle.proof_tree.specs.declared.plan.Plan.{Plan}
 use Rattle.proof_tree.specs.Shapes.{are_trees}
-use Rattle.proof_tree.specs.Spellings.{places_in, FitsRecord, FitsDesign, FitsStatus, IsSpellable}
+use Rattle.proof_tree.specs.Spellings.{numbers_in, FitsRecord, FitsDesign, FitsStatus, FitsCuts, IsSpellable}
 use Rattle.cert_format.specs.declared.form.Form.{Form}
 use Rattle.cert_format.specs.declared.form.Form.TheVariants.{First, Second, Third}
 use Rattle.cert_format.specs.declared.limits.TheConstants.{MAX_LISTS}
 use Rattle.cert_format.specs.declared.numbering.Ground.{Ground}
 use Rattle.cert_format.specs.declared.reading.Head.{Head}
 use Rattle.plan_words.specs.Lines.{Line, whole, text_of, lines_of}
-use Rattle.cert_format.specs.Versions.{HasLines, is_asked}
+use Rattle.cert_format.specs.Versions.{TellsCuts, HasLines, is_asked}
 use Rattle.cert_format.specs.Lists.{lists_in, named_from, AreNamed, AreNew}
-use Rattle.cert_format.specs.Grammar.{number_line, cost_line, bound_line, price_line, cuts_line, end_line, head_lines, design_lines, bound_lines, cut_lines, price_lines, front_lines, tree_lines, lines_with, plan_lines, plan_text, CanTell, HasRecordFields, HasDesignFields, IsBoundField, HasFields, SpellsPlan}
+use Rattle.cert_format.specs.Grammar.{number_line, cost_line, bound_line, cut_line, price_line, end_line, head_lines, design_lines, bound_lines, cut_lines, price_lines, front_lines, tree_lines, lines_with, plan_lines, plan_text, CanTell, HasCutFields, HasRecordFields, HasDesignFields, IsBoundField, HasFields, SpellsPlan}
 use Rattle.cert_format.specs.Drafts.{IsGrown, Stated, AreListed, IsDraft, has_counts, is_complete, front_of, tree_of, closing, draft_lines}
-use Rattle.cert_format.specs.Bodies.{fixed_of, number_row, cost_allowed, cost_of, bound_of}
-use Rattle.cert_format.specs.Reading.{Reader, ◌>>=◌, bind, done, one, head, design_of, design, bound, no_cuts, list_count, front_with, opening, lists, records, tree, tree_with, ground_with, stated_on, before_end, last_line, ending, whole_plan, read_as, plan_of}
+use Rattle.cert_format.specs.Bodies.{fixed_of, number_row, cost_allowed, cost_of, bound_of, load_cut_row}
+use Rattle.cert_format.specs.Reading.{Reader, ◌>>=◌, bind, done, one, many, head, design_of, design, bound, load_cuts, list_count, front_with, entries_of, opening, lists, records, tree, tree_with, ground_with, stated_on, before_end, last_line, ending, whole_plan, read_as, plan_of}
 use Rattle.plan_words.proofs.Cutting.{text_of_lines, lines_of_text}
 use Rattle.cert_format.proofs.BodyLaws.{IsCost, fixed_takes, fixed_again, number_row_takes, number_row_again, cost_takes, cost_again, bound_takes, bound_again}
+use Rattle.cert_format.proofs.CutLaws.{GoodCut, good_cuts, cut_takes, cut_again, cut_numbers_small}
 use Rattle.cert_format.proofs.ListLaws.{AreReady, good_listed, lists_ready, lists_told}
-use Rattle.cert_format.proofs.ReadingLaws.{read_one, bind_ok, taken, and_then, done_parts, done_is, one_line, one_again, IsHead, lines_of_head, head_takes, head_again, after_cost, cost_in, IsDesignIn, design_of_takes, design_of_again, lists_take, lists_again, lists_short, IsGround, FitsGround, line_on, grown_takes, grown_again, grown_whole}
+use Rattle.cert_format.proofs.ReadingLaws.{read_one, bind_ok, taken, and_then, done_parts, done_is, one_line, one_again, many_takes, many_again, IsHead, lines_of_head, head_takes, head_again, both-of, after_cost, cost_in, IsDesignIn, design_of_takes, design_of_again, lists_take, lists_again, lists_short, IsGround, FitsGround, line_on, grown_takes, grown_again, grown_whole}
 use Rattle.cert_format.proofs.Lacking.{plan_lacks}
 
 -- ---- cost and design
@@ -126,21 +128,44 @@ tree_again g good small count nodes rest t =
     (and_then (records g 0 count 1) (λ nodes. done (tree_with count nodes)) (map whole (map (line_on g) nodes) ++ rest) nodes rest (Ok ((count, nodes), rest))
     (grown_again g good small 0 count 1 nodes rest t.grown t.each t.has_lines t.names) (done_is (tree_with count nodes) rest))
 
--- ---- that there are no cuts
+-- ---- the cuts
 
-no-cuts-takes : (form : Form) (ls : List Line) (x : Unit {0}) (rest : List Line) → no_cuts form ls ≡ read_one x rest → ls ≡ map whole (cut_lines form) ++ rest
-unfolding no_cuts cut_lines
-no-cuts-takes First ls x rest e = (done_parts tt x ls rest e).1
-no-cuts-takes Second ls x rest e = (done_parts tt x ls rest e).1
-no-cuts-takes Third ls x rest e =
-    let (body, line, read) = one_line (fixed_of cuts_line) ls x rest e in
-    line ∙ ap (λ bs. whole bs ∷ rest) (fixed_takes cuts_line body x read)
+pub record AreCutsRead (form : Form) (nodes : ℕ) (cuts : List LoadCut) : Type 0 where
+  pub few : length cuts ≤ MAX_CUTS
+  pub each : AllByRecursion (GoodCut nodes) cuts
+  pub told : TellsCuts form cuts
 
-no-cuts-again : (form : Form) (rest : List Line) → no_cuts form (map whole (cut_lines form) ++ rest) ≡ Ok (tt, rest)
-unfolding no_cuts cut_lines
-no-cuts-again First rest = done_is tt rest
-no-cuts-again Second rest = done_is tt rest
-no-cuts-again Third rest = one_again (fixed_of cuts_line) cuts_line tt rest (fixed_again cuts_line)
+no-cuts-read : (form : Form) (nodes : ℕ) (cuts : List LoadCut) (ls rest : List Line) → TellsCuts form [] → done [] ls ≡ read_one cuts rest → AreCutsRead form nodes cuts × ((cuts ≡ []) × (ls ≡ rest))
+no-cuts-read form nodes cuts ls rest told e =
+    let p = done_parts {A = List LoadCut} [] cuts ls rest e in
+    (subst (AreCutsRead form nodes) p.0 (record { few = omega arith; each = tt; told = told }), (sym p.0, p.1))
+
+cuts-takes : (form : Form) (nodes : ℕ) (ls : List Line) (cuts : List LoadCut) (rest : List Line) → load_cuts form nodes ls ≡ read_one cuts rest → AreCutsRead form nodes cuts × (ls ≡ map whole (cut_lines form cuts) ++ rest)
+unfolding load_cuts cut_lines
+cuts-takes First nodes ls cuts rest e = (let p = no-cuts-read First nodes cuts ls rest refl e in (p.0, p.1.1))
+cuts-takes Second nodes ls cuts rest e = (let p = no-cuts-read Second nodes cuts ls rest refl e in (p.0, p.1.1))
+cuts-takes Third nodes ls cuts rest e =
+    let (count, us, e1, f1) = taken (one (number_row (codes "CUTS") 0 MAX_CUTS)) (λ count. many count (load_cut_row nodes)) ls cuts rest e in
+    let (body, line, read) = one_line (number_row (codes "CUTS") 0 MAX_CUTS) ls count us e1 in
+    let n = number_row_takes (codes "CUTS") 0 MAX_CUTS body count read in
+    let m = many_takes (load_cut_row nodes) (GoodCut nodes) cut_line (cut_takes nodes) count us cuts rest f1 in (
+      record { few = omega (arith, n.1, m.0); each = m.1; told = tt },
+      line ∙ ap (λ bs. whole bs ∷ us) (n.2 ∙ ap (number_line (codes "CUTS")) (sym m.0)) ∙ ap (λ us. whole (number_line (codes "CUTS") (length cuts)) ∷ us) m.2,
+    )
+
+no-cuts-again : (cuts : List LoadCut) (rest : List Line) → cuts ≡ [] → done [] rest ≡ Ok (cuts, rest)
+no-cuts-again cuts rest none = done_is {A = List LoadCut} [] rest ∙ ap (λ cs. read_one cs rest) (sym none)
+
+cuts-again : (form : Form) (nodes : ℕ) (cuts : List LoadCut) (rest : List Line) → nodes ≤ MAX_NODES → AreCutsRead form nodes cuts → load_cuts form nodes (map whole (cut_lines form cuts) ++ rest) ≡ Ok (cuts, rest)
+unfolding load_cuts cut_lines
+cuts-again First nodes cuts rest few c = no-cuts-again cuts rest c.told
+cuts-again Second nodes cuts rest few c = no-cuts-again cuts rest c.told
+cuts-again Third nodes cuts rest few c =
+    let n : ℕ = length cuts in
+    let us : List Line = map whole (map cut_line cuts) ++ rest in
+    and_then (one (number_row (codes "CUTS") 0 MAX_CUTS)) (λ count. many count (load_cut_row nodes)) (whole (number_line (codes "CUTS") n) ∷ us) n us (Ok (cuts, rest))
+    (one_again (number_row (codes "CUTS") 0 MAX_CUTS) (number_line (codes "CUTS") n) n us (number_row_again (codes "CUTS") 0 MAX_CUTS n (omega (arith, c.few)) (omega arith) c.few))
+    (many_again (load_cut_row nodes) (GoodCut nodes) cut_line (λ cut g. cut_again nodes cut (cut_numbers_small nodes cut few g) g) cuts rest c.each)
 
 -- ---- how many price lists are stated
 
@@ -179,13 +204,13 @@ list-count-again Third n rest h = count-again n rest h
 
 -- what is read there
 abbrev pub Front : Type 0
-Front = Head × Option (ℕ × Design) × Option ℤ × ℕ
+Front = Head × Option (ℕ × Design) × Option ℤ × List LoadCut × ℕ
 
-abbrev pub front4 : Head → Option (ℕ × Design) → Option ℤ → Reader Front
-front4 h d b = bind (list_count h.form) λ stated. done (front_with h d b stated)
+abbrev pub front4 : Head → Option (ℕ × Design) → Option ℤ → List LoadCut → Reader Front
+front4 h d b cuts = bind (list_count h.form) λ stated. done (front_with h d b cuts stated)
 
 abbrev pub front3 : Head → Option (ℕ × Design) → Option ℤ → Reader Front
-front3 h d b = bind (no_cuts h.form) λ _. front4 h d b
+front3 h d b = bind (load_cuts h.form h.nodes) λ cuts. front4 h d b cuts
 
 abbrev pub front2 : Head → Option (ℕ × Design) → Reader Front
 front2 h d = bind (bound h.status) λ b. front3 h d b
@@ -197,11 +222,12 @@ pub record IsFront (f : Front) : Type 0 where
   pub head_is : IsHead f.0
   pub design_is : IsDesignRead f.0 f.1
   pub bound_is : IsBoundRead f.0.status f.2
-  pub count_is : IsListCount f.0.form f.3
+  pub cuts_are : AreCutsRead f.0.form f.0.nodes f.3
+  pub count_is : IsListCount f.0.form f.4
 
 -- whole lines of the front, with lines behind
 abbrev pub front_text : Front → List Line → List Line
-front_text f rest = map whole (lines_of_head f.0) ++ (map whole (design_lines f.1) ++ (map whole (bound_lines f.0.status f.2) ++ (map whole (cut_lines f.0.form) ++ (map whole (count_lines f.0.form f.3) ++ rest))))
+front_text f rest = map whole (lines_of_head f.0) ++ (map whole (design_lines f.1) ++ (map whole (bound_lines f.0.status f.2) ++ (map whole (cut_lines f.0.form f.3) ++ (map whole (count_lines f.0.form f.4) ++ rest))))
 
 pub front_takes : (ls : List Line) (f : Front) (rest : List Line) → opening ls ≡ read_one f rest → IsFront f × (ls ≡ front_text f rest)
 unfolding opening
@@ -209,17 +235,17 @@ front_takes ls f rest e =
     let (h, us, e1, f1) = taken head (λ h. front1 h) ls f rest e in
     let (d, vs, e2, f2) = taken (design h) (λ d. front2 h d) us f rest f1 in
     let (b, ws, e3, f3) = taken (bound h.status) (λ b. front3 h d b) vs f rest f2 in
-    let (x, ys, e4, f4) = taken (no_cuts h.form) (λ _. front4 h d b) ws f rest f3 in
-    let (n, zs, e5, f5) = taken (list_count h.form) (λ stated. done (front_with h d b stated)) ys f rest f4 in
-    let p = done_parts (front_with h d b n) f zs rest f5 in
+    let (cuts, ys, e4, f4) = taken (load_cuts h.form h.nodes) (λ cuts. front4 h d b cuts) ws f rest f3 in
+    let (n, zs, e5, f5) = taken (list_count h.form) (λ stated. done (front_with h d b cuts stated)) ys f rest f4 in
+    let p = done_parts (front_with h d b cuts n) f zs rest f5 in
     let hh = head_takes ls h us e1 in
     let dd = design_takes h us d vs e2 in
     let bb = bound_read_takes h.status vs b ws e3 in
-    let cut = no-cuts-takes h.form ws x ys e4 in
+    let cs = cuts-takes h.form h.nodes ws cuts ys e4 in
     let nn = list-count-takes h.form ys n zs e5 in
     subst (λ (f : Front). IsFront f × (ls ≡ front_text f rest)) p.0 (
-      record { head_is = hh.0; design_is = dd.0; bound_is = bb.0; count_is = nn.0 },
-      hh.1 ∙ ap (λ us. map whole (lines_of_head h) ++ us) (dd.1 ∙ ap (λ vs. map whole (design_lines d) ++ vs) (bb.1 ∙ ap (λ ws. map whole (bound_lines h.status b) ++ ws) (cut ∙ ap (λ ys. map whole (cut_lines h.form) ++ ys) (nn.1 ∙ ap (λ zs. map whole (count_lines h.form n) ++ zs) p.1)))),
+      record { head_is = hh.0; design_is = dd.0; bound_is = bb.0; cuts_are = cs.0; count_is = nn.0 },
+      hh.1 ∙ ap (λ us. map whole (lines_of_head h) ++ us) (dd.1 ∙ ap (λ vs. map whole (design_lines d) ++ vs) (bb.1 ∙ ap (λ ws. map whole (bound_lines h.status b) ++ ws) (cs.1 ∙ ap (λ ys. map whole (cut_lines h.form cuts) ++ ys) (nn.1 ∙ ap (λ zs. map whole (count_lines h.form n) ++ zs) p.1)))),
     )
 
 pub front_again : (f : Front) (rest : List Line) → IsFront f → opening (front_text f rest) ≡ Ok (f, rest)
@@ -227,40 +253,40 @@ unfolding opening
 front_again f rest g =
     let h : Head = f.0 in
     let o : Result (Front × List Line) (List Line) = Ok (f, rest) in
-    let ys : List Line = map whole (count_lines h.form f.3) ++ rest in
-    let ws : List Line = map whole (cut_lines h.form) ++ ys in
+    let ys : List Line = map whole (count_lines h.form f.4) ++ rest in
+    let ws : List Line = map whole (cut_lines h.form f.3) ++ ys in
     let vs : List Line = map whole (bound_lines h.status f.2) ++ ws in
     let us : List Line = map whole (design_lines f.1) ++ vs in
     and_then head (λ h. front1 h) (map whole (lines_of_head h) ++ us) h us o (head_again h us g.head_is)
     (and_then (design h) (λ d. front2 h d) us f.1 vs o (design_again h f.1 vs g.design_is)
     (and_then (bound h.status) (λ b. front3 h f.1 b) vs f.2 ws o (bound_read_again h.status f.2 ws g.bound_is)
-    (and_then (no_cuts h.form) (λ _. front4 h f.1 f.2) ws tt ys o (no-cuts-again h.form ys)
-    (and_then (list_count h.form) (λ stated. done (front_with h f.1 f.2 stated)) ys f.3 rest o (list-count-again h.form f.3 rest g.count_is)
-    (done_is (front_with h f.1 f.2 f.3) rest)))))
+    (and_then (load_cuts h.form h.nodes) (λ cuts. front4 h f.1 f.2 cuts) ws f.3 ys o (cuts-again h.form h.nodes f.3 ys g.head_is.told.sizes.nodes g.cuts_are)
+    (and_then (list_count h.form) (λ stated. done (front_with h f.1 f.2 f.3 stated)) ys f.4 rest o (list-count-again h.form f.4 rest g.count_is)
+    (done_is (front_with h f.1 f.2 f.3 f.4) rest)))))
 
 -- ---- all lines before the last
 
--- the count of places
-abbrev pub places_on : Front → ℕ
-places_on f = places_in f.0.both f.0.links
+-- how many numbers a price list has
+abbrev pub entries_on : Front → ℕ
+entries_on f = entries_of f.0 f.3
 
 abbrev pub ground_on : Front → List (List ℕ) → Ground
-ground_on f found = ground_with f.0 found
+ground_on f found = ground_with f.0 f.3 found
 
 -- the lines of price lists
-prices-split : (form : Form) (places n : ℕ) (found : List (List ℕ)) (rest : List Line) → AreListed form places n found → map whole (price_lines form n found) ++ rest ≡ map whole (count_lines form n) ++ (map whole (map price_line found) ++ rest)
+prices-split : (form : Form) (entries n : ℕ) (found : List (List ℕ)) (rest : List Line) → AreListed form entries n found → map whole (price_lines form n found) ++ rest ≡ map whole (count_lines form n) ++ (map whole (map price_line found) ++ rest)
 unfolding price_lines
-prices-split First places n found rest h = ap (λ ls. map whole (map price_line ls) ++ rest) (sym h.1)
-prices-split Second places n found rest h = refl
-prices-split Third places n found rest h = refl
+prices-split First entries n found rest h = ap (λ ls. map whole (map price_line ls) ++ rest) (sym h.1)
+prices-split Second entries n found rest h = refl
+prices-split Third entries n found rest h = refl
 
 -- the lines of a draft's front are those that are read
-pub front_same : (f : Front) (found : List (List ℕ)) (t : ℕ × List TreeNode) (rest : List Line) → IsListCount f.0.form f.3 → AreListed f.0.form (places_on f) f.3 found
+pub front_same : (f : Front) (found : List (List ℕ)) (t : ℕ × List TreeNode) (rest : List Line) → IsListCount f.0.form f.4 → AreListed f.0.form (entries_on f) f.4 found
     → front_text f (map whole (map price_line found) ++ rest) ≡ front_of (stated_on f found t) ++ rest
 unfolding front_lines head_lines
 front_same f found t rest count listed =
-    sym (ap (λ ws. ws ++ rest) (five (lines_of_head f.0) (design_lines f.1) (bound_lines f.0.status f.2) (cut_lines f.0.form) (price_lines f.0.form f.3 found)) ∙ regroup (map whole (lines_of_head f.0)) (map whole (design_lines f.1)) (map whole (bound_lines f.0.status f.2)) (map whole (cut_lines f.0.form)) (map whole (price_lines f.0.form f.3 found)) rest
-    ∙ ap (λ ws. map whole (lines_of_head f.0) ++ (map whole (design_lines f.1) ++ (map whole (bound_lines f.0.status f.2) ++ (map whole (cut_lines f.0.form) ++ ws)))) (prices-split f.0.form (places_on f) f.3 found rest listed))
+    sym (ap (λ ws. ws ++ rest) (five (lines_of_head f.0) (design_lines f.1) (bound_lines f.0.status f.2) (cut_lines f.0.form f.3) (price_lines f.0.form f.4 found)) ∙ regroup (map whole (lines_of_head f.0)) (map whole (design_lines f.1)) (map whole (bound_lines f.0.status f.2)) (map whole (cut_lines f.0.form f.3)) (map whole (price_lines f.0.form f.4 found)) rest
+    ∙ ap (λ ws. map whole (lines_of_head f.0) ++ (map whole (design_lines f.1) ++ (map whole (bound_lines f.0.status f.2) ++ (map whole (cut_lines f.0.form f.3) ++ ws)))) (prices-split f.0.form (entries_on f) f.4 found rest listed))
   where
     five : (a b c d e : List (List ℕ)) → map whole (a ++ (b ++ (c ++ (d ++ e)))) ≡ map whole a ++ (map whole b ++ (map whole c ++ (map whole d ++ map whole e)))
     five a b c d e = map-append whole a (b ++ (c ++ (d ++ e))) ∙ ap (λ ws. map whole a ++ ws) (map-append whole b (c ++ (d ++ e)) ∙ ap (λ ws. map whole b ++ ws) (map-append whole c (d ++ e) ∙ ap (λ ws. map whole c ++ ws) (map-append whole d e)))
@@ -271,34 +297,34 @@ front_same f found t rest count listed =
 -- the parts of a draft that states all its price lists
 pub record AreParts (f : Front) (found : List (List ℕ)) (t : ℕ × List TreeNode) : Type 0 where
   pub front_is : IsFront f
-  pub listed : AreListed f.0.form (places_on f) f.3 found
+  pub listed : AreListed f.0.form (entries_on f) f.4 found
   pub tree_is : IsTreeRead (ground_on f found) t.0 t.1
 
-pub listed_from : (form : Form) (places n : ℕ) (found : List (List ℕ)) → IsListCount form n → length found ≡ n → AreNew places [] found → AreListed form places n found
-listed_from First places n [] count long new = (count, refl)
-listed_from First places n (list ∷ found) count long new = (let zero_is : n ≡ 0 = count in absurd (omega (arith, zero_is, long)))
-listed_from Second places n found count long new = (count, omega (arith, long), new)
-listed_from Third places n found count long new = (count, omega (arith, long), new)
+pub listed_from : (form : Form) (entries n : ℕ) (found : List (List ℕ)) → IsListCount form n → length found ≡ n → AreNew entries [] found → AreListed form entries n found
+listed_from First entries n [] count long new = (count, refl)
+listed_from First entries n (list ∷ found) count long new = (let zero_is : n ≡ 0 = count in absurd (omega (arith, zero_is, long)))
+listed_from Second entries n found count long new = (count, omega (arith, long), new)
+listed_from Third entries n found count long new = (count, omega (arith, long), new)
 
 abbrev pub before2 : Front → List (List ℕ) → Reader Stated
 before2 f found = bind (tree (ground_on f found)) λ t. done (stated_on f found t)
 
 abbrev pub before1 : Front → Reader Stated
-before1 f = bind (lists (places_on f) f.3 []) λ found. before2 f found
+before1 f = bind (lists (entries_on f) f.4 []) λ found. before2 f found
 
 pub parts_take : (ls : List Line) (x : Stated) (rest : List Line) → before_end ls ≡ read_one x rest
-    → (f : Front) × (found : List (List ℕ)) × (t : ℕ × List TreeNode) × AreParts f found t × (length found ≡ f.3) × (stated_on f found t ≡ x) × (ls ≡ front_of (stated_on f found t) ++ (tree_of (stated_on f found t) ++ rest))
+    → (f : Front) × (found : List (List ℕ)) × (t : ℕ × List TreeNode) × AreParts f found t × (length found ≡ f.4) × (stated_on f found t ≡ x) × (ls ≡ front_of (stated_on f found t) ++ (tree_of (stated_on f found t) ++ rest))
 unfolding before_end
 parts_take ls x rest e =
     let (f, us, e1, f1) = taken opening (λ f. before1 f) ls x rest e in
-    let (found, vs, e2, f2) = taken (lists (places_on f) f.3 []) (λ found. before2 f found) us x rest f1 in
+    let (found, vs, e2, f2) = taken (lists (entries_on f) f.4 []) (λ found. before2 f found) us x rest f1 in
     let (t, ws, e3, f3) = taken (tree (ground_on f found)) (λ t. done (stated_on f found t)) vs x rest f2 in
     let p = done_parts (stated_on f found t) x ws rest f3 in
     let ff = front_takes ls f us e1 in
-    let l = lists_take (places_on f) f.3 [] us found vs e2 in
-    let long : length found ≡ f.3 = ap length l.all ∙ l.count in
-    let listed = listed_from f.0.form (places_on f) f.3 found ff.0.count_is long (subst (AreNew (places_on f) []) (sym l.all) l.new) in
-    let tt' = tree_takes (ground_on f found) (good_listed f.0.form (places_on f) f.3 found listed) vs t ws e3 in (
+    let l = lists_take (entries_on f) f.4 [] us found vs e2 in
+    let long : length found ≡ f.4 = ap length l.all ∙ l.count in
+    let listed = listed_from f.0.form (entries_on f) f.4 found ff.0.count_is long (subst (AreNew (entries_on f) []) (sym l.all) l.new) in
+    let tt' = tree_takes (ground_on f found) (good_listed f.0.form (entries_on f) f.4 found listed) vs t ws e3 in (
       f,
       found,
       t,
@@ -309,13 +335,13 @@ parts_take ls x rest e =
           ∙ ap (λ vs. front_of (stated_on f found t) ++ vs) (tt'.1 ∙ ap (λ ws. tree_of (stated_on f found t) ++ ws) p.1),
     )
 
-new-from : (form : Form) (places n : ℕ) (found : List (List ℕ)) → AreListed form places n found → AreNew places [] found
+new-from : (form : Form) (entries n : ℕ) (found : List (List ℕ)) → AreListed form entries n found → AreNew entries [] found
 unfolding AreNew
-new-from First places n found h = subst (AreNew places []) (sym h.1) tt
-new-from Second places n found h = h.2
-new-from Third places n found h = h.2
+new-from First entries n found h = subst (AreNew entries []) (sym h.1) tt
+new-from Second entries n found h = h.2
+new-from Third entries n found h = h.2
 
-pub parts_again : (f : Front) (found : List (List ℕ)) (t : ℕ × List TreeNode) (rest : List Line) → AreParts f found t → length found ≡ f.3
+pub parts_again : (f : Front) (found : List (List ℕ)) (t : ℕ × List TreeNode) (rest : List Line) → AreParts f found t → length found ≡ f.4
     → before_end (front_of (stated_on f found t) ++ (tree_of (stated_on f found t) ++ rest)) ≡ Ok (stated_on f found t, rest)
 unfolding before_end
 parts_again f found t rest g long =
@@ -324,24 +350,24 @@ parts_again f found t rest g long =
     let us : List Line = map whole (map price_line found) ++ vs in
     ap (bind opening λ f. before1 f) (sym (front_same f found t vs g.front_is.count_is g.listed))
     ∙ and_then opening (λ f. before1 f) (front_text f us) f us o (front_again f us g.front_is)
-    (and_then (lists (places_on f) f.3 []) (λ found. before2 f found) us found vs o
-    (ap (λ n. lists (places_on f) n [] us) (sym long) ∙ lists_again (places_on f) [] found vs (new-from f.0.form (places_on f) f.3 found g.listed))
-    (and_then (tree (ground_on f found)) (λ t. done (stated_on f found t)) vs t rest o (tree_again (ground_on f found) (good_listed f.0.form (places_on f) f.3 found g.listed) g.front_is.head_is.told.sizes.nodes t.0 t.1 rest g.tree_is)
+    (and_then (lists (entries_on f) f.4 []) (λ found. before2 f found) us found vs o
+    (ap (λ n. lists (entries_on f) n [] us) (sym long) ∙ lists_again (entries_on f) [] found vs (new-from f.0.form (entries_on f) f.4 found g.listed))
+    (and_then (tree (ground_on f found)) (λ t. done (stated_on f found t)) vs t rest o (tree_again (ground_on f found) (good_listed f.0.form (entries_on f) f.4 found g.listed) g.front_is.head_is.told.sizes.nodes t.0 t.1 rest g.tree_is)
     (done_is (stated_on f found t) rest)))
 
-lists-stopped : (f : Front) (us : List Line) → lists (places_on f) f.3 [] us ≡ Err [] → before1 f us ≡ Err []
+lists-stopped : (f : Front) (us : List Line) → lists (entries_on f) f.4 [] us ≡ Err [] → before1 f us ≡ Err []
 unfolding bind
 lists-stopped f us e = ap (λ r. r >>= λ p. before2 f p.0 p.1) e
 
 -- where price lists lack, the text ends
-pub parts_short : (f : Front) (found : List (List ℕ)) (t : ℕ × List TreeNode) → IsFront f → AreListed f.0.form (places_on f) f.3 found → length found < f.3 → before_end (front_of (stated_on f found t)) ≡ Err []
+pub parts_short : (f : Front) (found : List (List ℕ)) (t : ℕ × List TreeNode) → IsFront f → AreListed f.0.form (entries_on f) f.4 found → length found < f.4 → before_end (front_of (stated_on f found t)) ≡ Err []
 unfolding before_end
 parts_short f found t g listed short =
     let us : List Line = map whole (map price_line found) in
     let same : front_text f us ≡ front_of (stated_on f found t) = ap (front_text f) (sym (append-nil us)) ∙ front_same f found t [] g.count_is listed ∙ append-nil (front_of (stated_on f found t)) in
     ap (bind opening λ f. before1 f) (sym same)
     ∙ and_then opening (λ f. before1 f) (front_text f us) f us (Err []) (front_again f us g)
-    (lists-stopped f us (lists_short (places_on f) f.3 [] found (new-from f.0.form (places_on f) f.3 found listed) short))
+    (lists-stopped f us (lists_short (entries_on f) f.4 [] found (new-from f.0.form (entries_on f) f.4 found listed) short))
 
 -- ---- parts and drafts
 
@@ -378,7 +404,8 @@ seconds nodes links (n ∷ ns) h k = ((h.0, k.0), seconds nodes links ns h.1 k.1
 pub draft_from : (f : Front) (found : List (List ℕ)) (t : ℕ × List TreeNode) → AreParts f found t → IsDraft (stated_on f found t)
 draft_from f found t g =
     let h : Head = f.0 in
-    let each = firsts h.nodes (places_on f) t.1 g.tree_is.each in
+    let each = firsts h.nodes (entries_on f) t.1 g.tree_is.each in
+    let cuts = both-of (λ (cut : LoadCut). length cut.nodes ≡ h.nodes) HasCutFields f.3 g.front_is.cuts_are.each in
     record {
       sizes = record { nodes = g.front_is.head_is.told.sizes.nodes; links = g.front_is.head_is.told.sizes.links; demands = g.front_is.head_is.told.sizes.demands; some_budget = g.front_is.head_is.some_budget; budget = g.front_is.head_is.budget };
       told = g.front_is.head_is.told.told;
@@ -388,8 +415,11 @@ draft_from f found t g =
         examined_within = g.front_is.head_is.examined;
         design_fields = design-fields h.demands h.links f.1 g.front_is.design_is.design_in g.front_is.design_is.cost.small;
         bound_field = bound-field h.status f.2 g.front_is.bound_is;
+        cut_fields = cuts.1;
         record_fields = each.1;
       };
+      cuts = record { few = g.front_is.cuts_are.few; each = All-from_recursion (λ (cut : LoadCut). length cut.nodes ≡ h.nodes) f.3 cuts.0 };
+      cuts_told = g.front_is.cuts_are.told;
       listed = g.listed;
       some = g.tree_is.some;
       few = g.tree_is.few;
@@ -403,7 +433,7 @@ abbrev pub head_of : Stated → Head
 head_of s = record { form = s.form; nodes = s.plan.nodes; links = s.plan.links; demands = s.plan.demands; both = s.plan.both; status = s.plan.status; budget = s.plan.budget; examined = s.plan.examined }
 
 abbrev pub front_parts : Stated → Front
-front_parts s = (head_of s, s.plan.design, s.plan.bound, s.stated)
+front_parts s = (head_of s, s.plan.design, s.plan.bound, s.plan.cuts, s.stated)
 
 allowed-by : (s : PlanStatus) (d : Option (ℕ × Design)) (b : Option ℤ) → FitsStatus s d b → cost_allowed s (cost_in d) ≡ true
 allowed-by Optimal None b h = absurd (let bad = h.0 in cc)
@@ -426,10 +456,13 @@ design-in : (demands links : ℕ) (d : Option (ℕ × Design)) → IfSome d (λ 
 design-in demands links None h k = tt
 design-in demands links (Some x) h k = (h, k.arcs, k.counts_within)
 
-count-by : (form : Form) (places n : ℕ) (found : List (List ℕ)) → AreListed form places n found → IsListCount form n
-count-by First places n found h = h.0
-count-by Second places n found h = h.0
-count-by Third places n found h = h.0
+count-by : (form : Form) (entries n : ℕ) (found : List (List ℕ)) → AreListed form entries n found → IsListCount form n
+count-by First entries n found h = h.0
+count-by Second entries n found h = h.0
+count-by Third entries n found h = h.0
+
+cuts-by : (form : Form) (nodes : ℕ) (cuts : List LoadCut) → FitsCuts nodes cuts → TellsCuts form cuts → AllByRecursion HasCutFields cuts → AreCutsRead form nodes cuts
+cuts-by form nodes cuts fits told fields = record { few = fits.few; each = good_cuts nodes cuts fits fields; told = told }
 
 pub parts_from : (s : Stated) → IsDraft s → AreParts (front_parts s) s.lists (s.count, s.plan.tree)
 parts_from s g =
@@ -439,10 +472,11 @@ parts_from s g =
         head_is = record { told = record { sizes = record { nodes = g.sizes.nodes; links = g.sizes.links; demands = g.sizes.demands }; told = g.told }; some_budget = g.sizes.some_budget; budget = g.sizes.budget; examined = g.fields.examined_within };
         design_is = record { cost = record { allowed = allowed-by plan.status plan.design plan.bound g.status; small = cost-small plan.design g.fields.design_fields }; design_in = design-in plan.demands plan.links plan.design g.design g.fields.design_fields };
         bound_is = bound-by plan.status plan.design plan.bound g.status g.fields.bound_field;
-        count_is = count-by s.form (places_in plan.both plan.links) s.stated s.lists g.listed;
+        cuts_are = cuts-by s.form plan.nodes plan.cuts g.cuts g.cuts_told g.fields.cut_fields;
+        count_is = count-by s.form (numbers_in plan) s.stated s.lists g.listed;
       };
       listed = g.listed;
-      tree_is = record { some = g.some; few = g.few; grown = g.grown; each = seconds plan.nodes (places_in plan.both plan.links) plan.tree g.records g.fields.record_fields; has_lines = g.lines; names = g.named };
+      tree_is = record { some = g.some; few = g.few; grown = g.grown; each = seconds plan.nodes (numbers_in plan) plan.tree g.records g.fields.record_fields; has_lines = g.lines; names = g.named };
     }
 
 pub draft_takes : (ls : List Line) (s : Stated) (rest : List Line) → before_end ls ≡ read_one s rest → IsDraft s × (length s.lists ≡ s.stated) × (ls ≡ front_of s ++ (tree_of s ++ rest))
@@ -464,8 +498,9 @@ pub record IsToldBy (ls : List Line) (plan : Plan) : Type 0 where
   pub fields : HasFields plan
   pub form : Form
   pub told : CanTell form plan.both
+  pub cuts_told : TellsCuts form plan.cuts
   pub has_lines : HasLines form plan.tree
-  pub asked : IsTrue (is_asked form plan.tree)
+  pub asked : IsTrue (is_asked form plan.cuts plan.tree)
   pub lines : ls ≡ map whole (plan_lines form plan)
 
 -- the lines of a whole text
@@ -485,23 +520,25 @@ whole_takes ls plan e =
     let g = draft_takes ls s d.1 first in
     let (complete, last) = when_err (is_complete s) (last_line s.plan (one (fixed_of end_line) d.1)) d.1 plan later in
     let (same, end) = last-takes s.plan d.1 plan last in
-    let parts = and_parts (are_trees 1 s.plan.tree) (has_counts s && is_asked s.form s.plan.tree) complete in
-    let met = and_parts (has_counts s) (is_asked s.form s.plan.tree) parts.1 in
+    let parts = and_parts (are_trees 1 s.plan.tree) (has_counts s && is_asked s.form s.plan.cuts s.plan.tree) complete in
+    let met = and_parts (has_counts s) (is_asked s.form s.plan.cuts s.plan.tree) parts.1 in
     let counts = and_parts (length s.plan.tree == s.count) (named_from s.form s.lists 0 s.plan.tree == length s.lists) met.0 in
     let count : length s.plan.tree ≡ s.count = eqb-true (length s.plan.tree) s.count counts.0 in
-    let places : ℕ = places_in s.plan.both s.plan.links in
-    let lists_are : s.lists ≡ lists_in s.form s.plan.tree = lists_told s.form places s.stated s.lists s.plan.tree g.0.listed g.0.named (eqb-true (named_from s.form s.lists 0 s.plan.tree) (length s.lists) counts.1) in
+    let entries : ℕ = numbers_in s.plan in
+    let lists_are : s.lists ≡ lists_in s.form s.plan.tree = lists_told s.form entries s.stated s.lists s.plan.tree g.0.listed g.0.named (eqb-true (named_from s.form s.lists 0 s.plan.tree) (length s.lists) counts.1) in
     subst (IsToldBy ls) same (record {
       spellable = record {
         sizes = g.0.sizes;
         status = g.0.status;
         design = g.0.design;
         whole = subst IsTrue (sym parts.0) refl;
-        records = record { few = subst (λ k. k ≤ MAX_RECORDS) (sym count) g.0.few; each = All-from_recursion (FitsRecord s.plan.nodes places) s.plan.tree g.0.records };
+        cuts = g.0.cuts;
+        records = record { few = subst (λ k. k ≤ MAX_RECORDS) (sym count) g.0.few; each = All-from_recursion (FitsRecord s.plan.nodes entries) s.plan.tree g.0.records };
       };
       fields = g.0.fields;
       form = s.form;
       told = g.0.told;
+      cuts_told = g.0.cuts_told;
       has_lines = g.0.lines;
       asked = subst IsTrue (sym met.1) refl;
       lines = g.2 ∙ ap (λ us. front_of s ++ (tree_of s ++ us)) end ∙ whole-lines s g.1 lists_are count;
@@ -523,13 +560,13 @@ whole_takes ls plan e =
 abbrev pub stated_by : Form → Plan → Stated
 stated_by form plan = record { form = form; stated = length (lists_in form plan.tree); lists = lists_in form plan.tree; count = length plan.tree; plan = plan }
 
-pub plan_ready : (form : Form) (plan : Plan) → IsSpellable plan → HasFields plan → AreReady form (places_in plan.both plan.links) plan.tree
+pub plan_ready : (form : Form) (plan : Plan) → IsSpellable plan → HasFields plan → AreReady form (numbers_in plan) plan.tree
 plan_ready form plan s f =
-    lists_ready form plan.nodes (places_in plan.both plan.links) plan.tree s.whole s.records.few
-    (seconds plan.nodes (places_in plan.both plan.links) plan.tree (recursion_from_All (FitsRecord plan.nodes (places_in plan.both plan.links)) plan.tree s.records.each) f.record_fields)
+    lists_ready form plan.nodes (numbers_in plan) plan.tree s.whole s.records.few
+    (seconds plan.nodes (numbers_in plan) plan.tree (recursion_from_All (FitsRecord plan.nodes (numbers_in plan)) plan.tree s.records.each) f.record_fields)
 
-pub spelled_draft : (form : Form) (plan : Plan) → IsSpellable plan → HasFields plan → CanTell form plan.both → HasLines form plan.tree → IsDraft (stated_by form plan)
-spelled_draft form plan s f told lines =
+pub spelled_draft : (form : Form) (plan : Plan) → IsSpellable plan → HasFields plan → CanTell form plan.both → TellsCuts form plan.cuts → HasLines form plan.tree → IsDraft (stated_by form plan)
+spelled_draft form plan s f told cuts_told lines =
     let r = plan_ready form plan s f in
     record {
       sizes = s.sizes;
@@ -537,11 +574,13 @@ spelled_draft form plan s f told lines =
       status = s.status;
       design = s.design;
       fields = f;
+      cuts = s.cuts;
+      cuts_told = cuts_told;
       listed = r.listed;
       some = some plan.tree s.whole;
       few = s.records.few;
       grown = grown_whole plan.tree 1 (true-is (are_trees 1 plan.tree) s.whole);
-      records = recursion_from_All (FitsRecord plan.nodes (places_in plan.both plan.links)) plan.tree s.records.each;
+      records = recursion_from_All (FitsRecord plan.nodes (numbers_in plan)) plan.tree s.records.each;
       lines = lines;
       named = r.named;
     }
@@ -553,28 +592,28 @@ spelled_draft form plan s f told lines =
     some [] h = absurd (let bad : false ≡ true = h in cc)
     some (n ∷ ns) h = omega arith
 
-plan-complete : (form : Form) (plan : Plan) → IsSpellable plan → HasFields plan → IsTrue (is_asked form plan.tree) → is_complete (stated_by form plan) ≡ true
+plan-complete : (form : Form) (plan : Plan) → IsSpellable plan → HasFields plan → IsTrue (is_asked form plan.cuts plan.tree) → is_complete (stated_by form plan) ≡ true
 plan-complete form plan s f asked =
     let lists : List (List ℕ) = lists_in form plan.tree in
     let r = plan_ready form plan s f in
-    and_from (are_trees 1 plan.tree) (has_counts (stated_by form plan) && is_asked form plan.tree) s.whole
-    (and_from (has_counts (stated_by form plan)) (is_asked form plan.tree)
+    and_from (are_trees 1 plan.tree) (has_counts (stated_by form plan) && is_asked form plan.cuts plan.tree) s.whole
+    (and_from (has_counts (stated_by form plan)) (is_asked form plan.cuts plan.tree)
     (and_from (length plan.tree == length plan.tree) (named_from form lists 0 plan.tree == length lists) (eq-eqb (length plan.tree) (length plan.tree) refl) (eq-eqb (named_from form lists 0 plan.tree) (length lists) r.ends)) asked)
 
 -- the lines of what the text of a plan states are those of the plan
-pub plan_drafted : (form : Form) (plan : Plan) → IsSpellable plan → HasFields plan → IsTrue (is_asked form plan.tree) → draft_lines (stated_by form plan) ≡ map whole (plan_lines form plan)
+pub plan_drafted : (form : Form) (plan : Plan) → IsSpellable plan → HasFields plan → IsTrue (is_asked form plan.cuts plan.tree) → draft_lines (stated_by form plan) ≡ map whole (plan_lines form plan)
 plan_drafted form plan s f asked =
     let x : Stated = stated_by form plan in
     ap (λ b. front_of x ++ cond b (tree_of x ++ closing x) []) (eq-eqb (length x.lists) x.stated refl)
     ∙ ap (λ b. front_of x ++ (tree_of x ++ cond b (whole end_line ∷ []) [])) (plan-complete form plan s f asked)
     ∙ whole-lines x refl refl refl
 
-pub whole_again : (form : Form) (plan : Plan) → IsSpellable plan → HasFields plan → CanTell form plan.both → HasLines form plan.tree → IsTrue (is_asked form plan.tree) → whole_plan (map whole (plan_lines form plan)) ≡ Ok plan
+pub whole_again : (form : Form) (plan : Plan) → IsSpellable plan → HasFields plan → CanTell form plan.both → TellsCuts form plan.cuts → HasLines form plan.tree → IsTrue (is_asked form plan.cuts plan.tree) → whole_plan (map whole (plan_lines form plan)) ≡ Ok plan
 unfolding whole_plan
-whole_again form plan s f told lines asked =
+whole_again form plan s f told cuts_told lines asked =
     let x : Stated = stated_by form plan in
     ap (λ ls. before_end ls >>= ending) (sym (whole-lines x refl refl refl))
-    ∙ ap (λ r. r >>= ending) (draft_again x (whole end_line ∷ []) (spelled_draft form plan s f told lines) refl)
+    ∙ ap (λ r. r >>= ending) (draft_again x (whole end_line ∷ []) (spelled_draft form plan s f told cuts_told lines) refl)
     ∙ ap (λ t. cond t (last_line plan (one (fixed_of end_line) (whole end_line ∷ []))) (Err (whole end_line ∷ []))) (plan-complete form plan s f asked)
     ∙ ap (last_line plan) (one_again (fixed_of end_line) end_line tt [] (fixed_again end_line))
 
@@ -584,7 +623,7 @@ pub spells_takes : (text : List ℕ) (plan : Plan) → plan_of text ≡ Ok plan 
 unfolding plan_of plan_text
 spells_takes text plan e =
     let w = whole_takes (lines_of text) plan (read-ok (whole_plan (lines_of text)) plan e) in
-    record { spellable = w.spellable; fields = w.fields; form = w.form; told = w.told; lines = w.has_lines; asked = w.asked; is_text = sym (text_of_lines text) ∙ ap text_of w.lines }
+    record { spellable = w.spellable; fields = w.fields; form = w.form; told = w.told; cuts_told = w.cuts_told; lines = w.has_lines; asked = w.asked; is_text = sym (text_of_lines text) ∙ ap text_of w.lines }
   where
     read-ok : (r : Result Plan (List Line)) (plan : Plan) → read_as (length text) r ≡ Ok plan → r ≡ Ok plan
     read-ok (Ok p) plan e = (let same : p ≡ plan = cc in ap (λ (p : Plan). Ok p) same)
@@ -603,4 +642,4 @@ pub spells_again : (text : List ℕ) (plan : Plan) → SpellsPlan text plan → 
 unfolding plan_of
 spells_again text plan s =
     ap (λ ls. read_as (length text) (whole_plan ls)) (ap lines_of s.is_text ∙ plan_text_lines s.form plan s.spellable s.fields)
-    ∙ ap (read_as (length text)) (whole_again s.form plan s.spellable s.fields s.told s.lines s.asked)
+    ∙ ap (read_as (length text)) (whole_again s.form plan s.spellable s.fields s.told s.cuts_told s.lines s.asked)

@@ -188,7 +188,7 @@ path-law body arcs e = let p = path_takes body arcs e in ((p.0, p.1), p.2)
 counts-law : (body counts : List ℕ) → modules_of body ≡ Some counts → GoodCounts counts × (body ≡ modules_line counts)
 counts-law body counts e = let p = modules_takes body counts e in ((p.0, p.1), p.2)
 
-both-of : {A : Type 0} (P Q : A → Type 0) (xs : List A) → AllByRecursion (λ x. P x × Q x) xs → AllByRecursion P xs × AllByRecursion Q xs
+pub both-of : {A : Type 0} (P Q : A → Type 0) (xs : List A) → AllByRecursion (λ x. P x × Q x) xs → AllByRecursion P xs × AllByRecursion Q xs
 both-of P Q [] h = (tt, tt)
 both-of P Q (x ∷ xs) h = let more = both-of P Q xs h.1 in ((h.0.0, more.0), (h.0.1, more.1))
 
@@ -260,21 +260,21 @@ design_of_again demands links (Some design) rest h =
 -- ---- the price lists
 
 -- price lists that were read behind others
-pub record AreRead (places n : ℕ) (before found : List (List ℕ)) (ls rest : List Line) : Type 0 where
+pub record AreRead (entries n : ℕ) (before found : List (List ℕ)) (ls rest : List Line) : Type 0 where
   pub more : List (List ℕ)
   pub all : found ≡ before ++ more
   pub count : length more ≡ n
-  pub new : AreNew places before more
+  pub new : AreNew entries before more
   pub lines : ls ≡ map whole (map price_line more) ++ rest
 
-pub lists_take : (places n : ℕ) (before : List (List ℕ)) (ls : List Line) (found : List (List ℕ)) (rest : List Line) → lists places n before ls ≡ read_one found rest → AreRead places n before found ls rest
+pub lists_take : (entries n : ℕ) (before : List (List ℕ)) (ls : List Line) (found : List (List ℕ)) (rest : List Line) → lists entries n before ls ≡ read_one found rest → AreRead entries n before found ls rest
 unfolding lists AreNew
-lists_take places zero before ls found rest e = (let p = done_parts before found ls rest e in record { more = []; all = sym p.0 ∙ sym (append-nil before); count = refl; new = tt; lines = p.1 })
-lists_take places (suc n) before ls found rest e =
-    let (list, us, e1, f1) = taken (one (list_row places before)) (λ list. lists places n (before ++ list ∷ [])) ls found rest e in
-    let (body, line, read) = one_line (list_row places before) ls list us e1 in
-    let here = list_takes places before body list read in
-    let there = lists_take places n (before ++ list ∷ []) us found rest f1 in
+lists_take entries zero before ls found rest e = (let p = done_parts before found ls rest e in record { more = []; all = sym p.0 ∙ sym (append-nil before); count = refl; new = tt; lines = p.1 })
+lists_take entries (suc n) before ls found rest e =
+    let (list, us, e1, f1) = taken (one (list_row entries before)) (λ list. lists entries n (before ++ list ∷ [])) ls found rest e in
+    let (body, line, read) = one_line (list_row entries before) ls list us e1 in
+    let here = list_takes entries before body list read in
+    let there = lists_take entries n (before ++ list ∷ []) us found rest f1 in
     record {
       more = list ∷ there.more;
       all = there.all ∙ append_assoc before (list ∷ []) there.more;
@@ -283,37 +283,37 @@ lists_take places (suc n) before ls found rest e =
       lines = line ∙ ap (λ bs. whole bs ∷ us) here.1 ∙ ap (λ us. whole (price_line list) ∷ us) there.lines;
     }
 
-pub lists_again : (places : ℕ) (before more : List (List ℕ)) (rest : List Line) → AreNew places before more → lists places (length more) before (map whole (map price_line more) ++ rest) ≡ Ok (before ++ more, rest)
+pub lists_again : (entries : ℕ) (before more : List (List ℕ)) (rest : List Line) → AreNew entries before more → lists entries (length more) before (map whole (map price_line more) ++ rest) ≡ Ok (before ++ more, rest)
 unfolding lists AreNew
-lists_again places before [] rest new = done_is before rest ∙ ap (λ ls. read_one ls rest) (sym (append-nil before))
-lists_again places before (list ∷ more) rest new =
-    and_then (one (list_row places before)) (λ list. lists places (length more) (before ++ list ∷ [])) (whole (price_line list) ∷ (map whole (map price_line more) ++ rest)) list (map whole (map price_line more) ++ rest) (Ok (before ++ list ∷ more, rest))
-    (one_again (list_row places before) (price_line list) list (map whole (map price_line more) ++ rest) (list_again places before list (record { count = new.0; small = new.1; fresh = new.2 })))
-    (lists_again places (before ++ list ∷ []) more rest new.3 ∙ ap (λ ls. read_one ls rest) (append_assoc before (list ∷ []) more))
+lists_again entries before [] rest new = done_is before rest ∙ ap (λ ls. read_one ls rest) (sym (append-nil before))
+lists_again entries before (list ∷ more) rest new =
+    and_then (one (list_row entries before)) (λ list. lists entries (length more) (before ++ list ∷ [])) (whole (price_line list) ∷ (map whole (map price_line more) ++ rest)) list (map whole (map price_line more) ++ rest) (Ok (before ++ list ∷ more, rest))
+    (one_again (list_row entries before) (price_line list) list (map whole (map price_line more) ++ rest) (list_again entries before list (record { count = new.0; small = new.1; fresh = new.2 })))
+    (lists_again entries (before ++ list ∷ []) more rest new.3 ∙ ap (λ ls. read_one ls rest) (append_assoc before (list ∷ []) more))
 
 nothing-read : {A : Type 0} (f : List ℕ → Option A) → one f [] ≡ Err []
 unfolding one
 nothing-read f = refl
 
 -- where price lists lack, the reader stops at the end
-pub lists_short : (places n : ℕ) (before more : List (List ℕ)) → AreNew places before more → length more < n → lists places n before (map whole (map price_line more)) ≡ Err []
+pub lists_short : (entries n : ℕ) (before more : List (List ℕ)) → AreNew entries before more → length more < n → lists entries n before (map whole (map price_line more)) ≡ Err []
 unfolding lists bind AreNew
-lists_short places zero before more new short = absurd (omega (arith, short))
-lists_short places (suc n) before [] new short = ap (λ r. r >>= λ p. lists places n (before ++ p.0 ∷ []) p.1) (nothing-read (list_row places before))
-lists_short places (suc n) before (list ∷ more) new short =
-    and_then (one (list_row places before)) (λ list. lists places n (before ++ list ∷ [])) (whole (price_line list) ∷ map whole (map price_line more)) list (map whole (map price_line more)) (Err [])
-    (one_again (list_row places before) (price_line list) list (map whole (map price_line more)) (list_again places before list (record { count = new.0; small = new.1; fresh = new.2 })))
-    (lists_short places n (before ++ list ∷ []) more new.3 (omega (arith, short)))
+lists_short entries zero before more new short = absurd (omega (arith, short))
+lists_short entries (suc n) before [] new short = ap (λ r. r >>= λ p. lists entries n (before ++ p.0 ∷ []) p.1) (nothing-read (list_row entries before))
+lists_short entries (suc n) before (list ∷ more) new short =
+    and_then (one (list_row entries before)) (λ list. lists entries n (before ++ list ∷ [])) (whole (price_line list) ∷ map whole (map price_line more)) list (map whole (map price_line more)) (Err [])
+    (one_again (list_row entries before) (price_line list) list (map whole (map price_line more)) (list_again entries before list (record { count = new.0; small = new.1; fresh = new.2 })))
+    (lists_short entries n (before ++ list ∷ []) more new.3 (omega (arith, short)))
 
 -- ---- the records
 
 -- what the lines of records depend on is as it should be
 abbrev pub IsGround : Ground → Type 0
-IsGround g = AreGood g.form g.places g.lists
+IsGround g = AreGood g.form g.entries g.lists
 
 -- a record that fits the ground
 abbrev pub FitsGround : Ground → TreeNode → Type 0
-FitsGround g node = FitsRecord g.nodes g.places node × HasRecordFields node
+FitsGround g node = FitsRecord g.nodes g.entries node × HasRecordFields node
 
 -- the line of a record
 abbrev pub line_on : Ground → TreeNode → List ℕ
@@ -340,7 +340,7 @@ grown_takes g good named (suc left) (suc others) ls ns rest e =
     let (more, vs, e2, f2) = taken (records g (named_on g named node) left (left_open node others)) (λ more. done (node ∷ more)) us ns rest f1 in
     let p = done_parts (node ∷ more) ns vs rest f2 in
     let (body, line, read) = one_line (record_on g named) ls node us e1 in
-    let here = record_in_takes g.form g.lists named g.nodes g.places body node good read in
+    let here = record_in_takes g.form g.lists named g.nodes g.entries body node good read in
     let there = grown_takes g good (named_on g named node) left (left_open node others) us more vs e2 in
     subst (λ (ns : List TreeNode). AreGrown g named (suc left) (suc others) ns ls rest) p.0 (record {
       grown = there.grown;
@@ -360,7 +360,7 @@ grown_again g good few named (suc left) zero (node ∷ ns) rest grown h has k = 
 grown_again g good few named (suc left) (suc others) [] rest grown h has k = absurd grown
 grown_again g good few named (suc left) (suc others) (node ∷ ns) rest grown h has k =
     and_then (one (record_on g named)) (λ node. bind (records g (named_on g named node) left (left_open node others)) λ more. done (node ∷ more)) (whole (line_on g node) ∷ (map whole (map (line_on g) ns) ++ rest)) node (map whole (map (line_on g) ns) ++ rest) (Ok (node ∷ ns, rest))
-    (one_again (record_on g named) (line_on g node) node (map whole (map (line_on g) ns) ++ rest) (record_in_again g.form g.lists named g.nodes g.places node few good h.0.0 h.0.1 has.0 k.0))
+    (one_again (record_on g named) (line_on g node) node (map whole (map (line_on g) ns) ++ rest) (record_in_again g.form g.lists named g.nodes g.entries node few good h.0.0 h.0.1 has.0 k.0))
     (and_then (records g (named_on g named node) left (left_open node others)) (λ more. done (node ∷ more)) (map whole (map (line_on g) ns) ++ rest) ns rest (Ok (node ∷ ns, rest))
     (grown_again g good few (named_on g named node) left (left_open node others) ns rest grown h.1 has.1 k.1) (done_is (node ∷ ns) rest))
 

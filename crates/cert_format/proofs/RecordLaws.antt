@@ -15,7 +15,7 @@ use Rattle.proof_tree.specs.declared.tree.TreeNode.TheVariants.{Split, Loads, Le
 use Rattle.proof_tree.specs.Spellings.{IsAscending, IsWrittenSide, FitsEvidence, FitsRecord}
 use Rattle.plan_words.specs.Words.{◌>>=◌, numerals, row, behind, each, numbers_of}
 use Rattle.cert_format.specs.Grammar.{arc_numbers, counted, members, leaf_line, record_line, AreArcs, HasLeafFields, HasRecordFields}
-use Rattle.cert_format.specs.Bodies.{only_if, choose, fixed_of, one_in, arc_of, uncounted, ascends, side_arcs, with_rest, side_of, two_sides, right_side, behind_left, sides_of, split_with, split_in, loads_in, cut_with, overfull_with, far_with, lone_number, behind_number, flags_of, cut_in, prices_of, priced_of, leaf_of, record_of}
+use Rattle.cert_format.specs.Bodies.{only_if, choose, fixed_of, one_in, arc_of, uncounted, ascends, side_arcs, with_rest, side_of, two_sides, right_side, behind_left, sides_of, split_with, split_in, loads_in, cut_with, overfull_with, far_with, lone_number, behind_number, flags_of, set_of, cut_in, prices_of, priced_of, leaf_of, record_of}
 use Rattle.plan_words.proofs.NumberWords.{then-some, map-some, behind_found, behind_takes, numbers_found, numbers_takes, each_takes, each_found, no-length}
 use Rattle.cert_format.proofs.BodyLaws.{AreSmall, only_true, chosen, fixed_takes, one_takes, one_again, uncounted_takes, uncounted_again, arc_takes, arc_again, arcs_small}
 
@@ -208,6 +208,32 @@ members-small at most [] within small = tt
 members-small at most (true ∷ fs) within small = (omega arith, members-small (suc at) most fs (omega arith) small)
 members-small at most (false ∷ fs) within small = members-small (suc at) most fs (omega arith) small
 
+-- ---- sets of nodes
+
+-- a set stands in one list of numbers
+pub set_takes : (nodes : ℕ) (ns : List ℕ) (fs : List Bool) → set_of nodes ns ≡ Some fs → (length fs ≡ nodes) × (ns ≡ counted (members 0 fs))
+unfolding set_of
+set_takes nodes ns fs e =
+    let (ms, first, later) = then-some (uncounted nodes ns) (flags_of 0 nodes) fs e in
+    let count = uncounted_takes nodes ns ms first in
+    let flags = flags_takes 0 nodes ms fs later in
+    (flags.0, count.1 ∙ ap counted flags.1)
+
+-- and is read from it again
+pub set_again : (nodes : ℕ) (fs : List Bool) → length fs ≡ nodes → set_of nodes (counted (members 0 fs)) ≡ Some fs
+unfolding set_of
+set_again nodes fs long =
+    let few : length (members 0 fs) ≤ nodes = omega (arith, members_few 0 fs, long) in
+    ap (λ o. o >>= flags_of 0 nodes) (uncounted_again nodes (members 0 fs) few)
+    ∙ ap (λ k. flags_of 0 k (members 0 fs)) (sym long)
+    ∙ flags_again 0 fs
+
+-- its numbers are small
+pub set_small : (nodes : ℕ) (fs : List Bool) → nodes ≤ MAX_NODES → length fs ≡ nodes → AreSmall (counted (members 0 fs))
+set_small nodes fs small long =
+    let few : length (members 0 fs) ≤ nodes = omega (arith, members_few 0 fs, long) in
+    (omega (arith, few, small), members-small 0 nodes fs (omega (arith, long)) (omega (arith, small)))
+
 -- ---- leaves
 
 -- the line of a leaf
@@ -220,15 +246,13 @@ cut-takes : (nodes links : ℕ) (ns : List ℕ) (e : Evidence) → cut_in nodes 
 unfolding cut_in leaf_line
 cut-takes nodes links [] e h body line = absurd cc
 cut-takes nodes links (d ∷ ns) e h body line =
-    let (test, made) = when_some (nat_lt d (2 ^ 32)) (option_map (cut_with d) (uncounted nodes ns >>= flags_of 0 nodes)) e h in
-    let (fs, found, is) = map-some (uncounted nodes ns >>= flags_of 0 nodes) (cut_with d) e made in
-    let (ms, first, later) = then-some (uncounted nodes ns) (flags_of 0 nodes) fs found in
-    let count = uncounted_takes nodes ns ms first in
-    let flags = flags_takes 0 nodes ms fs later in
+    let (test, made) = when_some (nat_lt d (2 ^ 32)) (option_map (cut_with d) (set_of nodes ns)) e h in
+    let (fs, found, is) = map-some (set_of nodes ns) (cut_with d) e made in
+    let set = set_takes nodes ns fs found in
     subst (λ (x : Evidence). IsLeafLine nodes links x body) is (record {
-      fits = flags.0;
+      fits = set.0;
       fields = ltb-true d (2 ^ 32) test;
-      line = line ∙ ap (λ xs. row (codes "CUT") (d ∷ xs)) (count.1 ∙ ap counted flags.1);
+      line = line ∙ ap (λ xs. row (codes "CUT") (d ∷ xs)) set.1;
     })
 
 -- a lone number stands in one text
@@ -367,20 +391,15 @@ unfolding lone_number
 lone-again n small = ap (λ o. o >>= one_in 0 (2 ^ 32 - 1)) (numbers_found (n ∷ []) (omega arith, tt)) ∙ one_again 0 (2 ^ 32 - 1) n (omega arith) (omega arith)
 
 pub cut_small : (nodes d : ℕ) (fs : List Bool) → nodes ≤ MAX_NODES → d < 2 ^ 32 → length fs ≡ nodes → AreSmall (d ∷ counted (members 0 fs))
-cut_small nodes d fs small fits long =
-    let few : length (members 0 fs) ≤ nodes = omega (arith, members_few 0 fs, long) in
-    (omega (arith, fits), (omega (arith, few, small), members-small 0 nodes fs (omega (arith, long)) (omega (arith, small))))
+cut_small nodes d fs small fits long = (omega (arith, fits), set_small nodes fs small long)
 
 cut-again : (nodes d : ℕ) (fs : List Bool) → nodes ≤ MAX_NODES → d < 2 ^ 32 → length fs ≡ nodes → (numbers_of (numerals (d ∷ counted (members 0 fs))) >>= cut_in nodes) ≡ Some (cut_with d fs)
 unfolding cut_in
 cut-again nodes d fs small fits long =
-    let few : length (members 0 fs) ≤ nodes = omega (arith, members_few 0 fs, long) in
     let below : AreSmall (d ∷ counted (members 0 fs)) = cut_small nodes d fs small fits long in
     ap (λ o. o >>= cut_in nodes) (numbers_found (d ∷ counted (members 0 fs)) below)
-    ∙ ap (λ t. cond t (option_map (cut_with d) (uncounted nodes (counted (members 0 fs)) >>= flags_of 0 nodes)) None) (lt-ltb d (2 ^ 32) fits)
-    ∙ ap (λ o. option_map (cut_with d) (o >>= flags_of 0 nodes)) (uncounted_again nodes (members 0 fs) few)
-    ∙ ap (λ k. option_map (cut_with d) (flags_of 0 k (members 0 fs))) (sym long)
-    ∙ ap (option_map (cut_with d)) (flags_again 0 fs)
+    ∙ ap (λ t. cond t (option_map (cut_with d) (set_of nodes (counted (members 0 fs)))) None) (lt-ltb d (2 ^ 32) fits)
+    ∙ ap (option_map (cut_with d)) (set_again nodes fs long)
 
 pub leaf_again : (nodes links : ℕ) (e : Evidence) → nodes ≤ MAX_NODES → FitsEvidence nodes links e → HasLeafFields e → leaf_of nodes links (leaf_line e) ≡ Some e
 unfolding leaf_of priced_of fixed_of behind leaf_line

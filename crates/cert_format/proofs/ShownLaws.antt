@@ -55,62 +55,62 @@ listed-again lists named ps next =
     ap (λ t. cond t (slice_get lists (number_in lists ps)) None) (le-leb (number_in lists ps) named next.in_order) ∙ list_numbered lists ps next.listed
 
 -- a leaf, and the one with the number of its list in place of the prices
-record IsNumberedLeaf (lists : List (List ℕ)) (named nodes places : ℕ) (e raw : Evidence) : Type 0 where
-  fits : FitsEvidence nodes places e
+record IsNumberedLeaf (lists : List (List ℕ)) (named nodes entries : ℕ) (e raw : Evidence) : Type 0 where
+  fits : FitsEvidence nodes entries e
   fields : HasLeafFields e
   next : IfSome (prices_in e) (IsNext lists named)
   numbers : raw ≡ numbered lists e
 
-leaf-takes : (lists : List (List ℕ)) (named nodes places : ℕ) (raw e : Evidence) → AreNew places [] lists → priced lists named raw ≡ Some e → FitsEvidence nodes 1 raw → HasLeafFields raw → IsNumberedLeaf lists named nodes places e raw
-leaf-takes lists named nodes places (Bound ns) e new h fits fields =
+leaf-takes : (lists : List (List ℕ)) (named nodes entries : ℕ) (raw e : Evidence) → AreNew entries [] lists → priced lists named raw ≡ Some e → FitsEvidence nodes 1 raw → HasLeafFields raw → IsNumberedLeaf lists named nodes entries e raw
+leaf-takes lists named nodes entries (Bound ns) e new h fits fields =
     let (ps, found, is) = map-some (listed lists named ns) (λ prices. Bound prices) e h in
-    let p = listed-takes places lists named ns ps new found in
-    subst (λ (x : Evidence). IsNumberedLeaf lists named nodes places x (Bound ns)) is (record { fits = p.count; fields = p.small; next = p.next; numbers = ap (λ ks. Bound ks) p.numbers })
-leaf-takes lists named nodes places Routed e new h fits fields = (let is : Routed ≡ e = cc in subst (λ (x : Evidence). IsNumberedLeaf lists named nodes places x Routed) is (record { fits = tt; fields = tt; next = tt; numbers = refl }))
-leaf-takes lists named nodes places (Overfull link) e new h fits fields = (let is : Overfull link ≡ e = cc in subst (λ (x : Evidence). IsNumberedLeaf lists named nodes places x (Overfull link)) is (record { fits = tt; fields = fields; next = tt; numbers = refl }))
-leaf-takes lists named nodes places (Cut demand reached) e new h fits fields = (let is : Cut demand reached ≡ e = cc in subst (λ (x : Evidence). IsNumberedLeaf lists named nodes places x (Cut demand reached)) is (record { fits = fits; fields = fields; next = tt; numbers = refl }))
-leaf-takes lists named nodes places (Far demand) e new h fits fields = (let is : Far demand ≡ e = cc in subst (λ (x : Evidence). IsNumberedLeaf lists named nodes places x (Far demand)) is (record { fits = tt; fields = fields; next = tt; numbers = refl }))
-leaf-takes lists named nodes places (Crowd ns) e new h fits fields =
+    let p = listed-takes entries lists named ns ps new found in
+    subst (λ (x : Evidence). IsNumberedLeaf lists named nodes entries x (Bound ns)) is (record { fits = p.count; fields = p.small; next = p.next; numbers = ap (λ ks. Bound ks) p.numbers })
+leaf-takes lists named nodes entries Routed e new h fits fields = (let is : Routed ≡ e = cc in subst (λ (x : Evidence). IsNumberedLeaf lists named nodes entries x Routed) is (record { fits = tt; fields = tt; next = tt; numbers = refl }))
+leaf-takes lists named nodes entries (Overfull link) e new h fits fields = (let is : Overfull link ≡ e = cc in subst (λ (x : Evidence). IsNumberedLeaf lists named nodes entries x (Overfull link)) is (record { fits = tt; fields = fields; next = tt; numbers = refl }))
+leaf-takes lists named nodes entries (Cut demand reached) e new h fits fields = (let is : Cut demand reached ≡ e = cc in subst (λ (x : Evidence). IsNumberedLeaf lists named nodes entries x (Cut demand reached)) is (record { fits = fits; fields = fields; next = tt; numbers = refl }))
+leaf-takes lists named nodes entries (Far demand) e new h fits fields = (let is : Far demand ≡ e = cc in subst (λ (x : Evidence). IsNumberedLeaf lists named nodes entries x (Far demand)) is (record { fits = tt; fields = fields; next = tt; numbers = refl }))
+leaf-takes lists named nodes entries (Crowd ns) e new h fits fields =
     let (ps, found, is) = map-some (listed lists named ns) (λ prices. Crowd prices) e h in
-    let p = listed-takes places lists named ns ps new found in
-    subst (λ (x : Evidence). IsNumberedLeaf lists named nodes places x (Crowd ns)) is (record { fits = p.count; fields = p.small; next = p.next; numbers = ap (λ ks. Crowd ks) p.numbers })
-leaf-takes lists named nodes places (Open ns) e new h fits fields =
+    let p = listed-takes entries lists named ns ps new found in
+    subst (λ (x : Evidence). IsNumberedLeaf lists named nodes entries x (Crowd ns)) is (record { fits = p.count; fields = p.small; next = p.next; numbers = ap (λ ks. Crowd ks) p.numbers })
+leaf-takes lists named nodes entries (Open ns) e new h fits fields =
     let (ps, found, is) = map-some (listed lists named ns) (λ prices. Open prices) e h in
-    let p = listed-takes places lists named ns ps new found in
-    subst (λ (x : Evidence). IsNumberedLeaf lists named nodes places x (Open ns)) is (record { fits = p.count; fields = p.small; next = p.next; numbers = ap (λ ks. Open ks) p.numbers })
+    let p = listed-takes entries lists named ns ps new found in
+    subst (λ (x : Evidence). IsNumberedLeaf lists named nodes entries x (Open ns)) is (record { fits = p.count; fields = p.small; next = p.next; numbers = ap (λ ks. Open ks) p.numbers })
 
 -- a record, and the one with the number of its list in place of the prices
-record IsNumbered (lists : List (List ℕ)) (named nodes places : ℕ) (node raw : TreeNode) : Type 0 where
-  fits : FitsRecord nodes places node
+record IsNumbered (lists : List (List ℕ)) (named nodes entries : ℕ) (node raw : TreeNode) : Type 0 where
+  fits : FitsRecord nodes entries node
   fields : HasRecordFields node
   next : IfSome (prices_at node) (IsNext lists named)
   numbers : raw ≡ with_number lists node
 
-numbered-takes : (lists : List (List ℕ)) (named nodes places : ℕ) (raw node : TreeNode) → AreNew places [] lists → with_prices lists named raw ≡ Some node → FitsRecord nodes 1 raw → HasRecordFields raw → IsNumbered lists named nodes places node raw
-numbered-takes lists named nodes places (Split demand at left right) node new e fits fields =
+numbered-takes : (lists : List (List ℕ)) (named nodes entries : ℕ) (raw node : TreeNode) → AreNew entries [] lists → with_prices lists named raw ≡ Some node → FitsRecord nodes 1 raw → HasRecordFields raw → IsNumbered lists named nodes entries node raw
+numbered-takes lists named nodes entries (Split demand at left right) node new e fits fields =
     let is : Split demand at left right ≡ node = cc in
-    subst (λ (x : TreeNode). IsNumbered lists named nodes places x (Split demand at left right)) is (record { fits = fits; fields = fields; next = tt; numbers = refl })
-numbered-takes lists named nodes places (Loads place load) node new e fits fields =
+    subst (λ (x : TreeNode). IsNumbered lists named nodes entries x (Split demand at left right)) is (record { fits = fits; fields = fields; next = tt; numbers = refl })
+numbered-takes lists named nodes entries (Loads place load) node new e fits fields =
     let is : Loads place load ≡ node = cc in
-    subst (λ (x : TreeNode). IsNumbered lists named nodes places x (Loads place load)) is (record { fits = tt; fields = fields; next = tt; numbers = refl })
-numbered-takes lists named nodes places (Leaf raw) node new e fits fields =
+    subst (λ (x : TreeNode). IsNumbered lists named nodes entries x (Loads place load)) is (record { fits = tt; fields = fields; next = tt; numbers = refl })
+numbered-takes lists named nodes entries (Leaf raw) node new e fits fields =
     let (found, first, is) = map-some (priced lists named raw) (λ (x : Evidence). Leaf x) node e in
-    let l = leaf-takes lists named nodes places raw found new first fits fields in
-    subst (λ (x : TreeNode). IsNumbered lists named nodes places x (Leaf raw)) is (record { fits = l.fits; fields = l.fields; next = l.next; numbers = ap (λ (x : Evidence). Leaf x) l.numbers })
+    let l = leaf-takes lists named nodes entries raw found new first fits fields in
+    subst (λ (x : TreeNode). IsNumbered lists named nodes entries x (Leaf raw)) is (record { fits = l.fits; fields = l.fields; next = l.next; numbers = ap (λ (x : Evidence). Leaf x) l.numbers })
 
 -- a record, and what stands for it in a text of this version
-record IsShownAs (form : Form) (lists : List (List ℕ)) (named nodes places : ℕ) (node raw : TreeNode) : Type 0 where
-  fits : FitsRecord nodes places node
+record IsShownAs (form : Form) (lists : List (List ℕ)) (named nodes entries : ℕ) (node raw : TreeNode) : Type 0 where
+  fits : FitsRecord nodes entries node
   fields : HasRecordFields node
   names : Names form lists named node
   is_shown : raw ≡ shown form lists node
 
-meant-takes : (form : Form) (lists : List (List ℕ)) (named nodes places : ℕ) (raw node : TreeNode) → AreGood form places lists → meant form lists named raw ≡ Some node → FitsRecord nodes (width form places) raw → HasRecordFields raw → IsShownAs form lists named nodes places node raw
-meant-takes First lists named nodes places raw node good e fits fields =
+meant-takes : (form : Form) (lists : List (List ℕ)) (named nodes entries : ℕ) (raw node : TreeNode) → AreGood form entries lists → meant form lists named raw ≡ Some node → FitsRecord nodes (width form entries) raw → HasRecordFields raw → IsShownAs form lists named nodes entries node raw
+meant-takes First lists named nodes entries raw node good e fits fields =
     let is : raw ≡ node = cc in
-    subst (λ (x : TreeNode). IsShownAs First lists named nodes places x raw) is (record { fits = fits; fields = fields; names = tt; is_shown = refl })
-meant-takes Second lists named nodes places raw node good e fits fields = (let n = numbered-takes lists named nodes places raw node good.1 e fits fields in record { fits = n.fits; fields = n.fields; names = n.next; is_shown = n.numbers })
-meant-takes Third lists named nodes places raw node good e fits fields = (let n = numbered-takes lists named nodes places raw node good.1 e fits fields in record { fits = n.fits; fields = n.fields; names = n.next; is_shown = n.numbers })
+    subst (λ (x : TreeNode). IsShownAs First lists named nodes entries x raw) is (record { fits = fits; fields = fields; names = tt; is_shown = refl })
+meant-takes Second lists named nodes entries raw node good e fits fields = (let n = numbered-takes lists named nodes entries raw node good.1 e fits fields in record { fits = n.fits; fields = n.fields; names = n.next; is_shown = n.numbers })
+meant-takes Third lists named nodes entries raw node good e fits fields = (let n = numbered-takes lists named nodes entries raw node good.1 e fits fields in record { fits = n.fits; fields = n.fields; names = n.next; is_shown = n.numbers })
 
 -- the version has a line for a record exactly where it has one for what stands for it
 shown-line : (form : Form) (lists : List (List ℕ)) (node : TreeNode) → has_line form (shown form lists node) ≡ has_line form node
@@ -121,20 +121,20 @@ shown-line Second lists (Leaf e) = refl
 shown-line Third lists node = refl
 
 -- the line of a record in a text of this version
-pub record IsLineOf (form : Form) (lists : List (List ℕ)) (named nodes places : ℕ) (node : TreeNode) (body : List ℕ) : Type 0 where
-  pub fits : FitsRecord nodes places node
+pub record IsLineOf (form : Form) (lists : List (List ℕ)) (named nodes entries : ℕ) (node : TreeNode) (body : List ℕ) : Type 0 where
+  pub fits : FitsRecord nodes entries node
   pub fields : HasRecordFields node
   pub has : IsTrue (has_line form node)
   pub names : Names form lists named node
   pub line : body ≡ record_line (shown form lists node)
 
-pub record_in_takes : (form : Form) (lists : List (List ℕ)) (named nodes places : ℕ) (body : List ℕ) (node : TreeNode) → AreGood form places lists → record_in form lists named nodes places body ≡ Some node → IsLineOf form lists named nodes places node body
+pub record_in_takes : (form : Form) (lists : List (List ℕ)) (named nodes entries : ℕ) (body : List ℕ) (node : TreeNode) → AreGood form entries lists → record_in form lists named nodes entries body ≡ Some node → IsLineOf form lists named nodes entries node body
 unfolding record_in resolved
-record_in_takes form lists named nodes places body node good e =
-    let (raw, first, later) = then-some (record_of nodes (width form places) body) (resolved form lists named) node e in
-    let r = record_takes nodes (width form places) body raw first in
+record_in_takes form lists named nodes entries body node good e =
+    let (raw, first, later) = then-some (record_of nodes (width form entries) body) (resolved form lists named) node e in
+    let r = record_takes nodes (width form entries) body raw first in
     let (test, made) = when_some (has_line form raw) (meant form lists named raw) node later in
-    let s = meant-takes form lists named nodes places raw node good made r.fits r.fields in
+    let s = meant-takes form lists named nodes entries raw node good made r.fits r.fields in
     record {
       fits = s.fits;
       fields = s.fields;
@@ -152,41 +152,41 @@ record IsNumberedWell (lists : List (List ℕ)) (named nodes : ℕ) (node : Tree
   fields : HasRecordFields (with_number lists node)
   is_read : with_prices lists named (with_number lists node) ≡ Some node
 
-numbered-well : (lists : List (List ℕ)) (named nodes places : ℕ) (node : TreeNode) → length lists ≤ MAX_LISTS → FitsRecord nodes places node → HasRecordFields node → IfSome (prices_at node) (IsNext lists named) → IsNumberedWell lists named nodes node
-numbered-well lists named nodes places (Split demand at left right) few fits fields next = record { fits = fits; fields = fields; is_read = refl }
-numbered-well lists named nodes places (Loads place load) few fits fields next = record { fits = tt; fields = fields; is_read = refl }
-numbered-well lists named nodes places (Leaf (Bound ps)) few fits fields next = record { fits = refl; fields = number-small lists named ps few next; is_read = ap (λ o. option_map (λ (x : Evidence). Leaf x) (option_map (λ prices. Bound prices) o)) (listed-again lists named ps next) }
-numbered-well lists named nodes places (Leaf Routed) few fits fields next = record { fits = tt; fields = tt; is_read = refl }
-numbered-well lists named nodes places (Leaf (Overfull link)) few fits fields next = record { fits = tt; fields = fields; is_read = refl }
-numbered-well lists named nodes places (Leaf (Cut demand reached)) few fits fields next = record { fits = fits; fields = fields; is_read = refl }
-numbered-well lists named nodes places (Leaf (Far demand)) few fits fields next = record { fits = tt; fields = fields; is_read = refl }
-numbered-well lists named nodes places (Leaf (Crowd ps)) few fits fields next = record { fits = refl; fields = number-small lists named ps few next; is_read = ap (λ o. option_map (λ (x : Evidence). Leaf x) (option_map (λ prices. Crowd prices) o)) (listed-again lists named ps next) }
-numbered-well lists named nodes places (Leaf (Open ps)) few fits fields next = record { fits = refl; fields = number-small lists named ps few next; is_read = ap (λ o. option_map (λ (x : Evidence). Leaf x) (option_map (λ prices. Open prices) o)) (listed-again lists named ps next) }
+numbered-well : (lists : List (List ℕ)) (named nodes entries : ℕ) (node : TreeNode) → length lists ≤ MAX_LISTS → FitsRecord nodes entries node → HasRecordFields node → IfSome (prices_at node) (IsNext lists named) → IsNumberedWell lists named nodes node
+numbered-well lists named nodes entries (Split demand at left right) few fits fields next = record { fits = fits; fields = fields; is_read = refl }
+numbered-well lists named nodes entries (Loads place load) few fits fields next = record { fits = tt; fields = fields; is_read = refl }
+numbered-well lists named nodes entries (Leaf (Bound ps)) few fits fields next = record { fits = refl; fields = number-small lists named ps few next; is_read = ap (λ o. option_map (λ (x : Evidence). Leaf x) (option_map (λ prices. Bound prices) o)) (listed-again lists named ps next) }
+numbered-well lists named nodes entries (Leaf Routed) few fits fields next = record { fits = tt; fields = tt; is_read = refl }
+numbered-well lists named nodes entries (Leaf (Overfull link)) few fits fields next = record { fits = tt; fields = fields; is_read = refl }
+numbered-well lists named nodes entries (Leaf (Cut demand reached)) few fits fields next = record { fits = fits; fields = fields; is_read = refl }
+numbered-well lists named nodes entries (Leaf (Far demand)) few fits fields next = record { fits = tt; fields = fields; is_read = refl }
+numbered-well lists named nodes entries (Leaf (Crowd ps)) few fits fields next = record { fits = refl; fields = number-small lists named ps few next; is_read = ap (λ o. option_map (λ (x : Evidence). Leaf x) (option_map (λ prices. Crowd prices) o)) (listed-again lists named ps next) }
+numbered-well lists named nodes entries (Leaf (Open ps)) few fits fields next = record { fits = refl; fields = number-small lists named ps few next; is_read = ap (λ o. option_map (λ (x : Evidence). Leaf x) (option_map (λ prices. Open prices) o)) (listed-again lists named ps next) }
 
 -- what stands for a record can stand in a line, and is read as the record
-record IsShownWell (form : Form) (lists : List (List ℕ)) (named nodes places : ℕ) (node : TreeNode) : Type 0 where
-  fits : FitsRecord nodes (width form places) (shown form lists node)
+record IsShownWell (form : Form) (lists : List (List ℕ)) (named nodes entries : ℕ) (node : TreeNode) : Type 0 where
+  fits : FitsRecord nodes (width form entries) (shown form lists node)
   fields : HasRecordFields (shown form lists node)
   is_read : meant form lists named (shown form lists node) ≡ Some node
 
-shown-well : (form : Form) (lists : List (List ℕ)) (named nodes places : ℕ) (node : TreeNode) → AreGood form places lists → FitsRecord nodes places node → HasRecordFields node → Names form lists named node → IsShownWell form lists named nodes places node
-shown-well First lists named nodes places node good fits fields names = record { fits = fits; fields = fields; is_read = refl }
-shown-well Second lists named nodes places node good fits fields names = (let w = numbered-well lists named nodes places node good.0 fits fields names in record { fits = w.fits; fields = w.fields; is_read = w.is_read })
-shown-well Third lists named nodes places node good fits fields names = (let w = numbered-well lists named nodes places node good.0 fits fields names in record { fits = w.fits; fields = w.fields; is_read = w.is_read })
+shown-well : (form : Form) (lists : List (List ℕ)) (named nodes entries : ℕ) (node : TreeNode) → AreGood form entries lists → FitsRecord nodes entries node → HasRecordFields node → Names form lists named node → IsShownWell form lists named nodes entries node
+shown-well First lists named nodes entries node good fits fields names = record { fits = fits; fields = fields; is_read = refl }
+shown-well Second lists named nodes entries node good fits fields names = (let w = numbered-well lists named nodes entries node good.0 fits fields names in record { fits = w.fits; fields = w.fields; is_read = w.is_read })
+shown-well Third lists named nodes entries node good fits fields names = (let w = numbered-well lists named nodes entries node good.0 fits fields names in record { fits = w.fits; fields = w.fields; is_read = w.is_read })
 
-pub record_in_again : (form : Form) (lists : List (List ℕ)) (named nodes places : ℕ) (node : TreeNode) → nodes ≤ MAX_NODES → AreGood form places lists → FitsRecord nodes places node → HasRecordFields node → IsTrue (has_line form node) → Names form lists named node
-    → record_in form lists named nodes places (record_line (shown form lists node)) ≡ Some node
+pub record_in_again : (form : Form) (lists : List (List ℕ)) (named nodes entries : ℕ) (node : TreeNode) → nodes ≤ MAX_NODES → AreGood form entries lists → FitsRecord nodes entries node → HasRecordFields node → IsTrue (has_line form node) → Names form lists named node
+    → record_in form lists named nodes entries (record_line (shown form lists node)) ≡ Some node
 unfolding record_in resolved
-record_in_again form lists named nodes places node few good fits fields has names =
-    let w = shown-well form lists named nodes places node good fits fields names in
-    ap (λ o. o >>= resolved form lists named) (record_again nodes (width form places) (shown form lists node) few w.fits w.fields)
+record_in_again form lists named nodes entries node few good fits fields has names =
+    let w = shown-well form lists named nodes entries node good fits fields names in
+    ap (λ o. o >>= resolved form lists named) (record_again nodes (width form entries) (shown form lists node) few w.fits w.fields)
     ∙ ap (λ t. cond t (meant form lists named (shown form lists node)) None) (shown-line form lists node ∙ has)
     ∙ w.is_read
 
-pub shown_all : (form : Form) (lists : List (List ℕ)) (named nodes places : ℕ) (ns : List TreeNode) → AreGood form places lists → AllByRecursion (λ node. FitsRecord nodes places node × HasRecordFields node) ns → AreNamed form lists named ns
-    → AllByRecursion (λ node. FitsRecord nodes (width form places) (shown form lists node) × HasRecordFields (shown form lists node)) ns
+pub shown_all : (form : Form) (lists : List (List ℕ)) (named nodes entries : ℕ) (ns : List TreeNode) → AreGood form entries lists → AllByRecursion (λ node. FitsRecord nodes entries node × HasRecordFields node) ns → AreNamed form lists named ns
+    → AllByRecursion (λ node. FitsRecord nodes (width form entries) (shown form lists node) × HasRecordFields (shown form lists node)) ns
 unfolding AreNamed
-shown_all form lists named nodes places [] good h k = tt
-shown_all form lists named nodes places (n ∷ ns) good h k =
-    let w = shown-well form lists named nodes places n good h.0.0 h.0.1 k.0 in
-    ((w.fits, w.fields), shown_all form lists (named_behind form lists named n) nodes places ns good h.1 k.1)
+shown_all form lists named nodes entries [] good h k = tt
+shown_all form lists named nodes entries (n ∷ ns) good h k =
+    let w = shown-well form lists named nodes entries n good h.0.0 h.0.1 k.0 in
+    ((w.fits, w.fields), shown_all form lists (named_behind form lists named n) nodes entries ns good h.1 k.1)

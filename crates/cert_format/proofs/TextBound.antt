@@ -10,7 +10,8 @@ use Rattle.scaled_numbers.specs.Canonical.{grains_text, behind_point, fraction_d
 use Rattle.plan_base.specs.declared.ids.ArcId.{ArcId}
 use Rattle.plan_base.specs.declared.path.Design.{Design}
 use Rattle.plan_base.specs.declared.limits.TheConstants.{MAX_NODES, MAX_LINKS, MAX_DEMANDS, MAX_MODULES}
-use Rattle.proof_tree.specs.declared.limits.TheConstants.{MAX_RECORDS, MAX_PATH_ARCS, MAX_SIDE_ARCS}
+use Rattle.proof_tree.specs.declared.limits.TheConstants.{MAX_RECORDS, MAX_PATH_ARCS, MAX_SIDE_ARCS, MAX_CUTS}
+use Rattle.proof_tree.specs.declared.cuts.Cut.{Cut as LoadCut}
 use Rattle.proof_tree.specs.declared.tree.Evidence.{Evidence}
 use Rattle.proof_tree.specs.declared.tree.Evidence.TheVariants.{Bound, Routed, Overfull, Cut, Far, Crowd, Open}
 use Rattle.proof_tree.specs.declared.tree.TreeNode.{TreeNode}
@@ -19,21 +20,22 @@ use Rattle.proof_tree.specs.declared.plan.PlanStatus.{PlanStatus}
 use Rattle.proof_tree.specs.declared.plan.PlanStatus.TheVariants.{Optimal, Infeasible, Undecided}
 use Rattle.proof_tree.specs.declared.plan.Plan.{Plan}
 use Rattle.proof_tree.specs.Shapes.{are_trees}
-use Rattle.proof_tree.specs.Spellings.{places_in, FitsRecord, FitsDesign, IsWrittenSide, IsSpellable}
+use Rattle.proof_tree.specs.Spellings.{places_in, numbers_in, FitsRecord, FitsDesign, FitsCuts, IsWrittenSide, IsSpellable}
 use Rattle.cert_format.specs.declared.limits.TheConstants.{MAX_PLAN_BYTES, MAX_LISTS}
 use Rattle.cert_format.specs.declared.form.Form.{Form}
 use Rattle.cert_format.specs.declared.form.Form.TheVariants.{First, Second, Third}
 use Rattle.plan_words.specs.Lines.{whole, text_of}
-use Rattle.cert_format.specs.Versions.{has_loads, written_form}
+use Rattle.cert_format.specs.Versions.{has_thirds, written_form}
 use Rattle.cert_format.specs.Lists.{lists_of, numbered, with_number, AreNew}
 use Rattle.cert_format.specs.Drafts.{AreStated}
 use Rattle.cert_format.specs.Written.{numbered_lines}
 use Rattle.plan_words.specs.Words.{numerals, row}
-use Rattle.cert_format.specs.Grammar.{header_line, both_word, both_text, count_line, status_line, number_line, cost_line, signed_text, arc_numbers, counted, path_line, modules_line, members, leaf_line, record_line, design_lines, bound_lines, cut_lines, price_line, list_lines, price_lines, head_lines, front_lines, end_line, plan_text, written_text, AreArcs, HasLeafFields, HasRecordFields, HasDesignFields, IsBoundField, HasFields}
+use Rattle.cert_format.specs.Grammar.{header_line, both_word, both_text, count_line, status_line, number_line, cost_line, signed_text, arc_numbers, counted, path_line, modules_line, members, leaf_line, record_line, design_lines, bound_lines, cut_numbers, cut_line, cut_lines, price_line, list_lines, price_lines, head_lines, front_lines, end_line, plan_text, written_text, AreArcs, HasCutFields, HasLeafFields, HasRecordFields, HasDesignFields, IsBoundField, HasFields}
 use Rattle.cert_format.proofs.VersionLaws.{not_first}
 use Rattle.cert_format.proofs.BodyLaws.{AreSmall}
 use Rattle.plan_words.proofs.Digits.{grains_scaled}
 use Rattle.cert_format.proofs.RecordLaws.{members_few}
+use Rattle.cert_format.proofs.CutLaws.{GoodCut, good_cuts, bit_few}
 use Rattle.cert_format.proofs.ListLaws.{leaves, half_leaves}
 use Rattle.cert_format.proofs.ReadingLaws.{GoodPath, GoodCounts, pair_of}
 use Rattle.cert_format.proofs.ShownLaws.{shown_all}
@@ -116,9 +118,9 @@ modules-most counts g =
     let small : AllByRecursion (λ n. n < 10 ^ 20) (counted counts) = (omega (arith, few), weaker (λ c. c < 2 ^ 64) (λ n. n < 10 ^ 20) (λ n lt. omega (arith, lt)) counts g.1) in
     omega (arith, few, length-append (codes "MODULES") (numerals (counted counts)), numerals-counts (counted counts) small)
 
-price-most : (places : ℕ) → places ≤ 2048 → (list : List ℕ) → (length list ≡ places) × AreSmall list → suc (length (price_line list)) ≤ 81922
-price-most places few list h =
-    let long : length list ≡ places = h.0 in
+price-most : (entries : ℕ) → entries ≤ 2304 → (list : List ℕ) → (length list ≡ entries) × AreSmall list → suc (length (price_line list)) ≤ 92162
+price-most entries few list h =
+    let long : length list ≡ entries = h.0 in
     omega (arith, few, long, length-append (codes "P") (numerals list), numerals-prices list h.1)
 
 grains-most : (v : ℕ) → v < 2 ^ 128 → length (grains_text v 12) ≤ 60
@@ -203,20 +205,41 @@ bound-most Infeasible b h = omega arith
 bound-most Undecided None h = omega arith
 bound-most Undecided (Some b) h = omega (arith, length-append (codes "BOUND ") (signed_text b), signed-most b h)
 
-cuts-most : (form : Form) → bytes_of (cut_lines form) ≤ 100
+members-ids : (at most : ℕ) (fs : List Bool) → at + length fs ≤ most → most ≤ 10 ^ 10 → AllByRecursion (λ n. n < 10 ^ 10) (members at fs)
+unfolding members
+members-ids at most [] within small = tt
+members-ids at most (true ∷ fs) within small = (omega arith, members-ids (suc at) most fs (omega arith) small)
+members-ids at most (false ∷ fs) within small = members-ids (suc at) most fs (omega arith) small
+
+-- the line of a cut, each number of which is below 10^20
+cut-most : (nodes : ℕ) → nodes ≤ MAX_NODES → (cut : LoadCut) → GoodCut nodes cut → suc (length (cut_line cut)) ≤ 10840
+cut-most nodes small cut g =
+    let long : length cut.nodes ≡ nodes = g.0 in
+    let set : List ℕ = members 0 cut.nodes in
+    let few : length set ≤ 512 = omega (arith, small, long, members_few 0 cut.nodes) in
+    let ids = members-ids 0 nodes cut.nodes (omega (arith, long)) (omega (arith, small)) in
+    let each : AllByRecursion (λ n. n < 10 ^ 20) (cut_numbers cut) =
+    (omega (arith, g.1.0), (omega (arith, g.1.1), (omega (arith, bit_few cut.counts_installed), (omega (arith, few), weaker (λ n. n < 10 ^ 10) (λ n. n < 10 ^ 20) (λ n lt. omega (arith, lt)) set ids)))) in
+    omega (arith, few, length-append (codes "C") (numerals (cut_numbers cut)), numerals-counts (cut_numbers cut) each)
+
+cuts-most : (form : Form) (nodes : ℕ) (cuts : List LoadCut) → nodes ≤ MAX_NODES → FitsCuts nodes cuts → AllByRecursion HasCutFields cuts → bytes_of (cut_lines form cuts) ≤ 2800000
 unfolding cut_lines
-cuts-most First = omega arith
-cuts-most Second = omega arith
-cuts-most Third = omega arith
+cuts-most First nodes cuts small fits fields = omega arith
+cuts-most Second nodes cuts small fits fields = omega arith
+cuts-most Third nodes cuts small fits fields =
+    let few : length cuts ≤ MAX_CUTS = fits.few in
+    let each : bytes_of (map cut_line cuts) ≤ length (map cut_line cuts) * 10840 = bytes-most 10840 (map cut_line cuts) (shown-most (GoodCut nodes) cut_line 10840 (cut-most nodes small) cuts (good_cuts nodes cuts fits fields)) in
+    let all : bytes_of (number_line (codes "CUTS") (length cuts) ∷ map cut_line cuts) ≡ suc (length (number_line (codes "CUTS") (length cuts))) + bytes_of (map cut_line cuts) = bytes-cons (number_line (codes "CUTS") (length cuts)) (map cut_line cuts) in
+    omega (arith, few, all, each, length-map cuts cut_line, number-most (codes "CUTS") (length cuts) (omega arith) (omega (arith, few)))
 
-new-prices : (places : ℕ) (before lists : List (List ℕ)) → AreNew places before lists → AllByRecursion (λ list. (length list ≡ places) × AreSmall list) lists
+new-prices : (entries : ℕ) (before lists : List (List ℕ)) → AreNew entries before lists → AllByRecursion (λ list. (length list ≡ entries) × AreSmall list) lists
 unfolding AreNew
-new-prices places before [] h = tt
-new-prices places before (x ∷ lists) h = ((h.0, h.1), new-prices places (before ++ x ∷ []) lists h.3)
+new-prices entries before [] h = tt
+new-prices entries before (x ∷ lists) h = ((h.0, h.1), new-prices entries (before ++ x ∷ []) lists h.3)
 
-prices-most : (places : ℕ) → places ≤ 2048 → (lists : List (List ℕ)) → length lists ≤ MAX_LISTS → AreNew places [] lists → bytes_of (list_lines (length lists) lists) ≤ 335700000
-prices-most places small lists few new =
-    let each : bytes_of (map price_line lists) ≤ length (map price_line lists) * 81922 = bytes-most 81922 (map price_line lists) (shown-most (λ list. (length list ≡ places) × AreSmall list) price_line 81922 (price-most places small) lists (new-prices places [] lists new)) in
+prices-most : (entries : ℕ) → entries ≤ 2304 → (lists : List (List ℕ)) → length lists ≤ MAX_LISTS → AreNew entries [] lists → bytes_of (list_lines (length lists) lists) ≤ 377700000
+prices-most entries small lists few new =
+    let each : bytes_of (map price_line lists) ≤ length (map price_line lists) * 92162 = bytes-most 92162 (map price_line lists) (shown-most (λ list. (length list ≡ entries) × AreSmall list) price_line 92162 (price-most entries small) lists (new-prices entries [] lists new)) in
     let all : bytes_of (list_lines (length lists) lists) ≡ suc (length (number_line (codes "PRICES") (length lists))) + bytes_of (map price_line lists) = bytes-cons (number_line (codes "PRICES") (length lists)) (map price_line lists) in
     omega (arith, few, all, each, length-map lists price_line, number-most (codes "PRICES") (length lists) (omega arith) (omega (arith, few)))
 
@@ -242,12 +265,6 @@ side-ids : (arcs : List ArcId) → IsWrittenSide arcs → AreArcs arcs → (leng
 side-ids arcs s h =
     let few : length arcs ≤ MAX_SIDE_ARCS = s.few in
     (omega (arith, few, length-map arcs (λ (a : ArcId). a.0)), (omega (arith, few, length-map arcs (λ (a : ArcId). a.0)), arcs-ids arcs h))
-
-members-ids : (at most : ℕ) (fs : List Bool) → at + length fs ≤ most → most ≤ 10 ^ 10 → AllByRecursion (λ n. n < 10 ^ 10) (members at fs)
-unfolding members
-members-ids at most [] within small = tt
-members-ids at most (true ∷ fs) within small = (omega arith, members-ids (suc at) most fs (omega arith) small)
-members-ids at most (false ∷ fs) within small = members-ids (suc at) most fs (omega arith) small
 
 split-most : (demand at : ℕ) (left right : List ArcId) → demand < 2 ^ 32 → at < 2 ^ 32 → IsWrittenSide left → IsWrittenSide right → AreArcs left → AreArcs right
     → suc (length (row (codes "SPLIT") (demand ∷ at ∷ (counted (arc_numbers left) ++ counted (arc_numbers right))))) ≤ 22600
@@ -303,17 +320,20 @@ places-few : (both : Bool) (links : ℕ) → links ≤ MAX_LINKS → places_in b
 places-few true links few = omega (arith, few)
 places-few false links few = omega (arith, few)
 
+entries-few : (plan : Plan) → IsSpellable plan → numbers_in plan ≤ 2304
+entries-few plan s = (let few : length plan.cuts ≤ MAX_CUTS = s.cuts.few in omega (arith, few, places-few plan.both plan.links s.sizes.links))
+
 -- the lines of a plan with these price lists, where records show their numbers
 abbrev all-lines : Form → List (List ℕ) → Plan → List (List ℕ)
-all-lines form lists plan = (head_lines form plan ++ (design_lines plan.design ++ (bound_lines plan.status plan.bound ++ (cut_lines form ++ list_lines (length lists) lists)))) ++ ((number_line (codes "TREE") (length plan.tree) ∷ numbered_lines lists plan.tree) ++ end_line ∷ [])
+all-lines form lists plan = (head_lines form plan ++ (design_lines plan.design ++ (bound_lines plan.status plan.bound ++ (cut_lines form plan.cuts ++ list_lines (length lists) lists)))) ++ ((number_line (codes "TREE") (length plan.tree) ∷ numbered_lines lists plan.tree) ++ end_line ∷ [])
 
-lines-most : (form : Form) (lists : List (List ℕ)) (plan : Plan) → IsSpellable plan → HasFields plan → AreStated (places_in plan.both plan.links) (length lists) lists
+lines-most : (form : Form) (lists : List (List ℕ)) (plan : Plan) → IsSpellable plan → HasFields plan → AreStated (numbers_in plan) (length lists) lists
     → AllByRecursion (λ node. FitsRecord plan.nodes 1 (with_number lists node) × HasRecordFields (with_number lists node)) plan.tree → bytes_of (all-lines form lists plan) ≤ MAX_PLAN_BYTES
 lines-most form lists plan s f stated each =
     let few : length lists ≤ MAX_LISTS = stated.0 in
     let d : List (List ℕ) = design_lines plan.design in
     let b : List (List ℕ) = bound_lines plan.status plan.bound in
-    let c : List (List ℕ) = cut_lines form in
+    let c : List (List ℕ) = cut_lines form plan.cuts in
     let p : List (List ℕ) = list_lines (length lists) lists in
     let h : List (List ℕ) = head_lines form plan in
     let n : List (List ℕ) = numbered_lines lists plan.tree in
@@ -328,8 +348,8 @@ lines-most form lists plan s f stated each =
       head-most form plan s f,
       design-most plan.demands plan.links s.sizes.demands s.sizes.links plan.design s.design f.design_fields,
       bound-most plan.status plan.bound f.bound_field,
-      cuts-most form,
-      prices-most (places_in plan.both plan.links) (places-few plan.both plan.links s.sizes.links) lists few stated.2,
+      cuts-most form plan.nodes plan.cuts s.sizes.nodes s.cuts f.cut_fields,
+      prices-most (numbers_in plan) (entries-few plan s) lists few stated.2,
       tree-most plan.nodes lists s.sizes.nodes plan.tree each,
       number-most (codes "TREE") (length plan.tree) (omega arith) (omega (arith, most)),
       bytes-cons t n,
@@ -342,9 +362,9 @@ lines-most form lists plan s f stated each =
     )
 
 -- the records of a plan that fits
-fit-records : (plan : Plan) → IsSpellable plan → HasFields plan → AllByRecursion (λ node. FitsRecord plan.nodes (places_in plan.both plan.links) node × HasRecordFields node) plan.tree
+fit-records : (plan : Plan) → IsSpellable plan → HasFields plan → AllByRecursion (λ node. FitsRecord plan.nodes (numbers_in plan) node × HasRecordFields node) plan.tree
 fit-records plan s f =
-    let fits : TreeNode → Type 0 = FitsRecord plan.nodes (places_in plan.both plan.links) in
+    let fits : TreeNode → Type 0 = FitsRecord plan.nodes (numbers_in plan) in
     pair_of fits HasRecordFields plan.tree (recursion_from_All fits plan.tree s.records.each) f.record_fields
 
 numbered-within : (form : Form) (plan : Plan) → (form ≡ First → ⊥) → IsSpellable plan → HasFields plan → length (plan_text form plan) ≤ MAX_PLAN_BYTES
@@ -353,13 +373,13 @@ numbered-within First plan other s f = absurd (other refl)
 numbered-within Second plan other s f =
     let lists : List (List ℕ) = lists_of plan.tree in
     let r = plan_ready Second plan s f in
-    let each = shown_all Second lists 0 plan.nodes (places_in plan.both plan.links) plan.tree (r.listed.0, r.listed.2) (fit-records plan s f) r.named in
+    let each = shown_all Second lists 0 plan.nodes (numbers_in plan) plan.tree (r.listed.0, r.listed.2) (fit-records plan s f) r.named in
     omega (arith, text-bytes (all-lines Second lists plan), lines-most Second lists plan s f r.listed each)
 numbered-within Third plan other s f =
     let lists : List (List ℕ) = lists_of plan.tree in
     let r = plan_ready Third plan s f in
-    let each = shown_all Third lists 0 plan.nodes (places_in plan.both plan.links) plan.tree (r.listed.0, r.listed.2) (fit-records plan s f) r.named in
+    let each = shown_all Third lists 0 plan.nodes (numbers_in plan) plan.tree (r.listed.0, r.listed.2) (fit-records plan s f) r.named in
     omega (arith, text-bytes (all-lines Third lists plan), lines-most Third lists plan s f r.listed each)
 
 pub text_within : (plan : Plan) → IsSpellable plan → HasFields plan → length (written_text plan) ≤ MAX_PLAN_BYTES
-text_within plan s f = numbered-within (written_form plan.tree) plan (not_first (has_loads plan.tree)) s f
+text_within plan s f = numbered-within (written_form plan.cuts plan.tree) plan (not_first (has_thirds plan.cuts plan.tree)) s f

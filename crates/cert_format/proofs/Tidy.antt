@@ -1,7 +1,7 @@
 -- Readers that stop at the first line that cannot stand where it stands.
 use Rattle.std.proofs.Common.{◌≡◌, ℕ, zero, suc, ◌-◌, ◌^◌, ◌<◌, ◌≤◌, ◌⊎◌, inl, inr, false, List, [], ◌∷◌, ◌++◌, length, map, codes, Option, Some, None, refl, sym, ap, subst, ◌∙◌, append_assoc, arith}
 use Rattle.std.specs.Prelude.{Result, Ok, Err}
-use Rattle.proof_tree.specs.declared.limits.TheConstants.{MAX_BUDGET, MAX_RECORDS}
+use Rattle.proof_tree.specs.declared.limits.TheConstants.{MAX_BUDGET, MAX_RECORDS, MAX_CUTS}
 use Rattle.proof_tree.specs.declared.tree.Evidence.TheVariants.{Routed}
 use Rattle.proof_tree.specs.declared.tree.TreeNode.TheVariants.{Leaf}
 use Rattle.proof_tree.specs.declared.plan.PlanStatus.{PlanStatus}
@@ -13,12 +13,13 @@ use Rattle.cert_format.specs.declared.numbering.Ground.{Ground}
 use Rattle.cert_format.specs.declared.reading.Head.{Head}
 use Rattle.plan_words.specs.Lines.{Line, whole, unfinished}
 use Rattle.cert_format.specs.Lists.{resolved, AreNew}
-use Rattle.cert_format.specs.Grammar.{header_line, size_line, status_line, number_line, cost_line, bound_line, path_line, modules_line, cuts_line, price_line, CanTell}
+use Rattle.cert_format.specs.Grammar.{header_line, size_line, status_line, number_line, cost_line, bound_line, path_line, modules_line, cut_line, price_line, CanTell}
 use Rattle.plan_words.specs.Words.{behind}
-use Rattle.cert_format.specs.Bodies.{fixed_of, form_of, number_row, size_row, status_of, cost_of, bound_of, path_of, modules_of, leaf_of, record_of, record_in, list_row}
-use Rattle.cert_format.specs.Reading.{Reader, ◌>>=◌, bind, done, judged, one, many, head, design_of, design, bound, no_cuts, list_count, front_with, opening, lists, record_on, records, tree, head_with, design_with, tree_with}
+use Rattle.cert_format.specs.Bodies.{fixed_of, form_of, number_row, size_row, status_of, cost_of, bound_of, path_of, modules_of, leaf_of, record_of, record_in, list_row, load_cut_row}
+use Rattle.cert_format.specs.Reading.{Reader, ◌>>=◌, bind, done, judged, one, many, head, design_of, design, bound, load_cuts, list_count, front_with, opening, lists, record_on, records, tree, head_with, design_with, tree_with}
 use Rattle.cert_format.specs.Drafts.{left_open}
-use Rattle.cert_format.proofs.BodyLaws.{AreTold, sizes_at, form_again, number_row_again, size_again, status_again, fixed_again, cost_again, bound_again, path_again, modules_again, list_takes, list_again}
+use Rattle.cert_format.proofs.BodyLaws.{AreTold, sizes_at, form_again, number_row_again, size_again, status_again, cost_again, bound_again, path_again, modules_again, list_takes, list_again}
+use Rattle.cert_format.proofs.CutLaws.{empty_cut, empty_again}
 use Rattle.cert_format.proofs.ReadingLaws.{read_one, taken, and_then, done_parts, done_is, one_line, one_again, head1, head2, head3, head4, named_on}
 use Rattle.cert_format.proofs.PlanLaws.{front1, front2, front3, front4}
 
@@ -182,14 +183,14 @@ tidy_many f body v good zero = tidy_done []
 tidy_many f body v good (suc n) = tidy_bind (one f) (λ x. bind (many n f) (λ xs. done (x ∷ xs))) (tidy_one f body v good)
     (λ x. tidy_bind (many n f) (λ xs. done (x ∷ xs)) (tidy_many f body v good n) (λ xs. tidy_done (x ∷ xs)))
 
-routed-by : (form : Form) (known : List (List ℕ)) (named nodes places : ℕ) → record_in form known named nodes places (codes "ROUTED") ≡ Some (Leaf Routed)
+routed-by : (form : Form) (known : List (List ℕ)) (named nodes entries : ℕ) → record_in form known named nodes entries (codes "ROUTED") ≡ Some (Leaf Routed)
 unfolding record_in record_of leaf_of fixed_of behind resolved
-routed-by First known named nodes places = refl
-routed-by Second known named nodes places = refl
-routed-by Third known named nodes places = refl
+routed-by First known named nodes entries = refl
+routed-by Second known named nodes entries = refl
+routed-by Third known named nodes entries = refl
 
 routed : (g : Ground) (named : ℕ) → record_on g named (codes "ROUTED") ≡ Some (Leaf Routed)
-routed g named = routed-by g.form g.lists named g.nodes g.places
+routed g named = routed-by g.form g.lists named g.nodes g.entries
 
 pub tidy_records : (g : Ground) (named left trees : ℕ) → Tidy (records g named left trees)
 unfolding records
@@ -256,11 +257,13 @@ tidy_count First = tidy_done 0
 tidy_count Second = tidy_number (codes "PRICES") 0 MAX_LISTS (omega arith) (omega arith)
 tidy_count Third = tidy_number (codes "PRICES") 0 MAX_LISTS (omega arith) (omega arith)
 
-tidy_no_cuts : (form : Form) → Tidy (no_cuts form)
-unfolding no_cuts
-tidy_no_cuts First = tidy_done tt
-tidy_no_cuts Second = tidy_done tt
-tidy_no_cuts Third = tidy_one (fixed_of cuts_line) cuts_line tt (fixed_again cuts_line)
+tidy_cuts : (form : Form) (nodes : ℕ) → Tidy (load_cuts form nodes)
+unfolding load_cuts
+tidy_cuts First nodes = tidy_done []
+tidy_cuts Second nodes = tidy_done []
+tidy_cuts Third nodes =
+    tidy_bind (one (number_row (codes "CUTS") 0 MAX_CUTS)) (λ count. many count (load_cut_row nodes)) (tidy_number (codes "CUTS") 0 MAX_CUTS (omega arith) (omega arith)) λ count.
+    tidy_many (load_cut_row nodes) (cut_line (empty_cut nodes)) (empty_cut nodes) (empty_again nodes) count
 
 pub tidy_opening : Tidy opening
 unfolding opening
@@ -268,43 +271,43 @@ tidy_opening =
     tidy_bind head (λ h. front1 h) tidy_head λ h.
     tidy_bind (design h) (λ d. front2 h d) (tidy_design h) λ d.
     tidy_bind (bound h.status) (λ b. front3 h d b) (tidy_bound h.status) λ b.
-    tidy_bind (no_cuts h.form) (λ _. front4 h d b) (tidy_no_cuts h.form) λ _.
-    tidy_bind (list_count h.form) (λ stated. done (front_with h d b stated)) (tidy_count h.form) λ stated.
-    tidy_done (front_with h d b stated)
+    tidy_bind (load_cuts h.form h.nodes) (λ cuts. front4 h d b cuts) (tidy_cuts h.form h.nodes) λ cuts.
+    tidy_bind (list_count h.form) (λ stated. done (front_with h d b cuts stated)) (tidy_count h.form) λ stated.
+    tidy_done (front_with h d b cuts stated)
 
 -- ---- the price lists
 
 -- the lists before the stop can stand, and the line at the stop cannot
-pub record ListsStuck (places n : ℕ) (before : List (List ℕ)) (ls bad : List Line) : Type 0 where
+pub record ListsStuck (entries n : ℕ) (before : List (List ℕ)) (ls bad : List Line) : Type 0 where
   pub more : List (List ℕ)
   pub parts : ls ≡ map whole (map price_line more) ++ bad
-  pub new : AreNew places before more
+  pub new : AreNew entries before more
   pub few : length more < n
-  pub alone : Local (lists places n before) (map whole (map price_line more)) bad
+  pub alone : Local (lists entries n before) (map whole (map price_line more)) bad
 
-stuck-first : (places n : ℕ) (before : List (List ℕ)) (ls bad : List Line) → ls ≡ bad → Local (one (list_row places before)) [] bad → ListsStuck places (suc n) before ls bad
+stuck-first : (entries n : ℕ) (before : List (List ℕ)) (ls bad : List Line) → ls ≡ bad → Local (one (list_row entries before)) [] bad → ListsStuck entries (suc n) before ls bad
 unfolding lists AreNew
-stuck-first places n before ls bad is alone = record { more = []; parts = is; new = tt; few = omega arith; alone = local_before (one (list_row places before)) (λ list. lists places n (before ++ list ∷ [])) [] bad alone }
+stuck-first entries n before ls bad is alone = record { more = []; parts = is; new = tt; few = omega arith; alone = local_before (one (list_row entries before)) (λ list. lists entries n (before ++ list ∷ [])) [] bad alone }
 
-stuck-later : (places n : ℕ) (before : List (List ℕ)) (ls bad : List Line) (list : List ℕ) (us : List Line) → one (list_row places before) ls ≡ read_one list us → ListsStuck places n (before ++ list ∷ []) us bad → ListsStuck places (suc n) before ls bad
+stuck-later : (entries n : ℕ) (before : List (List ℕ)) (ls bad : List Line) (list : List ℕ) (us : List Line) → one (list_row entries before) ls ≡ read_one list us → ListsStuck entries n (before ++ list ∷ []) us bad → ListsStuck entries (suc n) before ls bad
 unfolding lists AreNew
-stuck-later places n before ls bad list us h s =
-    let (body, line, read) = one_line (list_row places before) ls list us h in
-    let here = list_takes places before body list read in
-    let holds : Holds (one (list_row places before)) (whole (price_line list) ∷ []) list = record { again = λ others. one_again (list_row places before) (price_line list) list others (list_again places before list here.0) } in
+stuck-later entries n before ls bad list us h s =
+    let (body, line, read) = one_line (list_row entries before) ls list us h in
+    let here = list_takes entries before body list read in
+    let holds : Holds (one (list_row entries before)) (whole (price_line list) ∷ []) list = record { again = λ others. one_again (list_row entries before) (price_line list) list others (list_again entries before list here.0) } in
     record {
       more = list ∷ s.more;
       parts = line ∙ ap (λ bs. whole bs ∷ us) here.1 ∙ ap (λ us. whole (price_line list) ∷ us) s.parts;
       new = (here.0.count, here.0.small, here.0.fresh, s.new);
       few = omega (arith, s.few);
-      alone = local_after (one (list_row places before)) (λ list. lists places n (before ++ list ∷ [])) (whole (price_line list) ∷ []) list (map whole (map price_line s.more)) bad holds s.alone;
+      alone = local_after (one (list_row entries before)) (λ list. lists entries n (before ++ list ∷ [])) (whole (price_line list) ∷ []) list (map whole (map price_line s.more)) bad holds s.alone;
     }
 
-pub lists_stop : (places n : ℕ) (before : List (List ℕ)) (ls bad : List Line) → lists places n before ls ≡ Err bad → ListsStuck places n before ls bad
+pub lists_stop : (entries n : ℕ) (before : List (List ℕ)) (ls bad : List Line) → lists entries n before ls ≡ Err bad → ListsStuck entries n before ls bad
 unfolding lists
-lists_stop places zero before ls bad e = absurd (let both : read_one before ls ≡ Err bad = sym (done_is before ls) ∙ e in cc)
-lists_stop places (suc n) before ls bad e =
-    elim (bind_stops (one (list_row places before)) (λ list. lists places n (before ++ list ∷ [])) ls bad e) [
-      | inl h ↦ (let p = one-stops (list_row places before) ls bad h in stuck-first places n before ls bad p.0 p.1)
-      | inr (list, us, h, f) ↦ stuck-later places n before ls bad list us h (lists_stop places n (before ++ list ∷ []) us bad f)
+lists_stop entries zero before ls bad e = absurd (let both : read_one before ls ≡ Err bad = sym (done_is before ls) ∙ e in cc)
+lists_stop entries (suc n) before ls bad e =
+    elim (bind_stops (one (list_row entries before)) (λ list. lists entries n (before ++ list ∷ [])) ls bad e) [
+      | inl h ↦ (let p = one-stops (list_row entries before) ls bad h in stuck-first entries n before ls bad p.0 p.1)
+      | inr (list, us, h, f) ↦ stuck-later entries n before ls bad list us h (lists_stop entries n (before ++ list ∷ []) us bad f)
     ]

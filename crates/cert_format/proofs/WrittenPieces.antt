@@ -10,7 +10,7 @@ use Rattle.proof_tree.specs.declared.tree.TreeNode.{TreeNode}
 use Rattle.cert_format.specs.declared.form.Form.{Form}
 use Rattle.cert_format.specs.declared.form.Form.TheVariants.{First, Second, Third}
 use Rattle.plan_words.specs.Lines.{whole, line_text, text_of}
-use Rattle.cert_format.specs.Versions.{has_loads, written_form}
+use Rattle.cert_format.specs.Versions.{has_thirds, written_form}
 use Rattle.cert_format.specs.Lists.{lists_of}
 use Rattle.plan_words.specs.Words.{numerals, row}
 use Rattle.cert_format.specs.Grammar.{header_line, size_line, status_line, cost_line, path_line, modules_line, price_line, members, design_lines, bound_lines, cut_lines, head_lines, list_lines, price_lines, front_lines, end_line, plan_text, written_text}
@@ -137,14 +137,14 @@ tree_pieces old nodes lists count same is =
 -- the lines of a plan, piece by piece, where these stand for its price lists and its tree
 module _ (form : Form) (plan : Plan) where
   abbrev pieces : List (List ℕ) → List ℕ
-  pieces tree = ((((([] ++ lines_text (head_lines form plan)) ++ lines_text (design_lines plan.design)) ++ lines_text (bound_lines plan.status plan.bound)) ++ lines_text (cut_lines form)) ++ lines_text tree) ++ line_text (whole (codes "END"))
+  pieces tree = ((((([] ++ lines_text (head_lines form plan)) ++ lines_text (design_lines plan.design)) ++ lines_text (bound_lines plan.status plan.bound)) ++ lines_text (cut_lines form plan.cuts)) ++ lines_text tree) ++ line_text (whole (codes "END"))
 
-  joined-pieces : (p t : List (List ℕ)) → pieces (p ++ t) ≡ lines_text ((head_lines form plan ++ (design_lines plan.design ++ (bound_lines plan.status plan.bound ++ (cut_lines form ++ p)))) ++ (t ++ end_line ∷ []))
+  joined-pieces : (p t : List (List ℕ)) → pieces (p ++ t) ≡ lines_text ((head_lines form plan ++ (design_lines plan.design ++ (bound_lines plan.status plan.bound ++ (cut_lines form plan.cuts ++ p)))) ++ (t ++ end_line ∷ []))
   joined-pieces p t =
       let h : List (List ℕ) = head_lines form plan in
       let d : List (List ℕ) = design_lines plan.design in
       let b : List (List ℕ) = bound_lines plan.status plan.bound in
-      let c : List (List ℕ) = cut_lines form in
+      let c : List (List ℕ) = cut_lines form plan.cuts in
       let e : List ℕ = end_line in
       ap (λ bs. ((((lines_text h ++ lines_text d) ++ lines_text b) ++ lines_text c) ++ bs) ++ line_text (whole e)) (lines-append p t)
       ∙ sym (lines-append (h ++ (d ++ (b ++ (c ++ p)))) (t ++ e ∷ [])
@@ -161,6 +161,6 @@ numbered-pieces First plan other = absurd (other refl)
 numbered-pieces Second plan other = joined-pieces Second plan (list_lines (length (lists_of plan.tree)) (lists_of plan.tree)) (row (codes "TREE") (length plan.tree ∷ []) ∷ numbered_lines (lists_of plan.tree) plan.tree)
 numbered-pieces Third plan other = joined-pieces Third plan (list_lines (length (lists_of plan.tree)) (lists_of plan.tree)) (row (codes "TREE") (length plan.tree ∷ []) ∷ numbered_lines (lists_of plan.tree) plan.tree)
 
-pub plan_pieces : (form : Form) (plan : Plan) → form ≡ written_form plan.tree
-    → ((((([] ++ lines_text (head_lines form plan)) ++ lines_text (design_lines plan.design)) ++ lines_text (bound_lines plan.status plan.bound)) ++ lines_text (cut_lines form)) ++ lines_text (written_tree plan.tree)) ++ line_text (whole (codes "END")) ≡ written_text plan
-plan_pieces form plan is = numbered-pieces form plan (λ first. not_first (has_loads plan.tree) (sym is ∙ first)) ∙ ap (λ f. plan_text f plan) is
+pub plan_pieces : (form : Form) (plan : Plan) → form ≡ written_form plan.cuts plan.tree
+    → ((((([] ++ lines_text (head_lines form plan)) ++ lines_text (design_lines plan.design)) ++ lines_text (bound_lines plan.status plan.bound)) ++ lines_text (cut_lines form plan.cuts)) ++ lines_text (written_tree plan.tree)) ++ line_text (whole (codes "END")) ≡ written_text plan
+plan_pieces form plan is = numbered-pieces form plan (λ first. not_first (has_thirds plan.cuts plan.tree) (sym is ∙ first)) ∙ ap (λ f. plan_text f plan) is

@@ -71,7 +71,7 @@ seen_records x = (x.0.items, lines_of x.2.now)
 
 -- what a draft states
 abbrev pub drafted : Draft → Stated
-drafted d = stated_with d.head d.design d.bound d.stated d.ground.lists (d.count, d.records.items)
+drafted d = stated_with d.head d.design d.bound d.cuts d.stated d.ground.lists (d.count, d.records.items)
 
 -- a draft has few enough records, and its count of named price lists is that of its records
 pub record IsCounted (d : Draft) : Type 0 where

@@ -5,6 +5,7 @@ use Rattle.std.specs.Str.{bytes_eq}
 use Rattle.plan_base.specs.declared.ids.ArcId.{ArcId}
 use Rattle.plan_base.specs.declared.limits.TheConstants.{MAX_NODES, MAX_LINKS, MAX_DEMANDS, MAX_MODULES}
 use Rattle.proof_tree.specs.declared.limits.TheConstants.{MAX_PATH_ARCS, MAX_SIDE_ARCS}
+use Rattle.proof_tree.specs.declared.cuts.Cut.{Cut as LoadCut}
 use Rattle.proof_tree.specs.declared.tree.Evidence.{Evidence}
 use Rattle.proof_tree.specs.declared.tree.Evidence.TheVariants.{Bound, Routed, Overfull, Cut, Far, Crowd, Open}
 use Rattle.proof_tree.specs.declared.tree.TreeNode.{TreeNode}
@@ -206,6 +207,10 @@ unfoldable pub flags_of : ℕ → ℕ → List ℕ → Option (List Bool)
 flags_of at zero ns = only_if (length ns == 0) []
 flags_of at (suc left) ns = choose (behind_number at ns) (λ rest. option_map (λ flags. true ∷ flags) (flags_of (suc at) left rest)) (option_map (λ flags. false ∷ flags) (flags_of (suc at) left ns))
 
+-- a set of nodes: how many there are, at most all, and the nodes ascending
+unfoldable pub set_of : ℕ → List ℕ → Option (List Bool)
+set_of nodes ns = uncounted nodes ns >>= flags_of 0 nodes
+
 -- a cut of this demand
 abbrev pub cut_with : ℕ → List Bool → Evidence
 cut_with demand reached = Cut (record { 0 = demand }) reached
@@ -218,7 +223,7 @@ overfull_with link = Overfull (record { 0 = link })
 unfoldable pub cut_in : ℕ → List ℕ → Option Evidence
 cut_in nodes [] = None
 cut_in nodes (demand ∷ ns) = if nat_lt demand (2 ^ 32)
-    then option_map (cut_with demand) (uncounted nodes ns >>= flags_of 0 nodes) else None
+    then option_map (cut_with demand) (set_of nodes ns) else None
 
 -- a demand of this number that is far
 abbrev pub far_with : ℕ → Evidence
@@ -257,8 +262,26 @@ record_of nodes count body =
 
 -- a record that names no list which is not there, and leaves none out
 unfoldable pub record_in : Form → List (List ℕ) → ℕ → ℕ → ℕ → List ℕ → Option TreeNode
-record_in form lists named nodes places body = record_of nodes (width form places) body >>= resolved form lists named
+record_in form lists named nodes entries body = record_of nodes (width form entries) body >>= resolved form lists named
 
 -- a price list that is none of those before it
 unfoldable pub list_row : ℕ → List (List ℕ) → List ℕ → Option (List ℕ)
-list_row places lists body = row_of (codes "P") body >>= λ ns. only_if (length ns == places && not (is_among lists ns)) ns
+list_row entries lists body = row_of (codes "P") body >>= λ ns. only_if (length ns == entries && not (is_among lists ns)) ns
+
+-- ---- the cuts of the plan
+
+-- a cut of these numbers and nodes
+abbrev pub load_cut_with : ℕ → ℕ → ℕ → List Bool → LoadCut
+load_cut_with period first installed nodes = record { nodes = nodes; period = period; first = first; counts_installed = installed == 1 }
+
+-- the numbers of a cut
+unfoldable pub load_cut_in : ℕ → List ℕ → Option LoadCut
+load_cut_in nodes [] = None
+load_cut_in nodes (period ∷ []) = None
+load_cut_in nodes (period ∷ first ∷ []) = None
+load_cut_in nodes (period ∷ first ∷ installed ∷ ns) = if nat_lt period (2 ^ 64) && nat_lt first (2 ^ 64) && nat_le installed 1
+    then option_map (load_cut_with period first installed) (set_of nodes ns) else None
+
+-- a cut
+unfoldable pub load_cut_row : ℕ → List ℕ → Option LoadCut
+load_cut_row nodes body = row_of (codes "C") body >>= load_cut_in nodes

@@ -6,12 +6,12 @@ use Rattle.proof_tree.specs.declared.tree.TreeNode.{TreeNode}
 use Rattle.proof_tree.specs.declared.tree.TreeNode.TheVariants.{Split, Loads, Leaf}
 use Rattle.proof_tree.specs.declared.plan.Plan.{Plan}
 use Rattle.proof_tree.specs.Shapes.{are_trees}
-use Rattle.proof_tree.specs.Spellings.{places_in, FitsRecord, FitsDesign, FitsStatus, FitsSizes}
+use Rattle.proof_tree.specs.Spellings.{numbers_in, FitsRecord, FitsDesign, FitsStatus, FitsSizes, FitsCuts}
 use Rattle.cert_format.specs.declared.form.Form.{Form}
 use Rattle.cert_format.specs.declared.form.Form.TheVariants.{First, Second, Third}
 use Rattle.cert_format.specs.declared.limits.TheConstants.{MAX_LISTS}
 use Rattle.plan_words.specs.Lines.{Line, whole, text_of, lines_of}
-use Rattle.cert_format.specs.Versions.{HasLines, is_asked}
+use Rattle.cert_format.specs.Versions.{TellsCuts, HasLines, is_asked}
 use Rattle.cert_format.specs.Lists.{named_from, AreNamed, AreNew}
 use Rattle.cert_format.specs.Grammar.{front_lines, tree_lines, end_line, CanTell, HasFields, SpellsPlan}
 
@@ -36,15 +36,15 @@ pub record Stated : Type 0 where
   pub count : ℕ
   pub plan : Plan
 
--- different price lists with a price for each place, and no more than stated
+-- different price lists with so many numbers each, and no more than stated
 abbrev pub AreStated : ℕ → ℕ → List (List ℕ) → Type 0
-AreStated places stated lists = (stated ≤ MAX_LISTS) × (length lists ≤ stated) × AreNew places [] lists
+AreStated entries stated lists = (stated ≤ MAX_LISTS) × (length lists ≤ stated) × AreNew entries [] lists
 
 -- price lists as the version has them: the first one has none
 abbrev pub AreListed : Form → ℕ → ℕ → List (List ℕ) → Type 0
-AreListed First places stated lists = (stated ≡ 0) × (lists ≡ [])
-AreListed Second places stated lists = AreStated places stated lists
-AreListed Third places stated lists = AreStated places stated lists
+AreListed First entries stated lists = (stated ≡ 0) × (lists ≡ [])
+AreListed Second entries stated lists = AreStated entries stated lists
+AreListed Third entries stated lists = AreStated entries stated lists
 
 -- a plan that a text can spell, but that its tree may be cut off or shorter than the count that is stated, and price lists may lack
 pub record IsDraft (s : Stated) : Type 0 where
@@ -53,11 +53,13 @@ pub record IsDraft (s : Stated) : Type 0 where
   pub status : FitsStatus s.plan.status s.plan.design s.plan.bound
   pub design : IfSome s.plan.design (λ design. FitsDesign s.plan.demands s.plan.links design.1)
   pub fields : HasFields s.plan
-  pub listed : AreListed s.form (places_in s.plan.both s.plan.links) s.stated s.lists
+  pub cuts : FitsCuts s.plan.nodes s.plan.cuts
+  pub cuts_told : TellsCuts s.form s.plan.cuts
+  pub listed : AreListed s.form (numbers_in s.plan) s.stated s.lists
   pub some : 1 ≤ s.count
   pub few : s.count ≤ MAX_RECORDS
   pub grown : IsGrown s.count 1 s.plan.tree
-  pub records : AllByRecursion (FitsRecord s.plan.nodes (places_in s.plan.both s.plan.links)) s.plan.tree
+  pub records : AllByRecursion (FitsRecord s.plan.nodes (numbers_in s.plan)) s.plan.tree
   pub lines : HasLines s.form s.plan.tree
   pub named : AreNamed s.form s.lists 0 s.plan.tree
 
@@ -65,9 +67,9 @@ pub record IsDraft (s : Stated) : Type 0 where
 abbrev pub has_counts : Stated → Bool
 has_counts s = length s.plan.tree == s.count && named_from s.form s.lists 0 s.plan.tree == length s.lists
 
--- the tree is whole and has as many records as stated, each price list is named, and the records ask for the version
+-- the tree is whole and has as many records as stated, each price list is named, and the version is asked for
 abbrev pub is_complete : Stated → Bool
-is_complete s = are_trees 1 s.plan.tree && (has_counts s && is_asked s.form s.plan.tree)
+is_complete s = are_trees 1 s.plan.tree && (has_counts s && is_asked s.form s.plan.cuts s.plan.tree)
 
 -- the lines before the tree
 abbrev pub front_of : Stated → List Line
@@ -77,7 +79,7 @@ front_of s = map whole (front_lines s.form s.stated s.lists s.plan)
 abbrev pub tree_of : Stated → List Line
 tree_of s = map whole (tree_lines s.form s.lists s.count s.plan.tree)
 
--- the last line, which stands only where the tree is whole and as long as stated, each price list is named, and the records ask for the version
+-- the last line, which stands only where the tree is whole and as long as stated, each price list is named, and the version is asked for
 abbrev pub closing : Stated → List Line
 closing s = if is_complete s then whole end_line ∷ [] else []
 

@@ -3,6 +3,7 @@ use Rattle.std.specs.Prelude.{ℕ, suc, ◌≡◌, ◌<◌, ◌^◌, Bool, true,
 use Rattle.std.specs.List.{AllByRecursion}
 use Rattle.plan_base.specs.declared.ids.ArcId.{ArcId}
 use Rattle.plan_base.specs.declared.path.Design.{Design}
+use Rattle.proof_tree.specs.declared.cuts.Cut.{Cut as LoadCut}
 use Rattle.proof_tree.specs.declared.tree.Evidence.{Evidence}
 use Rattle.proof_tree.specs.declared.tree.Evidence.TheVariants.{Bound, Routed, Overfull, Cut, Far, Crowd, Open}
 use Rattle.proof_tree.specs.declared.tree.TreeNode.{TreeNode}
@@ -16,7 +17,7 @@ use Rattle.cert_format.specs.declared.form.Form.{Form}
 use Rattle.cert_format.specs.declared.form.Form.TheVariants.{First, Second, Third}
 use Rattle.plan_words.specs.Lines.{whole, text_of}
 use Rattle.plan_words.specs.Words.{row}
-use Rattle.cert_format.specs.Versions.{HasLines, is_asked, written_form}
+use Rattle.cert_format.specs.Versions.{TellsCuts, HasLines, is_asked, written_form}
 use Rattle.cert_format.specs.Lists.{lists_in, shown}
 
 -- the first line
@@ -118,15 +119,24 @@ bound_lines Optimal bound = []
 bound_lines Infeasible bound = []
 bound_lines Undecided bound = bound_line bound ∷ []
 
--- how many cuts there are: none
-abbrev pub cuts_line : List ℕ
-cuts_line = codes "CUTS 0"
+-- 1 where it holds, else 0
+abbrev pub bit : Bool → ℕ
+bit true = 1
+bit false = 0
 
--- the third version tells how many cuts there are
-unfoldable pub cut_lines : Form → List (List ℕ)
-cut_lines First = []
-cut_lines Second = []
-cut_lines Third = cuts_line ∷ []
+-- the numbers of a cut of the plan: its period, how many grains of each period are counted, whether what is installed counts, and its nodes
+abbrev pub cut_numbers : LoadCut → List ℕ
+cut_numbers cut = cut.period ∷ cut.first ∷ bit cut.counts_installed ∷ counted (members 0 cut.nodes)
+
+-- a cut of the plan
+abbrev pub cut_line : LoadCut → List ℕ
+cut_line cut = row (codes "C") (cut_numbers cut)
+
+-- how many cuts there are, and the cuts: the third version alone tells them
+unfoldable pub cut_lines : Form → List LoadCut → List (List ℕ)
+cut_lines First cuts = []
+cut_lines Second cuts = []
+cut_lines Third cuts = number_line (codes "CUTS") (length cuts) ∷ map cut_line cuts
 
 -- a price list
 abbrev pub price_line : List ℕ → List ℕ
@@ -149,7 +159,7 @@ head_lines form plan = header_line form ∷ size_line form plan.nodes plan.links
 
 -- the lines before the tree, where so many price lists are stated
 unfoldable pub front_lines : Form → ℕ → List (List ℕ) → Plan → List (List ℕ)
-front_lines form stated lists plan = head_lines form plan ++ (design_lines plan.design ++ (bound_lines plan.status plan.bound ++ (cut_lines form ++ price_lines form stated lists)))
+front_lines form stated lists plan = head_lines form plan ++ (design_lines plan.design ++ (bound_lines plan.status plan.bound ++ (cut_lines form plan.cuts ++ price_lines form stated lists)))
 
 -- the lines of a tree, where so many records are stated
 abbrev pub tree_lines : Form → List (List ℕ) → ℕ → List TreeNode → List (List ℕ)
@@ -171,9 +181,9 @@ plan_lines form plan = lines_with form (lists_in form plan.tree) plan
 unfoldable pub plan_text : Form → Plan → List ℕ
 plan_text form plan = text_of (map whole (plan_lines form plan))
 
--- the text that is written of a plan: of the third version where it has a load split, else of the second
+-- the text that is written of a plan: of the third version where it has a cut or a load split, else of the second
 abbrev pub written_text : Plan → List ℕ
-written_text plan = plan_text (written_form plan.tree) plan
+written_text plan = plan_text (written_form plan.cuts plan.tree) plan
 
 -- the version can tell whether each direction of a link has a price of its own: in the first one it has not
 abbrev pub CanTell : Form → Bool → Type 0
@@ -218,11 +228,16 @@ abbrev pub IsBoundField : ℤ → Type 0
 IsBoundField (pos n) = n < 2 ^ 127
 IsBoundField (negsuc n) = n < 2 ^ 127
 
+-- the numbers of a cut of the plan
+abbrev pub HasCutFields : LoadCut → Type 0
+HasCutFields cut = (cut.period < 2 ^ 64) × (cut.first < 2 ^ 64)
+
 -- each number of the plan is within its field, as it is in each plan of the code
 pub record HasFields (plan : Plan) : Type 0 where
   pub examined_within : plan.examined < 2 ^ 32
   pub design_fields : IfSome plan.design (λ design. HasDesignFields design.0 design.1)
   pub bound_field : IfSome plan.bound IsBoundField
+  pub cut_fields : AllByRecursion HasCutFields plan.cuts
   pub record_fields : AllByRecursion HasRecordFields plan.tree
 
 -- the text spells the plan
@@ -231,6 +246,7 @@ pub record SpellsPlan (text : List ℕ) (plan : Plan) : Type 0 where
   pub fields : HasFields plan
   pub form : Form
   pub told : CanTell form plan.both
+  pub cuts_told : TellsCuts form plan.cuts
   pub lines : HasLines form plan.tree
-  pub asked : IsTrue (is_asked form plan.tree)
+  pub asked : IsTrue (is_asked form plan.cuts plan.tree)
   pub is_text : text ≡ plan_text form plan

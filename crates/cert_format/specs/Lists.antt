@@ -91,9 +91,9 @@ shown Third lists node = with_number lists node
 
 -- how many numbers stand for the prices of a record
 abbrev pub width : Form → ℕ → ℕ
-width First places = places
-width Second places = 1
-width Third places = 1
+width First entries = entries
+width Second entries = 1
+width Third entries = 1
 
 -- there is a list, and it is this one
 abbrev pub is_list : List ℕ → Option (List ℕ) → Bool
@@ -134,8 +134,8 @@ AreNamed form lists named (node ∷ nodes) = Names form lists named node × AreN
 
 -- lists of so many numbers below 2^128, each different from those before it
 unfoldable pub AreNew : ℕ → List (List ℕ) → List (List ℕ) → Type 0
-AreNew places before [] = ⊤
-AreNew places before (list ∷ lists) = (length list ≡ places) × AllByRecursion (λ n. n < 2 ^ 128) list × (is_among before list ≡ false) × AreNew places (before ++ list ∷ []) lists
+AreNew entries before [] = ⊤
+AreNew entries before (list ∷ lists) = (length list ≡ entries) × AllByRecursion (λ n. n < 2 ^ 128) list × (is_among before list ≡ false) × AreNew entries (before ++ list ∷ []) lists
 
 -- ---- reading them
 

@@ -1,8 +1,9 @@
 -- Reading a plan line by line: the first line that cannot stand where it stands stops it. No public clause cites this module.
-use Rattle.std.specs.Prelude.{ℕ, zero, suc, ◌-◌, ◌^◌, if◌then◌else◌, List, [], ◌∷◌, ◌++◌, length, codes, Option, Some, None, Result, Ok, Err, ℤ}
+use Rattle.std.specs.Prelude.{ℕ, zero, suc, ◌+◌, ◌-◌, ◌^◌, if◌then◌else◌, List, [], ◌∷◌, ◌++◌, length, codes, Option, Some, None, Result, Ok, Err, ℤ}
 use Rattle.plan_base.specs.declared.path.Design.{Design}
 use Rattle.plan_base.specs.declared.ids.ArcId.{ArcId}
-use Rattle.proof_tree.specs.declared.limits.TheConstants.{MAX_BUDGET, MAX_RECORDS}
+use Rattle.proof_tree.specs.declared.limits.TheConstants.{MAX_BUDGET, MAX_RECORDS, MAX_CUTS}
+use Rattle.proof_tree.specs.declared.cuts.Cut.{Cut as LoadCut}
 use Rattle.proof_tree.specs.declared.tree.TreeNode.{TreeNode}
 use Rattle.proof_tree.specs.declared.plan.PlanStatus.{PlanStatus}
 use Rattle.proof_tree.specs.declared.plan.PlanStatus.TheVariants.{Optimal, Infeasible, Undecided}
@@ -18,9 +19,9 @@ use Rattle.cert_format.specs.declared.reading.Head.{Head}
 use Rattle.cert_format.specs.declared.numbering.Ground.{Ground}
 use Rattle.plan_words.specs.Lines.{Line, whole, unfinished, text_of, lines_of}
 use Rattle.cert_format.specs.Lists.{named_behind}
-use Rattle.cert_format.specs.Grammar.{cuts_line, end_line}
+use Rattle.cert_format.specs.Grammar.{end_line}
 use Rattle.cert_format.specs.Drafts.{left_open, Stated, is_complete}
-use Rattle.cert_format.specs.Bodies.{fixed_of, form_of, number_row, size_row, status_of, cost_of, bound_of, path_of, modules_of, record_in, list_row}
+use Rattle.cert_format.specs.Bodies.{fixed_of, form_of, number_row, size_row, status_of, cost_of, bound_of, path_of, modules_of, record_in, list_row, load_cut_row}
 
 -- a value and the lines behind it, or the lines from the first one on that cannot stand there
 abbrev pub Reader : Type 0 → Type 0
@@ -91,11 +92,11 @@ bound Optimal = done None
 bound Infeasible = done None
 bound Undecided = one bound_of
 
--- that there are no cuts, which the third version tells
-unfoldable pub no_cuts : Form → Reader (Unit {0})
-no_cuts First = done tt
-no_cuts Second = done tt
-no_cuts Third = one (fixed_of cuts_line)
+-- the cuts, which the third version tells
+unfoldable pub load_cuts : Form → ℕ → Reader (List LoadCut)
+load_cuts First nodes = done []
+load_cuts Second nodes = done []
+load_cuts Third nodes = bind (one (number_row (codes "CUTS") 0 MAX_CUTS)) λ count. many count (load_cut_row nodes)
 
 -- how many price lists are stated
 unfoldable pub list_count : Form → Reader ℕ
@@ -103,22 +104,26 @@ list_count First = done 0
 list_count Second = one (number_row (codes "PRICES") 0 MAX_LISTS)
 list_count Third = one (number_row (codes "PRICES") 0 MAX_LISTS)
 
+-- how many numbers a price list has: a price for each place, and behind these a rate for each cut
+abbrev pub entries_of : Head → List LoadCut → ℕ
+entries_of h cuts = places_in h.both h.links + length cuts
+
 -- what stands before the price lists
-abbrev pub front_with : Head → Option (ℕ × Design) → Option ℤ → ℕ → Head × Option (ℕ × Design) × Option ℤ × ℕ
-front_with h d b stated = (h, d, b, stated)
+abbrev pub front_with : Head → Option (ℕ × Design) → Option ℤ → List LoadCut → ℕ → Head × Option (ℕ × Design) × Option ℤ × List LoadCut × ℕ
+front_with h d b cuts stated = (h, d, b, cuts, stated)
 
 -- all lines before the price lists
-unfoldable pub opening : Reader (Head × Option (ℕ × Design) × Option ℤ × ℕ)
-opening = bind head λ h. bind (design h) λ d. bind (bound h.status) λ b. bind (no_cuts h.form) λ _. bind (list_count h.form) λ stated. done (front_with h d b stated)
+unfoldable pub opening : Reader (Head × Option (ℕ × Design) × Option ℤ × List LoadCut × ℕ)
+opening = bind head λ h. bind (design h) λ d. bind (bound h.status) λ b. bind (load_cuts h.form h.nodes) λ cuts. bind (list_count h.form) λ stated. done (front_with h d b cuts stated)
 
 -- reads so many price lists, each different from those before it
 unfoldable pub lists : ℕ → ℕ → List (List ℕ) → Reader (List (List ℕ))
-lists places zero before = done before
-lists places (suc n) before = bind (one (list_row places before)) λ list. lists places n (before ++ list ∷ [])
+lists entries zero before = done before
+lists entries (suc n) before = bind (one (list_row entries before)) λ list. lists entries n (before ++ list ∷ [])
 
 -- one record, where so many lists are named before it
 abbrev pub record_on : Ground → ℕ → List ℕ → Option TreeNode
-record_on g named body = record_in g.form g.lists named g.nodes g.places body
+record_on g named body = record_in g.form g.lists named g.nodes g.entries body
 
 -- reads records until the tree is whole, but no more than so many
 unfoldable pub records : Ground → ℕ → ℕ → ℕ → Reader (List TreeNode)
@@ -139,8 +144,8 @@ tree g = bind (one (number_row (codes "TREE") 1 MAX_RECORDS)) λ count.
     done (tree_with count nodes)
 
 -- the plan of these parts
-abbrev pub plan_with : Head → Option (ℕ × Design) → Option ℤ → List TreeNode → Plan
-plan_with h d b nodes = record {
+abbrev pub plan_with : Head → Option (ℕ × Design) → Option ℤ → List LoadCut → List TreeNode → Plan
+plan_with h d b cuts nodes = record {
   nodes = h.nodes;
   links = h.links;
   demands = h.demands;
@@ -150,25 +155,26 @@ plan_with h d b nodes = record {
   examined = h.examined;
   design = d;
   bound = b;
+  cuts = cuts;
   tree = nodes;
 }
 
 -- what is stated by these parts
-abbrev pub stated_with : Head → Option (ℕ × Design) → Option ℤ → ℕ → List (List ℕ) → ℕ × List TreeNode → Stated
-stated_with h d b stated lists t = record { form = h.form; stated = stated; lists = lists; count = t.0; plan = plan_with h d b t.1 }
+abbrev pub stated_with : Head → Option (ℕ × Design) → Option ℤ → List LoadCut → ℕ → List (List ℕ) → ℕ × List TreeNode → Stated
+stated_with h d b cuts stated lists t = record { form = h.form; stated = stated; lists = lists; count = t.0; plan = plan_with h d b cuts t.1 }
 
 -- what the lines of a tree depend on
-abbrev pub ground_with : Head → List (List ℕ) → Ground
-ground_with h lists = record { form = h.form; lists = lists; nodes = h.nodes; places = places_in h.both h.links }
+abbrev pub ground_with : Head → List LoadCut → List (List ℕ) → Ground
+ground_with h cuts lists = record { form = h.form; lists = lists; nodes = h.nodes; entries = entries_of h cuts }
 
 -- what is stated by all lines before the tree, and a tree
-abbrev pub stated_on : Head × Option (ℕ × Design) × Option ℤ × ℕ → List (List ℕ) → ℕ × List TreeNode → Stated
-stated_on f lists t = stated_with f.0 f.1 f.2 f.3 lists t
+abbrev pub stated_on : Head × Option (ℕ × Design) × Option ℤ × List LoadCut × ℕ → List (List ℕ) → ℕ × List TreeNode → Stated
+stated_on f lists t = stated_with f.0 f.1 f.2 f.3 f.4 lists t
 
 -- all lines before the last: what they state, the tree of which need not be whole
 unfoldable pub before_end : Reader Stated
-before_end = bind opening λ f. bind (lists (places_in f.0.both f.0.links) f.3 []) λ found.
-    bind (tree (ground_with f.0 found)) λ t. done (stated_on f found t)
+before_end = bind opening λ f. bind (lists (entries_of f.0 f.3) f.4 []) λ found.
+    bind (tree (ground_with f.0 f.3 found)) λ t. done (stated_on f found t)
 
 -- nothing stands behind the last line
 abbrev pub nothing_behind : Plan → List Line → Result Plan (List Line)

@@ -356,14 +356,14 @@ pub(crate) fn modules(alloc: Global, body: &[u8]) -> Result<Option<Items<u64>>, 
 #[tactic(auto, unfolding(crate::specs::Bodies::list_row))]
 pub(crate) fn list(
     alloc: Global,
-    places: usize,
+    entries: usize,
     lists: &Lists,
     body: &[u8],
 ) -> Result<Option<Prices>, AllocError>
-    ensures { IfOk result (λ found. found ≡ list_row places lists.now body.now) }
+    ensures { IfOk result (λ found. found ≡ list_row entries lists.now body.now) }
 {
     match row(alloc, b"P", body)? {
-        Some(prices) if prices.len() == places && !lists.has(prices.as_slice()) => {
+        Some(prices) if prices.len() == entries && !lists.has(prices.as_slice()) => {
             Ok(Some(Prices::from_vec(prices)))
         }
         _ => Ok(None),

@@ -2,54 +2,14 @@
 
 ghost use Rattle.std.specs.Prelude.{◌≡◌, Some, None, IfOk, option_and_then, option_map};
 ghost use Rattle.plan_words.specs.Words.{numbers_of};
-ghost use Rattle.cert_format.specs.Bodies.{behind_number, flags_of, cut_in, prices_of, priced_of, overfull_with, far_with, lone_number, leaf_of};
-ghost use Rattle.plan_words.specs.Cuts.{found_now, items_of};
+ghost use Rattle.cert_format.specs.Bodies.{cut_in, prices_of, priced_of, overfull_with, far_with, lone_number, leaf_of};
 
-use crate::bodies::{fixed, one_in, uncounted};
+use crate::bodies::{fixed, one_in};
+use crate::node_sets::node_set;
 use plan_base::{DemandId, Items, LinkId, Prices};
 use plan_words::{behind, numbers};
 use proof_tree::Evidence;
 use std::alloc::{AllocError, Global};
-
-/// The numbers behind the first, where that is this one.
-#[tactic(auto, unfolding(crate::specs::Bodies::behind_number))]
-fn behind_number(numbers: &[u128], at: u32) -> Option<&[u128]>
-    ensures { found_now result ≡ behind_number at numbers.now }
-{
-    match numbers {
-        [first, rest @ ..] => {
-            if *first == u128::from(at) {
-                Some(rest)
-            } else {
-                None
-            }
-        }
-        [] => None,
-    }
-}
-
-/// For each of so many nodes whether it is in the ascending list, where the list is one.
-#[tactic(auto, using(plan_words::proofs::NumberWords::with_nothing, crate::proofs::Flags::flags_in, crate::proofs::Flags::flags_out, crate::proofs::Flags::flags_end))]
-fn flags(alloc: Global, nodes: u32, numbers: &[u128]) -> Result<Option<Vec<bool>>, AllocError>
-    ensures { IfOk result (λ found. items_of found ≡ flags_of 0 nodes numbers.now) }
-{
-    let mut flags = Vec::new(alloc);
-    let mut rest = numbers;
-    for node in 0..nodes {
-        match behind_number(rest, node) {
-            Some(behind) => {
-                flags.push(true)?;
-                rest = behind;
-            }
-            None => flags.push(false)?,
-        }
-    }
-    if rest.is_empty() {
-        Ok(Some(flags))
-    } else {
-        Ok(None)
-    }
-}
 
 /// The numbers of a cut.
 #[tactic(auto, unfolding(crate::specs::Bodies::cut_in))]
@@ -62,10 +22,7 @@ fn cut_in(alloc: Global, nodes: u32, numbers: &[u128]) -> Result<Option<Evidence
     if *demand >= 1 << 32 {
         return Ok(None);
     }
-    let Some(members) = uncounted(nodes as usize, rest) else {
-        return Ok(None);
-    };
-    match flags(alloc, nodes, members)? {
+    match node_set(alloc, nodes, rest)? {
         Some(reached) => Ok(Some(Evidence::Cut {
             demand: DemandId(*demand as u32),
             reached: Items::from_vec(reached),

@@ -11,13 +11,14 @@ use plan_base::Prices;
 use proof_tree::{Evidence, TreeNode};
 use std::alloc::{AllocError, Global};
 
-/// What the line of a record depends on: the version, the price lists, and the counts of nodes and places.
+/// What the line of a record depends on: the version, the price lists, the count of nodes, and how many numbers a price
+/// list has.
 #[derive(Drop)]
 pub(crate) struct Ground {
     pub(crate) form: Form,
     pub(crate) lists: Lists,
     pub(crate) nodes: u32,
-    pub(crate) places: usize,
+    pub(crate) entries: usize,
 }
 
 /// The prices of a leaf that is closed or open by prices.

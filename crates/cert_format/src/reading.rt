@@ -3,15 +3,15 @@
 ghost use Rattle.std.specs.Prelude.{◌≡◌, ◌≤◌, ◌<◌, ◌+◌, ◌^◌, ℕ, List, [], length, IfOk, IfErr};
 ghost use Rattle.proof_tree.specs.declared.plan.Plan.{Plan as AnyPlan};
 ghost use Rattle.plan_words.specs.Lines.{lines_of};
+ghost use Rattle.cert_format.specs.declared.form.Form.TheVariants.{Third};
 ghost use Rattle.cert_format.specs.Grammar.{end_line, SpellsPlan};
 ghost use Rattle.cert_format.specs.Faults.{IsFault, OnlyPlan, OnlyFault};
 ghost use Rattle.cert_format.specs.Lists.{named_from};
-ghost use Rattle.cert_format.specs.Bodies.{fixed_of, form_of, number_row, size_row, status_of, cost_of, bound_of, path_of, modules_of, list_row};
-ghost use Rattle.cert_format.specs.Reading.{one, many, head, design_of, design, bound, no_cuts, list_count, opening, lists, record_on, records, tree, before_end, last_line, ending, whole_plan, place_of, plan_of};
+ghost use Rattle.cert_format.specs.Bodies.{fixed_of, form_of, number_row, size_row, status_of, cost_of, bound_of, path_of, modules_of, list_row, load_cut_row};
+ghost use Rattle.cert_format.specs.Reading.{one, many, head, design_of, design, bound, load_cuts, list_count, entries_of, opening, lists, record_on, records, tree, before_end, last_line, ending, whole_plan, place_of, plan_of};
 ghost use Rattle.cert_format.specs.Drafts.{left_open};
 ghost use Rattle.cert_format.specs.Answers.{Reads, Gives, seen, seen_items, seen_records, seen_tree, seen_draft, drafted, IsCounted};
-ghost use Rattle.proof_tree.specs.Spellings.{places_in};
-ghost use Rattle.proof_tree.specs.declared.limits.TheConstants.{MAX_RECORDS};
+ghost use Rattle.proof_tree.specs.declared.limits.TheConstants.{MAX_RECORDS, MAX_CUTS};
 ghost use Rattle.cert_format.specs.declared.limits.TheConstants.{MAX_PLAN_BYTES};
 
 use crate::bodies::Sizes;
@@ -21,11 +21,11 @@ use crate::limits::{MAX_LISTS, MAX_PLAN_BYTES};
 use crate::lines::accept;
 use crate::lists::Lists;
 use crate::numbering::{Ground, named_behind};
-use crate::{bodies, records};
+use crate::{bodies, load_cuts, records};
 use plan_base::{Design, Items, Path, Prices};
 use plan_words::{Stop, first_line};
-use proof_tree::limits::{MAX_BUDGET, MAX_RECORDS};
-use proof_tree::{Plan, PlanStatus, Tree, TreeNode};
+use proof_tree::limits::{MAX_BUDGET, MAX_CUTS, MAX_RECORDS};
+use proof_tree::{Cut, Plan, PlanStatus, Tree, TreeNode};
 use std::alloc::Global;
 
 /// The version, the sizes, the status, the budget and the count of examined nodes.
@@ -41,12 +41,16 @@ pub(crate) struct Head {
     pub(crate) examined: u32,
 }
 
+/// What stands before the price lists, with their count.
+type Opening = (Head, Option<(u128, Design)>, Option<i128>, Items<Cut>, u32);
+
 /// All that stands before the last line: the records need not be a whole tree, nor name each price list.
 #[derive(Drop)]
 struct Draft {
     head: Head,
     design: Option<(u128, Design)>,
     bound: Option<i128>,
+    cuts: Items<Cut>,
     stated: u32,
     ground: Ground,
     count: u32,
@@ -146,18 +150,27 @@ fn modules_line(alloc: Global, text: &[u8]) -> Result<(Items<u64>, &[u8]), Stop>
     accept(bodies::modules(alloc, body)?, text, rest)
 }
 
+/// The line of a cut of sets of so many nodes.
+#[tactic(auto, using(crate::proofs::Accepting::no_first_line, crate::proofs::Accepting::stops_memory))]
+fn load_cut_line(alloc: Global, nodes: u32, text: &[u8]) -> Result<(Cut, &[u8]), Stop>
+    ensures { Reads seen result (one (load_cut_row nodes) (lines_of text.now)) }
+{
+    let (body, rest) = first_line(text)?;
+    accept(load_cuts::load_cut(alloc, nodes, body)?, text, rest)
+}
+
 /// The line of a price list, which is none of those before it.
 #[tactic(auto, using(crate::proofs::Accepting::no_first_line, crate::proofs::Accepting::stops_memory))]
 fn list_line<'a>(
     alloc: Global,
-    places: usize,
+    entries: usize,
     lists: &Lists,
     text: &'a [u8],
 ) -> Result<(Prices, &'a [u8]), Stop>
-    ensures { Reads seen result (one (list_row places lists.now) (lines_of text.now)) }
+    ensures { Reads seen result (one (list_row entries lists.now) (lines_of text.now)) }
 {
     let (body, rest) = first_line(text)?;
-    accept(bodies::list(alloc, places, lists, body)?, text, rest)
+    accept(bodies::list(alloc, entries, lists, body)?, text, rest)
 }
 
 /// The line of a record, where so many price lists are named before it.
@@ -291,14 +304,48 @@ fn left_open(node: &TreeNode, others: u32) -> u32
     }
 }
 
-/// The line of the third version that there are no cuts.
-#[tactic(auto, unfolding(crate::specs::Reading::no_cuts, crate::specs::Reading::done))]
-fn read_no_cuts(form: Form, text: &[u8]) -> Result<((), &[u8]), Stop>
-    ensures { Reads seen result (no_cuts form (lines_of text.now)) }
+/// So many cuts of sets of so many nodes.
+#[tactic(auto, using(crate::proofs::Accepting::many_more, crate::proofs::Accepting::many_stop, crate::proofs::Accepting::many_end, crate::proofs::Accepting::front_none, crate::proofs::Accepting::stops_memory))]
+fn read_cuts(alloc: Global, nodes: u32, count: u32, text: &[u8]) -> Result<(Vec<Cut>, &[u8]), Stop>
+    ensures { Reads seen_items result (many count (load_cut_row nodes) (lines_of text.now)) }
+{
+    let mut cuts = Vec::new(alloc);
+    let mut rest = text;
+    let mut left = count;
+    while left > 0 {
+        let (cut, behind) = load_cut_line(alloc, nodes, rest)?;
+        cuts.push(cut)?;
+        rest = behind;
+        left -= 1;
+    }
+    Ok((cuts, rest))
+}
+
+/// How many cuts there are, and the cuts.
+#[tactic(auto, using(crate::proofs::Accepting::through, crate::proofs::Accepting::stops_memory, crate::proofs::Accepting::row_most, crate::proofs::Accepting::cuts_counted), unfolding(crate::specs::Reading::load_cuts, crate::specs::Reading::bind))]
+fn read_counted_cuts(alloc: Global, nodes: u32, text: &[u8]) -> Result<(Items<Cut>, &[u8]), Stop>
+    ensures reads { Reads seen result (load_cuts Third nodes (lines_of text.now)) }
+    ensures few { IfOk result (λ x. length x.0 ≤ MAX_CUTS) }
+{
+    let (count, text) = number_line(alloc, b"CUTS", 0, MAX_CUTS as u32, text)?;
+    let (cuts, text) = read_cuts(alloc, nodes, count, text)?;
+    Ok((Items::from_vec(cuts), text))
+}
+
+/// The cuts, which the third version tells.
+#[tactic(auto, unfolding(crate::specs::Reading::load_cuts, crate::specs::Reading::done))]
+fn read_load_cuts(
+    alloc: Global,
+    form: Form,
+    nodes: u32,
+    text: &[u8],
+) -> Result<(Items<Cut>, &[u8]), Stop>
+    ensures reads { Reads seen result (load_cuts form nodes (lines_of text.now)) }
+    ensures few { IfOk result (λ x. length x.0 ≤ MAX_CUTS) }
 {
     match form {
-        Form::First | Form::Second => Ok(((), text)),
-        Form::Third => fixed_line(b"CUTS 0", text),
+        Form::First | Form::Second => Ok((Items::from_vec(Vec::new(alloc)), text)),
+        Form::Third => read_counted_cuts(alloc, nodes, text),
     }
 }
 
@@ -315,35 +362,33 @@ fn read_list_count(alloc: Global, form: Form, text: &[u8]) -> Result<(u32, &[u8]
 
 /// All lines before the price lists.
 #[tactic(auto, using(crate::proofs::Accepting::through, crate::proofs::Accepting::stops_memory), unfolding(crate::specs::Reading::opening, crate::specs::Reading::bind, crate::specs::Reading::done))]
-fn read_opening(
-    alloc: Global,
-    text: &[u8],
-) -> Result<((Head, Option<(u128, Design)>, Option<i128>, u32), &[u8]), Stop>
-    ensures { Reads seen result (opening (lines_of text.now)) }
+fn read_opening(alloc: Global, text: &[u8]) -> Result<(Opening, &[u8]), Stop>
+    ensures reads { Reads seen result (opening (lines_of text.now)) }
+    ensures few { IfOk result (λ x. length x.0.3 ≤ MAX_CUTS) }
 {
     let (head, text) = read_head(alloc, text)?;
     let (design, text) = read_design(alloc, head, text)?;
     let (bound, text) = read_bound(alloc, head.status, text)?;
-    let (_, text) = read_no_cuts(head.form, text)?;
+    let (cuts, text) = read_load_cuts(alloc, head.form, head.nodes, text)?;
     let (stated, text) = read_list_count(alloc, head.form, text)?;
-    Ok(((head, design, bound, stated), text))
+    Ok(((head, design, bound, cuts, stated), text))
 }
 
 /// So many price lists.
 #[tactic(auto, using(crate::proofs::Accepting::lists_more, crate::proofs::Accepting::lists_stop, crate::proofs::Accepting::lists_end, crate::proofs::Accepting::list_fresh, crate::proofs::Accepting::stops_memory))]
 fn read_lists(
     alloc: Global,
-    places: usize,
+    entries: usize,
     stated: u32,
     text: &[u8],
 ) -> Result<(Lists, &[u8]), Stop>
-    ensures { Reads seen result (lists places stated [] (lines_of text.now)) }
+    ensures { Reads seen result (lists entries stated [] (lines_of text.now)) }
 {
     let mut lists = Lists::new(alloc);
     let mut rest = text;
     let mut left = stated;
     while left > 0 {
-        let (list, behind) = list_line(alloc, places, &lists, rest)?;
+        let (list, behind) = list_line(alloc, entries, &lists, rest)?;
         lists.push(list.into_vec())?;
         rest = behind;
         left -= 1;
@@ -396,14 +441,15 @@ fn read_tree<'a>(
     Ok((count, records, named, text))
 }
 
-/// How many places the links have.
-fn places_of(head: Head) -> usize
-    ensures { result ≡ places_in head.both head.links }
+/// How many numbers a price list has, where there are so many cuts.
+fn entries_of(head: Head, cuts: &[Cut]) -> usize
+    requires { length cuts.now ≤ MAX_CUTS }
+    ensures { result ≡ entries_of head cuts.now }
 {
     if head.both {
-        2 * head.links as usize
+        2 * head.links as usize + cuts.len()
     } else {
-        head.links as usize
+        head.links as usize + cuts.len()
     }
 }
 
@@ -413,20 +459,21 @@ fn read_before_end(alloc: Global, text: &[u8]) -> Result<(Draft, &[u8]), Stop>
     ensures reads { Reads seen_draft result (before_end (lines_of text.now)) }
     ensures counted { IfOk result (λ x. IsCounted x.0) }
 {
-    let ((head, design, bound, stated), text) = read_opening(alloc, text)?;
-    let places = places_of(head);
-    let (lists, text) = read_lists(alloc, places, stated, text)?;
+    let ((head, design, bound, cuts, stated), text) = read_opening(alloc, text)?;
+    let entries = entries_of(head, cuts.as_slice());
+    let (lists, text) = read_lists(alloc, entries, stated, text)?;
     let ground = Ground {
         form: head.form,
         lists,
         nodes: head.nodes,
-        places,
+        entries,
     };
     let (count, records, named, text) = read_tree(alloc, &ground, text)?;
     let draft = Draft {
         head,
         design,
         bound,
+        cuts,
         stated,
         ground,
         count,
@@ -455,7 +502,8 @@ impl Draft {
         requires counted { IsCounted self }
         ensures { result ≡ only_if (is_complete (drafted self)) (drafted self).plan }
     {
-        if !self.has_counts() || !is_asked(self.head.form, self.records.as_slice()) {
+        let cuts = self.cuts.as_slice();
+        if !self.has_counts() || !is_asked(self.head.form, cuts, self.records.as_slice()) {
             return None;
         }
         match Tree::from_nodes(self.records) {
@@ -469,6 +517,7 @@ impl Draft {
                 examined: self.head.examined,
                 design: self.design,
                 bound: self.bound,
+                cuts: self.cuts,
                 tree,
             }),
             Err(_) => None,
@@ -518,7 +567,7 @@ fn whole_plan(alloc: Global, text: &[u8]) -> Result<Plan, Stop>
 ///   line without its end too; `Ended`, exactly where all lines can stand and a further one must
 ///   follow; `OutOfMemory` may stand in place of any answer.
 /// - Rule: docs/FORMATS.md, "Plan texts".
-/// - Time: linear in the text and in the prices of all records, each with a copy of its list, at most 134 MB in all.
+/// - Time: linear in the text and in the prices of all records, each with a copy of its list, at most 151 MB in all.
 ///   Each clash of two price lists in their hash adds a comparison of them; the hash has a fixed seed, so a text can
 ///   be made for clashes.
 #[tactic(auto, using(crate::proofs::OneFault::answers_plan, crate::proofs::OneFault::answers_fault, crate::proofs::OneFault::answers_only_plan, crate::proofs::OneFault::answers_only_fault))]

@@ -143,11 +143,11 @@ fn record(
 }
 
 /// How many numbers stand for the prices of a record.
-fn width(form: Form, places: usize) -> usize
-    ensures { result ≡ width form places }
+fn width(form: Form, entries: usize) -> usize
+    ensures { result ≡ width form entries }
 {
     match form {
-        Form::First => places,
+        Form::First => entries,
         Form::Second | Form::Third => 1,
     }
 }
@@ -160,9 +160,14 @@ pub(crate) fn record_in(
     named: u32,
     body: &[u8],
 ) -> Result<Option<TreeNode>, AllocError>
-    ensures { IfOk result (λ found. found ≡ record_in ground.now.form ground.now.lists named ground.now.nodes ground.now.places body.now) }
+    ensures { IfOk result (λ found. found ≡ record_in ground.now.form ground.now.lists named ground.now.nodes ground.now.entries body.now) }
 {
-    match record(alloc, ground.nodes, width(ground.form, ground.places), body)? {
+    match record(
+        alloc,
+        ground.nodes,
+        width(ground.form, ground.entries),
+        body,
+    )? {
         Some(node) => resolve(alloc, ground, named, node),
         None => Ok(None),
     }

@@ -4,11 +4,11 @@ ghost use Rattle.std.specs.Prelude.{◌≡◌, ◌<◌, ◌≤◌, ◌^◌, ◌+
 ghost use Rattle.std.specs.List.{AllByRecursion};
 ghost use Rattle.proof_tree.specs.Spellings.{IsSpellable, FitsStatus};
 ghost use Rattle.cert_format.specs.declared.limits.TheConstants.{MAX_PLAN_BYTES};
-ghost use Rattle.cert_format.specs.Versions.{written_form};
+ghost use Rattle.cert_format.specs.Versions.{TellsCuts, written_form};
 ghost use Rattle.cert_format.specs.Lists.{number_in, numbered, with_number};
 ghost use Rattle.plan_words.specs.Lines.{whole, line_text};
 ghost use Rattle.plan_words.specs.Words.{numerals, row};
-ghost use Rattle.cert_format.specs.Grammar.{arc_numbers, counted, header_line, both_text, size_line, status_line, cost_line, signed_text, bound_line, path_line, modules_line, members, leaf_line, record_line, design_lines, bound_lines, cut_lines, head_lines, price_line, list_lines, AreWithin, AreArcs, HasLeafFields, HasRecordFields, HasDesignFields, IsBoundField, HasFields, SpellsPlan, written_text};
+ghost use Rattle.cert_format.specs.Grammar.{arc_numbers, counted, header_line, both_text, size_line, status_line, cost_line, signed_text, bound_line, path_line, modules_line, members, leaf_line, record_line, design_lines, bound_lines, cut_line, cut_lines, head_lines, price_line, list_lines, AreWithin, AreArcs, HasCutFields, HasLeafFields, HasRecordFields, HasDesignFields, IsBoundField, HasFields, SpellsPlan, written_text};
 ghost use Rattle.cert_format.specs.Written.{lines_text, numbered_lines, written_tree, HasShownFields, Appends};
 
 use crate::form::{Form, written_form};
@@ -16,7 +16,7 @@ use crate::lists::Lists;
 use crate::numbering::lists_of;
 use itoa::Buffer;
 use plan_base::{ArcId, Design, Items, Path};
-use proof_tree::{Evidence, Plan, PlanStatus, TreeNode};
+use proof_tree::{Cut, Evidence, Plan, PlanStatus, TreeNode};
 use scaled_numbers::write_grains;
 use std::alloc::{AllocError, Global};
 
@@ -96,14 +96,14 @@ fn push_counts(counts: &[u64], numbers: &mut Vec<u128>) -> Result<(), AllocError
     Ok(())
 }
 
-/// The nodes that are reached.
+/// The nodes of a set.
 #[tactic(auto, using(crate::proofs::WrittenPieces::members_in, crate::proofs::WrittenPieces::members_out, crate::proofs::WrittenPieces::members_end))]
-fn members(alloc: Global, reached: &[bool]) -> Result<Vec<u128>, AllocError>
-    ensures { IfOk result (λ nodes. nodes.items ≡ members 0 reached.now) }
+fn members(alloc: Global, set: &[bool]) -> Result<Vec<u128>, AllocError>
+    ensures { IfOk result (λ nodes. nodes.items ≡ members 0 set.now) }
 {
     let mut nodes = Vec::new(alloc);
-    for (node, is_reached) in reached.iter().enumerate() {
-        if *is_reached {
+    for (node, is_member) in set.iter().enumerate() {
+        if *is_member {
             nodes.push(node as u128)?;
         }
     }
@@ -295,14 +295,53 @@ fn push_bound(plan: &Plan, out: &mut Vec<u8>) -> Result<(), AllocError>
     }
 }
 
-/// Appends the line of the third version that there are no cuts.
+/// Appends how many nodes of a set there are, and the nodes.
+fn push_set(alloc: Global, set: &[bool], numbers: &mut Vec<u128>) -> Result<(), AllocError>
+    ensures { Appends result numbers.old.items numbers.new.items (counted (members 0 set.now)) }
+{
+    let nodes = members(alloc, set)?;
+    numbers.push(nodes.len() as u128)?;
+    numbers.extend_from_slice(nodes.as_slice())
+}
+
+/// Appends the line of a cut of the plan.
+fn push_load_cut(alloc: Global, cut: &Cut, out: &mut Vec<u8>) -> Result<(), AllocError>
+    ensures text { Appends result out.old.items out.new.items (line_text (whole (cut_line cut.now))) }
+    ensures fields { OnOk result (HasCutFields cut.now) }
+{
+    let mut numbers = Vec::new(alloc);
+    numbers.push(u128::from(cut.period))?;
+    numbers.push(u128::from(cut.first))?;
+    numbers.push(u128::from(cut.counts_installed))?;
+    push_set(alloc, cut.nodes.as_slice(), &mut numbers)?;
+    push_row(b"C", numbers.as_slice(), out)
+}
+
+/// Appends the lines of cuts.
+#[tactic(auto, using(crate::proofs::WrittenPieces::lines_more, crate::proofs::FieldsSoFar::fields_more))]
+fn push_cut_lines(alloc: Global, cuts: &[Cut], out: &mut Vec<u8>) -> Result<(), AllocError>
+    ensures text { Appends result out.old.items out.new.items (lines_text (map cut_line cuts.now)) }
+    ensures fields { OnOk result (AllByRecursion HasCutFields cuts.now) }
+{
+    for cut in cuts {
+        push_load_cut(alloc, cut, out)?;
+    }
+    Ok(())
+}
+
+/// Appends how many cuts there are, and their lines, as the third version tells them.
 #[tactic(auto, unfolding(crate::specs::Grammar::cut_lines))]
-fn push_no_cuts(form: Form, out: &mut Vec<u8>) -> Result<(), AllocError>
-    ensures { Appends result out.old.items out.new.items (lines_text (cut_lines form)) }
+fn push_cuts(alloc: Global, form: Form, cuts: &[Cut], out: &mut Vec<u8>) -> Result<(), AllocError>
+    requires told { TellsCuts form cuts.now }
+    ensures text { Appends result out.old.items out.new.items (lines_text (cut_lines form cuts.now)) }
+    ensures fields { OnOk result (AllByRecursion HasCutFields cuts.now) }
 {
     match form {
         Form::First | Form::Second => Ok(()),
-        Form::Third => push_fixed(b"CUTS 0", out),
+        Form::Third => {
+            push_row(b"CUTS", &[cuts.len() as u128], out)?;
+            push_cut_lines(alloc, cuts, out)
+        }
     }
 }
 
@@ -316,11 +355,9 @@ fn push_cut(
     ensures { Appends result out.old.items out.new.items
         (line_text (whole (row (codes "CUT") (demand ∷ counted (members 0 reached.now))))) }
 {
-    let nodes = members(alloc, reached)?;
     let mut numbers = Vec::new(alloc);
     numbers.push(u128::from(demand))?;
-    numbers.push(nodes.len() as u128)?;
-    numbers.extend_from_slice(nodes.as_slice())?;
+    push_set(alloc, reached, &mut numbers)?;
     push_row(b"CUT", numbers.as_slice(), out)
 }
 
@@ -471,7 +508,7 @@ fn push_tree(alloc: Global, nodes: &[TreeNode], out: &mut Vec<u8>) -> Result<(),
     push_records(alloc, &lists, nodes, out)
 }
 
-/// Writes the text of a plan, in the third version where it has a load split, else in the second.
+/// Writes the text of a plan, in the third version where it has a cut or a load split, else in the second.
 ///
 /// - Takes: a plan whose `fits` holds.
 /// - Gives: the lines of the plan, each with its line end; `read_plan` answers this plan for them.
@@ -492,19 +529,19 @@ pub fn write_plan(alloc: Global, plan: &Plan) -> Result<Vec<u8>, AllocError>
 }
 
 /// All lines of a plan.
-#[tactic(auto, using(crate::proofs::WrittenPieces::plan_pieces))]
+#[tactic(auto, using(crate::proofs::WrittenPieces::plan_pieces, crate::proofs::VersionLaws::written_tells))]
 fn whole_text(alloc: Global, plan: &Plan) -> Result<Vec<u8>, AllocError>
     requires fits { IsSpellable plan.now }
     ensures text { IfOk result (λ text. text.items ≡ written_text plan.now) }
     ensures fields { IfOk result (λ text. HasFields plan.now) }
 {
     let nodes = plan.tree.nodes();
-    let form = written_form(nodes);
+    let form = written_form(plan.cuts.as_slice(), nodes);
     let mut out = Vec::new(alloc);
     push_head(form, plan, &mut out)?;
     push_design_lines(alloc, plan, &mut out)?;
     push_bound(plan, &mut out)?;
-    push_no_cuts(form, &mut out)?;
+    push_cuts(alloc, form, plan.cuts.as_slice(), &mut out)?;
     push_tree(alloc, nodes, &mut out)?;
     push_fixed(b"END", &mut out)?;
     Ok(out)
