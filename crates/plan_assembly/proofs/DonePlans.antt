@@ -15,6 +15,7 @@ use Rattle.proof_tree.specs.declared.plan.PlanStatus.TheVariants.{Undecided}
 use Rattle.proof_tree.specs.Shapes.{are_trees}
 use Rattle.proof_tree.specs.Regions.{Region, whole, with_arcs, up_to, above}
 use Rattle.proof_tree.specs.Trees.{AreValidTrees, IsValidTree}
+use Rattle.proof_tree.specs.Cuts.{IsCutList}
 use Rattle.proof_tree.specs.Plans.{stated_cost, is_open, needs_cost, IsStatedDesign, HasStatus, IsValidPlan}
 use Rattle.branch_tree.specs.Records.{split_record}
 use Rattle.branch_tree.specs.declared.node.Divider.TheVariants as divider
@@ -28,6 +29,7 @@ use Rattle.pool_machine.specs.Soundness.{IsSound}
 use Rattle.pool_machine.specs.PlanOf.{tree_of, open_by, open_count, is_done, status_by, status_of, stated_design, HasBoundOf, IsPlanOf, PartsPaths}
 use Rattle.pool_nodes.specs.Records.{record_by}
 use Rattle.plan_assembly.specs.PlanParts.{IsStatedBound}
+use Rattle.proof_tree.proofs.CutlessPlans.{plan-without_cuts, no_cuts}
 use Rattle.pool_machine.proofs.Lists.{All-at}
 use Rattle.pool_machine.proofs.Runs.{IsReachable-sound}
 use Rattle.pool_machine.specs.declared.limits.TheConstants.{MAX_BUDGET}
@@ -128,8 +130,8 @@ done_cases s done some = by (s.examined == s.budget) refl
 
 -- a plan that is put together from a state's parts is that of the state
 pub made_plan : (s : State) (plan : Plan) → IsReachable s → plan.nodes ≡ s.problem.nodes → plan.links ≡ length s.problem.links → plan.demands ≡ length s.problem.demands → plan.both ≡ is_two_way s.problem.orient → plan.status ≡ status_of s
-    → plan.budget ≡ s.budget → plan.examined ≡ s.examined → plan.design ≡ stated_design s.incumbent → plan.tree ≡ tree_of s → IsStatedBound s plan.status plan.bound → IsPlanOf s plan
-made_plan s plan h nodes links demands both status budget examined design tree bound = record {
+    → plan.budget ≡ s.budget → plan.examined ≡ s.examined → plan.design ≡ stated_design s.incumbent → plan.cuts ≡ [] → plan.tree ≡ tree_of s → IsStatedBound s plan.status plan.bound → IsPlanOf s plan
+made_plan s plan h nodes links demands both status budget examined design cuts tree bound = record {
   nodes = nodes;
   links = links;
   demands = demands;
@@ -138,8 +140,9 @@ made_plan s plan h nodes links demands both status budget examined design tree b
   budget = budget;
   examined = examined;
   design = design;
+  cuts = cuts;
   tree = tree;
-  bound = stated_bound-of s plan h tree design bound;
+  bound = stated_bound-of s plan h cuts tree design bound;
 }
 
 module _ (s : State) (plan : Plan) (h : IsReachable s) (is : IsPlanOf s plan) where
@@ -211,8 +214,9 @@ module _ (s : State) (plan : Plan) (h : IsReachable s) (is : IsPlanOf s plan) wh
   plan_valid done = record {
     sizes = record { nodes = is.nodes; links = is.links; demands = is.demands; both = is.both };
     examined = is.examined ∙ sym (tree-examined s h) ∙ ap (λ (records : List TreeNode). sum_by (λ record_. cond (not (is_open record_)) 1 0) records) (sym is.tree);
+    cuts = subst (IsCutList s.problem) (sym is.cuts) (no_cuts s.problem);
     design = stated plan.design s.incumbent is.design sound.incumbent;
-    tree = valid_tree;
+    tree = (plan-without_cuts s.problem plan is.cuts).0 valid_tree;
     status = has_status done;
   }
 

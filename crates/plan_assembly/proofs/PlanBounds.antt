@@ -1,5 +1,5 @@
 -- The bound that a plan states is the least of its limits, and at least the opening bound.
-use Rattle.std.proofs.Common.{◌≡◌, ℕ, ◌<◌, inl, inr, List, length, Option, Some, None, refl, sym, ap, subst, ◌∙◌, ℤ, pos, ◌≤ℤ◌}
+use Rattle.std.proofs.Common.{◌≡◌, ℕ, ◌<◌, inl, inr, List, [], length, Option, Some, None, refl, sym, ap, subst, ◌∙◌, ℤ, pos, ◌≤ℤ◌}
 use Rattle.std.specs.Prelude.{IsSomeAnd, IfSome, Any, MatchOption, option_map}
 use Rattle.std.proofs.lemmas.Option.{slice_get_within}
 use Rattle.plan_base.specs.declared.path.Design.{Design}
@@ -14,10 +14,11 @@ use Rattle.proof_tree.specs.Bounds.{IsBound, IsOpeningBound}
 use Rattle.proof_tree.specs.Trees.{LeafAt, leaves_of}
 use Rattle.proof_tree.specs.Plans.{stated_cost, IsStatedDesign, IsOpenBound, IsCandidate, IsLeastCandidate}
 use Rattle.pool_machine.specs.declared.tree.Incumbent.{Incumbent}
-use Rattle.pool_machine.specs.State.{State, region_of, cutoff_of}
+use Rattle.pool_machine.specs.State.{State, region_of, cutoff_of, kept_prices}
 use Rattle.pool_machine.specs.Machine.{IsReachable}
 use Rattle.pool_machine.specs.PlanOf.{tree_of, stated_design, HasBoundOf, IsPlanOf, HasOpeningBound}
 use Rattle.plan_assembly.specs.PlanParts.{IsLeafBound, IsLimitBelow, IsLeastOrNone, IsStatedBound}
+use Rattle.proof_tree.proofs.CutlessPlans.{open-without}
 use Rattle.pool_machine.proofs.Runs.{IsReachable-sound}
 use Rattle.plan_assembly.proofs.PlanLeaves.{IsLeafOf, leaf-node, node-leaf}
 use Rattle.plan_assembly.proofs.PlanOpening.{kept-above, cost-above}
@@ -28,11 +29,11 @@ cost-stated None = refl
 cost-stated (Some held) = refl
 
 -- what a plan of the state may state as bound is a limit of the state
-module _ (s : State) (h : IsReachable s) (plan : Plan) (tree : plan.tree ≡ tree_of s) (design : plan.design ≡ stated_design s.incumbent) where
+module _ (s : State) (h : IsReachable s) (plan : Plan) (cuts : plan.cuts ≡ []) (tree : plan.tree ≡ tree_of s) (design : plan.design ≡ stated_design s.incumbent) where
   cost-is : stated_cost plan ≡ cutoff_of s
   cost-is = ap (option_map (λ (d : ℕ × Design). d.0)) design ∙ cost-stated s.incumbent
 
-  open-bound : (bound : ℤ) (leaf : LeafAt) → IsLeafOf s (IsReachable-sound s h) leaf → (found : Evidence) → leaf.evidence ≡ found → IsOpenBound s.problem leaf.region found bound
+  open-bound : (bound : ℤ) (leaf : LeafAt) → IsLeafOf s (IsReachable-sound s h) leaf → (found : Evidence) → leaf.evidence ≡ found → IsOpenBound s.problem plan.cuts leaf.region found bound
       → (n : ℕ) × (n < length s.nodes) × IsLeafBound s n bound
   open-bound bound leaf of (evidence.Open prices) same is =
       let opens = of.opens prices same in (
@@ -42,7 +43,8 @@ module _ (s : State) (h : IsReachable s) (plan : Plan) (tree : plan.tree ≡ tre
           node = of.node;
           is_node = of.is_node;
           undone = opens.0;
-          is_bound = subst (λ (ps : List ℕ). IsBound s.problem (region_of s.problem of.node) ps bound) opens.1 (subst (λ (g : Region). IsBound s.problem g prices bound) of.region_is is);
+          is_bound = subst (λ (ps : List ℕ). IsBound s.problem (region_of s.problem of.node) ps bound) opens.1
+              (subst (λ (g : Region). IsBound s.problem g prices bound) of.region_is ((open-without s.problem plan.cuts leaf.region prices bound cuts).1 is));
         },
       )
   open-bound bound leaf of (evidence.Bound prices) same is = absurd is
@@ -56,9 +58,9 @@ module _ (s : State) (h : IsReachable s) (plan : Plan) (tree : plan.tree ≡ tre
   candidate-limit bound candidate = elim candidate [
     | inl cost ↦ inl (subst (λ (o : Option ℕ). IsSomeAnd o (λ c. pos c ≡ bound)) cost-is cost)
     | inr any ↦
-        let there : Any (λ (leaf : LeafAt). IsOpenBound s.problem leaf.region leaf.evidence bound) (leaves_of s.problem (tree_of s)) =
-        subst (λ (nodes : List TreeNode). Any (λ (leaf : LeafAt). IsOpenBound s.problem leaf.region leaf.evidence bound) (leaves_of s.problem nodes)) tree any in
-        let found = leaf-node s (IsReachable-sound s h) (λ (leaf : LeafAt). IsOpenBound s.problem leaf.region leaf.evidence bound) there in
+        let there : Any (λ (leaf : LeafAt). IsOpenBound s.problem plan.cuts leaf.region leaf.evidence bound) (leaves_of s.problem (tree_of s)) =
+        subst (λ (nodes : List TreeNode). Any (λ (leaf : LeafAt). IsOpenBound s.problem plan.cuts leaf.region leaf.evidence bound) (leaves_of s.problem nodes)) tree any in
+        let found = leaf-node s (IsReachable-sound s h) (λ (leaf : LeafAt). IsOpenBound s.problem plan.cuts leaf.region leaf.evidence bound) there in
         inr (open-bound bound found.0 found.1 found.0.evidence refl found.2)
   ]
 
@@ -67,8 +69,9 @@ module _ (s : State) (h : IsReachable s) (plan : Plan) (tree : plan.tree ≡ tre
     | inl cost ↦ inl (subst (λ (o : Option ℕ). IsSomeAnd o (λ c. pos c ≡ bound)) (sym cost-is) cost)
     | inr leaf ↦
         let b = leaf.2 in
-        inr (subst (λ (nodes : List TreeNode). Any (λ (l : LeafAt). IsOpenBound s.problem l.region l.evidence bound) (leaves_of s.problem nodes)) (sym tree)
-        (node-leaf s h (λ (l : LeafAt). IsOpenBound s.problem l.region l.evidence bound) leaf.0 b.node b.is_node b.undone b.is_bound))
+        inr (subst (λ (nodes : List TreeNode). Any (λ (l : LeafAt). IsOpenBound s.problem plan.cuts l.region l.evidence bound) (leaves_of s.problem nodes)) (sym tree)
+        (node-leaf s h (λ (l : LeafAt). IsOpenBound s.problem plan.cuts l.region l.evidence bound) leaf.0 b.node b.is_node b.undone
+        ((open-without s.problem plan.cuts (region_of s.problem b.node) (kept_prices b.node) bound cuts).0 b.is_bound)))
   ]
 
   least-stated : (found : Option ℤ) → IsLeastOrNone s (length s.nodes) found
@@ -85,9 +88,9 @@ module _ (s : State) (h : IsReachable s) (plan : Plan) (tree : plan.tree ≡ tre
   HasBoundOf-stated : IsStatedBound s plan.status plan.bound → HasBoundOf s.problem plan plan.status
   HasBoundOf-stated stated = by_status plan.status stated
 
-pub stated_bound-of : (s : State) (plan : Plan) → IsReachable s → plan.tree ≡ tree_of s → plan.design ≡ stated_design s.incumbent → IsStatedBound s plan.status plan.bound
+pub stated_bound-of : (s : State) (plan : Plan) → IsReachable s → plan.cuts ≡ [] → plan.tree ≡ tree_of s → plan.design ≡ stated_design s.incumbent → IsStatedBound s plan.status plan.bound
     → HasBoundOf s.problem plan plan.status
-stated_bound-of s plan h tree design stated = HasBoundOf-stated s h plan tree design stated
+stated_bound-of s plan h cuts tree design stated = HasBoundOf-stated s h plan cuts tree design stated
 
 -- a limit of the state is at least the opening bound
 limit-above : (s : State) → IsReachable s → (opening bound : ℤ) → IsOpeningBound s.problem opening → IsLimitBelow s (length s.nodes) bound → opening ≤ℤ bound
@@ -100,15 +103,15 @@ limit-above s h opening bound is_opening limit = elim limit [
     at_cost None stated is = absurd is
     at_cost (Some held) stated is = subst (λ (b : ℤ). opening ≤ℤ b) is (cost-above s h opening is_opening held.cost held.design stated)
 
-stated-above : (s : State) → IsReachable s → (plan : Plan) → plan.tree ≡ tree_of s → plan.design ≡ stated_design s.incumbent → (opening bound : ℤ) → IsOpeningBound s.problem opening
+stated-above : (s : State) → IsReachable s → (plan : Plan) → plan.cuts ≡ [] → plan.tree ≡ tree_of s → plan.design ≡ stated_design s.incumbent → (opening bound : ℤ) → IsOpeningBound s.problem opening
     → (status : PlanStatus) → HasBoundOf s.problem plan status → plan.bound ≡ Some bound → opening ≤ℤ bound
-stated-above s h plan tree design opening bound is_opening Optimal has is = absurd (let bad : ◌≡◌ {A = Option ℤ} None (Some bound) = sym has ∙ is in cc)
-stated-above s h plan tree design opening bound is_opening Infeasible has is = absurd (let bad : ◌≡◌ {A = Option ℤ} None (Some bound) = sym has ∙ is in cc)
-stated-above s h plan tree design opening bound is_opening Undecided has is =
+stated-above s h plan cuts tree design opening bound is_opening Optimal has is = absurd (let bad : ◌≡◌ {A = Option ℤ} None (Some bound) = sym has ∙ is in cc)
+stated-above s h plan cuts tree design opening bound is_opening Infeasible has is = absurd (let bad : ◌≡◌ {A = Option ℤ} None (Some bound) = sym has ∙ is in cc)
+stated-above s h plan cuts tree design opening bound is_opening Undecided has is =
     let least : IsLeastCandidate s.problem plan bound =
     subst (λ (o : Option ℤ). MatchOption o ((b : ℤ) → IsCandidate s.problem plan b → ⊥) (λ b. IsLeastCandidate s.problem plan b)) is has in
-    limit-above s h opening bound is_opening (candidate-limit s h plan tree design bound least.is_candidate)
+    limit-above s h opening bound is_opening (candidate-limit s h plan cuts tree design bound least.is_candidate)
 
 pub plan_opening : (s : State) (plan : Plan) → IsReachable s → IsPlanOf s plan → HasOpeningBound s.problem plan
 plan_opening s plan h is opening bound is_opening stated =
-    stated-above s h plan is.tree is.design opening bound is_opening plan.status is.bound stated
+    stated-above s h plan is.cuts is.tree is.design opening bound is_opening plan.status is.bound stated

@@ -19,6 +19,7 @@ use Rattle.plan_base.proofs.Bools.{and-first}
 use Rattle.plan_base.proofs.PathLaws.{length-IsSimplePath}
 use Rattle.arc_restrict.specs.Restrictions.{Forbidden}
 use Rattle.proof_tree.specs.declared.limits.TheConstants.{MAX_BUDGET}
+use Rattle.proof_tree.specs.declared.cuts.Cut.{Cut as LoadCut}
 use Rattle.proof_tree.specs.declared.tree.Evidence.TheVariants as evidence
 use Rattle.proof_tree.specs.declared.tree.TreeNode.{TreeNode}
 use Rattle.proof_tree.specs.declared.tree.TreeNode.TheVariants.{Split, Loads, Leaf}
@@ -29,7 +30,7 @@ use Rattle.proof_tree.specs.Splits.{IsSide}
 use Rattle.proof_tree.specs.Regions.{Region, whole, with_arcs, up_to, above}
 use Rattle.proof_tree.specs.Trees.{AreValidTrees}
 use Rattle.proof_tree.specs.Plans.{IsStatedDesign}
-use Rattle.proof_tree.specs.Spellings.{IsAscending, IsWrittenSide, places_in, FitsRecord, FitsDesign, FitsStatus, IsSpellable}
+use Rattle.proof_tree.specs.Spellings.{IsAscending, IsWrittenSide, places_in, numbers_in, FitsRecord, FitsCuts, FitsDesign, FitsStatus, IsSpellable}
 use Rattle.branch_tree.specs.Records.{split_record}
 use Rattle.branch_tree.specs.declared.node.Divider.TheVariants as divider
 use Rattle.branch_tree.specs.declared.node.Fate.{Fate}
@@ -174,7 +175,9 @@ pub plan_spellable : (s : State) (plan : Plan) → IsReachable s → 0 < s.budge
 plan_spellable s plan reachable some most is =
     let h = IsReachable-sound s reachable in
     let p = s.problem in
-    let count : places p ≡ places_in plan.both plan.links = sym (ap₂ places_in is.both is.links) in
+    let of_places : places p ≡ places_in plan.both plan.links = sym (ap₂ places_in is.both is.links) in
+    let no_rates : length plan.cuts ≡ 0 = ap length is.cuts in
+    let count : places p ≡ numbers_in plan = omega (arith, of_places, no_rates) in
     let one_tree : are_trees 1 (tree_of s) ≡ true = valid-whole p (cutoff_of s) (whole p ∷ []) (tree_of s) (tree_of-valid s h) in
     let status : HasBoundOf p plan (status_of s) = subst (HasBoundOf p plan) is.status is.bound in
     record {
@@ -191,10 +194,11 @@ plan_spellable s plan reachable some most is =
           (subst (λ (n : ℕ). IfSome (stated_design s.incumbent) (λ design. FitsDesign n plan.links design.1)) (sym is.demands)
           (subst (λ (n : ℕ). IfSome (stated_design s.incumbent) (λ design. FitsDesign (length p.demands) n design.1)) (sym is.links) (stated-fits p h.lawful s.incumbent h.incumbent)));
       whole = ap (are_trees 1) is.tree ∙ one_tree;
+      cuts = subst (FitsCuts plan.nodes) (sym is.cuts) (record { few = omega arith; each = All-nil (λ (cut : LoadCut). length cut.nodes ≡ plan.nodes) });
       records = record {
         few = (let size = tree-length s reachable in let most_nodes = IsSound-nodes s h in let e : length plan.tree ≡ length (tree_of s) = ap length is.tree in omega arith);
-        each = subst (All (FitsRecord plan.nodes (places_in plan.both plan.links))) (sym is.tree)
-            (subst (λ (n : ℕ). All (FitsRecord n (places_in plan.both plan.links)) (tree_of s)) (sym is.nodes)
+        each = subst (All (FitsRecord plan.nodes (numbers_in plan))) (sym is.tree)
+            (subst (λ (n : ℕ). All (FitsRecord n (numbers_in plan)) (tree_of s)) (sym is.nodes)
             (subst (λ (n : ℕ). All (FitsRecord p.nodes n) (tree_of s)) count (records_at-fit s h (length s.nodes) 0)));
       };
     }

@@ -8,7 +8,7 @@ ghost use Rattle.plan_assembly.specs.PlanParts.{IsStatedBound};
 
 use crate::assembly::Assembly;
 use crate::records;
-use plan_base::Design;
+use plan_base::{Design, Items};
 use pool_machine::Incumbent;
 use proof_tree::{Plan, PlanStatus};
 use std::alloc::AllocError;
@@ -51,7 +51,7 @@ impl Assembly {
     /// The plan: the tree, the best design, and what they claim.
     ///
     /// - Takes: a search that is done.
-    /// - Gives: a valid plan, which a plan text can hold, and each split of which parts two paths of a demand or two steps of
+    /// - Gives: a valid plan without cuts, which a plan text can hold, and each split of which parts two paths of a demand or two steps of
     ///   a link. The bound of an undecided plan is at least the bound of the root at the start prices.
     /// - Errors: want of memory alone.
     /// - Rule: docs/METHOD.md, "The search as a machine".
@@ -91,6 +91,7 @@ impl Assembly {
             examined,
             design: design_of(incumbent),
             bound,
+            cuts: Items::new(alloc),
             tree,
         })
     }
