@@ -1,5 +1,5 @@
 -- The text of a report on a plan, by the names of the network, and the line of a trial. Each line ends with a line feed; its words are parted by one blank, which is 32.
-use Rattle.std.specs.Prelude.{ℕ, ◌≡◌, List, [], ◌∷◌, ◌++◌, length, codes, slice_index_or, flat_map, if◌then◌else◌, Option, Some, None, ℤ}
+use Rattle.std.specs.Prelude.{ℕ, ◌≡◌, List, [], ◌∷◌, ◌++◌, length, codes, slice_index_or, flat_map, if◌then◌else◌, nat_lt, Option, Some, None, ℤ}
 use Rattle.std.specs.List.{range_with_len}
 use Rattle.plan_base.specs.declared.ids.ArcId.{ArcId}
 use Rattle.plan_base.specs.declared.parts.Parts.{Parts}
@@ -85,9 +85,13 @@ design_text net p None = codes "none\n"
 design_text net p (Some design) =
     cost_text design.0 ++ codes "\n" ++ link_lines net p design.1 (length p.links) ++ demand_lines net design.1 (length p.demands)
 
--- the text of a report: what the plan claims, and its design by the names of the network
+-- the line of the count of cuts, where there is a cut
+unfoldable pub cuts_text : ℕ → List ℕ
+cuts_text count = if nat_lt 0 count then codes "CUTS" ++ numbers (count ∷ []) ++ codes "\n" else []
+
+-- the text of a report: what the plan claims, how many cuts it has, and its design by the names of the network
 abbrev pub report_text : NetworkFile → Parts → Plan → List ℕ
-report_text net p plan = codes "STATUS " ++ status_word plan.status ++ codes "\nCOST " ++ design_text net p plan.design
+report_text net p plan = codes "STATUS " ++ status_word plan.status ++ codes "\n" ++ cuts_text (length plan.cuts) ++ codes "COST " ++ design_text net p plan.design
 
 -- ---- trials
 

@@ -7,7 +7,7 @@ use Rattle.proof_tree.specs.declared.plan.PlanStatus.{PlanStatus}
 use Rattle.proof_tree.specs.declared.plan.PlanStatus.TheVariants.{Optimal, Infeasible, Undecided}
 use Rattle.proof_tree.specs.declared.plan.Plan.{Plan}
 use Rattle.cert_verifier.specs.declared.rejected.Rejected.{Rejected}
-use Rattle.cert_verifier.specs.declared.rejected.Rejected.TheVariants.{Design, Cost, Split, Leaf, Counts, Bound, Kind, OutOfMemory, Size, Budget}
+use Rattle.cert_verifier.specs.declared.rejected.Rejected.TheVariants.{Design, Cost, Split, Leaf, Counts, Bound, Kind, OutOfMemory, Size, Budget, Cuts}
 use Rattle.scaled_numbers.specs.Canonical.{grains_text}
 use Rattle.plan_report.specs.Lines.{line}
 use Rattle.plan_report.specs.declared.verdict_lines.TheConstants.{COST_SCALE}
@@ -78,6 +78,7 @@ rejected_line (Kind index) = rejected (7 ∷ index ∷ [])
 rejected_line OutOfMemory = rejected (8 ∷ [])
 rejected_line Size = rejected (9 ∷ [])
 rejected_line (Budget examined budget) = rejected (10 ∷ examined ∷ budget ∷ [])
+rejected_line (Cuts index) = rejected (11 ∷ index ∷ [])
 
 -- the line of a verdict
 abbrev pub verdict_line : {A : Type 0} → Plan → Result A Rejected → List ℕ

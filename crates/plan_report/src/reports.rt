@@ -6,10 +6,10 @@ ghost use Rattle.plan_base.specs.Arcs.{link_of};
 ghost use Rattle.plan_base.specs.Places.{there_of, back_of};
 ghost use Rattle.plan_base.specs.Designs.{load_at, link_cost, IsGoodDesign};
 ghost use Rattle.proof_tree.specs.Plans.{IsValidPlan};
-ghost use Rattle.plan_report.specs.Reports.{IsReadFrom, HasNames, back_text, traffic_text, installed_text, link_line, way_text, demand_line, link_lines, demand_lines, design_text, report_text};
+ghost use Rattle.plan_report.specs.Reports.{IsReadFrom, HasNames, back_text, traffic_text, installed_text, link_line, way_text, demand_line, link_lines, demand_lines, design_text, cuts_text, report_text};
 
 use crate::check_lines::LOAD_SCALE;
-use crate::numbers::push_numbers;
+use crate::numbers::{push_number, push_numbers};
 use crate::verdict_lines::{COST_SCALE, status_word};
 use plan_base::limits::MAX_PLACES;
 use plan_base::{
@@ -221,9 +221,22 @@ fn push_design(
     }
 }
 
-/// The text of a report on a valid plan: what it claims, its cost, and, where it has a design, for each link
-/// its load or its two loads, its capacity, how often each module is installed and what it costs, and for each
-/// demand the links of its path.
+/// Writes how many cuts there are, where there is one.
+#[tactic(auto, unfolding(crate::specs::Reports::cuts_text))]
+fn push_cuts(text: &mut Vec<u8>, count: usize) -> Result<(), AllocError>
+    ensures { OnOk result (text.new.items ≡ text.old.items ++ cuts_text count) }
+{
+    if count > 0 {
+        text.extend_from_slice(b"CUTS")?;
+        push_number(text, count as u64)?;
+        text.push(b'\n')?;
+    }
+    Ok(())
+}
+
+/// The text of a report on a valid plan: what it claims, how many cuts it has, where it has some, its cost, and, where it has a
+/// design, for each link its load or its two loads, its capacity, how often each module is installed and what it costs, and
+/// for each demand the links of its path.
 ///
 /// - Takes: the network, the instance that it stands for, and a valid plan of the instance.
 /// - Errors: want of memory alone.
@@ -241,7 +254,9 @@ pub fn report_text(
 {
     let mut text = Vec::from_slice(alloc, b"STATUS ")?;
     text.extend_from_slice(status_word(plan.status))?;
-    text.extend_from_slice(b"\nCOST ")?;
+    text.push(b'\n')?;
+    push_cuts(&mut text, plan.cuts.len())?;
+    text.extend_from_slice(b"COST ")?;
     push_design(&mut text, net, inst, plan)?;
     Ok(text)
 }

@@ -147,6 +147,7 @@ fn rejected_line(alloc: Global, fault: Rejected) -> Result<Vec<u8>, AllocError>
                 &[10, u64::from(examined), u64::from(budget)],
             )
         }
+        Rejected::Cuts { index } => line(alloc, REJECTED, &[11, u64::from(index)]),
     }
 }
 

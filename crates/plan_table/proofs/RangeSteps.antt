@@ -10,7 +10,9 @@ use Rattle.snd_network.specs.declared.file.NetworkFile.{NetworkFile}
 use Rattle.proof_tree.specs.declared.tree.TreeNode.{TreeNode}
 use Rattle.proof_tree.specs.declared.tree.TreeNode.TheVariants.{Split, Loads, Leaf}
 use Rattle.proof_tree.specs.Regions.{Region, whole}
-use Rattle.proof_tree.specs.Trees.{children_at, IsValidRecord, AreValidTrees, IsValidTree}
+use Rattle.proof_tree.specs.declared.cuts.Cut.{Cut}
+use Rattle.proof_tree.specs.Trees.{children_at}
+use Rattle.proof_tree.specs.RatedTrees.{IsRatedRecord, AreRatedTrees, IsRatedTree}
 use Rattle.proof_tree.proofs.RangeLaws.{split-inside, AreRanges-up_to, AreRanges-above}
 use Rattle.plan_table.specs.Tables.{leaf_ranges, tree_ranges}
 use Rattle.plan_table.specs.Pending.{IsDivisible, children_last}
@@ -24,87 +26,87 @@ abbrev HaveRanges : Parts → List Region → Type 0
 HaveRanges p gs = AllByRecursion (λ g. AreRanges p g.ranges) gs
 
 -- the records are valid trees at regions, whose ranges are pending, the next ones last; with the lines of these trees this text is the whole
-pub record IsLeft (net : NetworkFile) (p : Parts) (cost : Option ℕ) (i : ℕ) (pending : List (List LoadRange)) (nodes : List TreeNode) (text all : List ℕ) : Type 0 where
+pub record IsLeft (net : NetworkFile) (p : Parts) (cuts : List Cut) (cost : Option ℕ) (i : ℕ) (pending : List (List LoadRange)) (nodes : List TreeNode) (text all : List ℕ) : Type 0 where
   pub regions : List Region
-  pub valid : AreValidTrees p cost regions nodes
+  pub valid : AreRatedTrees p cuts cost regions nodes
   pub have_ranges : HaveRanges p regions
   pub are_pending : ranges_of regions ≡ reverse pending
   pub lines : text ++ tree_ranges net p i regions nodes ≡ all
 
 -- the next ranges are those of a region, at which the record is valid
-record IsNext (net : NetworkFile) (p : Parts) (cost : Option ℕ) (i : ℕ) (pending : List (List LoadRange)) (ranges : List LoadRange) (node : TreeNode) (nodes : List TreeNode) (text all : List ℕ) : Type 0 where
+record IsNext (net : NetworkFile) (p : Parts) (cuts : List Cut) (cost : Option ℕ) (i : ℕ) (pending : List (List LoadRange)) (ranges : List LoadRange) (node : TreeNode) (nodes : List TreeNode) (text all : List ℕ) : Type 0 where
   region : Region
   others : List Region
-  valid : IsValidRecord p cost region node
-  later : AreValidTrees p cost (children_at region node ++ others) nodes
+  valid : IsRatedRecord p cuts cost region node
+  later : AreRatedTrees p cuts cost (children_at region node ++ others) nodes
   here : AreRanges p region.ranges
   there : HaveRanges p others
   same : region.ranges ≡ ranges
   pending_is : ranges_of others ≡ reverse pending
   lines : text ++ (leaf_ranges net p i region.ranges node ++ tree_ranges net p (i + 1) (children_at region node ++ others) nodes) ≡ all
 
-next : (net : NetworkFile) (p : Parts) (cost : Option ℕ) (i : ℕ) (pending : List (List LoadRange)) (ranges : List LoadRange) (node : TreeNode) (nodes : List TreeNode) (text all : List ℕ)
-    → IsLeft net p cost i (pending ++ ranges ∷ []) (node ∷ nodes) text all → IsNext net p cost i pending ranges node nodes text all
+next : (net : NetworkFile) (p : Parts) (cuts : List Cut) (cost : Option ℕ) (i : ℕ) (pending : List (List LoadRange)) (ranges : List LoadRange) (node : TreeNode) (nodes : List TreeNode) (text all : List ℕ)
+    → IsLeft net p cuts cost i (pending ++ ranges ∷ []) (node ∷ nodes) text all → IsNext net p cuts cost i pending ranges node nodes text all
 unfolding tree_ranges
-next net p cost i pending ranges node nodes text all h = by h.regions h.valid h.have_ranges (h.are_pending ∙ reverse-append pending (ranges ∷ [])) h.lines
+next net p cuts cost i pending ranges node nodes text all h = by h.regions h.valid h.have_ranges (h.are_pending ∙ reverse-append pending (ranges ∷ [])) h.lines
   where
-    by : (gs : List Region) → AreValidTrees p cost gs (node ∷ nodes) → HaveRanges p gs → ranges_of gs ≡ ranges ∷ reverse pending → text ++ tree_ranges net p i gs (node ∷ nodes) ≡ all → IsNext net p cost i pending ranges node nodes text all
+    by : (gs : List Region) → AreRatedTrees p cuts cost gs (node ∷ nodes) → HaveRanges p gs → ranges_of gs ≡ ranges ∷ reverse pending → text ++ tree_ranges net p i gs (node ∷ nodes) ≡ all → IsNext net p cuts cost i pending ranges node nodes text all
     by [] valid have are lines = absurd cc
     by (g ∷ gs) valid have are lines = record { region = g; others = gs; valid = valid.0; later = valid.1; here = have.0; there = have.1; same = cc; pending_is = cc; lines = lines }
 
-divisible : (p : Parts) (cost : Option ℕ) (g : Region) (node : TreeNode) → IsValidRecord p cost g node → IsDivisible g.ranges node
-divisible p cost g (Split demand at left right) valid = tt
-divisible p cost g (Loads place load) valid = (split-inside p g.ranges place load valid, valid.some_right)
-divisible p cost g (Leaf evidence) valid = tt
+divisible : (p : Parts) (cuts : List Cut) (cost : Option ℕ) (g : Region) (node : TreeNode) → IsRatedRecord p cuts cost g node → IsDivisible g.ranges node
+divisible p cuts cost g (Split demand at left right) valid = tt
+divisible p cuts cost g (Loads place load) valid = (split-inside p g.ranges place load valid, valid.some_right)
+divisible p cuts cost g (Leaf evidence) valid = tt
 
 -- what the next record needs: as many ranges as there are places, and that it can split its own
 pub record IsReady (p : Parts) (ranges : List LoadRange) (node : TreeNode) : Type 0 where
   pub count : length ranges ≡ places p
   pub is_divisible : IsDivisible ranges node
 
-pub ready : (net : NetworkFile) (p : Parts) (cost : Option ℕ) (i : ℕ) (pending : List (List LoadRange)) (ranges : List LoadRange) (node : TreeNode) (nodes : List TreeNode) (text all : List ℕ)
-    → IsLeft net p cost i (pending ++ ranges ∷ []) (node ∷ nodes) text all → IsReady p ranges node
-ready net p cost i pending ranges node nodes text all h =
-    let n = next net p cost i pending ranges node nodes text all h in
+pub ready : (net : NetworkFile) (p : Parts) (cuts : List Cut) (cost : Option ℕ) (i : ℕ) (pending : List (List LoadRange)) (ranges : List LoadRange) (node : TreeNode) (nodes : List TreeNode) (text all : List ℕ)
+    → IsLeft net p cuts cost i (pending ++ ranges ∷ []) (node ∷ nodes) text all → IsReady p ranges node
+ready net p cuts cost i pending ranges node nodes text all h =
+    let n = next net p cuts cost i pending ranges node nodes text all h in
     record {
       count = subst (λ (r : List LoadRange). length r ≡ places p) n.same n.here.count;
-      is_divisible = subst (λ (r : List LoadRange). IsDivisible r node) n.same (divisible p cost n.region node n.valid);
+      is_divisible = subst (λ (r : List LoadRange). IsDivisible r node) n.same (divisible p cuts cost n.region node n.valid);
     }
 
 -- ---- one record on
 
 -- the record of this place is the first of those that are left
-pub at_record : (net : NetworkFile) (p : Parts) (cost : Option ℕ) (i : ℕ) (held pending : List (List LoadRange)) (ranges : List LoadRange) (node : TreeNode) (nodes : List TreeNode) (text all : List ℕ)
-    → IsLeft net p cost i held (drop i nodes) text all → held ≡ pending ++ ranges ∷ [] → i < length nodes → node ≡ get_or nodes i node → IsLeft net p cost i (pending ++ ranges ∷ []) (node ∷ drop (i + 1) nodes) text all
-at_record net p cost i held pending ranges node nodes text all h is_held within is_node =
+pub at_record : (net : NetworkFile) (p : Parts) (cuts : List Cut) (cost : Option ℕ) (i : ℕ) (held pending : List (List LoadRange)) (ranges : List LoadRange) (node : TreeNode) (nodes : List TreeNode) (text all : List ℕ)
+    → IsLeft net p cuts cost i held (drop i nodes) text all → held ≡ pending ++ ranges ∷ [] → i < length nodes → node ≡ get_or nodes i node → IsLeft net p cuts cost i (pending ++ ranges ∷ []) (node ∷ drop (i + 1) nodes) text all
+at_record net p cuts cost i held pending ranges node nodes text all h is_held within is_node =
     let first : drop i nodes ≡ node ∷ drop (i + 1) nodes = drop_more nodes i node within ∙ ap (λ (n : TreeNode). n ∷ drop (i + 1) nodes) (sym is_node) in
-    subst (λ (ns : List TreeNode). IsLeft net p cost i (pending ++ ranges ∷ []) ns text all) first
-    (subst (λ (rs : List (List LoadRange)). IsLeft net p cost i rs (drop i nodes) text all) is_held h)
+    subst (λ (ns : List TreeNode). IsLeft net p cuts cost i (pending ++ ranges ∷ []) ns text all) first
+    (subst (λ (rs : List (List LoadRange)). IsLeft net p cuts cost i rs (drop i nodes) text all) is_held h)
 
 children-ranges : (g : Region) (node : TreeNode) → ranges_of (children_at g node) ≡ reverse (children_last g.ranges node)
 children-ranges g (Split demand at left right) = refl
 children-ranges g (Loads place load) = refl
 children-ranges g (Leaf evidence) = refl
 
-have-children : (p : Parts) (cost : Option ℕ) (g : Region) (node : TreeNode) → IsValidRecord p cost g node → AreRanges p g.ranges → HaveRanges p (children_at g node)
-have-children p cost g (Split demand at left right) valid are = (are, (are, tt))
-have-children p cost g (Loads place load) valid are = (AreRanges-up_to p g place load valid are, (AreRanges-above p g place load valid are, tt))
-have-children p cost g (Leaf evidence) valid are = tt
+have-children : (p : Parts) (cuts : List Cut) (cost : Option ℕ) (g : Region) (node : TreeNode) → IsRatedRecord p cuts cost g node → AreRanges p g.ranges → HaveRanges p (children_at g node)
+have-children p cuts cost g (Split demand at left right) valid are = (are, (are, tt))
+have-children p cuts cost g (Loads place load) valid are = (AreRanges-up_to p g place load valid are, (AreRanges-above p g place load valid are, tt))
+have-children p cuts cost g (Leaf evidence) valid are = tt
 
 have-both : (p : Parts) (gs hs : List Region) → HaveRanges p gs → HaveRanges p hs → HaveRanges p (gs ++ hs)
 have-both p [] hs one other = other
 have-both p (g ∷ gs) hs one other = (one.0, have-both p gs hs one.1 other)
 
-pub one_on : (net : NetworkFile) (p : Parts) (cost : Option ℕ) (i : ℕ) (pending after : List (List LoadRange)) (ranges : List LoadRange) (node : TreeNode) (nodes : List TreeNode) (text new all : List ℕ)
-    → IsLeft net p cost i (pending ++ ranges ∷ []) (node ∷ nodes) text all → new ≡ text ++ leaf_ranges net p i ranges node → after ≡ pending ++ children_last ranges node
-    → IsLeft net p cost (i + 1) after nodes new all
-one_on net p cost i pending after ranges node nodes text new all h is_new is_after =
-    let n = next net p cost i pending ranges node nodes text all h in
+pub one_on : (net : NetworkFile) (p : Parts) (cuts : List Cut) (cost : Option ℕ) (i : ℕ) (pending after : List (List LoadRange)) (ranges : List LoadRange) (node : TreeNode) (nodes : List TreeNode) (text new all : List ℕ)
+    → IsLeft net p cuts cost i (pending ++ ranges ∷ []) (node ∷ nodes) text all → new ≡ text ++ leaf_ranges net p i ranges node → after ≡ pending ++ children_last ranges node
+    → IsLeft net p cuts cost (i + 1) after nodes new all
+one_on net p cuts cost i pending after ranges node nodes text new all h is_new is_after =
+    let n = next net p cuts cost i pending ranges node nodes text all h in
     let regions : List Region = children_at n.region node ++ n.others in
     record {
       regions = regions;
       valid = n.later;
-      have_ranges = have-both p (children_at n.region node) n.others (have-children p cost n.region node n.valid n.here) n.there;
+      have_ranges = have-both p (children_at n.region node) n.others (have-children p cuts cost n.region node n.valid n.here) n.there;
       are_pending = map-append (λ (g : Region). g.ranges) (children_at n.region node) n.others
           ∙ ap (λ (rs : List (List LoadRange)). rs ++ ranges_of n.others) (children-ranges n.region node ∙ ap (λ (r : List LoadRange). reverse (children_last r node)) n.same)
           ∙ ap (λ (rs : List (List LoadRange)). reverse (children_last ranges node) ++ rs) n.pending_is
@@ -118,9 +120,9 @@ one_on net p cost i pending after ranges node nodes text new all h is_new is_aft
 whole-ranges : (p : Parts) → AreRanges p (whole_ranges p) → HaveRanges p (whole p ∷ [])
 whole-ranges p are = (are, tt)
 
-pub at_root : (net : NetworkFile) (p : Parts) (cost : Option ℕ) (nodes : List TreeNode) (pending : List (List LoadRange)) (ranges : List LoadRange) (text : List ℕ)
-    → IsValidTree p cost nodes → AreRanges p ranges → ranges ≡ whole_ranges p → pending ≡ ranges ∷ [] → IsLeft net p cost 0 pending nodes text (text ++ tree_ranges net p 0 (whole p ∷ []) nodes)
-at_root net p cost nodes pending ranges text valid are is is_pending = record {
+pub at_root : (net : NetworkFile) (p : Parts) (cuts : List Cut) (cost : Option ℕ) (nodes : List TreeNode) (pending : List (List LoadRange)) (ranges : List LoadRange) (text : List ℕ)
+    → IsRatedTree p cuts cost nodes → AreRanges p ranges → ranges ≡ whole_ranges p → pending ≡ ranges ∷ [] → IsLeft net p cuts cost 0 pending nodes text (text ++ tree_ranges net p 0 (whole p ∷ []) nodes)
+at_root net p cuts cost nodes pending ranges text valid are is is_pending = record {
   regions = whole p ∷ [];
   valid = valid;
   have_ranges = whole-ranges p (subst (λ (r : List LoadRange). AreRanges p r) is are);
@@ -129,17 +131,17 @@ at_root net p cost nodes pending ranges text valid are is is_pending = record {
 }
 
 -- where no ranges are pending, or no records are left, all lines are written
-pub none_pending : (net : NetworkFile) (p : Parts) (cost : Option ℕ) (i : ℕ) (pending : List (List LoadRange)) (nodes : List TreeNode) (text all : List ℕ) → IsLeft net p cost i pending nodes text all → pending ≡ [] → text ≡ all
+pub none_pending : (net : NetworkFile) (p : Parts) (cuts : List Cut) (cost : Option ℕ) (i : ℕ) (pending : List (List LoadRange)) (nodes : List TreeNode) (text all : List ℕ) → IsLeft net p cuts cost i pending nodes text all → pending ≡ [] → text ≡ all
 unfolding tree_ranges
-none_pending net p cost i pending nodes text all h none = by h.regions (h.are_pending ∙ ap (λ (rs : List (List LoadRange)). reverse rs) none) h.lines
+none_pending net p cuts cost i pending nodes text all h none = by h.regions (h.are_pending ∙ ap (λ (rs : List (List LoadRange)). reverse rs) none) h.lines
   where
     by : (gs : List Region) → ranges_of gs ≡ [] → text ++ tree_ranges net p i gs nodes ≡ all → text ≡ all
     by [] are lines = sym (append-nil text) ∙ lines
     by (g ∷ gs) are lines = absurd cc
 
-pub no_records : (net : NetworkFile) (p : Parts) (cost : Option ℕ) (i : ℕ) (pending : List (List LoadRange)) (nodes : List TreeNode) (text all : List ℕ) → IsLeft net p cost i pending (drop i nodes) text all → length nodes ≤ i → text ≡ all
+pub no_records : (net : NetworkFile) (p : Parts) (cuts : List Cut) (cost : Option ℕ) (i : ℕ) (pending : List (List LoadRange)) (nodes : List TreeNode) (text all : List ℕ) → IsLeft net p cuts cost i pending (drop i nodes) text all → length nodes ≤ i → text ≡ all
 unfolding tree_ranges
-no_records net p cost i pending nodes text all h ended = by h.regions (ap (λ (ns : List TreeNode). text ++ tree_ranges net p i h.regions ns) (sym (drop_all i nodes ended)) ∙ h.lines)
+no_records net p cuts cost i pending nodes text all h ended = by h.regions (ap (λ (ns : List TreeNode). text ++ tree_ranges net p i h.regions ns) (sym (drop_all i nodes ended)) ∙ h.lines)
   where
     by : (gs : List Region) → text ++ tree_ranges net p i gs [] ≡ all → text ≡ all
     by [] lines = sym (append-nil text) ∙ lines

@@ -5,7 +5,7 @@ ghost use Rattle.plan_base.specs.Places.{places};
 ghost use Rattle.link_steps.specs.Ranges.{range_at, ends_at, begins_at, with_range};
 ghost use Rattle.proof_tree.specs.Regions.{whole};
 ghost use Rattle.proof_tree.specs.Plans.{stated_cost};
-ghost use Rattle.proof_tree.specs.Trees.{IsValidTree};
+ghost use Rattle.proof_tree.specs.RatedTrees.{IsRatedTree};
 ghost use Rattle.plan_table.specs.Pending.{IsDivisible, children_last};
 ghost use Rattle.plan_table.specs.Tables.{is_whole, is_back, place_ends, range_head, range_fields, range_line, range_row, range_rows, leaf_ranges, tree_ranges};
 
@@ -229,7 +229,7 @@ pub fn push_ranges(
     plan: &Plan,
 ) -> Result<(), AllocError>
     requires nodes { length net.now.nodes ≡ inst.now.nodes }
-    requires valid { IsValidTree inst.now (stated_cost plan.now) plan.now.tree }
+    requires valid { IsRatedTree inst.now plan.now.cuts (stated_cost plan.now) plan.now.tree }
     ensures { OnOk result (text.new.items ≡ text.old.items ++ tree_ranges net.now inst.now 0 (whole inst.now ∷ []) plan.now.tree) }
 {
     let nodes = plan.tree.nodes();
