@@ -17,11 +17,10 @@ pub record ArePrices (p : Parts) (prices : List ℕ) : Type 0 where
   pub count : length prices ≡ places p
   pub within : AreWithinLimit p prices
 
--- a load for each place, a cost for each link, and weights for each demand
+-- a load for each place, and a cost for each link
 pub record HaveSizes (p : Parts) (averages : Averages) : Type 0 where
   pub loads : length averages.loads ≡ places p
   pub costs : length averages.costs ≡ length p.links
-  pub weights : length averages.weights ≡ length p.demands
 
 -- prices whose restricted value is at least that of the old ones
 pub record IsAscent (p : Parts) (ranges : List LoadRange) (choices : Choices) (prices : List ℕ) (ascent : Ascent) : Type 0 where

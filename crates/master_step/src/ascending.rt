@@ -16,7 +16,7 @@ use crate::share::Share;
 use crate::source::Source;
 use crate::valuing::value_of;
 use column_pool::Brief;
-use link_steps::{LinkRanges, Ranges, StepTable};
+use link_steps::{LinkRanges, LinkValue, Ranges, StepTable};
 use plan_base::{Instance, Items, LinkId, Path, Prices};
 use std::alloc::{AllocError, Global};
 
@@ -38,8 +38,8 @@ pub struct Turn {
     pub other: u128,
 }
 
-/// The value of the link at this price of the place, in thousandths of a cost grain.
-fn value_in(table: &StepTable, turn: Turn, price: u128) -> i128
+/// What the link has at this price of the place.
+fn found_at(table: &StepTable, turn: Turn, price: u128) -> LinkValue
     requires turn { IsTurn table.now turn }
     requires price { price ≤ price_limit table.now }
 {
@@ -48,7 +48,7 @@ fn value_in(table: &StepTable, turn: Turn, price: u128) -> i128
     } else {
         (price, turn.other)
     };
-    table.link_value(turn.link, turn.ranges, there, back).value
+    table.link_value(turn.link, turn.ranges, there, back)
 }
 
 /// The part of the restricted value that the price of this place decides.
@@ -58,15 +58,27 @@ fn worth(table: &StepTable, turn: Turn, share: &Share, price: u128) -> i128
 {
     share
         .income(price)
-        .saturating_add(value_in(table, turn, price))
+        .saturating_add(found_at(table, turn, price).value)
 }
 
-/// Whether the next higher price is worth more.
+/// The load that the place has where the link has this value, in load grains.
+fn load_of(turn: Turn, found: LinkValue) -> i128 {
+    i128::from(if turn.is_back { found.back } else { found.load })
+}
+
+/// Whether the next higher price is worth more: it brings in more by the loads that stay, and the value of the link falls by
+/// at least the load that the place has.
 fn rises(table: &StepTable, turn: Turn, share: &Share, price: u128) -> bool
     requires turn { IsTurn table.now turn }
     requires price { price < price_limit table.now }
 {
-    worth(table, turn, share, price) < worth(table, turn, share, price + 1)
+    let rise = share.rise(price);
+    let found = found_at(table, turn, price);
+    if rise <= load_of(turn, found) {
+        return false;
+    }
+    let next = found_at(table, turn, price + 1);
+    found.value.saturating_sub(next.value) < rise
 }
 
 /// The prices from which to which to look for the best one up to a limit: it is mostly near the one that is moved.

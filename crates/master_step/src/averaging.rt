@@ -161,7 +161,6 @@ impl Work {
         Ok(Averages {
             loads: recent_loads(alloc, inst, self.means.as_slice())?,
             costs: self.link_costs(alloc, inst)?,
-            weights: self.choices.weights(alloc, inst)?,
         })
     }
 }
@@ -215,7 +214,7 @@ fn take_turn(
 {
     let values = fill_values(inst, table, ranges, prices, parts.recent, work);
     let loads = work.column_loads.as_mut_slice();
-    let priced = work.choices.fill(prices.as_slice(), parts.recent, loads);
+    let priced = work.choices.fill(prices.as_slice(), loads);
     work.move_means(parts);
     i128::try_from(priced)
         .unwrap_or(i128::MAX)

@@ -1,4 +1,4 @@
-//! How many trials a step makes.
+//! How many trials a master step makes, and how many turns an averaged ascent.
 
 /// The trials of a master step: each after the first moves prices half as far as the one before.
 pub const MAX_TRIALS: u32 = 24;

@@ -13,8 +13,6 @@ pub struct Averages {
     pub loads: Items<u64>,
     /// For each link the module cost of such loads, in cost grains.
     pub costs: Items<u128>,
-    /// For each demand and each of its columns how often it was the least, `2^30` for always.
-    pub weights: Items<Items<u128>>,
 }
 
 /// The average, moved towards the newest number by so many 64ths, rounded down. Numbers are below 2^120, so nothing passes

@@ -56,6 +56,17 @@ impl Share {
         Ok(())
     }
 
+    /// By how much one more than this price brings in more, in thousandths of a cost grain.
+    pub(crate) fn rise(&self, price: u128) -> i128 {
+        let mut total = self.held;
+        for tie in &self.ties {
+            if tie.price > price {
+                total = total.saturating_add(tie.load);
+            }
+        }
+        i128::try_from(total).unwrap_or(i128::MAX)
+    }
+
     /// What the price brings in, up to the greatest number, in thousandths of a cost grain.
     pub(crate) fn income(&self, price: u128) -> i128 {
         let mut total = self.held.saturating_mul(price);
