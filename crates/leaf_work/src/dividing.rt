@@ -10,10 +10,18 @@ use link_steps::{LoadRange, Ranges, StepTable};
 use master_step::Averages;
 use plan_base::Instance;
 
-/// A split, and by how much the cost of the step that it cuts off is above the averaged one, in cost grains.
+/// A split, and how much is expected of it.
 struct Candidate {
     split: LoadSplit,
-    gap: u128,
+    /// By how much the cost of the step that it cuts off is above the averaged one, in cost grains, times a weight.
+    worth: u128,
+}
+
+/// The weight of a split: five times the averaged load that lies in the step that it cuts off, in 64ths of the width of this
+/// step, at least 1 and at most 64. Where little does, the left child has little to move, and its bound hardly rises.
+fn weight(above: u64, width: u64) -> u128 {
+    let parts = 320 * u128::from(above) / u128::from(width.max(1));
+    parts.min(64).max(1)
 }
 
 /// The load of a range that is nearest to this one, in load grains.
@@ -50,12 +58,19 @@ fn candidate_at(
     if end < range.least {
         return None;
     }
-    let split = LoadSplit { place, load: end };
-    let gap = cost - mean;
-    Some(Candidate { split, gap })
+    let rest = LoadRange {
+        least: load,
+        most: range.most,
+    };
+    let reach = table.first_step_end(link, rest).unwrap_or(range.most);
+    let weight = weight(load.saturating_sub(end), reach.saturating_sub(end));
+    Some(Candidate {
+        split: LoadSplit { place, load: end },
+        worth: (cost - mean).saturating_mul(weight),
+    })
 }
 
-/// The split at the place whose averaged load needs a step furthest above the averaged cost, the first of equal ones.
+/// The split of the greatest worth, the first of equal ones.
 fn load_split(
     inst: &Instance,
     table: &StepTable,
@@ -69,9 +84,11 @@ fn load_split(
     let mut most: u128 = 0;
     let mut found = None;
     for place in 0..inst.places() {
-        if let Some(Candidate { split, gap }) = candidate_at(inst, table, ranges, averages, place) {
-            if gap > most {
-                most = gap;
+        if let Some(Candidate { split, worth }) = candidate_at(
+            inst, table, ranges, averages, place,
+        ) {
+            if worth > most {
+                most = worth;
                 found = Some(split);
             }
         }

@@ -1,10 +1,10 @@
 //! What one task of the search computes, without the pool: what a demand finds under prices, a design for the paths of a
-//! round, paths within limits for it, and what follows the version of a brief.
+//! round, paths within limits for it, and what follows the version of a brief: further prices, and a split of its node.
 //!
-//! Promises that what is found fits, as an offer has to, and that a design is good. Begin at `find`, `Guide::find`,
-//! `paths_within`, `new_design` and `next_step`. Stands on `plan_base`, `link_steps`, `arc_restrict`, `path_pricing`,
-//! `hop_pricing`, `column_pool`, `master_step`, `completions` and `incumbent`. What is done with it is left to
-//! `pool_core`: nothing here is believed there without a test.
+//! Promises that what is found fits, as an offer has to, and that a design is good; of a split it promises nothing. Begin
+//! at `find`, `Guide::find`, `paths_within`, `new_design` and `next_step`. Stands on `plan_base`, `link_steps`,
+//! `arc_restrict`, `path_pricing`, `hop_pricing`, `column_pool`, `proof_tree`, `branch_tree`, `master_step`, `completions`
+//! and `incumbent`. What is done with it is left to `pool_core`: nothing here is believed there without a test.
 #![tactic(auto)]
 
 mod advancing;
