@@ -21,16 +21,19 @@ word_of rows k a = place_of rows.arcs (slice_index rows.row_of k - 1) a
 abbrev pub is_set : Rows → ℕ → ArcId → Bool
 is_set rows k a = bit_at (slice_index rows.words (word_of rows k a)) (a.0 % 64) == 1
 
+-- to a demand without a row no arc is forbidden
 pub forbids-without_row : (rows : Rows) (k : ℕ) (a : ArcId) → slice_index rows.row_of k ≡ 0 → forbids rows k a ≡ false
 unfolding forbids
 forbids-without_row rows k a none =
     let first : nat_lt 0 (slice_index rows.row_of k) ≡ false = rw none refl in
     and_left _ _ first
 
+-- arcs beyond the instance are not forbidden
 pub forbids-past_arcs : (rows : Rows) (k : ℕ) (a : ArcId) → rows.arcs ≤ a.0 → forbids rows k a ≡ false
 unfolding forbids
 forbids-past_arcs rows k a h = and_right _ _ (and_left _ _ (le-ltb a.0 rows.arcs h))
 
+-- to a demand with a row an arc is forbidden exactly where its bit is set
 pub forbids-within : (rows : Rows) (k : ℕ) (a : ArcId) → 0 < slice_index rows.row_of k → a.0 < rows.arcs → forbids rows k a ≡ is_set rows k a
 unfolding forbids
 forbids-within rows k a has arc =

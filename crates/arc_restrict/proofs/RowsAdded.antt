@@ -114,6 +114,7 @@ module _ (rows : Rows) (used room : ℕ) (kept : IsKept rows used room) (k : ℕ
     ]
   ]
 
+  -- with a row more the rows are kept, with one row more used
   pub IsKept-with_row : IsKept (with_row rows used k) (used + 1) room
   IsKept-with_row = record {
     few_demands = kept.few_demands;

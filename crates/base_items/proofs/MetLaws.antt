@@ -4,6 +4,7 @@ use Rattle.std.proofs.Math.ListN.{set}
 use Rattle.std.proofs.lemmas.List.{get_or-set_same, get_or-set_other}
 use Rattle.std.proofs.lemmas.Bool.{eq-eqb, ne_eqb}
 
+-- a row of zeros has 0 at each place
 pub zeros : (k n : ℕ) → slice_index (replicate k 0) n ≡ 0
 zeros zero n = refl
 zeros (suc k) zero = refl
@@ -13,6 +14,7 @@ zeros (suc k) (suc n) = zeros k n
 pub zeros-none : (k n : ℕ) → (slice_index (replicate k 0) n == 1) ≡ false
 zeros-none k n = ne_eqb _ _ (λ same. absurd (omega (arith, zeros k n)))
 
+-- no stamp of a new row is above the first stamp of a walk
 pub zeros-low : (k n : ℕ) → slice_index (replicate k 0) n ≤ 1
 zeros-low k n = omega (arith, zeros k n)
 
@@ -38,6 +40,7 @@ stamped xs i n stamp within = elim (same_or_not n i) [
       rw (there, ne_eqb i n (λ same. other (sym same))) (sym (or-false (slice_index xs n == stamp))))
 ]
 
+-- a stamp that is set keeps all stamps at most the newest
 pub stamped-low : (xs : List ℕ) (i n stamp : ℕ) → i < length xs → slice_index xs n ≤ stamp → slice_index (set xs i stamp) n ≤ stamp
 stamped-low xs i n stamp within low = elim (same_or_not n i) [
   | inl same ↦
@@ -52,4 +55,5 @@ stamped-low xs i n stamp within low = elim (same_or_not n i) [
 pub new_stamp : (xs : List ℕ) (n stamp : ℕ) → slice_index xs n ≤ stamp → (slice_index xs n == stamp + 1) ≡ false
 new_stamp xs n stamp low = ne_eqb _ _ (λ same. absurd (omega arith))
 
+-- what setting a stamp and beginning a walk do to a row of stamps
 pub ruleset met_laws = (stamped, stamped-low, new_stamp)

@@ -26,6 +26,7 @@ no_more first v before left same sums old h =
     let s = sums h in
     let p = ap (weigh h) same in omega arith
 
+-- where each worker has every part, the last has and so have the others
 pub whole_fewer : (ws fewer : List OwnerOf) (w : OwnerOf) → ws ≡ fewer ++ w ∷ [] → AreWhole ws → IsWhole w × AreWhole fewer
 whole_fewer ws fewer w is all =
     let all' : AreWhole (fewer ++ w ∷ []) = subst AreWhole is all in

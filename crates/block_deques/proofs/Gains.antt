@@ -13,13 +13,16 @@ use Rattle.block_deques.specs.Gathers.{adds, known, known_to, known_in, known_in
 use Rattle.block_deques.proofs.Moves.{weigh-append}
 use Rattle.block_deques.proofs.Places.{some_same, item_there, got_last, got_longer, set_cases, there}
 
+-- a sum over two lists is the sums of both
 pub adds-append : {A : Type 0} (f : A → ℕ) (xs ys : List A) → adds f (xs ++ ys) ≡ adds f xs + adds f ys
 adds-append f [] ys = omega arith
 adds-append f (x ∷ xs) ys = let r = adds-append f xs ys in omega arith
 
+-- the last item adds its part to the sum
 pub adds_last : {A : Type 0} (f : A → ℕ) (xs ys : List A) (x : A) → xs ≡ ys ++ x ∷ [] → adds f xs ≡ adds f ys + f x
 adds_last f xs ys x is = let e = adds-append f ys (x ∷ []) in let i = ap (adds f) is in omega arith
 
+-- a sum over a list of which one item changes
 pub adds-set : {A : Type 0} (f : A → ℕ) (xs : List A) (i : ℕ) (x y : A) → slice_get xs i ≡ Some x → adds f (set xs i y) + f x ≡ adds f xs + f y
 adds-set f [] i x y at = absurd (cc at)
 adds-set f (z ∷ xs) zero x y at = let e = ap f (some_same z x at) in omega arith
@@ -37,12 +40,15 @@ adds_alike f g (x ∷ xs) (y ∷ ys) e same =
 known-both : (h : Block → ℕ) (v u : Hand) → known h (both v u) ≡ known h v + known h u
 known-both h v u = omega (arith, weigh-append h v.joined (u.taken ++ u.joined), weigh-append h u.taken u.joined)
 
+-- a worker without a part more is as it was
 pub none_gained : (w : OwnerOf) → HasGained 0 w w
 none_gained w = (refl, refl, refl, omega arith, refl)
 
+-- parts that are gained twice are gained together
 pub gained_on : (a b : ℕ) (w v u : OwnerOf) → HasGained a w v → HasGained b v u → HasGained (a + b) w u
 gained_on a b w v u p q = let m = p.3 in let n = q.3 in (q.0 ∙ p.0, q.1 ∙ p.1, q.2 ∙ p.2, omega arith, q.4 ∙ p.4)
 
+-- a worker that gains parts still knows all that was put
 pub ruling_on : (n : ℕ) (w v : OwnerOf) → HasGained n w v → IsRuling w → IsRuling v
 ruling_on n w v g r = let m = g.3 in let p = r.2 in (g.1 ∙ r.0, g.2 ∙ r.1, omega arith)
 
@@ -55,6 +61,7 @@ pub record Absorbed (ws vs : List OwnerOf) (row rs : List Reach) : Type 0 where
   pub gained : (k : ℕ) (w v : OwnerOf) → length rs ≤ k → slice_get ws k ≡ Some w → slice_get vs k ≡ Some v → HasGained 1 w v
   pub sums : (h : Block → ℕ) → known_to h vs + known_in h rs ≡ known_to h ws + known_in h row
 
+-- before the first pass of a row, all are still to come
 pub none_absorbed : (ws : List OwnerOf) (row : List Reach) → IsRowOn ws row → Absorbed ws ws row row
 none_absorbed ws row is = let c = is.count in record {
   same_length = refl;
@@ -65,6 +72,7 @@ none_absorbed ws row is = let c = is.count in record {
   sums = λ h. refl;
 }
 
+-- the worker of a pass has taken in what the pass knows
 pub one_absorbed : (ws vs : List OwnerOf) (row rs fewer : List Reach) (r : Reach) (old now : OwnerOf) → rs ≡ fewer ++ r ∷ [] → slice_get vs (length fewer) ≡ Some old
     → worker_deque now ≡ worker_deque old → worker_flavor now ≡ worker_flavor old → worker_view now ≡ both (worker_view old) (reach_view r)
     → Absorbed ws vs row rs → Absorbed ws (set vs (length fewer) now) row fewer
@@ -97,9 +105,11 @@ one_absorbed ws vs row rs fewer r old now is at deque flavor took a =
           let f = adds_last (λ (z : Reach). known h (reach_view z)) rs fewer r is in omega arith;
     }
 
+-- after a whole row each worker has gained one part
 pub all_absorbed : (ws vs : List OwnerOf) (row : List Reach) → Absorbed ws vs row [] → HaveGained 1 ws vs
 all_absorbed ws vs row a k w v atw atv = a.gained k w v (omega arith) atw atv
 
+-- after a whole row the workers know what they and the row knew
 pub sums_absorbed : (ws vs : List OwnerOf) (row : List Reach) → Absorbed ws vs row [] → (h : Block → ℕ) → known_to h vs ≡ known_to h ws + known_in h row
 sums_absorbed ws vs row a h = let s = a.sums h in omega arith
 
@@ -113,6 +123,7 @@ pub record RowsAbsorbed (ws vs : List OwnerOf) (rows left : List (Vec Reach Glob
   pub rows_on : AreRowsOn vs left
   pub sums : (h : Block → ℕ) → known_to h vs + known_in_all h left ≡ known_to h ws + known_in_all h rows
 
+-- before the first row, all are still to come
 pub no_row_absorbed : (ws : List OwnerOf) (rows : List (Vec Reach Global)) → AreRuling ws → AreRowsOn ws rows → RowsAbsorbed ws ws rows rows
 no_row_absorbed ws rows ruling on = record {
   same_length = refl;
@@ -133,11 +144,13 @@ row_on n ws vs rs same gained is = record {
       is.deques k w.0 r w.1 atr ∙ sym (gained k w.0 v w.1 atv).0;
 }
 
+-- where all rows are on the workers' deques, the last is and so are the others
 pub rows_last : (ws : List OwnerOf) (left fewer : List (Vec Reach Global)) (row : Vec Reach Global) → left ≡ fewer ++ row ∷ [] → AreRowsOn ws left → IsRowOn ws row.items × AreRowsOn ws fewer
 rows_last ws left fewer row is all =
     let all' : AreRowsOn ws (fewer ++ row ∷ []) = subst (AreRowsOn ws) is all in
     (all' (length fewer) row (got_last fewer row), (λ k p at. all' k p (got_longer fewer (row ∷ []) p k at)))
 
+-- one row more is taken in
 pub one_row_absorbed : (ws vs us : List OwnerOf) (rows left fewer : List (Vec Reach Global)) (row : Vec Reach Global) → left ≡ fewer ++ row ∷ [] → length us ≡ length vs → HaveGained 1 vs us
     → ((h : Block → ℕ) → known_to h us ≡ known_to h vs + known_in h row.items) → RowsAbsorbed ws vs rows left → RowsAbsorbed ws us rows fewer
 one_row_absorbed ws vs us rows left fewer row is same gained sums a =
@@ -162,9 +175,11 @@ one_row_absorbed ws vs us rows left fewer row is same gained sums a =
           let f = adds_last (λ (z : Vec Reach Global). known_in h z.items) left fewer row is in omega arith;
     }
 
+-- after all rows each worker has gained as many parts as there are rows
 pub all_gained : (ws vs : List OwnerOf) (rows : List (Vec Reach Global)) → RowsAbsorbed ws vs rows [] → HaveGained (length rows) ws vs
 all_gained ws vs rows a = let t = a.total in let all : a.come ≡ length rows = omega arith in subst (λ n. HaveGained n ws vs) all a.gained
 
+-- after all rows the workers know what they and all rows knew
 pub all_sums : (ws vs : List OwnerOf) (rows : List (Vec Reach Global)) → RowsAbsorbed ws vs rows [] → (h : Block → ℕ) → known_to h vs ≡ known_to h ws + known_in_all h rows
 all_sums ws vs rows a h = let s = a.sums h in omega arith
 

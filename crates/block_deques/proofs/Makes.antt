@@ -17,6 +17,7 @@ use Rattle.block_deques.specs.Wholes.{AreNewDecks}
 use Rattle.block_deques.specs.Making.{OwnerOf, IsFresh, AreFresh, AreRich, HasGiven, HaveGiven, IsRow, AreRows, IsDeckOf, AreDecksOf}
 use Rattle.block_deques.proofs.Places.{some_same, at_seam, got_end, got_last, got_longer, set_cases, there, map-pointwise, got_map}
 
+-- one new worker more
 pub fresh_more : (parts : ℕ) (ws : List OwnerOf) (w : OwnerOf) → AreFresh parts ws → IsFresh parts w → AreFresh parts (ws ++ w ∷ [])
 fresh_more parts ws w all new k u at = ⊎_elim (λ t. all k u t) (λ (t : (k ≡ length ws) × (w ≡ u)). subst (IsFresh parts) t.1 new) (got_end ws w u k at)
 
@@ -29,6 +30,7 @@ pub record Halfway (ws vs : List OwnerOf) (rs : List Reach) (n : ℕ) : Type 0 w
   pub deques : (k : ℕ) (w : OwnerOf) (r : Reach) → slice_get ws k ≡ Some w → slice_get rs k ≡ Some r → stealer_deque r.stealer ≡ worker_deque w
   pub new : (k : ℕ) (r : Reach) → slice_get rs k ≡ Some r → reach_view r ≡ thief
 
+-- before the first worker has given, the row is empty
 pub halfway_at_first : (ws : List OwnerOf) → Halfway ws ws [] 0
 halfway_at_first ws = record {
   same_length = refl;
@@ -39,6 +41,7 @@ halfway_at_first ws = record {
   new = λ k r at. absurd (cc at);
 }
 
+-- the next worker has given a part away, and its pass is at the end of the row
 pub one_more_given : (ws vs : List OwnerOf) (rs : List Reach) (n : ℕ) (old now : OwnerOf) (r : Reach) → slice_get vs n ≡ Some old → HasGiven old now → stealer_deque r.stealer ≡ worker_deque old → reach_view r ≡ thief
     → Halfway ws vs rs n → Halfway ws (set vs n now) (rs ++ r ∷ []) (n + 1)
 one_more_given ws vs rs n old now r at gave deque is h =
@@ -69,6 +72,7 @@ one_more_given ws vs rs n old now r at gave deque is h =
           (got_end rs r p k atp);
     }
 
+-- when the last worker has given, all have
 pub all_given : (ws vs : List OwnerOf) (rs : List Reach) (n : ℕ) → length vs ≤ n → Halfway ws vs rs n → HaveGiven ws vs
 all_given ws vs rs n le h k w v atw atv = let l = slice_get_within vs k v atv in h.given k w v (omega arith) atw atv
 
@@ -83,6 +87,7 @@ row_moves ws vs rs same deque row = record {
   new = row.new;
 }
 
+-- when the last worker has given, the passes are a row on all deques
 pub row_given : (ws vs : List OwnerOf) (rs : List Reach) (n : ℕ) → length vs ≤ n → n ≤ length vs → Halfway ws vs rs n → IsRow vs rs
 row_given ws vs rs n le ge h = let c = h.count in let s = h.same_length in row_moves ws vs rs h.same_length (λ k w v atw atv. (all_given ws vs rs n le h k w v atw atv).0)
     (record { count = omega arith; deques = h.deques; new = h.new })
@@ -96,15 +101,19 @@ poorer parts ws vs same fresh gave k v atv =
     let g = gave k w.0 v w.1 atv in
     (g.1 ∙ f.0, g.2 ∙ ap owner_after f.1)
 
+-- new workers with more than one part can give one away
 pub still_rich : (parts : ℕ) (ws : List OwnerOf) → 1 < parts → AreFresh parts ws → AreRich ws
 still_rich parts ws more fresh k w at = let f = fresh k w at in let p = ap (λ v. v.parts) f.1 in (f.0, omega arith)
 
+-- rows stay on the deques when the workers give a part away
 pub rows_move : (ws vs : List OwnerOf) (rows : List (Vec Reach Global)) → length vs ≡ length ws → HaveGiven ws vs → AreRows ws rows → AreRows vs rows
 rows_move ws vs rows same gave all k row at = row_moves ws vs row.items same (λ k w v atw atv. (gave k w v atw atv).0) (all k row at)
 
+-- one row more
 pub rows_more : (ws : List OwnerOf) (rows : List (Vec Reach Global)) (row : Vec Reach Global) → AreRows ws rows → IsRow ws row.items → AreRows ws (rows ++ row ∷ [])
 rows_more ws rows row all new k p at = ⊎_elim (λ t. all k p t) (λ (t : (k ≡ length rows) × (row ≡ p)). subst (λ (z : Vec Reach Global). IsRow ws z.items) t.1 new) (got_end rows row p k at)
 
+-- the last of some rows is a row, and so are the others
 pub rows_fewer : (ws : List OwnerOf) (rows fewer : List (Vec Reach Global)) (row : Vec Reach Global) → rows ≡ fewer ++ row ∷ [] → AreRows ws rows → IsRow ws row.items × AreRows ws fewer
 rows_fewer ws rows fewer row is all =
     let all' : AreRows ws (fewer ++ row ∷ []) = subst (AreRows ws) is all in
@@ -121,18 +130,23 @@ owns ws k w rs few fresh at row =
     let p = ap (λ (v : Hand). v.parts) f.1 in
     let c = row.count in (f.0, ap (λ (v : Hand). v.owner) f.1, omega arith, ap (λ (v : Hand). v.joined) f.1)
 
+-- a row has a pass for each worker, and no more than decks are allowed
 pub counted : (ws : List OwnerOf) (k : ℕ) (w : OwnerOf) (rs : List Reach) → length ws ≤ MAX_DECKS → slice_get ws k ≡ Some w → IsRow ws rs → (k < length rs) × (length rs ≤ MAX_DECKS)
 counted ws k w rs few at row = let l = slice_get_within ws k w at in let c = row.count in (omega arith, omega arith)
 
+-- a new worker has put nothing
 pub nothing_put : (ws : List OwnerOf) (k parts : ℕ) (w : OwnerOf) → AreFresh parts ws → slice_get ws k ≡ Some w → (worker_view w).put ≡ []
 nothing_put ws k parts w fresh at = ap (λ (v : Hand). v.put) (fresh k w at).1
 
+-- a new worker has taken nothing
 pub nothing_taken : (ws : List OwnerOf) (k parts : ℕ) (w : OwnerOf) → AreFresh parts ws → slice_get ws k ≡ Some w → (worker_view w).taken ≡ []
 nothing_taken ws k parts w fresh at = ap (λ (v : Hand). v.taken) (fresh k w at).1
 
+-- no blocks are numbered in order
 pub none_numbered : (deck : ℕ) (blocks : List Block) → blocks ≡ [] → AreNumbered deck blocks
 none_numbered deck blocks none place within = let e = ap length none in absurd (omega arith)
 
+-- one deck more
 pub decks_more : (ws : List OwnerOf) (ds more : List Deck) (d : Deck) → more ≡ ds ++ d ∷ [] → AreDecksOf ws ds → IsDeckOf ws (length ds) d → AreDecksOf ws more
 decks_more ws ds more d is all new = subst (AreDecksOf ws) (sym is) longer
   where
@@ -144,6 +158,7 @@ none_taken [] new victim = refl
 none_taken (r ∷ rs) new zero = ap (λ v. v.taken) (new 0 r refl)
 none_taken (r ∷ rs) new (suc victim) = none_taken rs (λ k p at. new (suc k) p at) victim
 
+-- when each worker has its deck, the decks are new ones
 pub new_decks : (ws : List OwnerOf) (ds : List Deck) → length ds ≡ length ws → AreDecksOf ws ds → AreNewDecks (length ws) ds
 new_decks ws ds same all = record {
   length_is = same;

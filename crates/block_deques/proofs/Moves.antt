@@ -8,10 +8,12 @@ use Rattle.block_deques.specs.declared.block.Block.{Block}
 use Rattle.block_deques.specs.declared.block.Hand.{Hand}
 use Rattle.block_deques.specs.Hands.{weigh, total, Rises, IsNumbered, hand, all_parts, Fits, Kept, Puts, Took, owner_after, thief, spent, both, Sums, Drained}
 
+-- a weight of two lists of blocks is the weights of both
 pub weigh-append : (h : Block → ℕ) (xs ys : List Block) → weigh h (xs ++ ys) ≡ weigh h xs + weigh h ys
 weigh-append h [] ys = omega arith
 weigh-append h (x ∷ xs) ys = let r = weigh-append h xs ys in omega (arith, r)
 
+-- a total over all hands of which one changes
 pub total_set : (f : Hand → ℕ) (vs : List Hand) (i : ℕ) (v w : Hand) → get_elem? vs i ≡ some v → total f (set vs i w) + f v ≡ total f vs + f w
 total_set f [] i v w at = absurd (some-ne-none v (sym at))
 total_set f (x ∷ xs) zero v w at = let e : f x ≡ f v = ap f (some-injective x v at) in omega (arith, e)
@@ -42,6 +44,7 @@ rises_on : (low high high' : ℕ) (xs : List Block) → high ≤ high' → Rises
 rises_on low high high' [] le r = tt
 rises_on low high high' (y ∷ ys) le r = let q = r.1 in (r.0, omega arith, rises_on (y.index + 1) high high' ys le r.2)
 
+-- the owner may put a block with the next number
 pub puts_one : (port : ℕ) (v : Hand) (x : Block) → v.owner ≡ true → x.index ≡ length v.put → Pushes Kept port v (x ∷ []) (Puts v (x ∷ []))
 puts_one port v x own number items views k at =
     let w = hand v.parts v.owner (v.put ++ x ∷ []) v.taken v.joined in
@@ -90,6 +93,7 @@ takes_first port v some_part x items views k at =
       (refl, (length (k.front ++ x ∷ []), rises_more 0 (length k.front) (length (k.front ++ x ∷ [])) v.taken x (omega arith) mine.1 (omega arith) (omega arith))),
     )
 
+-- a hand with a part may take a block
 pub takes_one : (port : ℕ) (v : Hand) → 0 < v.parts → Takes Kept port v 1 (Took v)
 takes_one port v some_part [] items views a b k at = absurd (omega arith)
 takes_one port v some_part (x ∷ []) items views a b k at = takes_first port v some_part x items views k at
@@ -162,6 +166,7 @@ alone f (x ∷ xs) (suc i) v at idle all =
     let e = idle 0 x refl (omega arith) in
     let r = alone f xs i v at (λ j u there. idle (suc j) u there) (omega arith) in omega arith
 
+-- an owner with all parts learns that what was put is what was taken and what the deque holds
 pub sums : (port : ℕ) (v : Hand) → v.owner ≡ true → v.parts ≡ all_parts → Learns Kept port v (Sums v)
 sums port v own all items views k at h =
     let mine = k.each port v at in
@@ -171,6 +176,7 @@ sums port v own all items views k at h =
     let only = alone (λ u. weigh h u.taken + weigh h u.joined) views port v at idle (k.parts ∙ sym all) in
     omega (arith, ap (weigh h) put, weigh-append h k.front items)
 
+-- a new deque has one hand, with all parts
 pub begins : Kept [] (hand all_parts true [] [] [] ∷ [])
 begins = record {
   writer = 0;
@@ -194,6 +200,7 @@ inside [] i v w e = absurd (some-ne-none v (sym e))
 inside (x ∷ xs) zero v w e = refl
 inside (x ∷ xs) (suc i) v w e = inside xs i v w e
 
+-- an owner with all parts may take a block, which is one that was put
 pub drains : (port : ℕ) (v : Hand) → v.owner ≡ true → v.parts ≡ all_parts → Takes Kept port v 1 (Drained v)
 drains port v own all xs items views a b k at =
     let t = takes_one port v (omega arith) xs items views a b k at in
@@ -201,5 +208,6 @@ drains port v own all xs items views a b k at =
     let s = sums port w (ap (λ (z : Hand). z.owner) t.2.0 ∙ own) (ap (λ (z : Hand). z.parts) t.2.0 ∙ all) items (set views port w) t.1 (inside views port v w at) (λ _. 1) in
     (w, t.1, (t.2, omega (arith, weigh-one w.put, weigh-one w.taken, weigh-one w.joined)))
 
+-- an owner with all parts that finds the deque empty learns that all that was put was taken
 pub finds_none : (port : ℕ) (v : Hand) → v.owner ≡ true → v.parts ≡ all_parts → Finds Kept port v (Sums v [])
 finds_none port v own all views k at = sums port v own all [] views k at

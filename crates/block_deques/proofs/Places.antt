@@ -1,28 +1,34 @@
 -- Reading lists at a place.
 use Rattle.std.proofs.Common.{◌≡◌, ◌≢◌, ℕ, zero, suc, ◌<◌, ◌⊎◌, List, [], ◌∷◌, ◌++◌, length, map, set, Some, slice_get, get_or, inl, inr, ⊎_elim, refl, ap, sym, ◌∙◌, arith}
 
+-- an item at a place is one item
 pub some_same : {A : Type 0} (x y : A) → Some x ≡ Some y → x ≡ y
 some_same x y e = cc e
 
+-- what stands in a list with one item more stood there before or is the new one
 pub got_end : {A : Type 0} (xs : List A) (x u : A) (k : ℕ) → slice_get (xs ++ x ∷ []) k ≡ Some u → (slice_get xs k ≡ Some u) ⊎ ((k ≡ length xs) × (x ≡ u))
 got_end [] x u zero e = inr (refl, cc e)
 got_end [] x u (suc k) e = absurd (cc e)
 got_end (y ∷ xs) x u zero e = inl e
 got_end (y ∷ xs) x u (suc k) e = ⊎_elim (λ t. inl t) (λ (t : (k ≡ length xs) × (x ≡ u)). inr (ap suc t.0, t.1)) (got_end xs x u k e)
 
+-- the new item stands at the end
 pub got_last : {A : Type 0} (xs : List A) (x : A) → slice_get (xs ++ x ∷ []) (length xs) ≡ Some x
 got_last [] x = refl
 got_last (y ∷ xs) x = got_last xs x
 
+-- an item stands behind those before it
 pub at_seam : {A : Type 0} (xs : List A) (x : A) (ys : List A) → slice_get (xs ++ x ∷ ys) (length xs) ≡ Some x
 at_seam [] x ys = refl
 at_seam (z ∷ xs) x ys = at_seam xs x ys
 
+-- what stands in a list stands in a longer one
 pub got_longer : {A : Type 0} (xs ys : List A) (u : A) (k : ℕ) → slice_get xs k ≡ Some u → slice_get (xs ++ ys) k ≡ Some u
 got_longer [] ys u k e = absurd (cc e)
 got_longer (y ∷ xs) ys u zero e = e
 got_longer (y ∷ xs) ys u (suc k) e = got_longer xs ys u k e
 
+-- after a write, a place has the new item or what it had
 pub set_cases : {A : Type 0} (xs : List A) (i : ℕ) (y u : A) (k : ℕ) → slice_get (set xs i y) k ≡ Some u → ((k ≡ i) × (y ≡ u)) ⊎ ((k ≢ i) × (slice_get xs k ≡ Some u))
 set_cases [] i y u k e = absurd (cc e)
 set_cases (x ∷ xs) zero y u zero e = inl (refl, cc e)
@@ -30,6 +36,7 @@ set_cases (x ∷ xs) zero y u (suc k) e = inr ((λ h. omega arith), e)
 set_cases (x ∷ xs) (suc i) y u zero e = inr ((λ h. omega arith), e)
 set_cases (x ∷ xs) (suc i) y u (suc k) e = ⊎_elim (λ t. inl (ap suc t.0, t.1)) (λ t. let n = t.0 in inr ((λ h. n (omega arith)), t.1)) (set_cases xs i y u k e)
 
+-- what is read by default within a list stands there
 pub item_there : {A : Type 0} (xs : List A) (i : ℕ) (x : A) → i < length xs → x ≡ get_or xs i x → slice_get xs i ≡ Some x
 item_there [] i x l e = absurd (omega arith)
 item_there (z ∷ xs) zero x l e = ap (λ u. Some u) (sym e)
@@ -41,6 +48,7 @@ there [] k l = absurd (omega arith)
 there (x ∷ xs) zero l = (x, refl)
 there (x ∷ xs) (suc k) l = there xs k (omega arith)
 
+-- after a write, the item stands at its place and the others stay
 pub got_set : {A : Type 0} (xs : List A) (i : ℕ) (x y : A) → slice_get xs i ≡ Some x → (slice_get (set xs i y) i ≡ Some y) × ((k : ℕ) → k ≢ i → slice_get (set xs i y) k ≡ slice_get xs k)
 got_set [] i x y at = absurd (cc at)
 got_set (z ∷ xs) zero x y at = (refl, elsewhere)
@@ -76,6 +84,7 @@ got_map f [] k y e = absurd (cc e)
 got_map f (x ∷ xs) zero y e = (x, refl, some_same (f x) y e)
 got_map f (x ∷ xs) (suc k) y e = got_map f xs k y e
 
+-- what a mapped list has at the place of an item
 pub map_got : {A B : Type 0} (f : A → B) (xs : List A) (k : ℕ) (x : A) → slice_get xs k ≡ Some x → slice_get (map f xs) k ≡ Some (f x)
 map_got f [] k x e = absurd (cc e)
 map_got f (z ∷ xs) zero x e = ap (λ u. Some (f u)) (some_same z x e)

@@ -133,6 +133,7 @@ same_moved put taken ds es left moved same h =
     let t = weigh_moved h taken ds es moved in
     let s = same h in omega (arith, weigh-append h (flat_map taken es) left, weigh-append h (flat_map taken ds) left)
 
+-- blocks that each occur once in some decks do so in another order of the decks
 pub once_moved : (put : Deck → List Block) (ds es : List Deck) → IsPermutation ds es → IsEachOnce (flat_map put es) → IsEachOnce (flat_map put ds)
 once_moved put ds es moved once deck index =
     let o = once deck index in

@@ -28,21 +28,27 @@ pub record Moves (rs : List Reach) (victim : ℕ) (before after : Reach) : Type 
   pub at : slice_get rs victim ≡ Some before
   pub same : IsSameReach before after
 
+-- the pass that a theft leaves behind is on the same deque, at the victim's place
 pub moved : (rs : List Reach) (victim : ℕ) (before after : Reach) → victim < length rs → before ≡ get_or rs victim before → IsSameReach before after → Moves rs victim before after
 moved rs victim before after within is same = record { at = item_there rs victim before within is; same = same }
 
+-- a theft leaves each pass on its deque
 pub same_deques : (rs : List Reach) (victim : ℕ) (before after : Reach) → Moves rs victim before after → map (λ (r : Reach). stealer_deque r.stealer) (set rs victim after) ≡ map (λ (r : Reach). stealer_deque r.stealer) rs
 same_deques rs victim before after m = map-set_same (λ (r : Reach). stealer_deque r.stealer) rs victim before after m.at (ap (λ s. stealer_deque s) m.same.0)
 
+-- after a theft the victim's pass knows what it has taken
 pub taken_now : (rs : List Reach) (victim : ℕ) (before after : Reach) → Moves rs victim before after → taken_at (set rs victim after) victim ≡ reach_taken after
 taken_now rs victim before after m = taken_there (set rs victim after) victim after (got_set rs victim before after m.at).0
 
+-- a theft changes no other pass
 pub others_stay : (rs : List Reach) (victim : ℕ) (before after : Reach) → Moves rs victim before after → (k : ℕ) → k ≢ victim → taken_at (set rs victim after) k ≡ taken_at rs k
 others_stay rs victim before after m k ne = taken_alike rs (set rs victim after) k ((got_set rs victim before after m.at).1 k ne)
 
+-- a block that is stolen is the last of what was taken from the victim
 pub one_stolen : (rs : List Reach) (victim : ℕ) (before after : Reach) (x : Block) → Moves rs victim before after → Took (reach_view before) (x ∷ []) (reach_view after) → taken_at (set rs victim after) victim ≡ taken_at rs victim ++ x ∷ []
 one_stolen rs victim before after x m took = taken_now rs victim before after m ∙ ap (λ (v : Hand). v.taken) took.0 ∙ ap (λ xs. xs ++ x ∷ []) (sym (taken_there rs victim before m.at))
 
+-- a theft that finds nothing takes nothing
 pub none_stolen : (rs : List Reach) (victim : ℕ) (before after : Reach) → Moves rs victim before after → reach_view after ≡ reach_view before → taken_at (set rs victim after) victim ≡ taken_at rs victim
 none_stolen rs victim before after m same = taken_now rs victim before after m ∙ ap (λ (v : Hand). v.taken) same ∙ sym (taken_there rs victim before m.at)
 
@@ -51,6 +57,7 @@ pub if_some : (o : Option Block) (P : Type 0) (Q R : Block → Type 0) → Match
 if_some None P Q R is f = tt
 if_some (Some x) P Q R is f = f x is
 
+-- a match says of nothing what it says in that case
 pub if_none : (o : Option Block) (P R : Type 0) (Q : Block → Type 0) → MatchOption o P Q → (P → R) → IfNone o R
 if_none None P R Q is f = f is
 if_none (Some x) P R Q is f = tt

@@ -39,6 +39,7 @@ taken_total h (d ∷ ds) =
     let row = known_row h d.reaches.items in
     let e = taken_total h ds in omega (arith, weigh-append h (popped_by d) (flat_map reach_taken d.reaches.items), weigh-append h (taken_by d) (all_taken ds))
 
+-- decks of one making have rows on their workers' deques
 pub rows_on : (ds : List Deck) → AreOneMaking ds → AreRowsOn (map worker_of ds) (map reaches_of ds)
 rows_on ds making k row at =
     let d = got_map reaches_of ds k row at in
@@ -53,6 +54,7 @@ rows_on ds making k row at =
     } in
     subst (λ (z : Vec Reach Global). IsRowOn (map worker_of ds) z.items) d.2 on
 
+-- the workers of decks know all that was put
 pub ruling : (ds : List Deck) → AreRuling (map worker_of ds)
 ruling ds k w at =
     let d = got_map worker_of ds k w at in
@@ -78,9 +80,11 @@ whole_again ds vs making same gained k v at =
     let b = length-map ds reaches_of in
     (g.1 ∙ ap (λ (z : OwnerOf). worker_flavor z) (sym d.2) ∙ o.0, g.2 ∙ ap (λ (z : OwnerOf). (worker_view z).owner) (sym d.2) ∙ o.1, omega arith)
 
+-- parts that workers gain do not change what was put
 pub put_stays : (n : ℕ) (ws vs : List OwnerOf) → length vs ≡ length ws → HaveGained n ws vs → (h : Block → ℕ) → put_on h vs ≡ put_on h ws
 put_stays n ws vs same gained h = adds_alike (λ (z : OwnerOf). weigh h (worker_view z).put) (λ (z : OwnerOf). weigh h (worker_view z).put) vs ws same (λ k v w atv atw. ap (weigh h) (gained k w v atw atv).4)
 
+-- once the deques are empty, what was put is what was taken and what was left
 pub together : (ds : List Deck) (vs : List OwnerOf) (left : List Block) → length vs ≡ length (map worker_of ds) → HaveGained (length (map reaches_of ds)) (map worker_of ds) vs
     → ((h : Block → ℕ) → known_to h vs ≡ known_to h (map worker_of ds) + known_in_all h (map reaches_of ds))
     → ((h : Block → ℕ) → weigh h left + known_to h vs ≡ put_on h vs) → HaveSame (all_put ds) (all_taken ds ++ left)
@@ -145,5 +149,6 @@ once_from deck index from (d ∷ ds) numbers =
     let mine = times_none deck index d.number (put_by d) ne (λ k l. (d.numbered k l).0) in (omega arith, (λ l. let none = rest.1 (omega arith) in omega arith)))
     (same_or_not d.number deck)
 
+-- the blocks that decks of one making have put occur once each
 pub each_once : (ds : List Deck) → AreOneMaking ds → IsEachOnce (all_put ds)
 each_once ds making deck index = (once_from deck index 0 ds (λ k d at. let n = making.numbers k (deck_id d) (map_got deck_id ds k d at) in omega arith)).0

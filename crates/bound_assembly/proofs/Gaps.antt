@@ -49,9 +49,11 @@ full_next lengths place full within here =
       ];
     }
 
+-- a demand without a length behind demands that have theirs is the next one left
 pub next_here : (lengths : List (Option ℕ)) (place : ℕ) → AreFullBefore lengths place → length_at lengths place ≡ None → IsNextLeft lengths place
 next_here lengths place full none = record { full = full; here = λ within. none }
 
+-- where all demands have a length, none is left
 pub next_end : (lengths : List (Option ℕ)) (place : ℕ) → AreFullBefore lengths place → length lengths ≤ place → IsNextLeft lengths place
 next_end lengths place full all = record { full = full; here = λ within. absurd (omega arith) }
 

@@ -48,5 +48,6 @@ module _ (p : Parts) (g : Region) (prices : List ℕ) (lengths : List (Option �
       let total = sum_below-le (λ k. (demand_at p k).load * is.least_prices k) (λ k. (demand_at p k).load * length_of lengths k) (length p.demands) each in
       record { complete = complete; free = is.free; crowded = omega (arith, total, is.crowded) }
 
+  -- lengths that are least prices crowd a round exactly where the prices close a leaf of the region
   pub round_crowd-both : AreWithinLimit p prices → ((k : ℕ) → k < length p.demands → HasLength lengths k) → AreLeastLengths p g.forbidden prices lengths → IsRoundCrowd p g.ranges prices lengths ↔ ClosedByCrowd p g prices
   round_crowd-both within complete least = (round_crowd-closed within least, closed-round_crowd complete least)

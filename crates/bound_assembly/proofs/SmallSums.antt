@@ -28,6 +28,7 @@ loads-taken p (suc n) within =
     rw (← add-one) (sum_by_more (λ (k : Demand). k.load) p.demands n no_demand (omega arith)) in
     omega (arith, loads-taken p n (omega arith), more)
 
+-- the loads of the first demands are at most the total load
 pub loads-le : (p : Parts) (n : ℕ) → n ≤ length p.demands → sum_below (λ k. (demand_at p k).load) n ≤ total_load p
 loads-le p n within = omega (arith, loads-taken p n within, sum_by-take-le (λ (k : Demand). k.load) p.demands n)
 
@@ -76,4 +77,5 @@ short_none p n = All-replicate (λ (found : Option ℕ). IfSome found (λ price.
 pub short_put : (p : Parts) (lengths : List (Option ℕ)) (k price : ℕ) → AreShort p lengths → price ≤ MAX_PATH_LINKS * price_limit p → AreShort p (set lengths k (Some price))
 short_put p lengths k price short within = All-set (λ (found : Option ℕ). IfSome found (λ other. other ≤ MAX_PATH_LINKS * price_limit p)) lengths k (Some price) within short
 
+-- how lengths that are short come about
 pub ruleset short_lengths = (short_none, short_put)

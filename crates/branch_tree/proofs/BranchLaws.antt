@@ -79,6 +79,7 @@ tree_of-with_division p old n d within are is sides =
 pub tree_of-with_fate : (p : Parts) (nodes : List BranchNode) (n : ℕ) (fate : Fate) → n < length nodes → IsTreeOf p nodes → IsFateOf p (region_at p nodes n) fate → IsTreeOf p (with_fate nodes n fate)
 tree_of-with_fate p nodes n fate within are is_fate = All-set (IsNodeOf p) nodes n (record (tree_node_at nodes n) { fate = fate }) (record { limits = (are n no_tree_node within).limits; ranges = (are n no_tree_node within).ranges; fate = is_fate }) are
 
+-- other prices of a node leave a tree for the instance
 pub tree_of-with_prices : (p : Parts) (nodes : List BranchNode) (n : ℕ) (prices : List ℕ) → n < length nodes → IsTreeOf p nodes → IsTreeOf p (with_prices nodes n prices)
 tree_of-with_prices p nodes n prices within are = All-set (IsNodeOf p) nodes n (record (tree_node_at nodes n) { prices = prices }) (record { limits = (are n no_tree_node within).limits; ranges = (are n no_tree_node within).ranges; fate = (are n no_tree_node within).fate }) are
 
@@ -227,9 +228,11 @@ AreNodes-with_division old n d are within room left right = record {
 pub set-with_fate : (nodes : List BranchNode) (n : ℕ) (node : BranchNode) (fate : Fate) → n < length nodes → node ≡ get_or nodes n node → set nodes n (record node { fate = fate }) ≡ with_fate nodes n fate
 set-with_fate nodes n node fate within read = ap (λ (x : BranchNode). set nodes n (record x { fate = fate })) (read ∙ get_or_default nodes n node no_tree_node within)
 
+-- a node that was read, written back with other prices
 pub set-with_prices : (nodes : List BranchNode) (n : ℕ) (node : BranchNode) (prices : List ℕ) → n < length nodes → node ≡ get_or nodes n node → set nodes n (record node { prices = prices }) ≡ with_prices nodes n prices
 set-with_prices nodes n node prices within read = ap (λ (x : BranchNode). set nodes n (record x { prices = prices })) (read ∙ get_or_default nodes n node no_tree_node within)
 
+-- a split node that is read and written back keeps the nodes behind it
 pub set-with_division : (nodes last : List BranchNode) (n : ℕ) (node : BranchNode) (fate : Fate) → n < length nodes → node ≡ get_or (nodes ++ last) n node → set (nodes ++ last) n (record node { fate = fate }) ≡ with_fate nodes n fate ++ last
 set-with_division nodes last n node fate within read =
     set-append_left nodes last n (record node { fate = fate }) within

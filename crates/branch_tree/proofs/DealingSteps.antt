@@ -39,9 +39,11 @@ module _ (r : Forbidden) (k : ℕ) (one other : ArcId) (arcs : List ArcId) (i : 
   pub left-kept : r k (arc_at arcs i) ≡ true → picked (goes_left r k one other arcs) arcs (i + 1) ≡ picked (goes_left r k one other arcs) arcs i
   left-kept forbidden = picked-no (goes_left r k one other arcs) arcs i (and_left _ _ (ap not forbidden))
 
+  -- a forbidden arc does not go to the right side
   pub right-kept : r k (arc_at arcs i) ≡ true → picked (goes_right r k one other arcs) arcs (i + 1) ≡ picked (goes_right r k one other arcs) arcs i
   right-kept forbidden = picked-no (goes_right r k one other arcs) arcs i (and_left _ _ (ap not forbidden))
 
+  -- a forbidden arc leaves the turn as it is
   pub turn-kept : i < length arcs → r k (arc_at arcs i) ≡ true → (further_before r k one other arcs (i + 1) % 2 == 0) ≡ is_left_turn
   turn-kept within forbidden = ap (λ (n : ℕ). n % 2 == 0) (count_by_more_no _ arcs i no_arc within (and_left _ _ (ap not forbidden)))
 
@@ -52,6 +54,7 @@ module _ (r : Forbidden) (k : ℕ) (one other : ArcId) (arcs : List ArcId) (i : 
       ap₂ (λ (b : Bool) (side : List ArcId). if takes_left one other b (arc_at arcs i) then side ++ (arc_at arcs i ∷ []) else side) turn_is left_is
       ∙ sym (picked-by (goes_left r k one other arcs) arcs i _ (ap (λ (b : Bool). not b && takes_left one other is_left_turn (arc_at arcs i)) allowed))
 
+  -- an arc that is not forbidden goes to the right side where it does not go to the left
   pub right-put : (turn : Bool) (right : List ArcId) → turn ≡ is_left_turn → right ≡ picked (goes_right r k one other arcs) arcs i → r k (arc_at arcs i) ≡ false
       → (if takes_left one other turn (arc_at arcs i) then right else right ++ (arc_at arcs i ∷ [])) ≡ picked (goes_right r k one other arcs) arcs (i + 1)
   right-put turn right turn_is right_is allowed =

@@ -19,6 +19,7 @@ subtree_at nodes n = records_at (length nodes) nodes n
 node_read : (nodes : List BranchNode) (n : ℕ) → n < length nodes → slice_get nodes n ≡ Some (tree_node_at nodes n)
 node_read nodes n within = slice_get-get_or nodes n no_tree_node within
 
+-- the records of a subtree are its root's and those of the children
 pub records_at-suc : (nodes : List BranchNode) (depth n : ℕ) → n < length nodes → records_at (suc depth) nodes n ≡ record_by (tree_node_at nodes n).prices (tree_node_at nodes n).fate ∷ below_by (records_at depth nodes) (tree_node_at nodes n).fate
 records_at-suc nodes depth n within = ap (records_in (records_at depth nodes)) (node_read nodes n within)
 
@@ -44,6 +45,7 @@ abbrev pub waiting_for : List BranchNode → List BranchId → List TreeNode
 waiting_for nodes [] = []
 waiting_for nodes (id ∷ ids) = waiting_for nodes ids ++ subtree_at nodes id.0
 
+-- one node more that waits has its subtree's records come next
 pub waiting_for-push : (nodes : List BranchNode) (ids : List BranchId) (id : BranchId) → waiting_for nodes (ids ++ (id ∷ [])) ≡ subtree_at nodes id.0 ++ waiting_for nodes ids
 waiting_for-push nodes [] id = sym (append-nil (subtree_at nodes id.0))
 waiting_for-push nodes (first ∷ ids) id = ap (λ (rest : List TreeNode). rest ++ subtree_at nodes first.0) (waiting_for-push nodes ids id) ∙ append_assoc (subtree_at nodes id.0) (waiting_for nodes ids) (subtree_at nodes first.0)
@@ -113,8 +115,10 @@ module _ (nodes : List BranchNode) (written : List TreeNode) (before ids after :
   same_after : with_children ids (tree_node_at nodes id.0).fate ≡ after
   same_after = ap (λ (x : BranchNode). with_children ids x.fate) (sym same_node) ∙ sym awaited
 
+  -- with the last node's record written, what is written and what is to come make the whole
   pub written-next : IsWriting nodes (written ++ (record_by node.prices node.fate ∷ [])) after
   written-next = subst₂ (λ (x : BranchNode) (xs : List BranchId). IsWriting nodes (written ++ (record_by x.prices x.fate ∷ [])) xs) (sym same_node) same_after (IsWriting-step nodes written ids id are still)
 
+  -- with each record written, fewer are to come
   pub written-falls : length (waiting_for nodes after) < length (waiting_for nodes before)
   written-falls = subst₂ (λ (xs ys : List BranchId). length (waiting_for nodes xs) < length (waiting_for nodes ys)) same_after (sym popped) (waiting_for-falls nodes ids id are within)

@@ -33,5 +33,6 @@ subtree-is_tree nodes (suc depth) n k others are within deep =
         ∙ deeper d.left_child.0 (suc k) (records_at depth nodes d.right_child.0 ++ others) later.0 later.1
         ∙ deeper d.right_child.0 k others later.2 later.3
 
+-- the records of the nodes are one whole binary tree
 pub records_of-is_tree : (nodes : List BranchNode) → AreNodes nodes → are_trees 1 (records_of nodes) ≡ true
 records_of-is_tree nodes are = ap (are_trees 1) (sym (append-nil (records_of nodes))) ∙ subtree-is_tree nodes (length nodes) 0 0 [] are are.some (omega arith)

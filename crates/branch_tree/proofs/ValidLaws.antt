@@ -49,6 +49,7 @@ module _ (p : Parts) (cost : Option ℕ) (nodes : List BranchNode) (are : AreNod
       by_fate deeper (ClosedBy found) later inherited is_fate has = (has, valid)
       by_fate deeper (DividedBy d) later inherited is_fate has = split_first d.by _ is_fate (both deeper d later inherited)
 
+  -- where each leaf has its evidence, the records are a valid tree for the cost
   pub records_of-valid : IsValidTree p cost (records_of nodes)
   records_of-valid =
       subst₂ (λ (g : Region) (records : List TreeNode). AreValidTrees p cost (g ∷ []) records) (ap (region_by p) are.root) (append-nil (records_of nodes))

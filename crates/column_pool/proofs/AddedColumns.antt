@@ -38,6 +38,7 @@ is_column-last : (paths : List (List ArcId)) (path : List ArcId) → is_column (
 is_column-last [] path = rw (is_same_path-same path) refl
 is_column-last (other ∷ paths) path = rw (is_column-last paths path) (or_true (is_same_path other path))
 
+-- after a path is added, it is one of the columns
 pub is_column-added : (paths : List (List ArcId)) (path : List ArcId) → is_column (column_added paths path) path ≡ true
 is_column-added paths path = by (is_column paths path) refl
   where
@@ -117,6 +118,7 @@ AreColumnsOf-added p k paths path h simple = by (is_column paths path) refl
 either_same : (x y : ℕ) → (x ≡ y) ⊎ (x ≢ y)
 either_same x y = grind arith
 
+-- adding a simple path of a demand to its columns keeps all columns lawful
 pub AreColumns-with : (p : Parts) (columns : Columns) (k : ℕ) (path : List ArcId) → AreColumns p columns → k < length p.demands → IsSimplePath p (demand_at p k) path → AreColumns p (columns_with columns k path)
 AreColumns-with p columns k path h within simple = record {
   count = length-set columns k (column_added (columns_at columns k) path) ∙ h.count;
@@ -135,6 +137,7 @@ AreColumnsOf-none p k = record {
   different = λ i j x a b. absurd (let bad : ◌≡◌ {A = Option (List ArcId)} None (Some x) = a in cc);
 }
 
+-- no columns are lawful ones
 pub AreColumns-none : (p : Parts) → AreColumns p (no_columns p)
 AreColumns-none p = record {
   count = length-replicate {A = List (List ArcId)} (length p.demands) [];
@@ -150,6 +153,7 @@ IsPermitted-told r k (a ∷ path) h = by (r k a) refl h (IsPermitted-told r k pa
     by true e bad rest = absurd (cc)
     by false e told rest = All-cons (λ x. r k x ≡ false) a path e (rest told)
 
+-- a permitted path passes the test
 pub told-IsPermitted : (r : Forbidden) (k : ℕ) (path : List ArcId) → IsPermitted r k path → is_permitted r k path ≡ true
 told-IsPermitted r k [] h = refl
 told-IsPermitted r k (a ∷ path) h =
@@ -165,6 +169,7 @@ kept_next r k columns kept i path within read is permitted =
     let same : filter (is_permitted r k) (take (i + 1) columns) ≡ filter (is_permitted r k) (take i columns) ++ get_or columns i path ∷ [] = rw told at next in
     ap (λ (xs : List (List ArcId)). xs ++ path ∷ []) is ∙ ap (λ (x : List ArcId). filter (is_permitted r k) (take i columns) ++ x ∷ []) read ∙ sym same
 
+-- a column that is not permitted is left out
 pub skipped_next : (r : Forbidden) (k : ℕ) (columns kept : List (List ArcId)) (i : ℕ) (path : List ArcId) → i < length columns → path ≡ get_or columns i path → kept ≡ filter (is_permitted r k) (take i columns)
     → (IsPermitted r k path → ⊥) → kept ≡ filter (is_permitted r k) (take (i + 1) columns)
 skipped_next r k columns kept i path within read is refused = by (is_permitted r k path) refl

@@ -57,6 +57,7 @@ module _ (p : Parts) (d other : Design) (e : ℕ) (within : e < length p.links) 
   pub need-paths : need p d e ≡ need p other e
   need-paths = rw (same_there, same_back) refl
 
+  -- the links of designs with the same paths carry the same loads
   pub carried-paths : carried p d e ≡ carried p other e
   carried-paths = rw (same_there, same_back) refl
 
@@ -114,6 +115,7 @@ module _ (p : Parts) (ranges : List LoadRange) (d : Design) (q load : ℕ) (is_l
         | inr here ↦ rw here (subst (IsIn (range_at ranges q)) loaded inside)
       ]
 
+-- before the first link, no counts cost nothing
 pub AreCompletedTo-none : (p : Parts) (paths : List (List ArcId)) → AreCompletedTo p paths 0 0 []
 AreCompletedTo-none p paths =
     record { list_count = refl; least = λ e within. absurd (omega arith); in_shape = λ e within. absurd (omega arith); is_cost = refl }
@@ -166,6 +168,7 @@ completed paths all = record { paths = paths; counts = all }
 
 module _ (p : Parts) (paths : List (List ArcId)) (cost : ℕ) (all : List (List ℕ))
     (are_paths : ArePaths p paths) (done : AreCompletedTo p paths (length p.links) cost all) where
+  -- each link of the completed design has least counts for what it needs
   pub least-completed : (e : ℕ) → e < length p.links → AreLeastCounts p e (need p (completed paths all) e) (counts_at (completed paths all) e)
   least-completed e within = subst (λ (load : ℕ). AreLeastCounts p e load (counts_in all e)) (sym (need-paths p (completed paths all) (with_paths paths) e within refl)) (done.least e within)
 
@@ -184,6 +187,7 @@ module _ (p : Parts) (paths : List (List ArcId)) (cost : ℕ) (all : List (List 
       omega (arith, less, routing)) in
       omega (arith, done.is_cost, sum_below-le (cost_with p paths all) (link_cost p other) (length p.links) each)
 
+  -- the paths with least counts for each link are their completion: no design with them costs less
   pub IsCompletion-completed : IsCompletion p paths cost (completed paths all)
   IsCompletion-completed = record {
     same_paths = refl;

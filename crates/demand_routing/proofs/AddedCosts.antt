@@ -125,10 +125,12 @@ far-same p f q load span None None ha hb = refl
 pub far-one : (p : Parts) (f : ℕ → ℕ) (q load far : ℕ) (v w : Option ℕ) → IsFarCost p f q load far v → IsFarCost p f q load far w → v ≡ w
 far-one p f q load far v w ha hb = far-same p f q load (span_of p (f q) load far) v w (far-read p f q load far v ha) (far-read p f q load far w hb)
 
+-- a list of the values of a function below a count has that length
 pub listed-length : (f : ℕ → Option ℕ) (n : ℕ) → length (listed f n) ≡ n
 listed-length f zero = refl
 listed-length f (suc n) = omega (arith, length-append (listed f n) (f n ∷ []), listed-length f n)
 
+-- a list of the values of a function has each at its place
 pub listed-at : (f : ℕ → Option ℕ) (n i : ℕ) → i < n → slice_index_or (listed f n) i None ≡ f i
 listed-at f zero i below = absurd (omega arith)
 listed-at f (suc n) i below =

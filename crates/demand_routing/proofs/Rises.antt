@@ -21,6 +21,7 @@ back-le p f q load e = by_cases (is_two_way p.orient)
     by_cases true = more-le f q load (2 * e + 1)
     by_cases false = omega arith
 
+-- a load more does not lower what a link needs
 pub larger-le : (p : Parts) (f : ℕ → ℕ) (q load e : ℕ) → larger_of p f e ≤ larger_of p (with_more f q load) e
 larger-le p f q load e =
     let there : there_of p f e ≤ there_of p (with_more f q load) e = more-le f q load _ in
@@ -47,6 +48,7 @@ too_much-cut p g e there back most above there_is back_is h within =
     let two : back ≡ back_of p g e = omega arith in
     rw (← one, ← two) (h (omega arith))
 
+-- the difference of two step costs is the rise, also where loads are cut at a greatest number
 pub rise-cut : (p : Parts) (f : ℕ → ℕ) (q load there back before after most : ℕ) → total_load p < most
     → there ≡ min (there_of p (with_more f q load) (link_of_place p q)) most → back ≡ min (back_of p (with_more f q load) (link_of_place p q)) most → max there back ≤ total_load p
     → IsCostOf p f (link_of_place p q) before → IsStepCost p (link_of_place p q) there back after

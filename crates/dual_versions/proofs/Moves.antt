@@ -28,6 +28,7 @@ fits_set log number writer views by w others mine j u e =
     (λ (x : (j ≢ by) × (get_elem? views j ≡ some u)). others j u x.0 x.1)
     (at_set views by j w u e)
 
+-- a first table and one newcomer keep the rule
 pub begins : (x : Table) → x.number ≡ 0 → IsKept x (newcomer ∷ [])
 begins x none = record { before = []; writer = 0; number = none; seats = one }
   where
@@ -35,6 +36,7 @@ begins x none = record { before = []; writer = 0; number = none; seats = one }
     one zero v e = subst (Fits (shown_by x.rows.items ∷ []) x.number 0 0) (some-injective _ _ e) (fits_newcomer (shown_by x.rows.items ∷ []) x.number 0 0)
     one (suc seat) v e = absurd (some-ne-none v (sym e))
 
+-- a newcomer may join, and the rule is kept
 pub admits : Admits IsKept newcomer
 admits x views h = record {
   before = h.before;
@@ -46,6 +48,7 @@ admits x views h = record {
       (at_snoc views newcomer u j e);
 }
 
+-- a reader that enters sees the newest table
 pub enters : (seat : ℕ) (v : View) → v.writes ≡ false → Turns IsKept seat v (λ x. x) Entered
 enters seat v idle x views h at =
     let log = h.before ++ shown_by x.rows.items ∷ [] in
@@ -76,6 +79,7 @@ other_is_not : (v : View) (x : Table) (writer seat j : ℕ) (log : List Entries)
 other_is_not v x writer seat j log u fresh mine theirs apart writes true is = apart ((theirs.whole writes).1 ∙ sym (mine.whole is).1)
 other_is_not v x writer seat j log u fresh mine theirs apart writes false is = let none = fresh is in let some' = (theirs.whole writes).0 in absurd (omega arith)
 
+-- a writer that shows the next table adds it to the history
 pub shows : (seat : ℕ) (v : View) (x y : Table) → (v.writes ≡ false → x.number ≡ 0) → y.number ≡ counted (x.number + 1) → TurnsAt IsKept seat v x y Shown
 shows seat v x y fresh next views h at =
     let log = h.before ++ shown_by x.rows.items ∷ [] in

@@ -8,14 +8,17 @@ use Rattle.dual_versions.specs.Rows.{shown_by, put_row, taken, pair_of, HaveRoom
 use Rattle.dual_versions.specs.Views.{IsPut, ArePuts}
 use Rattle.dual_versions.proofs.RowLists.{length-put_row, put_row_room, put_row_shown}
 
+-- one put more with the next table's number
 pub puts_more : (slots prices number : ℕ) (ps : List Put) (p : Put) → ArePuts slots prices number ps → IsPut slots prices number p → ArePuts slots prices number (ps ++ p ∷ [])
 puts_more slots prices number [] p are is = (is, tt)
 puts_more slots prices number (q ∷ ps) p are is = (are.0, puts_more slots prices number ps p are.1 is)
 
+-- one put more, as the pair of its slot and entry
 pub pairs_more : (ps : List Put) (p : Put) → map pair_of (ps ++ p ∷ []) ≡ map pair_of ps ++ pair_of p ∷ []
 pairs_more [] p = refl
 pairs_more (q ∷ ps) p = ap (λ qs. pair_of q ∷ qs) (pairs_more ps p)
 
+-- the newest table is the one added last
 pub last_of_more : (ts : List Entries) (t : Entries) → last_of (ts ++ t ∷ []) ≡ t
 last_of_more [] t = refl
 last_of_more (u ∷ []) t = refl
@@ -27,6 +30,7 @@ pub record IsAfter (prices number : ℕ) (rows : List Row) (ps : List Put) (s : 
   pub room : HaveRoom prices s.1
   pub shown : shown_by s.1 ≡ after (shown_by rows) (map pair_of ps)
 
+-- rows that take in all puts show the table that the puts make
 pub folded : (prices number n : ℕ) (rows : List Row) (ps : List Put) → HaveRoom prices rows → ArePuts (length rows) prices number ps → IsAfter prices number rows ps (fold taken (n, rows) ps)
 folded prices number n rows [] room are = record { size = refl; room = room; shown = refl }
 folded prices number n rows (p ∷ ps) room are =
@@ -39,6 +43,7 @@ folded prices number n rows (p ∷ ps) room are =
       shown = rest.shown ∙ ap (λ t. after t (map pair_of ps)) (put_row_shown prices rows p.slot p.what room are.0.0 are.0.1);
     }
 
+-- rows that take in puts have the next number
 pub folded_number : (slots prices number n : ℕ) (rows : List Row) (ps : List Put) → 0 < length ps → ArePuts slots prices number ps → (fold taken (n, rows) ps).0 ≡ counted (number + 1)
 folded_number slots prices number n rows [] some' are = absurd (omega arith)
 folded_number slots prices number n rows (p ∷ []) some' are = are.0.2

@@ -11,6 +11,7 @@ use Rattle.plan_base.specs.declared.ids.BranchId.{BranchId}
 use Rattle.dual_versions.proofs.RowLists.{rooms, blanks_shown}
 use Rattle.dual_versions.proofs.Puts.{IsAfter, folded, folded_number, last_of_more}
 
+-- the board that a writer's view, its newest table and its pending puts stand for
 abbrev pub board_of : ℕ → View → Table → List Put → Board
 board_of prices v x ps = record { slots = length x.rows.items; prices = prices; tables = tables_of v x; pending = map pair_of ps }
 
@@ -21,6 +22,7 @@ module _ (prices : ℕ) (v w : View) (x y : Table) (ps qs : List Put) where
   tables_are : Shown v x y w → tables_of w y ≡ tables_of v x ++ shown_by y.rows.items ∷ []
   tables_are s = ap (λ (u : View). tables_of u y) s
 
+  -- after a show the new table and no pending puts are a board
   pub still_board : IsBoard prices v x ps → 0 < length ps → (y.number, y.rows.items) ≡ fold taken (x.number, x.rows.items) ps → qs ≡ [] → Shown v x y w → IsBoard prices w y qs
   still_board b some' is none s =
       let next : y.number ≡ counted (x.number + 1) = ap (λ (t : ℕ × List _). t.0) is ∙ folded_number (length x.rows.items) prices x.number x.number x.rows.items ps some' b.puts in
@@ -35,6 +37,7 @@ module _ (prices : ℕ) (v w : View) (x y : Table) (ps qs : List Put) where
         puts = subst (ArePuts (length y.rows.items) prices y.number) (sym none) tt;
       }
 
+  -- a show adds the table that the pending puts make, and none is pending any more
   pub shows_all : IsBoard prices v x ps → (y.number, y.rows.items) ≡ fold taken (x.number, x.rows.items) ps → qs ≡ [] → Shown v x y w
       → board_of prices w y qs ≡ record { slots = length x.rows.items; prices = prices; tables = tables_of v x ++ after (last_of (tables_of v x)) (map pair_of ps) ∷ []; pending = [] }
   shows_all b is none s =
@@ -45,6 +48,7 @@ module _ (prices : ℕ) (v w : View) (x y : Table) (ps qs : List Put) where
       let pending : map pair_of qs ≡ [] = ap (map pair_of) none in
       λ i. record { slots = a.size i; prices = prices; tables = tables i; pending = pending i }
 
+-- a show with pending puts is the step of the board that the model names
 pub shows_pending : (prices : ℕ) (v w : View) (x y : Table) (ps qs : List Put) → IsBoard prices v x ps → 0 < length ps → (y.number, y.rows.items) ≡ fold taken (x.number, x.rows.items) ps → qs ≡ [] → Shown v x y w → board_of prices w y qs ≡ with_pending_shown (board_of prices v x ps)
 shows_pending prices v w x y [] qs b some' is none s = absurd (omega arith)
 shows_pending prices v w x y (p ∷ ps) qs b some' is none s = shows_all prices v w x y (p ∷ ps) qs b is none s
@@ -52,6 +56,7 @@ shows_pending prices v w x y (p ∷ ps) qs b some' is none s = shows_all prices 
 one_table : (v : View) (x : Table) → v ≡ newcomer → tables_of v x ≡ shown_by x.rows.items ∷ []
 one_table v x is = ap (λ (u : View). tables_of u x) is
 
+-- a new table of blank rows is a board
 pub made : (prices slots : ℕ) (node : BranchId) (v : View) (x : Table) (ps : List Put) → x.number ≡ 0 → x.rows.items ≡ replicate slots (blank node prices) → v ≡ newcomer → ps ≡ [] → IsBoard prices v x ps
 made prices slots node v x ps none rows is no_puts =
     let one : length (tables_of v x) ≡ 1 = ap length (one_table v x is) in
@@ -63,5 +68,6 @@ made prices slots node v x ps none rows is no_puts =
       puts = subst (ArePuts (length x.rows.items) prices x.number) (sym no_puts) tt;
     }
 
+-- a new board has one table, without entries
 pub made_tables : (prices slots : ℕ) (node : BranchId) (v : View) (x : Table) → x.rows.items ≡ replicate slots (blank node prices) → v ≡ newcomer → tables_of v x ≡ replicate slots None ∷ []
 made_tables prices slots node v x rows is = one_table v x is ∙ ap (λ (t : Entries). t ∷ []) (ap shown_by rows ∙ blanks_shown slots prices node)

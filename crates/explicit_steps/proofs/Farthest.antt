@@ -13,6 +13,7 @@ pub record IsMostOf (choices : List Choice) (count most : ℕ) : Type 0 where
   pub attained : (most ≡ 0) ⊎ ((k : ℕ) × (k < count) × ((choice_at choices k).capacity ≡ most))
   pub greatest : (k : ℕ) → k < count → (choice_at choices k).capacity ≤ most
 
+-- of no choice, the greatest capacity is 0
 pub none_yet : (choices : List Choice) → IsMostOf choices 0 0
 none_yet choices = record { bound = omega arith; attained = inl refl; greatest = λ k l. absurd (omega arith) }
 
@@ -23,6 +24,7 @@ greater a b next is = by_ranked (b < a) (b ≡ a) (a < b) (nat_cmp b a) (ranked 
     (λ o same. let e : next ≡ b = is ∙ ap (λ z. cond (is_lt z) a b) o in (inr e, omega arith, omega arith))
     (λ o lt. let e : next ≡ b = is ∙ ap (λ z. cond (is_lt z) a b) o in (inr e, omega arith, omega arith))
 
+-- the greater of the capacities so far and the next is the greatest
 pub one_more : (choices : List Choice) (count most next : ℕ) → next ≡ ord_max nat_cmp most (choice_at choices count).capacity → (choice_at choices count).capacity < CAPACITY_BOUND → IsMostOf choices count most → IsMostOf choices (count + 1) next
 one_more choices count most next is small old =
     let both = greater most (choice_at choices count).capacity next is in
@@ -36,6 +38,7 @@ one_more choices count most next is small old =
       greatest = below_more (λ k. (choice_at choices k).capacity ≤ next) count (λ k l. let g = old.greatest k l in omega arith) here;
     }
 
+-- after the last choice, the preinstalled capacity and the greatest one make the greatest reach
 pub all_seen : (pre : ℕ) (choices : List Choice) (most : ℕ) → IsMostOf choices (length choices) most → IsGreatestReach pre choices (pre + most)
 all_seen pre choices most seen = ⊎_elim
     (λ (z : most ≡ 0). record { pick = None; is_pick = tt; attained = omega arith; greatest = no_farther })

@@ -101,6 +101,7 @@ module _ (base : Shape) (c : List Rule) (none : NoDefaults c) (help : base.arg_r
 
 -- ---- what the rows say
 
+-- the first value of an argument in the rows is that of its use
 pub first_value : (uses : List Use) (id : Text) → first_of id (map use_row uses) ≡ value_of uses id
 first_value [] id = refl
 first_value (u ∷ uses) id = go (bytes_eq u.0 id) (first_value uses id)
@@ -110,6 +111,7 @@ first_value (u ∷ uses) id = go (bytes_eq u.0 id) (first_value uses id)
     go true e = refl
     go false e = e
 
+-- an argument is given in the rows exactly where it has a use
 pub given_has : (id : Text) (uses : List Use) → is_given id (map use_row uses) ≡ has id uses
 given_has id [] = refl
 given_has id (u ∷ uses) = go (bytes_eq u.0 id) (given_has id uses)
@@ -128,6 +130,7 @@ first_char (x ∷ xs) bs is spells some = (x, ap (λ l. slice_get l 0) (sym is))
 some_flags : (a b : Text) → Some a ≡ Some b → a ≡ b
 some_flags a b e = ap (λ o. unwrap_or o a) e
 
+-- a text in UTF-8 has a first character behind its dash
 pub reads : (word : Text) → IsUtf8 word → Reads word
 reads [] text flags is = absurd cc
 reads (a ∷ []) text flags is = go (a == 45) is
@@ -150,6 +153,7 @@ reads (a ∷ b ∷ rest) text flags is = go (a == 45) refl (b == 45) is
             subst (λ (t : Text). (y : ℕ) × (slice_get (chars t) 0 ≡ Some y)) (some_flags (b ∷ rest) flags is)
             (first_char (chars (b ∷ rest)) (b ∷ rest) refl (encodes-chars (b ∷ rest) behind) (omega arith))
 
+-- so have the words of a command line
 pub texts_read : {Z : Type 0} (words : List (String Z)) → All Reads (map string_bytes words)
 texts_read [] = All-nil Reads
 texts_read (word ∷ rest) = All-cons Reads (string_bytes word) (map string_bytes rest) (reads (string_bytes word) (IsUtf8-string_bytes word)) (texts_read rest)

@@ -23,14 +23,17 @@ use Rattle.given_words.proofs.Levels.{NoDefaults, complete, lacks, once, once_ro
 
 -- ---- words and tests
 
+-- where both of two tests hold, each does
 pub and-true : (a b : Bool) → (a && b) ≡ true → (a ≡ true) × (b ≡ true)
 and-true true b is = (refl, is)
 and-true false b is = absurd cc
 
+-- a test whose negation holds fails
 pub not-any : (b : Bool) → not b ≡ true → b ≡ false
 not-any true is = absurd cc
 not-any false is = refl
 
+-- words that compare as equal are equal
 pub same_words : (a b : Word) → bytes_eq a b ≡ true → a ≡ b
 same_words a b = (bytes_eq-Decides a b).0
 
@@ -203,6 +206,7 @@ table_single n names (o ∷ options) = table_single n names options
 all_pass : (a b early c : Bool) → a ≡ true → b ≡ true → early ≡ false → c ≡ true → (((a && true) && ((b && not early) && true)) && (c && true)) ≡ true
 all_pass a b early c first second third fourth = rw (first, second, third, fourth) refl
 
+-- a line of names and options is one that clap's simple rules cover
 pub line_is_simple : (names options : List Text) (line : App) → line ≡ line_app names options → is_simple_and_free line ≡ true
 line_is_simple names options line is =
     ap is_simple_and_free is

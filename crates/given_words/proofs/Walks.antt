@@ -19,9 +19,11 @@ use Rattle.given_words.specs.Given.{Use, Part, name, ending, option, other, part
 
 -- ---- what is held
 
+-- what one use becomes among clap's rows
 abbrev pub use_row : Use → Row
 use_row u = record { id = u.0; values = u.1 ∷ []; count = None; source = Some CommandLine; reading = AsWritten }
 
+-- the rule of a name or an option without abbreviations or defaults
 abbrev pub plain : Text → Option Text → Option ℕ → Bool → Rule
 plain id long index required = record {
   id = id;
@@ -43,31 +45,39 @@ plain id long index required = record {
   is_free = true;
 }
 
+-- the use that still waits, as clap holds it
 abbrev pub pending_use : Option Use → Option (Text × List Text)
 pending_use = option_map (λ u. (u.0, u.1 ∷ []))
 
+-- these rows and what is pending, with nothing to skip
 abbrev pub held : List Row → Option (Text × List Text) → Held
 held rows pending = record { rows = rows; pending = pending; skip = 0 }
 
+-- where clap's walk stands
 abbrev pub walk_at : List Row → Option (Text × List Text) → Waiting → ℕ → Bool → Walk
 walk_at rows pending waiting position trailing = record { held = held rows pending; waiting = waiting; position = position; is_trailing = trailing; stopped = None }
 
+-- where the walk stands after these uses, with no option open
 abbrev pub state : List Use → Option Use → ℕ → Bool → Walk
 state us p position trailing = walk_at (map use_row us) (pending_use p) idle position trailing
 
+-- where the walk stands when an option waits for its value
 abbrev pub awaiting : List Use → Text → ℕ → Bool → Walk
 awaiting us id position trailing = walk_at (map use_row us) (Some (id, [])) (waits_for id) position trailing
 
 -- ---- outcomes
 
+-- the rows, where there is no fault
 abbrev pub got : Kinds → List Row → Option (List Row)
 got [] rows = Some rows
 got (k ∷ ks) rows = None
 
+-- what comes next, where there is no fault
 abbrev pub got_next : Kinds → Option (List Row) → Option (List Row)
 got_next [] next = next
 got_next (k ∷ ks) next = None
 
+-- what clap holds after the last word
 abbrev pub end_of : Shape → Walk → List Text → Held
 end_of s w words = (fold (walked s.rules []) w words).held
 
@@ -101,10 +111,12 @@ as_next (k ∷ ks) rows = refl
 
 -- ---- what is expected
 
+-- the rows that are expected: those of all uses, where none is given twice
 abbrev pub expect : List Use → Option (List Use) → Option (List Row)
 expect us None = None
 expect us (Some more) = if all_new us more then Some (map use_row (us ++ more)) else None
 
+-- the use that waits and those behind it
 abbrev pub with_pending : Option Use → List Use → List Use
 with_pending None uses = uses
 with_pending (Some u) uses = u ∷ uses
@@ -191,6 +203,7 @@ abbrev pub Long : List Rule → Option Rule → Option Text → Type 0
 Long c o None = o ≡ None
 Long c o (Some id) = Met c id o
 
+-- the table of a command with these options, called by their long names alone
 pub record IsTable (c : List Rule) (options : List Text) : Type 0 where
   pub long : (called : Text) → Long c (arg_by_long c called) (find (λ o. bytes_eq o called) options)
   pub no_short : (x : ℕ) → arg_by_short c x ≡ None
@@ -245,6 +258,7 @@ same_map None = refl
 same_map (Some more) = refl
 
 module _ (base : Shape) (c : List Rule) where
+  -- the shape of a command that has this table and no subcommands
   abbrev pub s : Shape
   s = record base { rules = c; args_override_self = false; is_leaf = true }
 

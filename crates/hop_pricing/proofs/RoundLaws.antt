@@ -53,6 +53,7 @@ least-found p prices k hops r ws d arcs price ws_is d_is h =
     (subst (λ (x : Demand). limited.IsLeastWithin p (weights_of p prices k r) x.source x.target hops arcs price) d_is
     (subst (λ (x : Weights). limited.IsLeastWithin p x d.source d.target hops arcs price) ws_is h))
 
+-- where no weighted path has so few arcs, no permitted path has
 pub none-found : (p : Parts) (prices : List ℕ) (k hops : ℕ) (r : Forbidden) (ws : Weights) (d : Demand) → ws ≡ weights_below p prices k r (2 * length p.links) → d ≡ demand_at p k
     → limited.HasNoneWithin p ws d.source d.target hops → HasNoneWithin p r k hops
 none-found p prices k hops r ws d ws_is d_is h arcs within =

@@ -92,6 +92,7 @@ module _ (back : IsReadBack) where
 
 -- ---- links and demands
 
+-- a draw is below its bound
 pub drawn_below : (state bound : ℕ) → 0 < bound → draw state bound < bound
 drawn_below state bound some = mod-lt (next_state state / 65536) some
 
@@ -164,6 +165,7 @@ different-links number nodes some few =
     (different name 99 across (nodes / 2) (λ i. refl) (omega arith))
     (λ i j d low high e. unlike i j (sym (name-at name 114 round nodes i d (λ i. refl) low) ∙ e ∙ name-at name 99 across (nodes / 2) j d (λ i. refl) high)))
 
+-- a sample network can be spelled as a text and read back
 pub formed : IsReadBack → (number nodes demands : ℕ) → 4 ≤ nodes → nodes ≤ 64 → demands ≤ 4096 → IsWellFormed (sample_network number nodes demands)
 formed back number nodes demands some few within =
     let count : length (map sample_node (range_with_len 0 nodes)) ≡ nodes = length-map-range_with_len sample_node 0 nodes in

@@ -122,12 +122,14 @@ module _ (number nodes demands : ℕ) (some : 4 ≤ nodes) (few : nodes ≤ 64) 
       let first = after_chords (after_ring number nodes) nodes in
       length-map (sample_demands first nodes demands) (demand_of hops.No) ∙ length-map-range_with_len (λ i. sample_demand nodes (state_after first (3 * i)) i) 0 demands
 
+  -- the total load of a sample network is small
   pub small_total : total_load (sample_parts number nodes demands) ≤ 36864 * 10 ^ 6
   small_total =
       let first = after_chords (after_ring number nodes) nodes in
       let sum = sum_by-le (λ (k : Demand). k.load) (9 * 10 ^ 6) (sample_parts number nodes demands).demands (all-demands (λ k. k.load ≤ 9 * 10 ^ 6) (λ i. small-load nodes (state_after first (3 * i)) i)) in
       omega (arith, sum, count-demands, within)
 
+  -- the parts of a sample network are an instance
   pub is_instance : IsInstance (sample_parts number nodes demands)
   is_instance =
       let links = all-sampled number nodes some in
@@ -142,6 +144,7 @@ module _ (number nodes demands : ℕ) (some : 4 ≤ nodes) (few : nodes ≤ 64) 
         routing = λ i d below. rw ((links i d below).free) (omega arith);
       }
 
+  -- no link of a sample network has more steps than a plan may look at
   pub few_steps : (e : ℕ) → e < length (sample_parts number nodes demands).links → HasMoreSteps (sample_parts number nodes demands).law (total_load (sample_parts number nodes demands)) (link_at (sample_parts number nodes demands) e) 4096 → ⊥
   few_steps e below = few_levels (sample_parts number nodes demands).law (link_at (sample_parts number nodes demands) e) (all-sampled number nodes some e no_link below).has_tens (total_load (sample_parts number nodes demands)) small_total
 
@@ -155,6 +158,7 @@ module _ (number nodes demands : ℕ) (some : 4 ≤ nodes) (few : nodes ≤ 64) 
   planned keys.Hop = refl
   planned keys.Survivability = refl
 
+  -- a sample network with the sample's model reads as these parts
   pub reads : ReadsAs (sample_network number nodes demands) trial_model (sample_parts number nodes demands)
   reads = record {
     supported = record { values = planned; pair = λ _. refl };

@@ -31,4 +31,5 @@ three_more first i =
     let e : 3 * (i + 1) ≡ 3 * i + 1 + 1 + 1 = omega arith in
     sym (ap (state_after first) e ∙ next first (3 * i + 1 + 1) ∙ ap next_state (next first (3 * i + 1) ∙ ap next_state (next first (3 * i))))
 
+-- the steps of loops that make a list from draws
 pub ruleset list_steps = (item_more, item_behind, two_more, three_more)

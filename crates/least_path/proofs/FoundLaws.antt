@@ -28,6 +28,7 @@ rises p ws s t potential arcs start along h (suc i) within =
     let more : sum_by (λ b. weight_at ws b) (take (suc i) arcs) ≡ sum_by (λ b. weight_at ws b) (take i arcs) + weight_at ws a = subst (λ (k : ℕ). sum_by (λ b. weight_at ws b) (take k arcs) ≡ sum_by (λ b. weight_at ws b) (take i arcs) + weight_at ws a) (let e : i + 1 ≡ suc i = omega arith in e) (sum_by_more (λ b. weight_at ws b) arcs i no_arc (omega arith)) in
     omega (arith, before, step, tail, more)
 
+-- potentials from the source to the target bound the weight of each path from below
 pub least : (p : Parts) (ws : Weights) (s t : NodeId) (weight : ℕ) (potentials : List ℕ) → ArePotentials p ws s t weight potentials → (other : List ArcId) → IsUsablePath p ws s t other → weight ≤ weight_of ws other
 least p ws s t weight potentials h other path =
     let up = rises p ws s t (λ v. get_or potentials v 0) other h.at_source h.along path (length other) (omega arith) in
@@ -48,18 +49,22 @@ head-within p a inst is =
     let lawful = inst.links (link_of a) no_link (ltb-true (link_of a) (length p.links) (first _ _ is)) in
     either (is_back a) (λ (n : NodeId). n.0 < p.nodes) lawful.source lawful.target
 
+-- the tail of an arc is a node
 pub tail-within : (p : Parts) (a : ArcId) → IsInstance p → is_arc p a ≡ true → (tail_of p a).0 < p.nodes
 tail-within p a inst is =
     let lawful = inst.links (link_of a) no_link (ltb-true (link_of a) (length p.links) (first _ _ is)) in
     either (is_back a) (λ (n : NodeId). n.0 < p.nodes) lawful.target lawful.source
 
+-- a potential is at most the weight that caps it
 pub potential-at_most : (weight : ℕ) (x : Option Label) → potential_of weight x ≤ weight
 potential-at_most weight None = omega arith
 potential-at_most weight (Some l) = omega arith
 
+-- the potential at a place of the list is that of the node's label
 pub potential-at : (ls : Labels) (weight v : ℕ) → v < length ls → get_or (map (potential_of weight) ls) v 0 ≡ potential_of weight (label_at ls v)
 potential-at ls weight v within = get_or-map (potential_of weight) ls v None 0 within
 
+-- a labelled node has the length of its label as potential, capped by the weight
 pub potential-label : (ls : Labels) (weight v : ℕ) (l : Label) → label_at ls v ≡ Some l → get_or (map (potential_of weight) ls) v 0 ≡ min l.length weight
 potential-label ls weight v l is = potential-at ls weight v (label_within ls v l is) ∙ ap (potential_of weight) is
 
@@ -88,6 +93,7 @@ done-found p ws limit s t ls stop h near target = record {
 unreached : (p : Parts) (ws : Weights) (limit : Option ℕ) (s t : NodeId) (ls : Labels) → IsSearch p ws limit s t ls → HasNoOpen ls → (l : Label) → label_at ls t.0 ≡ Some l → ⊥
 unreached p ws limit s t ls h none l at = let bad : true ≡ false = sym (none t.0 l at) ∙ h.labels.target_open l at in cc
 
+-- a search that has no open node left is done with all ways below its limit
 pub done-all : (p : Parts) (ws : Weights) (limit : Option ℕ) (s t : NodeId) (ls : Labels) (weight : ℕ) → IsSearch p ws limit s t ls → HasNoOpen ls → ((n : ℕ) → n < weight → IsBelow limit n) → IsDoneBelow limit t ls weight
 done-all p ws limit s t ls weight h none below = record {
   far = λ v l at open_. absurd (let bad : true ≡ false = sym (none v l at) ∙ open_ in cc);
@@ -113,6 +119,7 @@ along-arc p ws limit s t ls weight a (Some l) h done usable is head tail =
       | inr beyond ↦ omega (arith, at_tail, beyond, potential-at ls weight (head_of p a).0 head, most)
     ]
 
+-- once the search is done below a weight, potentials rise along no arc by more than its weight
 pub all-along : (p : Parts) (ws : Weights) (limit : Option ℕ) (s t : NodeId) (ls : Labels) (weight : ℕ) → IsInstance p → IsSearch p ws limit s t ls → IsDoneBelow limit t ls weight → RiseAlong p ws (map (potential_of weight) ls)
 all-along p ws limit s t ls weight inst h done = λ a usable. along-arc p ws limit s t ls weight a (label_at ls (tail_of p a).0) h done usable refl
     (omega (arith, head-within p a inst usable.is_an_arc, h.labels.count))
@@ -127,11 +134,13 @@ all-shown p ws limit s outside t ls weight inst h done at_target = record {
   along = all-along p ws limit s outside ls weight inst h done;
 }
 
+-- where the target is the nearest open node, the labels' lengths are potentials that show its length
 pub potentials-right : (p : Parts) (ws : Weights) (limit : Option ℕ) (s t : NodeId) (ls : Labels) (stop : Stop) → IsInstance p → IsSearch p ws limit s t ls → IsNearest ls stop → stop.node.0 ≡ t.0 → ArePotentials p ws s t stop.label.length (map (potential_of stop.label.length) ls)
 potentials-right p ws limit s t ls stop inst h near target =
     let at = potential-label ls stop.label.length t.0 stop.label (subst (λ (v : ℕ). label_at ls v ≡ Some stop.label) target near.is) in
     all-shown p ws limit s t t ls stop.label.length inst h (done-found p ws limit s t ls stop h near target) (omega (arith, at))
 
+-- where the target is the nearest open node, the way of its label is a least path
 pub found-path : (p : Parts) (ws : Weights) (limit : Option ℕ) (s t : NodeId) (ls : Labels) (stop : Stop) → IsInstance p → IsSearch p ws limit s t ls → IsNearest ls stop → stop.node.0 ≡ t.0 → IsLeastPath p ws s t (way p ls stop.label.steps stop.label) stop.label.length
 found-path p ws limit s t ls stop inst h near target =
     let path = way-path p ws s t t ls stop.node.0 stop.label h.labels near.is target in
@@ -148,12 +157,14 @@ stays_in p ws s t reached arcs set path (suc i) within =
     set.closed (arc_at arcs i) (path.usable i (omega arith))
     (subst (IsIn reached) (sym (path.simple.goes_on i (omega arith))) (stays_in p ws s t reached arcs set path i (omega arith)))
 
+-- where a set with the source and without the target is left by no usable arc, there is no path
 pub closed-no_path : (p : Parts) (ws : Weights) (s t : NodeId) (reached : List Bool) → IsClosedSet p ws s t reached → HasNoUsablePath p ws s t
 closed-no_path p ws s t reached set = λ arcs path.
     let there : IsIn reached t.0 = subst (IsIn reached) path.simple.ends_at_target (stays_in p ws s t reached arcs set path (length arcs) (omega arith)) in
     let bad : true ≡ false = sym there ∙ set.lacks_target in
     cc
 
+-- there is a label, and this is it
 pub record IsSomeLabel (x : Option Label) : Type 0 where
   pub label : Label
   pub is : x ≡ Some label
@@ -162,12 +173,14 @@ some-label : (x : Option Label) → is_labelled x ≡ true → IsSomeLabel x
 some-label None h = absurd (let bad : false ≡ true = h in cc)
 some-label (Some l) h = record { label = l; is = refl }
 
+-- a node of the reached set has a label
 pub in-label : (ls : Labels) (v : ℕ) → IsIn (map is_labelled ls) v → IsSomeLabel (label_at ls v)
 in-label ls v h = elim (lt_or_le v (length ls)) [
   | inl within ↦ some-label (label_at ls v) (sym (get_or-map is_labelled ls v None false within) ∙ h)
   | inr past ↦ absurd (let bad : false ≡ true = sym (get_or_past (map is_labelled ls) v false (omega (arith, past, length-map {A = Option Label} {B = Bool} ls is_labelled))) ∙ h in cc)
 ]
 
+-- a labelled node is in the reached set
 pub label-in : (ls : Labels) (v : ℕ) (l : Label) → label_at ls v ≡ Some l → IsIn (map is_labelled ls) v
 label-in ls v l is = get_or-map is_labelled ls v None false (label_within ls v l is) ∙ ap (λ (x : Option Label). is_labelled x) is
 
@@ -181,6 +194,7 @@ lacks ls v none = elim (lt_or_le v (length ls)) [
   | inr past ↦ get_or_past (map is_labelled ls) v false (omega (arith, past, length-map {A = Option Label} {B = Bool} ls is_labelled))
 ]
 
+-- where no node is open and there was no limit, the labelled nodes are a closed set
 pub reached-closed : (p : Parts) (ws : Weights) (s outside t : NodeId) (ls : Labels) → IsSearch p ws None s outside ls → HasNoOpen ls → label_at ls t.0 ≡ None → IsClosedSet p ws s t (map is_labelled ls)
 reached-closed p ws s outside t ls h none missed = record {
   count = length-map ls is_labelled ∙ h.labels.count;
@@ -193,6 +207,7 @@ reached-closed p ws s outside t ls h none missed = record {
       label-in ls (head_of p a).0 to.label to.is;
 }
 
+-- where no node is open, the target has no label: it would be open itself
 pub no-label : (p : Parts) (ws : Weights) (limit : Option ℕ) (s t : NodeId) (ls : Labels) → IsSearch p ws limit s t ls → HasNoOpen ls → label_at ls t.0 ≡ None
 no-label p ws limit s t ls h none = no_label_at (label_at ls t.0) (unreached p ws limit s t ls h none)
 

@@ -7,16 +7,20 @@ use Rattle.least_path.specs.declared.label.Label.{Label}
 use Rattle.least_path.specs.declared.label.Stop.{Stop}
 use Rattle.least_path.specs.Labels.{Labels, label_at, is_nearer_than, nearer_with, nearer_of, HasNoOpenBelow, HasNoOpen, IsNearestBelow, IsNearest}
 
+-- a test holds or fails
 pub decide : (b : Bool) → (b ≡ true) ⊎ (b ≡ false)
 decide true = inl refl
 decide false = inr refl
 
+-- two numbers are equal or differ
 pub same_or_not : (v w : ℕ) → (v ≡ w) ⊎ (v ≢ w)
 same_or_not v w = grind arith
 
+-- a number below the next one is below this one or equal to it
 pub below_cases : (i l : ℕ) → i < suc l → (i < l) ⊎ (i ≡ l)
 below_cases i l h = grind arith
 
+-- a number is below another or reaches it
 pub lt_or_le : (v n : ℕ) → (v < n) ⊎ (n ≤ v)
 lt_or_le v n = grind arith
 
@@ -27,6 +31,7 @@ label_within ls v l is = elim (lt_or_le v (length ls)) [
   | inr past ↦ absurd (let bad : None ≡ Some l = sym (get_or_past ls v None past) ∙ is in cc)
 ]
 
+-- a node has one label
 pub some_same : (x : Option Label) (l m : Label) → x ≡ Some l → x ≡ Some m → l ≡ m
 some_same x l m a b = cc
 
@@ -137,11 +142,13 @@ found-suc : (ls : Labels) (n : ℕ) (found : Option Stop) (node : NodeId) (known
 found-suc ls n found node None number is h = found-kept ls n found (λ l at. absurd (let bad : None ≡ Some l = sym is ∙ at in cc)) h
 found-suc ls n found node (Some l) number is h = found-with ls n found node l number is h
 
+-- the nearer of what was found and the next node is the nearest up to there
 pub found-more : (ls : Labels) (n : ℕ) (found : Option Stop) (node : NodeId) (known : Option Label) → node.0 ≡ n → label_at ls n ≡ known → IsFoundBelow ls n found → IsFoundBelow ls (n + 1) (nearer_of found node known)
 found-more ls n found node known number is h =
     let e : suc n ≡ n + 1 = omega arith in
     subst (λ (k : ℕ). IsFoundBelow ls k (nearer_of found node known)) e (found-suc ls n found node known number is h)
 
+-- after the last node, what was found is the nearest open node, and nothing where none is open
 pub found-all : (ls : Labels) (found : Option Stop) → IsFoundBelow ls (length ls) found → MatchOption found (HasNoOpen ls) (λ stop. IsNearest ls stop)
 found-all ls None h = λ v l is. h v l (label_within ls v l is) is
 found-all ls (Some stop) h = record {

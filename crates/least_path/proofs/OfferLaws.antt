@@ -23,16 +23,19 @@ offered-worse : (ls : Labels) (v : ℕ) (l : Label) → is_better l (label_at ls
 unfolding offered
 offered-worse ls v l h = rw h refl
 
+-- a label that is better than the known one takes its place
 pub offered-taken : (ls : Labels) (v : ℕ) (l : Label) (known : Option Label) → v < length ls → known ≡ get_or ls v known → true ≡ is_better l known → set ls v (Some l) ≡ offered ls v l
 offered-taken ls v l known within is h =
     let at : known ≡ label_at ls v = is ∙ get_or_default ls v known None within in
     sym (offered-better ls v l (subst (λ (k : Option Label). is_better l k ≡ true) at (sym h)))
 
+-- a label that is not better changes nothing
 pub offered-left : (ls : Labels) (v : ℕ) (l : Label) (known : Option Label) → v < length ls → known ≡ get_or ls v known → false ≡ is_better l known → ls ≡ offered ls v l
 offered-left ls v l known within is h =
     let at : known ≡ label_at ls v = is ∙ get_or_default ls v known None within in
     sym (offered-worse ls v l (subst (λ (k : Option Label). is_better l k ≡ false) at (sym h)))
 
+-- a better label is shorter than the known one
 pub shorter : (l : Label) (k : Option Label) (m : Label) → is_better l k ≡ true → k ≡ Some m → l.length < m.length
 shorter l k m h is = ltb-true l.length m.length (subst (λ (x : Option Label). is_better l x ≡ true) is h)
 
@@ -46,10 +49,12 @@ no_longer : (l : Label) (k : Option Label) → is_better l k ≡ false → IsNoL
 no_longer l None h = absurd (let bad : true ≡ false = h in cc)
 no_longer l (Some m) h = record { label = m; is = refl; within = ltb-false l.length m.length h }
 
+-- a node that is not settled counts as open
 pub open_one-unsettled : (k : Option Label) → ((m : Label) → k ≡ Some m → m.settled ≡ false) → open_one k ≡ 1
 open_one-unsettled None h = refl
 open_one-unsettled (Some m) h = rw (h m refl) refl
 
+-- a settled node does not count as open
 pub open_one-settled : (l : Label) → l.settled ≡ true → open_one (Some l) ≡ 0
 open_one-settled l h = rw h refl
 
@@ -58,16 +63,19 @@ pub record IsOld (ls : Labels) (v w : ℕ) (m : Label) : Type 0 where
   pub other : w ≢ v
   pub is : label_at ls w ≡ Some m
 
+-- the label at hand is the new one, at the place where it was written
 pub record IsNew (v w : ℕ) (l m : Label) : Type 0 where
   pub here : w ≡ v
   pub same : l ≡ m
 
+-- after a label is written, each label is the new one or stood there before
 pub new_or_old : (ls : Labels) (v : ℕ) (l : Label) (w : ℕ) (m : Label) → v < length ls → label_at (set ls v (Some l)) w ≡ Some m → IsNew v w l m ⊎ IsOld ls v w m
 new_or_old ls v l w m within at = elim (same_or_not w v) [
   | inl here ↦ inl (record { here = here; same = some_same (label_at (set ls v (Some l)) v) l m (get_or-set_same ls v (Some l) None within) (subst (λ (k : ℕ). label_at (set ls v (Some l)) k ≡ Some m) here at) })
   | inr other ↦ inr (record { other = other; is = sym (get_or-set_other ls v w (Some l) None other) ∙ at })
 ]
 
+-- the labels of other nodes stay
 pub kept : (ls : Labels) (v : ℕ) (l : Label) (w : ℕ) (m : Label) → w ≢ v → label_at ls w ≡ Some m → label_at (set ls v (Some l)) w ≡ Some m
 kept ls v l w m other at = get_or-set_other ls v w (Some l) None other ∙ at
 
@@ -75,6 +83,7 @@ kept ls v l w m other at = get_or-set_other ls v w (Some l) None other ∙ at
 pub settled-other : (ls : Labels) (v : ℕ) (w : ℕ) (m : Label) → ((k : Label) → label_at ls v ≡ Some k → k.settled ≡ false) → label_at ls w ≡ Some m → m.settled ≡ true → w ≢ v
 settled-other ls v w m open_ at settled here = absurd (let bad : true ≡ false = sym settled ∙ open_ m (subst (λ (k : ℕ). label_at ls k ≡ Some m) here at) in cc)
 
+-- a label that goes on from a settled node still does so when an open node gets a new one
 pub reached-kept : (p : Parts) (ws : Weights) (ls : Labels) (v : ℕ) (l : Label) (w : ℕ) (m : Label) → ((k : Label) → label_at ls v ≡ Some k → k.settled ≡ false) → IsReached p ws ls w m → IsReached p ws (set ls v (Some l)) w m
 reached-kept p ws ls v l w m open_ r = record {
   usable = r.usable;
@@ -118,6 +127,7 @@ new-label p ws limit s t ls stop arcs i a l h g open_ same = record {
   };
 }
 
+-- a lawful label stays lawful when another, open node gets a new one
 pub old-label : (p : Parts) (ws : Weights) (s : NodeId) (ls : Labels) (v : ℕ) (l : Label) (w : ℕ) (m : Label) → ((k : Label) → label_at ls v ≡ Some k → k.settled ≡ false) → open_count (set ls v (Some l)) ≤ open_count ls → IsLabel p ws s ls w m → IsLabel p ws s (set ls v (Some l)) w m
 old-label p ws s ls v l w m open_ fewer old = record {
   steps_within = omega (arith, old.steps_within, fewer);
@@ -194,6 +204,7 @@ relaxed-now p ws limit t ls stop a bound tail here is h = λ m at settled.
     let same : stop.label ≡ m = some_same (label_at ls stop.node.0) stop.label m here (subst (λ (k : ℕ). label_at ls k ≡ Some m) tail at) in
     subst (λ (x : Label). IsServed p limit t ls a (x.length + weight_at ws a)) same (subst (IsServed p limit t ls a) is h)
 
+-- where the first arcs of a node are relaxed and the next one is, one arc more is relaxed
 pub done-more : (p : Parts) (ws : Weights) (limit : Option ℕ) (t : NodeId) (ls : Labels) (arcs : List ArcId) (i : ℕ) → ((j : ℕ) → j < i → IsUsable p ws (arc_at arcs j) → IsRelaxed p ws limit t ls (arc_at arcs j)) → (IsUsable p ws (arc_at arcs i) → IsRelaxed p ws limit t ls (arc_at arcs i)) → (j : ℕ) → j < suc i → IsUsable p ws (arc_at arcs j) → IsRelaxed p ws limit t ls (arc_at arcs j)
 done-more p ws limit t ls arcs i before now j below = elim (below_cases j i below) [
   | inl early ↦ before j early
@@ -243,12 +254,14 @@ spread-left p ws limit s t ls stop arcs i a l number h g worse = spread-same p w
     let known = no_longer l (label_at ls (head_of p a).0) worse in
     subst (IsRelaxed p ws limit t ls) (sym number) (relaxed-now p ws limit t ls stop a l.length g.tail h.here g.length_is (λ wanted. record { label = known.label; is = known.is; within = known.within })))
 
+-- offering a usable arc's head its new label relaxes that arc and keeps the search right
 pub spread-offered : (p : Parts) (ws : Weights) (limit : Option ℕ) (s t : NodeId) (ls : Labels) (stop : Stop) (arcs : List ArcId) (i : ℕ) (a : ArcId) (l : Label) → arc_at arcs i ≡ a → IsSpread p ws limit s t ls stop arcs i → GoesOn p ws limit ls stop a l → IsSpread p ws limit s t (offered ls (head_of p a).0 l) stop arcs (suc i)
 spread-offered p ws limit s t ls stop arcs i a l number h g = elim (decide (is_better l (label_at ls (head_of p a).0))) [
   | inl better ↦ subst (λ (x : Labels). IsSpread p ws limit s t x stop arcs (suc i)) (sym (offered-better ls (head_of p a).0 l better)) (spread-taken p ws limit s t ls stop arcs i a l number h g better)
   | inr worse ↦ subst (λ (x : Labels). IsSpread p ws limit s t x stop arcs (suc i)) (sym (offered-worse ls (head_of p a).0 l worse)) (spread-left p ws limit s t ls stop arcs i a l number h g worse)
 ]
 
+-- an offered label leaves as many nodes open
 pub count-offered : (p : Parts) (ws : Weights) (limit : Option ℕ) (s t : NodeId) (ls : Labels) (stop : Stop) (arcs : List ArcId) (i : ℕ) (a : ArcId) (l : Label) → IsSpread p ws limit s t ls stop arcs i → GoesOn p ws limit ls stop a l → open_count (offered ls (head_of p a).0 l) ≡ open_count ls
 count-offered p ws limit s t ls stop arcs i a l h g = elim (decide (is_better l (label_at ls (head_of p a).0))) [
   | inl better ↦ ap open_count (offered-better ls (head_of p a).0 l better) ∙ open_count-offered ls (head_of p a).0 l g.head g.settled (open-head p ws limit s t ls stop arcs i a l h g better)
@@ -265,6 +278,7 @@ near-idle p ws limit t ls stop a worse = λ usable wanted.
     let known = no_longer stop.label (label_at ls (head_of p a).0) worse in
     record { label = known.label; is = known.is; within = omega (arith, known.within) }
 
+-- the place of the next arc, as the loop counts it
 pub spread-next : (p : Parts) (ws : Weights) (limit : Option ℕ) (s t : NodeId) (ls : Labels) (stop : Stop) (arcs : List ArcId) (i : ℕ) → IsSpread p ws limit s t ls stop arcs (suc i) → IsSpread p ws limit s t ls stop arcs (i + 1)
 spread-next p ws limit s t ls stop arcs i h =
     let e : suc i ≡ i + 1 = omega arith in

@@ -19,6 +19,7 @@ use Rattle.least_path.proofs.OfferLaws.{new_or_old, kept, reached-kept, old-labe
 abbrev pub settled_label : Label → Label
 settled_label l = record { length = l.length; steps = l.steps; via = l.via; settled = true }
 
+-- the nearest node with its label, once it is settled
 abbrev pub settled_stop : Stop → Stop
 settled_stop stop = record { node = stop.node; label = settled_label stop.label }
 
@@ -29,6 +30,7 @@ settled_in ls stop = set ls stop.node.0 (Some (settled_label stop.label))
 nearest-open : (ls : Labels) (stop : Stop) → IsNearest ls stop → (k : Label) → label_at ls stop.node.0 ≡ Some k → k.settled ≡ false
 nearest-open ls stop near k at = subst (λ (x : Label). x.settled ≡ false) (some_same (label_at ls stop.node.0) stop.label k near.is at) near.unsettled
 
+-- settling the nearest node leaves one node fewer open
 pub count-settled : (ls : Labels) (stop : Stop) → IsNearest ls stop → open_count (settled_in ls stop) + 1 ≡ open_count ls
 count-settled ls stop near =
     let change : open_count (settled_in ls stop) + open_one (label_at ls stop.node.0) ≡ open_count ls + 0 = sum_by-set open_one ls stop.node.0 (Some (settled_label stop.label)) None (label_within ls stop.node.0 stop.label near.is) in
@@ -115,6 +117,7 @@ wanted-kept limit t ls stop n other w = record {
   shorter = λ m at. w.shorter m (kept ls stop.node.0 (settled_label stop.label) t.0 m (λ same. other (sym same)) at);
 }
 
+-- when the nearest node is settled and is not the target, the way through its arcs can begin
 pub spread-start : (p : Parts) (ws : Weights) (limit : Option ℕ) (s t : NodeId) (ls : Labels) (stop : Stop) → IsSearch p ws limit s t ls → IsNearest ls stop → stop.node.0 ≢ t.0 → IsSpread p ws limit s t (settled_in ls stop) (settled_stop stop) [] 0
 spread-start p ws limit s t ls stop h near other =
     let v = stop.node.0 in
@@ -140,6 +143,7 @@ spread-start p ws limit s t ls stop h near other =
       done = λ j below. absurd (omega arith);
     }
 
+-- before its first arc, the way through a node's arcs is the same for any list of them
 pub spread-arcs : (p : Parts) (ws : Weights) (limit : Option ℕ) (s t : NodeId) (ls : Labels) (stop : Stop) (arcs : List ArcId) → IsSpread p ws limit s t ls stop [] 0 → IsSpread p ws limit s t ls stop arcs 0
 spread-arcs p ws limit s t ls stop arcs h = record {
   labels = h.labels;
@@ -186,10 +190,12 @@ open_count-at_most (x ∷ ls) =
     let more : open_count (x ∷ ls) ≡ (0 + open_one x) + open_count ls = sum_by-append open_one (x ∷ []) ls in
     omega (arith, more, open_one-at_most x, open_count-at_most ls)
 
+-- the node is the source, with the first label
 pub record IsFirst (s w : ℕ) (m : Label) : Type 0 where
   pub here : w ≡ s
   pub same : first_label_of ≡ m
 
+-- before the first step the source alone has a label
 pub first-only : (n s w : ℕ) (m : Label) → s < n → label_at (first_labels_of n s) w ≡ Some m → IsFirst s w m
 first-only n s w m within at = elim (new_or_old (replicate n None) s first_label_of w m (omega (arith, length-replicate {A = Option Label} n None)) at) [
   | inl is ↦ record { here = is.here; same = is.same }
@@ -199,6 +205,7 @@ first-only n s w m within at = elim (new_or_old (replicate n None) s first_label
 first-open : (m : Label) → first_label_of ≡ m → m.settled ≡ false
 first-open m same = subst (λ (x : Label). x.settled ≡ false) same refl
 
+-- before the first step the labels are those of a search
 pub first-search : (p : Parts) (ws : Weights) (limit : Option ℕ) (s t : NodeId) → s.0 < p.nodes → IsBelow limit 0 → IsSearch p ws limit s t (first_labels_of p.nodes s.0)
 first-search p ws limit s t within some =
     let ls = first_labels_of p.nodes s.0 in

@@ -29,9 +29,11 @@ all-settled p ws s outside ls (Some stop) out h near at none =
 tree-done : (p : Parts) (ws : Weights) (s : NodeId) (ls : Labels) (weight : ℕ) → IsTree p ws s ls → IsDoneBelow None (record { 0 = p.nodes }) ls weight
 tree-done p ws s ls weight h = done-all p ws None s (record { 0 = p.nodes }) ls weight h.search h.done (λ n less. tt)
 
+-- the lengths of a finished tree rise along no arc by more than its weight
 pub tree_rises : (p : Parts) (ws : Weights) (s : NodeId) (ls : Labels) (weight : ℕ) (lengths : List ℕ) → lengths ≡ map (potential_of weight) ls → IsInstance p → IsTree p ws s ls → RiseAlong p ws lengths
 tree_rises p ws s ls weight lengths are inst h = subst (RiseAlong p ws) (sym are) (all-along p ws None s (record { 0 = p.nodes }) ls weight inst h.search (tree-done p ws s ls weight h))
 
+-- the way of each label of a finished tree is a least path to its node
 pub tree_least : (p : Parts) (ws : Weights) (s t : NodeId) (ls : Labels) (l : Label) → IsInstance p → IsTree p ws s ls → label_at ls t.0 ≡ Some l → IsLeastPath p ws s t (way p ls l.steps l) l.length
 tree_least p ws s t ls l inst h is =
     let path = way-path p ws s (record { 0 = p.nodes }) t ls t.0 l h.search.labels is refl in
@@ -43,6 +45,7 @@ tree_least p ws s t ls l inst h is =
       least = least p ws s t l.length (map (potential_of l.length) ls) shown;
     }
 
+-- a node without a label in a finished tree is not reached by any path
 pub tree_none : (p : Parts) (ws : Weights) (s t : NodeId) (ls : Labels) → IsTree p ws s ls → label_at ls t.0 ≡ None → HasNoUsablePath p ws s t
 tree_none p ws s t ls h none = closed-no_path p ws s t (map is_labelled ls) (reached-closed p ws s (record { 0 = p.nodes }) t ls h.search h.done none)
 
@@ -57,12 +60,14 @@ before-at p ws s ls last here arcs h some back =
     let r = back-reached p ws s (record { 0 = p.nodes }) ls last here arcs h.search.labels some back in
     ap (λ (b : Bool). if b then label_at ls (tail_of p here.via).0 else None) r.usable.is_an_arc
 
+-- before the first arc is read, the way back stands at its node
 pub read_start : (p : Parts) (ls : Labels) (v : ℕ) (last : Label) → label_at ls v ≡ Some last → IsReadTo p ls last last [] 0
 read_start p ls v last is = record {
   back = record { node = v; is = is; way_is = sym (append-nil (way p ls last.steps last)) };
   left = omega arith;
 }
 
+-- with one arc read, the way back stands at the label before it
 pub read_more : (p : Parts) (ws : Weights) (s : NodeId) (ls : Labels) (last here next : Label) (arcs : List ArcId) (n : ℕ) → IsTree p ws s ls → n < last.steps → IsReadTo p ls last here arcs n → label_before p ls here ≡ Some next → IsReadTo p ls last next (arcs ++ here.via ∷ []) (n + 1)
 read_more p ws s ls last here next arcs n h within read at =
     let some : 0 < here.steps = omega (arith, within, read.left) in
@@ -74,6 +79,7 @@ read_more p ws s ls last here next arcs n h within read at =
       left = omega (arith, read.left, r.steps, same);
     }
 
+-- while arcs are left to read, the label before is there
 pub read_none : (p : Parts) (ws : Weights) (s : NodeId) (ls : Labels) (last here : Label) (arcs : List ArcId) (n : ℕ) → IsTree p ws s ls → n < last.steps → IsReadTo p ls last here arcs n → label_before p ls here ≡ None → ⊥
 read_none p ws s ls last here arcs n h within read none =
     let some : 0 < here.steps = omega (arith, within, read.left) in
@@ -81,6 +87,7 @@ read_none p ws s ls last here arcs n h within read none =
     let bad : Some r.parent ≡ None = sym r.parent_is ∙ sym (before-at p ws s ls last here arcs h some read.back) ∙ none in
     cc
 
+-- the arcs that were read, in reverse, are a least path
 pub read_least : (p : Parts) (ws : Weights) (s t : NodeId) (ls : Labels) (last here : Label) (arcs : List ArcId) (n : ℕ) → IsInstance p → IsTree p ws s ls → label_at ls t.0 ≡ Some last → n ≡ last.steps → IsReadTo p ls last here arcs n → IsLeastPath p ws s t (reverse arcs) (unwrap_or (length_at ls t.0) 0)
 read_least p ws s t ls last here arcs n inst h is all read =
     let length_is : unwrap_or (length_at ls t.0) 0 ≡ last.length = ap (λ (x : Option Label). unwrap_or (length_of_label x) 0) is in
@@ -95,6 +102,7 @@ longest_more ls i most more before grows here v within = elim (below_cases v i w
   | inr last ↦ subst (λ (k : ℕ). unwrap_or (length_at ls k) 0 ≤ more) (sym last) here
 ]
 
+-- a bound on the lengths of all nodes holds beyond the last node too
 pub longest_all : (ls : Labels) (most : ℕ) → ((v : ℕ) → v < length ls → unwrap_or (length_at ls v) 0 ≤ most) → (v : ℕ) → unwrap_or (length_at ls v) 0 ≤ most
 longest_all ls most each v = elim (lt_or_le v (length ls)) [
   | inl below ↦ each v below

@@ -27,6 +27,7 @@ at_least a b o h = by (nat_lt a b) refl h
     by true e less = absurd (let bad : true ≡ false = less in cc)
     by false e less = ltb-false a b e
 
+-- what no waiter comes before has the least length
 pub least_first : (first : Waiter) (queue : List Waiter) → IsUpperBound nearer_first first queue → All (λ (o : Waiter). first.0.length ≤ o.0.length) queue
 least_first first [] h = All-nil (λ (o : Waiter). first.0.length ≤ o.0.length)
 least_first first (x ∷ queue) h = All-cons (λ (o : Waiter). first.0.length ≤ o.0.length) x queue (at_least x.0.length first.0.length _ h.0) (least_first first queue h.1)
@@ -62,6 +63,7 @@ fresh-nearest ls queue first label h all f = record {
   least = λ v l is open_. omega (arith, All-contains (λ (o : Waiter). first.length ≤ o.0.length) queue (waits v l.length) all (h v l is open_), f.length_is);
 }
 
+-- when the first of the queue is taken, the other open nodes still wait
 pub others-wait : (ls : Labels) (old new : List Waiter) (first : Waiting) → AllWait ls old → IsPermutation old (waits first.node.0 first.length ∷ new) → OthersWait ls new first.node.0
 others-wait ls old new first h taken = λ v l other is open_.
     let top = waits first.node.0 first.length in

@@ -97,6 +97,7 @@ pub record IsPathOf (p : Parts) (ws : Weights) (s t : NodeId) (l : Label) (arcs 
   pub path : IsUsablePath p ws s t arcs
   pub weight : weight_of ws arcs ≡ l.length
 
+-- the way of a label is a path to its node, with the label's length as weight
 pub way-path : (p : Parts) (ws : Weights) (s outside t : NodeId) (ls : Labels) (v : ℕ) (l : Label) → AreLabels p ws s outside ls → label_at ls v ≡ Some l → v ≡ t.0 → IsPathOf p ws s t l (way p ls l.steps l)
 way-path p ws s outside t ls v l h at target =
     let arcs = way p ls l.steps l in
@@ -122,6 +123,7 @@ pub record IsReadBack (p : Parts) (ls : Labels) (last here : Label) (arcs : List
   pub is : label_at ls node ≡ Some here
   pub way_is : way p ls last.steps last ≡ way p ls here.steps here ++ reverse arcs
 
+-- one arc more of the way back
 pub back-more : (p : Parts) (ws : Weights) (s t : NodeId) (ls : Labels) (last here next : Label) (arcs : List ArcId) → AreLabels p ws s t ls → 0 < here.steps → IsReadBack p ls last here arcs → label_at ls (tail_of p here.via).0 ≡ Some next → IsReadBack p ls last next (arcs ++ here.via ∷ [])
 back-more p ws s t ls last here next arcs h some b at =
     let r = (h.each b.node here b.is).from_arc (λ none. omega (arith, none, some)) in
@@ -137,6 +139,7 @@ back-more p ws s t ls last here next arcs h some b at =
           ap (λ (xs : List ArcId). way p ls next.steps next ++ xs) (sym (reverse-append arcs (here.via ∷ [])));
     }
 
+-- the arcs that were read to the source are the way in reverse
 pub back-end : (p : Parts) (ls : Labels) (last here : Label) (arcs : List ArcId) → here.steps ≡ 0 → IsReadBack p ls last here arcs → reverse arcs ≡ way p ls last.steps last
 back-end p ls last here arcs none b = sym (b.way_is ∙ ap (λ (k : ℕ). way p ls k here ++ reverse arcs) none)
 

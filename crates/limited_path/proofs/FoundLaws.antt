@@ -81,6 +81,7 @@ within-enough p ws s t hops arcs inst source path =
     let few = length-IsSimplePath p (from_to s t) arcs inst source path.path.simple in
     record { path = path.path; short = omega (arith, few, path.short) }
 
+-- after the last round, the latest label of the target is a least path of at most so many arcs
 pub found : (p : Parts) (ws : Weights) (s t : NodeId) (ls : Labels) (la : Latest) (hops b : ℕ) → IsInstance p → s.0 < p.nodes → IsSearch p ws s ls la (min hops (p.nodes - 1)) → latest_at la t.0 ≡ Some b → IsLeastWithin p ws s t hops (way ls (label_at ls b).steps (label_at ls b)) (label_at ls b).length
 found p ws s t ls la hops b inst source h is =
     let limit = min hops (p.nodes - 1) in
@@ -91,5 +92,6 @@ found p ws s t ls la hops b inst source h is =
       least = λ other path. least.least other (within-enough p ws s t hops other inst source path);
     }
 
+-- where the target has no label after the last round, no path has at most so many arcs
 pub none-found : (p : Parts) (ws : Weights) (s t : NodeId) (ls : Labels) (la : Latest) (hops : ℕ) → IsInstance p → s.0 < p.nodes → IsSearch p ws s ls la (min hops (p.nodes - 1)) → latest_at la t.0 ≡ None → HasNoneWithin p ws s t hops
 none-found p ws s t ls la hops inst source h none = λ arcs path. none-limit p ws s t ls la (min hops (p.nodes - 1)) h none arcs (within-enough p ws s t hops arcs inst source path)

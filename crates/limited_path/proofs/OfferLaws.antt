@@ -386,6 +386,7 @@ spread-more p ws s ls la start n k arcs m h before here = record {
   ];
 }
 
+-- an arc that is not usable asks for nothing
 pub spread-passed : (p : Parts) (ws : Weights) (s : NodeId) (ls : Labels) (la : Latest) (start n k : ℕ) (arcs : List ArcId) (m : ℕ) → IsSpread p ws s ls la start n k arcs m → (IsUsable p ws (arc_at arcs m) → ⊥) → IsSpread p ws s ls la start n k arcs (m + 1)
 spread-passed p ws s ls la start n k arcs m h none = spread-more p ws s ls la start n k arcs m h.round h.relaxed (λ usable. absurd (none usable))
 
@@ -418,6 +419,7 @@ spread-with : (p : Parts) (ws : Weights) (s : NodeId) (ls : Labels) (la : Latest
 spread-with p ws s ls la start n k arcs m l None weights h on via is = spread-left p ws s ls la start n k arcs m l h on (no_shorter ls la start l is) via
 spread-with p ws s ls la start n k arcs m l (Some i) weights h on via is = spread-taken p ws s ls la start n k arcs m l i weights h on (goes ls la start l i h.round.start_within (λ b known. (h.round.ways.latest l.node.0 b known).within) is) via
 
+-- offering the head of a usable arc its label relaxes that arc and keeps the round right
 pub spread-offered : (p : Parts) (ws : Weights) (s : NodeId) (ls : Labels) (la : Latest) (start n k : ℕ) (arcs : List ArcId) (m : ℕ) (l : Label) → AreWeights p ws → IsSpread p ws s ls la start n k arcs m → GoesOn p ws ls start n k l → l.via ≡ arc_at arcs m → IsSpread p ws s (labels_with ls l (place_of ls la start l)) (latest_with la l (place_of ls la start l)) start n k arcs (m + 1)
 spread-offered p ws s ls la start n k arcs m l weights h on via = spread-with p ws s ls la start n k arcs m l (place_of ls la start l) weights h on via refl
 
@@ -439,6 +441,7 @@ kept-with : (ls : Labels) (la : Latest) (start : ℕ) (l : Label) (j : ℕ) (pla
 kept-with ls la start l j None fits inside before is = refl
 kept-with ls la start l j (Some i) fits inside before is = before-kept ls la start l i j fits (goes ls la start l i fits inside is) before
 
+-- labels of earlier rounds stay as they are when a label is offered
 pub kept-offered : (p : Parts) (ws : Weights) (s : NodeId) (ls : Labels) (la : Latest) (start n k : ℕ) (l : Label) → IsRound p ws s ls la start n k → k < start → label_at (labels_with ls l (place_of ls la start l)) k ≡ label_at ls k
 kept-offered p ws s ls la start n k l h before = kept-with ls la start l k (place_of ls la start l) h.start_within (λ b known. (h.ways.latest l.node.0 b known).within) before refl
 

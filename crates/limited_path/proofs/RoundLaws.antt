@@ -13,6 +13,7 @@ use Rattle.limited_path.specs.Labels.{Labels, Latest, label_at, latest_at, IsLab
 use Rattle.limited_path.proofs.WrittenLaws.{same_or_not, lt_or_le, below_cases, some_same}
 use Rattle.limited_path.proofs.OfferLaws.{few-labels}
 
+-- the way through a label's arcs begins with none of them relaxed
 pub spread-start : (p : Parts) (ws : Weights) (s : NodeId) (ls : Labels) (la : Latest) (start n k : ℕ) (arcs : List ArcId) → IsRound p ws s ls la start n k → IsSpread p ws s ls la start n k arcs 0
 spread-start p ws s ls la start n k arcs h = record { round = h; relaxed = λ j below usable. absurd (omega (arith, below)) }
 
@@ -49,6 +50,7 @@ round-times (suc n) m some =
     let less : suc n - 1 ≡ n = omega arith in
     rw less (sym (suc-mul n m))
 
+-- after the rounds before it a round begins with none of its labels spread
 pub round-start : (p : Parts) (ws : Weights) (s : NodeId) (ls : Labels) (la : Latest) (from n : ℕ) → 0 < n → AreRounds p ws s ls la from (n - 1) → IsRound p ws s ls la (length ls) n from
 round-start p ws s ls la from n some h = record {
   ways = h.ways;
@@ -61,6 +63,7 @@ round-start p ws s ls la from n some h = record {
   new = λ i after below. absurd (omega (arith, after, below));
 }
 
+-- when all labels of the last round are spread, one more round is done
 pub round-end : (p : Parts) (ws : Weights) (s : NodeId) (ls : Labels) (la : Latest) (start n : ℕ) → IsRound p ws s ls la start n start → AreRounds p ws s ls la start n
 round-end p ws s ls la start n h = record {
   ways = h.ways;
@@ -136,6 +139,7 @@ first-ways p ws s within = record {
   latest = first-of p.nodes s within;
 }
 
+-- before the first round the source alone has a label, with no arc
 pub first-rounds : (p : Parts) (ws : Weights) (s : NodeId) → s.0 < p.nodes → AreRounds p ws s (first_labels_of s) (first_latest_of p.nodes s) 0 0
 first-rounds p ws s within = record {
   ways = first-ways p ws s within;

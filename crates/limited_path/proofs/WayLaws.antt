@@ -118,6 +118,7 @@ pub record IsPathOf (p : Parts) (ws : Weights) (s t : NodeId) (l : Label) (arcs 
   pub size : length arcs ≡ l.steps
   pub weight : weight_of ws arcs ≡ l.length
 
+-- the way of a label is a path to its node, with the label's length as weight
 pub way-path : (p : Parts) (ws : Weights) (s t : NodeId) (ls : Labels) (la : Latest) (j : ℕ) → AreWays p ws s ls la → j < length ls → (label_at ls j).node.0 ≡ t.0 → IsPathOf p ws s t (label_at ls j) (way ls (label_at ls j).steps (label_at ls j))
 way-path p ws s t ls la j h within target =
     let w = is-way p ws s ls la h (label_at ls j).steps j within refl in
@@ -148,6 +149,7 @@ pub back-reached : (p : Parts) (ws : Weights) (s : NodeId) (ls : Labels) (la : L
 back-reached p ws s ls la last here arcs h some b =
     subst (λ (x : Label). IsReached p ws ls b.place x) (sym b.is) ((h.each b.place b.within).from_arc (λ none. omega (arith, none, some, ap (λ (x : Label). x.steps) b.is)))
 
+-- one arc more of the way back
 pub back-more : (p : Parts) (ws : Weights) (s : NodeId) (ls : Labels) (la : Latest) (last here : Label) (arcs : List ArcId) → AreWays p ws s ls la → 0 < here.steps → IsReadBack ls last here arcs → IsReadBack ls last (label_at ls here.parent) (arcs ++ here.via ∷ [])
 back-more p ws s ls la last here arcs h some b =
     let r = back-reached p ws s ls la last here arcs h some b in
@@ -166,5 +168,6 @@ back-more p ws s ls la last here arcs h some b =
           ap (λ (xs : List ArcId). way ls before.steps before ++ xs) (sym (reverse-append arcs (here.via ∷ [])));
     }
 
+-- the arcs that were read to the source are the way in reverse
 pub back-end : (ls : Labels) (last here : Label) (arcs : List ArcId) → here.steps ≡ 0 → IsReadBack ls last here arcs → reverse arcs ≡ way ls last.steps last
 back-end ls last here arcs none b = sym (b.way_is ∙ ap (λ (k : ℕ). way ls k here ++ reverse arcs) none)

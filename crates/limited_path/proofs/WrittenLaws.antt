@@ -7,19 +7,24 @@ use Rattle.std.proofs.lemmas.List.{get_or-set_same, get_or-set_other, get_or_app
 use Rattle.limited_path.specs.declared.label.Label.{Label}
 use Rattle.limited_path.specs.Labels.{Labels, label_at, no_label, written}
 
+-- a test holds or fails
 pub decide : (b : Bool) → (b ≡ true) ⊎ (b ≡ false)
 decide true = inl refl
 decide false = inr refl
 
+-- two numbers are equal or differ
 pub same_or_not : (v w : ℕ) → (v ≡ w) ⊎ (v ≢ w)
 same_or_not v w = grind arith
 
+-- a number is below another or reaches it
 pub lt_or_le : (v n : ℕ) → (v < n) ⊎ (n ≤ v)
 lt_or_le v n = grind arith
 
+-- a number below the next one is below this one or equal to it
 pub below_cases : (i l : ℕ) → i < suc l → (i < l) ⊎ (i ≡ l)
 below_cases i l h = grind arith
 
+-- a node has one latest label
 pub some_same : (x : Option ℕ) (i j : ℕ) → x ≡ Some i → x ≡ Some j → i ≡ j
 some_same x i j a b = cc
 
@@ -31,6 +36,7 @@ written-behind : (ls : Labels) (i : ℕ) (l : Label) → nat_lt i (length ls) �
 unfolding written
 written-behind ls i l h = rw h refl
 
+-- a written label stands at its place
 pub written-here : (ls : Labels) (i : ℕ) (l : Label) → i ≤ length ls → label_at (written ls i l) i ≡ l
 written-here ls i l within = elim (decide (nat_lt i (length ls))) [
   | inl inside ↦ ap (λ (xs : Labels). label_at xs i) (written-inside ls i l inside) ∙ get_or-set_same ls i l no_label (ltb-true i (length ls) inside)
@@ -39,6 +45,7 @@ written-here ls i l within = elim (decide (nat_lt i (length ls))) [
       ap (λ (xs : Labels). label_at xs i) (written-behind ls i l behind) ∙ ap (label_at (ls ++ l ∷ [])) at ∙ get_or-append_seam ls l [] no_label
 ]
 
+-- a written label leaves the others
 pub written-other : (ls : Labels) (i : ℕ) (l : Label) (j : ℕ) → j ≢ i → j < length ls → label_at (written ls i l) j ≡ label_at ls j
 written-other ls i l j other below = elim (decide (nat_lt i (length ls))) [
   | inl inside ↦ ap (λ (xs : Labels). label_at xs j) (written-inside ls i l inside) ∙ get_or-set_other ls i j l no_label other
@@ -51,6 +58,7 @@ pub record IsLonger (ls : Labels) (i : ℕ) (l : Label) : Type 0 where
   pub here : i < length (written ls i l)
   pub rest : (j : ℕ) → j < length (written ls i l) → j ≢ i → j < length ls
 
+-- a written label lengthens the list by at most itself
 pub written-longer : (ls : Labels) (i : ℕ) (l : Label) → i ≤ length ls → IsLonger ls i l
 written-longer ls i l within = elim (decide (nat_lt i (length ls))) [
   | inl inside ↦
@@ -77,9 +85,11 @@ pub record IsOld (ls : Labels) (i : ℕ) (l : Label) (j : ℕ) : Type 0 where
   pub within : j < length ls
   pub same : label_at (written ls i l) j ≡ label_at ls j
 
+-- at another place stands the label that was there
 pub old : (ls : Labels) (i : ℕ) (l : Label) (j : ℕ) → j ≢ i → j < length ls → IsOld ls i l j
 old ls i l j other within = record { other = other; within = within; same = written-other ls i l j other within }
 
+-- each place holds the written label or the one that was there
 pub new_or_old : (ls : Labels) (i : ℕ) (l : Label) (j : ℕ) → i ≤ length ls → j < length (written ls i l) → (j ≡ i) ⊎ IsOld ls i l j
 new_or_old ls i l j within below = elim (same_or_not j i) [
   | inl here ↦ inl here

@@ -22,6 +22,7 @@ use Rattle.linear_hub.specs.Calls.{Call, Opening, Publishing, Grounding, Pricing
 use Rattle.linear_hub.specs.Histories.{Leads}
 use Rattle.linear_hub.specs.Seats.{HasCalled, HasFound}
 
+-- a call whose move leads on from what was found makes the history longer by one
 pub leads_more : (opening found after : State) (history : List (Entry Call)) (e : Entry Call) → Leads opening history found → Moves found e.call after → Leads opening (history ++ e ∷ []) after
 leads_more opening found after [] e l step = (after, subst (λ z. Moves z e.call after) (sym l) step, refl)
 leads_more opening found after (x ∷ xs) e l step = (l.0, l.1, leads_more l.0 found after xs e l.2 step)

@@ -5,9 +5,11 @@ use mathlib.Core.List.{IsPrefix}
 use lib.ListN.{take}
 use Rattle.one_history.specs.declared.view.Entry.{Entry}
 
+-- a beginning of a beginning of a history is a beginning of it
 pub prefix_trans : {A : Type 0} (xs ys zs : List A) → IsPrefix xs ys → IsPrefix ys zs → IsPrefix xs zs
 prefix_trans xs ys zs p q = (p.0 ++ q.0, sym (append_assoc xs p.0 q.0) ∙ (ap (λ w. w ++ q.0) p.1 ∙ q.1))
 
+-- what stands in a list with one item more stood there before or is the new one
 pub got_end : {A : Type 0} (xs : List A) (x u : A) (k : ℕ) → slice_get (xs ++ x ∷ []) k ≡ Some u → (slice_get xs k ≡ Some u) ⊎ ((k ≡ length xs) × (x ≡ u))
 got_end [] x u zero e = inr (refl, cc e)
 got_end [] x u (suc k) e = absurd (cc e)
@@ -32,6 +34,7 @@ taken zero (y ∷ ys) zs e = absurd (omega (arith, e))
 taken (suc n) [] zs e = absurd (omega (arith, e))
 taken (suc n) (y ∷ ys) zs e = ap (λ l. y ∷ l) (taken n ys zs (omega (arith, e)))
 
+-- an empty list has no item
 pub none_left : {A : Type 0} (xs : List A) (s : A) (k : ℕ) → length xs ≡ 0 → slice_get xs k ≡ Some s → ⊥
 none_left [] s k z e = cc e
 none_left (x ∷ xs) s k z e = absurd (omega arith)

@@ -10,6 +10,7 @@ one_more : {X Y : Type 0} (f : X → Y) (xs : List X) (x : X) (old new : List Y)
 one_more f xs x old new is_old is_new =
     is_new ∙ ap (λ ys. ys ++ f x ∷ []) is_old ∙ sym (map-append f xs (x ∷ []))
 
+-- one item more of a list that a loop makes
 pub next_more : {X Y : Type 0} (f : X → Y) (xs : List X) (i : ℕ) (x : X) (old new : List Y) → i < length xs → x ≡ get_or xs i x → old ≡ map f (take i xs) → new ≡ old ++ f x ∷ [] → new ≡ map f (take (i + 1) xs)
 next_more f xs i x old new within is_x is_old is_new =
     one_more f (take i xs) x old new is_old is_new ∙ ap (map f) (next xs i x within is_x)

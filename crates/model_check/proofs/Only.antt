@@ -39,6 +39,7 @@ same_fields : (a b : Parts) → a.orient ≡ b.orient → a.law ≡ b.law → a.
 unfolding make
 same_fields a b o w n ls ds = same_made a.orient b.orient a.law b.law a.nodes b.nodes a.links b.links a.demands b.demands o w n ls ds
 
+-- two files read as one instance only
 pub same_parts : (net : NetworkFile) (model : ModelFile) (a b : Parts) → ReadsAs net model a → ReadsAs net model b → a ≡ b
 same_parts net model a b h k =
     same_fields a b (h.orient ∙ sym k.orient) (h.law ∙ sym k.law) (h.nodes ∙ sym k.nodes) (h.links ∙ sym k.links) (h.demands ∙ sym k.demands)
@@ -56,6 +57,7 @@ unsupported_not : (m : ModelFile) (key : Key) (value : ℕ) → IsUnsupported m 
 unsupported_not m key value h supported =
     elim h.cause [ inl first ↦ false≢true (sym first.outside ∙ supported.values key) | inr pair ↦ pair.link (supported.pair pair.demand) ]
 
+-- files that read as an instance are refused for want of memory alone
 pub not_refused : (net : NetworkFile) (model : ModelFile) (p : Parts) (fault : CheckFault) → ReadsAs net model p → IsInstance p → IsCheckFault net model fault → fault ≡ OutOfMemory
 not_refused net model p (Unsupported key value) h lawful is = absurd (unsupported_not model key value is h.supported)
 not_refused net model p (Build fault) h lawful is =
@@ -97,6 +99,7 @@ same_unsupported m a b v w h k =
     let values : v ≡ w = h.number ∙ ap (λ key. number_of (setting_of m key)) keys ∙ sym k.number in
     cc
 
+-- two files are refused for one reason, beside want of memory
 pub same_refusal : (net : NetworkFile) (model : ModelFile) (a b : CheckFault) → IsCheckFault net model a → IsCheckFault net model b → (a ≡ OutOfMemory) ⊎ ((b ≡ OutOfMemory) ⊎ (a ≡ b))
 same_refusal net model OutOfMemory b h k = inl refl
 same_refusal net model (Unsupported key value) OutOfMemory h k = inr (inl refl)

@@ -59,9 +59,11 @@ planned_from_none m key false is none =
 none_outside : (m : ModelFile) (key : Key) → outside_fault m key ≡ None → is_planned (setting_of m key) ≡ true
 none_outside m key none = planned_from_none m key (is_planned (setting_of m key)) refl none
 
+-- a value of the profile has no fault
 pub planned-none : (m : ModelFile) (key : Key) → is_planned (setting_of m key) ≡ true → outside_fault m key ≡ None
 planned-none m key planned = ap (λ b. when (not b) (Unsupported key (number_of (setting_of m key)))) planned
 
+-- a value outside the profile is unsupported, and named
 pub outside-some : (m : ModelFile) (key : Key) → is_planned (setting_of m key) ≡ false → outside_fault m key ≡ Some (Unsupported key (number_of (setting_of m key)))
 outside-some m key outside = ap (λ b. when (not b) (Unsupported key (number_of (setting_of m key)))) outside
 
@@ -124,6 +126,7 @@ first_told m e first =
     } in
     subst (IsModelFault m) (sym found.told) unsupported
 
+-- the first value outside the profile is what is told of the model
 pub value_fault_told : (m : ModelFile) (e : CheckFault) → value_fault m ≡ Some e → IsModelFault m e
 unfolding value_fault
 value_fault_told m e is =
@@ -144,4 +147,5 @@ pair_told m value none demand link is = record {
 pub supported : (m : ModelFile) → value_fault m ≡ None → (m.demand ≡ demands.Undirected → m.link ≡ links.Undirected) → IsSupported m
 supported m none pair = record { values = planned_all m none; pair = pair }
 
+-- what the checks of a model say of it
 pub ruleset model_faults = (value_fault_told, not_supported, pair_told, supported)

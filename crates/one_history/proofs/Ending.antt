@@ -67,5 +67,6 @@ module _ {D C : Type 0} (leads : Leading D C) (callers : ℕ) (id : ℕ) (v : Vi
         record { history = k.history; can = h.can; seen = fits.seen; own = fits.own },
       )
 
+-- the value that is found in the slot is the one that was put
 pub same_value : {D : Type 0} (slots : List (Option D)) (p q : D) (found : Option D) → get_elem? slots 0 ≡ some (Some p) → get_elem? slots 0 ≡ some found → found ≡ Some q → p ≡ q
 same_value slots p q found there here is = let e : Some p ≡ found = some-injective _ _ (sym there ∙ here) in cc (e, is)

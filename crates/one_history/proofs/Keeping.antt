@@ -28,9 +28,11 @@ GoesAt {D} {C} leads callers s words id me i f tells = (w : View C) × (a : Act 
     × Kept leads callers record { words = set words i (f (get_or words i 0)); homes = homes_after s.homes me.1 a; views = set s.views id w }
     × tells (get_or words i 0) (w, carried_after me.1 a)
 
+-- an idle caller does not hold the slot
 pub idle_holds_none : (stage : Stage) → stage ≡ Idle → HoldsSlot stage → ⊥
 idle_holds_none stage is = subst (λ z. HoldsSlot z → ⊥) (sym is) (λ b. b)
 
+-- a caller without a ticket is apart from all others
 pub no_ticket : (ticket : Option ℕ) → TicketsApart ticket None
 no_ticket None = tt
 no_ticket (Some t) = tt
@@ -127,6 +129,7 @@ module _ {D C : Type 0} (leads : Leading D C) (serving : ℕ) (history : List (E
   }
 
 module _ {D C : Type 0} (leads : Leading D C) (callers : ℕ) (s : TableState D C) (k : Kept leads callers s) (id : ℕ) (v : View C) where
+  -- what a caller has seen and heard of begins the history
   pub learned : get_elem? s.views id ≡ some v → Learns leads v k.history
   learned at = let f = k.each id v at in record { legal = k.legal; seen = f.seen; heard = f.heard; own = f.own }
 
@@ -137,6 +140,7 @@ module _ {D C : Type 0} (leads : Leading D C) (callers : ℕ) (s : TableState D 
       let y : TicketsApart (Some k.serving) (Some k.serving) = subst (λ (z : Option ℕ × Option ℕ). TicketsApart z.0 z.1) (λ i. (ap ticket_of a.stage i, is i)) x in
       absurd (y refl))
 
+  -- the caller whose ticket is served is the one that has the slot out
   pub holder_view : (a : IsOut k.serving k.history s) → get_elem? s.views id ≡ some v → ticket_of v.stage ≡ Some k.serving → a.view ≡ v
   holder_view a at is = some-injective _ _ (sym a.here ∙ (ap (get_elem? s.views) (holder_is a at is) ∙ at))
 
@@ -166,6 +170,7 @@ module _ {D C : Type 0} (leads : Leading D C) (callers : ℕ) (s : TableState D 
   pub draws_stay : (w : View C) → w.draws ≡ v.draws → get_elem? s.views id ≡ some v → k.tickets + sum_by (λ (u : View C). u.draws) (set s.views id w) ≡ all_draws
   draws_stay w same at = let all : k.tickets + sum_by (λ (u : View C). u.draws) s.views ≡ all_draws = k.draws in omega (arith, total_set (λ (u : View C). u.draws) s.views id v w at, same)
 
+  -- a view that keeps its parts leaves their sum
   pub parts_stay : (w : View C) → w.parts ≡ v.parts → get_elem? s.views id ≡ some v → sum_by (λ (u : View C). u.parts) (set s.views id w) ≡ callers
   parts_stay w same at = let all = k.parts in omega (arith, total_set (λ (u : View C). u.parts) s.views id v w at, same)
 

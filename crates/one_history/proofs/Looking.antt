@@ -132,9 +132,11 @@ module _ {D C : Type 0} (leads : Leading D C) where
         refl,
       )
 
+  -- a look that finds the caller's own ticket hands it the slot
   pub served_after : (m new : Knowing D C) (t n : ℕ) → LooksAt leads m.0.stage m n new → m.0.stage ≡ Waiting t → n ≡ t → IsServed leads t m new
   served_after m new t n l is e = (subst (λ stage. LooksAt leads stage m n new) is l).0 e
 
+  -- a look that finds another ticket changes nothing
   pub unserved_after : (m new : Knowing D C) (t n : ℕ) → LooksAt leads m.0.stage m n new → m.0.stage ≡ Waiting t → n ≢ t → new ≡ m
   unserved_after m new t n l is ne = (subst (λ stage. LooksAt leads stage m n new) is l).1 ne
 

@@ -8,9 +8,11 @@ use Rattle.one_history.specs.Passes.{Pass, IsMaker, IsNewCaller}
 -- How the maker makes callers.
 
 module _ {D C : Type 0} (callers number : ℕ) (old : Pass D C) (m : IsMaker callers number old) (few : number < callers) (most : callers ≤ MAX_CALLERS) where
+  -- the maker has a part to give away
   pub has_part : 0 < old.me.0.parts
   has_part = let parts = m.parts in omega arith
 
+  -- the maker has draws enough for one caller more
   pub has_draws : MAX_CALLS ≤ old.me.0.draws
   has_draws = let draws : old.me.0.draws + number * MAX_CALLS ≡ all_draws = m.draws in omega arith
 

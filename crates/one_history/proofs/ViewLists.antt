@@ -12,16 +12,20 @@ use Rattle.one_history.specs.Rules.{ticket_of, IsHeld}
 -- Lists of views, and beginnings of one list.
 
 module _ {A : Type 0} where
+  -- a history is a beginning of itself
   pub prefix_self : (xs : List A) → IsPrefix xs xs
   prefix_self [] = ([], refl)
   prefix_self (x ∷ xs) = (let r = prefix_self xs in r.0, ap (λ ys. x ∷ ys) (prefix_self xs).1)
 
+  -- the empty history begins each
   pub prefix_nil : (xs : List A) → IsPrefix [] xs
   prefix_nil xs = (xs, refl)
 
+  -- a beginning of a history begins what it grows to
   pub prefix_more : (xs ys zs : List A) → IsPrefix xs ys → IsPrefix xs (ys ++ zs)
   prefix_more xs ys zs p = (p.0 ++ zs, sym (append_assoc xs p.0 zs) ∙ ap (λ w. w ++ zs) p.1)
 
+  -- a place with a view is within the list
   pub at_inside : (l : List A) (i : ℕ) (a : A) → get_elem? l i ≡ some a → i < length l
   at_inside [] i a e = absurd (some-ne-none a (sym e))
   at_inside (x ∷ xs) zero a e = omega arith
@@ -35,6 +39,7 @@ module _ {A : Type 0} where
   at_end (x ∷ xs) a b (suc j) e = ⊎_elim (λ t. inl t) (λ (t : (j ≡ length xs) × (a ≡ b)). inr (ap suc t.0, t.1)) (at_end xs a b j e)
 
 module _ {C : Type 0} where
+  -- a sum over all views of which one changes
   pub total_set : (f : View C → ℕ) (vs : List (View C)) (i : ℕ) (v w : View C) → get_elem? vs i ≡ some v → sum_by f (set vs i w) + f v ≡ sum_by f vs + f w
   total_set f [] i v w at = absurd (some-ne-none v (sym at))
   total_set f (x ∷ xs) zero v w at = let e : f x ≡ f v = ap f (some-injective x v at) in omega (arith, sum_by-cons f x xs, sum_by-cons f w xs, e)

@@ -32,8 +32,10 @@ none_of_each l = replicate (length l.modules) 0
 pub sum-none : (w : ℕ → ℕ) (n : ℕ) → sum_below (λ m. slice_index (replicate n 0) m * w m) n ≡ 0
 sum-none w n = sum_below-zero (λ m. slice_index (replicate n 0) m * w m) n (λ i below. rw (get_or-replicate {A = ℕ} n i 0 0 below) (omega arith))
 
+-- without modules a link has its preinstalled capacity
 pub capacity-none : (l : Link) → capacity_with l (none_of_each l) ≡ l.pre
 capacity-none l = omega (arith, sum-none (λ m. (module_at l m).capacity) (length l.modules))
 
+-- without modules no modules are paid for
 pub cost-none : (l : Link) → module_cost_with l (none_of_each l) ≡ 0
 cost-none l = sum-none (λ m. (module_at l m).cost) (length l.modules)

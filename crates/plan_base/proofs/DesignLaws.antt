@@ -95,6 +95,7 @@ paths_keep_limits p d none k within =
     length_fault-within (demand_id k) (demand_at p k).hops (length (path_at d k))
     (parts-demand_path_fault p d k (first_fault-none (demand_path_fault p d) (length p.demands) none k within)).length
 
+-- a design without a fault is feasible and in shape
 pub IsGoodDesign-design_fault : (p : Parts) (d : Design) → design_fault p d ≡ None → IsGoodDesign p d
 IsGoodDesign-design_fault p d h =
     let none = HasNoFault-design_fault p d h in
@@ -112,6 +113,7 @@ IsGoodDesign-design_fault p d h =
       in_shape = λ e within. (carries e within).shape;
     }
 
+-- a feasible design in shape has no fault
 pub design_fault-IsGoodDesign : (p : Parts) (d : Design) → IsGoodDesign p d → design_fault p d ≡ None
 design_fault-IsGoodDesign p d h = design_fault-HasNoFault p d (record {
   counts = none-when _ WrongCount (both-not_and _ _ (eq-eqb _ _ h.design.path_count) (eq-eqb _ _ h.design.list_count));
@@ -127,4 +129,5 @@ design_fault-IsGoodDesign p d h = design_fault-HasNoFault p d (record {
   }));
 })
 
+-- what ties the first fault of a design to its being feasible
 pub ruleset design_laws = (IsGoodDesign-design_fault, design_fault-IsGoodDesign)

@@ -52,4 +52,5 @@ carried-le-totals p d e = by_cases (is_two_way p.orient)
     by_cases true = omega (arith, load_at-le-total p d (2 * e), load_at-le-total p d (2 * e + 1))
     by_cases false = omega (arith, load_at-le-total p d e)
 
+-- the bounds that the total load sets to places and links
 pub ruleset load_laws = (load_at-le-total, need-le-total, carried-le-totals)

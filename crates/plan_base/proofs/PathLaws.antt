@@ -86,6 +86,7 @@ compare_cases j k = grind arith
 one_to_one : (f : ℕ → ℕ) (n : ℕ) → ((j k : ℕ) → j < k → k < n → f j ≢ f k) → OneToOne f n
 one_to_one f n differ j k j_in k_in same = elim (compare_cases j k) [ inl before ↦ absurd (differ j k before k_in same) | inr w ↦ elim w [ inl is ↦ is | inr after ↦ absurd (differ k j after j_in (sym same)) ] ]
 
+-- a walk without a fault has gone over fewer arcs than there are nodes
 pub walk-short : (p : Parts) (id : DemandId) (source : NodeId) (arcs : List ArcId) (i : ℕ) → IsInstance p → source.0 < p.nodes → i ≤ length arcs → first_fault (fault_at (step_fault p id source arcs) arcs) i ≡ None → i < p.nodes
 walk-short p id source arcs i inst start within none =
     let fine = GoesOn-before p id source arcs i within none in
@@ -117,6 +118,7 @@ is_new-IsSimplePath p k arcs h i within =
     let is_j : get_or (take i arcs) j d ≡ arc_at arcs j = get_or-take i arcs j d j_in ∙ get_or_default arcs j d no_arc (omega arith) in
     rw is_j (false-and_of _ _ (ne_eqb _ _ (h.no_node_twice (suc j) (suc i) (omega arith) (omega arith))))))
 
+-- a simple path of the demand has no fault
 pub path_fault-IsSimplePath : (p : Parts) (id : DemandId) (k : Demand) (arcs : List ArcId) → IsSimplePath p k arcs → path_fault p id k arcs ≡ None
 unfolding path_fault
 path_fault-IsSimplePath p id k arcs h =

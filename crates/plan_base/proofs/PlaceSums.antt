@@ -40,6 +40,7 @@ there-within p e within = by_cases (is_two_way p.orient)
 pub there-same : (p : Parts) (f g : ℕ → ℕ) (e : ℕ) → e < length p.links → ((q : ℕ) → q < places p → f q ≡ g q) → there_of p f e ≡ there_of p g e
 there-same p f g e within same = same _ (there-within p e within)
 
+-- the same for the way back over a link
 pub back-same : (p : Parts) (f g : ℕ → ℕ) (e : ℕ) → e < length p.links → ((q : ℕ) → q < places p → f q ≡ g q) → back_of p f e ≡ back_of p g e
 back-same p f g e within = by_cases (is_two_way p.orient)
   where

@@ -15,6 +15,7 @@ useful-le : (law : CountLaw) (l : Link) (total : ℕ) → useful_load law l tota
 useful-le Any l total = omega arith
 useful-le AtMostOne l total = omega arith
 
+-- the most that a link may carry is at most the total load
 pub top-le : (p : Parts) (l : Link) → top_load p l ≤ total_load p
 top-le p l = by_cases (is_useful l) refl
   where

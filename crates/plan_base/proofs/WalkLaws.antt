@@ -82,4 +82,5 @@ IsWalk-next p id source arcs i here met next_met d next inst walk within none is
           more node.0 ∙ ap (λ b. b || (next.0 == node.0)) old ∙ or-assoc (source.0 == node.0) (list_any test (take i arcs)) (next.0 == node.0) ∙ ap (λ b. source.0 == node.0 || (list_any test (take i arcs) || b)) (sym last) ∙ ap (λ b. source.0 == node.0 || b) (sym longer);
     }
 
+-- the steps of the loop over the arcs of a path
 pub ruleset walk_laws = (walk-stops, walk-goes_on, IsWalk-begin, IsWalk-next)

@@ -48,10 +48,12 @@ found_short command shelf counts before = wanting (fault_line faults.Usage) (IsD
 abbrev IsFoundOf : Option (Command Word) → Told → Counts → ℕ → ℕ → Result Answer Stop → Type 0
 IsFoundOf command shelf counts before now result = IsFound (fault_line faults.Usage) (λ texts status bytes. IsSomeAnd command (λ c. IsDone c texts status bytes)) (option_map names_of command) shelf counts before now result
 
+-- what a command found is what was found for the words that name it
 pub found_read : (words : List Word) (shelf : Told) (counts : Counts) (before now : ℕ) (command : Command Word) (result : Result Answer Stop) → Some command ≡ command_in words
     → IsFoundBy command shelf counts before now result → IsFoundFor words shelf counts before now result
 found_read words shelf counts before now command result is h = subst (λ (o : Option (Command Word)). IsFoundOf o shelf counts before now result) is h
 
+-- words that name no command are a fault of usage
 pub found_unread : (words : List Word) (shelf : Told) (counts : Counts) (before : ℕ) → None ≡ command_in words → IsFoundFor words shelf counts before before (Err (stops.Refused faults.Usage))
 found_unread words shelf counts before is =
     subst (λ (o : Option (Command Word)). IsFoundOf o shelf counts before before (Err (stops.Refused faults.Usage))) is

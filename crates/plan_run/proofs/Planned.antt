@@ -31,6 +31,7 @@ done-good (OfPlan Report network model plan) texts status bytes done = a_problem
 done-good (Upgrade plan) texts status bytes done = a_plan done.plan done.read
 done-good (OfSample work key) texts status bytes done = no_texts done.0
 
+-- texts that are refused are not also worked on
 pub refused_or_done : Below → (command : Command Word) (texts : Texts) (fault : RunFault) (status : Status) (bytes : List ℕ) → AreRefused texts fault → IsDone command texts status bytes → ⊥
 refused_or_done below command texts fault status bytes refused done = refused_or_read below texts fault refused (done-good command texts status bytes done)
 
@@ -38,6 +39,7 @@ refused_or_done below command texts fault status bytes refused done = refused_or
 reads-with : (network model text : Text) (net : NetworkFile) (parts : Parts) → Reads (two network model) net parts → Reads (three network model text) net parts
 reads-with network model text net parts reads = record { options = reads.options; network_text = reads.network_text; model_text = reads.model_text; stands = reads.stands; lawful = reads.lawful }
 
+-- the plan that is written is not refused when it is verified
 pub spelt_where_planned : Below → (budget : ℕ) (network model text : Text) (status : Status) (fault : RunFault) → IsPlanDone budget (two network model) status text → AreRefused (three network model text) fault → ⊥
 spelt_where_planned below budget network model text status fault done refused =
     refused_or_read below (three network model text) fault refused (a_problem done.net done.parts (Some done.holds.plan) record {
@@ -46,12 +48,14 @@ spelt_where_planned below budget network model text status fault done refused =
       few_steps = done.problem.few_steps;
     })
 
+-- the plan that is written is found good when it is verified
 pub good_where_planned : Below → (budget : ℕ) (network model text : Text) (status other : Status) (bytes : List ℕ) → IsPlanDone budget (two network model) status text → IsVerified (three network model text) other bytes → other ≡ Good
 good_where_planned below budget network model text status other bytes done verified =
     good-if done.parts done.holds.plan other bytes
     (verdict-of below (three network model text) done.net done.parts done.holds.plan other bytes (reads-with network model text done.net done.parts done.problem.reads) done.holds.spelt verified)
     done.holds.searched.valid
 
+-- the plan that is written is no longer than a plan text may be
 pub short_where_planned : ((plan : AnyPlan) → IsSpellable plan → HasFields plan → length (written_text plan) ≤ MAX_PLAN_BYTES)
     → (budget : ℕ) (network model text : Text) (status : Status) → IsPlanDone budget (two network model) status text → length text ≤ MAX_PLAN_BYTES
 short_where_planned within budget network model text status done =

@@ -40,5 +40,6 @@ searched-for p q budget other result same equal h = rw (← same, ← equal) h
 pub opening-problem : (p : Parts) (budget : ℕ) (opened : State) → IsOpeningState p budget opened → opened.problem ≡ p
 opening-problem p budget opened h = ap (λ (s : State). s.problem) h.is_state
 
+-- the opening state has the budget that was asked for
 pub opening-budget : (p : Parts) (budget : ℕ) (opened : State) → IsOpeningState p budget opened → opened.budget ≡ budget
 opening-budget p budget opened h = ap (λ (s : State). s.budget) h.is_state

@@ -98,6 +98,7 @@ says-ends below shelf counts begun command Infeasible bytes s says = answer-ends
 says-ends below shelf counts begun command Undecided bytes s says = answer-ends below shelf counts begun command Undecided bytes s says
 says-ends below shelf counts begun command Rejected bytes s says = answer-ends below shelf counts begun command Rejected bytes s says
 
+-- texts that are supported are not refused: the work is done, or reading, writing or memory fails
 pub done_where_supported : Below → (words : List Word) (shelf : Told) (counts : Counts) (begun : ℕ) (command : Command Word) (status : Status) (bytes : List ℕ) → AreSupported words shelf command
     → SaysOf words shelf counts begun status bytes → EndsFor command status
 done_where_supported below words shelf counts begun command status bytes s says =

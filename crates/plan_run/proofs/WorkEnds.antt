@@ -32,6 +32,7 @@ report-ends net parts None status bytes is = absurd is
 report-ends net parts (Some plan) status bytes (reported good is) = inl good
 report-ends net parts (Some plan) status bytes (unreported bad is) = inr bad
 
+-- a command that does its work ends with one of its own statuses
 pub done-ends : (command : Command Word) (texts : Texts) (status : Status) (bytes : List ℕ) → IsDone command texts status bytes → EndsWith command status
 done-ends (OfNetwork (Plan workers budget) network model) texts status bytes done = planned-ends done.holds.plan.status status done.holds.is_status
 done-ends (OfNetwork Check network model) texts status bytes done = done.holds.good
@@ -59,6 +60,7 @@ some-outside : (command : Option (Command Word)) (status : Status) → ((command
 some-outside None status not is = is
 some-outside (Some command) status not is = not command is
 
+-- a run that does the work of its words ends with a status of their command
 pub work_ends : (words : List Word) → EndsSo (IsEndOfWork words) (IsDoneSo words)
 work_ends words = record {
   ends = λ texts status bytes done. some-ends (command_in words) texts status bytes done;

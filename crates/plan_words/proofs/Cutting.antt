@@ -13,13 +13,16 @@ use Rattle.plan_words.specs.Lines.{Line, whole, unfinished, text_of, onto, lines
 use Rattle.plan_words.specs.Words.{before}
 use Rattle.plan_words.specs.Cuts.{found_now, Lacks, StartsWith, IsCutAt, HasNoLine}
 
+-- two texts that lack a byte lack it together
 pub lacks-append : (at : ℕ) (xs ys : List ℕ) → Lacks at xs → Lacks at ys → Lacks at (xs ++ ys)
 lacks-append at [] ys h k = k
 lacks-append at (x ∷ xs) ys h k = (h.0, lacks-append at xs ys h.1 k)
 
+-- one byte more that is not the one looked for
 pub lacks_more : (at : ℕ) (bytes : List ℕ) (i : ℕ) → i < length bytes → (get_or bytes i 0 ≡ at → ⊥) → Lacks at (take i bytes) → Lacks at (take (i + 1) bytes)
 lacks_more at bytes i lt ne h = subst (Lacks at) (sym (take_more bytes i 0 lt)) (lacks-append at (take i bytes) (get_or bytes i 0 ∷ []) h (ne, tt))
 
+-- bytes are cut at the first place of the byte
 pub cut_found : (at : ℕ) (bytes front rest : List ℕ) (i : ℕ) → i < length bytes → get_or bytes i 0 ≡ at → Lacks at (take i bytes) → front ≡ take i bytes → rest ≡ drop i bytes → IsCutAt at bytes front rest
 cut_found at bytes front rest i lt e h f r = record {
   parts = sym (take-append-drop i bytes) ∙ ap (λ xs. xs ++ drop i bytes) (sym f) ∙ ap (λ ys. front ++ ys) (sym r);
@@ -27,6 +30,7 @@ cut_found at bytes front rest i lt e h f r = record {
   begins = subst (StartsWith at) (sym (r ∙ drop_more bytes i 0 lt)) e;
 }
 
+-- bytes without the byte are cut at their end
 pub cut_nowhere : (at : ℕ) (bytes front rest : List ℕ) (n k : ℕ) → length bytes ≤ n → length bytes ≤ k → Lacks at (take n bytes) → front ≡ take k bytes → rest ≡ drop k bytes → IsCutAt at bytes front rest
 cut_nowhere at bytes front rest n k all whole_length h f r = record {
   parts = sym (take-append-drop k bytes) ∙ ap (λ xs. xs ++ drop k bytes) (sym f) ∙ ap (λ ys. front ++ ys) (sym r);
@@ -48,6 +52,7 @@ strips_end bytes word (Some x) h = ap (λ y. Some y) h.1 ∙ ap (λ t. cond t (S
 
 -- ---- lines
 
+-- a text with a line feed has the line before it, and the lines behind it
 pub whole_line : (body rest : List ℕ) → Lacks 10 body → lines_of (body ++ 10 ∷ rest) ≡ whole body ∷ lines_of rest
 unfolding lines_of
 whole_line [] rest h = refl
@@ -58,6 +63,7 @@ onto-none b [] h = tt
 onto-none b (whole body ∷ ls) h = absurd h
 onto-none b (unfinished bytes ∷ ls) h = tt
 
+-- a text without a line feed has no whole line
 pub no_line : (bytes : List ℕ) → Lacks 10 bytes → HasNoLine (lines_of bytes)
 unfolding lines_of
 no_line [] h = tt
@@ -84,9 +90,11 @@ cut-line bytes body [] k some = absurd (omega arith)
 cut-line bytes body (d ∷ rest) k some =
     ap lines_of (k.parts ∙ ap (λ c. body ++ c ∷ rest) k.begins) ∙ whole_line body rest k.none_before
 
+-- the cut at the first line feed gives the first line
 pub cut_line : (bytes body end rest : List ℕ) → IsCutAt 10 bytes body end → 0 < length end → rest ≡ drop 1 end → lines_of bytes ≡ whole body ∷ lines_of rest
 cut_line bytes body end rest k some e = cut-line bytes body end k some ∙ ap (λ r. whole body ∷ lines_of r) (sym e)
 
+-- a cut that finds no line feed shows that there is no whole line
 pub cut_no_line : (bytes body end : List ℕ) → IsCutAt 10 bytes body end → length end ≡ 0 → HasNoLine (lines_of bytes)
 cut_no_line bytes body [] k e = subst (λ bs. HasNoLine (lines_of bs)) (sym (k.parts ∙ append-nil body)) (no_line body k.none_before)
 cut_no_line bytes body (d ∷ rest) k e = absurd (omega arith)

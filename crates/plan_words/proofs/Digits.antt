@@ -27,9 +27,11 @@ in-range c t = (let both = and_parts (nat_le 48 c) (nat_le c 57) t in (leb-true 
 is-digit : (c : ℕ) → IsInRange 48 57 c → is_ascii_digit c ≡ true
 is-digit c r = and_from (nat_le 48 c) (nat_le c 57) (le-leb 48 c r.0) (le-leb c 57 r.1)
 
+-- each byte of digits is a digit
 pub digit_is : (ds : List ℕ) (i : ℕ) → AllDigits 10 ds → i < length ds → is_ascii_digit (get_or ds i 0) ≡ false → ⊥
 digit_is ds i a lt e = true≢false (sym (is-digit (get_or ds i 0) (digit_at ds i a lt)) ∙ e)
 
+-- one digit more of a value
 pub value_more : (ds : List ℕ) (i v : ℕ) → i < length ds → v ≡ digits_value 10 (take i ds) → is_ascii_digit (get_or ds i 0) ≡ true → v * 10 + (get_or ds i 0 - 48) ≡ digits_value 10 (take (i + 1) ds)
 value_more ds i v lt e t =
     let range : IsInRange 48 57 (get_or ds i 0) = in-range (get_or ds i 0) t in
@@ -43,11 +45,13 @@ value_within ds i v lt e t = omega (arith, value_more ds i v lt e t, digits_valu
 
 -- ---- the digits behind a point
 
+-- digits that write a fraction of at most so many places
 pub record IsFraction (places n : ℕ) (digits : List ℕ) : Type 0 where
   pub all : AllDigits 10 digits
   pub within : length digits ≤ places
   pub value : digits_value 10 digits * 10 ^ (places - length digits) ≡ n
 
+-- the digits of a fraction have its value
 pub fraction_is : (places n : ℕ) → places ≤ 64 → n < 10 ^ places → IsFraction places n (fraction_digits places n)
 fraction_is zero n within small = record { all = tt; within = omega arith; value = omega arith }
 fraction_is (suc places) n within small = by (cases_Bool (n % 10 == 0)) (fraction_is places (n / 10) (omega arith) less)
@@ -81,6 +85,7 @@ module _ (v : ℕ) (small : v < 2 ^ 128) where
   rest-small : v % 10 ^ 12 < 10 ^ 12
   rest-small = omega arith
 
+  -- the text of grains has the value's whole part and fraction
   pub grains_scaled : IsScaledParts v (decimal (v / 10 ^ 12)) (fraction_digits 12 (v % 10 ^ 12))
   grains_scaled =
       let h = fraction_is 12 (v % 10 ^ 12) (omega arith) rest-small in
@@ -112,6 +117,7 @@ in-parts word p = (word ++ p.0, p.1)
 abbrev with-fraction : List ℕ → List ℕ → List ℕ × List ℕ
 with-fraction fraction word = (word, fraction)
 
+-- the parts of the text of grains give the value back
 pub grains_guess : (v : ℕ) → v < 2 ^ 128 → scaled_parts (parts_of (grains_text v 12)) ≡ v
 unfolding grains_text
 grains_guess v small =
@@ -121,24 +127,30 @@ grains_guess v small =
     ∙ ap (with-fraction (fraction_digits 12 (v % 10 ^ 12))) (append-nil (decimal (v / 10 ^ 12))))
     ∙ s.sum
 
+-- bytes that are read as grains are the text of that value
 pub grains_takes : (bytes : List ℕ) (v : ℕ) → grains_of bytes ≡ Some v → (v < 2 ^ 128) × (bytes ≡ grains_text v 12)
 unfolding grains_of
 grains_takes bytes v e = read_takes (λ value. grains_text value 12) (λ bytes. scaled_parts (parts_of bytes)) bytes v e
 
+-- the text of a value is read as that value
 pub grains_found : (bytes : List ℕ) (v : ℕ) → v < 2 ^ 128 → bytes ≡ grains_text v 12 → grains_of bytes ≡ Some v
 unfolding grains_of
 grains_found bytes v small e = read_found (λ value. grains_text value 12) (λ bytes. scaled_parts (parts_of bytes)) grains_guess bytes v small e
 
+-- bytes that are the text of no value are not read
 pub grains_none : (bytes : List ℕ) → ((v : ℕ) → v < 2 ^ 128 → bytes ≡ grains_text v 12 → ⊥) → grains_of bytes ≡ None
 unfolding grains_of
 grains_none bytes lost = read_none (λ value. grains_text value 12) (λ bytes. scaled_parts (parts_of bytes)) bytes lost
 
+-- bytes that are equal to the text of the value at hand are read as it
 pub grains_yes : (bytes : List ℕ) (v : ℕ) → v < 2 ^ 128 → bytes_eq bytes (grains_text v 12) ≡ true → Some v ≡ grains_of bytes
 grains_yes bytes v small e = sym (grains_found bytes v small ((bytes_eq-Decides bytes (grains_text v 12)).0 e))
 
+-- bytes without a guess are not read
 pub grains_lost : (bytes : List ℕ) → ((v : ℕ) → v < 2 ^ 128 → bytes ≡ grains_text v 12 → None ≡ Some v) → None ≡ grains_of bytes
 grains_lost bytes lost = sym (grains_none bytes (λ v small e. (let bad : None ≡ Some v = lost v small e in absurd cc)))
 
+-- bytes that differ from the text of the value at hand are not read
 pub grains_no : (bytes : List ℕ) (v : ℕ) → ((n : ℕ) → n < 2 ^ 128 → bytes ≡ grains_text n 12 → Some v ≡ Some n) → bytes_eq bytes (grains_text v 12) ≡ false → None ≡ grains_of bytes
 grains_no bytes v read f = sym (grains_none bytes (λ n small e. other n small e))
   where
@@ -148,6 +160,7 @@ grains_no bytes v read f = sym (grains_none bytes (λ n small e. other n small e
         let same : v ≡ n = cc in
         true≢false (sym ((bytes_eq-Decides bytes (grains_text v 12)).1 (e ∙ ap (λ k. grains_text k 12) (sym same))) ∙ f)
 
+-- the fraction of a value fits a machine integer
 pub fraction_small : (v : ℕ) (whole_part fraction : List ℕ) → IsScaledParts v whole_part fraction → digits_value 10 fraction < 2 ^ 128
 fraction_small v whole_part fraction s = omega (arith, digits_value-lt 10 fraction s.fraction_digits, pow-le-pow_right {n = 10} (omega arith) s.short)
 
@@ -164,6 +177,7 @@ grains_first v small =
 
 -- ---- a text has one cut
 
+-- bytes are cut at the first place of a byte in one way
 pub one_cut : (at : ℕ) (a b x y : List ℕ) → Lacks at a → Lacks at b → StartsWith at x → StartsWith at y → a ++ x ≡ b ++ y → (a ≡ b) × (x ≡ y)
 one_cut at [] [] x y la lb sx sy e = (refl, e)
 one_cut at [] (c ∷ b) [] y la lb sx sy e = absurd cc
@@ -191,5 +205,6 @@ cut-scaled v bytes whole_part rest small e k =
     let parts = one_cut 46 whole_part (decimal (v / 10 ^ 12)) rest (behind_point (fraction_digits 12 (v % 10 ^ 12))) k.none_before (digits-lack 46 (decimal (v / 10 ^ 12)) (inl (omega arith)) s.whole_digits) k.begins (starts-point (fraction_digits 12 (v % 10 ^ 12))) (sym k.parts ∙ e) in
     subst (λ f. IsScaledParts v whole_part f) (sym (ap (drop 1) parts.1 ∙ drop-point (fraction_digits 12 (v % 10 ^ 12)))) (subst (λ w. IsScaledParts v w (fraction_digits 12 (v % 10 ^ 12))) (sym parts.0) s)
 
+-- the text of grains, cut at its point, gives whole part and fraction
 pub cut_scaled : (v : ℕ) (bytes whole_part rest fraction : List ℕ) → v < 2 ^ 128 → bytes ≡ grains_text v 12 → IsCutAt 46 bytes whole_part rest → fraction ≡ drop 1 rest → IsScaledParts v whole_part fraction
 cut_scaled v bytes whole_part rest fraction small e k is = subst (λ f. IsScaledParts v whole_part f) (sym is) (cut-scaled v bytes whole_part rest small e k)

@@ -10,6 +10,7 @@ use Rattle.pool_machine.specs.State.{State}
 use Rattle.pool_machine.specs.Opening.{OpenStep}
 use Rattle.pool_machine.specs.Publishing.{PublishStep}
 
+-- opening a node accepts no path
 pub open_counts : (p q : State) (total : ℕ) (X Y : Type 0) (id : BranchId) (r : Result (Result Opened RoundFault) AllocError) → p.accepted ≡ total
     → IfOk r (λ answer. OpenStep p id answer q) → OnErr r ((q ≡ p) × X × Y) → q.accepted ≡ total
 open_counts p q total X Y id (Ok (Ok opened)) is event same = ap (λ (s : State). s.accepted) event.becomes ∙ is
@@ -28,6 +29,7 @@ publish_counts_if p q total id seen prices (publish.Ungathered demand) is event 
 publish_counts_if p q total id seen prices (publish.NoGain before after) is event = ap (λ (s : State). s.accepted) event.unchanged ∙ is
 publish_counts_if p q total id seen prices (publish.Published slot version) is event = ap (λ (s : State). s.accepted) event.becomes ∙ is
 
+-- publishing prices accepts no path
 pub publish_counts : (p q : State) (total : ℕ) (X Y : Type 0) (id : BranchId) (seen : ℕ) (prices : List ℕ) (r : Result Publish AllocError) → p.accepted ≡ total
     → IfOk r (λ answer. PublishStep p id seen prices answer q) → OnErr r ((q ≡ p) × X × Y) → q.accepted ≡ total
 publish_counts p q total X Y id seen prices (Ok answer) is event same = publish_counts_if p q total id seen prices answer is event

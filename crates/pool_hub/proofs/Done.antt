@@ -9,6 +9,7 @@ use Rattle.pool_machine.specs.Tasks.{IsLawfulTask}
 use Rattle.pool_desk.specs.Standings.{standing_of}
 use Rattle.pool_hub.specs.States.{HasState}
 
+-- a task that says so shows that the pool is done
 pub nothing_left : (p : Parts) (budget : ℕ) (answer : Task) (standing : Standing) (asks : Bool) → HasState p budget (λ s. IsLawfulTask s answer × (standing ≡ standing_of asks s)) → answer ≡ task.Done
     → HasState p budget (λ s. is_done s ≡ true)
 nothing_left p budget answer standing asks h is = record { state = h.state; of_search = h.of_search; fact = subst (IsLawfulTask h.state) is h.fact.0 }

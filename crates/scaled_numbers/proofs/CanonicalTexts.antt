@@ -108,6 +108,7 @@ module _ (value scale : ℕ) (large : value < 10 ^ 64) (within : scale ≤ 64) w
   rest-small : rest < 10 ^ scale
   rest-small = mod-lt value some
 
+  -- the text that is written is a canonical decimal of the value
   pub grains_text-canonical : IsCanonicalDecimal scale value (grains_text value scale)
   unfolding grains_text
   grains_text-canonical =
@@ -199,6 +200,7 @@ same-point false false l a b = refl
 same-point true false l a b = sym (b.1 (a.0 refl))
 same-point false true l a b = a.1 (b.0 refl)
 
+-- two canonical numbers of one value are spelled alike
 pub one-canonical : (scale v : ℕ) (m n : Numeral) → IsNumber m → IsNumber n → IsCanonical m → IsCanonical n → IsScaled scale m v → IsScaled scale n v → spelled m ≡ spelled n
 one-canonical scale v m n g h c d x y =
     let places : length m.fraction ≡ length n.fraction =
@@ -219,6 +221,7 @@ one-canonical scale v m n g h c d x y =
     let point : m.point ≡ n.point = same-point m.point n.point (length n.fraction) (subst (λ k. m.point ≡ true ↔ (0 < k)) places c.pointed) d.pointed in
     rw (whole, fraction, point, c.plain, d.plain) refl
 
+-- a value has one canonical decimal
 pub one-text : (scale v : ℕ) (s t : List ℕ) → IsCanonicalDecimal scale v s → IsCanonicalDecimal scale v t → s ≡ t
 one-text scale v s t a b = a.spells.bytes ∙ one-canonical scale v a.numeral b.numeral a.spells.number b.spells.number a.canonical b.canonical a.value b.value ∙ sym b.spells.bytes
 
@@ -243,22 +246,26 @@ module _ (value scale : ℕ) (large : value < 2 ^ 128) (within : scale ≤ 12) w
   behind-is : IsFraction scale (value % 10 ^ scale) (fraction_digits scale (value % 10 ^ scale))
   behind-is = fraction-is scale (value % 10 ^ scale) (omega arith) (rest-small value scale wide-value (omega arith))
 
+  -- the text that is written is not empty
   pub text-some : 0 < length (grains_text value scale)
   unfolding grains_text
   text-some = omega (arith, (decimal_is_IsNumeral_wide (value / 10 ^ scale) (whole-wide value scale wide-value (omega arith))).0.0, length-append (decimal (value / 10 ^ scale)) (behind_point (fraction_digits scale (value % 10 ^ scale))))
 
+  -- the text that is written fits the buffer
   pub text-short : length (grains_text value scale) ≤ 52
   unfolding grains_text
   text-short =
       let whole : length (decimal (value / 10 ^ scale)) ≤ 39 = length-decimal-le_wide 39 (value / 10 ^ scale) (omega arith) (omega (arith, div-le_self value (10 ^ scale), large)) (whole-wide value scale wide-value (omega arith)) in
       omega (arith, whole, behind-is.within, point-length (fraction_digits scale (value % 10 ^ scale)), length-append (decimal (value / 10 ^ scale)) (behind_point (fraction_digits scale (value % 10 ^ scale))))
 
+  -- the text that is written has digits and a point alone, so that it is one word
   pub text-bytes : All IsDecimalByte (grains_text value scale)
   unfolding grains_text
   text-bytes =
       let whole = decimal_is_IsNumeral_wide (value / 10 ^ scale) (whole-wide value scale wide-value (omega arith)) in
       All-append IsDecimalByte (decimal (value / 10 ^ scale)) (behind_point (fraction_digits scale (value % 10 ^ scale))) (digit-bytes (decimal (value / 10 ^ scale)) whole.0.1) (point-bytes (fraction_digits scale (value % 10 ^ scale)) behind-is.all)
 
+  -- a text is a canonical decimal of the value exactly where it is the one that is written
   pub canonical-only : (text : List ℕ) → IsCanonicalDecimal scale value text ↔ (text ≡ grains_text value scale)
   canonical-only text =
       let here = grains_text-canonical value scale wide-value (omega arith) in

@@ -99,6 +99,7 @@ module _ (text : List ℕ) (scale : ℕ) where
             end = λ e. absurd (omega (arith, k.shorter));
           })
 
+  -- an answer that is right by the relation is that of the function
   pub decides : (r : Result ℕ NumberFault) → Answers text scale r → r ≡ decimal_of text scale
   decides r a = one-answer text scale r (decimal_of text scale) a answered
 
@@ -108,11 +109,13 @@ reads text scale r e v =
     let a = subst (λ (q : Result ℕ NumberFault). Answers text scale q) (sym e) (answered text scale) in
     (λ is. subst (λ (q : Result ℕ NumberFault). IfOk q (λ w. IsRead text scale w)) is a.read, λ h. a.read_only v h)
 
+-- an answer of the function is a fault exactly where the relation has that fault
 pub faults : (text : List ℕ) (scale : ℕ) (r : Result ℕ NumberFault) → r ≡ decimal_of text scale → (f : NumberFault) → (r ≡ Err f) ↔ IsFault text scale f
 faults text scale r e f =
     let a = subst (λ (q : Result ℕ NumberFault). Answers text scale q) (sym e) (answered text scale) in
     (λ is. subst (λ (q : Result ℕ NumberFault). IfErr q (λ g. IsFault text scale g)) is a.fault, λ h. a.fault_only f h)
 
+-- a value that is read is below ten to the twelve and the scale
 pub is-small : (text : List ℕ) (scale : ℕ) (r : Result ℕ NumberFault) → Answers text scale r → IfOk r (λ v. v < 10 ^ (12 + scale))
 is-small text scale (Ok v) a = a.read.small
 is-small text scale (Err f) a = tt

@@ -10,6 +10,7 @@ use Rattle.std.proofs.lemmas.Int.Digits.{digits_value-lt}
 use Rattle.std.proofs.lemmas.Str.{digit_value_digit}
 use Rattle.std.proofs.lemmas.Str.Parse.{digit_from_value}
 
+-- digits behind digits are digits
 pub all-append : (xs ys : List ℕ) → AllDigits 10 xs → AllDigits 10 ys → AllDigits 10 (xs ++ ys)
 all-append [] ys a b = b
 all-append (c ∷ xs) ys a b = (a.0, all-append xs ys a.1 b)
@@ -31,6 +32,7 @@ after-append : (n : ℕ) (xs ys : List ℕ) → digits_value_after 10 n (xs ++ y
 after-append n [] ys = refl
 after-append n (c ∷ xs) ys = after-append (n * 10 + digit_value c) xs ys
 
+-- what two lists of digits write behind one another
 pub value-append : (xs ys : List ℕ) → digits_value 10 (xs ++ ys) ≡ digits_value 10 xs * 10 ^ length ys + digits_value 10 ys
 value-append xs ys = after-append 0 xs ys ∙ after-is (digits_value 10 xs) ys
 
@@ -39,6 +41,7 @@ pub zeros-all : (k : ℕ) (ds : List ℕ) → AllDigits 10 ds → AllDigits 10 (
 zeros-all zero ds a = a
 zeros-all (suc k) ds a = (omega arith, zeros-all k ds a)
 
+-- zeros in front change no value
 pub zeros-value : (k : ℕ) (ds : List ℕ) → digits_value 10 (replicate k 48 ++ ds) ≡ digits_value 10 ds
 zeros-value zero ds = refl
 zeros-value (suc k) ds = zeros-value k ds
@@ -77,6 +80,7 @@ snoc [] some = absurd (omega arith)
 snoc (x ∷ []) some = ([], x, refl)
 snoc (x ∷ y ∷ ys) some = let (front, end, e) = snoc (y ∷ ys) (omega arith) in (x ∷ front, end, ap (λ zs. x ∷ zs) e)
 
+-- two equal lists have the same last item
 pub same-end : (front more : List ℕ) (x y : ℕ) → front ++ x ∷ [] ≡ more ++ y ∷ [] → x ≡ y
 same-end [] [] x y e = ap (λ xs. get_or xs 0 0) e
 same-end [] (b ∷ more) x y e = absurd (omega (arith, ap length e, length-append more (y ∷ [])))
@@ -85,15 +89,18 @@ same-end (a ∷ front) (b ∷ more) x y e = same-end front more x y (ap (drop 1)
 
 -- ---- the digits of a number
 
+-- the last digit of a number is its remainder by ten
 pub last-digit : (n : ℕ) → n < 10 ^ 64 → (front : List ℕ) × (decimal n ≡ front ++ (48 + n % 10) ∷ [])
 last-digit = decimal_by_steps_wide (λ n ds. (front : List ℕ) × (ds ≡ front ++ (48 + n % 10) ∷ []))
     (λ n small. ([], let same : n ≡ n % 10 = omega arith in ap (λ k. (48 + k) ∷ []) same))
     (λ n ds ten before. (ds, refl))
 
+-- a positive number is not written with a zero in front
 pub first-digit : (n : ℕ) → n < 10 ^ 64 → 0 < n → 48 < get_or (decimal n) 0 0
 first-digit n small = (decimal_by_steps_wide (λ m ds. (0 < length ds) × (0 < m → 48 < get_or ds 0 0)) (λ m l. (omega arith, λ a. omega arith))
     (λ m ds l h. (omega (arith, length-append ds ((48 + m % 10) ∷ [])), λ a. omega (arith, get_or-append ds ((48 + m % 10) ∷ []) 0 0 h.0, h.1 (omega arith)))) n small).1
 
+-- a number that is written with a zero in front is that zero alone
 pub no-zero-first : (n : ℕ) (rest : List ℕ) → n < 10 ^ 64 → decimal n ≡ 48 ∷ rest → rest ≡ []
 no-zero-first zero rest small e = ap (drop 1) (sym e ∙ decimal_digit 0 (omega arith))
 no-zero-first (suc n) rest small e = absurd (omega (arith, first-digit (suc n) small (omega arith), ap (λ ds. get_or ds 0 0) e))

@@ -8,14 +8,17 @@ use Rattle.std.proofs.Math.Seq.{take-append_seam}
 use Rattle.scaled_numbers.specs.Canonical.{padded, fraction_digits, behind_point, grains_text}
 use Rattle.scaled_numbers.specs.Kept.{shown}
 
+-- a fraction that ends in a zero is that of one place less
 pub drops_zero : (places n : ℕ) → 0 < places → n % 10 ≡ 0 → fraction_digits places n ≡ fraction_digits (places - 1) (n / 10)
 drops_zero zero n some e = absurd (omega arith)
 drops_zero (suc places) n some e = let less : places ≡ suc places - 1 = omega arith in rw e (ap (λ k. fraction_digits k (n / 10)) less)
 
+-- a fraction that does not end in a zero is written whole
 pub keeps_all : (places n : ℕ) → n % 10 ≢ 0 → fraction_digits places n ≡ shown places n
 keeps_all zero n some = refl
 keeps_all (suc places) n some = grind (arith, nat_tests)
 
+-- without its last digit, a fraction fits one place less
 pub one_less : (places n : ℕ) → 0 < places → n < 10 ^ places → n / 10 < 10 ^ (places - 1)
 one_less zero n some small = absurd (omega arith)
 one_less (suc places) n some small =
@@ -23,20 +26,25 @@ one_less (suc places) n some small =
     let more : 10 ^ suc places ≡ 10 ^ places * 10 = pow-suc 10 places in
     rw less (omega (arith, more, small))
 
+-- a fraction of at most 64 places is within the range of decimal
 pub wide : (places n : ℕ) → places ≤ 64 → n < 10 ^ places → n < 10 ^ 64
 wide places n within small = omega (arith, pow-le-pow_right {n = 10} (omega arith) within)
 
+-- a fraction has at most as many digits as places
 pub few_digits : (places n : ℕ) → 0 < places → places ≤ 64 → n < 10 ^ places → length (decimal n) ≤ places
 few_digits places n some within small = length-decimal-le_wide places n some small (wide places n within small)
 
+-- digits that are not empty stand behind a point
 pub pointed : (digits : List ℕ) → 0 < length digits → behind_point digits ≡ 46 ∷ digits
 pointed [] some = absurd (omega arith)
 pointed (digit ∷ digits) some = refl
 
+-- digits that are shown are filled up with zeros in front
 pub shown-padded : (places n : ℕ) → 0 < places → shown places n ≡ padded places n
 shown-padded zero n some = absurd (omega arith)
 shown-padded (suc places) n some = refl
 
+-- filled up with zeros, a fraction has as many digits as places
 pub length-padded : (places n : ℕ) → length (decimal n) ≤ places → length (padded places n) ≡ places
 length-padded places n small = omega (arith, length-append (replicate (places - length (decimal n)) 48) (decimal n), length-replicate {A = ℕ} (places - length (decimal n)) 48)
 

@@ -18,6 +18,7 @@ use Rattle.scaled_numbers.specs.Scanning.{glyph_of, stage_after, with_byte, Stat
 
 -- ---- what the kind of a byte says
 
+-- what a byte is, from the glyph that it stands for
 abbrev pub Tells : ℕ → Glyph → Type 0
 Tells b glyphs.Digit = digit_value b < 10
 Tells b glyphs.Dot = b ≡ 46
@@ -42,9 +43,11 @@ digit-below b e = grind (arith, nat_tests)
 is-digit : (b : ℕ) → digit_value b < 10 → is_ascii_digit b ≡ true
 is-digit b e = grind (arith, nat_tests)
 
+-- each byte is what its glyph says
 pub tells : (b : ℕ) → Tells b (glyph_of b)
 tells b = tells-chain b _ _ _ _ _ _ (digit-below b) (eqb-true b 46) (eqb-true b 69) (eqb-true b 101) (eqb-true b 43) (eqb-true b 45)
 
+-- a digit has the glyph of digits
 pub glyph-digit : (b : ℕ) → digit_value b < 10 → glyph_of b ≡ glyphs.Digit
 glyph-digit b e = rw (is-digit b e) refl
 
@@ -54,12 +57,14 @@ glyph-letter b (inr e) = rw e refl
 
 -- ---- what is known at each stage
 
+-- whole digits and fraction without an exponent: at least one digit, and a fraction only behind a point
 pub record IsMantissa (n : Numeral) : Type 0 where
   pub whole : AllDigits 10 n.whole
   pub fraction : AllDigits 10 n.fraction
   pub some : 0 < length n.whole + length n.fraction
   pub no_point : n.point ≡ false → n.fraction ≡ []
 
+-- some whole digits are read and nothing behind them
 pub record HasWhole (n : Numeral) : Type 0 where
   pub digits : AllDigits 10 n.whole
   pub some : 0 < length n.whole
@@ -67,6 +72,7 @@ pub record HasWhole (n : Numeral) : Type 0 where
   pub fraction : n.fraction ≡ []
   pub power : n.power ≡ no_exponent
 
+-- a point is read and at least one digit on one of its sides
 pub record HasFraction (n : Numeral) : Type 0 where
   pub whole : AllDigits 10 n.whole
   pub fraction : AllDigits 10 n.fraction
@@ -74,6 +80,7 @@ pub record HasFraction (n : Numeral) : Type 0 where
   pub point : n.point ≡ true
   pub power : n.power ≡ no_exponent
 
+-- an exponent is read up to here: its letter, its sign and these digits
 pub record HasPower (n : Numeral) (sign : Sign) (digits : List ℕ) : Type 0 where
   pub before : IsMantissa n
   pub mark : ℕ
@@ -81,9 +88,11 @@ pub record HasPower (n : Numeral) (sign : Sign) (digits : List ℕ) : Type 0 whe
   pub power : n.power ≡ exponent mark sign digits
   pub all : AllDigits 10 digits
 
+-- the number of which a point alone is read
 abbrev pub after_point : Numeral
 after_point = record { whole = []; point = true; fraction = []; power = no_exponent }
 
+-- which numbers each stage of reading can have behind it
 abbrev pub Reached : Stage → Numeral → Type 0
 Reached Start n = n ≡ nothing
 Reached Whole n = HasWhole n
@@ -211,6 +220,7 @@ unfolding run
 run-ends [] s r = record { reached = r; text = sym (append-nil (spelled s.1)) }
 run-ends (b ∷ bytes) s r = run-ends-from b bytes s.1 (next s b) (λ t q. run-ends bytes t q) (one-byte s b r)
 
+-- a run from the start reaches a number of its stage, which spells the bytes read
 pub run_reached : (bytes : List ℕ) (t : State) → run start bytes ≡ Some t → Reached t.0 t.1 × (bytes ≡ spelled t.1)
 run_reached bytes t e =
     let h : Ends bytes nothing (Some t) = subst (λ (o : Option State). Ends bytes nothing o) e (run-ends bytes start refl) in
@@ -218,6 +228,7 @@ run_reached bytes t e =
 
 -- ---- what has been reached is a number, or begins one
 
+-- a run that may end at its stage has read a number
 pub is_number : (st : Stage) (n : Numeral) → Reached st n → is_last st ≡ true → IsNumber n
 is_number Start n r e = absurd cc
 is_number Whole n r e = record { whole = r.digits; fraction = rw r.fraction tt; some = omega (arith, r.some); no_point = λ p. r.fraction; power = rw r.power tt }
@@ -256,6 +267,7 @@ goes Mark n r = with_zero n no_sign r
 goes Signed n (sign, r) = with_zero n sign r
 goes Power n r = whole_as_it_is n (is_number Power n r refl)
 
+-- bytes that a run goes through begin a number
 pub run_begun : (bytes : List ℕ) (t : State) → run start bytes ≡ Some t → IsBegun bytes
 run_begun bytes t e =
     let r = run_reached bytes t e in
@@ -264,6 +276,7 @@ run_begun bytes t e =
 
 -- ---- each number is read
 
+-- a run over two texts goes over the one and then the other
 pub run-append : (xs ys : List ℕ) (s : State) → run s (xs ++ ys) ≡ option_and_then (λ t. run t ys) (run s xs)
 unfolding run
 run-append [] ys s = refl
@@ -336,9 +349,11 @@ number-run-by (d ∷ ds) true f e h =
     (exponent-run Fraction (d ∷ ds) true f e refl refl h.power)
     (sym (append_assoc (d ∷ ds) (46 ∷ f) (exponent_text e)))
 
+-- each number is run through to its end
 pub number_run : (n : Numeral) → IsNumber n → Lands start (spelled n) n
 number_run n h = number-run-by n.whole n.point n.fraction n.power h
 
+-- a text that spells a number is run through to it
 pub spelled_run : (text : List ℕ) (n : Numeral) → Spells text n → Lands start text n
 spelled_run text n h = rw h.bytes (number_run n h.number)
 

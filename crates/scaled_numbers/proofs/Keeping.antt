@@ -19,27 +19,32 @@ use Rattle.scaled_numbers.specs.Scanning.{glyph_of, stage_after, in_whole, in_fr
 use Rattle.scaled_numbers.specs.Kept.{Holds, Sees, Expects}
 use Rattle.scaled_numbers.proofs.Grammar.{Tells, tells, Reached, run_reached, run_begun, begun_run, is_number, spelled_run, run-append}
 
+-- a byte with the glyph of digits has the value of its code less 48
 pub digit_is : (b : ℕ) (g : Glyph) → g ≡ glyph_of b → g ≡ glyphs.Digit → digit_value b ≡ b - 48
 digit_is b g e f =
     let small : digit_value b < 10 = subst (λ (h : Glyph). Tells b h) (sym e ∙ f) (tells b) in
     omega (arith, digit_value_digit b (digit_from_value b small))
 
+-- a digit before the point keeps what the scan knows of the number
 pub keep_whole : (s : Scan) (d : Digits) (st : Stage) (n : Numeral) (b : ℕ) → n.fraction ≡ [] → digit_value b ≡ b - 48 → Holds d.core d.zeros (digits_value 10 (n.whole ++ n.fraction) * 10 + (b - 48)) → Sees s n
     → Sees (record { stage = st; digits = d; places = s.places; power = s.power; negative = s.negative }) (in_whole glyphs.Digit b n)
 keep_whole s d st n b e v h r =
     let m : digits_value 10 ((n.whole ++ b ∷ []) ++ n.fraction) ≡ digits_value 10 (n.whole ++ n.fraction) * 10 + (b - 48) = rw (e, append-nil, append-nil, digits_value_push, v) refl in
     record { digits = rw m h; places = r.places; power = r.power; negative = r.negative }
 
+-- a digit behind the point keeps what the scan knows, with one place more
 pub keep_fraction : (s : Scan) (d : Digits) (st : Stage) (n : Numeral) (b : ℕ) → digit_value b ≡ b - 48 → Holds d.core d.zeros (digits_value 10 (n.whole ++ n.fraction) * 10 + (b - 48)) → Sees s n
     → Sees (record { stage = st; digits = d; places = s.places + 1; power = s.power; negative = s.negative }) (in_fraction glyphs.Digit b n)
 keep_fraction s d st n b v h r =
     let m : digits_value 10 (n.whole ++ (n.fraction ++ b ∷ [])) ≡ digits_value 10 (n.whole ++ n.fraction) * 10 + (b - 48) = rw (← append_assoc n.whole n.fraction (b ∷ []), digits_value_push, v) refl in
     record { digits = rw m h; places = omega (arith, r.places, length-append n.fraction (b ∷ [])); power = r.power; negative = r.negative }
 
+-- a minus before an exponent keeps what the scan knows, with the exponent negative
 pub keep_minus : (s : Scan) (st : Stage) (n : Numeral) (b : ℕ) → Expects Signed n → Sees s n
     → Sees (record { stage = st; digits = s.digits; places = s.places; power = s.power; negative = true }) (with_byte Signed glyphs.Minus b n)
 keep_minus s st n b (mark, e) r = record { digits = r.digits; places = r.places; power = rw e (r.power ∙ rw e refl); negative = rw e refl }
 
+-- a digit of the exponent keeps what the scan knows, with the exponent capped
 pub keep_power : (s : Scan) (st : Stage) (n : Numeral) (b power : ℕ) → Expects Power n → digit_value b ≡ b - 48 → power ≡ min (s.power * 10 + (b - 48)) (10 ^ 9) → Sees s n
     → Sees (record { stage = st; digits = s.digits; places = s.places; power = power; negative = s.negative }) (in_power glyphs.Digit b n)
 keep_power s st n b power (mark, sign, digits, e) v p r =
@@ -111,6 +116,7 @@ IsAt text i s = (n : Numeral) × (run start (take i text) ≡ Some (s.stage, n))
 run-to : (text : List ℕ) (i : ℕ) (st : Stage) (n : Numeral) → i < length text → run start (take i text) ≡ Some (st, n) → run start (take (i + 1) text) ≡ next (st, n) (get_or text i 0)
 run-to text i st n lt e = ap (run start) (take_more text i 0 lt) ∙ run-push (take i text) (get_or text i 0) (st, n) e
 
+-- a byte that the stage takes leads the scan to the next place
 pub goes_on : (text : List ℕ) (i : ℕ) (s : Scan) (g : Glyph) (st : Stage) (after : Scan) → i < length text → IsAt text i s → g ≡ glyph_of (get_or text i 0) → stage_after s.stage g ≡ Some st → after.stage ≡ st
     → ((n : Numeral) → Expects st n → Sees s n → Sees after (with_byte st g (get_or text i 0) n)) → IsAt text (i + 1) after
 goes_on text i s g st after lt (n, ran, sees) glyph leads same keeps =
@@ -119,6 +125,7 @@ goes_on text i s g st after lt (n, ran, sees) glyph leads same keeps =
     let go : next (s.stage, n) (get_or text i 0) ≡ Some (st, with_byte st g (get_or text i 0) n) = rw (← glyph, leads) refl in
     (with_byte st g (get_or text i 0) n, rw same (run-to text i s.stage n lt ran ∙ go), keeps n x sees)
 
+-- a byte that the stage refuses is the place where the text stops being a number
 pub misfits : (text : List ℕ) (i : ℕ) (s : Scan) (g : Glyph) → i < length text → IsAt text i s → g ≡ glyph_of (get_or text i 0) → stage_after s.stage g ≡ None → IsMisfit text i
 misfits text i s g lt (n, ran, sees) glyph dead =
     let stop : next (s.stage, n) (get_or text i 0) ≡ None = rw (← glyph, dead) refl in
@@ -132,6 +139,7 @@ misfits text i s g lt (n, ran, sees) glyph dead =
 ran-all : (text : List ℕ) (i : ℕ) (t : State) → length text ≤ i → run start (take i text) ≡ Some t → run start text ≡ Some t
 ran-all text i t le e = ap (run start) (sym (take_all i text le)) ∙ e
 
+-- a text that ends where no number may end is no number, for want of more
 pub ends_early : (text : List ℕ) (i : ℕ) (s : Scan) → length text ≤ i → IsAt text i s → is_last s.stage ≡ false → IsMisfit text (length text)
 ends_early text i s le (n, ran, sees) open_end =
     let all = ran-all text i (s.stage, n) le ran in
@@ -146,6 +154,7 @@ ends_early text i s le (n, ran, sees) open_end =
           cc);
     }
 
+-- a text that ends where a number may end spells the number that was kept
 pub ends_well : (text : List ℕ) (i : ℕ) (s : Scan) → length text ≤ i → IsAt text i s → is_last s.stage ≡ true → (n : Numeral) × Spells text n × Sees s n
 ends_well text i s le (n, ran, sees) last =
     let r = run_reached text (s.stage, n) (ran-all text i (s.stage, n) le ran) in

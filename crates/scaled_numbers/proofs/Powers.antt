@@ -9,9 +9,11 @@ use Rattle.scaled_numbers.specs.Decimal.{Exponent, no_exponent, exponent, no_sig
 use Rattle.scaled_numbers.specs.declared.fault.NumberFault.TheVariants.{NotANumber, Finer, TooLarge}
 use Rattle.scaled_numbers.specs.Kept.{Holds, Agrees, IsShifted, power_of, is_negative}
 
+-- a power of ten is at least one
 pub one-le-ten : (k : ℕ) → 1 ≤ 10 ^ k
 one-le-ten k = one-le-pow k 10 (omega arith)
 
+-- the next power of ten
 pub ten-more : (k : ℕ) → 10 ^ (k + 1) ≡ 10 ^ k * 10
 ten-more k = rw add-one (pow-suc 10 k)
 
@@ -22,6 +24,7 @@ long a k some h =
     let q : 1 * 10 ^ k ≤ a * 10 ^ k = mul-le-mul_right (10 ^ k) some in
     omega (arith, p, q)
 
+-- what reaches the cap is kept as the cap
 pub at_cap : (m : ℕ) → 10 ^ 18 ≤ m → 10 ^ 18 ≡ min m (10 ^ 18)
 at_cap m h = omega (arith, h)
 
@@ -37,14 +40,17 @@ kept-mul e p c some =
           rw m (omega (arith, q, r))
     ]
 
+-- capping at each step of times and plus is capping at the end
 pub kept-push : (e p c d : ℕ) → 1 ≤ p → min (min (min e c * p) c + d) c ≡ min (e * p + d) c
 kept-push e p c d some = rw (kept-mul e p c some) (omega arith)
 
+-- one more zero behind a capped number
 pub once-more : (a k c : ℕ) → min (min (a * 10 ^ k) c * 10) c ≡ min (a * 10 ^ (k + 1)) c
 once-more a k c = kept-mul (a * 10 ^ k) 10 c (omega arith) ∙ ap (λ (n : ℕ). min n c) (mul_assoc a (10 ^ k) 10 ∙ ap (λ (n : ℕ). a * n) (sym (ten-more k)))
 
 -- ---- digits behind a number
 
+-- a digit other than zero takes the zeros that wait into the core
 pub holds_digit : (core zeros n digit : ℕ) → 0 < digit → digit < 10 → Holds core zeros n → Holds (min (min (core * 10 ^ (zeros + 1)) (10 ^ 18) + digit) (10 ^ 18)) 0 (n * 10 + digit)
 holds_digit core zeros n digit some small h =
     let e : h.exact * 10 ^ (zeros + 1) ≡ n * 10 = rw (ten-more zeros, h.value) (sym (mul_assoc h.exact (10 ^ zeros) 10)) in
@@ -55,6 +61,7 @@ holds_digit core zeros n digit some small h =
       last = λ _. omega (arith, e);
     }
 
+-- a zero waits behind the core
 pub holds_zero : (core zeros n : ℕ) → Holds core zeros n → Holds core (zeros + 1) (n * 10)
 holds_zero core zeros n h = record {
   exact = h.exact;
@@ -63,6 +70,7 @@ holds_zero core zeros n h = record {
   last = h.last;
 }
 
+-- a zero behind nothing is nothing
 pub holds_nothing : (zeros n : ℕ) → Holds 0 zeros n → Holds 0 zeros (n * 10)
 holds_nothing zeros n h =
     let none : h.exact ≡ 0 = omega (arith, h.kept) in
@@ -75,9 +83,11 @@ holds_nothing zeros n h =
 pub split : (up down : ℕ) → down ≤ up → 10 ^ up ≡ 10 ^ (up - down) * 10 ^ down
 split up down h = let e : up ≡ (up - down) + down = omega arith in ap (λ (k : ℕ). 10 ^ k) e ∙ pow-add 10 (up - down) down
 
+-- where the fraction is not longer than the shift, the shift is a whole multiple
 pub whole-shift : (n up down : ℕ) → down ≤ up → n * 10 ^ up ≡ n * 10 ^ (up - down) * 10 ^ down
 whole-shift n up down h = ap (λ (p : ℕ). n * p) (split up down h) ∙ sym (mul_assoc n (10 ^ (up - down)) (10 ^ down))
 
+-- a common positive factor cancels
 pub cancel : (a b p : ℕ) → 1 ≤ p → a * p ≡ b * p → a ≡ b
 cancel a b p some e = sym (mul-div_cancel a some) ∙ ap (λ (n : ℕ). n / p) e ∙ mul-div_cancel b some
 
@@ -104,11 +114,13 @@ kept-shift core n up down eu ed kept some le (inr (inl (d, far, more))) =
     (omega arith, sym (at_cap (core * 10 ^ (up - down)) a) ∙ at_cap (n * 10 ^ (eu - ed)) b)
 kept-shift core n up down eu ed kept some le (inr (inr (u, lt, more))) = absurd (omega arith)
 
+-- zero shifted by any power of ten is zero
 pub shift_zero : (n eu ed limit : ℕ) → 0 ≡ min n (10 ^ 18) → 0 < limit → IsShifted n eu ed limit (Ok 0)
 shift_zero n eu ed limit kept some =
     let none : n ≡ 0 = omega (arith, kept) in
     (rw (none, zero-mul, zero-mul) refl, some)
 
+-- a number that no zero ends is finer than a grain where its fraction is longer than the shift
 pub shift_finer : (core n up down eu ed limit : ℕ) → core ≡ min n (10 ^ 18) → 0 < core → (0 < n → 0 < n % 10) → up < down → Agrees up down eu ed → IsShifted n eu ed limit (Err Finer)
 shift_finer core n up down eu ed limit kept some last lt a = λ v e. no-shift n v eu ed (omega (arith, kept)) last (apart a) e
   where
@@ -117,17 +129,20 @@ shift_finer core n up down eu ed limit kept some last lt a = λ v e. no-shift n 
     apart (inr (inl (d, far, more))) = absurd (omega arith)
     apart (inr (inr (u, l, more))) = omega arith
 
+-- a shifted number that reaches the limit is too large
 pub shift_large : (core n up down eu ed limit value : ℕ) → core ≡ min n (10 ^ 18) → 0 < core → down ≤ up → Agrees up down eu ed → value ≡ min (core * 10 ^ (up - down)) (10 ^ 18) → limit ≤ value → IsShifted n eu ed limit (Err TooLarge)
 shift_large core n up down eu ed limit value kept some le a is large =
     let k = kept-shift core n up down eu ed kept some le a in
     (n * 10 ^ (eu - ed), whole-shift n eu ed k.0, omega (arith, is, k.1))
 
+-- a shifted number below the limit is the value
 pub shift_ok : (core n up down eu ed limit value : ℕ) → core ≡ min n (10 ^ 18) → 0 < core → down ≤ up → Agrees up down eu ed → limit ≤ 10 ^ 18 → value ≡ min (core * 10 ^ (up - down)) (10 ^ 18) → value < limit → IsShifted n eu ed limit (Ok value)
 shift_ok core n up down eu ed limit value kept some le a cap is small =
     let k = kept-shift core n up down eu ed kept some le a in
     let v : value ≡ n * 10 ^ (eu - ed) = omega (arith, is, k.1) in
     (whole-shift n eu ed k.0 ∙ ap (λ (m : ℕ). m * 10 ^ ed) (sym v), small)
 
+-- one number at one scale has one value
 pub one_value : (n v w up down : ℕ) → n * 10 ^ up ≡ v * 10 ^ down → n * 10 ^ up ≡ w * 10 ^ down → v ≡ w
 one_value n v w up down e f = cancel v w (10 ^ down) (one-le-ten down) (sym e ∙ f)
 
@@ -157,6 +172,7 @@ plus-is (exponent mark no_sign digits) n = (refl, refl)
 plus-is (exponent mark plus digits) n = (refl, refl)
 plus-is (exponent mark minus digits) n = absurd cc
 
+-- a negative exponent moves the point as its capped copy does
 pub lowers : (e : Exponent) (zeros scale places len power : ℕ) → places ≡ len → zeros ≤ 8388608 → scale ≤ 6 → is_negative e ≡ true → power ≡ min (power_of e) (10 ^ 9) → Agrees (zeros + scale) (places + power) (zeros + (scale + raised e)) (len + lowered e)
 lowers e zeros scale places len power l z s neg p =
     let m = minus-is e neg in
@@ -165,6 +181,7 @@ lowers e zeros scale places len power l z s neg p =
       | inr le ↦ inr (inr (omega (arith, m.0), omega (arith, p), omega (arith, m.1, p)))
     ]
 
+-- an exponent that is not negative moves the point as its capped copy does
 pub raises : (e : Exponent) (zeros scale places len power : ℕ) → places ≡ len → places ≤ 8388608 → is_negative e ≡ false → power ≡ min (power_of e) (10 ^ 9) → Agrees (zeros + scale + power) places (zeros + (scale + raised e)) (len + lowered e)
 raises e zeros scale places len power l z neg p =
     let m = plus-is e neg in

@@ -92,12 +92,14 @@ module _ (text : List ℕ) (scale : ℕ) (n : Numeral) (h : Spells text n) where
       same Finer k = absurd (k.no_value v (subst (λ (m : Numeral). IsScaled scale m v) (one_numeral text n k.numeral h k.spells) x))
       same TooLarge k = refl
 
+  -- the right shift of a number's digits is the right answer to its text
   pub answers : (r : Result ℕ NumberFault) → IsShifted (digits_value 10 (n.whole ++ n.fraction)) (scale + raised n.power) (length n.fraction + lowered n.power) (10 ^ (12 + scale)) r → Answers text scale r
   answers (Ok v) s = read-is v s.0 s.1
   answers (Err (NotANumber at)) s = absurd s
   answers (Err Finer) s = finer-is s
   answers (Err TooLarge) s = large-is s.0 s.1 s.2
 
+-- a text that is no number is answered with the place where it stops being one
 pub misfit_answers : (text : List ℕ) (scale at : ℕ) → IsMisfit text at → Answers text scale (Err (NotANumber at))
 misfit_answers text scale at m = record {
   read = tt;

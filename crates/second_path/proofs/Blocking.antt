@@ -14,6 +14,7 @@ use Rattle.second_path.specs.Searching.{IsBefore, IsTree, IsSearch, IsFreeRoute,
 use Rattle.second_path.proofs.Trees.{holds-set_keeps, holds-set_only, last_or_before, false_true}
 use Rattle.second_path.proofs.Joins.{permitted_of_route, other_of_route}
 
+-- a search that takes arcs alone has arrived along arcs
 pub arrivals_are_arcs : (p : Parts) (takes : ArcId → Bool) (first : List Bool) (start : NodeId) (xs : List ArcId) → ((a : ArcId) → takes a ≡ true → IsTrue (is_arc p a)) → IsTree p takes first start xs → All (λ a. IsTrue (is_arc p a)) xs
 arrivals_are_arcs p takes first start xs are_arcs tree = λ i d within.
     subst (λ a. IsTrue (is_arc p a)) (sym (get_or_default xs i d no_arc within)) (are_arcs _ (tree.taken i within))
@@ -65,6 +66,7 @@ path_found p r k d first route arcs is_demand free is_arcs =
     subst (IsPermittedPath p r k) (sym is_arcs)
     (permitted_of_route p r k None first route (subst (λ (e : Demand). IsFreeRoute p (may_take p r k None) first e.source e.target route) is_demand free))
 
+-- the front of a path and a free route from there to the target make another path
 pub other_found : (p : Parts) (r : Forbidden) (k : ℕ) (path : List ArcId) (i : ℕ) (first : List Bool) (start target : NodeId) (way arcs : List ArcId)
     → IsPermittedPath p r k path → i < length path → start ≡ tail_of p (arc_at path i) → target ≡ (demand_at p k).target → IsBlockedTo p (demand_at p k).source path (i + 1) first
     → IsFreeRoute p (may_take p r k (Some (arc_at path i))) first start target way → arcs ≡ take i path ++ way → IsOtherPath p r k path arcs

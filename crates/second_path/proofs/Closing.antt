@@ -38,6 +38,7 @@ takes_of p r k out a is_an_arc permitted kept = three (is_arc p a) (r k a) (is_l
 before_or_at : (i m : ℕ) → i ≤ m → (i < m) ⊎ (i ≡ m)
 before_or_at i m h = grind arith
 
+-- where a search in vain begins at a node of the path, no other path turns off there
 pub no_other_at : (p : Parts) (r : Forbidden) (k : ℕ) (path : List ArcId) (i : ℕ) (first met : List Bool) (start : NodeId) (xs : List ArcId)
     → IsPermittedPath p r k path → i < length path → start.0 ≡ node_at p (demand_at p k).source path i
     → IsBlockedTo p (demand_at p k).source path (i + 1) first → (target : NodeId) → target ≡ (demand_at p k).target
@@ -132,6 +133,7 @@ agree p r k path others path_is others_is none (suc n) upto = elim (agree p r k 
     by_length same true e = inl (let next : n + 1 ≡ suc n = omega arith in subst (λ m. take m others ≡ take m path) next (longer same (ltb-true _ _ e)))
     by_length same false e = inr (ended same (ltb-false _ _ e))
 
+-- a path off which no other turns at any of its nodes is the only one
 pub only_path : (p : Parts) (r : Forbidden) (k : ℕ) (path : List ArcId) → IsPermittedPath p r k path → ((i : ℕ) → i < length path → HasNoOtherAt p r k path i) → IsOnlyPath p r k path
 only_path p r k path path_is none = record {
   permitted = path_is;

@@ -96,6 +96,7 @@ path_of p s t [] h = record {
 }
 path_of p s t (a ∷ arcs) h = cons_path p s t a arcs h.0 h.1 h.2 (path_of p (head_of p a) t arcs h.3)
 
+-- a route from a demand's source to its target is a simple path of the demand
 pub simple_of_route : (p : Parts) (k : Demand) (arcs : List ArcId) → IsRoute p k.source k.target arcs → IsSimplePath p k arcs
 simple_of_route p k arcs h =
     let is = path_of p k.source k.target arcs h in
@@ -130,10 +131,12 @@ and_second : (a b : Bool) → (a && b) ≡ true → b ≡ true
 and_second true b h = h
 and_second false b h = cc
 
+-- an arc that may be taken is not forbidden
 pub taken_permitted : (p : Parts) (r : Forbidden) (k : ℕ) (out : Option ArcId) (a : ArcId) → may_take p r k out a ≡ true → r k a ≡ false
 unfolding may_take
 taken_permitted p r k out a h = not_true (r k a) (and-first _ _ (and_second (is_arc p a) _ h))
 
+-- an arc that may be taken is not the one to be left out
 pub taken_not_left_out : (p : Parts) (r : Forbidden) (k : ℕ) (out : Option ArcId) (a : ArcId) → may_take p r k out a ≡ true → is_left_out out a ≡ false
 unfolding may_take
 taken_not_left_out p r k out a h = not_true (is_left_out out a) (and_second (not (r k a)) _ (and_second (is_arc p a) _ h))

@@ -12,6 +12,7 @@ use Rattle.second_path.specs.Others.{holds}
 use Rattle.second_path.specs.Searching.{IsLedTo, IsBefore, IsTree, Avoids, IsRoute, IsFree, IsFreeRoute, IsStepBack, IsBackTo}
 use Rattle.second_path.proofs.Trees.{before_along}
 
+-- before the first step back, no arc is picked and the target is wanted
 pub back_start : (p : Parts) (takes : ArcId → Bool) (first : List Bool) (start target : NodeId) (xs : List ArcId) (n : ℕ) → IsBefore p start xs n target.0 → IsBackTo p takes first start target xs n target []
 back_start p takes first start target xs n before = record {
   route = record { route = refl; free = tt };
@@ -43,6 +44,7 @@ pub from_same : (p : Parts) (s m t : NodeId) (arcs : List ArcId) → m.0 ≡ s.0
 from_same p s m t [] same r = sym same ∙ r
 from_same p s m t (b ∷ arcs) same r = (r.0, r.1 ∙ same, subst (λ v. Avoids p v (b ∷ arcs)) same r.2, r.3)
 
+-- with the arc that arrived at the wanted node, the way back is one arc longer
 pub back_more : (p : Parts) (takes : ArcId → Bool) (first : List Bool) (start target : NodeId) (xs : List ArcId) (i : ℕ) (a : ArcId) (want more : NodeId) (picked longer : List ArcId)
     → ((a : ArcId) → takes a ≡ true → IsTrue (is_arc p a)) → IsTree p takes first start xs → i < length xs → a ≡ arc_at xs i
     → IsBackTo p takes first start target xs (i + 1) want picked → IsStepBack p a want more picked longer → IsBackTo p takes first start target xs i more longer
@@ -92,6 +94,7 @@ back_more p takes first start target xs i a want more picked longer are_arcs tre
           behind = λ v h. so_far.behind v (sooner p start xs i v h);
         }))
 
+-- at the start, the arcs picked on the way back are a free route in reverse
 pub back_whole : (p : Parts) (takes : ArcId → Bool) (first : List Bool) (start target : NodeId) (xs : List ArcId) (want : NodeId) (picked : List ArcId) → IsBackTo p takes first start target xs 0 want picked → IsFreeRoute p takes first start target (reverse picked)
 back_whole p takes first start target xs want picked h = record {
   route = from_same p start want target (reverse picked) is_start h.route.route;
@@ -101,4 +104,5 @@ back_whole p takes first start target xs want picked h = record {
     is_start : want.0 ≡ start.0
     is_start = elim h.before [ inl is ↦ is | inr led ↦ absurd (omega (arith, led.within)) ]
 
+-- the steps of reading a route back from the arrivals
 pub ruleset routes = (back_start, back_more, back_whole)

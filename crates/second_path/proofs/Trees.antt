@@ -13,21 +13,27 @@ use Rattle.second_path.specs.Searching.{IsBefore, IsTree, IsSearch, IsArrival}
 
 -- ---- lists with one arc more
 
+-- one arrival more leaves the ones before it
 pub more-before : (xs : List ArcId) (x : ArcId) (i : ℕ) → i < length xs → arc_at (xs ++ x ∷ []) i ≡ arc_at xs i
 more-before xs x i within = get_or_append_left xs (x ∷ []) no_arc i within
 
+-- the new arrival is the last
 pub more-last : (xs : List ArcId) (x : ArcId) → arc_at (xs ++ x ∷ []) (length xs) ≡ x
 more-last xs x = get_or-append_seam xs x [] no_arc
 
+-- one arrival more makes the list longer by one
 pub length-more : (xs : List ArcId) (x : ArcId) → length (xs ++ x ∷ []) ≡ suc (length xs)
 length-more xs x = length-append xs (x ∷ []) ∙ omega arith
 
+-- of the numbers below the next one, each is before the last or the last
 pub last_or_before : (n i : ℕ) → i < n + 1 → (i < n) ⊎ (i ≡ n)
 last_or_before n i h = grind arith
 
+-- the same with the next number as a successor
 pub old_or_last : (n i : ℕ) → i < suc n → (i < n) ⊎ (i ≡ n)
 old_or_last n i h = grind arith
 
+-- what holds of each arrival and of the new one holds of all
 pub at_each : (P : ℕ → ArcId → Type 0) (xs : List ArcId) (x : ArcId) → ((i : ℕ) → i < length xs → P i (arc_at xs i)) → P (length xs) x → (i : ℕ) → i < length (xs ++ x ∷ []) → P i (arc_at (xs ++ x ∷ []) i)
 at_each P xs x old last i within =
     elim (old_or_last (length xs) i (subst (λ n. i < n) (length-more xs x) within)) [
@@ -37,6 +43,7 @@ at_each P xs x old last i within =
 
 -- ---- nodes before a place
 
+-- what was arrived at before is so in a longer list that begins the same
 pub before_along : (p : Parts) (start : NodeId) (xs ys : List ArcId) (n m v : ℕ) → n ≤ m → ((i : ℕ) → i < n → arc_at ys i ≡ arc_at xs i) → IsBefore p start xs n v → IsBefore p start ys m v
 before_along p start xs ys n m v room same h = elim h [
   | inl is ↦ inl is
@@ -52,6 +59,7 @@ before_along p start xs ys n m v room same h = elim h [
 holds-set_same : (met : List Bool) (h : ℕ) → h < length met → holds (set met h true) h ≡ true
 holds-set_same met h within = get_or-set_same met h true false within
 
+-- a node that was met stays met
 pub holds-set_keeps : (met : List Bool) (h v : ℕ) → h < length met → holds met v ≡ true → holds (set met h true) v ≡ true
 holds-set_keeps met h v within is = by_cases (v == h) refl
   where
@@ -59,6 +67,7 @@ holds-set_keeps met h v within is = by_cases (v == h) refl
     by_cases true e = subst (λ u. holds (set met h true) u ≡ true) (sym (eqb-true v h e)) (holds-set_same met h within)
     by_cases false e = get_or-set_other met h v true false (eqb-false v h e) ∙ is
 
+-- a node that is met now was met before or is the new one
 pub holds-set_only : (met : List Bool) (h v : ℕ) → holds (set met h true) v ≡ true → (holds met v ≡ true) ⊎ (h ≡ v)
 holds-set_only met h v is = by_cases (v == h) refl
   where
@@ -66,6 +75,7 @@ holds-set_only met h v is = by_cases (v == h) refl
     by_cases true e = inr (sym (eqb-true v h e))
     by_cases false e = inl (sym (get_or-set_other met h v true false (eqb-false v h e)) ∙ is)
 
+-- a test does not both fail and hold
 pub false_true : (b : Bool) → b ≡ false → b ≡ true → ⊥
 false_true b is_no is_yes = cc
 
@@ -90,6 +100,7 @@ tree_more p takes first start xs x tree taken free is_new rooted = record {
     longer : (n : ℕ) → n ≤ length xs → (v : ℕ) → IsBefore p start xs n v → IsBefore p start (xs ++ x ∷ []) n v
     longer n room v h = before_along p start xs (xs ++ x ∷ []) n n v (omega arith) (λ i below. more-before xs x i (omega (arith, below, room))) h
 
+-- going along one more arc to a node that was not met keeps the search
 pub search_more : (p : Parts) (takes : ArcId → Bool) (first : List Bool) (start : NodeId) (met : List Bool) (xs : List ArcId) (x : ArcId) → IsSearch p takes first start met xs
     → takes x ≡ true → holds met (head_of p x).0 ≡ false → (head_of p x).0 < length met → IsBefore p start xs (length xs) (tail_of p x).0
     → IsSearch p takes first start (set met (head_of p x).0 true) (xs ++ x ∷ [])
@@ -128,6 +139,7 @@ search_more p takes first start met xs x search taken unmet within rooted = reco
 
 -- ---- going along an arc
 
+-- going along an arc to a node that was not met is an arrival
 pub arrival_new : (p : Parts) (takes : ArcId → Bool) (a : ArcId) (met : List Bool) (xs : List ArcId) → takes a ≡ true → holds met (head_of p a).0 ≡ false → (head_of p a).0 < length met → IsArrival p takes a met (set met (head_of p a).0 true) xs (xs ++ a ∷ [])
 arrival_new p takes a met xs taken unmet within = record {
   grows = record {
@@ -140,6 +152,7 @@ arrival_new p takes a met xs taken unmet within = record {
   search = λ first start search rooted. search_more p takes first start met xs a search taken unmet within rooted;
 }
 
+-- the same with the node and the list as the code has them
 pub arrival_at : (p : Parts) (takes : ArcId → Bool) (a : ArcId) (h : NodeId) (met : List Bool) (xs longer : List ArcId) → takes a ≡ true → h ≡ head_of p a → get_or met h.0 false ≡ false → h.0 < length met → longer ≡ xs ++ a ∷ [] → IsArrival p takes a met (set met h.0 true) xs longer
 arrival_at p takes a h met xs longer taken is_head unmet within is_longer =
     subst (λ ys. IsArrival p takes a met (set met h.0 true) xs ys) (sym is_longer)

@@ -29,6 +29,7 @@ before_grows p start met more xs ys v g h = before_along p start xs ys (length x
 
 -- ---- the arcs that leave one node
 
+-- before its first arc, the visit of a node has met nothing new
 pub visit_none : (p : Parts) (takes : ArcId → Bool) (v : ℕ) (leaving : List ArcId) (met : List Bool) (xs : List ArcId) → IsVisitSoFar p takes v leaving 0 met met xs xs
 visit_none p takes v leaving met xs = record {
   grows = record { count = refl; stays = λ u is. is; room = omega arith; kept = λ i within. refl };
@@ -36,6 +37,7 @@ visit_none p takes v leaving met xs = record {
   search = λ first start search before. search;
 }
 
+-- one arc more of the node that is visited
 pub visit_more : (p : Parts) (takes : ArcId → Bool) (v : ℕ) (leaving : List ArcId) (n : ℕ) (a : ArcId) (met more most : List Bool) (xs ys zs : List ArcId)
     → AreLeaving p v leaving → n < length leaving → a ≡ arc_at leaving n → IsVisitSoFar p takes v leaving n met more xs ys → IsArrival p takes a more most ys zs → IsVisitSoFar p takes v leaving (n + 1) met most xs zs
 visit_more p takes v leaving n a met more most xs ys zs lawful within is_a so_far arrival = record {
@@ -55,6 +57,7 @@ visit_more p takes v leaving n a met more most xs ys zs lawful within is_a so_fa
     leaves_v : (tail_of p a).0 ≡ v
     leaves_v = ap (λ b. (tail_of p b).0) is_a ∙ lawful.leave n within
 
+-- when all leaving arcs are gone through, the node is visited
 pub visit_whole : (p : Parts) (takes : ArcId → Bool) (v : ℕ) (leaving : List ArcId) (met more : List Bool) (xs ys : List ArcId)
     → AreLeaving p v leaving → ((a : ArcId) → takes a ≡ true → IsTrue (is_arc p a)) → IsVisitSoFar p takes v leaving (length leaving) met more xs ys → IsVisit p takes v met more xs ys
 visit_whole p takes v leaving met more xs ys lawful are_arcs so_far = record {
@@ -70,6 +73,7 @@ visit_whole p takes v leaving met more xs ys lawful are_arcs so_far = record {
 spent_grows : (p : Parts) (takes : ArcId → Bool) (v : ℕ) (met more : List Bool) (xs ys : List ArcId) → Grows met more xs ys → IsSpent p takes met v → IsSpent p takes more v
 spent_grows p takes v met more xs ys g spent = λ a taken leaves_v. g.stays _ (spent a taken leaves_v)
 
+-- once the source is visited, it is spent
 pub spent_start : (p : Parts) (takes : ArcId → Bool) (first : List Bool) (start : NodeId) (met more : List Bool) (xs ys : List ArcId)
     → holds first start.0 ≡ true → met ≡ first → xs ≡ [] → IsVisit p takes start.0 met more xs ys → IsSpentTo p takes first start 0 more ys
 spent_start p takes first start met more xs ys marked is_met is_none visit =
@@ -96,6 +100,7 @@ spent_start p takes first start met more xs ys marked is_met is_none visit =
       ];
     }
 
+-- once the head of the next arrival is visited, it is spent too
 pub spent_more : (p : Parts) (takes : ArcId → Bool) (first : List Bool) (start : NodeId) (n : ℕ) (v : ℕ) (met more : List Bool) (xs ys : List ArcId)
     → n < length xs → v ≡ (head_of p (arc_at xs n)).0 → IsSpentTo p takes first start n met xs → IsVisit p takes v met more xs ys → IsSpentTo p takes first start (n + 1) more ys
 spent_more p takes first start n v met more xs ys within is_v so_far visit = record {
@@ -139,4 +144,5 @@ few_arrivals p takes first start xs inst are_arcs tree =
     later : (i j : ℕ) → j < length xs → i < j → (head_of p (arc_at xs i)).0 ≡ (head_of p (arc_at xs j)).0 → ⊥
     later i j within before same = tree.is_new j within (inr (record { place = i; within = before; leads = same }))
 
+-- how the visit of a node begins and ends, and that what it takes are arcs
 pub ruleset visits = (visit_none, visit_whole, takes_arcs)

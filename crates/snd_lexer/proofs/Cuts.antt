@@ -84,6 +84,7 @@ is-word Forbidden e = absurd cc
 
 -- ---- one piece
 
+-- a piece at the front of a text is found again
 pub first_again : (d : Dialect) (p : Piece) (after : List ℕ) → IsPiece d p after → first_piece d (piece_text p ++ after) ≡ Some (p, after)
 unfolding first_piece
 first_again d (blank b) after h = rw h refl
@@ -122,11 +123,13 @@ unfolding first_piece
 found-first d [] = tt
 found-first d (b ∷ bytes) = found-by d (class_of d b) b bytes refl (says d b)
 
+-- what is found at the front of a text is a piece of it
 pub first_found : (d : Dialect) (text : List ℕ) (p : Piece) (after : List ℕ) → first_piece d text ≡ Some (p, after) → Begins d text p after
 first_found d text p after e = subst (λ (o : Option (Piece × List ℕ)). Found d text o) e (found-first d text)
 
 -- ---- a text has one cut
 
+-- a text is cut into pieces in one way only
 pub one_cut : (d : Dialect) (ps qs : List Piece) (a b : List ℕ) → AreCut d ps a → AreCut d qs b → first_piece d a ≡ None → first_piece d b ≡ None
     → text_of ps ++ a ≡ text_of qs ++ b → (ps ≡ qs) × (a ≡ b)
 one_cut d [] [] a b cp cq na nb e = (refl, e)
@@ -168,6 +171,7 @@ by-none d Equals b bytes e = absurd cc
 by-none d Word b bytes e = absurd cc
 by-none d Forbidden b bytes e = refl
 
+-- where no piece is found, the text is at its end or at a forbidden byte
 pub ends : (d : Dialect) (text : List ℕ) → first_piece d text ≡ None → Ends d text
 unfolding first_piece
 ends d [] e = tt
@@ -175,6 +179,7 @@ ends d (b ∷ after) e = by-none d (class_of d b) b after e
 
 -- ---- what has been cut so far
 
+-- up to this place the text is cut into pieces, and these are their tokens
 pub record CutTo (d : Dialect) (text : List ℕ) (at : ℕ) (tokens : List Token) : Type 0 where
   pub pieces : List Piece
   pub after : List ℕ
@@ -183,6 +188,7 @@ pub record CutTo (d : Dialect) (text : List ℕ) (at : ℕ) (tokens : List Token
   pub place : at ≡ length (text_of pieces)
   pub these : tokens ≡ tokens_from 0 pieces
 
+-- at the beginning nothing is cut
 pub begin : (d : Dialect) (text : List ℕ) → CutTo d text 0 []
 begin d text = record { pieces = []; after = text; cut = tt; whole = refl; place = refl; these = refl }
 
@@ -208,6 +214,7 @@ tokens-push at (q ∷ ps) p =
     ∙ sym (append_assoc first (tokens_from (at + length (piece_text q)) ps) (token_after (at + length (piece_text q) + length (text_of ps)) p))
     ∙ ap (λ (n : ℕ). tokens_from at (q ∷ ps) ++ token_after n p) e
 
+-- one piece more is cut off
 pub step : (d : Dialect) (text : List ℕ) (at : ℕ) (tokens : List Token) (p : Piece) (after : List ℕ) → CutTo d text at tokens → first_piece d (drop at text) ≡ Some (p, after)
     → CutTo d text (at + length (piece_text p)) (tokens ++ token_after at p)
 step d text at tokens p after c e =
@@ -225,6 +232,7 @@ step d text at tokens p after c e =
 
 -- ---- the answers
 
+-- a text that is cut to its end has the tokens found
 pub lexed : (d : Dialect) (text : List ℕ) (at : ℕ) (tokens : List Token) → CutTo d text at tokens → length text ≤ at → Lexes d text tokens
 lexed d text at tokens c past =
     let none : length c.after ≡ 0 = omega (arith, ap length c.whole, length-append (text_of c.pieces) c.after, c.place) in
@@ -240,22 +248,26 @@ stop-at : (d : Dialect) (text : List ℕ) (at : ℕ) (pieces : List Piece) (afte
 stop-at d text at pieces [] cut whole place some e = absurd (omega arith)
 stop-at d text at pieces (b ∷ after) cut whole place some e = record { pieces = pieces; byte = b; after = after; cut = cut; forbidden = e; whole = whole; place = place }
 
+-- where no piece is found before the end, the text stops there
 pub stopped : (d : Dialect) (text : List ℕ) (at : ℕ) (tokens : List Token) → CutTo d text at tokens → at < length text → first_piece d (drop at text) ≡ None → StopsAt d text at
 stopped d text at tokens c lt none =
     let rest : drop at text ≡ c.after = ap (drop at) c.whole ∙ drop_at (text_of c.pieces) c.after at (sym c.place) in
     stop-at d text at c.pieces c.after c.cut c.whole c.place (omega (arith, ap length c.whole, length-append (text_of c.pieces) c.after, c.place)) (ends d c.after (ap (first_piece d) (sym rest) ∙ none))
 
+-- a text has one list of tokens
 pub only_tokens : (d : Dialect) (text : List ℕ) (ts us : List Token) → Lexes d text ts → Lexes d text us → ts ≡ us
 only_tokens d text ts us a b =
     let e = one_cut d a.pieces b.pieces [] [] a.cut b.cut (none-at-end d) (none-at-end d) (append-nil (text_of a.pieces) ∙ sym a.whole ∙ b.whole ∙ sym (append-nil (text_of b.pieces))) in
     a.these ∙ ap (tokens_from 0) e.0 ∙ sym b.these
 
+-- a text that has tokens does not stop at a forbidden byte
 pub not_both : (d : Dialect) (text : List ℕ) (ts : List Token) (at : ℕ) → Lexes d text ts → StopsAt d text at → ⊥
 not_both d text ts at a b =
     let e = one_cut d a.pieces b.pieces [] (b.byte ∷ b.after) a.cut b.cut (none-at-end d) (none-at-forbidden d b.byte b.after b.forbidden) (append-nil (text_of a.pieces) ∙ sym a.whole ∙ b.whole) in
     let apart : [] ≡ b.byte ∷ b.after = e.1 in
     cc
 
+-- a text stops at one place only
 pub only_stop : (d : Dialect) (text : List ℕ) (at place : ℕ) → StopsAt d text at → StopsAt d text place → at ≡ place
 only_stop d text at place a b =
     let e = one_cut d a.pieces b.pieces (a.byte ∷ a.after) (b.byte ∷ b.after) a.cut b.cut (none-at-forbidden d a.byte a.after a.forbidden) (none-at-forbidden d b.byte b.after b.forbidden) (sym a.whole ∙ b.whole) in
@@ -263,10 +275,12 @@ only_stop d text at place a b =
 
 -- ---- what a mapped option came from
 
+-- what is nothing after a function was nothing before
 pub map_none : {A B : Type 0} (f : A → B) (o : Option A) → None ≡ option_map f o → o ≡ None
 map_none f None e = refl
 map_none f (Some x) e = absurd cc
 
+-- what is something after a function was something before
 pub map_some : {A B : Type 0} (f : A → B) (o : Option A) (y : B) → Some y ≡ option_map f o → (x : A) × (o ≡ Some x) × (y ≡ f x)
 map_some f None y e = absurd cc
 map_some f (Some x) y e = (x, refl, cc)
@@ -276,10 +290,12 @@ map_some f (Some x) y e = (x, refl, cc)
 abbrev Sees : Dialect → List ℕ → ℕ → Option (ℕ × Option TokenKind) → Type 0
 Sees d text at r = r ≡ option_map length_and_kind (first_piece d (take (length text - at) (drop at text)))
 
+-- where the scanner sees no piece before the end, the text stops there
 pub stops : (d : Dialect) (text : List ℕ) (at : ℕ) (tokens : List Token) (r : Option (ℕ × Option TokenKind)) → CutTo d text at tokens → at < length text → Sees d text at r → r ≡ None → StopsAt d text at
 stops d text at tokens r c lt s none =
     stopped d text at tokens c lt (ap (first_piece d) (sym (take_rest text at)) ∙ map_none length_and_kind _ (sym none ∙ s))
 
+-- a piece that the scanner sees is cut off, with its token
 pub goes_on : (d : Dialect) (text : List ℕ) (at : ℕ) (tokens : List Token) (r : Option (ℕ × Option TokenKind)) (len : ℕ) (kind : Option TokenKind) → CutTo d text at tokens → Sees d text at r → r ≡ Some (len, kind)
     → CutTo d text (at + len) (tokens ++ token_at at (at + len) kind)
 goes_on d text at tokens r len kind c s e =
@@ -314,6 +330,7 @@ spans-of d at (p ∷ ps) after h =
     by-kind None e rest = spans-from at (at + length (piece_text p)) _ _ (omega arith) rest
     by-kind (Some k) e rest = (omega arith, omega (arith, some-bytes d p (text_of ps ++ after) k h.0 e), rest)
 
+-- tokens stand in the order of the text without overlapping
 pub spans : (d : Dialect) (text : List ℕ) (ts : List Token) → Lexes d text ts → AreSpans 0 (length text) ts
 spans d text ts l = rw (l.whole, l.these) (subst (λ (n : ℕ). AreSpans 0 n (tokens_from 0 l.pieces)) (zero-add (length (text_of l.pieces))) (spans-of d 0 l.pieces [] l.cut))
 
@@ -325,8 +342,10 @@ within-from from len (t ∷ ts) h =
     let rest = within-from t.end len ts h.2 in
     (omega (arith, h.0, h.1, rest.0), All-cons (IsWithin len) t ts (omega (arith, h.1), rest.0) rest.1)
 
+-- each token is within the text
 pub within : (d : Dialect) (text : List ℕ) (ts : List Token) → Lexes d text ts → All (IsWithin (length text)) ts
 within d text ts l = (within-from 0 (length text) ts (spans d text ts l)).1
 
+-- two ways to cut a whole text have the same pieces
 pub same_pieces : (d : Dialect) (ps qs : List Piece) → AreCut d ps [] → AreCut d qs [] → text_of ps ≡ text_of qs → ps ≡ qs
 same_pieces d ps qs a b e = (one_cut d ps qs [] [] a b (none-at-end d) (none-at-end d) (append-nil (text_of ps) ∙ e ∙ sym (append-nil (text_of qs)))).0

@@ -29,6 +29,7 @@ all-shown pre (p ∷ ps) after =
     ap (λ (t : List ℕ). map (with_bytes t) (tokens_from at ps)) regrouped ∙ ap (λ (n : ℕ). map (with_bytes ((pre ++ piece_text p) ++ (text_of ps ++ after))) (tokens_from n ps)) (sym (length-append pre (piece_text p))) ∙ all-shown (pre ++ piece_text p) ps after in
     map-append (with_bytes text) (token_at (length pre) at (kind_of p)) (tokens_from at ps) ∙ ap (λ (ls : List (TokenKind × List ℕ)). ls ++ map (with_bytes text) (tokens_from at ps)) first ∙ ap (λ (ls : List (TokenKind × List ℕ)). shown_by (piece_text p) (kind_of p) ++ ls) later
 
+-- the tokens of a text show the bytes of their pieces
 pub lexes_shows : (d : Dialect) (text : List ℕ) (ts : List Token) → Lexes d text ts → Shows d text (map (with_bytes text) ts)
 lexes_shows d text ts l = record {
   pieces = l.pieces;
@@ -37,9 +38,11 @@ lexes_shows d text ts l = record {
   these = rw (l.whole, l.these) (ap (λ (t : List ℕ). map (with_bytes t) (tokens_from 0 l.pieces)) (sym (append-nil (text_of l.pieces))) ∙ all-shown [] l.pieces []);
 }
 
+-- a text shows one list of kinds and bytes
 pub one_shown_list : (d : Dialect) (text : List ℕ) (ls ms : List (TokenKind × List ℕ)) → Shows d text ls → Shows d text ms → ls ≡ ms
 one_shown_list d text ls ms a b = a.these ∙ ap shown (same_pieces d a.pieces b.pieces a.cut b.cut (sym a.whole ∙ b.whole)) ∙ sym b.these
 
+-- what a text shows comes from its tokens
 pub shown_is_cut : (d : Dialect) (text : List ℕ) (ls : List (TokenKind × List ℕ)) → Shows d text ls → (ts : List Token) × Lexes d text ts × (map (with_bytes text) ts ≡ ls)
 shown_is_cut d text ls s =
     let l : Lexes d text (tokens_from 0 s.pieces) = record { pieces = s.pieces; cut = s.cut; whole = s.whole; these = refl } in

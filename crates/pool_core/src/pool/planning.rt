@@ -14,8 +14,8 @@ impl Pool {
     /// The plan: the tree, the best design, and what they claim.
     ///
     /// - Takes: a pool that is done.
-    /// - Gives: a valid plan, which a plan text can hold, and each split of which parts two paths. The bound of an undecided
-    ///   plan is at least the bound of the root at the start prices.
+    /// - Gives: a valid plan, which a plan text can hold, and each split of which parts two permitted paths of a demand or
+    ///   two steps of a link. The bound of an undecided plan is at least the bound of the root at the start prices.
     /// - Errors: want of memory alone.
     /// - Rule: docs/METHOD.md, "The search as a machine".
     pub fn into_plan(self) -> Result<Plan, AllocError>
