@@ -13,7 +13,7 @@ mod searches;
 mod texts;
 
 pub use instances::{amounts_of_instances, built_or_refused, sizes_of_instances, steps_of_links};
-pub use plans::{numbers_of_designs, sizes_of_plans};
+pub use plans::{numbers_of_designs, sizes_of_cuts, sizes_of_plans};
 pub use samples::{nodes_of_trials, numbers_of_draws, sizes_of_samples};
 pub use searches::{
     counts_of_turns, counts_of_workers, each_step, sizes_of_paths, sizes_of_searches,
