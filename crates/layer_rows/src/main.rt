@@ -2,15 +2,16 @@
 //!
 //! The file of rows, whose name is the program's one word, has networks and questions about them: what loads cost on a
 //! link, what prices are worth, ways of least weight, least paths with and without a limit on arcs, columns, what a
-//! restriction allows and leaves, and splits of a tree. To add one, write it there in the form that the head of the file
+//! restriction allows and leaves, splits of a tree, and what crosses cuts. To add one, write it there in the form that the head of the file
 //! explains, and the answer, worked out by hand, at the same place of the file `stdout`. Three rows compare the answers for
 //! made links, networks and columns with plain twins (`made`). Begin at `tell_about`. Stands on `link_steps`, `least_path`,
-//! `arc_restrict`, `path_pricing`, `hop_pricing`, `second_path`, `column_pool` and `branch_tree`, and promises nothing of its
-//! own.
+//! `arc_restrict`, `path_pricing`, `hop_pricing`, `second_path`, `column_pool`, `proof_tree` and `branch_tree`, and promises
+//! nothing of its own.
 #![tactic(auto)]
 
 mod asking;
 mod columns;
+mod cuts;
 mod limits;
 mod load_splits;
 mod made;
@@ -50,6 +51,7 @@ fn tell_about(question: Question<'_>, text: &mut String) -> Option<()> {
         "left" => paths::tell_left(question, text),
         "split" => splits::tell_split(question, text),
         "loads" => load_splits::tell_loads(question, text),
+        "cut" => cuts::tell_cut(question, text),
         _ => None,
     }
 }
@@ -61,6 +63,9 @@ fn tell(alloc: Global, networks: &[Network], row: &str, text: &mut String) -> Op
         "made links" => return made::tell_links(alloc, text),
         "made networks" => return made::tell_networks(alloc, text),
         _ => {}
+    }
+    if word_at(row, 0) == "tally" {
+        return cuts::tell_tally(row, text);
     }
     let inst = find(networks, word_at(row, 1))?;
     tell_about(Question { alloc, inst, row }, text)

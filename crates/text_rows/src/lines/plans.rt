@@ -71,6 +71,7 @@ pub(crate) fn plan_with(
         examined: 1,
         design,
         bound,
+        cuts: Items::new(alloc),
         tree,
     })
 }

@@ -1,9 +1,9 @@
 //! Texts of plans that are written back, and a plan that has no text.
 
-use super::plans::plan_with;
+use super::plans::{plan_of, plan_with};
 use cert_format::{read_plan, write_plan};
 use plan_base::{DemandId, Items};
-use proof_tree::{Evidence, Plan, PlanStatus};
+use proof_tree::{Cut, Evidence, Plan, PlanStatus};
 use std::alloc::Global;
 
 /// A plan of a triangle, of which one leaf has a bound and the other one its only path.
@@ -68,6 +68,29 @@ OPEN 0
 END
 ";
 
+/// A plan with four cuts, of no node, of all, of one and of two, and the greatest numbers.
+const CUTS_PLAN: &str = "SNDPLAN 3
+SIZE 3 2 1 ONE
+STATUS UNDECIDED
+BUDGET 1
+EXAMINED 1
+COST none
+BOUND none
+CUTS 4
+C 18446744073709551615 18446744073709551615 0 0
+C 0 0 1 3 0 1 2
+C 10000000 3000000 1 1 2
+C 10000000 3000000 0 2 0 2
+PRICES 2
+P 0 340282366920938463463374607431768211455 1 2 3 4
+P 0 0 0 0 0 340282366920938463463374607431768211455
+TREE 3
+SPLIT 0 0 0 0
+CROWD 0
+OPEN 1
+END
+";
+
 /// Adds the text of the plan that this text spells.
 fn tell_again(alloc: Global, plan: &str, text: &mut Vec<u8>) -> Option<()> {
     if plan.len() > 1000 {
@@ -102,10 +125,27 @@ fn tell_cut(alloc: Global, text: &mut Vec<u8>) -> Option<()> {
     tell_fits(&plan, text)
 }
 
-/// Adds three texts of plans again, and which plan has one.
+/// Adds whether a plan that has a cut of two nodes has a text, and whether it has one where it tells of three nodes.
+fn tell_plan_cut(alloc: Global, text: &mut Vec<u8>) -> Option<()> {
+    let cut = Cut {
+        nodes: Items::from_vec(vec![in alloc; true, false].ok()?),
+        period: 10,
+        first: 3,
+        counts_installed: true,
+    };
+    let mut plan = plan_of(alloc, PlanStatus::Infeasible, None, None)?;
+    plan.cuts = Items::from_vec(vec![in alloc; cut].ok()?);
+    tell_fits(&plan, text)?;
+    plan.nodes = 3;
+    tell_fits(&plan, text)
+}
+
+/// Adds four texts of plans again, and which plan has one.
 pub(crate) fn tell_texts(alloc: Global, text: &mut Vec<u8>) -> Option<()> {
     tell_again(alloc, TRIANGLE_PLAN, text)?;
     tell_again(alloc, EACH_KIND, text)?;
     tell_again(alloc, LOADS_PLAN, text)?;
-    tell_cut(alloc, text)
+    tell_again(alloc, CUTS_PLAN, text)?;
+    tell_cut(alloc, text)?;
+    tell_plan_cut(alloc, text)
 }

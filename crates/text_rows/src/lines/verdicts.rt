@@ -14,7 +14,7 @@ const DEMAND: DemandId = DemandId(0);
 const LINK: LinkId = LinkId(0);
 
 /// What is wrong with plans, in each kind.
-const REJECTED: [Rejected; 14] = [
+const REJECTED: [Rejected; 15] = [
     Rejected::Design(DesignFault::WrongCount),
     Rejected::Design(DesignFault::NotAPath {
         demand: DEMAND,
@@ -55,6 +55,7 @@ const REJECTED: [Rejected; 14] = [
         examined: 1001,
         budget: 1000,
     },
+    Rejected::Cuts { index: 2 },
 ];
 
 /// Adds the lines of three plans that are accepted.
