@@ -18,10 +18,11 @@ use Rattle.proof_tree.specs.Triangle.{node, arc, link, triangle}
 abbrev pub oriented : Orient → Parts
 oriented orient = record triangle { orient = orient }
 
--- the sets of b alone and of c alone in the triangle
+-- the set of b alone in the triangle
 abbrev pub only_b : List Bool
 only_b = false ∷ true ∷ false ∷ []
 
+-- the set of c alone in the triangle
 abbrev pub only_c : List Bool
 only_c = false ∷ false ∷ true ∷ []
 

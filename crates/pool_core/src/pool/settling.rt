@@ -49,8 +49,8 @@ impl Pool {
     /// - Gives: in this order, `Spent` where the budget is spent; `Stale` where the node has no round of the version;
     ///   `Incomplete` with the first demand that is not priced; `Ungathered` with the first demand whose path is none of
     ///   its columns; `Improves` where a master step gains and the node has not had enough versions (its crowd prices were
-    ///   not tried, and no design is known or fewer than two of its versions were complete), with the restricted values
-    ///   before and after that step; else `Done`.
+    ///   not tried, and no design is known, no node was examined or fewer than two of its versions were complete), with the
+    ///   restricted values before and after that step; else `Done`.
     /// - Rule: docs/METHOD.md, "The search as a machine".
     pub fn settle(&mut self, node: BranchId, version: u64) -> Settle
         ensures event { SettleStep self.old node version result self.new }
