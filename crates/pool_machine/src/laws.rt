@@ -3,7 +3,8 @@
 ghost use Rattle.plan_base.specs.declared.ids.BranchId.{BranchId as AnyBranch};
 ghost use Rattle.branch_tree.specs.declared.node.Division.{Division as AnyDivision};
 ghost use Rattle.branch_tree.specs.declared.node.Fate.TheVariants.{DividedBy};
-ghost use Rattle.proof_tree.specs.Trees.{IsValidTree};
+ghost use Rattle.proof_tree.specs.declared.cuts.Cut.{Cut as AnyCut};
+ghost use Rattle.proof_tree.specs.RatedTrees.{IsRatedTree};
 ghost use Rattle.pool_machine.specs.State.{State, Node, Best, cutoff_of};
 ghost use Rattle.pool_machine.specs.Machine.{IsReachable, Run, Entry, IsCounted, IsOpeningState};
 ghost use Rattle.pool_machine.specs.Soundness.{IsSound};
@@ -32,9 +33,9 @@ pub fn counted_run()
     ensures { (s t : State) (entries : List Entry) → Run s entries t → IsCounted s entries t }
 {}
 
-/// The tree of a sound state is a valid proof tree against its incumbent's cost.
+/// The tree of a sound state is a valid proof tree with its cuts against its incumbent's cost.
 pub fn tree_of_state()
-    ensures { (s : State) → IsSound s → IsValidTree s.problem (cutoff_of s) (tree_of s) }
+    ensures { (s : State) → IsSound s → IsRatedTree s.problem s.cuts (cutoff_of s) (tree_of s) }
 {}
 
 /// Each instance has a branching depth, and one alone.
@@ -62,9 +63,10 @@ pub fn stays_small()
     ensures accepted { (s : State) → IsSound s → s.budget ≤ 4096 → s.accepted < 2 ^ 64 }
 {}
 
-/// Where events lead from an opening state, the state is sound, and has the instance and the budget of the opening one.
+/// Where events lead from an opening state, the state is sound, and has the instance, the cuts and the budget of the
+/// opening one.
 pub fn every_search()
-    ensures { (p : Parts) (budget : ℕ) (s t : State) → IsOpeningState p budget s → LeadsTo s t → IsSearchState p budget t }
+    ensures { (p : Parts) (cuts : List AnyCut) (budget : ℕ) (s t : State) → IsOpeningState p cuts budget s → LeadsTo s t → IsSearchState p cuts budget t }
 {}
 
 /// What an opening, a settling or a publishing answers at a state is one.
