@@ -7,9 +7,11 @@ use Rattle.plan_base.specs.Arcs.{demand_at}
 use Rattle.plan_base.proofs.SumsBelow.{sum_below-le}
 use Rattle.arc_restrict.specs.Prices.{AreWithinLimit, IsLeastPrice}
 use Rattle.link_steps.specs.declared.range.LoadRange.{LoadRange}
+use Rattle.proof_tree.specs.declared.cuts.Cut.{Cut}
 use Rattle.proof_tree.specs.Regions.{Region}
-use Rattle.proof_tree.specs.Bounds.{AreLeastPrices, IsBound}
+use Rattle.proof_tree.specs.Bounds.{AreLeastPrices}
 use Rattle.proof_tree.specs.Evidence.{ClosedByCrowd}
+use Rattle.proof_tree.specs.RatedEvidence.{IsBoundAt}
 use Rattle.bound_assembly.specs.Rounds.{length_at, HasLength, left_in}
 use Rattle.bound_assembly.proofs.Gaps.{left-none}
 use Rattle.bound_assembly.specs.RoundBounds.{length_of, AreLeastLengths, IsRoundBound, IsRoundCrowd}
@@ -28,8 +30,8 @@ module _ (p : Parts) (g : Region) (prices : List ℕ) (lengths : List (Option �
       by_cases (Some price) is has = rw is (least k price below is)
 
   -- a round's bound is the bound of the region
-  pub round_bound-bound : (bound : ℤ) → AreLeastLengths p g.forbidden prices lengths → IsRoundBound p g.ranges prices lengths bound → IsBound p g prices bound
-  round_bound-bound bound least is =
+  pub round_bound-bound : (cuts : List Cut) (bound : ℤ) → AreLeastLengths p g.forbidden prices lengths → IsRoundBound p cuts g.ranges prices lengths bound → IsBoundAt p cuts g prices bound
+  round_bound-bound cuts bound least is =
       record { least_prices = length_of lengths; values = is.values; are_least = are_least_prices is.complete least; are_values = is.are_values; rounded = is.rounded }
 
   -- a round that crowds the links closes a leaf of the region
