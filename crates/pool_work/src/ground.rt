@@ -10,7 +10,7 @@ use crate::search::Search;
 use arc_restrict::Restriction;
 use dual_versions::Published;
 use leaf_work::{Guide, copy_of};
-use path_pricing::Priced;
+use path_pricing::{Priced, are_prices};
 use plan_base::{BranchId, DemandId, Instance};
 use std::alloc::AllocError;
 use std::marker::PhantomData;
@@ -38,7 +38,7 @@ impl<N: Search> Ground<N> {
         ensures published { IfSome result (λ ground. ground.published ≡ published) }
         ensures rows { IfSome result (λ ground. ground.rows ≡ rows) }
     {
-        if !published.prices.fits(inst) {
+        if !are_prices(inst, &published.prices) {
             return None;
         }
         if !rows.fits(inst) {

@@ -2,6 +2,7 @@
 
 ghost use Rattle.std.specs.Prelude.{◌≡◌, IfSome};
 
+use plan_base::Items;
 use pool_core::Pool;
 use row_networks::{Network, find, table_of};
 use std::alloc::Global;
@@ -23,6 +24,5 @@ pub(crate) fn pool_of(alloc: Global, networks: &[Network], words: &str) -> Optio
     let inst = find(networks, name)?.copy(alloc).ok()?;
     let table = table_of(alloc, &inst)?;
     let inst = Arc::new(alloc, inst).ok()?;
-    let table = Arc::new(alloc, table).ok()?;
-    Pool::new(alloc, inst, table, budget).ok()
+    Pool::new(alloc, inst, table, budget, Items::new(alloc)).ok()
 }

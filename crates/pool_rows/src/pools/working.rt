@@ -5,7 +5,7 @@ use crate::calling::{first_number, tell_answer};
 use column_pool::Brief;
 use dual_versions::Published;
 use master_step::{Step, advance};
-use path_pricing::{Priced, price};
+use path_pricing::{Priced, are_prices, price};
 use plan_base::{BranchId, DemandId, Prices};
 use pool_core::{Closing, Examined, Gather, Offer, Offered, Pool, Publish, Settle, Task};
 use std::alloc::Global;
@@ -15,7 +15,7 @@ fn found_at(alloc: Global, pool: &Pool, published: &Published, demand: DemandId)
     let inst = pool.instance();
     let rows = pool.restriction(published.node)?;
     let prices = &published.prices;
-    if demand.0 >= inst.demands() || !prices.fits(&**inst) {
+    if demand.0 >= inst.demands() || !are_prices(&**inst, prices) {
         return None;
     }
     price(alloc, &**inst, prices, demand, &**rows).ok()
@@ -91,11 +91,11 @@ pub(crate) fn tell_divided(
 
 /// The prices that a master step raises those of a complete version to.
 fn raised(alloc: Global, pool: &Pool, brief: &Brief) -> Option<Option<Prices>> {
-    let inst = pool.instance();
-    if !brief.fits(&**inst) {
+    let (inst, table) = (&**pool.instance(), &**pool.table());
+    if !brief.fits(inst, table) {
         return None;
     }
-    match advance(alloc, &**inst, &**pool.table(), brief).ok()? {
+    match advance(alloc, inst, table, brief).ok()? {
         Step::Raised { prices, .. } => Some(Some(prices)),
         _ => Some(None),
     }
