@@ -23,6 +23,7 @@ pub mod Enough
 pub mod PlanTrees
 pub mod Leads
 pub mod RefusedNumbers
+pub mod CutlessPublishing
 pub mod Unrefused
 pub mod OneAnswer
 pub mod GatheredRounds

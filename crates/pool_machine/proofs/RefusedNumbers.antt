@@ -39,17 +39,16 @@ rated-within sum limit rate least price h = grind (arith, nat_tests)
 rated-cover : (sum limit rate least price : ℕ) → (nat_le sum limit && (rate == 0 || nat_le least price)) ≡ true → 0 < rate → least ≤ price
 rated-cover sum limit rate least price h some = grind (arith, nat_tests)
 
--- where each fault that a check finds is this one, so is the first
-first_in-only : {X F : Type 0} (check : ℕ → X → Option F) (xs : List X) (e a : F) → ((i : ℕ) (x : X) (b : F) → check i x ≡ Some b → b ≡ e) → first_in check xs ≡ Some a → a ≡ e
-first_in-only {X} {F} check xs e a only h = at (slice_get xs first.place) first.found
+-- some item of a list has the first fault that a check finds there
+pub first_in-at : {X F : Type 0} (check : ℕ → X → Option F) (xs : List X) (a : F) → first_in check xs ≡ Some a → (i : ℕ) × (x : X) × (check i x ≡ Some a)
+first_in-at {X} {F} check xs a h = let first = IsFirst-first_fault (fault_at check xs) (length xs) a h in at first.place (slice_get xs first.place) first.found
   where
-    first = IsFirst-first_fault (fault_at check xs) (length xs) a h
+    at : (i : ℕ) (o : Option X) → option_and_then (check i) o ≡ Some a → (j : ℕ) × (x : X) × (check j x ≡ Some a)
+    at i None is = let bad : ◌≡◌ {A = Option F} None (Some a) = is in absurd (cc)
+    at i (Some x) is = (i, x, is)
 
-    at : (o : Option X) → option_and_then (check first.place) o ≡ Some a → a ≡ e
-    at None is = let bad : ◌≡◌ {A = Option F} None (Some a) = is in absurd (cc)
-    at (Some x) is = only first.place x a is
-
-when-only : {F : Type 0} (test : Bool) (e b : F) → when test e ≡ Some b → b ≡ e
+-- a test finds this fault alone
+pub when-only : {F : Type 0} (test : Bool) (e b : F) → when test e ≡ Some b → b ≡ e
 when-only true e b is = (let same : Some e ≡ Some b = is in cc)
 when-only {F} false e b is = let bad : ◌≡◌ {A = Option F} None (Some b) = is in absurd (cc)
 
@@ -85,10 +84,14 @@ module _ (p : Parts) (cuts : List Cut) (numbers : List ℕ) where
           let rated : IsRatedPrice p cuts price rates q = subst (λ (x : ℕ). IsRatedPrice p cuts x rates q) (get_or_from_slice_get numbers q price 0 there.1) (h.each q there.0) in
           rated-so (price + crossing_rates p cuts rates q) (price_limit p) (crossing_rates p cuts rates q) (1000 * (link_at p (link_of_place p q)).routing) price rated.within_limit rated.cover_routing
 
+  -- prices that are not refused are within the limit
+  pub over_price-none : first_in (price_fault p) prices ≡ None → AreWithinLimit p prices
+  over_price-none over q d inside = not_above (price_limit p) (get_or prices q d) (when-none _ (publish.OverPrice (record { 0 = link_of_place p q })) (first_in-none (price_fault p) prices over q d inside))
+
   -- numbers that are not refused are lawful
   pub unfaulted-lawful : places p ≤ length numbers → first_in (price_fault p) prices ≡ None → unlawful_fault p cuts numbers ≡ None → AreLawfulNumbers p cuts numbers
   unfaulted-lawful long over none = record {
-    prices_within = subst (AreWithinLimit p) (take-append-drop (places p) numbers) (All-append (λ x. x ≤ price_limit p) prices rates prices-within rates-within);
+    prices_within = subst (AreWithinLimit p) (take-append-drop (places p) numbers) (All-append (λ x. x ≤ price_limit p) prices rates (over_price-none over) rates-within);
     rates_within = rates-within;
     each = λ q inside.
         let size : length prices ≡ places p = length-take-le (places p) numbers long in
@@ -98,13 +101,11 @@ module _ (p : Parts) (cuts : List Cut) (numbers : List ℕ) where
         rated q (slice_index numbers q) told;
   }
     where
+      both : (first_in (rate_fault p) rates ≡ None) × (first_in (rated_fault p cuts rates) prices ≡ None)
       both = or_else-none (first_in (rate_fault p) rates) (first_in (rated_fault p cuts rates) prices) none
 
       rates-within : AreWithinLimit p rates
       rates-within i d inside = not_above (price_limit p) (get_or rates i d) (when-none _ publish.Unlawful (first_in-none (rate_fault p) rates both.0 i d inside))
-
-      prices-within : AreWithinLimit p prices
-      prices-within q d inside = not_above (price_limit p) (get_or prices q d) (when-none _ (publish.OverPrice (record { 0 = link_of_place p q })) (first_in-none (price_fault p) prices over q d inside))
 
       rated : (q price : ℕ) → is_rated p q price (crossing_rates p cuts rates q) ≡ true → IsRatedPrice p cuts price rates q
       rated q price told =
@@ -117,8 +118,8 @@ module _ (p : Parts) (cuts : List Cut) (numbers : List ℕ) where
   unlawful_only a h = by (first_in (rate_fault p) rates) refl h
     where
       by : (o : Option Publish) → first_in (rate_fault p) rates ≡ o → (o or_else first_in (rated_fault p cuts rates) prices) ≡ Some a → a ≡ publish.Unlawful
-      by None is x = first_in-only (rated_fault p cuts rates) prices publish.Unlawful a (λ q price b found. when-only _ publish.Unlawful b found) x
-      by (Some b) is x = first_in-only (rate_fault p) rates publish.Unlawful a (λ i rate c found. when-only _ publish.Unlawful c found) (is ∙ x)
+      by None is x = when-only _ publish.Unlawful a (first_in-at (rated_fault p cuts rates) prices a x).2
+      by (Some b) is x = when-only _ publish.Unlawful a (first_in-at (rate_fault p) rates a (is ∙ x)).2
 
   -- a test of the numbers tells the refusal
   pub unlawful-told : (b : Bool) → IsTrue b ↔ AreNumbers p cuts numbers → length numbers ≡ places p + length cuts → first_in (price_fault p) prices ≡ None → when (not b) publish.Unlawful ≡ unlawful_fault p cuts numbers

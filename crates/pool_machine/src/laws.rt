@@ -14,12 +14,13 @@ ghost use Rattle.pool_machine.specs.declared.answers.Opened.{Opened as AnyOpened
 ghost use Rattle.pool_machine.specs.declared.answers.RoundFault.{RoundFault as AnyRoundFault};
 ghost use Rattle.pool_machine.specs.declared.answers.Settle.{Settle as AnySettle};
 ghost use Rattle.pool_machine.specs.declared.answers.Publish.{Publish as AnyPublish};
+ghost use Rattle.pool_machine.specs.declared.answers.Publish.TheVariants as publish;
 ghost use Rattle.pool_machine.specs.Opening.{OpenStep};
 ghost use Rattle.pool_machine.specs.Gathering.{gather_fault};
 ghost use Rattle.pool_machine.specs.Settling.{SettleStep};
 ghost use Rattle.pool_machine.specs.Publishing.{PublishStep};
 ghost use Rattle.plan_base.specs.declared.parts.Parts.{Parts};
-ghost use Rattle.std.specs.Prelude.{ℕ, Result, Some, None, slice_get, ◌≤ℤ◌, List, ◌≡◌, ◌<◌, ◌≤◌, ◌-◌, ◌^◌, ◌+◌};
+ghost use Rattle.std.specs.Prelude.{ℕ, Result, Some, None, slice_get, ◌≤ℤ◌, List, [], ◌≡◌, ◌<◌, ◌≤◌, ◌-◌, ◌^◌, ◌+◌};
 ghost use Rattle.pool_machine.specs.Depth.{IsBranchingDepth};
 ghost use Rattle.pool_machine.specs.PlanOf.{tree_of, open_count};
 
@@ -75,6 +76,11 @@ pub fn one_answer()
     ensures settling { (s t u : State) (id : AnyBranch) (version : ℕ) (a b : AnySettle) → SettleStep s id version a t → SettleStep s id version b u → a ≡ b }
     ensures publishing { (s t u : State) (id : AnyBranch) (seen : ℕ) (prices : List ℕ) (a b : AnyPublish)
         → PublishStep s id seen prices a t → PublishStep s id seen prices b u → a ≡ b }
+{}
+
+/// Without cuts no publishing is refused as unlawful.
+pub fn lawful_without_cuts()
+    ensures { (s t : State) (id : AnyBranch) (seen : ℕ) (prices : List ℕ) → s.cuts ≡ [] → PublishStep s id seen prices publish.Unlawful t → ⊥ }
 {}
 
 /// The gathering that a `Master` task begins with is not refused.
