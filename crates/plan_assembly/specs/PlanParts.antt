@@ -4,7 +4,7 @@ use Rattle.plan_base.specs.declared.ids.BranchId.{BranchId}
 use Rattle.plan_base.specs.declared.parts.Parts.{Parts}
 use Rattle.arc_restrict.specs.Restrictions.{Forbidden, HasNoPath}
 use Rattle.arc_restrict.specs.Prices.{IsLeastPrice}
-use Rattle.cut_table.specs.Problems.{CutProblem}
+use Rattle.cut_table.specs.Numbers.{CutProblem}
 use Rattle.proof_tree.specs.declared.cuts.Cut.{Cut}
 use Rattle.proof_tree.specs.RatedEvidence.{IsBoundAt}
 use Rattle.proof_tree.specs.declared.tree.Evidence.TheVariants as evidence

@@ -43,7 +43,7 @@ returns c =
       examined = c.self.inside.examined;
       design = c.design_of.result;
       bound = c.in_ok-bound.bound;
-      cuts = c.new.result;
+      cuts = c.in_ok-cuts.cuts;
       tree = c.in_ok-tree.tree;
     } in
     let is : IsPlanOf s plan =
@@ -53,7 +53,7 @@ returns c =
     (c.demands.ensures.value ∙ ap (λ (p : Parts). length p.demands) c.deref-3.ensures)
     (c.is_two_way.ensures ∙ ap is_two_way (c.orient.ensures ∙ ap (λ (p : Parts). p.orient) c.deref-4.ensures))
     (c.status-status.ensures ∙ sym (ap status_of c.self.view_is))
-    refl refl c.design_of.ensures c.new.ensures c.in_ok-tree.ensures
+    refl refl c.design_of.ensures (c.in_ok-cuts.ensures ∙ c.cuts-cuts.ensures.value) c.in_ok-tree.ensures
     (subst (λ (x : State). IsStatedBound x c.status-status.result c.in_ok-bound.bound) (sym c.self.view_is) c.in_ok-bound.ensures) in
     record {
       plan = subst (λ (x : State). IsPlanOf x plan) c.self.view_is is;
