@@ -1,7 +1,8 @@
--- The cuts that each place crosses, as a table keeps them; no public contract cites it.
+-- The cuts that each place crosses, and what a table keeps.
 use Rattle.std.specs.Prelude.{ℕ, zero, suc, ◌≡◌, ◌<◌, ◌+◌, ◌*◌, Bool, List, [], ◌∷◌, ◌++◌, All, length, slice_index, slice_index_or, nat_lt, if◌then◌else◌}
 use Rattle.std.specs.List.{sum_by}
 use Rattle.plan_base.specs.declared.parts.Parts.{Parts}
+use Rattle.plan_base.specs.Facts.{price_limit}
 use Rattle.plan_base.specs.Places.{is_two_way, places}
 use Rattle.link_steps.specs.declared.rated.Rated.{Rated}
 use Rattle.proof_tree.specs.declared.cuts.Cut.{Cut}
@@ -51,7 +52,9 @@ abbrev pub AreCrossingRows : Parts → List Cut → List (List Crossing) → ℕ
 AreCrossingRows p cuts rows count = (q : ℕ) → q < count → slice_index_or rows q [] ≡ crossings_on p cuts q
 
 -- what a table keeps of an instance and a list of cuts
-pub record IsKept (p : Parts) (cuts : List Cut) (rests : List ℕ) (rows : List (List Crossing)) : Type 0 where
+pub record IsKept (p steps : Parts) (limit : ℕ) (cuts : List Cut) (rests : List ℕ) (rows : List (List Crossing)) : Type 0 where
+  pub steps_are : steps ≡ p
+  pub limit_is : limit ≡ price_limit p
   pub are_list : IsCutList p cuts
   pub are_rests : AreRests p cuts rests
   pub count : length rows ≡ places p

@@ -1,13 +1,13 @@
 //! Laws of the definitions.
 
-ghost use Rattle.std.specs.Prelude.{ℕ, ◌↔◌, ◌<◌, List, slice_index, ℤ};
+ghost use Rattle.std.specs.Prelude.{ℕ, ◌≡◌, ◌↔◌, ◌<◌, List, take, slice_index, slice_set, ℤ};
 ghost use Rattle.plan_base.specs.declared.parts.Parts.{Parts as AnyParts};
 ghost use Rattle.plan_base.specs.Places.{places};
 ghost use Rattle.arc_restrict.specs.Prices.{AreWithinLimit};
 ghost use Rattle.proof_tree.specs.declared.cuts.Cut.{Cut as AnyCut};
 ghost use Rattle.proof_tree.specs.Regions.{Region, whole};
 ghost use Rattle.proof_tree.specs.Bounds.{IsBound, IsOpeningBound};
-ghost use Rattle.proof_tree.specs.RatedEvidence.{AreLawfulNumbers, IsBoundAt};
+ghost use Rattle.proof_tree.specs.RatedEvidence.{rates_in, AreLawfulNumbers, IsBoundAt};
 ghost use Rattle.cut_table.specs.Numbers.{AreNumbers, AreStartNumbers, AreMovedWithin, HaveNoRates, IsPriceWithin};
 
 /// Numbers with rates of 0 are as they have to be exactly where none is above the limit.
@@ -22,9 +22,11 @@ pub fn bound_without_rates()
         → IsBoundAt p cuts g numbers bound ↔ IsBound p g numbers bound }
 {}
 
-/// The bound of the whole region at start numbers is the opening bound.
-pub fn opening_bound()
-    ensures { (p : AnyParts) (cuts : List AnyCut) (numbers : List ℕ) (bound : ℤ) → AreStartNumbers p cuts numbers
+/// The bound at start numbers is that at their prices alone, and that of the whole region is the opening bound.
+pub fn start_bound()
+    ensures prices { (p : AnyParts) (cuts : List AnyCut) (numbers : List ℕ) (g : Region) (bound : ℤ) → AreStartNumbers p cuts numbers
+        → IsBoundAt p cuts g numbers bound ↔ IsBound p g (take (places p) numbers) bound }
+    ensures opening { (p : AnyParts) (cuts : List AnyCut) (numbers : List ℕ) (bound : ℤ) → AreStartNumbers p cuts numbers
         → IsBoundAt p cuts (whole p) numbers bound → IsOpeningBound p bound }
 {}
 
@@ -35,4 +37,8 @@ pub fn moved_numbers()
         → IsPriceWithin p cuts numbers q (slice_index numbers q) }
     ensures moved { (p : AnyParts) (cuts : List AnyCut) (old new : List ℕ) → AreNumbers p cuts old
         → AreMovedWithin p cuts old new → AreNumbers p cuts new }
+    ensures rates { (p : AnyParts) (cuts : List AnyCut) (old new : List ℕ) → AreNumbers p cuts old
+        → AreMovedWithin p cuts old new → rates_in p new ≡ rates_in p old }
+    ensures put { (p : AnyParts) (cuts : List AnyCut) (numbers : List ℕ) (q price : ℕ) → AreNumbers p cuts numbers → q < places p
+        → IsPriceWithin p cuts numbers q price → AreMovedWithin p cuts numbers (slice_set numbers q price) }
 {}

@@ -66,22 +66,22 @@ impl RatedRow {
     {
         &self.items[..self.count]
     }
+}
 
-    /// Puts those cuts of a row whose rate is above 0, each with its rate, over what is here.
-    pub fn put_used(&mut self, row: &[Crossing], rates: &[u128])
-        requires few { length row.now ≤ MAX_CUTS }
-        requires rates { AreNumbered (length rates.now) row.now }
-        ensures { self.new ≡ used rates.now row.now }
-    {
-        self.clear();
-        for crossing in row {
-            let rate = rates[crossing.number as usize];
-            if rate > 0 {
-                self.add(Rated {
-                    batch: crossing.batch,
-                    rate,
-                });
-            }
+/// Puts those cuts of a place's row whose rate is above 0, each with its rate, over what a row of rates has.
+pub fn put_used(list: &mut RatedRow, row: &[Crossing], rates: &[u128])
+    requires few { length row.now ≤ MAX_CUTS }
+    requires rates { AreNumbered (length rates.now) row.now }
+    ensures { list.new ≡ used rates.now row.now }
+{
+    list.clear();
+    for crossing in row {
+        let rate = rates[crossing.number as usize];
+        if rate > 0 {
+            list.add(Rated {
+                batch: crossing.batch,
+                rate,
+            });
         }
     }
 }

@@ -8,7 +8,7 @@ ghost use Rattle.link_steps.specs.Ranges.{AreRanges};
 ghost use Rattle.link_steps.specs.Values.{AreLinkRanges};
 ghost use Rattle.arc_restrict.specs.Prices.{AreWithinLimit};
 ghost use Rattle.proof_tree.specs.declared.limits.TheConstants.{MAX_CUTS};
-ghost use Rattle.proof_tree.specs.Cuts.{IsCutList, AreRests};
+ghost use Rattle.proof_tree.specs.Cuts.{least_count, cut_at, IsCutList, AreRests};
 ghost use Rattle.proof_tree.specs.RatedBounds.{crossing_rates, cut_total, IsRatedPrice, IsRatedTotal};
 ghost use Rattle.proof_tree.specs.RatedEvidence.{rates_in};
 ghost use Rattle.cut_table.specs.Numbers.{AreNumbers, AreStartNumbers, least_price_at, most_price_at};
@@ -17,8 +17,8 @@ ghost use Rattle.cut_table.specs.Crossings.{crossings_on, crossings_there, cross
 
 use crate::crossing::{Crossing, crossing_rows};
 use crate::numbers::{least_price, prices_of_link, rates_of, rates_on};
-use crate::rated_rows::{RatedRows, empty_rows};
-use link_steps::{LinkRanges, LinkValue, Ranges, StepTable};
+use crate::rated_rows::{RatedRows, empty_rows, put_used};
+use link_steps::{LinkRanges, LinkValue, Ranges, StepTable, tally};
 use plan_base::{Instance, Items, LinkId, Prices};
 use proof_tree::{Cut, are_within_limit, cut_total, rests_of};
 use std::alloc::{AllocError, Global};
@@ -41,8 +41,12 @@ pub struct PriceBounds {
 pub struct CutTable {
     inst: Instance,
     steps: StepTable,
+    /// The price limit of the instance.
+    limit: u128,
     cuts: Items<Cut>,
+    /// What crosses each cut beyond what it leaves out, in load grains.
     rests: Vec<u64>,
+    /// For each place the cuts that it crosses.
     rows: Vec<Items<Crossing>>,
 }
 
@@ -54,7 +58,7 @@ impl Model for CutTable {
 
     ghost view = { λ a. record { problem = a.inst; cuts = a.cuts } };
 
-    ghost invariant = { λ a. (a.steps ≡ a.inst) × IsKept a.inst a.cuts a.rests.items a.rows.items };
+    ghost invariant = { λ a. IsKept a.inst a.steps a.limit a.cuts a.rests.items a.rows.items };
 }
 
 impl CutTable {
@@ -80,6 +84,7 @@ impl CutTable {
         Ok(CutTable {
             inst: inst.copy(alloc)?,
             steps,
+            limit: inst.price_limit(),
             cuts,
             rests,
             rows,
@@ -109,14 +114,30 @@ impl CutTable {
         self.cuts.len() as u32
     }
 
-    /// The cuts that a place crosses.
-    fn row_of(&self, place: u32) -> &[Crossing]
+    /// The cuts that a place crosses, in the order of the list, each as the place sees it. Takes no memory.
+    ///
+    /// - Rule: docs/DEFINITIONS.md, "Cuts".
+    /// - Time: constant.
+    pub fn crossings(&self, place: u32) -> &[Crossing]
         requires { place < places self.now.problem }
         ensures value { result.now ≡ crossings_on self.now.problem self.now.cuts place }
         ensures few { length result.now ≤ MAX_CUTS }
         ensures numbered { AreNumbered (length self.now.cuts) result.now }
     {
         self.rows[place as usize].as_slice()
+    }
+
+    /// How many grains the cut of this number counts at least. Takes no memory.
+    ///
+    /// - Gives: load grains.
+    /// - Rule: docs/DEFINITIONS.md, "Cuts".
+    /// - Time: constant.
+    pub fn least_count(&self, number: u32) -> u64
+        requires { number < length self.now.cuts }
+        ensures { result ≡ least_count self.now.problem (cut_at self.now.cuts number) }
+    {
+        let cut = &self.cuts.as_slice()[number as usize];
+        tally(cut.period, cut.first, self.rests[number as usize])
     }
 
     /// The rates of the cuts that a place crosses together, in thousandths of a cost grain per counted grain.
@@ -127,7 +148,7 @@ impl CutTable {
         ensures value { result ≡ crossing_rates self.now.problem self.now.cuts rates.now place }
         ensures within { result ≤ MAX_CUTS * MAX_PRICED_LOAD }
     {
-        rates_on(&self.inst, self.row_of(place), rates)
+        rates_on(&self.inst, self.crossings(place), rates)
     }
 
     /// Whether a place may have this price with these rates.
@@ -139,7 +160,7 @@ impl CutTable {
         ensures { IsTrue result ↔ IsRatedPrice self.now.problem self.now.cuts price rates.now place }
     {
         let rate = self.crossing_rate(rates, place);
-        price + rate <= self.inst.price_limit() && least_price(&self.inst, rate, place) <= price
+        price + rate <= self.limit && least_price(&self.inst, rate, place) <= price
     }
 
     /// Whether each place may have its price with these rates.
@@ -187,9 +208,8 @@ impl CutTable {
         ensures numbers { IfOk result (AreNumbers self.now.problem self.now.cuts) }
     {
         let mut numbers = self.steps.start_prices(alloc)?.into_vec();
-        for _ in 0..self.cuts.len() {
-            numbers.push(0)?;
-        }
+        let count = numbers.len() + self.cuts.len();
+        numbers.resize(count, 0)?;
         Ok(Prices::from_vec(numbers))
     }
 
@@ -207,10 +227,10 @@ impl CutTable {
     {
         let _places = self.inst.places();
         if self.inst.orient().is_two_way() {
-            rows.there.put_used(self.row_of(2 * link.0), rates);
-            rows.back.put_used(self.row_of(2 * link.0 + 1), rates);
+            put_used(&mut rows.there, self.crossings(2 * link.0), rates);
+            put_used(&mut rows.back, self.crossings(2 * link.0 + 1), rates);
         } else {
-            rows.there.put_used(self.row_of(link.0), rates);
+            put_used(&mut rows.there, self.crossings(link.0), rates);
             rows.back.clear();
         }
     }
@@ -300,7 +320,7 @@ impl CutTable {
         let rate = self.crossing_rate(rates, place);
         PriceBounds {
             least: least_price(&self.inst, rate, place),
-            most: self.inst.price_limit() - rate,
+            most: self.limit - rate,
         }
     }
 }
