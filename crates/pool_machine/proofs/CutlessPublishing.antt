@@ -1,6 +1,6 @@
 -- Without cuts no numbers are refused as unlawful.
 use Rattle.std.proofs.Common.{◌≡◌, ℕ, ◌+◌, Bool, List, [], length, take, Option, Some, None, slice_get, refl, sym, subst, arith}
-use Rattle.std.specs.Prelude.{option_map, not, ◌==◌}
+use Rattle.std.specs.Prelude.{option_map}
 use Rattle.std.proofs.lemmas.Bool.{eqb-true}
 use Rattle.std.proofs.lemmas.List.{take_all}
 use Rattle.plan_base.specs.declared.ids.BranchId.{BranchId}
@@ -9,7 +9,7 @@ use Rattle.plan_base.specs.declared.parts.Parts.{Parts}
 use Rattle.plan_base.specs.First.{◌or_else◌, when, first_in}
 use Rattle.plan_base.specs.Places.{places, link_of_place}
 use Rattle.plan_base.proofs.Bools.{not-false}
-use Rattle.plan_base.proofs.FirstFault.{or_else-none, when-none}
+use Rattle.plan_base.proofs.FirstFault.{when-none}
 use Rattle.arc_restrict.specs.Prices.{AreWithinLimit}
 use Rattle.proof_tree.specs.declared.cuts.Cut.{Cut}
 use Rattle.pool_machine.specs.declared.answers.Publish.{Publish}

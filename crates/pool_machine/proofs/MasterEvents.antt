@@ -1,5 +1,5 @@
 -- What the events of a master task answer at a node with a complete round.
-use Rattle.std.proofs.Common.{◌≡◌, ℕ, ◌⊎◌, true, List, length, All, Option, Some, None, refl, sym, ap, subst, ◌∙◌, ℤ}
+use Rattle.std.proofs.Common.{◌≡◌, ℕ, ◌⊎◌, true, List, All, Option, Some, None, refl, sym, subst, ◌∙◌, ℤ}
 use Rattle.std.specs.Prelude.{Ok}
 use Rattle.std.proofs.lemmas.List.Elements.{All-filter}
 use Rattle.plan_base.specs.declared.ids.ArcId.{ArcId}

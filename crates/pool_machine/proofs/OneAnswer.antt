@@ -162,6 +162,10 @@ PublishSucceeds s id seen prices (publish.NoGain before after) = (t : State) × 
 PublishSucceeds s id seen prices answer = ⊥
 
 module _ (s : State) (id : BranchId) (seen : ℕ) (prices : List ℕ) where
+  -- the restricted value over the columns that a node permits
+  abbrev HasValue : Node → List ℕ → ℤ → Type 0
+  HasValue node ps value = IsRestrictedValue s.problem s.cuts (ranges_of s.problem node) (columns_for s node) ps value
+
   publish-cases : (t : State) (a : Publish) → PublishStep s id seen prices a t → (publish_fault s id seen prices ≡ Some a) ⊎ PublishSucceeds s id seen prices a
   publish-cases t (publish.Published slot version) x = inr (t, x)
   publish-cases t (publish.NoGain before after) x = inr (t, x)
@@ -194,8 +198,8 @@ module _ (s : State) (id : BranchId) (seen : ℕ) (prices : List ℕ) where
       let a = x.may.is_gathered.complete_round in
       let b = y.may.is_gathered.complete_round in
       let same = one_round s id x.node y.node x.round y.round a.is_node b.is_node a.is_round b.is_round in
-      let old : IsRestrictedValue s.problem s.cuts (ranges_of s.problem x.node) (columns_for s x.node) x.round.prices w = moved s x.node y.node x.round y.round (λ n ps. IsRestrictedValue s.problem s.cuts (ranges_of s.problem n) (columns_for s n) ps w) same y.is_before in
-      let new : IsRestrictedValue s.problem s.cuts (ranges_of s.problem x.node) (columns_for s x.node) prices h = subst (λ (n : Node). IsRestrictedValue s.problem s.cuts (ranges_of s.problem n) (columns_for s n) prices h) same.0 y.is_after in
+      let old : HasValue x.node x.round.prices w = moved s x.node y.node x.round y.round (λ n ps. HasValue n ps w) same y.is_before in
+      let new : HasValue x.node prices h = subst (λ (n : Node). HasValue n prices h) same.0 y.is_after in
       let before : v ≡ w = value-unique s.problem s.cuts (ranges_of s.problem x.node) (columns_for s x.node) x.round.prices v w x.is_before old in
       let after : g ≡ h = value-unique s.problem s.cuts (ranges_of s.problem x.node) (columns_for s x.node) prices g h x.is_after new in
       ap (λ (z : ℤ). publish.NoGain z g) before ∙ ap (λ (z : ℤ). publish.NoGain w z) after
@@ -208,8 +212,8 @@ module _ (s : State) (id : BranchId) (seen : ℕ) (prices : List ℕ) where
       let same = one_round s id y.node node y.round round b.is_node a.is_node b.is_round a.is_round in
       elim gains [
         | inl better ↦
-            let old : IsRestrictedValue s.problem s.cuts (ranges_of s.problem y.node) (columns_for s y.node) y.round.prices better.before = moved s y.node node y.round round (λ n ps. IsRestrictedValue s.problem s.cuts (ranges_of s.problem n) (columns_for s n) ps better.before) same better.is_before in
-            let new : IsRestrictedValue s.problem s.cuts (ranges_of s.problem y.node) (columns_for s y.node) prices better.after = subst (λ (n : Node). IsRestrictedValue s.problem s.cuts (ranges_of s.problem n) (columns_for s n) prices better.after) same.0 better.is_after in
+            let old : HasValue y.node y.round.prices better.before = moved s y.node node y.round round (λ n ps. HasValue n ps better.before) same better.is_before in
+            let new : HasValue y.node prices better.after = subst (λ (n : Node). HasValue n prices better.after) same.0 better.is_after in
             let before : better.before ≡ v = value-unique s.problem s.cuts (ranges_of s.problem y.node) (columns_for s y.node) y.round.prices better.before v old y.is_before in
             let after : better.after ≡ g = value-unique s.problem s.cuts (ranges_of s.problem y.node) (columns_for s y.node) prices better.after g new y.is_after in
             not_both better.before better.after better.greater (subst (λ (z : ℤ). z ≤ℤ better.before) (sym after) (subst (λ (z : ℤ). g ≤ℤ z) (sym before) y.not_greater))

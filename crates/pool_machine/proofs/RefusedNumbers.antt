@@ -1,5 +1,5 @@
 -- Numbers are refused exactly where they are not as they have to be.
-use Rattle.std.proofs.Common.{◌≡◌, ℕ, zero, suc, ◌+◌, ◌*◌, ◌<◌, ◌≤◌, Bool, true, false, not, ◌&&◌, ◌||◌, ◌==◌, List, [], ◌∷◌, ◌++◌, length, get_or, slice_index, take, drop, All, Option, Some, None, slice_get, refl, sym, ap, subst, ◌∙◌, arith, take-append-drop}
+use Rattle.std.proofs.Common.{◌≡◌, ℕ, zero, suc, ◌+◌, ◌*◌, ◌<◌, ◌≤◌, Bool, true, false, not, ◌&&◌, ◌||◌, ◌==◌, List, [], ◌∷◌, length, get_or, slice_index, take, Option, Some, None, slice_get, refl, sym, ap, subst, ◌∙◌, arith, take-append-drop}
 use Rattle.std.specs.Prelude.{◌↔◌, IsTrue, option_and_then, nat_lt, nat_le}
 use Rattle.std.proofs.lemmas.Bool.Decides.{nat_tests}
 use Rattle.std.proofs.lemmas.List.{length-take-le, get_or-take}
@@ -123,11 +123,11 @@ module _ (p : Parts) (cuts : List Cut) (numbers : List ℕ) where
 
   -- a test of the numbers tells the refusal
   pub unlawful-told : (b : Bool) → IsTrue b ↔ AreNumbers p cuts numbers → length numbers ≡ places p + length cuts → first_in (price_fault p) prices ≡ None → when (not b) publish.Unlawful ≡ unlawful_fault p cuts numbers
-  unlawful-told true lawful count over = sym (lawful-unfaulted (lawful.0 tt).lawful)
+  unlawful-told true lawful count over = sym (lawful-unfaulted (lawful.0 refl).lawful)
   unlawful-told false lawful count over = by (unlawful_fault p cuts numbers) refl
     where
       by : (o : Option Publish) → unlawful_fault p cuts numbers ≡ o → Some publish.Unlawful ≡ o
-      by None is = absurd (lawful.1 (record { count = count; lawful = unfaulted-lawful (omega arith) over is }))
+      by None is = let bad : false ≡ true = lawful.1 (record { count = count; lawful = unfaulted-lawful (omega arith) over is }) in absurd (cc)
       by (Some a) is = ap (λ (x : Publish). Some x) (sym (unlawful_only a is))
 
 -- without cuts prices within the limit are lawful
