@@ -29,11 +29,6 @@ module _ (p : Parts) (g : Region) (prices : List ℕ) (lengths : List (Option �
       by_cases None is has = absurd (let bad : false ≡ true = rw is at has in cc)
       by_cases (Some price) is has = rw is (least k price below is)
 
-  -- a round's bound is the bound of the region
-  pub round_bound-bound : (cuts : List Cut) (bound : ℤ) → AreLeastLengths p g.forbidden prices lengths → IsRoundBound p cuts g.ranges prices lengths bound → IsBoundAt p cuts g prices bound
-  round_bound-bound cuts bound least is =
-      record { least_prices = length_of lengths; values = is.values; are_least = are_least_prices is.complete least; are_values = is.are_values; rounded = is.rounded }
-
   -- a round that crowds the links closes a leaf of the region
   pub round_crowd-closed : AreWithinLimit p prices → AreLeastLengths p g.forbidden prices lengths → IsRoundCrowd p g.ranges prices lengths → ClosedByCrowd p g prices
   round_crowd-closed within least is =
@@ -53,3 +48,9 @@ module _ (p : Parts) (g : Region) (prices : List ℕ) (lengths : List (Option �
   -- lengths that are least prices crowd a round exactly where the prices close a leaf of the region
   pub round_crowd-both : AreWithinLimit p prices → ((k : ℕ) → k < length p.demands → HasLength lengths k) → AreLeastLengths p g.forbidden prices lengths → IsRoundCrowd p g.ranges prices lengths ↔ ClosedByCrowd p g prices
   round_crowd-both within complete least = (round_crowd-closed within least, closed-round_crowd complete least)
+
+-- a round's bound is the bound of the region
+pub round_bound-bound : (p : Parts) (cuts : List Cut) (g : Region) (numbers : List ℕ) (lengths : List (Option ℕ)) (bound : ℤ)
+    → AreLeastLengths p g.forbidden numbers lengths → IsRoundBound p cuts g.ranges numbers lengths bound → IsBoundAt p cuts g numbers bound
+round_bound-bound p cuts g numbers lengths bound least is =
+    record { least_prices = length_of lengths; values = is.values; are_least = are_least_prices p g numbers lengths is.complete least; are_values = is.are_values; rounded = is.rounded }
