@@ -20,6 +20,7 @@ mod shared;
 mod trees;
 
 pub use advancing::{Next, next_step};
+pub use dividing::load_split;
 pub use guide::Guide;
 pub use known::{Known, KnownAbove};
 pub use limits::{keep_limits, paths_within};
