@@ -295,7 +295,7 @@ priced-bound p cuts g prices round number None all before none bound =
     let some = none.0 refl in
     absurd (omega arith)
 priced-bound p cuts g prices round number (Some bound) all before none is =
-    round_bound-bound p g prices round.lengths cuts bound (λ k price below at. before.least k price at) (subst (λ (ps : List ℕ). IsRoundBound p cuts g.ranges ps round.lengths bound) before.prices_are is)
+    round_bound-bound p cuts g prices round.lengths bound (λ k price below at. before.least k price at) (subst (λ (ps : List ℕ). IsRoundBound p cuts g.ranges ps round.lengths bound) before.prices_are is)
 
 pub unpriced-bound : (p : Parts) (cuts : List Cut) (g : Region) (prices : List ℕ) (k : ℕ) → k < length p.demands → HasNoPath p g.forbidden k → IsBoundOrNone p cuts g prices None
 unpriced-bound p cuts g prices k within none = λ bound is. let least = is.are_least k within in none least.path least.permitted

@@ -142,7 +142,7 @@ module _ (p : Parts) (cuts : List Cut) (old : Node) (round : Round) (is : old.ro
       complete = complete;
       bound = bound;
       crowd = crowd;
-      is_bound = round_bound-bound p (region_of p old) round.prices (lengths_of round) cuts bound (lengths-least p cuts (restriction_of old) round inst h) all;
+      is_bound = round_bound-bound p cuts (region_of p old) round.prices (lengths_of round) bound (lengths-least p cuts (restriction_of old) round inst h) all;
       is_crowd = keeps-crowd bound crowd all takes;
       becomes = becomes ∙ ap (λ (o : Option Round). let x : Node = record old { best = Some (better_of old.best bound round.prices); completed = suc old.completed; crowd = crowd; round = o } in x) is;
     })
