@@ -1,5 +1,5 @@
 -- Pieces of the search among the trials, and of the ascent. No public clause cites this module.
-use Rattle.std.specs.Prelude.{ℕ, ◌≡◌, ◌<◌, ◌≤◌, ◌*◌, ◌^◌, false, List, length, slice_index, Option, Some, None, ℤ, ◌≤ℤ◌, ◌<ℤ◌, if◌then◌else◌, int_lt}
+use Rattle.std.specs.Prelude.{ℕ, ◌≡◌, ◌<◌, ◌≤◌, ◌+◌, ◌*◌, ◌^◌, false, List, length, slice_index, Option, Some, None, ℤ, ◌≤ℤ◌, ◌<ℤ◌, if◌then◌else◌, int_lt}
 use Rattle.plan_base.specs.declared.parts.Parts.{Parts}
 use Rattle.plan_base.specs.declared.limits.TheConstants.{MAX_PLACES}
 use Rattle.plan_base.specs.Facts.{total_load, price_limit}

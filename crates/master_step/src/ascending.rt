@@ -1,6 +1,6 @@
 //! The ascent: each place's own price in turn, to the best that it can be.
 
-ghost use Rattle.std.specs.Prelude.{◌≡◌, ◌<◌, ◌≤◌, false, length, slice_index, IfOk};
+ghost use Rattle.std.specs.Prelude.{◌≡◌, ◌<◌, ◌≤◌, false, length, IfOk};
 ghost use Rattle.plan_base.specs.Facts.{price_limit};
 ghost use Rattle.plan_base.specs.Places.{is_two_way, places};
 ghost use Rattle.link_steps.specs.Ranges.{AreRanges};
@@ -151,11 +151,7 @@ fn other_price(inst: &Instance, table: &CutTable, prices: &Prices, place: u32) -
     if !inst.orient().is_two_way() {
         return 0;
     }
-    let other = if place % 2 == 1 {
-        place - 1
-    } else {
-        place + 1
-    };
+    let other = if place % 2 == 1 { place - 1 } else { place + 1 };
     prices.as_slice()[other as usize]
 }
 

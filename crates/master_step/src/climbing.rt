@@ -63,6 +63,7 @@ impl Master<'_> {
         ensures loads { HasLoads self.now.inst.now self.now.table.now.cuts self.now.ranges.now (allowed_of self.now.source) self.now.prices.now rows.new }
         ensures low { AreLow self.now.inst.now rows.new }
     {
+        let _places = self.inst.places();
         let columns = rows.column_loads.as_mut_slice();
         fill_column_loads(self.inst, self.prices, &self.source, columns);
         let values = rows.value_loads.as_mut_slice();
@@ -143,7 +144,14 @@ impl Master<'_> {
         match self.best_trial(old, greatest, widest, rows) {
             None => (old, None),
             Some(best) => {
-                set_trial(self.inst, self.table, self.prices, greatest, best.divisor, rows);
+                set_trial(
+                    self.inst,
+                    self.table,
+                    self.prices,
+                    greatest,
+                    best.divisor,
+                    rows,
+                );
                 (old, Some(best.value))
             }
         }

@@ -6,7 +6,7 @@ ghost use Rattle.plan_base.specs.Facts.{total_load, top_load, price_limit};
 ghost use Rattle.plan_base.specs.Arcs.{link_at};
 ghost use Rattle.plan_base.specs.Places.{places, link_of_place};
 ghost use Rattle.arc_restrict.specs.Prices.{AreWithinLimit};
-ghost use Rattle.cut_table.specs.Numbers.{AreNumbers};
+ghost use Rattle.cut_table.specs.Numbers.{AreNumbers, least_price_at, most_price_at};
 ghost use Rattle.master_step.specs.Trials.{apart as apart_of, moved as moved_price, widest_gap as widest_of, greatest_price as greatest_of};
 ghost use Rattle.master_step.specs.Climbing.{HasRoom, AreLow, AreMoved};
 
@@ -75,13 +75,8 @@ fn moved(
 ) -> u128
     requires divisor { 0 < divisor }
     requires product { apart_of columns value * greatest ≤ MAX_PRICED_LOAD }
-    requires order { bounds.least ≤ bounds.most }
-    requires limit { bounds.most ≤ MAX_PRICED_LOAD }
-    requires least { bounds.least ≤ price }
-    requires most { price ≤ bounds.most }
-    ensures value { result ≡ moved_price bounds.least bounds.most greatest divisor columns value price }
-    ensures enough { bounds.least ≤ result }
-    ensures few { result ≤ bounds.most }
+    requires price { price ≤ MAX_PRICED_LOAD }
+    ensures { result ≡ moved_price bounds.least bounds.most greatest divisor columns value price }
 {
     let step = apart(columns, value) * greatest / divisor;
     if value < columns {
@@ -89,6 +84,32 @@ fn moved(
     } else {
         bounds.least.max(price.saturating_sub(step))
     }
+}
+
+/// The price of a place in a trial.
+fn trial_price(
+    inst: &Instance,
+    table: &CutTable,
+    prices: &Prices,
+    greatest: u128,
+    divisor: u128,
+    columns: u128,
+    value: u128,
+    place: u32,
+) -> u128
+    requires table { table.now.problem ≡ inst.now }
+    requires place { place < places inst.now }
+    requires numbers { AreNumbers inst.now table.now.cuts prices.now }
+    requires columns { columns ≤ total_load inst.now }
+    requires value { value ≤ total_load inst.now }
+    requires greatest { greatest ≤ price_limit inst.now }
+    requires divisor { 0 < divisor }
+    ensures { result ≡ moved_price (least_price_at inst.now table.now.cuts prices.now place) (most_price_at inst.now table.now.cuts prices.now place)
+        greatest divisor columns value (slice_index prices.now place) }
+{
+    let bounds = table.price_bounds(prices, place);
+    let price = prices.as_slice()[place as usize];
+    moved(bounds, greatest, divisor, columns, value, price)
 }
 
 /// Writes the numbers of a trial into the rows.
@@ -112,14 +133,11 @@ pub fn set_trial(
 {
     rows.trial.set_to(prices);
     for place in 0..inst.places() {
-        let number = place as usize;
-        let bounds = table.price_bounds(prices, place);
-        let columns = rows.column_loads[number];
-        let value = rows.value_loads[number];
-        let price = prices.as_slice()[number];
-        rows.trial.put(
-            place,
-            moved(bounds, greatest, divisor, columns, value, price),
+        let columns = rows.column_loads[place as usize];
+        let value = rows.value_loads[place as usize];
+        let price = trial_price(
+            inst, table, prices, greatest, divisor, columns, value, place,
         );
+        rows.trial.put(place, price);
     }
 }
