@@ -1,6 +1,6 @@
 -- Without cuts no numbers are refused as unlawful.
-use Rattle.std.proofs.Common.{◌≡◌, ℕ, ◌+◌, Bool, List, [], length, take, Option, Some, None, slice_get, refl, sym, subst, arith}
-use Rattle.std.specs.Prelude.{option_map}
+use Rattle.std.proofs.Common.{◌≡◌, ℕ, ◌+◌, Bool, List, [], length, take, Option, Some, None, refl, sym, subst, arith}
+use Rattle.std.specs.Prelude.{option_map, not}
 use Rattle.std.proofs.lemmas.Bool.{eqb-true}
 use Rattle.std.proofs.lemmas.List.{take_all}
 use Rattle.plan_base.specs.declared.ids.BranchId.{BranchId}
@@ -15,8 +15,7 @@ use Rattle.proof_tree.specs.declared.cuts.Cut.{Cut}
 use Rattle.pool_machine.specs.declared.answers.Publish.{Publish}
 use Rattle.pool_machine.specs.declared.answers.Publish.TheVariants as publish
 use Rattle.pool_machine.specs.State.{State, round_of}
-use Rattle.pool_machine.specs.Changes.{version_in, first_gap}
-use Rattle.pool_machine.specs.Readiness.{completed_in}
+use Rattle.pool_machine.specs.Changes.{is_spent, version_in, is_version, stale_fault, first_gap}
 use Rattle.pool_machine.specs.Gathering.{first_ungathered}
 use Rattle.pool_machine.specs.Publishing.{price_fault, unlawful_fault, publish_fault}
 use Rattle.pool_machine.proofs.RefusedNumbers.{first_in-at, when-only, over_price-none, unlawful-without}
@@ -56,14 +55,29 @@ over_price-other p prices h =
 both-other : (a b : Option Publish) → IsOther a → IsOther b → IsOther (a or_else b)
 both-other a b one other h = other (behind a b one h).1
 
+stale-other : (s : State) (id : BranchId) (seen : ℕ) → IsOther (stale_fault publish.Spent publish.Stale s id seen)
+stale-other s id seen =
+    both-other _ _ (when-other (is_spent s) (publish.Spent s.examined) (λ e. cc))
+    (when-other (not (is_version (version_in (round_of s id)) seen)) (publish.Stale (version_in (round_of s id))) (λ e. cc))
+
+settled-other : (test : Bool) → IsOther (when test publish.Settled)
+settled-other test = when-other test publish.Settled (λ e. cc)
+
+rounds-other : (test : Bool) (done : ℕ) → IsOther (when test (publish.Rounds done))
+rounds-other test done = when-other test (publish.Rounds done) (λ e. cc)
+
+count-other : (test : Bool) (needed : ℕ) → IsOther (when test (publish.PriceCount needed))
+count-other test needed = when-other test (publish.PriceCount needed) (λ e. cc)
+
+-- without cuts this is never the first refusal
 pub never-unlawful : (s : State) (id : BranchId) (seen : ℕ) (prices : List ℕ) → s.cuts ≡ [] → publish_fault s id seen prices ≡ Some publish.Unlawful → ⊥
 unfolding publish_fault
 never-unlawful s id seen prices none h =
-    let stale = behind _ _ (both-other _ _ (when-other _ (publish.Spent s.examined) (λ e. cc)) (when-other _ (publish.Stale (version_in (round_of s id))) (λ e. cc))) h in
-    let settled = behind _ _ (when-other _ publish.Settled (λ e. cc)) stale.1 in
-    let incomplete = behind _ _ (incomplete-other (first_gap (round_of s id))) settled.1 in
-    let rounds = behind _ _ (when-other _ (publish.Rounds (completed_in (slice_get s.nodes id.0))) (λ e. cc)) incomplete.1 in
-    let count = behind _ _ (when-other _ (publish.PriceCount (places s.problem + length s.cuts)) (λ e. cc)) rounds.1 in
+    let settled = behind _ _ (stale-other s id seen) h in
+    let incomplete = behind _ _ (settled-other _) settled.1 in
+    let rounds = behind _ _ (incomplete-other (first_gap (round_of s id))) incomplete.1 in
+    let counted = behind _ _ (rounds-other _ _) rounds.1 in
+    let count = behind _ _ (count-other _ _) counted.1 in
     let over = behind _ _ (over_price-other s.problem (take (places s.problem) prices)) count.1 in
     let lawful = unlawful-none s.problem s.cuts prices none (eqb-true _ _ (not-false _ (when-none _ _ count.0))) over.0 in
     let ungathered = first_ungathered s.columns (round_of s id) in
