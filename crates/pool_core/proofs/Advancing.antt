@@ -11,7 +11,7 @@ use Rattle.plan_base.specs.Places.{places, link_of_place}
 use Rattle.arc_restrict.specs.Prices.{AreWithinLimit}
 use Rattle.proof_tree.specs.declared.cuts.Cut.{Cut}
 use Rattle.cut_table.specs.Numbers.{AreNumbers}
-use Rattle.cut_table.proofs.NoRates.{lawful_without_rates}
+use Rattle.cut_table.proofs.NoRates.{lawful-within}
 use Rattle.column_pool.specs.declared.brief.Brief.{Brief}
 use Rattle.column_pool.specs.Columns.{columns_at}
 use Rattle.column_pool.specs.Briefs.{IsBriefFor}
@@ -131,7 +131,7 @@ crowd-within p old new within h = All-from_get_or (λ price. price ≤ price_lim
 crowd-numbers : (p : Parts) (cuts : List Cut) (old new : List ℕ) → AreNumbers p cuts old → AreCrowdPrices p old new → AreNumbers p cuts new
 crowd-numbers p cuts old new numbers h = record {
   count = h.count ∙ numbers.count;
-  lawful = (lawful_without_rates p cuts new (λ i below. h.rates (places p + i) (omega arith))).1 (crowd-within p old new numbers.lawful.prices_within h);
+  lawful = lawful-within p cuts new (λ i below. h.rates (places p + i) (omega arith)) (crowd-within p old new numbers.lawful.prices_within h);
 }
 
 next-numbers : (p : Parts) (cuts : List Cut) (brief : Brief) (prices : List ℕ) → IsBriefFor p cuts brief.prices brief.ranges brief.columns → IsNext p cuts brief (Some prices) → AreNumbers p cuts prices

@@ -147,7 +147,9 @@ module _ (p : Parts) (cuts : List Cut) (unit budget : ℕ) (prices : List ℕ) (
       (subst (λ (xs : List Node). IsKeptPool (record (opening_with p cuts unit budget prices) { nodes = xs }) table grounds slots) (sym is_nodes)
       (subst (λ (xs : List (Option Kept)). IsKeptPool (opening_with p cuts unit budget prices) table xs slots) (sym root.is_ground) kept))
 
-  pub opening-state-at : (nodes : List Node) (columns : Columns) → nodes ≡ root_with prices ∷ [] → columns ≡ no_columns p → IsOpeningState p cuts budget (record (opening_with p cuts unit budget prices) { nodes = nodes; columns = columns })
-  opening-state-at nodes columns is is_columns =
-      subst (λ (cs : Columns). IsOpeningState p cuts budget (record (opening_with p cuts unit budget prices) { nodes = nodes; columns = cs })) (sym is_columns)
-      (subst (λ (xs : List Node). IsOpeningState p cuts budget (record (opening_with p cuts unit budget prices) { nodes = xs })) (sym is) opening-state)
+  pub opening-state-at : (held : List Cut) (nodes : List Node) (columns : Columns) → held ≡ cuts → nodes ≡ root_with prices ∷ [] → columns ≡ no_columns p
+      → IsOpeningState p cuts budget (record (opening_with p cuts unit budget prices) { cuts = held; nodes = nodes; columns = columns })
+  opening-state-at held nodes columns same is is_columns =
+      subst (λ (xs : List Cut). IsOpeningState p cuts budget (record (opening_with p cuts unit budget prices) { cuts = xs; nodes = nodes; columns = columns })) (sym same)
+      (subst (λ (cs : Columns). IsOpeningState p cuts budget (record (opening_with p cuts unit budget prices) { nodes = nodes; columns = cs })) (sym is_columns)
+      (subst (λ (xs : List Node). IsOpeningState p cuts budget (record (opening_with p cuts unit budget prices) { nodes = xs })) (sym is) opening-state))

@@ -6,11 +6,11 @@ use Rattle.std.proofs.lemmas.Bool.Decides.{nat_tests}
 use Rattle.plan_base.specs.declared.ids.BranchId.{BranchId}
 use Rattle.plan_base.specs.declared.ids.DemandId.{DemandId}
 use Rattle.plan_base.specs.declared.parts.Parts.{Parts}
-use Rattle.plan_base.specs.First.{◌or_else◌, when, first_in, fault_at}
+use Rattle.plan_base.specs.First.{◌or_else◌, when, first_in}
 use Rattle.plan_base.specs.Facts.{price_limit}
 use Rattle.plan_base.specs.Places.{places, link_of_place}
 use Rattle.plan_base.proofs.Bools.{not-false}
-use Rattle.plan_base.proofs.FirstFault.{or_else-none, when-none, IsFirst-first_fault}
+use Rattle.plan_base.proofs.FirstFault.{or_else-none, when-none}
 use Rattle.proof_tree.specs.declared.cuts.Cut.{Cut}
 use Rattle.pool_machine.specs.declared.limits.TheConstants.{MAX_VERSIONS}
 use Rattle.pool_machine.specs.declared.answers.Publish.{Publish}
@@ -20,7 +20,7 @@ use Rattle.pool_machine.specs.Changes.{is_spent, version_in, is_version, stale_f
 use Rattle.pool_machine.specs.Readiness.{completed_in, settled_in}
 use Rattle.pool_machine.specs.Gathering.{first_ungathered}
 use Rattle.pool_machine.specs.Publishing.{price_fault, unlawful_fault, publish_fault, MayFollow, PublishStep}
-use Rattle.pool_machine.proofs.LawfulNumbers.{unfaulted-lawful, unlawful_only}
+use Rattle.pool_machine.proofs.RefusedNumbers.{first_in-at, unfaulted-lawful, unlawful_only}
 use Rattle.pool_reading.proofs.Answering.{first_gap-none}
 use Rattle.pool_core.proofs.Answering.{stale_fault-none, option_map-none}
 
@@ -54,6 +54,7 @@ publish_fault-none s id seen prices h =
     let seven = or_else-none g i six.1 in
     let is = stale_fault-none publish.Spent publish.Stale s id seen one.0 in
     let v = is.has_version in
+    let count : length prices ≡ places s.problem + length s.cuts = eqb-true _ _ (not-false _ (when-none _ (publish.PriceCount width) five.0)) in
     let at : round_of s id ≡ Some v.round = ap (option_and_then (λ (node : Node). node.round)) v.is_node ∙ v.is_round in
     record {
       node = v.node;
@@ -71,10 +72,7 @@ publish_fault-none s id seen prices h =
         };
         not_settled = sym (ap settled_in v.is_node) ∙ when-none _ publish.Settled two.0;
         room = not_reached MAX_VERSIONS v.node.completed (sym (ap (λ (o : Option Node). nat_le MAX_VERSIONS (completed_in o)) v.is_node) ∙ when-none _ (publish.Rounds (completed_in (slice_get s.nodes id.0))) four.0);
-        are_numbers = record {
-          count = eqb-true _ _ (not-false _ (when-none _ (publish.PriceCount width) five.0));
-          lawful = unfaulted-lawful s.problem s.cuts prices six.0 seven.0;
-        };
+        are_numbers = record { count = count; lawful = unfaulted-lawful s.problem s.cuts prices (omega (arith, count)) six.0 seven.0 };
       };
     }
 
@@ -107,12 +105,8 @@ module _ (a : Publish) (plain : NoRefusal a) where
 
   not-price : (p : Parts) (prices : List ℕ) → first_in (price_fault p) prices ≡ Some a → ⊥
   not-price p prices h =
-      let first = IsFirst-first_fault (fault_at (price_fault p) prices) (length prices) a h in
-      at (slice_get prices first.place) first.place first.found
-    where
-      at : (o : Option ℕ) (q : ℕ) → option_and_then (price_fault p q) o ≡ Some a → ⊥
-      at None q is = not_none is
-      at (Some price) q is = not-when (nat_lt (price_limit p) price) (publish.OverPrice (record { 0 = link_of_place p q })) (λ b. b) is
+      let w = first_in-at (price_fault p) prices a h in
+      not-when (nat_lt (price_limit p) w.1) (publish.OverPrice (record { 0 = link_of_place p w.0 })) (λ b. b) w.2
 
   not-unlawful : (p : Parts) (cuts : List Cut) (prices : List ℕ) → unlawful_fault p cuts prices ≡ Some a → ⊥
   not-unlawful p cuts prices h = subst NoRefusal (unlawful_only p cuts prices a h) plain

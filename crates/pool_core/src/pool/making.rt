@@ -88,7 +88,7 @@ impl Pool {
         let grounds = root_grounds(alloc, &*inst)?;
         let unit = cost_unit(&*inst);
         let columns = ColumnPool::new(alloc, &*inst)?;
-        let room = Room::new(alloc, &cut_table)?;
+        let room = Room::new(alloc, &*inst, &cut_table)?;
         let table = Arc::new(alloc, cut_table)?;
         let claims = Claims::none(alloc)?;
         let leaves = OpenLeaves::root(alloc)?;
