@@ -1,5 +1,5 @@
 -- With rates of 0, cuts count for nothing.
-use Rattle.std.proofs.Common.{◌≡◌, ℕ, zero, suc, ◌+◌, ◌*◌, ◌<◌, ◌≤◌, inl, inr, Bool, true, false, List, [], length, drop, slice_index, All, if◌then◌else◌, refl, sym, ap, subst, ◌∙◌, arith}
+use Rattle.std.proofs.Common.{◌≡◌, ℕ, zero, suc, ◌+◌, ◌*◌, ◌<◌, ◌≤◌, inl, inr, Bool, true, false, List, [], length, slice_index, if◌then◌else◌, refl, sym, ap, subst, ◌∙◌, arith}
 use Rattle.std.specs.Prelude.{◌↔◌, ℤ, pos, ◌+ℤ◌}
 use Rattle.std.specs.List.{sum_by}
 use Rattle.std.proofs.lemmas.List.{get_or-drop, get_or_past}
@@ -10,7 +10,7 @@ use Rattle.plan_base.specs.Facts.{price_limit}
 use Rattle.plan_base.specs.Sums.{sum_below, int_sum_below}
 use Rattle.plan_base.specs.Places.{is_two_way, places, there_of, back_of}
 use Rattle.link_steps.specs.declared.rated.Rated.{Rated}
-use Rattle.link_steps.specs.Tallies.{part, worth, rate_total}
+use Rattle.link_steps.specs.Tallies.{part, worth}
 use Rattle.link_steps.specs.Values.{ranges_of_link}
 use Rattle.link_steps.proofs.NetValues.{value-price, value-net}
 use Rattle.link_steps.proofs.Order.{either_way}

@@ -1,15 +1,14 @@
 -- What start numbers are, and their bound.
-use Rattle.std.proofs.Common.{◌≡◌, ℕ, ◌+◌, ◌<◌, ◌≤◌, List, ◌++◌, length, take, replicate, slice_index, All, if◌then◌else◌, refl, sym, ap, subst, ◌∙◌, arith}
+use Rattle.std.proofs.Common.{◌≡◌, ℕ, ◌+◌, ◌<◌, ◌≤◌, List, ◌++◌, length, take, replicate, slice_index, if◌then◌else◌, sym, ap, subst, ◌∙◌, arith}
 use Rattle.std.specs.Prelude.{◌↔◌, ℤ}
 use Rattle.std.proofs.lemmas.List.{take_at, length-append, length-replicate, get_or-take, get_or-append-add, get_or-replicate}
 use Rattle.std.proofs.lemmas.List.Elements.{All-append, All-replicate}
 use Rattle.plan_base.specs.declared.ids.ArcId.{ArcId}
 use Rattle.plan_base.specs.declared.parts.Parts.{Parts}
 use Rattle.plan_base.specs.Facts.{price_limit}
-use Rattle.plan_base.specs.Sums.{sum_below}
 use Rattle.plan_base.specs.Arcs.{demand_at}
 use Rattle.plan_base.specs.Places.{places, there_of, back_of}
-use Rattle.plan_base.specs.Paths.{uses_place, IsSimplePath}
+use Rattle.plan_base.specs.Paths.{uses_place}
 use Rattle.plan_base.proofs.SumsBelow.{sum_below-same}
 use Rattle.plan_base.proofs.PlaceSums.{there-same, back-same}
 use Rattle.link_steps.specs.Values.{ranges_of_link, IsLinkValue, AreStartPrices}
@@ -54,7 +53,7 @@ module _ (p : Parts) (one other : List ℕ) (same : (q : ℕ) → q < places p �
 -- start prices with rates of 0 behind them are start numbers
 pub starts-numbers : (p : Parts) (cuts : List Cut) (prices : List ℕ) → AreStartPrices p prices → AreStartNumbers p cuts (prices ++ replicate (length cuts) 0)
 starts-numbers p cuts prices start = record {
-  count = omega (arith, length-append prices (replicate (length cuts) 0), length-replicate (length cuts) 0, start.count);
+  count = omega (arith, length-append prices (replicate (length cuts) 0), length-replicate {A = ℕ} (length cuts) 0, start.count);
   prices = subst (λ (list : List ℕ). AreStartPrices p list) (sym (take_at prices (replicate (length cuts) 0) (places p) start.count)) start;
   rates = λ i below.
       ap (λ (n : ℕ). slice_index (prices ++ replicate (length cuts) 0) (n + i)) (sym start.count) ∙ (get_or-append-add prices (replicate (length cuts) 0) i 0 ∙ get_or-replicate (length cuts) i 0 0 below);

@@ -1,16 +1,16 @@
 -- The cuts of a row whose rates are above 0 are worth what all of them are.
-use Rattle.std.proofs.Common.{◌≡◌, ℕ, zero, suc, ◌+◌, ◌*◌, ◌<◌, ◌≤◌, Bool, true, false, List, [], ◌∷◌, ◌++◌, map, length, slice_index, All, if◌then◌else◌, refl, sym, ap, subst, ◌∙◌, arith}
-use Rattle.std.specs.Prelude.{nat_lt}
+use Rattle.std.proofs.Common.{◌≡◌, ℕ, zero, suc, ◌+◌, ◌*◌, ◌<◌, ◌≤◌, Bool, true, false, List, [], ◌∷◌, ◌++◌, map, length, take, slice_index, All, if◌then◌else◌, refl, sym, ap, subst, ◌∙◌, arith}
+use Rattle.std.specs.Prelude.{nat_lt, slice_index_or}
 use Rattle.std.specs.List.{sum_by}
-use Rattle.std.proofs.lemmas.Bool.{ltb-false}
-use Rattle.std.proofs.lemmas.List.{map-append}
+use Rattle.std.proofs.lemmas.Bool.{ltb-false, lt-ltb, le-ltb}
+use Rattle.std.proofs.lemmas.List.{map-append, take_more}
 use Rattle.std.proofs.lemmas.List.Elements.{All-nil, All-cons, All-head, All-tail, All-from_get_or}
 use Rattle.std.proofs.lemmas.List.Sums.{sum_by-cons}
 use Rattle.plan_base.specs.declared.parts.Parts.{Parts}
 use Rattle.plan_base.specs.Arcs.{link_at}
 use Rattle.plan_base.specs.Places.{is_two_way}
 use Rattle.link_steps.specs.declared.rated.Rated.{Rated}
-use Rattle.link_steps.specs.Tallies.{part, worth, rate_total, IsTally, no_rated, ArePlaceRates}
+use Rattle.link_steps.specs.Tallies.{part, worth, IsTally, no_rated, ArePlaceRates}
 use Rattle.proof_tree.specs.declared.cuts.Cut.{Cut}
 use Rattle.proof_tree.specs.Cuts.{place_crosses, batch_of, cut_at}
 use Rattle.proof_tree.specs.RatedBounds.{with_rated, rated_before, rated_on, rated_there, rated_back}
@@ -102,6 +102,19 @@ used-push rates (d ∷ row) c =
     more true false same = ap (λ (l : List Rated). rated_of rates d ∷ l) same
     more false true same = same
     more false false same = same
+
+-- one cut more, whose rate is above 0
+pub used-more : (rates : List ℕ) (row : List Crossing) (i : ℕ) (d : Crossing) (list : List Rated) → i < length row → 0 < slice_index rates (slice_index_or row i d).number → list ≡ used rates (take i row)
+    → list ++ (rated_of rates (slice_index_or row i d) ∷ []) ≡ used rates (take (i + 1) row)
+used-more rates row i d list within some before =
+    ap (λ (l : List Rated). l ++ (rated_of rates (slice_index_or row i d) ∷ [])) before
+    ∙ sym (ap (used rates) (take_more row i d within) ∙ rw (lt-ltb 0 (slice_index rates (slice_index_or row i d).number) some) at (used-push rates (take i row) (slice_index_or row i d)))
+
+-- one cut more, whose rate is 0
+pub used-less : (rates : List ℕ) (row : List Crossing) (i : ℕ) (d : Crossing) (list : List Rated) → i < length row → slice_index rates (slice_index_or row i d).number ≤ 0 → list ≡ used rates (take i row)
+    → list ≡ used rates (take (i + 1) row)
+used-less rates row i d list within none before =
+    before ∙ sym (ap (used rates) (take_more row i d within) ∙ rw (le-ltb 0 (slice_index rates (slice_index_or row i d).number) none) at (used-push rates (take i row) (slice_index_or row i d)))
 
 -- they are no more than the cuts of the row
 pub used-few : (rates : List ℕ) (row : List Crossing) → length (used rates row) ≤ length row

@@ -1,10 +1,11 @@
 -- The cuts that each place crosses, and what a table keeps.
-use Rattle.std.specs.Prelude.{ℕ, zero, suc, ◌≡◌, ◌<◌, ◌+◌, ◌*◌, Bool, List, [], ◌∷◌, ◌++◌, All, length, slice_index, slice_index_or, nat_lt, if◌then◌else◌}
+use Rattle.std.specs.Prelude.{ℕ, zero, suc, ◌≡◌, ◌<◌, ◌≤◌, ◌+◌, ◌*◌, Bool, List, [], ◌∷◌, ◌++◌, All, length, slice_index, slice_index_or, nat_lt, if◌then◌else◌}
 use Rattle.std.specs.List.{sum_by}
 use Rattle.plan_base.specs.declared.parts.Parts.{Parts}
 use Rattle.plan_base.specs.Facts.{price_limit}
 use Rattle.plan_base.specs.Places.{is_two_way, places}
 use Rattle.link_steps.specs.declared.rated.Rated.{Rated}
+use Rattle.proof_tree.specs.declared.limits.TheConstants.{MAX_CUTS}
 use Rattle.proof_tree.specs.declared.cuts.Cut.{Cut}
 use Rattle.proof_tree.specs.Cuts.{place_crosses, batch_of, cut_at, IsCutList, AreRests}
 use Rattle.cut_table.specs.declared.crossing.Crossing.{Crossing}
@@ -59,3 +60,8 @@ pub record IsKept (p steps : Parts) (limit : ℕ) (cuts : List Cut) (rests : Lis
   pub are_rests : AreRests p cuts rests
   pub count : length rows ≡ places p
   pub are_rows : AreCrossingRows p cuts rows (places p)
+
+-- the room for the rates of a place, and how many of them are in it
+pub record IsRoom (items : List Rated) (count : ℕ) : Type 0 where
+  pub room : length items ≡ MAX_CUTS
+  pub few : count ≤ MAX_CUTS

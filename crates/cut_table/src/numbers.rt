@@ -1,6 +1,6 @@
 //! Numbers read as prices of places and rates of cuts.
 
-ghost use Rattle.std.specs.Prelude.{◌≡◌, ◌<◌, ◌≤◌, ◌*◌, ◌+◌, length, slice_index, nat_lt, if◌then◌else◌};
+ghost use Rattle.std.specs.Prelude.{◌≡◌, ◌<◌, ◌≤◌, ◌*◌, ◌+◌, ◌++◌, length, replicate, slice_index, IfOk, nat_lt, if◌then◌else◌};
 ghost use Rattle.plan_base.specs.declared.limits.TheConstants.{MAX_PRICED_LOAD};
 ghost use Rattle.plan_base.specs.Arcs.{link_at};
 ghost use Rattle.plan_base.specs.Places.{places, link_of_place, there_of, back_of};
@@ -10,7 +10,8 @@ ghost use Rattle.arc_restrict.specs.Prices.{AreWithinLimit};
 ghost use Rattle.cut_table.specs.Crossings.{rates_on, AreNumbered};
 
 use crate::crossing::Crossing;
-use plan_base::{Instance, LinkId, LinkPrices};
+use plan_base::{Instance, LinkId, LinkPrices, Prices};
+use std::alloc::AllocError;
 
 /// The rates of cuts, which stand behind the prices of places.
 pub fn rates_of<'a>(inst: &Instance, numbers: &'a [u128]) -> &'a [u128]
@@ -20,6 +21,18 @@ pub fn rates_of<'a>(inst: &Instance, numbers: &'a [u128]) -> &'a [u128]
 {
     let _places = inst.places();
     numbers.split_at(inst.places() as usize).1
+}
+
+/// Prices with so many rates of 0 behind them.
+///
+/// - Errors: want of memory alone.
+pub fn with_no_rates(prices: Prices, rates: usize) -> Result<Prices, AllocError>
+    ensures { IfOk result (λ numbers. numbers ≡ prices ++ replicate rates 0) }
+{
+    let mut numbers = prices.into_vec();
+    let count = numbers.len().checked_add(rates).ok_or(AllocError)?;
+    numbers.resize(count, 0)?;
+    Ok(Prices::from_vec(numbers))
 }
 
 /// The prices of the places of a link.

@@ -17,14 +17,15 @@ pub struct RatedRow {
 }
 
 impl Model for RatedRow {
-    ghost use Rattle.std.specs.Prelude.{List, take, length, ◌≤◌};
+    ghost use Rattle.std.specs.Prelude.{List, take};
     ghost use Rattle.link_steps.specs.declared.rated.Rated.{Rated};
+    ghost use Rattle.cut_table.specs.Crossings.{IsRoom};
 
     ghost Value = { List Rated };
 
     ghost view = { λ a. take a.count a.items };
 
-    ghost invariant = { λ a. a.count ≤ length a.items };
+    ghost invariant = { λ a. IsRoom a.items a.count };
 }
 
 impl RatedRow {

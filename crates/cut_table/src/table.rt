@@ -1,9 +1,9 @@
 //! The cut table: a step table, a list of cuts, and for each place the cuts that it crosses.
 
-ghost use Rattle.std.specs.Prelude.{ℕ, ◌≡◌, ◌<◌, ◌≤◌, ◌-◌, ◌*◌, ◌+◌, ◌↔◌, ◌-ℤ◌, ◌≤ℤ◌, pos, length, slice_index, IfOk, IsTrue};
+ghost use Rattle.std.specs.Prelude.{ℕ, false, ◌≡◌, ◌<◌, ◌≤◌, ◌-◌, ◌*◌, ◌+◌, ◌↔◌, ◌-ℤ◌, ◌≤ℤ◌, pos, length, slice_index, IfOk, IsTrue};
 ghost use Rattle.plan_base.specs.declared.limits.TheConstants.{MAX_PRICED_LOAD};
 ghost use Rattle.plan_base.specs.Facts.{price_limit};
-ghost use Rattle.plan_base.specs.Places.{places};
+ghost use Rattle.plan_base.specs.Places.{is_two_way, places, there_of, back_of};
 ghost use Rattle.link_steps.specs.Ranges.{AreRanges};
 ghost use Rattle.link_steps.specs.Values.{AreLinkRanges};
 ghost use Rattle.arc_restrict.specs.Prices.{AreWithinLimit};
@@ -16,10 +16,10 @@ ghost use Rattle.cut_table.specs.LinkValues.{IsNumbersValue, AreFirstNumbersLoad
 ghost use Rattle.cut_table.specs.Crossings.{crossings_on, crossings_there, crossings_back, used, AreNumbered};
 
 use crate::crossing::{Crossing, crossing_rows};
-use crate::numbers::{least_price, prices_of_link, rates_of, rates_on};
+use crate::numbers::{least_price, prices_of_link, rates_of, rates_on, with_no_rates};
 use crate::rated_rows::{RatedRows, empty_rows, put_used};
 use link_steps::{LinkRanges, LinkValue, Ranges, StepTable, tally};
-use plan_base::{Instance, Items, LinkId, Prices};
+use plan_base::{Instance, Items, LinkId, LinkPrices, Prices};
 use proof_tree::{Cut, are_within_limit, cut_total, rests_of};
 use std::alloc::{AllocError, Global};
 use std::marker::Model;
@@ -98,6 +98,13 @@ impl CutTable {
         &self.steps
     }
 
+    /// The step table of the instance, for a table with another list. Takes no memory.
+    pub fn into_steps(self) -> StepTable
+        ensures { result ≡ self.problem }
+    {
+        self.steps
+    }
+
     /// The cuts.
     pub fn cuts(&self) -> &[Cut]
         ensures value { result.now ≡ self.now.cuts }
@@ -114,6 +121,14 @@ impl CutTable {
         self.cuts.len() as u32
     }
 
+    /// The row of a place.
+    fn row_of(&self, place: u32) -> &[Crossing]
+        requires { place < places self.now.problem }
+        ensures { result.now ≡ crossings_on self.now.problem self.now.cuts place }
+    {
+        self.rows[place as usize].as_slice()
+    }
+
     /// The cuts that a place crosses, in the order of the list, each as the place sees it. Takes no memory.
     ///
     /// - Rule: docs/DEFINITIONS.md, "Cuts".
@@ -124,7 +139,8 @@ impl CutTable {
         ensures few { length result.now ≤ MAX_CUTS }
         ensures numbered { AreNumbered (length self.now.cuts) result.now }
     {
-        self.rows[place as usize].as_slice()
+        let _cuts = self.cuts();
+        self.row_of(place)
     }
 
     /// How many grains the cut of this number counts at least. Takes no memory.
@@ -207,10 +223,9 @@ impl CutTable {
         ensures start { IfOk result (AreStartNumbers self.now.problem self.now.cuts) }
         ensures numbers { IfOk result (AreNumbers self.now.problem self.now.cuts) }
     {
-        let mut numbers = self.steps.start_prices(alloc)?.into_vec();
-        let count = numbers.len() + self.cuts.len();
-        numbers.resize(count, 0)?;
-        Ok(Prices::from_vec(numbers))
+        let prices = self.steps().start_prices(alloc)?;
+        let numbers = with_no_rates(prices, self.cuts().len())?;
+        Ok(numbers)
     }
 
     /// Room for the rates of the places of one link, made once for a loop over links. Takes no memory.
@@ -218,14 +233,35 @@ impl CutTable {
         empty_rows()
     }
 
-    /// Puts the cuts that the places of a link cross and whose rate is above 0, each with its rate, over what rows have.
-    fn put_rates(&self, link: LinkId, rates: &[u128], rows: &mut RatedRows)
+    /// The rates of the cuts.
+    fn rates_of<'a>(&self, numbers: &'a Prices) -> &'a [u128]
+        requires { AreNumbers self.now.problem self.now.cuts numbers.now }
+        ensures value { result.now ≡ rates_in self.now.problem numbers.now }
+        ensures len { length result.now ≡ length self.now.cuts }
+    {
+        rates_of(&self.inst, numbers.as_slice())
+    }
+
+    /// The prices of the places of a link.
+    fn prices_of_link(&self, numbers: &Prices, link: LinkId) -> LinkPrices
         requires link { link.0 < length self.now.problem.links }
-        requires rates { length rates.now ≡ length self.now.cuts }
-        ensures there { rows.new.there ≡ used rates.now (crossings_there self.now.problem self.now.cuts link.0) }
-        ensures back { rows.new.back ≡ used rates.now (crossings_back self.now.problem self.now.cuts link.0) }
+        requires numbers { AreNumbers self.now.problem self.now.cuts numbers.now }
+        ensures there { result.there ≡ there_of self.now.problem (slice_index numbers.now) link.0 }
+        ensures back { result.back ≡ back_of self.now.problem (slice_index numbers.now) link.0 }
+        ensures one_way { is_two_way self.now.problem.orient ≡ false → result.back ≡ 0 }
+    {
+        prices_of_link(&self.inst, numbers.as_slice(), link)
+    }
+
+    /// Puts the cuts that the places of a link cross and whose rate is above 0, each with its rate, over what rows have.
+    fn put_rates(&self, link: LinkId, numbers: &Prices, rows: &mut RatedRows)
+        requires link { link.0 < length self.now.problem.links }
+        requires numbers { AreNumbers self.now.problem self.now.cuts numbers.now }
+        ensures there { rows.new.there ≡ used (rates_in self.now.problem numbers.now) (crossings_there self.now.problem self.now.cuts link.0) }
+        ensures back { rows.new.back ≡ used (rates_in self.now.problem numbers.now) (crossings_back self.now.problem self.now.cuts link.0) }
     {
         let _places = self.inst.places();
+        let rates = self.rates_of(numbers);
         if self.inst.orient().is_two_way() {
             put_used(&mut rows.there, self.crossings(2 * link.0), rates);
             put_used(&mut rows.back, self.crossings(2 * link.0 + 1), rates);
@@ -260,12 +296,12 @@ impl CutTable {
         ensures not_above { result.value ≤ℤ pos MAX_PRICED_LOAD }
         ensures bounded { (pos 0 -ℤ pos (2 * MAX_PRICED_LOAD)) ≤ℤ result.value }
     {
-        let list = numbers.as_slice();
-        self.put_rates(link, rates_of(&self.inst, list), rows);
-        let prices = prices_of_link(&self.inst, list, link);
+        let _cuts = self.cuts();
+        self.put_rates(link, numbers, rows);
+        let prices = self.prices_of_link(numbers, link);
         let there = rows.there.as_slice();
         let back = rows.back.as_slice();
-        self.steps
+        self.steps()
             .rated_value(link, ranges, prices.there, there, prices.back, back)
     }
 
@@ -300,8 +336,7 @@ impl CutTable {
         ensures value { result ≡ cut_total self.now.problem self.now.cuts (rates_in self.now.problem numbers.now) }
         ensures within { result ≤ MAX_CUTS * MAX_PRICED_LOAD }
     {
-        let rates = rates_of(&self.inst, numbers.as_slice());
-        cut_total(&self.inst, self.cuts.as_slice(), &self.rests, rates)
+        cut_total(&self.inst, self.cuts(), &self.rests, self.rates_of(numbers))
     }
 
     /// What the price of a place may be beside the rates that the numbers have. Takes no memory.
@@ -316,8 +351,7 @@ impl CutTable {
         ensures most { result.most ≡ most_price_at self.now.problem self.now.cuts numbers.now place }
         ensures within { result.least ≤ result.most }
     {
-        let rates = rates_of(&self.inst, numbers.as_slice());
-        let rate = self.crossing_rate(rates, place);
+        let rate = self.crossing_rate(self.rates_of(numbers), place);
         PriceBounds {
             least: least_price(&self.inst, rate, place),
             most: self.limit - rate,
