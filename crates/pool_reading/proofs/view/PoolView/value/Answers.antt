@@ -34,7 +34,7 @@ value-requires c =
     let s = shown c.self.inside in
     let sound : IsSound s = IsReachable-sound s c.self.invariant.pool.reachable in
     let at : IsGatheredAt s c.args.node = subst (λ (x : State). IsGatheredAt x c.args.node) (sym c.self.view_is) c.requires.gathered in
-    let numbers : AreNumbers s.problem s.cuts c.args.prices.now = subst (λ (x : State). AreNumbers x.problem x.cuts c.args.prices.now) (sym c.self.view_is) c.requires.prices in
+    let given : AreNumbers s.problem s.cuts c.args.prices.now = subst (λ (x : State). AreNumbers x.problem x.cuts c.args.prices.now) (sym c.self.view_is) c.requires.prices in
     let w = round-kept s c.args.node c.self.inside.grounds.now c.index-self-node.result sound c.self.invariant.has_grounds (gathered-round s c.args.node at) c.index-self-node.is in
     let is = plot-region s.problem at.node c.index-self-node.result w c.plot.result _ c.unwrap-plot.result (c.plot.ensures ∙ sym c.index-self-node.is) c.unwrap-plot.ensures in
     let forbidden : forbids c.deref-2.result.now ≡ restriction_of at.node = ap forbids (c.deref-2.ensures ∙ c.rows.ensures) ∙ is.forbidden in
@@ -42,7 +42,7 @@ value-requires c =
     record {
       table = c.self.invariant.table_is;
       are_ranges = ask-ranges s c.args.node sound at c.self.inside.problem.now c.deref-2.result.now refl forbidden c.deref.result.now ranges;
-      numbers = ask-numbers s c.args.node sound at c.self.inside.problem.now c.deref-2.result.now refl forbidden c.self.inside.table.now.cuts c.args.prices.now refl numbers;
+      numbers = ask-numbers s c.args.node sound at c.self.inside.problem.now c.deref-2.result.now refl forbidden c.self.inside.table.now.cuts c.args.prices.now refl given;
       columns = ask-columns s c.args.node sound at c.self.inside.problem.now c.deref-2.result.now refl forbidden;
       permitted = ask-permitted s c.args.node sound at c.self.inside.problem.now c.deref-2.result.now refl forbidden;
     }
