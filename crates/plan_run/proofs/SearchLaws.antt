@@ -19,11 +19,11 @@ of-state : Claims → (p : Parts) (cuts : List Cut) (budget : ℕ) (done : State
 of-state claims p cuts budget done plan h is valid bound parts = record {
   valid = valid;
   claim = claims p plan valid;
-  cuts_are = is.cuts ∙ h.cuts_is;
+  cuts_are = is.cuts ∙ h.cuts_are;
   budget_is = is.budget ∙ h.budget_is;
   splits = parts;
   bound = bound;
-  of_search = record { state = done; problem_is = h.problem; cuts_are = h.cuts_is; budget_is = h.budget_is; reachable = h.reachable; sound = h.sound; is_plan = is };
+  of_search = record { state = done; problem_is = h.problem; cuts_are = h.cuts_are; budget_is = h.budget_is; reachable = h.reachable; sound = h.sound; is_plan = is };
 }
 
 -- the plan of a pool that is done is what a search gives for the pool's instance, cuts and budget

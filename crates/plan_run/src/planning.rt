@@ -17,6 +17,7 @@ use std::sync::{Arc, Wait};
 use std::thread::Threads;
 
 /// What is written of the plan of an instance.
+#[tactic(auto, using(proof_tree::proofs::CutlessPlans::no_cuts))]
 fn planned<R: Threads + Wait + Sync, G: Gate>(
     rt: &R,
     alloc: Global,

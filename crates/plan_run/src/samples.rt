@@ -29,6 +29,7 @@ fn write_sample(alloc: Global, key: SampleKey) -> Result<Answer, AllocError>
 }
 
 /// Plans the network of a sample, and tells what its plan claims.
+#[tactic(auto, using(proof_tree::proofs::CutlessPlans::no_cuts))]
 fn try_sample(alloc: Global, key: SampleKey) -> Result<Answer, AllocError>
     requires { IsSampleKey key }
     ensures { IfOk result (λ answer. IsTried key answer.status answer.text.items) }

@@ -66,7 +66,7 @@ pub(crate) fn turn_to<N: Search, H: Office<N>, T: Wait>(
     let Some(rows) = hub.ground(rt, seat, published.node)? else {
         return Ok(());
     };
-    bench.put(&**hub.instance(), published, rows);
+    bench.put(&**hub.instance(), &**hub.table(), published, rows);
     Ok(())
 }
 

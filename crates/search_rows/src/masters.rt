@@ -63,6 +63,7 @@ const KINDS: [Kind; 4] = [
 /// The table of an instance, without cuts.
 ///
 /// - Gives: None where a link takes too many steps, and where memory is wanting.
+#[tactic(auto, using(proof_tree::proofs::CutlessPlans::no_cuts))]
 fn cutless_table(alloc: Global, inst: &Instance) -> Option<CutTable>
     ensures { IfSome result (λ table. table.problem ≡ inst.now) }
 {

@@ -20,6 +20,7 @@ use std::marker::Brand;
 use std::sync::{Arc, Wait};
 
 /// A pool on the fifth sample of 16 nodes and 64 demands, of which two nodes may be examined.
+#[tactic(auto, using(proof_tree::proofs::CutlessPlans::no_cuts))]
 fn sample_pool(alloc: Global) -> Option<Pool> {
     let problem = sample_problem(alloc, 5, 16, 64).ok()?;
     let inst = Arc::new(alloc, problem.inst).ok()?;

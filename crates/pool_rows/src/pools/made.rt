@@ -24,6 +24,7 @@ const NETWORKS: u32 = 100;
 const BUDGET: u32 = 300;
 
 /// A new pool on the instance.
+#[tactic(auto, using(proof_tree::proofs::CutlessPlans::no_cuts))]
 fn pool_on(alloc: Global, inst: &Instance) -> Option<Pool> {
     let inst = inst.copy(alloc).ok()?;
     let table = table_of(alloc, &inst)?;

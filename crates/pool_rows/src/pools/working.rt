@@ -5,17 +5,18 @@ use crate::calling::{first_number, tell_answer};
 use column_pool::Brief;
 use dual_versions::Published;
 use master_step::{Step, advance};
-use path_pricing::{Priced, are_prices, price};
+use path_pricing::{Priced, price};
 use plan_base::{BranchId, DemandId, Prices};
 use pool_core::{Closing, Examined, Gather, Offer, Offered, Pool, Publish, Settle, Task};
 use std::alloc::Global;
 
 /// What is found for a demand at these prices under its node's restriction.
+#[tactic(auto, using(pool_work::proofs::NumberPrices::numbers_priced))]
 fn found_at(alloc: Global, pool: &Pool, published: &Published, demand: DemandId) -> Option<Priced> {
     let inst = pool.instance();
     let rows = pool.restriction(published.node)?;
     let prices = &published.prices;
-    if demand.0 >= inst.demands() || !are_prices(&**inst, prices) {
+    if demand.0 >= inst.demands() || !pool.table().are_numbers(prices) {
         return None;
     }
     price(alloc, &**inst, prices, demand, &**rows).ok()

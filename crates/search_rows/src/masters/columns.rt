@@ -105,7 +105,7 @@ fn both_agree(
     if !have_columns(alloc, inst, pool, &restriction).ok()? {
         return None;
     }
-    let mut room = Room::new(alloc, table).ok()?;
+    let mut room = Room::new(alloc, inst, table).ok()?;
     let value = value(
         inst,
         table,

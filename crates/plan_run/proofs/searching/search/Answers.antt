@@ -10,6 +10,6 @@ returns-clause-searched g c =
     let worked = c.in_ok-pool.pool in
     searched-for p worked.problem c.args.cuts worked.cuts c.args.budget worked.budget c.finished_plan.result
     (c.in_ok-pool.ensures.search.problem ∙ opening-problem p c.args.cuts c.args.budget opened c.in_ok-opened.ensures.opening)
-    (c.in_ok-pool.ensures.search.cuts_is ∙ opening-cuts p c.args.cuts c.args.budget opened c.in_ok-opened.ensures.opening)
+    (c.in_ok-pool.ensures.search.cuts_are ∙ opening-cuts p c.args.cuts c.args.budget opened c.in_ok-opened.ensures.opening)
     (c.in_ok-pool.ensures.search.budget_is ∙ opening-budget p c.args.cuts c.args.budget opened c.in_ok-opened.ensures.opening)
     c.finished_plan.ensures.searched
