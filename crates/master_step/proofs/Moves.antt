@@ -34,7 +34,8 @@ module _ (p : Parts) (cuts : List Cut) (ranges : List LoadRange) (choices : Choi
             h.each q below
             ∙ ap (λ (x : ℕ). moved (least_price_at p cuts numbers q) (most_price_at p cuts numbers q) x divisor (slice_index rows.column_loads.items q) (slice_index rows.value_loads.items q) (slice_index numbers q)) is_greatest
             ∙ ap (λ (x : ℕ). moved (least_price_at p cuts numbers q) (most_price_at p cuts numbers q) (greatest_price p numbers) x (slice_index rows.column_loads.items q) (slice_index rows.value_loads.items q) (slice_index numbers q)) (is_divisor ∙ ap (λ (x : ℕ). x * 2 ^ j) wide)
-            ∙ ap (λ (x : ℕ). moved (least_price_at p cuts numbers q) (most_price_at p cuts numbers q) (greatest_price p numbers) (widest_gap p (column_load p choices numbers) (slice_index rows.value_loads.items) * 2 ^ j) x (slice_index rows.value_loads.items q) (slice_index numbers q)) (loads.columns q below);
+            ∙ ap (λ (x : ℕ). moved (least_price_at p cuts numbers q) (most_price_at p cuts numbers q) (greatest_price p numbers) (widest_gap p (column_load p choices numbers) (slice_index rows.value_loads.items) * 2 ^ j) x (slice_index rows.value_loads.items q) (slice_index numbers q))
+            (loads.columns q below);
         rates = h.rates;
       }
 
@@ -47,7 +48,8 @@ module _ (p : Parts) (cuts : List Cut) (ranges : List LoadRange) (choices : Choi
       absurd (let wide : 0 < 0 = subst (λ (x : ℕ). 0 < x) (same ∙ sym widest-rows ∙ none) h.some_gap in omega arith)
 
 -- rows with the same loads
-pub loads-same : (p : Parts) (cuts : List Cut) (ranges : List LoadRange) (choices : Choices) (numbers : List ℕ) (rows other : Rows) → other.column_loads ≡ rows.column_loads → other.value_loads ≡ rows.value_loads → HasLoads p cuts ranges choices numbers rows → HasLoads p cuts ranges choices numbers other
+pub loads-same : (p : Parts) (cuts : List Cut) (ranges : List LoadRange) (choices : Choices) (numbers : List ℕ) (rows other : Rows) → other.column_loads ≡ rows.column_loads → other.value_loads ≡ rows.value_loads → HasLoads p cuts ranges choices numbers rows
+    → HasLoads p cuts ranges choices numbers other
 loads-same p cuts ranges choices numbers rows other columns values h = record {
   columns = subst (λ (v : Vec ℕ Global). (q : ℕ) → q < places p → slice_index v.items q ≡ column_load p choices numbers q) (sym columns) h.columns;
   values = subst (λ (v : Vec ℕ Global). AreValueLoads p cuts ranges numbers (slice_index v.items)) (sym values) h.values;

@@ -100,7 +100,8 @@ pub tried-none : (p : Parts) (cuts : List Cut) (ranges : List LoadRange) (choice
 tried-none p cuts ranges choices numbers old widest = λ i other v below t is. absurd (omega arith)
 
 -- the best of all trials is a raise, with the prices of any list that is its trial
-pub best-raise : (p : Parts) (cuts : List Cut) (ranges : List LoadRange) (choices : Choices) (numbers : List ℕ) (old : ℤ) (widest : ℕ) (best : Best) (trial : List ℕ) → IsRestrictedValue p cuts ranges choices numbers old → (h : IsBestOf p cuts ranges choices numbers old widest MAX_TRIALS best) → IsTrial p cuts ranges choices numbers h.j trial
+pub best-raise : (p : Parts) (cuts : List Cut) (ranges : List LoadRange) (choices : Choices) (numbers : List ℕ) (old : ℤ) (widest : ℕ) (best : Best) (trial : List ℕ) → IsRestrictedValue p cuts ranges choices numbers old → (h : IsBestOf p cuts ranges choices numbers old widest MAX_TRIALS best)
+    → IsTrial p cuts ranges choices numbers h.j trial
     → IsRaise p cuts ranges choices numbers old trial best.value
 best-raise p cuts ranges choices numbers old widest best trial is_old h is_trial = record {
   is_old = is_old;

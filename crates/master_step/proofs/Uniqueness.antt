@@ -87,7 +87,8 @@ not_both : (v w : ℤ) → v <ℤ w → w ≤ℤ v → ⊥
 not_both v w h k = omega (arith, ints)
 
 -- the first of the best trials
-same_place : (p : Parts) (cuts : List Cut) (ranges : List LoadRange) (choices : Choices) (numbers : List ℕ) (old other_old : ℤ) (trial other : List ℕ) (new other_new : ℤ) → (h : IsRaise p cuts ranges choices numbers old trial new) → (k : IsRaise p cuts ranges choices numbers other_old other other_new) → h.j ≡ k.j
+same_place : (p : Parts) (cuts : List Cut) (ranges : List LoadRange) (choices : Choices) (numbers : List ℕ) (old other_old : ℤ) (trial other : List ℕ) (new other_new : ℤ) → (h : IsRaise p cuts ranges choices numbers old trial new)
+    → (k : IsRaise p cuts ranges choices numbers other_old other other_new) → h.j ≡ k.j
 same_place p cuts ranges choices numbers old other_old trial other new other_new h k = elim (either_way h.j k.j) [
   | inr more ↦ absurd (not_both other_new new (h.first k.j other other_new more k.is_trial k.is_new) (k.greatest h.j trial new h.within h.is_trial h.is_new))
   | inl most ↦ elim (either_way k.j h.j) [
@@ -96,12 +97,14 @@ same_place p cuts ranges choices numbers old other_old trial other new other_new
   ]
 ]
 
-pub raise-trial : (p : Parts) (cuts : List Cut) (ranges : List LoadRange) (choices : Choices) (numbers : List ℕ) (old other_old : ℤ) (trial other : List ℕ) (new other_new : ℤ) → IsRaise p cuts ranges choices numbers old trial new → IsRaise p cuts ranges choices numbers other_old other other_new → trial ≡ other
+pub raise-trial : (p : Parts) (cuts : List Cut) (ranges : List LoadRange) (choices : Choices) (numbers : List ℕ) (old other_old : ℤ) (trial other : List ℕ) (new other_new : ℤ) → IsRaise p cuts ranges choices numbers old trial new → IsRaise p cuts ranges choices numbers other_old other other_new
+    → trial ≡ other
 raise-trial p cuts ranges choices numbers old other_old trial other new other_new h k =
     trial-unique p cuts ranges choices numbers h.j trial other h.is_trial
     (subst (λ (j : ℕ). IsTrial p cuts ranges choices numbers j other) (sym (same_place p cuts ranges choices numbers old other_old trial other new other_new h k)) k.is_trial)
 
-pub raise-value : (p : Parts) (cuts : List Cut) (ranges : List LoadRange) (choices : Choices) (numbers : List ℕ) (old other_old : ℤ) (trial other : List ℕ) (new other_new : ℤ) → IsRaise p cuts ranges choices numbers old trial new → IsRaise p cuts ranges choices numbers other_old other other_new → new ≡ other_new
+pub raise-value : (p : Parts) (cuts : List Cut) (ranges : List LoadRange) (choices : Choices) (numbers : List ℕ) (old other_old : ℤ) (trial other : List ℕ) (new other_new : ℤ) → IsRaise p cuts ranges choices numbers old trial new → IsRaise p cuts ranges choices numbers other_old other other_new
+    → new ≡ other_new
 raise-value p cuts ranges choices numbers old other_old trial other new other_new h k =
     value-unique p cuts ranges choices other new other_new
     (subst (λ (xs : List ℕ). IsRestrictedValue p cuts ranges choices xs new) (raise-trial p cuts ranges choices numbers old other_old trial other new other_new h k) h.is_new) k.is_new

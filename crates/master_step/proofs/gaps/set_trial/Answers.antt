@@ -33,7 +33,8 @@ loop-place-preserved c =
       values = c.loop-place.invariant.values;
       count = ap length c.put.ensures ∙ length-set c.loop-place.rows.trial place price ∙ c.loop-place.invariant.count;
       each = λ q below. subst (λ (xs : List ℕ). slice_index xs q ≡ moved (low q) (high q) c.args.greatest c.args.divisor (slice_index c.args.rows.now.column_loads.items q) (slice_index c.args.rows.now.value_loads.items q) (slice_index c.args.prices.now q)) (sym c.put.ensures)
-          (row-next (λ i x. x ≡ moved (low i) (high i) c.args.greatest c.args.divisor (slice_index c.args.rows.now.column_loads.items i) (slice_index c.args.rows.now.value_loads.items i) (slice_index c.args.prices.now i)) c.loop-place.rows.trial place price within c.loop-place.invariant.each value q below);
+          (row-next (λ i x. x ≡ moved (low i) (high i) c.args.greatest c.args.divisor (slice_index c.args.rows.now.column_loads.items i) (slice_index c.args.rows.now.value_loads.items i) (slice_index c.args.prices.now i))
+          c.loop-place.rows.trial place price within c.loop-place.invariant.each value q below);
       rest = λ i behind. subst (λ (xs : List ℕ). slice_index xs i ≡ slice_index c.args.prices.now i) (sym c.put.ensures)
           (get_or-set_other c.loop-place.rows.trial place i price 0 (λ same. absurd (omega (arith, same, behind))) ∙ c.loop-place.invariant.rest i (omega (arith, behind)));
     }
