@@ -1,4 +1,4 @@
-use Rattle.std.proofs.Common.{◌≡◌, ◌+◌, ◌<◌, ◌≤◌, ◌^◌, ℕ, List, length, ap, sym, subst, ◌∙◌, arith}
+use Rattle.std.proofs.Common.{refl, ◌≡◌, ◌+◌, ◌<◌, ◌≤◌, ◌^◌, ℕ, List, length, ap, sym, subst, ◌∙◌, arith}
 use Rattle.std.specs.Arc.{arc_value}
 use Rattle.plan_base.specs.declared.parts.Parts.{Parts}
 use Rattle.plan_base.specs.Facts.{IsInstance}
@@ -25,7 +25,7 @@ free_places-requires c =
     let width : length c.in_ok-prices.prices ≡ places c.in_ok-cut_table.cut_table.problem + length c.in_ok-cut_table.cut_table.cuts = c.in_ok-prices.ensures.start.count in
     let few = c.requires.cuts.few in
     let one : places c.in_ok-cut_table.cut_table.problem ≡ places p = ap places table in
-    let most : places p ≤ 2048 = subst (λ (q : Parts). places q ≤ 2048) same (subst (λ (n : ℕ). n ≤ 2048) c.places-_places.ensures.value c.places-_places.ensures.within) in
+    let most : places p ≤ 2048 = subst (λ (q : Parts). places q ≤ 2048) same (subst (λ (n : ℕ). n ≤ 2048) c.places-places.ensures.value c.places-places.ensures.within) in
     omega arith
 
 pub invariant_of-result : goal.invariant_of-result
@@ -33,7 +33,7 @@ invariant_of-result c =
     let p = arc_value c.args.inst in
     let table = arc_value c.in_ok-table.table in
     let prices = c.in_ok-prices.prices in
-    let lawful : IsInstance p = subst IsInstance c.deref.ensures c.places-_places.ensures.lawful in
+    let lawful : IsInstance p = subst IsInstance c.deref.ensures c.places-places.ensures.lawful in
     let is_unit : IsUnit p c.cost_unit-unit.result = subst (λ (q : Parts). IsUnit q c.cost_unit-unit.result) c.deref-5.ensures c.cost_unit-unit.ensures in
     let is_p : c.in_ok-cut_table.cut_table.problem ≡ p = ap (λ (t : CutProblem). t.problem) c.in_ok-cut_table.ensures ∙ c.deref-2.ensures in
     let same : c.in_ok-cut_table.cut_table ≡ table = sym c.in_ok-table.ensures.ok in
@@ -58,7 +58,7 @@ pub returns : goal.returns
 returns c =
     let p = arc_value c.args.inst in
     let prices = c.in_ok-prices.prices in
-    let lawful : IsInstance p = subst IsInstance c.deref.ensures c.places-_places.ensures.lawful in
+    let lawful : IsInstance p = subst IsInstance c.deref.ensures c.places-places.ensures.lawful in
     let is_unit : IsUnit p c.cost_unit-unit.result = subst (λ (q : Parts). IsUnit q c.cost_unit-unit.result) c.deref-5.ensures c.cost_unit-unit.ensures in
     let is_p : c.in_ok-cut_table.cut_table.problem ≡ p = ap (λ (t : CutProblem). t.problem) c.in_ok-cut_table.ensures ∙ c.deref-2.ensures in
     let is_cuts : c.in_ok-cut_table.cut_table.cuts ≡ c.args.cuts = ap (λ (t : CutProblem). t.cuts) c.in_ok-cut_table.ensures in
