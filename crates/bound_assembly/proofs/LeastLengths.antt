@@ -7,9 +7,11 @@ use Rattle.plan_base.specs.Arcs.{demand_at}
 use Rattle.plan_base.proofs.SumsBelow.{sum_below-le}
 use Rattle.arc_restrict.specs.Prices.{AreWithinLimit, IsLeastPrice}
 use Rattle.link_steps.specs.declared.range.LoadRange.{LoadRange}
+use Rattle.proof_tree.specs.declared.cuts.Cut.{Cut}
 use Rattle.proof_tree.specs.Regions.{Region}
-use Rattle.proof_tree.specs.Bounds.{AreLeastPrices, IsBound}
+use Rattle.proof_tree.specs.Bounds.{AreLeastPrices}
 use Rattle.proof_tree.specs.Evidence.{ClosedByCrowd}
+use Rattle.proof_tree.specs.RatedEvidence.{IsBoundAt}
 use Rattle.bound_assembly.specs.Rounds.{length_at, HasLength, left_in}
 use Rattle.bound_assembly.proofs.Gaps.{left-none}
 use Rattle.bound_assembly.specs.RoundBounds.{length_of, AreLeastLengths, IsRoundBound, IsRoundCrowd}
@@ -26,11 +28,6 @@ module _ (p : Parts) (g : Region) (prices : List ℕ) (lengths : List (Option �
       by_cases : (found : Option ℕ) → length_at lengths k ≡ found → HasLength lengths k → IsLeastPrice p g.forbidden prices k (length_of lengths k)
       by_cases None is has = absurd (let bad : false ≡ true = rw is at has in cc)
       by_cases (Some price) is has = rw is (least k price below is)
-
-  -- a round's bound is the bound of the region
-  pub round_bound-bound : (bound : ℤ) → AreLeastLengths p g.forbidden prices lengths → IsRoundBound p g.ranges prices lengths bound → IsBound p g prices bound
-  round_bound-bound bound least is =
-      record { least_prices = length_of lengths; values = is.values; are_least = are_least_prices is.complete least; are_values = is.are_values; rounded = is.rounded }
 
   -- a round that crowds the links closes a leaf of the region
   pub round_crowd-closed : AreWithinLimit p prices → AreLeastLengths p g.forbidden prices lengths → IsRoundCrowd p g.ranges prices lengths → ClosedByCrowd p g prices
@@ -51,3 +48,9 @@ module _ (p : Parts) (g : Region) (prices : List ℕ) (lengths : List (Option �
   -- lengths that are least prices crowd a round exactly where the prices close a leaf of the region
   pub round_crowd-both : AreWithinLimit p prices → ((k : ℕ) → k < length p.demands → HasLength lengths k) → AreLeastLengths p g.forbidden prices lengths → IsRoundCrowd p g.ranges prices lengths ↔ ClosedByCrowd p g prices
   round_crowd-both within complete least = (round_crowd-closed within least, closed-round_crowd complete least)
+
+-- a round's bound is the bound of the region
+pub round_bound-bound : (p : Parts) (cuts : List Cut) (g : Region) (numbers : List ℕ) (lengths : List (Option ℕ)) (bound : ℤ)
+    → AreLeastLengths p g.forbidden numbers lengths → IsRoundBound p cuts g.ranges numbers lengths bound → IsBoundAt p cuts g numbers bound
+round_bound-bound p cuts g numbers lengths bound least is =
+    record { least_prices = length_of lengths; values = is.values; are_least = are_least_prices p g numbers lengths is.complete least; are_values = is.are_values; rounded = is.rounded }

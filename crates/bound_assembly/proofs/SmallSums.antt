@@ -13,8 +13,10 @@ use Rattle.plan_base.specs.Sums.{sum_below}
 use Rattle.plan_base.specs.Arcs.{demand_at, no_demand}
 use Rattle.plan_base.proofs.SumsBelow.{sum_below-le, sum_below-times}
 use Rattle.link_steps.specs.declared.range.LoadRange.{LoadRange}
-use Rattle.link_steps.specs.Values.{HasValueTotal}
+use Rattle.proof_tree.specs.declared.cuts.Cut.{Cut}
 use Rattle.proof_tree.specs.Bounds.{IsThousandthUp, price_total}
+use Rattle.proof_tree.specs.RatedBounds.{IsRatedTotal, cut_total}
+use Rattle.proof_tree.specs.RatedEvidence.{rates_in}
 use Rattle.bound_assembly.specs.declared.limits.TheConstants.{MAX_PATH_LINKS}
 use Rattle.bound_assembly.specs.Rounds.{length_at, left_in}
 use Rattle.bound_assembly.specs.RoundBounds.{length_of, AreShort, IsRoundBound}
@@ -58,15 +60,16 @@ priced-within p lengths n short same within =
     let whole : cap * sum_below (λ k. (demand_at p k).load) n ≤ cap * total_load p = mul-le-mul_left cap (loads-le p n within) in
     omega (arith, each, times, whole, priced_limit-le p)
 
--- the thousandth of the two sums is the bound
-pub round_bound : (p : Parts) (ranges : List LoadRange) (prices : List ℕ) (lengths : List (Option ℕ)) (total bound : ℤ) → left_in lengths ≡ 0 → length lengths ≡ length p.demands → HasValueTotal p ranges prices (length p.links) total
-    → IsThousandthUp (pos (price_total p (length_of lengths)) +ℤ total) bound → IsRoundBound p ranges prices lengths bound
-round_bound p ranges prices lengths total bound none same has up =
+-- the thousandth of the three sums is the bound
+pub round_bound : (p : Parts) (cuts : List Cut) (ranges : List LoadRange) (numbers : List ℕ) (lengths : List (Option ℕ)) (total bound : ℤ) → left_in lengths ≡ 0 → length lengths ≡ length p.demands
+    → IsRatedTotal p cuts ranges numbers (rates_in p numbers) (length p.links) total
+    → IsThousandthUp (pos (price_total p (length_of lengths) + cut_total p cuts (rates_in p numbers)) +ℤ total) bound → IsRoundBound p cuts ranges numbers lengths bound
+round_bound p cuts ranges numbers lengths total bound none same has up =
     record {
       complete = λ k below. left_none-full lengths k none (omega arith);
       values = has.values;
       are_values = has.are_values;
-      rounded = subst (λ (v : ℤ). IsThousandthUp (pos (price_total p (length_of lengths)) +ℤ v) bound) (sym has.is_sum) up;
+      rounded = subst (λ (v : ℤ). IsThousandthUp (pos (price_total p (length_of lengths) + cut_total p cuts (rates_in p numbers)) +ℤ v) bound) (sym has.is_sum) up;
     }
 
 -- no length is short

@@ -1,5 +1,5 @@
 -- The bound that prices and lengths give.
-use Rattle.std.specs.Prelude.{ℕ, ◌≡◌, ◌≤◌, ◌<◌, ◌*◌, false, List, length, slice_index, Option, Some, All, IfSome, IsTrue, ℤ, pos, ◌+ℤ◌}
+use Rattle.std.specs.Prelude.{ℕ, ◌≡◌, ◌≤◌, ◌<◌, ◌+◌, ◌*◌, false, List, length, slice_index, Option, Some, All, IfSome, IsTrue, ℤ, pos, ◌+ℤ◌}
 use Rattle.std.specs.Option.{unwrap_or}
 use Rattle.plan_base.specs.declared.parts.Parts.{Parts}
 use Rattle.plan_base.specs.Sums.{sum_below, int_sum_below}
@@ -9,9 +9,11 @@ use Rattle.plan_base.specs.Arcs.{link_at}
 use Rattle.arc_restrict.specs.Restrictions.{Forbidden}
 use Rattle.arc_restrict.specs.Prices.{IsLeastPrice}
 use Rattle.link_steps.specs.declared.range.LoadRange.{LoadRange}
-use Rattle.link_steps.specs.Values.{AreLinkValues}
+use Rattle.proof_tree.specs.declared.cuts.Cut.{Cut}
 use Rattle.proof_tree.specs.Bounds.{IsThousandthUp, price_total}
+use Rattle.proof_tree.specs.RatedBounds.{AreRatedValues, cut_total}
 use Rattle.proof_tree.specs.Evidence.{is_cut_short, room_at}
+use Rattle.proof_tree.specs.RatedEvidence.{rates_in}
 use Rattle.bound_assembly.specs.declared.limits.TheConstants.{MAX_PATH_LINKS}
 use Rattle.bound_assembly.specs.Rounds.{length_at, HasLength}
 
@@ -23,13 +25,13 @@ length_of lengths k = unwrap_or (length_at lengths k) 0
 abbrev pub AreShort : Parts → List (Option ℕ) → Type 0
 AreShort p lengths = All (λ found. IfSome found (λ price. price ≤ MAX_PATH_LINKS * price_limit p)) lengths
 
--- each demand has a length; loads times lengths of the demands, and the values of the links, together over 1,000,
--- rounded up, in cost grains
-pub record IsRoundBound (p : Parts) (ranges : List LoadRange) (prices : List ℕ) (lengths : List (Option ℕ)) (bound : ℤ) : Type 0 where
+-- each demand has a length; loads times lengths of the demands, rates times what the cuts count at least, and the values of
+-- the links, together over 1,000, rounded up, in cost grains
+pub record IsRoundBound (p : Parts) (cuts : List Cut) (ranges : List LoadRange) (numbers : List ℕ) (lengths : List (Option ℕ)) (bound : ℤ) : Type 0 where
   pub complete : (k : ℕ) → k < length p.demands → HasLength lengths k
   pub values : ℕ → ℤ
-  pub are_values : AreLinkValues p ranges prices values
-  pub rounded : IsThousandthUp (pos (price_total p (length_of lengths)) +ℤ int_sum_below values (length p.links)) bound
+  pub are_values : AreRatedValues p cuts ranges numbers (rates_in p numbers) values
+  pub rounded : IsThousandthUp (pos (price_total p (length_of lengths) + cut_total p cuts (rates_in p numbers)) +ℤ int_sum_below values (length p.links)) bound
 
 -- the price of each place before a count is 0 where its link is useful and its range ends at the top load
 abbrev pub AreFree : Parts → List LoadRange → List ℕ → ℕ → Type 0

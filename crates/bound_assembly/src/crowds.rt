@@ -1,6 +1,6 @@
 //! Whether prices and lengths show that places carry too little.
 
-ghost use Rattle.std.specs.Prelude.{◌≡◌, ◌<◌, ◌↔◌, false, min, length, IsTrue};
+ghost use Rattle.std.specs.Prelude.{◌≡◌, ◌<◌, ◌≤◌, ◌↔◌, false, min, length, IsTrue};
 ghost use Rattle.plan_base.specs.Facts.{is_useful};
 ghost use Rattle.plan_base.specs.Arcs.{link_at};
 ghost use Rattle.plan_base.specs.Places.{places, link_of_place};
@@ -46,12 +46,11 @@ fn is_free(inst: &Instance, ranges: &Ranges, place: u32, price: u128) -> bool
 /// Whether the price of each place of a link that has a module with capacity is 0 where its range ends at the top load.
 fn are_free(inst: &Instance, ranges: &Ranges, prices: &Prices) -> bool
     requires ranges { length ranges.now ≡ places inst.now }
-    requires prices { length prices.now ≡ places inst.now }
+    requires prices { places inst.now ≤ length prices.now }
     ensures { IsTrue result ↔ AreFree inst.now ranges.now prices.now (places inst.now) }
 {
-    let _places = inst.places();
-    for (place, price) in prices.as_slice().iter().enumerate() {
-        if !is_free(inst, ranges, place as u32, *price) {
+    for place in 0..inst.places() {
+        if !is_free(inst, ranges, place, prices.as_slice()[place as usize]) {
             return false;
         }
     }
@@ -62,13 +61,13 @@ fn are_free(inst: &Instance, ranges: &Ranges, prices: &Prices) -> bool
 /// number, in thousandths of a cost grain.
 fn priced_room(inst: &Instance, ranges: &Ranges, prices: &Prices) -> u128
     requires ranges { length ranges.now ≡ places inst.now }
-    requires prices { length prices.now ≡ places inst.now }
+    requires prices { places inst.now ≤ length prices.now }
     ensures { result ≡ min (priced_room inst.now ranges.now prices.now (places inst.now)) u128.MAX }
 {
-    let _places = inst.places();
     let mut total = 0u128;
-    for (place, price) in prices.as_slice().iter().enumerate() {
-        let room = u128::from(room_at(inst, ranges, place as u32));
+    for place in 0..inst.places() {
+        let price = prices.as_slice()[place as usize];
+        let room = u128::from(room_at(inst, ranges, place));
         total = total.saturating_add(price.saturating_mul(room));
     }
     total
@@ -77,8 +76,9 @@ fn priced_room(inst: &Instance, ranges: &Ranges, prices: &Prices) -> u128
 /// Whether links with useful modules are free at these prices where ranges end at their top loads, and loads times
 /// lengths exceed prices times what the places carry at most. Takes no memory.
 ///
-/// - Takes: ranges, prices and, for each demand, a length, the last two in thousandths of a cost grain per load grain; no
-///   length is above what a simple path costs with the price limit on each link.
+/// - Takes: ranges, a price for each place and, for each demand, a length, the last two in thousandths of a cost grain per load
+///   grain; no length is above what a simple path costs with the price limit on each link. What stands behind the prices is
+///   not looked at.
 /// - Rule: docs/DEFINITIONS.md, "Evidence of a leaf".
 /// - Time: linear in the demands, the places and their links' modules.
 pub fn is_crowded(
@@ -88,7 +88,7 @@ pub fn is_crowded(
     lengths: &[Option<u128>],
 ) -> bool
     requires range_count { length ranges.now ≡ places inst.now }
-    requires price_count { length prices.now ≡ places inst.now }
+    requires price_count { places inst.now ≤ length prices.now }
     requires length_count { length lengths.now ≡ length inst.now.demands }
     requires short { AreShort inst.now lengths.now }
     requires full { left_in lengths.now ≡ 0 }

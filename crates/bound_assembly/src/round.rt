@@ -1,23 +1,24 @@
-//! A round: the lengths of the demands under one version of prices, as they come in.
+//! A round: the lengths of the demands under one version of prices and rates, as they come in.
 
 ghost use Rattle.plan_base.specs.Places.{places};
-ghost use Rattle.std.specs.Prelude.{◌≡◌, ◌<◌, ◌↔◌, ◌^◌, length, replicate, false, None, IfOk, IfSome, IsTrue, IsFalse};
+ghost use Rattle.std.specs.Prelude.{◌≡◌, ◌<◌, ◌≤◌, ◌↔◌, ◌^◌, length, replicate, false, None, IfOk, IfSome, IsTrue, IsFalse};
 ghost use Rattle.link_steps.specs.Ranges.{AreRanges};
-ghost use Rattle.arc_restrict.specs.Prices.{AreWithinLimit};
+ghost use Rattle.cut_table.specs.Numbers.{AreNumbers};
 ghost use Rattle.bound_assembly.specs.Rounds.{HasLength, left_in, IsFirstLeft, restarted, with_length};
 ghost use Rattle.bound_assembly.specs.RoundBounds.{AreShort, IsRoundBound, IsRoundCrowd};
 ghost use Rattle.bound_assembly.specs.Places.{AreFullBefore, IsNextLeft};
 
 use crate::crowds::is_crowded;
 use crate::totals::bound_of;
-use link_steps::{Ranges, StepTable};
+use cut_table::CutTable;
+use link_steps::Ranges;
 use plan_base::{BranchId, DemandId, Instance, Prices};
 use std::alloc::{AllocError, Global};
 use std::marker::Model;
 
-/// The lengths of the demands of one search node under one version of its prices, as they come in.
+/// The lengths of the demands of one search node under one version of its prices and rates, as they come in.
 ///
-/// Contracts see it as what it holds. It has room for as many lengths and prices as `new` was given, and is begun anew
+/// Contracts see it as what it holds. It has room for as many lengths and numbers as `new` was given, and is begun anew
 /// by `restart`.
 #[derive(Debug, Drop)]
 pub struct Round {
@@ -62,7 +63,7 @@ fn next_left(lengths: &[Option<u128>], start: u32) -> u32
 impl Round {
     /// Room for a round that has not begun.
     ///
-    /// - Takes: where memory comes from; how many lengths and how many prices there is room for.
+    /// - Takes: where memory comes from; how many lengths there is room for, and how many prices and rates together.
     /// - Errors: want of memory alone.
     /// - Rule: docs/METHOD.md, "Rounds".
     pub fn new(alloc: Global, demands: u32, prices: u32) -> Result<Round, AllocError>
@@ -81,11 +82,11 @@ impl Round {
         })
     }
 
-    /// Begins the round anew: at these prices, with no length. Takes no memory.
+    /// Begins the round anew: at these prices and rates, with no length. Takes no memory.
     ///
-    /// - Takes: the search node and the version that the prices are of; as many prices as `new` was given.
+    /// - Takes: the search node and the version that the numbers are of; as many numbers as `new` was given.
     /// - Rule: docs/METHOD.md, "Rounds".
-    /// - Time: linear in the demands and the links.
+    /// - Time: linear in the demands and the numbers.
     pub fn restart(&mut self, node: BranchId, version: u64, prices: &Prices)
         requires { length prices.now ≡ length self.old.prices }
         ensures { self.new ≡ restarted self.old node version prices.now }
@@ -115,7 +116,7 @@ impl Round {
         self.version
     }
 
-    /// The prices of the last `restart`, in thousandths of a cost grain per load grain.
+    /// The prices and rates of the last `restart`, in thousandths of a cost grain per load grain or counted grain.
     pub fn prices(&self) -> &Prices
         requires { IsTrue self.now.begun }
         ensures { result.now ≡ self.now.prices }
@@ -171,23 +172,23 @@ impl Round {
         }
     }
 
-    /// The bound that the round's prices and lengths give over ranges. Takes no memory.
+    /// The bound that the round's prices, rates and lengths give over ranges. Takes no memory.
     ///
-    /// - Takes: the instance, its table and its ranges; the round has begun, its prices fit the instance, and there is room
-    ///   for one length for each demand, none of them above what a simple path costs with the price limit on each link.
+    /// - Takes: the instance, its table with a list of cuts, and its ranges; the round has begun, its prices and rates are as
+    ///   they have to be, and there is room for one length for each demand, none of them above what a simple path costs with
+    ///   the price limit on each link.
     /// - Gives: cost grains; None exactly where a demand has no length.
     /// - Rule: docs/METHOD.md, "Bound of a round".
-    /// - Time: linear in the demands, and the time of one link value for each link.
-    pub fn bound(&self, inst: &Instance, table: &StepTable, ranges: &Ranges) -> Option<i128>
+    /// - Time: linear in the demands and the cuts, and the time of one link value for each link.
+    pub fn bound(&self, inst: &Instance, table: &CutTable, ranges: &Ranges) -> Option<i128>
         requires begun { IsTrue self.now.begun }
-        requires table { table.now ≡ inst.now }
+        requires table { table.now.problem ≡ inst.now }
         requires ranges { AreRanges inst.now ranges.now }
-        requires price_count { length self.now.prices ≡ places inst.now }
-        requires price_limit { AreWithinLimit inst.now self.now.prices }
+        requires numbers { AreNumbers inst.now table.now.cuts self.now.prices }
         requires length_count { length self.now.lengths ≡ length inst.now.demands }
         requires short { AreShort inst.now self.now.lengths }
         ensures none { (result ≡ None) ↔ (0 < left_in self.now.lengths) }
-        ensures bound { IfSome result (IsRoundBound inst.now ranges.now self.now.prices self.now.lengths) }
+        ensures bound { IfSome result (IsRoundBound inst.now table.now.cuts ranges.now self.now.prices self.now.lengths) }
     {
         if self.left > 0 {
             return None;
@@ -199,15 +200,16 @@ impl Round {
     /// modules are free where their ranges end at the top load, and loads times lengths exceed prices times what the places
     /// carry at most. Takes no memory.
     ///
-    /// - Takes: the instance and its ranges; the round has begun, its prices fit the instance, and there is room for one
-    ///   length for each demand, none of them above what a simple path costs with the price limit on each link.
+    /// - Takes: the instance and its ranges; the round has begun, with a price for each place, and there is room for one
+    ///   length for each demand, none of them above what a simple path costs with the price limit on each link. What stands
+    ///   behind the prices is not looked at.
     /// - Rule: docs/DEFINITIONS.md, "Evidence of a leaf".
     /// - Time: linear in the demands, the places and their links' modules.
     #[tactic(auto, using(crate::proofs::LeastLengths::crowd_full))]
     pub fn is_crowded(&self, inst: &Instance, ranges: &Ranges) -> bool
         requires begun { IsTrue self.now.begun }
         requires range_count { length ranges.now ≡ places inst.now }
-        requires price_count { length self.now.prices ≡ places inst.now }
+        requires price_count { places inst.now ≤ length self.now.prices }
         requires length_count { length self.now.lengths ≡ length inst.now.demands }
         requires short { AreShort inst.now self.now.lengths }
         ensures { IsTrue result ↔ IsRoundCrowd inst.now ranges.now self.now.prices self.now.lengths }

@@ -13,11 +13,11 @@ use Rattle.link_steps.specs.Ranges.{range_at, whole_ranges, with_range, ends_at,
 use Rattle.arc_restrict.specs.Rows.{Rows}
 use Rattle.arc_restrict.specs.Restrictions.{Forbidden, none_forbidden, is_among, with_forbidden, IsPermitted}
 use Rattle.arc_restrict.specs.Partings.{PartAt}
-use Rattle.arc_restrict.specs.Prices.{AreWithinLimit}
+use Rattle.proof_tree.specs.declared.cuts.Cut.{Cut}
 use Rattle.proof_tree.specs.declared.tree.Evidence.{Evidence}
 use Rattle.proof_tree.specs.declared.tree.Evidence.TheVariants as evidence
 use Rattle.proof_tree.specs.Regions.{Region, IsLoadSplit}
-use Rattle.proof_tree.specs.Evidence.{HasEvidence}
+use Rattle.proof_tree.specs.RatedEvidence.{AreLawfulNumbers, HasRatedEvidence}
 use Rattle.proof_tree.specs.Splits.{IsSplit, PartsTwoPaths}
 use Rattle.proof_tree.specs.Spellings.{IsAscending}
 use Rattle.branch_tree.specs.declared.node.Limit.{Limit}
@@ -251,12 +251,12 @@ pub record IsNodeOf (p : Parts) (node : BranchNode) : Type 0 where
 abbrev pub IsTreeOf : Parts → List BranchNode → Type 0
 IsTreeOf p nodes = All (IsNodeOf p) nodes
 
--- an open leaf's prices are within the limit, and a closed leaf's evidence holds, against a cost or none
-abbrev pub HasItsEvidence : Parts → Option ℕ → Region → List ℕ → Fate → Type 0
-HasItsEvidence p cost g prices Undone = AreWithinLimit p prices
-HasItsEvidence p cost g prices (ClosedBy found) = HasEvidence p cost g found
-HasItsEvidence p cost g prices (DividedBy d) = ⊤
+-- an open leaf's prices and rates of cuts are as they have to be, and a closed leaf's evidence holds, against a cost or none
+abbrev pub HasItsEvidence : Parts → List Cut → Option ℕ → Region → List ℕ → Fate → Type 0
+HasItsEvidence p cuts cost g numbers Undone = AreLawfulNumbers p cuts numbers
+HasItsEvidence p cuts cost g numbers (ClosedBy found) = HasRatedEvidence p cuts cost g found
+HasItsEvidence p cuts cost g numbers (DividedBy d) = ⊤
 
--- each leaf has its evidence at its own region
-abbrev pub HaveTheirEvidence : Parts → Option ℕ → List BranchNode → Type 0
-HaveTheirEvidence p cost nodes = All (λ node. HasItsEvidence p cost (region_by p node.limits) node.prices node.fate) nodes
+-- each leaf has its evidence with these cuts at its own region
+abbrev pub HaveTheirEvidence : Parts → List Cut → Option ℕ → List BranchNode → Type 0
+HaveTheirEvidence p cuts cost nodes = All (λ node. HasItsEvidence p cuts cost (region_by p node.limits) node.prices node.fate) nodes

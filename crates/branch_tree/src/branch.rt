@@ -1,13 +1,14 @@
 //! The search tree, and its calls.
 
-ghost use Rattle.std.specs.Prelude.{ℕ, ◌≡◌, ◌<◌, ◌≤◌, ◌↔◌, [], ◌∷◌, Option, length, count_by, false, true, IfOk, IfErr, OnOk, OnErr, IsSomeAnd, IsTrue, All, Some};
+ghost use Rattle.std.specs.Prelude.{ℕ, ◌≡◌, ◌<◌, ◌≤◌, ◌↔◌, [], ◌∷◌, List, Option, length, count_by, false, true, IfOk, IfErr, OnOk, OnErr, IsSomeAnd, IsTrue, All, Some};
 ghost use Rattle.plan_base.specs.declared.parts.Parts.{Parts as AnyParts};
 ghost use Rattle.plan_base.specs.Arcs.{demand_at};
 ghost use Rattle.plan_base.specs.Places.{places};
 ghost use Rattle.plan_base.specs.Paths.{IsSimplePath};
 ghost use Rattle.link_steps.specs.Ranges.{AreRanges};
 ghost use Rattle.arc_restrict.specs.Rows.{forbids, HasSizeOf};
-ghost use Rattle.proof_tree.specs.Trees.{IsValidTree};
+ghost use Rattle.proof_tree.specs.declared.cuts.Cut.{Cut as AnyCut};
+ghost use Rattle.proof_tree.specs.RatedTrees.{IsRatedTree};
 ghost use Rattle.branch_tree.specs.Branches.{restriction_by, ranges_by, left_limit, right_limit, restriction_at, ranges_at, is_open_fate, is_open_node, prices_at, is_open_at, is_open_evidence, with_fate, with_prices, child_of, IsDivided, IsSplitAt, IsLoadSplitAt, IsSplitFault, IsLoadFault, PartAtNode, IsLimitOf, IsTreeOf, tree_node_at, HaveTheirEvidence};
 ghost use Rattle.branch_tree.specs.Records.{records_of};
 
@@ -106,7 +107,7 @@ impl Model for Branch {
 impl Branch {
     /// The tree whose only node is the root, open with these prices.
     ///
-    /// - Takes: prices in thousandths of a cost grain per load grain, one for each link.
+    /// - Takes: prices in thousandths of a cost grain per load grain, one for each place, and rates of cuts behind them.
     /// - Errors: want of memory.
     /// - Rule: docs/METHOD.md, "Search trees".
     pub fn new(alloc: Global, root: Prices) -> Result<Branch, AllocError>
@@ -289,13 +290,13 @@ impl Branch {
 
     /// The tree of what is known: an open node is an open leaf with its prices.
     ///
-    /// - Gives: a valid tree, where each leaf has its evidence.
+    /// - Gives: a tree that is valid with given cuts, where each leaf has its evidence with them.
     /// - Errors: want of memory, which a tree of 2^32 - 1 records or more counts as.
     /// - Rule: docs/METHOD.md, "Search trees".
     /// - Time: linear in the records and their lists.
     pub fn into_tree(self) -> Result<Tree, AllocError>
         ensures value { IfOk result (λ tree. tree ≡ records_of self) }
-        ensures valid { (p : AnyParts) → (cost : Option ℕ) → IsTreeOf p self → HaveTheirEvidence p cost self → IfOk result (λ tree. IsValidTree p cost tree) }
+        ensures valid { (p : AnyParts) (cuts : List AnyCut) (cost : Option ℕ) → IsTreeOf p self → HaveTheirEvidence p cuts cost self → IfOk result (λ tree. IsRatedTree p cuts cost tree) }
     {
         let records = records_of(*self.nodes.allocator(), self.nodes.as_slice())?;
         if records.len() >= u32::MAX as usize {

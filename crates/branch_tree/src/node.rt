@@ -194,7 +194,7 @@ pub struct BranchNode {
     /// What the splits above it allow less, the last one first.
     pub limits: Items<Limit>,
     /// The prices that it began with or was given last: in thousandths of a cost grain per load
-    /// grain, one for each link.
+    /// grain, one for each place, and behind them one rate for each cut.
     pub prices: Prices,
     /// What became of it.
     pub fate: Fate,

@@ -4,6 +4,7 @@ ghost use Rattle.std.specs.Prelude.{◌≡◌, ◌<◌, ◌↔◌, length, IsTru
 ghost use Rattle.column_pool.specs.Columns.{columns_at};
 ghost use Rattle.column_pool.specs.Briefs.{ArePathsOf, AreAllPaths, IsBriefFor};
 
+use cut_table::CutTable;
 use link_steps::Ranges;
 use plan_base::{BranchId, DemandId, Instance, Items, Path, Prices, is_simple_path};
 
@@ -32,14 +33,16 @@ fn are_all_paths(inst: &Instance, columns: &[Items<Path>]) -> bool
     true
 }
 
-/// What a master step is told of a search node: the prices of a complete version, and the columns that it chooses among.
+/// What a master step is told of a search node: the prices and rates of a complete version, and the columns that it chooses
+/// among.
 #[derive(Debug, Drop)]
 pub struct Brief {
     /// The search node.
     pub node: BranchId,
     /// The version of its prices.
     pub version: u64,
-    /// One price for each place, in thousandths of a cost grain per load grain.
+    /// One price for each place, in thousandths of a cost grain per load grain, and behind them one rate for each cut, in
+    /// thousandths of a cost grain per counted grain.
     pub prices: Prices,
     /// For each place the loads that the node lets it carry.
     pub ranges: Ranges,
@@ -56,15 +59,16 @@ pub struct Brief {
 }
 
 impl Brief {
-    /// Whether the brief is one for the instance: its prices and ranges fit, and it has one list of columns for each demand,
-    /// each of simple paths of that demand. Takes no memory.
+    /// Whether the brief is one for the instance with the table's cuts: its prices, rates and ranges fit, and it has one list
+    /// of columns for each demand, each of simple paths of that demand. Takes no memory.
     ///
     /// - Rule: docs/METHOD.md, "Columns".
-    /// - Time: linear in the places, their links' modules and the arcs of all columns.
-    pub fn fits(&self, inst: &Instance) -> bool
-        ensures { IsTrue result ↔ IsBriefFor inst.now self.now.prices self.now.ranges self.now.columns }
+    /// - Time: that of `CutTable::are_numbers`, and linear in the places, their links' modules and the arcs of all columns.
+    pub fn fits(&self, inst: &Instance, table: &CutTable) -> bool
+        requires { table.now.problem ≡ inst.now }
+        ensures { IsTrue result ↔ IsBriefFor inst.now table.now.cuts self.now.prices self.now.ranges self.now.columns }
     {
-        self.prices.fits(inst)
+        table.are_numbers(&self.prices)
             && self.ranges.fits(inst)
             && self.columns.len() == inst.demands() as usize
             && are_all_paths(inst, self.columns.as_slice())

@@ -15,7 +15,7 @@ Sees seen list = (0 < length list) × Begins seen list
 abbrev pub counted : ℕ → ℕ
 counted n = min n 18446744073709551615
 
--- how many slots there are, how many prices an entry has, the tables shown, and what is pending, with its slots
+-- how many slots there are, how many prices and rates an entry has, the tables shown, and what is pending, with its slots
 pub record Board : Type 0 where
   pub slots : ℕ
   pub prices : ℕ

@@ -14,7 +14,7 @@ entry_of row = if row.shown then Some row.what else None
 abbrev pub shown_by : List Row → Entries
 shown_by rows = map entry_of rows
 
--- the row with this entry, where it has room for just as many prices
+-- the row with this entry, where it has room for just as many prices and rates
 abbrev pub filled : Row → Published → Row
 filled row what = if length what.prices == length row.what.prices then record { shown = true; what = what } else row
 
@@ -32,11 +32,11 @@ taken table put = (put.number, put_row table.1 put.slot put.what)
 abbrev pub pair_of : Put → ℕ × Published
 pair_of put = (put.slot, put.what)
 
--- each row has room for this many prices
+-- each row has room for this many prices and rates
 abbrev pub HaveRoom : ℕ → List Row → Type 0
 HaveRoom n [] = Unit {0}
 HaveRoom n (row ∷ rows) = (length row.what.prices ≡ n) × HaveRoom n rows
 
--- a row without an entry, which has room for this many prices
+-- a row without an entry, which has room for this many prices and rates
 abbrev pub blank : BranchId → ℕ → Row
 blank node n = record { shown = false; what = record { node = node; version = 0; prices = replicate n 0 } }

@@ -50,7 +50,7 @@ pub record Entered (v : View) (x y : Table) (w : View) : Type 0 where
   pub number : x.number ≡ counted (length before)
   pub later : Begins v.seen w.seen
 
--- an entry for a slot that there is, with as many prices as a row, for the table behind that of this number
+-- an entry for a slot that there is, with as many prices and rates as a row, for the table behind that of this number
 abbrev pub IsPut : ℕ → ℕ → ℕ → Put → Type 0
 IsPut slots prices number put = (put.slot < slots) × (length put.what.prices ≡ prices) × (put.number ≡ counted (number + 1))
 

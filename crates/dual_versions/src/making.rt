@@ -14,7 +14,7 @@ use plan_base::{BranchId, Prices};
 use std::alloc::{AllocError, Global};
 use std::sync::Wait;
 
-/// A row without an entry, with room for this many prices.
+/// A row without an entry, with room for this many prices and rates.
 fn empty_row(alloc: Global, node: BranchId, prices: usize) -> Result<Row, AllocError>
     ensures { IfOk result (λ row. row ≡ blank node prices) }
 {
@@ -65,7 +65,8 @@ fn readers_of(
 /// The writer of a board with so many slots, and so many readers. One table is shown, without entries, which no reader
 /// has seen.
 ///
-/// - Takes: the handle that the writer waits with; 1 to 64 slots; 1 to 64 readers; how many prices each entry will have.
+/// - Takes: the handle that the writer waits with; 1 to 64 slots; 1 to 64 readers; how many prices and rates each entry
+///   will have.
 /// - Errors: want of memory alone, also where a reader gets no place.
 pub fn board<R: Wait + Drop>(
     rt: R,

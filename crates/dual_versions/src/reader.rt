@@ -39,7 +39,7 @@ impl BoardReader {
     ///
     /// - Errors: want of memory; or the reader is not let in, which happens only where the writer has ended. The reader
     ///   may have seen a later table then.
-    /// - Time: linear in the prices. No lock, no wait.
+    /// - Time: linear in the prices and rates. No lock, no wait.
     pub fn read(&mut self, slot: u32) -> Result<Option<Published>, AllocError>
         ensures later { (self.new ≡ self.old) ⊎ Sees self.old self.new }
         ensures entry { IfOk result (λ entry. Sees self.old self.new × (entry ≡ entry_at slot self.new)) }

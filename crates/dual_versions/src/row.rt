@@ -11,12 +11,12 @@ use std::alloc::AllocError;
 pub struct Row {
     /// Whether an entry was put here.
     pub shown: bool,
-    /// The entry. Before there is one, what holds the room for its prices.
+    /// The entry. Before there is one, what holds the room for its prices and rates.
     pub what: Published,
 }
 
 impl Row {
-    /// Copies an entry into the row. Where it has not as many prices as the row has room for, nothing changes. Takes no
+    /// Copies an entry into the row. Where it has not as many of them as the row has room for, nothing changes. Takes no
     /// memory.
     pub fn fill(&mut self, what: &Published)
         ensures { self.new ≡ filled self.old what.now }

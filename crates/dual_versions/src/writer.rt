@@ -52,7 +52,7 @@ impl<R: Wait + Drop> Drop for BoardWriter<R> {
 impl<R: Wait + Drop> BoardWriter<R> {
     /// Makes an entry pending.
     ///
-    /// - Takes: a slot of the board, and as many prices as its rows have room for.
+    /// - Takes: a slot of the board, and as many prices and rates as its rows have room for.
     /// - Errors: want of memory alone. Then nothing changed.
     #[tactic(auto, using(crate::proofs::Puts::puts_more, crate::proofs::Puts::pairs_more))]
     pub fn put(&mut self, slot: u32, what: Published) -> Result<(), AllocError>

@@ -70,8 +70,12 @@ fn candidate_at(
     })
 }
 
-/// The split of the greatest worth, the first of equal ones.
-fn load_split(
+/// The loads by which a node is divided that has these ranges: the split of the greatest worth, the first of equal ones.
+///
+/// - Takes: the instance and its table; ranges of its places, and the averages of an ascent over them.
+/// - Gives: None where no place has a split.
+/// - Time: one look at the steps of a link for each place.
+pub fn load_split(
     inst: &Instance,
     table: &StepTable,
     ranges: &Ranges,

@@ -3,8 +3,9 @@
 //!
 //! Promises that what is found fits, as an offer has to, and that a design is good; of a split it promises nothing. Begin
 //! at `find`, `Guide::find`, `paths_within`, `new_design` and `next_step`. Stands on `plan_base`, `link_steps`,
-//! `arc_restrict`, `path_pricing`, `hop_pricing`, `column_pool`, `proof_tree`, `branch_tree`, `master_step`, `completions`
-//! and `incumbent`. What is done with it is left to `pool_core`: nothing here is believed there without a test.
+//! `arc_restrict`, `path_pricing`, `hop_pricing`, `column_pool`, `proof_tree`, `cut_table`, `branch_tree`, `master_step`,
+//! `completions` and `incumbent`. What is done with it is left to `pool_core`: nothing here is believed there without a
+//! test.
 #![tactic(auto)]
 
 mod advancing;
@@ -19,6 +20,7 @@ mod shared;
 mod trees;
 
 pub use advancing::{Next, next_step};
+pub use dividing::load_split;
 pub use guide::Guide;
 pub use known::{Known, KnownAbove};
 pub use limits::{keep_limits, paths_within};

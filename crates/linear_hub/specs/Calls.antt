@@ -79,7 +79,7 @@ Moves old (Learning (Err wanting)) new = new ≡ old
 
 -- what stands for a state that none has picked
 abbrev pub no_state : State
-no_state = record { problem = no_problem; unit = 0; nodes = []; columns = no_columns no_problem; incumbent = None; examined = 0; budget = 0; next_version = 0; accepted = 0 }
+no_state = record { problem = no_problem; cuts = []; unit = 0; nodes = []; columns = no_columns no_problem; incumbent = None; examined = 0; budget = 0; next_version = 0; accepted = 0 }
 
 -- what stands for an offer that none has picked
 abbrev pub no_offer : Offer

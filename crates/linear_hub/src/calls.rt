@@ -159,7 +159,7 @@ impl<N: Naming, R: Wait + Drop> LinearHub<N, R> {
         answer
     }
 
-    /// Gives the round of a node further prices, as `Pool::publish` says, and shows them on the board. The seat sees them
+    /// Gives the round of a node further prices and rates, as `Pool::publish` says, and shows them on the board. The seat sees them
     /// there from then on, or later ones.
     ///
     /// - Errors: want of memory alone. Then nothing changed but the history.

@@ -8,22 +8,24 @@ ghost use Rattle.one_history.specs.declared.limits.TheConstants.{MAX_CALLS};
 ghost use Rattle.one_history.specs.Passes.{IsAtRest};
 
 use crate::naming::{Naming, Of, Spoken};
+use cut_table::CutTable;
 use dual_versions::{BoardReader, Published};
-use link_steps::StepTable;
 use one_history::{Pass, Turns};
 use plan_base::Instance;
 use pool_desk::Desk;
 use std::alloc::AllocError;
 use std::sync::{Arc, Wait};
 
-/// A pool and the writer of a board, which workers use in turn, and beside them the instance and the step table of the pool.
+/// A pool and the writer of a board, which workers use in turn, and beside them the instance and the table of the pool's
+/// steps and cuts.
 #[derive(Drop)]
 pub struct LinearHub<N: Naming, R: Wait + Drop> {
     pub(crate) turns: Turns<Desk<N, R>, Spoken, Of<N>>,
     pub(crate) problem: Arc<Instance>,
-    pub(crate) table: Arc<StepTable>,
+    pub(crate) table: Arc<CutTable>,
     ghost problem_is: { arc_value problem ≡ N.problem },
-    ghost table_is: { arc_value table ≡ N.problem },
+    ghost table_is: { (arc_value table).problem ≡ N.problem },
+    ghost cuts_are: { (arc_value table).cuts ≡ N.cuts },
 }
 
 /// A worker's own: its pass, its number, how many workers there are, how many calls it made, and its reader of the board.
@@ -46,9 +48,10 @@ impl<N: Naming, R: Wait + Drop> LinearHub<N, R> {
         &self.problem
     }
 
-    /// Its step table.
-    pub fn table(&self) -> &Arc<StepTable>
-        ensures { arc_value result.now ≡ N.problem }
+    /// The table of its steps and cuts.
+    pub fn table(&self) -> &Arc<CutTable>
+        ensures problem { (arc_value result.now).problem ≡ N.problem }
+        ensures cuts { (arc_value result.now).cuts ≡ N.cuts }
     {
         &self.table
     }

@@ -52,8 +52,8 @@ fn seats_of<N: Naming, R: Wait + Drop>(
 impl<N: Naming, R: Wait + Drop> LinearHub<N, R> {
     /// A hub for a pool, and its seats, each with its place as its number.
     ///
-    /// - Takes: the pool whose state the type names; 1 to 64 seats; the writer of a board for the slots and the prices of the
-    ///   pool, on which nothing is pending, and a reader of it for each seat.
+    /// - Takes: the pool whose state the type names; 1 to 64 seats; the writer of a board for the slots, the prices and the
+    ///   rates of the pool, on which nothing is pending, and a reader of it for each seat.
     /// - Errors: want of memory alone. Then the writer has ended.
     pub fn new(
         alloc: Global,
@@ -64,9 +64,9 @@ impl<N: Naming, R: Wait + Drop> LinearHub<N, R> {
     ) -> Result<(LinearHub<N, R>, Vec<LinearSeat<N, R>>), AllocError>
         requires seats { (0 < seats) × (seats ≤ MAX_CALLERS) }
         requires opening { pool ≡ N.opening }
-        requires search { (pool.problem ≡ N.problem) × (pool.budget ≡ N.budget) }
+        requires search { (pool.problem ≡ N.problem) × (pool.cuts ≡ N.cuts) × (pool.budget ≡ N.budget) }
         requires slots { writer.slots ≡ MAX_ROUNDS }
-        requires prices { writer.prices ≡ places pool.problem }
+        requires prices { writer.prices ≡ places pool.problem + length pool.cuts }
         requires none_pending { writer.pending ≡ [] }
         requires readers { length readers.items ≡ seats }
         ensures count { IfOk result (λ r. (r.0.turns.callers ≡ seats) × (length r.1.items ≡ seats)) }
@@ -109,7 +109,7 @@ impl<N: Naming, R: Wait + Drop> LinearHub<N, R> {
         requires some { 0 < self.turns.callers }
         requires of { All (λ s. s.pass.table_id ≡ self.turns.table.shared.table_id) seats.items }
         ensures ended { HasEnded (λ s. (view_of s.pass).seen) N.opening seats.items result }
-        ensures search { IsSearchState N.problem N.budget result }
+        ensures search { IsSearchState N.problem N.cuts N.budget result }
     {
         let Some(first) = seats.pop() else {
             unreachable!()
@@ -130,7 +130,7 @@ impl<N: Naming, R: Wait + Drop> LinearHub<N, R> {
         requires all { root.me.0.parts + length seats.items ≡ self.turns.callers }
         requires of { All (λ s. s.pass.table_id ≡ self.turns.table.shared.table_id) seats.items }
         ensures gathered { HasGathered (λ s. (view_of s.pass).seen) N.opening root.me.0.seen seats.items result }
-        ensures search { IsSearchState N.problem N.budget result }
+        ensures search { IsSearchState N.problem N.cuts N.budget result }
     {
         let LinearHub {
             turns,

@@ -6,8 +6,8 @@ use crate::hub::{LinearHub, LinearSeat};
 use crate::naming::Naming;
 use arc_restrict::Restriction;
 use branch_tree::LoadSplit;
+use cut_table::CutTable;
 use dual_versions::Published;
-use link_steps::StepTable;
 use one_history::MAX_CALLS;
 use plan_base::{BranchId, Design, DesignFault, Instance, Prices};
 use plan_io::Standing;
@@ -60,7 +60,7 @@ impl<N: Naming, R: Wait + Drop> Office<N> for LinearHub<N, R> {
         self.instance()
     }
 
-    fn table(&self) -> &Arc<StepTable> {
+    fn table(&self) -> &Arc<CutTable> {
         self.table()
     }
 

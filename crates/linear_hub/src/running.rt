@@ -1,6 +1,6 @@
 //! A search by several workers.
 
-ghost use Rattle.std.specs.Prelude.{◌≡◌, ◌≤◌, ◌<◌, [], length, map, reverse, All, IfOk, vec_capacity};
+ghost use Rattle.std.specs.Prelude.{◌≡◌, ◌≤◌, ◌<◌, ◌+◌, [], length, map, reverse, All, IfOk, vec_capacity};
 ghost use Rattle.plan_base.specs.Places.{places};
 ghost use Rattle.block_deques.specs.Decks.{deck_id};
 ghost use Rattle.block_deques.specs.Wholes.{AreOneMaking};
@@ -40,11 +40,11 @@ pub fn search<R: Threads + Wait + Sync, G: Gate>(
     gate: &G,
 ) -> Result<Pool, AllocError>
     requires workers { (1 ≤ workers) × (workers ≤ MAX_WORKERS) }
-    ensures search { IfOk result (IsSearchState pool.problem pool.budget) }
+    ensures search { IfOk result (IsSearchState pool.problem pool.cuts pool.budget) }
     ensures led { IfOk result (IsLedTo pool) }
 {
-    let places = pool.instance().places();
-    let (writer, readers) = board(rt, alloc, MAX_ROUNDS, workers, places)?;
+    let numbers = pool.instance().places() + pool.table().count();
+    let (writer, readers) = board(rt, alloc, MAX_ROUNDS, workers, numbers)?;
     let decks = decks(alloc, workers)?;
     search_as::<Brand, R, G>(rt, alloc, pool, decks, writer, readers, gate)
 }
@@ -88,9 +88,9 @@ fn begin<N: Naming, R: Wait + Drop>(
     requires workers { (1 ≤ length decks.items) × (length decks.items ≤ MAX_CALLERS) }
     requires decks { AreOneMaking decks.items }
     requires opening { pool ≡ N.opening }
-    requires search { (pool.problem ≡ N.problem) × (pool.budget ≡ N.budget) }
+    requires search { (pool.problem ≡ N.problem) × (pool.cuts ≡ N.cuts) × (pool.budget ≡ N.budget) }
     requires slots { writer.slots ≡ MAX_ROUNDS }
-    requires prices { writer.prices ≡ places pool.problem }
+    requires prices { writer.prices ≡ places pool.problem + length pool.cuts }
     requires none_pending { writer.pending ≡ [] }
     requires readers { length readers.items ≡ length decks.items }
     ensures some { IfOk result (λ r. 0 < length r.1.workers.items) }
@@ -115,7 +115,7 @@ fn finish<N: Naming, R: Wait + Drop>(alloc: Global, hub: LinearHub<N, R>, crew: 
     requires decks { AreOneMaking (reverse (map (λ w. w.deck) crew.workers.items)) }
     requires empty { (crew.seats.items ≡ []) × (crew.decks.items ≡ []) }
     requires room { (length crew.workers.items ≤ vec_capacity crew.seats) × (length crew.workers.items ≤ vec_capacity crew.decks) }
-    ensures search { IsSearchState N.problem N.budget result }
+    ensures search { IsSearchState N.problem N.cuts N.budget result }
     ensures led { IsLedTo N.opening result }
 {
     let (seats, decks) = take_apart(crew);
@@ -138,12 +138,12 @@ fn search_as<'a, N: Naming + Send + Sync, R: Threads + Wait + Sync, G: Gate>(
     requires workers { (1 ≤ length decks.items) × (length decks.items ≤ MAX_CALLERS) }
     requires decks { AreOneMaking decks.items }
     requires opening { pool ≡ N.opening }
-    requires search { (pool.problem ≡ N.problem) × (pool.budget ≡ N.budget) }
+    requires search { (pool.problem ≡ N.problem) × (pool.cuts ≡ N.cuts) × (pool.budget ≡ N.budget) }
     requires slots { writer.slots ≡ MAX_ROUNDS }
-    requires prices { writer.prices ≡ places pool.problem }
+    requires prices { writer.prices ≡ places pool.problem + length pool.cuts }
     requires none_pending { writer.pending ≡ [] }
     requires readers { length readers.items ≡ length decks.items }
-    ensures search { IfOk result (IsSearchState N.problem N.budget) }
+    ensures search { IfOk result (IsSearchState N.problem N.cuts N.budget) }
     ensures led { IfOk result (IsLedTo N.opening) }
 {
     let (hub, mut crew) = begin::<N, &R>(alloc, pool, decks, writer, readers)?;

@@ -5,6 +5,7 @@ pub mod SmallPrices
 pub mod SmallValues
 pub mod PlaceLaws
 pub mod PlaceLoads
+pub mod MovedNumbers
 pub mod Moves
 pub mod Trying
 pub mod Rising

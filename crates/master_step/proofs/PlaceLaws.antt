@@ -10,6 +10,7 @@ use Rattle.link_steps.specs.declared.range.LoadRange.{LoadRange}
 use Rattle.link_steps.specs.Ranges.{IsIn, IsRange, AreRanges}
 use Rattle.link_steps.specs.Values.{top_back}
 use Rattle.link_steps.proofs.WholeRanges.{ranges_of-link}
+use Rattle.proof_tree.specs.declared.cuts.Cut.{Cut}
 use Rattle.master_step.specs.Trials.{AreValueLoads}
 
 -- what is the same at each link's places is the same at each place
@@ -39,8 +40,8 @@ back-low p e load range is inside = by_cases (is_two_way p.orient) is
     by_cases false none = omega (arith, inside.few, none.carried)
 
 -- no load that gives a value is above the total load
-pub values-low : (p : Parts) (ranges : List LoadRange) (prices : List ℕ) (loads : ℕ → ℕ) → AreRanges p ranges → AreValueLoads p ranges prices loads → (q : ℕ) → q < places p → loads q ≤ total_load p
-values-low p ranges prices loads are h q within =
+pub values-low : (p : Parts) (cuts : List Cut) (ranges : List LoadRange) (numbers : List ℕ) (loads : ℕ → ℕ) → AreRanges p ranges → AreValueLoads p cuts ranges numbers loads → (q : ℕ) → q < places p → loads q ≤ total_load p
+values-low p cuts ranges numbers loads are h q within =
     let e : ℕ = link_of_place p q in
     let inside = link_of_place-within p q within in
     let give = (h e inside).are_first.give in

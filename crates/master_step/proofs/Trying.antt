@@ -4,6 +4,7 @@ use Rattle.std.specs.Prelude.{ℤ, ◌≤ℤ◌, ◌<ℤ◌, int_lt, if◌then�
 use Rattle.std.proofs.lemmas.Int.{ints}
 use Rattle.plan_base.specs.declared.parts.Parts.{Parts}
 use Rattle.link_steps.specs.declared.range.LoadRange.{LoadRange}
+use Rattle.proof_tree.specs.declared.cuts.Cut.{Cut}
 use Rattle.master_step.specs.declared.limits.TheConstants.{MAX_TRIALS}
 use Rattle.master_step.specs.declared.climbing.Best.{Best}
 use Rattle.master_step.specs.Columns.{Choices}
@@ -34,16 +35,16 @@ lt-le u v h = omega (arith, ints)
 pub same-le : (u v : ℤ) → u ≡ v → u ≤ℤ v
 same-le u v h = omega (arith, ints)
 
-module _ (p : Parts) (ranges : List LoadRange) (choices : Choices) (prices : List ℕ) (old : ℤ) (widest n : ℕ) (trial : List ℕ) (value : ℤ) (is_trial : IsTrial p ranges choices prices n trial) (is_value : IsRestrictedValue p ranges choices trial value) where
+module _ (p : Parts) (cuts : List Cut) (ranges : List LoadRange) (choices : Choices) (numbers : List ℕ) (old : ℤ) (widest n : ℕ) (trial : List ℕ) (value : ℤ) (is_trial : IsTrial p cuts ranges choices numbers n trial) (is_value : IsRestrictedValue p cuts ranges choices trial value) where
   -- another value of the same trial is the same
-  one : (i : ℕ) (other : List ℕ) (v : ℤ) → i ≡ n → IsTrial p ranges choices prices i other → IsRestrictedValue p ranges choices other v → v ≡ value
+  one : (i : ℕ) (other : List ℕ) (v : ℤ) → i ≡ n → IsTrial p cuts ranges choices numbers i other → IsRestrictedValue p cuts ranges choices other v → v ≡ value
   one i other v same t is =
-      let here : IsTrial p ranges choices prices n other = subst (λ (j : ℕ). IsTrial p ranges choices prices j other) same t in
-      value-unique p ranges choices trial v value (subst (λ (xs : List ℕ). IsRestrictedValue p ranges choices xs v) (trial-unique p ranges choices prices n other trial here is_trial) is) is_value
+      let here : IsTrial p cuts ranges choices numbers n other = subst (λ (j : ℕ). IsTrial p cuts ranges choices numbers j other) same t in
+      value-unique p cuts ranges choices trial v value (subst (λ (xs : List ℕ). IsRestrictedValue p cuts ranges choices xs v) (trial-unique p cuts ranges choices numbers n other trial here is_trial) is) is_value
 
   -- what is so of the trials before is so of one more
-  upto : (P : ℤ → Type 0) → ((i : ℕ) (other : List ℕ) (v : ℤ) → i < n → IsTrial p ranges choices prices i other → IsRestrictedValue p ranges choices other v → P v) → P value
-      → (i : ℕ) (other : List ℕ) (v : ℤ) → i < n + 1 → IsTrial p ranges choices prices i other → IsRestrictedValue p ranges choices other v → P v
+  upto : (P : ℤ → Type 0) → ((i : ℕ) (other : List ℕ) (v : ℤ) → i < n → IsTrial p cuts ranges choices numbers i other → IsRestrictedValue p cuts ranges choices other v → P v) → P value
+      → (i : ℕ) (other : List ℕ) (v : ℤ) → i < n + 1 → IsTrial p cuts ranges choices numbers i other → IsRestrictedValue p cuts ranges choices other v → P v
   upto P before here i other v below t is = elim (either_way n i) [
     | inl last ↦ subst P (sym (one i other v (omega arith) t is)) here
     | inr less ↦ before i other v less t is
@@ -52,10 +53,10 @@ module _ (p : Parts) (ranges : List LoadRange) (choices : Choices) (prices : Lis
   abbrev this : Best
   this = record { divisor = widest * 2 ^ n; value = value }
 
-  pub tried-next : (best : Option Best) → AreTried p ranges choices prices old widest n best → AreTried p ranges choices prices old widest (n + 1) (better_of old best this)
+  pub tried-next : (best : Option Best) → AreTried p cuts ranges choices numbers old widest n best → AreTried p cuts ranges choices numbers old widest (n + 1) (better_of old best this)
   tried-next None h = by (int_lt old value) refl
     where
-      by : (b : Bool) → int_lt old value ≡ b → AreTried p ranges choices prices old widest (n + 1) (if b then Some this else None)
+      by : (b : Bool) → int_lt old value ≡ b → AreTried p cuts ranges choices numbers old widest (n + 1) (if b then Some this else None)
       by true more = record {
         j = n;
         within = omega arith;
@@ -70,7 +71,7 @@ module _ (p : Parts) (ranges : List LoadRange) (choices : Choices) (prices : Lis
       by false less = upto (λ v. v ≤ℤ old) h (int_lt-false old value less)
   tried-next (Some best) h = by (int_lt best.value value) refl
     where
-      by : (b : Bool) → int_lt best.value value ≡ b → IsBestOf p ranges choices prices old widest (n + 1) (if b then this else best)
+      by : (b : Bool) → int_lt best.value value ≡ b → IsBestOf p cuts ranges choices numbers old widest (n + 1) (if b then this else best)
       by true more = record {
         j = n;
         within = omega arith;
@@ -95,18 +96,19 @@ module _ (p : Parts) (ranges : List LoadRange) (choices : Choices) (prices : Lis
       }
 
 -- before the first trial
-pub tried-none : (p : Parts) (ranges : List LoadRange) (choices : Choices) (prices : List ℕ) (old : ℤ) (widest : ℕ) → AreTried p ranges choices prices old widest 0 None
-tried-none p ranges choices prices old widest = λ i other v below t is. absurd (omega arith)
+pub tried-none : (p : Parts) (cuts : List Cut) (ranges : List LoadRange) (choices : Choices) (numbers : List ℕ) (old : ℤ) (widest : ℕ) → AreTried p cuts ranges choices numbers old widest 0 None
+tried-none p cuts ranges choices numbers old widest = λ i other v below t is. absurd (omega arith)
 
 -- the best of all trials is a raise, with the prices of any list that is its trial
-pub best-raise : (p : Parts) (ranges : List LoadRange) (choices : Choices) (prices : List ℕ) (old : ℤ) (widest : ℕ) (best : Best) (trial : List ℕ) → IsRestrictedValue p ranges choices prices old → (h : IsBestOf p ranges choices prices old widest MAX_TRIALS best) → IsTrial p ranges choices prices h.j trial
-    → IsRaise p ranges choices prices old trial best.value
-best-raise p ranges choices prices old widest best trial is_old h is_trial = record {
+pub best-raise : (p : Parts) (cuts : List Cut) (ranges : List LoadRange) (choices : Choices) (numbers : List ℕ) (old : ℤ) (widest : ℕ) (best : Best) (trial : List ℕ) → IsRestrictedValue p cuts ranges choices numbers old → (h : IsBestOf p cuts ranges choices numbers old widest MAX_TRIALS best)
+    → IsTrial p cuts ranges choices numbers h.j trial
+    → IsRaise p cuts ranges choices numbers old trial best.value
+best-raise p cuts ranges choices numbers old widest best trial is_old h is_trial = record {
   is_old = is_old;
   j = h.j;
   within = h.within;
   is_trial = is_trial;
-  is_new = subst (λ (xs : List ℕ). IsRestrictedValue p ranges choices xs best.value) (trial-unique p ranges choices prices h.j h.trial trial h.is_trial is_trial) h.is_new;
+  is_new = subst (λ (xs : List ℕ). IsRestrictedValue p cuts ranges choices xs best.value) (trial-unique p cuts ranges choices numbers h.j h.trial trial h.is_trial is_trial) h.is_new;
   greater = h.greater;
   greatest = h.greatest;
   first = h.first;

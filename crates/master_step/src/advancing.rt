@@ -1,10 +1,10 @@
 //! The step, and what it gains.
 
-ghost use Rattle.std.specs.Prelude.{◌≡◌, ◌<◌, length, Option, Some, None, IfOk, IfSome, IfNone};
+ghost use Rattle.std.specs.Prelude.{◌≡◌, ◌<◌, ◌+◌, length, Option, Some, None, IfOk, IfSome, IfNone};
 ghost use Rattle.plan_base.specs.Places.{places};
 ghost use Rattle.link_steps.specs.Ranges.{AreRanges};
 ghost use Rattle.arc_restrict.specs.Rows.{forbids};
-ghost use Rattle.arc_restrict.specs.Prices.{AreWithinLimit};
+ghost use Rattle.cut_table.specs.Numbers.{AreNumbers};
 ghost use Rattle.column_pool.specs.Columns.{columns_at, permitted_at, AreColumns};
 ghost use Rattle.column_pool.specs.Briefs.{IsBriefFor};
 ghost use Rattle.master_step.specs.Columns.{HasColumns, IsFirstBare};
@@ -18,7 +18,8 @@ use crate::source::Source;
 use crate::step::Step;
 use arc_restrict::Restriction;
 use column_pool::{Brief, ColumnPool};
-use link_steps::{Ranges, StepTable};
+use cut_table::CutTable;
+use link_steps::Ranges;
 use plan_base::{DemandId, Instance, Items, Path, Prices};
 use std::alloc::{AllocError, Global};
 
@@ -39,9 +40,9 @@ fn first_bare(inst: &Instance, lists: &[Items<Path>]) -> Option<DemandId>
 /// The step from a brief whose demands have columns.
 fn raise(alloc: Global, master: &Master<'_>) -> Result<Step, AllocError>
     requires { IsMaster master.now }
-    ensures { IfOk result (IsStepOf master.now.inst.now master.now.ranges.now (allowed_of master.now.source) master.now.prices.now) }
+    ensures { IfOk result (IsStepOf master.now.inst.now master.now.table.now.cuts master.now.ranges.now (allowed_of master.now.source) master.now.prices.now) }
 {
-    let mut rows = Rows::new(alloc, master.inst)?;
+    let mut rows = Rows::new(alloc, master.inst, master.table)?;
     let (old, new) = master.climb(&mut rows);
     let Rows { trial, .. } = rows;
     Ok(match new {
@@ -54,11 +55,12 @@ fn raise(alloc: Global, master: &Master<'_>) -> Result<Step, AllocError>
     })
 }
 
-/// The master step: of the trial prices those of greatest restricted value, where that is more than the value of the
-/// brief's prices.
+/// The master step: of the trials that of greatest restricted value, where that is more than the value of the brief's
+/// prices and rates.
 ///
 /// Each trial moves the price of each place up where the least columns put more on it than what it carries where its link
-/// has its value, and down where they put less, in proportion to the gap; each trial after the first moves half as far.
+/// has its value, and down where they put less, in proportion to the gap, as far as the rates permit, which stay; each trial
+/// after the first moves half as far.
 ///
 /// - Takes: the instance and its table; a brief that fits it.
 /// - Gives: `Raised` with the first trial of greatest value; `Same` where none has more; `Bare` exactly where a demand has
@@ -69,12 +71,12 @@ fn raise(alloc: Global, master: &Master<'_>) -> Result<Step, AllocError>
 pub fn advance(
     alloc: Global,
     inst: &Instance,
-    table: &StepTable,
+    table: &CutTable,
     brief: &Brief,
 ) -> Result<Step, AllocError>
-    requires table { table.now ≡ inst.now }
-    requires brief { IsBriefFor inst.now brief.now.prices brief.now.ranges brief.now.columns }
-    ensures { IfOk result (IsStepOf inst.now brief.now.ranges (columns_at brief.now.columns) brief.now.prices) }
+    requires table { table.now.problem ≡ inst.now }
+    requires brief { IsBriefFor inst.now table.now.cuts brief.now.prices brief.now.ranges brief.now.columns }
+    ensures { IfOk result (IsStepOf inst.now table.now.cuts brief.now.ranges (columns_at brief.now.columns) brief.now.prices) }
 {
     let lists = brief.columns.as_slice();
     if let Some(demand) = first_bare(inst, lists) {
@@ -90,32 +92,32 @@ pub fn advance(
     raise(alloc, &master)
 }
 
-/// The restricted value that the master step raises prices to under ranges, over the columns that a restriction permits.
-/// Takes no memory.
+/// The restricted value that the master step raises prices and rates to under ranges, over the columns that a restriction
+/// permits. Takes no memory.
 ///
-/// - Takes: the instance and its table; ranges of its places; one price for each place, of at most the price limit; columns
-///   of the instance, of which the restriction permits at least one to each demand; room that was made for the instance.
-/// - Gives: thousandths of a cost grain; None exactly where no trial has a greater value than the prices.
+/// - Takes: the instance and its table; ranges of its places; one price for each place and one rate for each cut, as they have
+///   to be; columns of the instance, of which the restriction permits at least one to each demand; room that was made for the
+///   instance and as many cuts.
+/// - Gives: thousandths of a cost grain; None exactly where no trial has a greater value.
 /// - Rule: docs/METHOD.md, "Master step".
 /// - Time: 26 times the arcs of all columns, and as often one link value for each link.
 pub fn gain(
     inst: &Instance,
-    table: &StepTable,
+    table: &CutTable,
     ranges: &Ranges,
     prices: &Prices,
     columns: &ColumnPool,
     restriction: &Restriction,
     room: &mut Room,
 ) -> Option<i128>
-    requires table { table.now ≡ inst.now }
+    requires table { table.now.problem ≡ inst.now }
     requires are_ranges { AreRanges inst.now ranges.now }
-    requires price_count { length prices.now ≡ places inst.now }
-    requires price_limit { AreWithinLimit inst.now prices.now }
+    requires numbers { AreNumbers inst.now table.now.cuts prices.now }
     requires columns { AreColumns inst.now columns.now }
     requires permitted { HasColumns inst.now (permitted_at (forbids restriction.now) columns.now) }
-    requires room { room.old ≡ places inst.now }
-    ensures some { IfSome result (HasGain inst.now ranges.now (permitted_at (forbids restriction.now) columns.now) prices.now) }
-    ensures none { IfNone result (HasStalled inst.now ranges.now (permitted_at (forbids restriction.now) columns.now) prices.now) }
+    requires room { room.old ≡ places inst.now + length table.now.cuts }
+    ensures some { IfSome result (HasGain inst.now table.now.cuts ranges.now (permitted_at (forbids restriction.now) columns.now) prices.now) }
+    ensures none { IfNone result (HasStalled inst.now table.now.cuts ranges.now (permitted_at (forbids restriction.now) columns.now) prices.now) }
     ensures room { room.new ≡ room.old }
 {
     let master = Master {

@@ -1,11 +1,11 @@
 //! The averaged ascent: prices moved towards what averages of columns and values disagree on.
 
 ghost use Rattle.std.specs.Prelude.{◌≡◌, ◌<◌, ◌≤◌, length, IfOk};
-ghost use Rattle.plan_base.specs.Facts.{price_limit};
 ghost use Rattle.plan_base.specs.Places.{places};
 ghost use Rattle.link_steps.specs.Ranges.{AreRanges};
 ghost use Rattle.column_pool.specs.Briefs.{IsBriefFor};
-ghost use Rattle.master_step.specs.Ascents.{ArePrices, HaveSizes};
+ghost use Rattle.cut_table.specs.Numbers.{AreNumbers};
+ghost use Rattle.master_step.specs.Ascents.{HaveSizes};
 
 use crate::ascending::put_price;
 use crate::choice::{Choices, number_at, put_at};
@@ -13,7 +13,8 @@ use crate::limits::MAX_TURNS;
 use crate::means::{Averages, Mean, mean_at, moved_mean, recent_loads};
 use crate::pace::Pace;
 use column_pool::Brief;
-use link_steps::{LinkValue, Ranges, StepTable};
+use cut_table::{CutTable, PriceBounds, RatedRows};
+use link_steps::{LinkValue, Ranges};
 use plan_base::{Instance, Items, LinkId, LinkPrices, Prices};
 use std::alloc::{AllocError, Global};
 
@@ -29,6 +30,8 @@ struct Work {
     means: Vec<Mean>,
     /// For each link the average module cost of the loads that give it its value, in thousandths of a cost grain.
     costs: Vec<u128>,
+    /// Room for the rates of a link's places.
+    rows: RatedRows,
 }
 
 /// By how many 64ths averages move in a turn.
@@ -50,6 +53,22 @@ fn parts_of(turn: u32) -> Parts
     }
 }
 
+/// The prices of the places of the link of this number, the second 0 where it has one place.
+fn prices_of(prices: &[u128], is_two_way: bool, number: usize) -> LinkPrices {
+    if is_two_way {
+        let place = number.saturating_mul(2);
+        LinkPrices {
+            there: number_at(prices, place),
+            back: number_at(prices, place.saturating_add(1)),
+        }
+    } else {
+        LinkPrices {
+            there: number_at(prices, number),
+            back: 0,
+        }
+    }
+}
+
 /// The module cost of the loads that give a link its value, in thousandths of a cost grain: what prices ask of the loads and
 /// the value together, less the routing costs. None of these passes 128 bits.
 fn module_cost(found: LinkValue, priced: LinkPrices, routing: u64) -> u128 {
@@ -65,7 +84,12 @@ fn module_cost(found: LinkValue, priced: LinkPrices, routing: u64) -> u128 {
 
 impl Work {
     /// The work of an ascent over the columns of a brief.
-    fn new(alloc: Global, inst: &Instance, brief: &Brief) -> Result<Work, AllocError> {
+    fn new(
+        alloc: Global,
+        inst: &Instance,
+        table: &CutTable,
+        brief: &Brief,
+    ) -> Result<Work, AllocError> {
         let places = inst.places() as usize;
         Ok(Work {
             choices: Choices::new(alloc, inst, brief.columns.as_slice())?,
@@ -73,6 +97,7 @@ impl Work {
             value_loads: vec![in alloc; 0; places]?,
             means: vec![in alloc; Mean::none(); places]?,
             costs: vec![in alloc; 0; inst.links() as usize]?,
+            rows: table.rated_rows(),
         })
     }
 
@@ -169,23 +194,23 @@ impl Work {
 /// cost grain.
 fn fill_values(
     inst: &Instance,
-    table: &StepTable,
+    table: &CutTable,
     ranges: &Ranges,
     prices: &Prices,
     recent: u128,
     work: &mut Work,
 ) -> i128
-    requires table { table.now ≡ inst.now }
+    requires table { table.now.problem ≡ inst.now }
     requires are_ranges { AreRanges inst.now ranges.now }
-    requires prices { ArePrices inst.now prices.now }
+    requires prices { AreNumbers inst.now table.now.cuts prices.now }
 {
     let is_two_way = inst.orient().is_two_way();
     let mut total: i128 = 0;
     for number in 0..inst.links() {
         let link = LinkId(number);
-        let priced = prices.of_link(inst, link);
+        let priced = prices_of(prices.as_slice(), is_two_way, number as usize);
         let ranged = ranges.of_link(inst, link);
-        let found = table.link_value(link, ranged, priced.there, priced.back);
+        let found = table.link_value(link, ranged, prices, &mut work.rows);
         work.put_value(
             is_two_way,
             number as usize,
@@ -202,15 +227,15 @@ fn fill_values(
 /// thousandths of a cost grain.
 fn take_turn(
     inst: &Instance,
-    table: &StepTable,
+    table: &CutTable,
     ranges: &Ranges,
     prices: &Prices,
     parts: Parts,
     work: &mut Work,
 ) -> i128
-    requires table { table.now ≡ inst.now }
+    requires table { table.now.problem ≡ inst.now }
     requires are_ranges { AreRanges inst.now ranges.now }
-    requires prices { ArePrices inst.now prices.now }
+    requires prices { AreNumbers inst.now table.now.cuts prices.now }
 {
     let values = fill_values(inst, table, ranges, prices, parts.recent, work);
     let loads = work.column_loads.as_mut_slice();
@@ -222,65 +247,75 @@ fn take_turn(
 }
 
 /// Keeps the prices of a turn where its value is better than that of all before.
-fn keep_better(inst: &Instance, value: i128, trial: &Prices, pace: &mut Pace, best: &mut Prices)
-    requires trial { ArePrices inst.now trial.now }
-    requires best { ArePrices inst.now best.old }
-    ensures { ArePrices inst.now best.new }
+fn keep_better(
+    inst: &Instance,
+    table: &CutTable,
+    value: i128,
+    trial: &Prices,
+    pace: &mut Pace,
+    best: &mut Prices,
+)
+    requires trial { AreNumbers inst.now table.now.cuts trial.now }
+    requires best { AreNumbers inst.now table.now.cuts best.old }
+    ensures { AreNumbers inst.now table.now.cuts best.new }
 {
-    inst.lawful();
     if pace.take(value) {
         best.set_to(trial);
     }
 }
 
 /// A price moved as its averages ask for.
-fn moved_price(limit: u128, most: u128, widest: u64, mean: Mean, price: u128) -> u128
-    requires { price ≤ limit }
-    ensures { result ≤ limit }
+fn moved_price(bounds: PriceBounds, most: u128, widest: u64, mean: Mean, price: u128) -> u128
+    requires { bounds.least ≤ bounds.most }
+    ensures least { bounds.least ≤ result }
+    ensures most { result ≤ bounds.most }
 {
     let gap = u128::from(mean.gap(price));
     let step = most.saturating_mul(gap) / u128::from(widest.max(1));
-    if mean.column_load() > mean.value_load() {
-        price.saturating_add(step).min(limit)
+    let asked = if mean.column_load() > mean.value_load() {
+        price.saturating_add(step)
     } else {
         price.saturating_sub(step)
-    }
+    };
+    asked.min(bounds.most).max(bounds.least)
 }
 
 /// Writes the best prices, each moved, over those of the last turn.
 fn move_prices(
     inst: &Instance,
+    table: &CutTable,
     best: &Prices,
     means: &[Mean],
     most: u128,
     widest: u64,
     trial: &mut Prices,
 )
-    requires best { ArePrices inst.now best.now }
-    requires trial { ArePrices inst.now trial.old }
-    ensures { ArePrices inst.now trial.new }
+    requires table { table.now.problem ≡ inst.now }
+    requires trial { AreNumbers inst.now table.now.cuts trial.old }
+    ensures { AreNumbers inst.now table.now.cuts trial.new }
 {
-    inst.lawful();
-    let limit = inst.price_limit();
-    for (place, price) in best.as_slice().iter().enumerate() {
-        let mean = mean_at(means, place);
-        let moved = moved_price(limit, most, widest, mean, *price);
-        put_price(inst, trial, place as u32, moved);
+    for place in 0..inst.places() {
+        let mean = mean_at(means, place as usize);
+        let bounds = table.price_bounds(trial, place);
+        let price = number_at(best.as_slice(), place as usize);
+        let moved = moved_price(bounds, most, widest, mean, price);
+        put_price(inst, table, trial, place, moved);
     }
 }
 
 /// Moves the prices, or tells that no move is asked for.
 fn move_on(
     inst: &Instance,
+    table: &CutTable,
     goal: i128,
     pace: &Pace,
     best: &Prices,
     work: &Work,
     trial: &mut Prices,
 ) -> bool
-    requires best { ArePrices inst.now best.now }
-    requires trial { ArePrices inst.now trial.old }
-    ensures { ArePrices inst.now trial.new }
+    requires table { table.now.problem ≡ inst.now }
+    requires trial { AreNumbers inst.now table.now.cuts trial.old }
+    ensures { AreNumbers inst.now table.now.cuts trial.new }
 {
     let prices = best.as_slice();
     let widest = work.widest(prices);
@@ -288,7 +323,7 @@ fn move_on(
         Some(asked) if widest > 0 => {
             let most = work.move_of(prices, widest, asked).min(inst.price_limit());
             let means = work.means.as_slice();
-            move_prices(inst, best, means, most, widest, trial);
+            move_prices(inst, table, best, means, most, widest, trial);
             true
         }
         _ => false,
@@ -298,24 +333,24 @@ fn move_on(
 /// Puts the best prices of the ascent over those that it begins with.
 fn climb(
     inst: &Instance,
-    table: &StepTable,
+    table: &CutTable,
     ranges: &Ranges,
     goal: i128,
     best: &mut Prices,
     trial: &mut Prices,
     work: &mut Work,
 )
-    requires table { table.now ≡ inst.now }
+    requires table { table.now.problem ≡ inst.now }
     requires are_ranges { AreRanges inst.now ranges.now }
-    requires best { ArePrices inst.now best.old }
-    requires trial { ArePrices inst.now trial.old }
-    ensures { ArePrices inst.now best.new }
+    requires best { AreNumbers inst.now table.now.cuts best.old }
+    requires trial { AreNumbers inst.now table.now.cuts trial.old }
+    ensures { AreNumbers inst.now table.now.cuts best.new }
 {
     let mut pace = Pace::new();
     for turn in 0..MAX_TURNS {
         let value = take_turn(inst, table, ranges, trial, parts_of(turn), work);
-        keep_better(inst, value, trial, &mut pace, best);
-        if !move_on(inst, goal, &pace, best, work, trial) {
+        keep_better(inst, table, value, trial, &mut pace, best);
+        if !move_on(inst, table, goal, &pace, best, work, trial) {
             return;
         }
     }
@@ -324,7 +359,8 @@ fn climb(
 /// What an averaged ascent finds.
 #[derive(Debug, Drop)]
 pub struct AveragedAscent {
-    /// One price for each place, in thousandths of a cost grain per load grain.
+    /// One price for each place, in thousandths of a cost grain per load grain, and behind them one rate for each cut, in
+    /// thousandths of a cost grain per counted grain.
     pub prices: Prices,
     /// What its turns come to on average.
     pub averages: Averages,
@@ -334,7 +370,7 @@ pub struct AveragedAscent {
 /// gives its link its value, and down where they put less, by as much as would take the restricted value towards the goal.
 ///
 /// - Takes: the instance and its table; a brief that fits it; the goal, in thousandths of a cost grain.
-/// - Gives: the best prices that it met, those of the brief among them, which fit the instance.
+/// - Gives: the best prices that it met with the rates of the brief, those of the brief among them, which fit the instance.
 /// - Errors: want of memory alone.
 /// - Rule: docs/METHOD.md, "Master step".
 /// - Time: at most `MAX_TURNS` times the arcs of the columns of demands with more than one, and as often one link value
@@ -342,16 +378,16 @@ pub struct AveragedAscent {
 pub fn averaged(
     alloc: Global,
     inst: &Instance,
-    table: &StepTable,
+    table: &CutTable,
     brief: &Brief,
     goal: i128,
 ) -> Result<AveragedAscent, AllocError>
-    requires table { table.now ≡ inst.now }
-    requires brief { IsBriefFor inst.now brief.now.prices brief.now.ranges brief.now.columns }
-    ensures prices { IfOk result (λ averaged. ArePrices inst.now averaged.prices) }
+    requires table { table.now.problem ≡ inst.now }
+    requires brief { IsBriefFor inst.now table.now.cuts brief.now.prices brief.now.ranges brief.now.columns }
+    ensures prices { IfOk result (λ averaged. AreNumbers inst.now table.now.cuts averaged.prices) }
     ensures sizes { IfOk result (λ averaged. HaveSizes inst.now averaged.averages) }
 {
-    let mut work = Work::new(alloc, inst, brief)?;
+    let mut work = Work::new(alloc, inst, table, brief)?;
     let mut best = brief.prices.copy()?;
     let mut trial = brief.prices.copy()?;
     let ranges = &brief.ranges;

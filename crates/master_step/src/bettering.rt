@@ -5,7 +5,8 @@ ghost use Rattle.column_pool.specs.Columns.{columns_at};
 ghost use Rattle.column_pool.specs.Briefs.{IsBriefFor};
 ghost use Rattle.master_step.specs.Columns.{HasColumns};
 ghost use Rattle.master_step.specs.Restricted.{IsRestrictedValue};
-ghost use Rattle.master_step.specs.Ascents.{ArePrices, HaveSizes, IsBestStepOf, raised_or, same_or};
+ghost use Rattle.cut_table.specs.Numbers.{AreNumbers};
+ghost use Rattle.master_step.specs.Ascents.{HaveSizes, IsBestStepOf, raised_or, same_or};
 
 use crate::advancing::advance;
 use crate::ascending::{Ascent, ascend, ascend_from};
@@ -13,7 +14,7 @@ use crate::averaging::averaged;
 use crate::means::Averages;
 use crate::step::Step;
 use column_pool::Brief;
-use link_steps::StepTable;
+use cut_table::CutTable;
 use plan_base::{Instance, Prices};
 use std::alloc::{AllocError, Global};
 
@@ -38,15 +39,15 @@ struct Risen {
 fn rise(
     alloc: Global,
     inst: &Instance,
-    table: &StepTable,
+    table: &CutTable,
     brief: &Brief,
 ) -> Result<Risen, AllocError>
-    requires table { table.now ≡ inst.now }
-    requires brief { IsBriefFor inst.now brief.now.prices brief.now.ranges brief.now.columns }
+    requires table { table.now.problem ≡ inst.now }
+    requires brief { IsBriefFor inst.now table.now.cuts brief.now.prices brief.now.ranges brief.now.columns }
     requires columns { HasColumns inst.now (columns_at brief.now.columns) }
-    ensures prices { IfOk result (λ risen. ArePrices inst.now risen.ascent.prices) }
+    ensures numbers { IfOk result (λ risen. AreNumbers inst.now table.now.cuts risen.ascent.prices) }
     ensures sizes { IfOk result (λ risen. IfSome risen.averages (HaveSizes inst.now)) }
-    ensures value { IfOk result (λ risen. IsRestrictedValue inst.now brief.now.ranges (columns_at brief.now.columns) risen.ascent.prices risen.ascent.new) }
+    ensures value { IfOk result (λ risen. IsRestrictedValue inst.now table.now.cuts brief.now.ranges (columns_at brief.now.columns) risen.ascent.prices risen.ascent.new) }
 {
     match brief.incumbent {
         None => Ok(Risen {
@@ -113,7 +114,7 @@ fn raise_or_same(value: i128, risen: Risen) -> AveragedStep
 /// design costs.
 ///
 /// - Takes: the instance and its table; a brief that fits it.
-/// - Gives: `Raised` with prices whose restricted value is more than that of the brief's prices, and at least what the
+/// - Gives: `Raised` with prices and rates whose restricted value is more than that of the brief's, and at least what the
 ///   master step raises it to; `Same` only where the master step gains nothing; `Bare` exactly where a demand has no
 ///   column, with the first such demand.
 /// - Errors: want of memory alone.
@@ -122,12 +123,12 @@ fn raise_or_same(value: i128, risen: Risen) -> AveragedStep
 pub fn averaged_step(
     alloc: Global,
     inst: &Instance,
-    table: &StepTable,
+    table: &CutTable,
     brief: &Brief,
 ) -> Result<AveragedStep, AllocError>
-    requires table { table.now ≡ inst.now }
-    requires brief { IsBriefFor inst.now brief.now.prices brief.now.ranges brief.now.columns }
-    ensures step { IfOk result (λ found. IsBestStepOf inst.now brief.now.ranges (columns_at brief.now.columns) brief.now.prices found.step) }
+    requires table { table.now.problem ≡ inst.now }
+    requires brief { IsBriefFor inst.now table.now.cuts brief.now.prices brief.now.ranges brief.now.columns }
+    ensures step { IfOk result (λ found. IsBestStepOf inst.now table.now.cuts brief.now.ranges (columns_at brief.now.columns) brief.now.prices found.step) }
     ensures sizes { IfOk result (λ found. IfSome found.averages (HaveSizes inst.now)) }
 {
     match advance(alloc, inst, table, brief)? {
@@ -155,12 +156,12 @@ pub fn averaged_step(
 pub fn best_step(
     alloc: Global,
     inst: &Instance,
-    table: &StepTable,
+    table: &CutTable,
     brief: &Brief,
 ) -> Result<Step, AllocError>
-    requires table { table.now ≡ inst.now }
-    requires brief { IsBriefFor inst.now brief.now.prices brief.now.ranges brief.now.columns }
-    ensures { IfOk result (IsBestStepOf inst.now brief.now.ranges (columns_at brief.now.columns) brief.now.prices) }
+    requires table { table.now.problem ≡ inst.now }
+    requires brief { IsBriefFor inst.now table.now.cuts brief.now.prices brief.now.ranges brief.now.columns }
+    ensures { IfOk result (IsBestStepOf inst.now table.now.cuts brief.now.ranges (columns_at brief.now.columns) brief.now.prices) }
 {
     let AveragedStep { step, .. } = averaged_step(alloc, inst, table, brief)?;
     Ok(step)

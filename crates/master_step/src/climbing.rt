@@ -1,6 +1,6 @@
 //! The search among the trials.
 
-ghost use Rattle.std.specs.Prelude.{◌≡◌, ◌<◌, ◌≤◌, ◌*◌, length, slice_index, Option, Some, None, IfSome, IfNone};
+ghost use Rattle.std.specs.Prelude.{◌≡◌, ◌<◌, ◌≤◌, ◌+◌, length, slice_index, Option, Some, None, IfSome, IfNone};
 ghost use Rattle.plan_base.specs.declared.limits.TheConstants.{MAX_TOTAL_LOAD};
 ghost use Rattle.plan_base.specs.Facts.{price_limit};
 ghost use Rattle.plan_base.specs.Places.{places};
@@ -16,7 +16,8 @@ use crate::loads::{fill_column_loads, fill_value_loads};
 use crate::rows::Rows;
 use crate::source::Source;
 use crate::valuing::value_of;
-use link_steps::{Ranges, StepTable};
+use cut_table::CutTable;
+use link_steps::Ranges;
 use plan_base::{Instance, Prices};
 
 /// The best trial so far.
@@ -47,7 +48,7 @@ fn better(old: i128, best: Option<Best>, trial: Best) -> Option<Best>
 #[derive(Clone, Copy)]
 pub struct Master<'a> {
     pub inst: &'a Instance,
-    pub table: &'a StepTable,
+    pub table: &'a CutTable,
     pub ranges: &'a Ranges,
     pub prices: &'a Prices,
     pub source: Source<'a>,
@@ -57,30 +58,31 @@ impl Master<'_> {
     /// Writes the loads of the columns and of the values into the rows.
     fn fill_loads(&self, rows: &mut Rows)
         requires master { IsMaster self.now }
-        requires room { HasRoom (places self.now.inst.now) rows.old }
-        ensures room { HasRoom (places self.now.inst.now) rows.new }
-        ensures loads { HasLoads self.now.inst.now self.now.ranges.now (allowed_of self.now.source) self.now.prices.now rows.new }
+        requires room { HasRoom (places self.now.inst.now + length self.now.table.now.cuts) rows.old }
+        ensures room { HasRoom (places self.now.inst.now + length self.now.table.now.cuts) rows.new }
+        ensures loads { HasLoads self.now.inst.now self.now.table.now.cuts self.now.ranges.now (allowed_of self.now.source) self.now.prices.now rows.new }
         ensures low { AreLow self.now.inst.now rows.new }
     {
+        let _places = self.inst.places();
         let columns = rows.column_loads.as_mut_slice();
         fill_column_loads(self.inst, self.prices, &self.source, columns);
         let values = rows.value_loads.as_mut_slice();
         fill_value_loads(self.inst, self.table, self.ranges, self.prices, values);
     }
 
-    /// The value of a trial, whose prices it writes into the rows.
+    /// The value of a trial, whose numbers it writes into the rows.
     fn try_one(&self, greatest: u128, divisor: u128, rows: &mut Rows) -> i128
         requires master { IsMaster self.now }
-        requires room { HasRoom (places self.now.inst.now) rows.old }
+        requires room { HasRoom (places self.now.inst.now + length self.now.table.now.cuts) rows.old }
         requires low { AreLow self.now.inst.now rows.old }
         requires greatest { greatest ≤ price_limit self.now.inst.now }
         requires divisor { 0 < divisor }
-        ensures value { IsRestrictedValue self.now.inst.now self.now.ranges.now (allowed_of self.now.source) rows.new.trial result }
-        ensures trial { AreMoved self.now.inst.now self.now.prices.now greatest divisor rows.old rows.new.trial }
+        ensures value { IsRestrictedValue self.now.inst.now self.now.table.now.cuts self.now.ranges.now (allowed_of self.now.source) rows.new.trial result }
+        ensures trial { AreMoved self.now.inst.now self.now.table.now.cuts self.now.prices.now greatest divisor rows.old rows.new.trial }
         ensures columns { rows.new.column_loads ≡ rows.old.column_loads }
         ensures values { rows.new.value_loads ≡ rows.old.value_loads }
     {
-        set_trial(self.inst, self.prices, greatest, divisor, rows);
+        set_trial(self.inst, self.table, self.prices, greatest, divisor, rows);
         value_of(
             self.inst,
             self.table,
@@ -93,18 +95,18 @@ impl Master<'_> {
     /// The best of all trials, if one is better than the old value.
     fn best_trial(&self, old: i128, greatest: u128, widest: u128, rows: &mut Rows) -> Option<Best>
         requires master { IsMaster self.now }
-        requires room { HasRoom (places self.now.inst.now) rows.old }
+        requires room { HasRoom (places self.now.inst.now + length self.now.table.now.cuts) rows.old }
         requires low { AreLow self.now.inst.now rows.old }
-        requires loads { HasLoads self.now.inst.now self.now.ranges.now (allowed_of self.now.source) self.now.prices.now rows.old }
+        requires loads { HasLoads self.now.inst.now self.now.table.now.cuts self.now.ranges.now (allowed_of self.now.source) self.now.prices.now rows.old }
         requires greatest { greatest ≡ greatest_of self.now.inst.now self.now.prices.now }
         requires limit { greatest ≤ price_limit self.now.inst.now }
         requires widest { widest ≡ widest_of self.now.inst.now (slice_index rows.old.column_loads.items) (slice_index rows.old.value_loads.items) }
         requires some_gap { 0 < widest }
         requires narrow { widest ≤ MAX_TOTAL_LOAD }
-        ensures best { AreTried self.now.inst.now self.now.ranges.now (allowed_of self.now.source) self.now.prices.now old widest MAX_TRIALS result }
+        ensures best { AreTried self.now.inst.now self.now.table.now.cuts self.now.ranges.now (allowed_of self.now.source) self.now.prices.now old widest MAX_TRIALS result }
         ensures columns { rows.new.column_loads ≡ rows.old.column_loads }
         ensures values { rows.new.value_loads ≡ rows.old.value_loads }
-        ensures room { HasRoom (places self.now.inst.now) rows.new }
+        ensures room { HasRoom (places self.now.inst.now + length self.now.table.now.cuts) rows.new }
     {
         let mut best = None;
         let mut divisor = widest;
@@ -116,14 +118,14 @@ impl Master<'_> {
         best
     }
 
-    /// The restricted value of the prices, and of the first trial of greatest value where that is more. The rows then hold
-    /// the prices of that trial.
+    /// The restricted value of the numbers, and of the first trial of greatest value where that is more. The rows then hold
+    /// that trial.
     pub fn climb(&self, rows: &mut Rows) -> (i128, Option<i128>)
         requires master { IsMaster self.now }
-        requires room { HasRoom (places self.now.inst.now) rows.old }
-        ensures raised { IfSome result.1 (IsRaise self.now.inst.now self.now.ranges.now (allowed_of self.now.source) self.now.prices.now result.0 rows.new.trial) }
-        ensures stalled { IfNone result.1 (IsStalled self.now.inst.now self.now.ranges.now (allowed_of self.now.source) self.now.prices.now result.0) }
-        ensures room { HasRoom (places self.now.inst.now) rows.new }
+        requires room { HasRoom (places self.now.inst.now + length self.now.table.now.cuts) rows.old }
+        ensures raised { IfSome result.1 (IsRaise self.now.inst.now self.now.table.now.cuts self.now.ranges.now (allowed_of self.now.source) self.now.prices.now result.0 rows.new.trial) }
+        ensures stalled { IfNone result.1 (IsStalled self.now.inst.now self.now.table.now.cuts self.now.ranges.now (allowed_of self.now.source) self.now.prices.now result.0) }
+        ensures room { HasRoom (places self.now.inst.now + length self.now.table.now.cuts) rows.new }
     {
         let _total = self.inst.total_load();
         let old = value_of(
@@ -142,7 +144,14 @@ impl Master<'_> {
         match self.best_trial(old, greatest, widest, rows) {
             None => (old, None),
             Some(best) => {
-                set_trial(self.inst, self.prices, greatest, best.divisor, rows);
+                set_trial(
+                    self.inst,
+                    self.table,
+                    self.prices,
+                    greatest,
+                    best.divisor,
+                    rows,
+                );
                 (old, Some(best.value))
             }
         }

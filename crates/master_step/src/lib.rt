@@ -1,11 +1,11 @@
 //! The master step: prices raised along what the columns and the link values disagree on.
 //!
-//! Promises the restricted value of prices under ranges of loads and over given columns, exactly, and the step that raises
-//! it: which trial is taken, what it gains, and when none gains. Begin at `advance` and `gain`, whose words are in
+//! Promises the restricted value of prices of places and rates of cuts under ranges of loads and over given columns, exactly,
+//! and the step that raises it: which trial is taken, what it gains, and when none gains. Begin at `advance` and `gain`, whose words are in
 //! `specs/Outcomes.antt` over those of `specs/Columns.antt`, `specs/Restricted.antt` and `specs/Trials.antt`; that one value,
-//! one step and one gain are right is in `laws`. `averaged_step` also looks at ascents, of whose prices it promises that
-//! they fit and what they are worth. Stands on `plan_base`, `arc_restrict`, `link_steps`, `column_pool`, and on the sums of
-//! `proof_tree` and `bound_assembly`. When a step is made is left to the crates above.
+//! one step and one gain are right is in `laws`. `averaged_step` also looks at ascents, of whose numbers it promises that
+//! they fit and what they are worth. Stands on `plan_base`, `arc_restrict`, `link_steps`, `cut_table`, `column_pool`, and on
+//! the sums of `proof_tree` and `bound_assembly`. When a step is made is left to the crates above.
 #![tactic(auto)]
 
 mod advancing;

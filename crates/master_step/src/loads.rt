@@ -8,12 +8,14 @@ ghost use Rattle.plan_base.specs.Paths.{uses_place};
 ghost use Rattle.link_steps.specs.Ranges.{AreRanges};
 ghost use Rattle.plan_base.specs.Walks.{HasPlacesOnce};
 ghost use Rattle.arc_restrict.specs.Prices.{AreWithinLimit};
+ghost use Rattle.cut_table.specs.Numbers.{AreNumbers};
 ghost use Rattle.master_step.specs.Columns.{HasColumns};
 ghost use Rattle.master_step.specs.Trials.{column_load, AreValueLoads};
 ghost use Rattle.master_step.specs.Choosing.{allowed_of, IsSource};
 
 use crate::source::Source;
-use link_steps::{Ranges, StepTable};
+use cut_table::CutTable;
+use link_steps::Ranges;
 use plan_base::limits::MAX_PLACES;
 use plan_base::{ArcId, DemandId, Instance, LinkId, Prices};
 
@@ -33,7 +35,6 @@ fn add_load(inst: &Instance, loads: &mut [u128], arcs: &[ArcId], load: u128)
 
 /// Writes what the least columns put on each place, in load grains.
 pub fn fill_column_loads(inst: &Instance, prices: &Prices, source: &Source<'_>, loads: &mut [u128])
-    requires price_count { length prices.now ≡ places inst.now }
     requires price_limit { AreWithinLimit inst.now prices.now }
     requires source { IsSource inst.now source.now }
     requires columns { HasColumns inst.now (allowed_of source.now) }
@@ -73,24 +74,23 @@ fn put_loads(inst: &Instance, loads: &mut [u128], link: LinkId, load: u128, back
 /// Writes the loads that give each link its value, in load grains.
 pub fn fill_value_loads(
     inst: &Instance,
-    table: &StepTable,
+    table: &CutTable,
     ranges: &Ranges,
     prices: &Prices,
     loads: &mut [u128],
 )
-    requires table { table.now ≡ inst.now }
+    requires table { table.now.problem ≡ inst.now }
     requires are_ranges { AreRanges inst.now ranges.now }
-    requires price_count { length prices.now ≡ places inst.now }
-    requires price_limit { AreWithinLimit inst.now prices.now }
+    requires numbers { AreNumbers inst.now table.now.cuts prices.now }
     requires size { length loads.old ≡ MAX_PLACES }
-    ensures value { AreValueLoads inst.now ranges.now prices.now (slice_index loads.new) }
+    ensures value { AreValueLoads inst.now table.now.cuts ranges.now prices.now (slice_index loads.new) }
     ensures within { (q : ℕ) → q < places inst.now → slice_index loads.new q ≤ total_load inst.now }
 {
+    let mut rows = table.rated_rows();
     for number in 0..inst.links() {
         let link = LinkId(number);
-        let priced = prices.of_link(inst, link);
         let ranged = ranges.of_link(inst, link);
-        let found = table.link_value(link, ranged, priced.there, priced.back);
+        let found = table.link_value(link, ranged, prices, &mut rows);
         put_loads(
             inst,
             loads,

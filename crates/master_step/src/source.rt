@@ -3,7 +3,6 @@
 ghost use Rattle.std.specs.Prelude.{◌≡◌, ◌<◌, ◌≤◌, ◌*◌, ◌+◌, [], length, slice_index_or, Option, Some};
 ghost use Rattle.plan_base.specs.Facts.{price_limit};
 ghost use Rattle.plan_base.specs.Arcs.{demand_at};
-ghost use Rattle.plan_base.specs.Places.{places};
 ghost use Rattle.plan_base.specs.Paths.{IsSimplePath};
 ghost use Rattle.arc_restrict.specs.Prices.{AreWithinLimit};
 ghost use Rattle.bound_assembly.specs.declared.limits.TheConstants.{MAX_PATH_LINKS};
@@ -88,7 +87,6 @@ impl<'a> Source<'a> {
     ) -> Option<Least>
         requires demand { demand.0 < length inst.now.demands }
         requires source { IsSource inst.now self.now }
-        requires count { length prices.now ≡ places inst.now }
         requires limit { AreWithinLimit inst.now prices.now }
         requires place { place < length (all_of self.now demand.0) }
         requires least { IsLeastOf inst.now prices.now (is_allowed self.now demand.0) (all_of self.now demand.0) place least }
@@ -107,7 +105,6 @@ impl<'a> Source<'a> {
     fn least(&self, inst: &Instance, demand: DemandId, prices: &[u128]) -> Option<Least>
         requires demand { demand.0 < length inst.now.demands }
         requires source { IsSource inst.now self.now }
-        requires count { length prices.now ≡ places inst.now }
         requires limit { AreWithinLimit inst.now prices.now }
         ensures { IsLeastOf inst.now prices.now (is_allowed self.now demand.0) (all_of self.now demand.0) (length (all_of self.now demand.0)) result }
     {
@@ -123,7 +120,6 @@ impl<'a> Source<'a> {
         requires demand { demand.0 < length inst.now.demands }
         requires source { IsSource inst.now self.now }
         requires columns { HasColumns inst.now (allowed_of self.now) }
-        requires count { length prices.now ≡ places inst.now }
         requires limit { AreWithinLimit inst.now prices.now }
         ensures path { result.0.now ≡ least_column inst.now prices.now (allowed_of self.now demand.0) }
         ensures price { result.1 ≡ least_price inst.now prices.now (allowed_of self.now demand.0) }

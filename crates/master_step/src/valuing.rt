@@ -1,12 +1,13 @@
-//! The restricted value of prices.
+//! The restricted value of numbers.
 
-ghost use Rattle.std.specs.Prelude.{◌≡◌, ◌<◌, ◌≤◌, ◌*◌, length, pos, ◌+ℤ◌, ◌-ℤ◌, ◌≤ℤ◌};
+ghost use Rattle.std.specs.Prelude.{◌≡◌, ◌<◌, ◌≤◌, ◌+◌, ◌*◌, length, pos, ◌+ℤ◌, ◌-ℤ◌, ◌≤ℤ◌};
 ghost use Rattle.plan_base.specs.declared.limits.TheConstants.{MAX_LINKS, MAX_PRICED_LOAD};
-ghost use Rattle.plan_base.specs.Places.{places};
 ghost use Rattle.link_steps.specs.Ranges.{AreRanges};
 ghost use Rattle.arc_restrict.specs.Rows.{forbids};
 ghost use Rattle.arc_restrict.specs.Prices.{AreWithinLimit};
+ghost use Rattle.proof_tree.specs.declared.limits.TheConstants.{MAX_CUTS};
 ghost use Rattle.proof_tree.specs.Bounds.{price_total};
+ghost use Rattle.cut_table.specs.Numbers.{AreNumbers};
 ghost use Rattle.bound_assembly.specs.declared.limits.TheConstants.{MAX_PATH_LINKS};
 ghost use Rattle.column_pool.specs.Columns.{permitted_at, AreColumns};
 ghost use Rattle.master_step.specs.Columns.{least_price, HasColumns};
@@ -16,12 +17,12 @@ ghost use Rattle.master_step.specs.Choosing.{allowed_of, IsSource};
 use crate::source::Source;
 use arc_restrict::Restriction;
 use column_pool::ColumnPool;
-use link_steps::{Ranges, StepTable};
+use cut_table::CutTable;
+use link_steps::Ranges;
 use plan_base::{DemandId, Instance, Prices};
 
 /// The sum of loads times least prices over the demands, in thousandths of a cost grain.
 fn column_total(inst: &Instance, prices: &Prices, source: &Source<'_>) -> u128
-    requires price_count { length prices.now ≡ places inst.now }
     requires price_limit { AreWithinLimit inst.now prices.now }
     requires source { IsSource inst.now source.now }
     requires columns { HasColumns inst.now (allowed_of source.now) }
@@ -37,60 +38,60 @@ fn column_total(inst: &Instance, prices: &Prices, source: &Source<'_>) -> u128
     total
 }
 
-/// The two sums together, in thousandths of a cost grain.
-fn total_of(priced: u128, values: i128) -> i128
+/// The three sums together, in thousandths of a cost grain.
+fn total_of(priced: u128, counted: u128, values: i128) -> i128
     requires priced { priced ≤ MAX_PATH_LINKS * MAX_PRICED_LOAD }
+    requires counted { counted ≤ MAX_CUTS * MAX_PRICED_LOAD }
     requires not_above { values ≤ℤ pos (MAX_LINKS * MAX_PRICED_LOAD) }
     requires bounded { (pos 0 -ℤ pos (MAX_LINKS * (2 * MAX_PRICED_LOAD))) ≤ℤ values }
-    ensures { result ≡ (pos priced +ℤ values) }
+    ensures { result ≡ (pos (priced + counted) +ℤ values) }
 {
-    priced as i128 + values
+    (priced + counted) as i128 + values
 }
 
-/// The restricted value of prices over the columns of a source, in thousandths of a cost grain.
+/// The restricted value of numbers over the columns of a source, in thousandths of a cost grain.
 pub fn value_of(
     inst: &Instance,
-    table: &StepTable,
+    table: &CutTable,
     ranges: &Ranges,
     prices: &Prices,
     source: &Source<'_>,
 ) -> i128
-    requires table { table.now ≡ inst.now }
+    requires table { table.now.problem ≡ inst.now }
     requires are_ranges { AreRanges inst.now ranges.now }
-    requires price_count { length prices.now ≡ places inst.now }
-    requires price_limit { AreWithinLimit inst.now prices.now }
+    requires numbers { AreNumbers inst.now table.now.cuts prices.now }
     requires source { IsSource inst.now source.now }
     requires columns { HasColumns inst.now (allowed_of source.now) }
-    ensures { IsRestrictedValue inst.now ranges.now (allowed_of source.now) prices.now result }
+    ensures { IsRestrictedValue inst.now table.now.cuts ranges.now (allowed_of source.now) prices.now result }
 {
     inst.lawful();
     let priced = column_total(inst, prices, source);
+    let counted = table.cut_total(prices);
     let values = table.value_total(ranges, prices);
-    total_of(priced, values)
+    total_of(priced, counted, values)
 }
 
-/// The restricted value of prices under ranges, over the columns that a restriction permits. Takes no memory.
+/// The restricted value of prices and rates under ranges, over the columns that a restriction permits. Takes no memory.
 ///
-/// - Takes: the instance and its table; ranges of its places; one price for each place, of at most the price limit; columns of the instance, of
-///   which the restriction permits at least one to each demand.
+/// - Takes: the instance and its table; ranges of its places; one price for each place and one rate for each cut, as they have
+///   to be; columns of the instance, of which the restriction permits at least one to each demand.
 /// - Gives: thousandths of a cost grain; it may be negative.
 /// - Rule: docs/METHOD.md, "Restricted value".
 /// - Time: linear in the arcs of all columns, and one link value for each link.
 pub fn value(
     inst: &Instance,
-    table: &StepTable,
+    table: &CutTable,
     ranges: &Ranges,
     prices: &Prices,
     columns: &ColumnPool,
     restriction: &Restriction,
 ) -> i128
-    requires table { table.now ≡ inst.now }
+    requires table { table.now.problem ≡ inst.now }
     requires are_ranges { AreRanges inst.now ranges.now }
-    requires price_count { length prices.now ≡ places inst.now }
-    requires price_limit { AreWithinLimit inst.now prices.now }
+    requires numbers { AreNumbers inst.now table.now.cuts prices.now }
     requires columns { AreColumns inst.now columns.now }
     requires permitted { HasColumns inst.now (permitted_at (forbids restriction.now) columns.now) }
-    ensures { IsRestrictedValue inst.now ranges.now (permitted_at (forbids restriction.now) columns.now) prices.now result }
+    ensures { IsRestrictedValue inst.now table.now.cuts ranges.now (permitted_at (forbids restriction.now) columns.now) prices.now result }
 {
     let source = Source::Pool(columns, restriction);
     value_of(inst, table, ranges, prices, &source)

@@ -10,9 +10,9 @@ use Rattle.arc_restrict.specs.Prices.{AreWithinLimit, price_of, IsLeastPrice}
 use Rattle.path_pricing.specs.declared.priced.Priced.{Priced}
 use Rattle.path_pricing.specs.declared.priced.Priced.TheVariants.{Path, NoPath}
 
--- one price for each place, none above the price limit
+-- a price for each place at least, and no number above the price limit: behind the prices there may be rates
 pub record ArePrices (p : Parts) (prices : List ℕ) : Type 0 where
-  pub count : length prices ≡ places p
+  pub count : places p ≤ length prices
   pub within_limit : AreWithinLimit p prices
 
 -- the arc exists and is not forbidden to the demand of this number

@@ -29,7 +29,7 @@ impl Query<'_> {
     /// Whether the arc is forbidden, or rises by at most its price.
     #[tactic(auto, unfolding(crate::specs::Faults::dearer_fault))]
     fn check_rise(&self, potentials: &[u128], arc: ArcId) -> Result<(), Unfit>
-        requires prices { length self.now.prices.now ≡ places self.now.inst.now }
+        requires prices { places self.now.inst.now ≤ length self.now.prices.now }
         requires potentials { length potentials.now ≡ self.now.inst.now.nodes }
         ensures { result_err result
             ≡ dearer_fault self.now.inst.now self.now.prices.now self.now.demand.0 (forbids self.now.restriction.now) potentials.now arc }
@@ -48,7 +48,7 @@ impl Query<'_> {
 
     /// Whether each permitted arc rises by at most its price.
     fn check_rises(&self, potentials: &[u128]) -> Result<(), Unfit>
-        requires prices { length self.now.prices.now ≡ places self.now.inst.now }
+        requires prices { places self.now.inst.now ≤ length self.now.prices.now }
         requires potentials { length potentials.now ≡ self.now.inst.now.nodes }
         ensures { result_err result
             ≡ first_dearer self.now.inst.now self.now.prices.now self.now.demand.0 (forbids self.now.restriction.now) potentials.now }

@@ -1,6 +1,6 @@
 //! The search for a least price.
 
-ghost use Rattle.std.specs.Prelude.{◌≡◌, ◌<◌, ◌*◌, length, IfOk, None};
+ghost use Rattle.std.specs.Prelude.{◌≡◌, ◌<◌, ◌≤◌, ◌*◌, length, IfOk, None};
 ghost use Rattle.plan_base.specs.Places.{places};
 ghost use Rattle.arc_restrict.specs.Rows.{forbids};
 ghost use Rattle.path_pricing.specs.Priced.{ArePrices, IsShown, IsPriced};
@@ -18,7 +18,7 @@ impl Query<'_> {
     /// The price of a permitted arc, none for another.
     #[tactic(auto, unfolding(crate::specs::Weights::open_price))]
     fn open_price(&self, arc: ArcId) -> Option<u128>
-        requires { length self.now.prices.now ≡ places self.now.inst.now }
+        requires { places self.now.inst.now ≤ length self.now.prices.now }
         ensures { result
             ≡ open_price self.now.inst.now self.now.prices.now self.now.demand.0 (forbids self.now.restriction.now) arc }
     {
@@ -44,7 +44,7 @@ pub fn arc_weights(
     demand: DemandId,
     restriction: &Restriction,
 ) -> Result<Vec<Option<u128>>, AllocError>
-    requires { length prices.now ≡ places inst.now }
+    requires { places inst.now ≤ length prices.now }
     ensures { IfOk result
         (λ weights. weights.items ≡ weights_below inst.now prices.now demand.0 (forbids restriction.now) (2 * length inst.now.links)) }
 {

@@ -14,7 +14,8 @@ use Rattle.proof_tree.specs.declared.plan.Plan.{Plan}
 use Rattle.proof_tree.specs.declared.plan.PlanStatus.TheVariants.{Undecided}
 use Rattle.proof_tree.specs.Shapes.{are_trees}
 use Rattle.proof_tree.specs.Regions.{Region, whole, with_arcs, up_to, above}
-use Rattle.proof_tree.specs.Trees.{AreValidTrees, IsValidTree}
+use Rattle.proof_tree.specs.declared.cuts.Cut.{Cut}
+use Rattle.proof_tree.specs.RatedTrees.{AreRatedTrees, IsRatedTree}
 use Rattle.proof_tree.specs.Cuts.{IsCutList}
 use Rattle.proof_tree.specs.Plans.{stated_cost, is_open, needs_cost, IsStatedDesign, HasStatus, IsValidPlan}
 use Rattle.branch_tree.specs.Records.{split_record}
@@ -29,7 +30,6 @@ use Rattle.pool_machine.specs.Soundness.{IsSound}
 use Rattle.pool_machine.specs.PlanOf.{tree_of, open_by, open_count, is_done, status_by, status_of, stated_design, HasBoundOf, IsPlanOf, PartsPaths}
 use Rattle.pool_nodes.specs.Records.{record_by}
 use Rattle.plan_assembly.specs.PlanParts.{IsStatedBound}
-use Rattle.proof_tree.proofs.CutlessPlans.{plan-without_cuts, no_cuts}
 use Rattle.pool_machine.proofs.Lists.{All-at}
 use Rattle.pool_machine.proofs.Runs.{IsReachable-sound}
 use Rattle.pool_machine.specs.declared.limits.TheConstants.{MAX_BUDGET}
@@ -43,7 +43,7 @@ use Rattle.plan_assembly.proofs.PlanRecords.{records_sum, none_counted, some_cou
 -- What a tree is made from
 
 pub tree-whole : (s : State) → IsSound s → are_trees 1 (tree_of s) ≡ true
-tree-whole s h = valid-whole s.problem (cutoff_of s) (whole s.problem ∷ []) (tree_of s) (tree_of-valid s h)
+tree-whole s h = valid-whole s.problem s.cuts (cutoff_of s) (whole s.problem ∷ []) (tree_of s) (tree_of-valid s h)
 
 pub tree-some : (s : State) → IsSound s → 0 < length s.nodes
 tree-some s h = slice_get_within s.nodes 0 h.family.root h.family.is_root
@@ -62,10 +62,10 @@ split-closed (divider.Load d) = refl
 tree-examined : (s : State) → IsReachable s → sum_by (λ record_. cond (not (is_open record_)) 1 0) (tree_of s) ≡ s.examined
 tree-examined s h =
     records_sum s (λ record_. cond (not (is_open record_)) 1 0) examined_in h
-    (λ n node is. here node node.fate (All-at (HasSoundFate s.problem (cutoff_of s)) s.nodes n node (IsReachable-sound s h).fates is))
+    (λ n node is. here node node.fate (All-at (HasSoundFate s.problem s.cuts (cutoff_of s)) s.nodes n node (IsReachable-sound s h).fates is))
     ∙ sym (IsReachable-sound s h).counts.examined
   where
-    here : (node : Node) (fate : Fate) → IsSoundFate s.problem (cutoff_of s) (region_of s.problem node) fate → cond (not (is_open (record_by (kept_prices node) fate))) 1 0 ≡ examined_by fate
+    here : (node : Node) (fate : Fate) → IsSoundFate s.problem s.cuts (cutoff_of s) (region_of s.problem node) fate → cond (not (is_open (record_by (kept_prices node) fate))) 1 0 ≡ examined_by fate
     here node Undone sound = refl
     here node (ClosedBy found) sound = ap (λ (b : Bool). cond (not b) 1 0) sound.0
     here node (DividedBy d) sound = ap (λ (b : Bool). cond (not b) 1 0) (split-closed d.by)
@@ -74,9 +74,9 @@ tree-examined s h =
 tree-open : (s : State) → IsReachable s → sum_by (λ record_. cond (is_open record_) 1 0) (tree_of s) ≡ open_count s
 tree-open s h =
     records_sum s (λ record_. cond (is_open record_) 1 0) (λ node. open_by node.fate) h
-    (λ n node is. here node node.fate (All-at (HasSoundFate s.problem (cutoff_of s)) s.nodes n node (IsReachable-sound s h).fates is))
+    (λ n node is. here node node.fate (All-at (HasSoundFate s.problem s.cuts (cutoff_of s)) s.nodes n node (IsReachable-sound s h).fates is))
   where
-    here : (node : Node) (fate : Fate) → IsSoundFate s.problem (cutoff_of s) (region_of s.problem node) fate → cond (is_open (record_by (kept_prices node) fate)) 1 0 ≡ open_by fate
+    here : (node : Node) (fate : Fate) → IsSoundFate s.problem s.cuts (cutoff_of s) (region_of s.problem node) fate → cond (is_open (record_by (kept_prices node) fate)) 1 0 ≡ open_by fate
     here node Undone sound = refl
     here node (ClosedBy found) sound = ap (λ (b : Bool). cond b 1 0) sound.0
     here node (DividedBy d) sound = ap (λ (b : Bool). cond b 1 0) (split-closed d.by)
@@ -104,19 +104,19 @@ status-closed s h all =
 -- The plan
 
 -- without a cost no leaf is closed against one
-needs_none : (p : Parts) (gs : List Region) (records : List TreeNode) → AreValidTrees p None gs records → list_any needs_cost records ≡ false
-needs_none p [] [] h = refl
-needs_none p [] (record_ ∷ records) h = absurd h
-needs_none p (g ∷ gs) [] h = absurd h
-needs_none p (g ∷ gs) (Leaf (evidence.Bound prices) ∷ records) h = absurd h.0
-needs_none p (g ∷ gs) (Leaf evidence.Routed ∷ records) h = absurd h.0
-needs_none p (g ∷ gs) (Leaf (evidence.Overfull link) ∷ records) h = needs_none p gs records h.1
-needs_none p (g ∷ gs) (Leaf (evidence.Cut demand reached) ∷ records) h = needs_none p gs records h.1
-needs_none p (g ∷ gs) (Leaf (evidence.Far demand) ∷ records) h = needs_none p gs records h.1
-needs_none p (g ∷ gs) (Leaf (evidence.Crowd prices) ∷ records) h = needs_none p gs records h.1
-needs_none p (g ∷ gs) (Leaf (evidence.Open prices) ∷ records) h = needs_none p gs records h.1
-needs_none p (g ∷ gs) (Split k at left right ∷ records) h = needs_none p (with_arcs g k left ∷ with_arcs g k right ∷ gs) records h.1
-needs_none p (g ∷ gs) (Loads place load ∷ records) h = needs_none p (up_to g place load ∷ above g place load ∷ gs) records h.1
+needs_none : (p : Parts) (cuts : List Cut) (gs : List Region) (records : List TreeNode) → AreRatedTrees p cuts None gs records → list_any needs_cost records ≡ false
+needs_none p cuts [] [] h = refl
+needs_none p cuts [] (record_ ∷ records) h = absurd h
+needs_none p cuts (g ∷ gs) [] h = absurd h
+needs_none p cuts (g ∷ gs) (Leaf (evidence.Bound prices) ∷ records) h = absurd h.0
+needs_none p cuts (g ∷ gs) (Leaf evidence.Routed ∷ records) h = absurd h.0
+needs_none p cuts (g ∷ gs) (Leaf (evidence.Overfull link) ∷ records) h = needs_none p cuts gs records h.1
+needs_none p cuts (g ∷ gs) (Leaf (evidence.Cut demand reached) ∷ records) h = needs_none p cuts gs records h.1
+needs_none p cuts (g ∷ gs) (Leaf (evidence.Far demand) ∷ records) h = needs_none p cuts gs records h.1
+needs_none p cuts (g ∷ gs) (Leaf (evidence.Crowd prices) ∷ records) h = needs_none p cuts gs records h.1
+needs_none p cuts (g ∷ gs) (Leaf (evidence.Open prices) ∷ records) h = needs_none p cuts gs records h.1
+needs_none p cuts (g ∷ gs) (Split k at left right ∷ records) h = needs_none p cuts (with_arcs g k left ∷ with_arcs g k right ∷ gs) records h.1
+needs_none p cuts (g ∷ gs) (Loads place load ∷ records) h = needs_none p cuts (up_to g place load ∷ above g place load ∷ gs) records h.1
 
 done_cases : (s : State) → is_done s ≡ true → 0 < open_count s → s.examined ≡ s.budget
 done_cases s done some = by (s.examined == s.budget) refl
@@ -130,7 +130,7 @@ done_cases s done some = by (s.examined == s.budget) refl
 
 -- a plan that is put together from a state's parts is that of the state
 pub made_plan : (s : State) (plan : Plan) → IsReachable s → plan.nodes ≡ s.problem.nodes → plan.links ≡ length s.problem.links → plan.demands ≡ length s.problem.demands → plan.both ≡ is_two_way s.problem.orient → plan.status ≡ status_of s
-    → plan.budget ≡ s.budget → plan.examined ≡ s.examined → plan.design ≡ stated_design s.incumbent → plan.cuts ≡ [] → plan.tree ≡ tree_of s → IsStatedBound s plan.status plan.bound → IsPlanOf s plan
+    → plan.budget ≡ s.budget → plan.examined ≡ s.examined → plan.design ≡ stated_design s.incumbent → plan.cuts ≡ s.cuts → plan.tree ≡ tree_of s → IsStatedBound s plan.status plan.bound → IsPlanOf s plan
 made_plan s plan h nodes links demands both status budget examined design cuts tree bound = record {
   nodes = nodes;
   links = links;
@@ -152,10 +152,10 @@ module _ (s : State) (plan : Plan) (h : IsReachable s) (is : IsPlanOf s plan) wh
   cost_is : stated_cost plan ≡ cutoff_of s
   cost_is = ap (λ (design : Option (ℕ × Design)). option_map (λ x. x.0) design) is.design ∙ cost-stated s.incumbent
 
-  valid_tree : IsValidTree s.problem (stated_cost plan) plan.tree
+  valid_tree : IsRatedTree s.problem s.cuts (stated_cost plan) plan.tree
   valid_tree =
-      subst (λ (cost : Option ℕ). IsValidTree s.problem cost plan.tree) (sym cost_is)
-      (subst (λ (records : List TreeNode). IsValidTree s.problem (cutoff_of s) records) (sym is.tree) (tree_of-valid s sound))
+      subst (λ (cost : Option ℕ). IsRatedTree s.problem s.cuts cost plan.tree) (sym cost_is)
+      (subst (λ (records : List TreeNode). IsRatedTree s.problem s.cuts (cutoff_of s) records) (sym is.tree) (tree_of-valid s sound))
 
   none_open : open_count s ≡ 0 → list_any is_open plan.tree ≡ false
   none_open none = ap (λ (records : List TreeNode). list_any is_open records) is.tree ∙ none_counted is_open (tree_of s) (tree-open s h ∙ none)
@@ -167,7 +167,7 @@ module _ (s : State) (plan : Plan) (h : IsReachable s) (is : IsPlanOf s plan) wh
   without_cost : plan.design ≡ None → list_any needs_cost plan.tree ≡ false
   without_cost none =
       let no_cost : stated_cost plan ≡ None = ap (λ (design : Option (ℕ × Design)). option_map (λ x. x.0) design) none in
-      needs_none s.problem (whole s.problem ∷ []) plan.tree (subst (λ (cost : Option ℕ). IsValidTree s.problem cost plan.tree) no_cost valid_tree)
+      needs_none s.problem s.cuts (whole s.problem ∷ []) plan.tree (subst (λ (cost : Option ℕ). IsRatedTree s.problem s.cuts cost plan.tree) no_cost valid_tree)
 
   within : plan.examined ≤ plan.budget
   within = let a = is.examined in let b = is.budget in let c = sound.counts.within_budget in omega arith
@@ -214,9 +214,9 @@ module _ (s : State) (plan : Plan) (h : IsReachable s) (is : IsPlanOf s plan) wh
   plan_valid done = record {
     sizes = record { nodes = is.nodes; links = is.links; demands = is.demands; both = is.both };
     examined = is.examined ∙ sym (tree-examined s h) ∙ ap (λ (records : List TreeNode). sum_by (λ record_. cond (not (is_open record_)) 1 0) records) (sym is.tree);
-    cuts = subst (IsCutList s.problem) (sym is.cuts) (no_cuts s.problem);
+    cuts = subst (IsCutList s.problem) (sym is.cuts) sound.cuts;
     design = stated plan.design s.incumbent is.design sound.incumbent;
-    tree = (plan-without_cuts s.problem plan is.cuts).0 valid_tree;
+    tree = subst (λ (cuts : List Cut). IsRatedTree s.problem cuts (stated_cost plan) plan.tree) (sym is.cuts) valid_tree;
     status = has_status done;
   }
 

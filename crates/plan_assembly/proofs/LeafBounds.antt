@@ -23,9 +23,11 @@ use Rattle.link_steps.specs.declared.range.LoadRange.{LoadRange}
 use Rattle.link_steps.specs.Ranges.{AreRanges}
 use Rattle.arc_restrict.specs.Prices.{AreWithinLimit, IsLeastPrice}
 use Rattle.proof_tree.specs.Regions.{Region}
-use Rattle.proof_tree.specs.Bounds.{IsBound}
+use Rattle.proof_tree.specs.declared.cuts.Cut.{Cut}
+use Rattle.proof_tree.specs.RatedEvidence.{rates_in, IsBoundAt}
+use Rattle.cut_table.specs.Numbers.{AreNumbers}
 use Rattle.proof_tree.specs.Plans.{IsStatedDesign}
-use Rattle.proof_tree.proofs.Uniqueness.{bound-unique}
+use Rattle.proof_tree.proofs.RatedUniqueness.{rated_bound-unique}
 use Rattle.bound_assembly.specs.Rounds.{RoundState, length_at, HasLength, left_in, with_length}
 use Rattle.bound_assembly.specs.RoundBounds.{AreShort, IsRoundBound}
 use Rattle.bound_assembly.specs.declared.limits.TheConstants.{MAX_PATH_LINKS}
@@ -87,9 +89,9 @@ module _ (s : State) (n : ℕ) where
   one_leaf : (one other : ℤ) → IsLeafBound s n one → IsLeafBound s n other → one ≡ other
   one_leaf one other x y =
       let same = one_at s.nodes n y.node x.node y.is_node x.is_node in
-      let there : IsBound s.problem (region_of s.problem x.node) (kept_prices x.node) other =
-      subst (λ (node : Node). IsBound s.problem (region_of s.problem node) (kept_prices node) other) same y.is_bound in
-      bound-unique s.problem (region_of s.problem x.node) (kept_prices x.node) one other x.is_bound there
+      let there : IsBoundAt s.problem s.cuts (region_of s.problem x.node) (kept_prices x.node) other =
+      subst (λ (node : Node). IsBoundAt s.problem s.cuts (region_of s.problem node) (kept_prices node) other) same y.is_bound in
+      rated_bound-unique s.problem s.cuts (region_of s.problem x.node) (kept_prices x.node) (rates_in s.problem (kept_prices x.node)) one other x.is_bound there
 
   -- one node more
   pub least-next : (least leaf : Option ℤ) → IsLeastOrNone s n least → IsLeafBoundOrNone s n leaf → IsLeastOrNone s (n + 1) (lesser_of least leaf)
@@ -163,19 +165,19 @@ module _ (s : State) (h : IsReachable s) (grounds : List (Option Kept)) (has : H
         by_best : (best : Option Best) → node.best ≡ best → option_map (λ (b : Best). b.bound) best ≡ Some bound → IsLeafBound s n bound
         by_best None none bad = absurd (cc)
         by_best (Some best) some same =
-            let b : IsSoundBest s.problem (region_of s.problem node) node.first_prices node.completed best = rw some at ((node_at s n node (IsReachable-sound s h) is).best) in
+            let b : IsSoundBest s.problem s.cuts (region_of s.problem node) node.first_prices node.completed best = rw some at ((node_at s n node (IsReachable-sound s h) is).best) in
             let bound_is : best.bound ≡ bound = cc in
             record {
               node = node;
               is_node = is;
               undone = open_leaf.0;
-              is_bound = subst (λ (o : Option Best). IsBound s.problem (region_of s.problem node) (kept_by o node.first_prices) bound) (sym some)
-                  (subst (λ (x : ℤ). IsBound s.problem (region_of s.problem node) best.prices x) bound_is b.is_bound);
+              is_bound = subst (λ (o : Option Best). IsBoundAt s.problem s.cuts (region_of s.problem node) (kept_by o node.first_prices) bound) (sym some)
+                  (subst (λ (x : ℤ). IsBoundAt s.problem s.cuts (region_of s.problem node) best.prices x) bound_is b.is_bound);
             }
 
     -- the bound at the first prices, where none is recorded
-    pub leaf-priced : (found : Option ℤ) → bound_in (Some node) ≡ None → IsBoundOrNone s.problem (region_in kept) node.first_prices found → IsLeafBoundOrNone s n found
-    leaf-priced found none priced = by_found found (subst (λ (g : Region). IsBoundOrNone s.problem g node.first_prices found) open_leaf.1 priced)
+    pub leaf-priced : (found : Option ℤ) → bound_in (Some node) ≡ None → IsBoundOrNone s.problem s.cuts (region_in kept) node.first_prices found → IsLeafBoundOrNone s n found
+    leaf-priced found none priced = by_found found (subst (λ (g : Region). IsBoundOrNone s.problem s.cuts g node.first_prices found) open_leaf.1 priced)
       where
         no_best : (best : Option Best) → option_map (λ (b : Best). b.bound) best ≡ None → best ≡ None
         no_best None e = refl
@@ -184,19 +186,23 @@ module _ (s : State) (h : IsReachable s) (grounds : List (Option Kept)) (has : H
         at_first : kept_prices node ≡ node.first_prices
         at_first = ap (λ (o : Option Best). kept_by o node.first_prices) (no_best node.best none)
 
-        by_found : (found : Option ℤ) → IsBoundOrNone s.problem (region_of s.problem node) node.first_prices found → IsLeafBoundOrNone s n found
+        by_found : (found : Option ℤ) → IsBoundOrNone s.problem s.cuts (region_of s.problem node) node.first_prices found → IsLeafBoundOrNone s n found
         by_found None unbounded = λ bound leaf.
             let same = one_at s.nodes n leaf.node node leaf.is_node is in
-            let at_kept : IsBound s.problem (region_of s.problem node) (kept_prices node) bound = subst (λ (x : Node). IsBound s.problem (region_of s.problem x) (kept_prices x) bound) same leaf.is_bound in
-            unbounded bound (subst (λ (ps : List ℕ). IsBound s.problem (region_of s.problem node) ps bound) at_first at_kept)
+            let at_kept : IsBoundAt s.problem s.cuts (region_of s.problem node) (kept_prices node) bound = subst (λ (x : Node). IsBoundAt s.problem s.cuts (region_of s.problem x) (kept_prices x) bound) same leaf.is_bound in
+            unbounded bound (subst (λ (ps : List ℕ). IsBoundAt s.problem s.cuts (region_of s.problem node) ps bound) at_first at_kept)
         by_found (Some bound) priced_so = record {
           node = node;
           is_node = is;
           undone = open_leaf.0;
-          is_bound = subst (λ (ps : List ℕ). IsBound s.problem (region_of s.problem node) ps bound) (sym at_first) priced_so;
+          is_bound = subst (λ (ps : List ℕ). IsBoundAt s.problem s.cuts (region_of s.problem node) ps bound) (sym at_first) priced_so;
         }
 
 -- Pricing all demands
+
+-- numbers as they have to be begin with prices
+pub numbers-prices : (p : Parts) (cuts : List Cut) (numbers : List ℕ) → AreNumbers p cuts numbers → ArePrices p numbers
+numbers-prices p cuts numbers are = record { count = (let c = are.count in omega arith); within_limit = are.lawful.prices_within }
 
 -- a round of these prices in which the demands before this one have their least prices, and no other has a length
 pub record ArePricedBefore (p : Parts) (r : Forbidden) (prices : List ℕ) (round : RoundState) (number : ℕ) : Type 0 where
@@ -282,17 +288,17 @@ priced-short p r prices round number lawful within before k d there = by_length 
 pub priced-all : (p : Parts) (r : Forbidden) (prices : List ℕ) (round : RoundState) (number : ℕ) → length p.demands ≤ number → ArePricedBefore p r prices round number → left_in round.lengths ≡ 0
 priced-all p r prices round number all before = left-none round.lengths (λ k below. before.full k (let c = before.count in omega arith))
 
-pub priced-bound : (p : Parts) (g : Region) (prices : List ℕ) (round : RoundState) (number : ℕ) (found : Option ℤ) → length p.demands ≤ number → ArePricedBefore p g.forbidden prices round number
-    → ((found ≡ None) ↔ (0 < left_in round.lengths)) → IfSome found (IsRoundBound p g.ranges round.prices round.lengths) → IsBoundOrNone p g prices found
-priced-bound p g prices round number None all before none bound =
+pub priced-bound : (p : Parts) (cuts : List Cut) (g : Region) (prices : List ℕ) (round : RoundState) (number : ℕ) (found : Option ℤ) → length p.demands ≤ number → ArePricedBefore p g.forbidden prices round number
+    → ((found ≡ None) ↔ (0 < left_in round.lengths)) → IfSome found (IsRoundBound p cuts g.ranges round.prices round.lengths) → IsBoundOrNone p cuts g prices found
+priced-bound p cuts g prices round number None all before none bound =
     let left = priced-all p g.forbidden prices round number all before in
     let some = none.0 refl in
     absurd (omega arith)
-priced-bound p g prices round number (Some bound) all before none is =
-    round_bound-bound p g prices round.lengths bound (λ k price below at. before.least k price at) (subst (λ (ps : List ℕ). IsRoundBound p g.ranges ps round.lengths bound) before.prices_are is)
+priced-bound p cuts g prices round number (Some bound) all before none is =
+    round_bound-bound p cuts g prices round.lengths bound (λ k price below at. before.least k price at) (subst (λ (ps : List ℕ). IsRoundBound p cuts g.ranges ps round.lengths bound) before.prices_are is)
 
-pub unpriced-bound : (p : Parts) (g : Region) (prices : List ℕ) (k : ℕ) → k < length p.demands → HasNoPath p g.forbidden k → IsBoundOrNone p g prices None
-unpriced-bound p g prices k within none = λ bound is. let least = is.are_least k within in none least.path least.permitted
+pub unpriced-bound : (p : Parts) (cuts : List Cut) (g : Region) (prices : List ℕ) (k : ℕ) → k < length p.demands → HasNoPath p g.forbidden k → IsBoundOrNone p cuts g prices None
+unpriced-bound p cuts g prices k within none = λ bound is. let least = is.are_least k within in none least.path least.permitted
 
 pub ruleset least_limits = (least-first, least-next)
 
@@ -333,11 +339,9 @@ held-small s held h is =
 
 -- Calls at a node
 
--- a node's first prices are prices
-pub first-prices : (s : State) (n : ℕ) (node : Node) → IsReachable s → slice_get s.nodes n ≡ Some node → ArePrices s.problem node.first_prices
-first-prices s n node h is =
-    let prices = (node_at s n node (IsReachable-sound s h) is).first_prices in
-    record { count = prices.count; within_limit = prices.within_limit }
+-- a node's first prices are prices and rates, as they have to be
+pub first-prices : (s : State) (n : ℕ) (node : Node) → IsReachable s → slice_get s.nodes n ≡ Some node → AreNumbers s.problem s.cuts node.first_prices
+first-prices s n node h is = (node_at s n node (IsReachable-sound s h) is).first_prices
 
 -- what is kept is its rows and its ranges
 pub kept-is : (kept read : Kept) → read.rows ≡ kept.rows → read.ranges ≡ kept.ranges → read ≡ kept
@@ -360,7 +364,7 @@ module _ (s : State) (h : IsReachable s) (grounds : List (Option Kept)) (has : H
       node_there : slice_get s.nodes n ≡ Some node
       node_there = slice_get-get_or s.nodes n node within ∙ ap (λ (x : Node). Some x) (sym read_node)
 
-      pub read-first : ArePrices s.problem node.first_prices
+      pub read-first : AreNumbers s.problem s.cuts node.first_prices
       read-first = first-prices s n node h node_there
 
       module _ (kept : Kept) (there : ground ≡ Some kept) where
@@ -370,7 +374,7 @@ module _ (s : State) (h : IsReachable s) (grounds : List (Option Kept)) (has : H
         pub read-recorded : (bound : ℤ) → bound_in (Some node) ≡ Some bound → IsLeafBoundOrNone s n (Some bound)
         read-recorded = leaf-recorded s h grounds has n node node_there ground ground_there kept there
 
-        pub read-priced : (found : Option ℤ) → bound_in (Some node) ≡ None → IsBoundOrNone s.problem (region_in kept) node.first_prices found → IsLeafBoundOrNone s n found
+        pub read-priced : (found : Option ℤ) → bound_in (Some node) ≡ None → IsBoundOrNone s.problem s.cuts (region_in kept) node.first_prices found → IsLeafBoundOrNone s n found
         read-priced = leaf-priced s h grounds has n node node_there ground ground_there kept there
 
 pub if_ok-more : {X E : Type 0} (P Q : X → Type 0) (result : Result X E) → ((x : X) → P x → Q x) → IfOk result P → IfOk result Q

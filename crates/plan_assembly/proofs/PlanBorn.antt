@@ -7,6 +7,7 @@ use Rattle.plan_base.specs.declared.ids.BranchId.{BranchId}
 use Rattle.plan_base.specs.declared.parts.Parts.{Parts}
 use Rattle.plan_base.specs.declared.path.Design.{Design}
 use Rattle.plan_base.specs.declared.design_fault.DesignFault.{DesignFault}
+use Rattle.proof_tree.specs.declared.cuts.Cut.{Cut}
 use Rattle.proof_tree.specs.declared.tree.Evidence.{Evidence}
 use Rattle.pool_machine.specs.declared.answers.Opened.{Opened}
 use Rattle.pool_machine.specs.declared.answers.RoundFault.{RoundFault}
@@ -246,8 +247,8 @@ module _ (nodes : List Node) (i : ℕ) (node : Node) (d : Division) (one other :
 
 -- Events
 
-TakesRound-fate : (p : Parts) (old : Node) (round : Round) (new : Node) → TakesRound p old round new → division_by new.fate ≡ division_by old.fate
-TakesRound-fate p old round new h = elim h [
+TakesRound-fate : (p : Parts) (cuts : List Cut) (old : Node) (round : Round) (new : Node) → TakesRound p cuts old round new → division_by new.fate ≡ division_by old.fate
+TakesRound-fate p cuts old round new h = elim h [
   | inl c ↦ ap (λ (x : Node). division_by x.fate) c.becomes
   | inr g ↦ ap (λ (x : Node). division_by x.fate) g.becomes
 ]
@@ -265,13 +266,13 @@ closed-same s id node new found is undone closed = SameDivisions-set s.nodes id.
 
 OpenStep-same : (s t : State) (id : BranchId) (answer : Result Opened RoundFault) → OpenStep s id answer t → SameDivisions s.nodes t.nodes
 OpenStep-same s t id (Ok opened) e =
-    to_nodes s t _ e.becomes (SameDivisions-set s.nodes id.0 e.node e.after e.is_node (TakesRound-fate s.problem e.node _ e.after e.takes))
+    to_nodes s t _ e.becomes (SameDivisions-set s.nodes id.0 e.node e.after e.is_node (TakesRound-fate s.problem s.cuts e.node _ e.after e.takes))
 OpenStep-same s t id (Err fault) e = unchanged-same s t e.1
 
 OfferStep-same : (s t : State) (offer : Offer) (answer : Offered) → OfferStep s offer answer t → SameDivisions s.nodes t.nodes
 OfferStep-same s t offer offered.CutTaken e = to_nodes s t _ e.becomes (SameDivisions-set s.nodes offer.node.0 e.node _ e.fits_round.is_node refl)
 OfferStep-same s t offer (offered.Accepted left) e =
-    to_nodes s t _ e.becomes (SameDivisions-set s.nodes offer.node.0 e.node e.after e.fits_round.is_node (TakesRound-fate s.problem e.node _ e.after e.takes))
+    to_nodes s t _ e.becomes (SameDivisions-set s.nodes offer.node.0 e.node e.after e.fits_round.is_node (TakesRound-fate s.problem s.cuts e.node _ e.after e.takes))
 OfferStep-same s t offer (offered.Spent x) e = unchanged-same s t e.1
 OfferStep-same s t offer (offered.Stale x) e = unchanged-same s t e.1
 OfferStep-same s t offer (offered.NoDemand x) e = unchanged-same s t e.1
@@ -287,7 +288,7 @@ GatherStep-same s t id version (Err wanting) e = elim e [ inl same ↦ unchanged
 
 PublishStep-same : (s t : State) (id : BranchId) (seen : ℕ) (prices : List ℕ) (answer : Publish) → PublishStep s id seen prices answer t → SameDivisions s.nodes t.nodes
 PublishStep-same s t id seen prices (publish.Published slot version) e =
-    to_nodes s t _ e.becomes (SameDivisions-set s.nodes id.0 e.node e.after e.may.is_gathered.complete_round.is_node (TakesRound-fate s.problem (record e.node { crowd_tried = e.mark }) _ e.after e.takes))
+    to_nodes s t _ e.becomes (SameDivisions-set s.nodes id.0 e.node e.after e.may.is_gathered.complete_round.is_node (TakesRound-fate s.problem s.cuts (record e.node { crowd_tried = e.mark }) _ e.after e.takes))
 PublishStep-same s t id seen prices (publish.NoGain x y) e = unchanged-same s t e.unchanged
 PublishStep-same s t id seen prices (publish.Spent x) e = unchanged-same s t e.1
 PublishStep-same s t id seen prices (publish.Stale x) e = unchanged-same s t e.1
@@ -296,6 +297,7 @@ PublishStep-same s t id seen prices (publish.Incomplete x) e = unchanged-same s 
 PublishStep-same s t id seen prices (publish.Rounds x) e = unchanged-same s t e.1
 PublishStep-same s t id seen prices (publish.PriceCount x) e = unchanged-same s t e.1
 PublishStep-same s t id seen prices (publish.OverPrice x) e = unchanged-same s t e.1
+PublishStep-same s t id seen prices publish.Unlawful e = unchanged-same s t e.1
 PublishStep-same s t id seen prices (publish.Ungathered x) e = unchanged-same s t e.1
 
 SettleStep-same : (s t : State) (id : BranchId) (version : ℕ) (answer : Settle) → SettleStep s id version answer t → SameDivisions s.nodes t.nodes
@@ -370,10 +372,10 @@ one_node root undone = record {
     undivided zero d is = let bad : ◌≡◌ {A = Option Division} None (Some d) = sym (ap division_by undone) ∙ is in cc
     undivided (suc m) d is = let bad : ◌≡◌ {A = Option Division} None (Some d) = is in cc
 
-IsOpeningState-born : (p : Parts) (budget : ℕ) (s : State) → IsOpeningState p budget s → AreBorn s.nodes
-IsOpeningState-born p budget s e = subst (λ (x : State). AreBorn x.nodes) (sym e.is_state) (one_node _ refl)
+IsOpeningState-born : (p : Parts) (cuts : List Cut) (budget : ℕ) (s : State) → IsOpeningState p cuts budget s → AreBorn s.nodes
+IsOpeningState-born p cuts budget s e = subst (λ (x : State). AreBorn x.nodes) (sym e.is_state) (one_node _ refl)
 
 -- so in each state that events lead to
 pub IsReachable-born : (s : State) → IsReachable s → AreBorn s.nodes
 IsReachable-born s h =
-    Run-born h.opening s h.entries (IsOpeningState-sound s.problem s.budget h.opening h.is_opening) (IsOpeningState-born s.problem s.budget h.opening h.is_opening) h.run
+    Run-born h.opening s h.entries (IsOpeningState-sound s.problem s.cuts s.budget h.opening h.is_opening) (IsOpeningState-born s.problem s.cuts s.budget h.opening h.is_opening) h.run

@@ -1,5 +1,5 @@
 -- The bound that a plan states is the least of its limits, and at least the opening bound.
-use Rattle.std.proofs.Common.{◌≡◌, ℕ, ◌<◌, inl, inr, List, [], length, Option, Some, None, refl, sym, ap, subst, ◌∙◌, ℤ, pos, ◌≤ℤ◌}
+use Rattle.std.proofs.Common.{◌≡◌, ℕ, ◌<◌, inl, inr, List, length, Option, Some, None, refl, sym, ap, subst, ◌∙◌, ℤ, pos, ◌≤ℤ◌}
 use Rattle.std.specs.Prelude.{IsSomeAnd, IfSome, Any, MatchOption, option_map}
 use Rattle.std.proofs.lemmas.Option.{slice_get_within}
 use Rattle.plan_base.specs.declared.path.Design.{Design}
@@ -10,7 +10,9 @@ use Rattle.proof_tree.specs.declared.plan.Plan.{Plan}
 use Rattle.proof_tree.specs.declared.plan.PlanStatus.{PlanStatus}
 use Rattle.proof_tree.specs.declared.plan.PlanStatus.TheVariants.{Optimal, Infeasible, Undecided}
 use Rattle.proof_tree.specs.Regions.{Region}
-use Rattle.proof_tree.specs.Bounds.{IsBound, IsOpeningBound}
+use Rattle.proof_tree.specs.declared.cuts.Cut.{Cut}
+use Rattle.proof_tree.specs.Bounds.{IsOpeningBound}
+use Rattle.proof_tree.specs.RatedEvidence.{IsBoundAt}
 use Rattle.proof_tree.specs.Trees.{LeafAt, leaves_of}
 use Rattle.proof_tree.specs.Plans.{stated_cost, IsStatedDesign, IsOpenBound, IsCandidate, IsLeastCandidate}
 use Rattle.pool_machine.specs.declared.tree.Incumbent.{Incumbent}
@@ -18,7 +20,6 @@ use Rattle.pool_machine.specs.State.{State, region_of, cutoff_of, kept_prices}
 use Rattle.pool_machine.specs.Machine.{IsReachable}
 use Rattle.pool_machine.specs.PlanOf.{tree_of, stated_design, HasBoundOf, IsPlanOf, HasOpeningBound}
 use Rattle.plan_assembly.specs.PlanParts.{IsLeafBound, IsLimitBelow, IsLeastOrNone, IsStatedBound}
-use Rattle.proof_tree.proofs.CutlessPlans.{open-without}
 use Rattle.pool_machine.proofs.Runs.{IsReachable-sound}
 use Rattle.plan_assembly.proofs.PlanLeaves.{IsLeafOf, leaf-node, node-leaf}
 use Rattle.plan_assembly.proofs.PlanOpening.{kept-above, cost-above}
@@ -29,7 +30,7 @@ cost-stated None = refl
 cost-stated (Some held) = refl
 
 -- what a plan of the state may state as bound is a limit of the state
-module _ (s : State) (h : IsReachable s) (plan : Plan) (cuts : plan.cuts ≡ []) (tree : plan.tree ≡ tree_of s) (design : plan.design ≡ stated_design s.incumbent) where
+module _ (s : State) (h : IsReachable s) (plan : Plan) (cuts : plan.cuts ≡ s.cuts) (tree : plan.tree ≡ tree_of s) (design : plan.design ≡ stated_design s.incumbent) where
   cost-is : stated_cost plan ≡ cutoff_of s
   cost-is = ap (option_map (λ (d : ℕ × Design). d.0)) design ∙ cost-stated s.incumbent
 
@@ -43,8 +44,8 @@ module _ (s : State) (h : IsReachable s) (plan : Plan) (cuts : plan.cuts ≡ [])
           node = of.node;
           is_node = of.is_node;
           undone = opens.0;
-          is_bound = subst (λ (ps : List ℕ). IsBound s.problem (region_of s.problem of.node) ps bound) opens.1
-              (subst (λ (g : Region). IsBound s.problem g prices bound) of.region_is ((open-without s.problem plan.cuts leaf.region prices bound cuts).1 is));
+          is_bound = subst (λ (ps : List ℕ). IsBoundAt s.problem s.cuts (region_of s.problem of.node) ps bound) opens.1
+              (subst (λ (g : Region). IsBoundAt s.problem s.cuts g prices bound) of.region_is (subst (λ (cs : List Cut). IsBoundAt s.problem cs leaf.region prices bound) cuts is));
         },
       )
   open-bound bound leaf of (evidence.Bound prices) same is = absurd is
@@ -71,7 +72,7 @@ module _ (s : State) (h : IsReachable s) (plan : Plan) (cuts : plan.cuts ≡ [])
         let b = leaf.2 in
         inr (subst (λ (nodes : List TreeNode). Any (λ (l : LeafAt). IsOpenBound s.problem plan.cuts l.region l.evidence bound) (leaves_of s.problem nodes)) (sym tree)
         (node-leaf s h (λ (l : LeafAt). IsOpenBound s.problem plan.cuts l.region l.evidence bound) leaf.0 b.node b.is_node b.undone
-        ((open-without s.problem plan.cuts (region_of s.problem b.node) (kept_prices b.node) bound cuts).0 b.is_bound)))
+        (subst (λ (cs : List Cut). IsBoundAt s.problem cs (region_of s.problem b.node) (kept_prices b.node) bound) (sym cuts) b.is_bound)))
   ]
 
   least-stated : (found : Option ℤ) → IsLeastOrNone s (length s.nodes) found
@@ -88,7 +89,7 @@ module _ (s : State) (h : IsReachable s) (plan : Plan) (cuts : plan.cuts ≡ [])
   HasBoundOf-stated : IsStatedBound s plan.status plan.bound → HasBoundOf s.problem plan plan.status
   HasBoundOf-stated stated = by_status plan.status stated
 
-pub stated_bound-of : (s : State) (plan : Plan) → IsReachable s → plan.cuts ≡ [] → plan.tree ≡ tree_of s → plan.design ≡ stated_design s.incumbent → IsStatedBound s plan.status plan.bound
+pub stated_bound-of : (s : State) (plan : Plan) → IsReachable s → plan.cuts ≡ s.cuts → plan.tree ≡ tree_of s → plan.design ≡ stated_design s.incumbent → IsStatedBound s plan.status plan.bound
     → HasBoundOf s.problem plan plan.status
 stated_bound-of s plan h cuts tree design stated = HasBoundOf-stated s h plan cuts tree design stated
 
@@ -103,7 +104,7 @@ limit-above s h opening bound is_opening limit = elim limit [
     at_cost None stated is = absurd is
     at_cost (Some held) stated is = subst (λ (b : ℤ). opening ≤ℤ b) is (cost-above s h opening is_opening held.cost held.design stated)
 
-stated-above : (s : State) → IsReachable s → (plan : Plan) → plan.cuts ≡ [] → plan.tree ≡ tree_of s → plan.design ≡ stated_design s.incumbent → (opening bound : ℤ) → IsOpeningBound s.problem opening
+stated-above : (s : State) → IsReachable s → (plan : Plan) → plan.cuts ≡ s.cuts → plan.tree ≡ tree_of s → plan.design ≡ stated_design s.incumbent → (opening bound : ℤ) → IsOpeningBound s.problem opening
     → (status : PlanStatus) → HasBoundOf s.problem plan status → plan.bound ≡ Some bound → opening ≤ℤ bound
 stated-above s h plan cuts tree design opening bound is_opening Optimal has is = absurd (let bad : ◌≡◌ {A = Option ℤ} None (Some bound) = sym has ∙ is in cc)
 stated-above s h plan cuts tree design opening bound is_opening Infeasible has is = absurd (let bad : ◌≡◌ {A = Option ℤ} None (Some bound) = sym has ∙ is in cc)

@@ -1,5 +1,5 @@
 -- The plan of a state can be spelled: its sizes, its sides and its evidence fit.
-use Rattle.std.proofs.Common.{◌≡◌, ℕ, zero, suc, ◌/◌, ◌%◌, ◌<◌, ◌≤◌, ◌⊎◌, inl, inr, Bool, true, false, List, [], ◌∷◌, ◌++◌, length, get_or, Option, Some, None, slice_get, All, refl, sym, ap, ap₂, subst, ◌∙◌, arith, sum_by}
+use Rattle.std.proofs.Common.{◌≡◌, ℕ, zero, suc, ◌+◌, ◌/◌, ◌%◌, ◌<◌, ◌≤◌, ◌⊎◌, inl, inr, Bool, true, false, List, [], ◌∷◌, ◌++◌, length, get_or, Option, Some, None, slice_get, All, refl, sym, ap, ap₂, subst, ◌∙◌, arith, sum_by}
 use Rattle.std.specs.Prelude.{IfSome, nat_lt}
 use Rattle.std.proofs.lemmas.Bool.{ltb-true, eq-eqb, ne_eqb}
 use Rattle.std.proofs.lemmas.List.{get_or_default}
@@ -26,9 +26,10 @@ use Rattle.proof_tree.specs.declared.tree.TreeNode.TheVariants.{Split, Loads, Le
 use Rattle.proof_tree.specs.declared.plan.Plan.{Plan}
 use Rattle.proof_tree.specs.declared.plan.PlanStatus.{PlanStatus}
 use Rattle.proof_tree.specs.Shapes.{are_trees}
+use Rattle.proof_tree.specs.Cuts.{no_cut, IsCutList}
 use Rattle.proof_tree.specs.Splits.{IsSide}
 use Rattle.proof_tree.specs.Regions.{Region, whole, with_arcs, up_to, above}
-use Rattle.proof_tree.specs.Trees.{AreValidTrees}
+use Rattle.proof_tree.specs.RatedTrees.{AreRatedTrees}
 use Rattle.proof_tree.specs.Plans.{IsStatedDesign}
 use Rattle.proof_tree.specs.Spellings.{IsAscending, IsWrittenSide, places_in, numbers_in, FitsRecord, FitsCuts, FitsDesign, FitsStatus, IsSpellable}
 use Rattle.branch_tree.specs.Records.{split_record}
@@ -49,13 +50,13 @@ use Rattle.pool_machine.proofs.PlanTrees.{tree_of-valid}
 use Rattle.plan_assembly.proofs.PlanRecords.{records_sum}
 
 -- valid trees are whole
-pub valid-whole : (p : Parts) (cost : Option ℕ) (gs : List Region) (nodes : List TreeNode) → AreValidTrees p cost gs nodes → are_trees (length gs) nodes ≡ true
-valid-whole p cost [] [] h = refl
-valid-whole p cost [] (node ∷ nodes) h = absurd h
-valid-whole p cost (g ∷ gs) [] h = absurd h
-valid-whole p cost (g ∷ gs) (Leaf found ∷ nodes) h = valid-whole p cost gs nodes h.1
-valid-whole p cost (g ∷ gs) (Split k at left right ∷ nodes) h = valid-whole p cost (with_arcs g k left ∷ with_arcs g k right ∷ gs) nodes h.1
-valid-whole p cost (g ∷ gs) (Loads place load ∷ nodes) h = valid-whole p cost (up_to g place load ∷ above g place load ∷ gs) nodes h.1
+pub valid-whole : (p : Parts) (cuts : List LoadCut) (cost : Option ℕ) (gs : List Region) (nodes : List TreeNode) → AreRatedTrees p cuts cost gs nodes → are_trees (length gs) nodes ≡ true
+valid-whole p cuts cost [] [] h = refl
+valid-whole p cuts cost [] (node ∷ nodes) h = absurd h
+valid-whole p cuts cost (g ∷ gs) [] h = absurd h
+valid-whole p cuts cost (g ∷ gs) (Leaf found ∷ nodes) h = valid-whole p cuts cost gs nodes h.1
+valid-whole p cuts cost (g ∷ gs) (Split k at left right ∷ nodes) h = valid-whole p cuts cost (with_arcs g k left ∷ with_arcs g k right ∷ gs) nodes h.1
+valid-whole p cuts cost (g ∷ gs) (Loads place load ∷ nodes) h = valid-whole p cuts cost (up_to g place load ∷ above g place load ∷ gs) nodes h.1
 
 -- Sides
 
@@ -99,35 +100,35 @@ module _ (p : Parts) (r : Forbidden) (id : DemandId) (node : NodeId) (arcs : Lis
 -- Records
 
 -- the record of a sound split fits
-split-fits : (p : Parts) (g : Region) (by : Divider) → IsInstance p → IsSoundDivider p g by → FitsRecord p.nodes (places p) (split_record by)
-split-fits p g (divider.Arcs d) lawful sound = (
+split-fits : (p : Parts) (numbers : ℕ) (g : Region) (by : Divider) → IsInstance p → IsSoundDivider p g by → FitsRecord p.nodes numbers (split_record by)
+split-fits p numbers g (divider.Arcs d) lawful sound = (
   written_side p g.forbidden d.demand d.at d.left lawful sound.0.left_side sound.2,
   written_side p g.forbidden d.demand d.at d.right lawful sound.0.right_side sound.3,
 )
-split-fits p g (divider.Load d) lawful sound = tt
+split-fits p numbers g (divider.Load d) lawful sound = tt
 
 module _ (s : State) (h : IsSound s) where
   abbrev Fits : TreeNode → Type 0
-  Fits = FitsRecord s.problem.nodes (places s.problem)
+  Fits = FitsRecord s.problem.nodes (places s.problem + length s.cuts)
 
   records_at-fit : (depth n : ℕ) → All Fits (records_at depth s.nodes n)
   records_at-fit zero n = All-nil Fits
   records_at-fit (suc depth) n = there (λ m. records_at-fit depth m) (slice_get s.nodes n) refl
     where
-      by_fate : ((m : ℕ) → All Fits (records_at depth s.nodes m)) → (node : Node) → IsSoundNode s.problem node → (fate : Fate) → IsSoundFate s.problem (cutoff_of s) (region_of s.problem node) fate → All Fits (records_by (records_at depth s.nodes) node fate)
+      by_fate : ((m : ℕ) → All Fits (records_at depth s.nodes m)) → (node : Node) → IsSoundNode s.problem s.cuts node → (fate : Fate) → IsSoundFate s.problem s.cuts (cutoff_of s) (region_of s.problem node) fate → All Fits (records_by (records_at depth s.nodes) node fate)
       by_fate below node k Undone sound =
-          All-cons Fits (Leaf (evidence.Open (kept_prices node))) [] (kept_by-sound s.problem node node.best k.first_prices k.best).count (All-nil Fits)
+          All-cons Fits (Leaf (evidence.Open (kept_prices node))) [] (kept_by-sound s.problem s.cuts node node.best k.first_prices k.best).count (All-nil Fits)
       by_fate below node k (ClosedBy found) sound = All-cons Fits (Leaf found) [] sound.2 (All-nil Fits)
       by_fate below node k (DividedBy d) sound =
           All-cons Fits (split_record d.by) (records_at depth s.nodes d.left_child.0 ++ records_at depth s.nodes d.right_child.0)
-          (split-fits s.problem (region_of s.problem node) d.by h.lawful sound)
+          (split-fits s.problem (places s.problem + length s.cuts) (region_of s.problem node) d.by h.lawful sound)
           (All-append Fits (records_at depth s.nodes d.left_child.0) (records_at depth s.nodes d.right_child.0)
           (below d.left_child.0) (below d.right_child.0))
 
       there : ((m : ℕ) → All Fits (records_at depth s.nodes m)) → (o : Option Node) → slice_get s.nodes n ≡ o → All Fits (records_in (records_at depth s.nodes) o)
       there below None is = All-nil Fits
       there below (Some node) is =
-          by_fate below node (All-at (IsSoundNode s.problem) s.nodes n node h.nodes is) node.fate (All-at (HasSoundFate s.problem (cutoff_of s)) s.nodes n node h.fates is)
+          by_fate below node (All-at (IsSoundNode s.problem s.cuts) s.nodes n node h.nodes is) node.fate (All-at (HasSoundFate s.problem s.cuts (cutoff_of s)) s.nodes n node h.fates is)
 
 ones : {X : Type 0} (xs : List X) → sum_by (λ x. 1) xs ≡ length xs
 ones [] = refl
@@ -171,14 +172,20 @@ status-fits p plan true held is bound = tt
 status-fits p plan false (Some held) is bound = (rw is refl, rw bound refl)
 status-fits p plan false None is bound = (rw is refl, rw bound refl)
 
+-- each cut of a list has an answer for each node
+cuts-fit : (p : Parts) (cuts : List LoadCut) → IsCutList p cuts → FitsCuts p.nodes cuts
+cuts-fit p cuts are = record {
+  few = are.few;
+  each = λ i d within. subst (λ (cut : LoadCut). length cut.nodes ≡ p.nodes) (sym (get_or_default cuts i d no_cut within)) (are.are_cuts i within).count;
+}
+
 pub plan_spellable : (s : State) (plan : Plan) → IsReachable s → 0 < s.budget → s.budget ≤ MAX_BUDGET → IsPlanOf s plan → IsSpellable plan
 plan_spellable s plan reachable some most is =
     let h = IsReachable-sound s reachable in
     let p = s.problem in
     let of_places : places p ≡ places_in plan.both plan.links = sym (ap₂ places_in is.both is.links) in
-    let no_rates : length plan.cuts ≡ 0 = ap length is.cuts in
-    let count : places p ≡ numbers_in plan = omega (arith, of_places, no_rates) in
-    let one_tree : are_trees 1 (tree_of s) ≡ true = valid-whole p (cutoff_of s) (whole p ∷ []) (tree_of s) (tree_of-valid s h) in
+    let count : places p + length s.cuts ≡ numbers_in plan = ap₂ (λ (n m : ℕ). n + m) of_places (sym (ap length is.cuts)) in
+    let one_tree : are_trees 1 (tree_of s) ≡ true = valid-whole p s.cuts (cutoff_of s) (whole p ∷ []) (tree_of s) (tree_of-valid s h) in
     let status : HasBoundOf p plan (status_of s) = subst (HasBoundOf p plan) is.status is.bound in
     record {
       sizes = record {
@@ -194,7 +201,7 @@ plan_spellable s plan reachable some most is =
           (subst (λ (n : ℕ). IfSome (stated_design s.incumbent) (λ design. FitsDesign n plan.links design.1)) (sym is.demands)
           (subst (λ (n : ℕ). IfSome (stated_design s.incumbent) (λ design. FitsDesign (length p.demands) n design.1)) (sym is.links) (stated-fits p h.lawful s.incumbent h.incumbent)));
       whole = ap (are_trees 1) is.tree ∙ one_tree;
-      cuts = subst (FitsCuts plan.nodes) (sym is.cuts) (record { few = omega arith; each = All-nil (λ (cut : LoadCut). length cut.nodes ≡ plan.nodes) });
+      cuts = subst (FitsCuts plan.nodes) (sym is.cuts) (subst (λ (n : ℕ). FitsCuts n s.cuts) (sym is.nodes) (cuts-fit p s.cuts h.cuts));
       records = record {
         few = (let size = tree-length s reachable in let most_nodes = IsSound-nodes s h in let e : length plan.tree ≡ length (tree_of s) = ap length is.tree in omega arith);
         each = subst (All (FitsRecord plan.nodes (numbers_in plan))) (sym is.tree)

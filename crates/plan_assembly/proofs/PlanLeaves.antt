@@ -130,7 +130,7 @@ module _ (s : State) (h : IsSound s) where
       (record { number = n; node = node; is_node = is; region_is = refl; opens = λ prices open'. (same, cc) }) (All-nil IsLeafOf)
   leaf-of n node is (ClosedBy found) same =
       let closed : is_open (Leaf found) ≡ false =
-      (subst (IsSoundFate p (cutoff_of s) (region_of p node)) same (All-at (HasSoundFate p (cutoff_of s)) s.nodes n node h.fates is)).0 in
+      (subst (IsSoundFate p s.cuts (cutoff_of s) (region_of p node)) same (All-at (HasSoundFate p s.cuts (cutoff_of s)) s.nodes n node h.fates is)).0 in
       All-cons IsLeafOf (record { region = region_of p node; evidence = found }) []
       (record {
         number = n;

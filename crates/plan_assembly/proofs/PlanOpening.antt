@@ -15,7 +15,10 @@ use Rattle.proof_tree.specs.Regions.{Region, whole}
 use Rattle.proof_tree.specs.Bounds.{IsBound, IsOpeningBound}
 use Rattle.proof_tree.specs.Plans.{IsStatedDesign}
 use Rattle.proof_tree.proofs.Uniqueness.{bound-unique}
-use Rattle.proof_tree.proofs.Presence.{bound-not_absent}
+use Rattle.proof_tree.specs.RatedEvidence.{rates_in, IsBoundAt}
+use Rattle.proof_tree.proofs.RatedUniqueness.{rated_bound-unique}
+use Rattle.proof_tree.proofs.RatedPresence.{rated_bound-not_absent}
+use Rattle.cut_table.proofs.StartBounds.{starts-opening}
 use Rattle.proof_tree.proofs.Duality.{bound-le-cost}
 use Rattle.proof_tree.proofs.RangeLaws.{lies-whole}
 use Rattle.branch_tree.specs.declared.node.Division.{Division}
@@ -31,7 +34,7 @@ use Rattle.pool_machine.proofs.Replacing.{node_at}
 use Rattle.pool_machine.proofs.Runs.{IsReachable-sound}
 use Rattle.pool_machine.proofs.Lists.{All-at}
 use Rattle.pool_machine.proofs.Narrowing.{IsInside}
-use Rattle.pool_machine.proofs.Rising.{child-inside, IsBound-rises}
+use Rattle.pool_machine.proofs.Rising.{child-inside, IsBoundAt-rises}
 use Rattle.plan_assembly.proofs.PlanBorn.{division_by, division_in, IsReachable-born}
 
 -- Start prices
@@ -60,6 +63,11 @@ starts-unique p one other x y =
     (λ q within.
     let below : q < places p = (let c = x.count in omega arith) in
     start-unique p (link_at p (link_of_place p q)) (slice_index one q) (slice_index other q) (x.each q below) (y.each q below))
+
+opening-unique : (p : Parts) (one other : ℤ) → IsOpeningBound p one → IsOpeningBound p other → one ≡ other
+opening-unique p one other x y =
+    bound-unique p (whole p) x.prices one other x.is_bound
+    (subst (λ (ps : List ℕ). IsBound p (whole p) ps other) (starts-unique p y.prices x.prices y.are_start x.are_start) y.is_bound)
 
 -- Parents
 
@@ -126,52 +134,52 @@ module _ (s : State) (h : IsReachable s) (opening : ℤ) (is_opening : IsOpening
 
   -- the bound at a node's first prices is at least the opening bound
   abbrev IsAbove : ℕ → Type 0
-  IsAbove n = (node : Node) (bound : ℤ) → slice_get s.nodes n ≡ Some node → IsBound p (region_of p node) node.first_prices bound → opening ≤ℤ bound
+  IsAbove n = (node : Node) (bound : ℤ) → slice_get s.nodes n ≡ Some node → IsBoundAt p s.cuts (region_of p node) node.first_prices bound → opening ≤ℤ bound
 
   root-above : IsAbove 0
   root-above node bound is at_first =
       let root : node ≡ sound.family.root = one_at s.nodes 0 node sound.family.root is sound.family.is_root in
       let all : region_of p node ≡ whole p = ap (region_of p) root ∙ ap (region_by p) sound.family.root_limits in
-      let prices : node.first_prices ≡ is_opening.prices = ap (λ (x : Node). x.first_prices) root ∙ starts-unique p sound.family.root.first_prices is_opening.prices sound.family.root_prices is_opening.are_start in
-      let there : IsBound p (whole p) is_opening.prices bound =
-      subst (λ (g : Region). IsBound p g is_opening.prices bound) all (subst (λ (ps : List ℕ). IsBound p (region_of p node) ps bound) prices at_first) in
-      let same = bound-unique p (whole p) is_opening.prices opening bound is_opening.is_bound there in
+      let numbers = sound.family.root.first_prices in
+      let at_root : IsBoundAt p s.cuts (whole p) numbers bound =
+      subst (λ (g : Region). IsBoundAt p s.cuts g numbers bound) all (subst (λ (x : Node). IsBoundAt p s.cuts (region_of p node) x.first_prices bound) root at_first) in
+      let same = opening-unique p opening bound is_opening (starts-opening p s.cuts numbers bound sound.family.root_prices at_root) in
       omega (arith, ints)
 
   -- what is recorded of a node is at least the opening bound
   best-above : (n : ℕ) (node : Node) (best : Best) → IsAbove n → slice_get s.nodes n ≡ Some node → node.best ≡ Some best → opening ≤ℤ best.bound
   best-above n node best above is recorded =
-      let b : IsSoundBest p (region_of p node) node.first_prices node.completed best = rw recorded at ((node_at s n node sound is).best) in
+      let b : IsSoundBest p s.cuts (region_of p node) node.first_prices node.completed best = rw recorded at ((node_at s n node sound is).best) in
       above-through opening b.first best.bound (above node b.first is b.is_first) b.above_first
 
   below-child : (m : ℕ) (parent child : Node) (d : Division) (bound : ℤ) → IsAbove m → slice_get s.nodes m ≡ Some parent → parent.fate ≡ DividedBy d → IsChildBy parent d child
-      → IsBound p (region_of p child) child.first_prices bound → opening ≤ℤ bound
+      → IsBoundAt p s.cuts (region_of p child) child.first_prices bound → opening ≤ℤ bound
   below-child m parent child d bound above is divided c at_first = by_best parent.best refl
     where
       inside : IsInside p (region_of p child) (region_of p parent)
-      inside = child-inside p (cutoff_of s) parent child d (All-at (HasSoundFate p (cutoff_of s)) s.nodes m parent sound.fates is) divided c
+      inside = child-inside p s.cuts (cutoff_of s) parent child d (All-at (HasSoundFate p s.cuts (cutoff_of s)) s.nodes m parent sound.fates is) divided c
 
       prices : child.first_prices ≡ kept_prices parent
       prices = elim c [ inl left ↦ left.first_prices | inr right ↦ right.first_prices ]
 
-      at_kept : (best : Option Best) → parent.best ≡ best → IsBound p (region_of p child) (kept_by best parent.first_prices) bound
+      at_kept : (best : Option Best) → parent.best ≡ best → IsBoundAt p s.cuts (region_of p child) (kept_by best parent.first_prices) bound
       at_kept best is_best =
-          subst (λ (ps : List ℕ). IsBound p (region_of p child) ps bound) (prices ∙ ap (λ (o : Option Best). kept_by o parent.first_prices) is_best) at_first
+          subst (λ (ps : List ℕ). IsBoundAt p s.cuts (region_of p child) ps bound) (prices ∙ ap (λ (o : Option Best). kept_by o parent.first_prices) is_best) at_first
 
       by_best : (best : Option Best) → parent.best ≡ best → opening ≤ℤ bound
       by_best (Some best) is_best =
-          let b : IsSoundBest p (region_of p parent) parent.first_prices parent.completed best = rw is_best at ((node_at s m parent sound is).best) in
-          let rises = IsBound-rises p (region_of p child) (region_of p parent) best.prices best.bound bound inside b.is_bound (at_kept (Some best) is_best) in
+          let b : IsSoundBest p s.cuts (region_of p parent) parent.first_prices parent.completed best = rw is_best at ((node_at s m parent sound is).best) in
+          let rises = IsBoundAt-rises p s.cuts (region_of p child) (region_of p parent) best.prices best.bound bound inside b.is_bound (at_kept (Some best) is_best) in
           above-through opening best.bound bound (best-above m parent best above is is_best) rises
       by_best None none =
           let below = at_kept None none in
           elim (below_or_not opening bound) [
             | inl there ↦ there
-            | inr not_there ↦ absurd (bound-not_absent p (region_of p parent) parent.first_prices (node_at s m parent sound is).ranges
+            | inr not_there ↦ absurd (rated_bound-not_absent p s.cuts (region_of p parent) parent.first_prices (rates_in p parent.first_prices) sound.cuts.are_cuts (node_at s m parent sound is).ranges
                 (λ k within. let least = below.are_least k within in (least.path, inside.paths k least.path least.permitted))
                 (λ over is_over.
                 not_there (above-through opening over bound (above parent over is is_over)
-                (IsBound-rises p (region_of p child) (region_of p parent) parent.first_prices over bound inside is_over below))))
+                (IsBoundAt-rises p s.cuts (region_of p child) (region_of p parent) parent.first_prices over bound inside is_over below))))
           ]
 
   all-above : (fuel n : ℕ) → n < fuel → IsAbove n
@@ -182,7 +190,7 @@ module _ (s : State) (h : IsReachable s) (opening : ℤ) (is_opening : IsOpening
       below-child up.number up.parent node up.division bound (all-above fuel up.number (let less = up.before in omega arith)) up.is_parent up.divided up.is_child at_first
 
   -- the bound of a node at the prices that it keeps is at least the opening bound
-  pub kept-above : (n : ℕ) (node : Node) (bound : ℤ) → slice_get s.nodes n ≡ Some node → IsBound p (region_of p node) (kept_prices node) bound → opening ≤ℤ bound
+  pub kept-above : (n : ℕ) (node : Node) (bound : ℤ) → slice_get s.nodes n ≡ Some node → IsBoundAt p s.cuts (region_of p node) (kept_prices node) bound → opening ≤ℤ bound
   kept-above n node bound is at_kept = by_best node.best refl
     where
       above : IsAbove n
@@ -190,11 +198,11 @@ module _ (s : State) (h : IsReachable s) (opening : ℤ) (is_opening : IsOpening
 
       by_best : (best : Option Best) → node.best ≡ best → opening ≤ℤ bound
       by_best (Some best) recorded =
-          let b : IsSoundBest p (region_of p node) node.first_prices node.completed best = rw recorded at ((node_at s n node sound is).best) in
-          let at_best : IsBound p (region_of p node) best.prices bound = subst (λ (o : Option Best). IsBound p (region_of p node) (kept_by o node.first_prices) bound) recorded at_kept in
-          let same : best.bound ≡ bound = bound-unique p (region_of p node) best.prices best.bound bound b.is_bound at_best in
+          let b : IsSoundBest p s.cuts (region_of p node) node.first_prices node.completed best = rw recorded at ((node_at s n node sound is).best) in
+          let at_best : IsBoundAt p s.cuts (region_of p node) best.prices bound = subst (λ (o : Option Best). IsBoundAt p s.cuts (region_of p node) (kept_by o node.first_prices) bound) recorded at_kept in
+          let same : best.bound ≡ bound = rated_bound-unique p s.cuts (region_of p node) best.prices (rates_in p best.prices) best.bound bound b.is_bound at_best in
           subst (λ (x : ℤ). opening ≤ℤ x) same (best-above n node best above is recorded)
-      by_best None none = above node bound is (subst (λ (o : Option Best). IsBound p (region_of p node) (kept_by o node.first_prices) bound) none at_kept)
+      by_best None none = above node bound is (subst (λ (o : Option Best). IsBoundAt p s.cuts (region_of p node) (kept_by o node.first_prices) bound) none at_kept)
 
   -- the cost of a good design is at least the opening bound
   pub cost-above : (cost : ℕ) (d : Design) → IsStatedDesign p cost d → opening ≤ℤ pos cost

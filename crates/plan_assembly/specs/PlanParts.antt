@@ -4,7 +4,9 @@ use Rattle.plan_base.specs.declared.ids.BranchId.{BranchId}
 use Rattle.plan_base.specs.declared.parts.Parts.{Parts}
 use Rattle.arc_restrict.specs.Restrictions.{Forbidden, HasNoPath}
 use Rattle.arc_restrict.specs.Prices.{IsLeastPrice}
-use Rattle.proof_tree.specs.Bounds.{IsBound}
+use Rattle.cut_table.specs.Numbers.{CutProblem}
+use Rattle.proof_tree.specs.declared.cuts.Cut.{Cut}
+use Rattle.proof_tree.specs.RatedEvidence.{IsBoundAt}
 use Rattle.proof_tree.specs.declared.tree.Evidence.TheVariants as evidence
 use Rattle.proof_tree.specs.declared.tree.TreeNode.{TreeNode}
 use Rattle.proof_tree.specs.declared.tree.TreeNode.TheVariants.{Leaf}
@@ -21,13 +23,14 @@ use Rattle.proof_tree.specs.Regions.{Region}
 use Rattle.pool_nodes.specs.Records.{record_of}
 use Rattle.pool_nodes.specs.Grounds.{Kept, HasGrounds}
 
--- what a plan is put together from is a state that events lead to, with the step table of its instance and the
+-- what a plan is put together from is a state that events lead to, with the table of its instance and its cuts and the
 -- regions of its open leaves
-pub record IsAssembled (s : State) (table : Parts) (grounds : List (Option Kept)) : Type 0 where
+pub record IsAssembled (s : State) (table : CutProblem) (grounds : List (Option Kept)) : Type 0 where
   pub reachable : IsReachable s
   pub some_budget : 0 < s.budget
   pub budget : s.budget ≤ MAX_BUDGET
-  pub table_is : table ≡ s.problem
+  pub table_is : table.problem ≡ s.problem
+  pub cuts_are : table.cuts ≡ s.cuts
   pub has_grounds : HasGrounds s.problem s.nodes grounds
 
 -- Records
@@ -89,16 +92,16 @@ IsPriceOrNone p r prices k found = MatchOption found (HasNoPath p r k) (λ price
 abbrev pub region_in : Kept → Region
 region_in kept = record { forbidden = forbids kept.rows; ranges = kept.ranges }
 
--- the bound at these prices, or none where they give none
-abbrev pub IsBoundOrNone : Parts → Region → List ℕ → Option ℤ → Type 0
-IsBoundOrNone p g prices found = MatchOption found ((bound : ℤ) → IsBound p g prices bound → ⊥) (λ bound. IsBound p g prices bound)
+-- the bound at these prices and rates, or none where they give none
+abbrev pub IsBoundOrNone : Parts → List Cut → Region → List ℕ → Option ℤ → Type 0
+IsBoundOrNone p cuts g numbers found = MatchOption found ((bound : ℤ) → IsBoundAt p cuts g numbers bound → ⊥) (λ bound. IsBoundAt p cuts g numbers bound)
 
 -- the node of this number is an open leaf, and this is its bound at its kept prices
 pub record IsLeafBound (s : State) (n : ℕ) (bound : ℤ) : Type 0 where
   pub node : Node
   pub is_node : slice_get s.nodes n ≡ Some node
   pub undone : node.fate ≡ Undone
-  pub is_bound : IsBound s.problem (region_of s.problem node) (kept_prices node) bound
+  pub is_bound : IsBoundAt s.problem s.cuts (region_of s.problem node) (kept_prices node) bound
 
 -- the bound of the node of this number, or none where it is no open leaf or has none
 abbrev pub IsLeafBoundOrNone : State → ℕ → Option ℤ → Type 0

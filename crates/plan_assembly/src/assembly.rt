@@ -1,8 +1,8 @@
 //! What a plan is put together from.
 
 use column_pool::ColumnPool;
+use cut_table::CutTable;
 use leaf_work::KnownAbove;
-use link_steps::StepTable;
 use plan_base::Instance;
 use pool_machine::Incumbent;
 use pool_nodes::{Ground, PoolNode};
@@ -19,8 +19,8 @@ pub struct Assembly {
     pub alloc: Global,
     /// The instance.
     pub problem: Arc<Instance>,
-    /// Its step table.
-    pub table: Arc<StepTable>,
+    /// Its step table, and the cuts that bounds are made with.
+    pub table: Arc<CutTable>,
     /// What all costs are multiples of, in cost grains.
     pub unit: u128,
     /// The nodes, in the order of their making.
@@ -52,6 +52,7 @@ impl Model for Assembly {
 
     ghost view = { λ a. record {
       problem = arc_value a.problem;
+      cuts = (arc_value a.table).cuts;
       unit = a.unit;
       nodes = a.nodes.items;
       columns = a.columns;
@@ -64,6 +65,7 @@ impl Model for Assembly {
 
     ghost invariant = { λ a. IsAssembled (record {
       problem = arc_value a.problem;
+      cuts = (arc_value a.table).cuts;
       unit = a.unit;
       nodes = a.nodes.items;
       columns = a.columns;

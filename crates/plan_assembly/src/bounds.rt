@@ -4,14 +4,16 @@ ghost use Rattle.std.specs.Prelude.{◌≡◌, ◌<◌, ◌^◌, length, option_
 ghost use Rattle.link_steps.specs.Ranges.{AreRanges};
 ghost use Rattle.arc_restrict.specs.Rows.{forbids};
 ghost use Rattle.path_pricing.specs.Priced.{ArePrices};
+ghost use Rattle.cut_table.specs.Numbers.{AreNumbers};
 ghost use Rattle.pool_machine.specs.State.{cutoff_of};
 ghost use Rattle.plan_assembly.specs.PlanParts.{region_in, IsPriceOrNone, IsBoundOrNone, IsLeafBoundOrNone, IsLeastOrNone};
 
 use crate::assembly::Assembly;
 use arc_restrict::Restriction;
 use bound_assembly::Round;
+use cut_table::CutTable;
 use leaf_work::{Known, Trees, find};
-use link_steps::{Ranges, StepTable};
+use link_steps::Ranges;
 use path_pricing::Priced;
 use plan_base::{BranchId, DemandId, Instance, Prices};
 use pool_nodes::lesser;
@@ -50,24 +52,24 @@ fn known_of(known: Option<&Known>, demand: DemandId) -> Option<&Arc<Priced>> {
     }
 }
 
-/// The bound that prices give to a region, in cost grains; none where a demand has no permitted path.
+/// The bound that prices and rates give to a region, in cost grains; none where a demand has no permitted path.
 fn bound_at(
     alloc: Global,
     inst: &Instance,
-    table: &StepTable,
+    table: &CutTable,
     prices: &Prices,
     restriction: &Restriction,
     ranges: &Ranges,
     known: Option<&Known>,
 ) -> Result<Option<i128>, AllocError>
-    requires table { table.now ≡ inst.now }
-    requires prices { ArePrices inst.now prices.now }
+    requires table { table.now.problem ≡ inst.now }
+    requires numbers { AreNumbers inst.now table.now.cuts prices.now }
     requires ranges { AreRanges inst.now ranges.now }
-    ensures { IfOk result (IsBoundOrNone inst.now (region_in (record { rows = restriction.now; ranges = ranges.now })) prices.now) }
+    ensures { IfOk result (IsBoundOrNone inst.now table.now.cuts (region_in (record { rows = restriction.now; ranges = ranges.now })) prices.now) }
 {
     let demands = inst.demands();
     let mut trees = Trees::none(alloc);
-    let mut round = Round::new(alloc, demands, inst.places())?;
+    let mut round = Round::new(alloc, demands, inst.places() + table.count())?;
     round.restart(BranchId(0), 0, prices);
     for number in 0..demands {
         let demand = DemandId(number);

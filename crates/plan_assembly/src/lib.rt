@@ -3,8 +3,8 @@
 //! Promises that the plan of a search that is done is that of its state, is valid, and fits a plan text. Begin at
 //! `Assembly::into_plan`; the plan of a state stands in `pool_machine/specs/PlanOf.antt`, and what a plan is put together
 //! from in `specs/PlanParts.antt`. Stands on `plan_base`, `link_steps`, `arc_restrict`, `path_pricing`, `proof_tree`,
-//! `bound_assembly`, `incumbent`, `pool_machine`, `pool_nodes` and `leaf_work`. How the search came there is left to
-//! `pool_core`.
+//! `cut_table`, `bound_assembly`, `incumbent`, `pool_machine`, `pool_nodes` and `leaf_work`. How the search came there is
+//! left to `pool_core`.
 #![tactic(auto)]
 
 mod assembly;

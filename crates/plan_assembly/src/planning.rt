@@ -10,8 +10,8 @@ use crate::assembly::Assembly;
 use crate::records;
 use plan_base::{Design, Items};
 use pool_machine::Incumbent;
-use proof_tree::{Plan, PlanStatus};
-use std::alloc::AllocError;
+use proof_tree::{Cut, Plan, PlanStatus};
+use std::alloc::{AllocError, Global};
 
 /// The best design and its cost.
 fn design_of(incumbent: Option<Incumbent>) -> Option<(u128, Design)>
@@ -21,6 +21,17 @@ fn design_of(incumbent: Option<Incumbent>) -> Option<(u128, Design)>
         Some(held) => Some((held.cost, held.design)),
         None => None,
     }
+}
+
+/// Copies of cuts.
+fn copies_of(alloc: Global, cuts: &[Cut]) -> Result<Items<Cut>, AllocError>
+    ensures { IfOk result (λ copies. copies ≡ cuts.now) }
+{
+    let mut copies = Vec::new(alloc);
+    for cut in cuts {
+        copies.push(cut.copy()?)?;
+    }
+    Ok(Items::from_vec(copies))
 }
 
 impl Assembly {
@@ -51,8 +62,9 @@ impl Assembly {
     /// The plan: the tree, the best design, and what they claim.
     ///
     /// - Takes: a search that is done.
-    /// - Gives: a valid plan without cuts, which a plan text can hold, and each split of which parts two paths of a demand or two steps of
-    ///   a link. The bound of an undecided plan is at least the bound of the root at the start prices.
+    /// - Gives: a valid plan with the cuts of the search, which a plan text can hold, and each split of which parts two paths
+    ///   of a demand or two steps of a link. The bound of an undecided plan is at least the bound of the root at the start
+    ///   prices.
     /// - Errors: want of memory alone.
     /// - Rule: docs/METHOD.md, "The search as a machine".
     pub fn into_plan(self) -> Result<Plan, AllocError>
@@ -68,7 +80,7 @@ impl Assembly {
         let Assembly {
             alloc,
             problem,
-            table: _table,
+            table,
             unit: _unit,
             nodes,
             columns: _columns,
@@ -80,6 +92,7 @@ impl Assembly {
             accepted: _accepted,
             known: _known,
         } = self;
+        let cuts = copies_of(alloc, table.cuts())?;
         let tree = records::tree_of(alloc, nodes)?;
         Ok(Plan {
             nodes: problem.nodes(),
@@ -91,7 +104,7 @@ impl Assembly {
             examined,
             design: design_of(incumbent),
             bound,
-            cuts: Items::new(alloc),
+            cuts,
             tree,
         })
     }

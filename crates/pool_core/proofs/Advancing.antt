@@ -1,5 +1,5 @@
 -- What a master task of one thread does: the columns are gathered, and prices are published or the node is settled.
-use Rattle.std.proofs.Common.{◌≡◌, ℕ, ◌<◌, ◌≤◌, ◌⊎◌, inl, inr, Bool, true, false, List, length, slice_index, Some, None, slice_get, refl, sym, ap, subst, ◌∙◌, arith}
+use Rattle.std.proofs.Common.{◌≡◌, ℕ, ◌+◌, ◌<◌, ◌≤◌, ◌⊎◌, inl, inr, Bool, true, false, List, length, slice_index, Some, None, slice_get, refl, sym, ap, subst, ◌∙◌, arith}
 use Rattle.std.specs.Prelude.{Result, Ok, Err, if◌then◌else◌}
 use Rattle.std.specs.declared.alloc.AllocError.{AllocError}
 use Rattle.std.proofs.lemmas.List.Elements.{All-from_get_or}
@@ -9,6 +9,9 @@ use Rattle.plan_base.specs.Facts.{price_limit, is_useful}
 use Rattle.plan_base.specs.Arcs.{link_at}
 use Rattle.plan_base.specs.Places.{places, link_of_place}
 use Rattle.arc_restrict.specs.Prices.{AreWithinLimit}
+use Rattle.proof_tree.specs.declared.cuts.Cut.{Cut}
+use Rattle.cut_table.specs.Numbers.{AreNumbers}
+use Rattle.cut_table.proofs.NoRates.{lawful-within}
 use Rattle.column_pool.specs.declared.brief.Brief.{Brief}
 use Rattle.column_pool.specs.Columns.{columns_at}
 use Rattle.column_pool.specs.Briefs.{IsBriefFor}
@@ -78,7 +81,7 @@ module _ (s t : State) (id : BranchId) (version : ℕ) (reachable : IsReachable 
 -- What the brief is for
 
 module _ (t : State) (id : BranchId) (version : ℕ) (brief : Brief) (sound : IsSound t) (b : IsBriefed t id version brief) where
-  pub briefed-fits : IsBriefFor t.problem brief.prices brief.ranges brief.columns
+  pub briefed-fits : IsBriefFor t.problem t.cuts brief.prices brief.ranges brief.columns
   briefed-fits = brief-fits t id version b.node b.round brief sound b.is_gathered.complete_round b.is_brief
 
   pub briefed-columns : HasColumns t.problem (columns_at brief.columns)
@@ -90,13 +93,13 @@ module _ (t : State) (id : BranchId) (version : ℕ) (brief : Brief) (sound : Is
   briefed-enough : brief.has_enough ≡ true → has_enough t b.node ≡ true
   briefed-enough h = sym b.is_brief.has_enough ∙ h
 
-  pub briefed-no_more : IsNext t.problem brief None → (has_enough t b.node ≡ true) ⊎ HasStalled t.problem (ranges_of t.problem b.node) (columns_for t b.node) b.round.prices
+  pub briefed-no_more : IsNext t.problem t.cuts brief None → (has_enough t b.node ≡ true) ⊎ HasStalled t.problem t.cuts (ranges_of t.problem b.node) (columns_for t b.node) b.round.prices
   briefed-no_more h = elim h [
     | inl enough ↦ inl (briefed-enough enough)
     | inr stalled ↦ inr (same-stalled t id b.node b.round brief stalled.0 b.is_brief stalled.1)
   ]
 
-  pub briefed-gains : (prices : List ℕ) → IsNext t.problem brief (Some prices) → IsBetterStep t b.node b.round prices ⊎ IsCrowdStep t b.node b.round prices
+  pub briefed-gains : (prices : List ℕ) → IsNext t.problem t.cuts brief (Some prices) → IsBetterStep t b.node b.round prices ⊎ IsCrowdStep t b.node b.round prices
   briefed-gains prices h = elim h [
     | inl raised ↦ inl (rise-better t id b.node b.round brief raised.old prices raised.new b.is_brief raised.is_rise)
     | inr crowd ↦ inr (record {
@@ -108,23 +111,33 @@ module _ (t : State) (id : BranchId) (version : ℕ) (brief : Brief) (sound : Is
     })
   ]
 
-crowd-within : (p : Parts) (old new : List ℕ) → length old ≡ places p → AreWithinLimit p old → AreCrowdPrices p old new → AreWithinLimit p new
-crowd-within p old new count within h =
-    All-from_get_or (λ price. price ≤ price_limit p) new 0 (λ q here.
-    (let below : q < places p = omega (arith, h.count) in
-    subst (λ (x : ℕ). x ≤ price_limit p) (sym (h.each q below)) (either (is_useful (link_at p (link_of_place p q))) (slice_index old q) (within q 0 (omega (arith, count))))))
+-- The numbers that follow
+
+place-or-behind : (q n : ℕ) → (q < n) ⊎ (n ≤ q)
+place-or-behind q n = grind arith
+
+-- crowd prices are within the limit, and behind them the rates are 0
+crowd-within : (p : Parts) (old new : List ℕ) → AreWithinLimit p old → AreCrowdPrices p old new → AreWithinLimit p new
+crowd-within p old new within h = All-from_get_or (λ price. price ≤ price_limit p) new 0 (λ q here. by q here (place-or-behind q (places p)))
   where
     either : (b : Bool) (price : ℕ) → price ≤ price_limit p → (if b then 0 else price) ≤ price_limit p
     either true price most = omega arith
     either false price most = most
 
-next-count : (p : Parts) (brief : Brief) (prices : List ℕ) → IsNext p brief (Some prices) → length prices ≡ places p
-next-count p brief prices h = elim h [ inl raised ↦ raised.is_rise.are_prices.count | inr crowd ↦ crowd.are_crowd.count ]
+    by : (q : ℕ) → q < length new → (q < places p) ⊎ (places p ≤ q) → slice_index new q ≤ price_limit p
+    by q here (inl below) = subst (λ (x : ℕ). x ≤ price_limit p) (sym (h.each q below)) (either (is_useful (link_at p (link_of_place p q))) (slice_index old q) (within q 0 (let same = h.count in omega arith)))
+    by q here (inr behind) = let none = h.rates q behind in omega arith
 
-next-within : (p : Parts) (brief : Brief) (prices : List ℕ) → IsBriefFor p brief.prices brief.ranges brief.columns → IsNext p brief (Some prices) → AreWithinLimit p prices
-next-within p brief prices fits h = elim h [
-  | inl raised ↦ raised.is_rise.are_prices.within
-  | inr crowd ↦ crowd-within p brief.prices prices fits.price_count fits.price_limit crowd.are_crowd
+crowd-numbers : (p : Parts) (cuts : List Cut) (old new : List ℕ) → AreNumbers p cuts old → AreCrowdPrices p old new → AreNumbers p cuts new
+crowd-numbers p cuts old new numbers h = record {
+  count = h.count ∙ numbers.count;
+  lawful = lawful-within p cuts new (λ i below. h.rates (places p + i) (omega arith)) (crowd-within p old new numbers.lawful.prices_within h);
+}
+
+next-numbers : (p : Parts) (cuts : List Cut) (brief : Brief) (prices : List ℕ) → IsBriefFor p cuts brief.prices brief.ranges brief.columns → IsNext p cuts brief (Some prices) → AreNumbers p cuts prices
+next-numbers p cuts brief prices fits h = elim h [
+  | inl raised ↦ raised.is_rise.are_numbers
+  | inr crowd ↦ crowd-numbers p cuts brief.prices prices fits.are_numbers crowd.are_crowd
 ]
 
 -- The whole task: from s a design is sought, which leads to r, and the columns are gathered, which leads to t
@@ -156,21 +169,20 @@ module _ (s t u : State) (id : BranchId) (version : ℕ) (reachable : IsReachabl
   same-node : b.node ≡ advance.node
   same-node = one_at s.nodes id.0 b.node advance.node (ap (λ (xs : List Node). slice_get xs id.0) (sym keeps.nodes) ∙ b.is_gathered.complete_round.is_node) advance.active.is_node
 
-  may-follow : (prices : List ℕ) → IsNext t.problem brief (Some prices) → MayFollow t id version prices b.node b.round
+  may-follow : (prices : List ℕ) → IsNext t.problem t.cuts brief (Some prices) → MayFollow t id version prices b.node b.round
   may-follow prices h = record {
     is_gathered = b.is_gathered;
     not_settled = ap (λ (x : Node). x.settled) same-node ∙ advance.not_settled;
     room = subst (λ (x : Node). x.completed < MAX_VERSIONS) (sym same-node) advance.room;
-    count = next-count t.problem brief prices h;
-    within_limit = next-within t.problem brief prices (briefed-fits t id version brief sound b) h;
+    are_numbers = next-numbers t.problem t.cuts brief prices (briefed-fits t id version brief sound b) h;
   }
 
-  pub advanced-published : (prices : List ℕ) (answer : Publish) → IsNext t.problem brief (Some prices) → PublishStep t id version prices answer u → IsCloser s u id
+  pub advanced-published : (prices : List ℕ) (answer : Publish) → IsNext t.problem t.cuts brief (Some prices) → PublishStep t id version prices answer u → IsCloser s u id
   advanced-published prices answer h e =
       let w = publish-goes t u id version prices b.node b.round answer (may-follow prices h) (briefed-gains t id version brief sound b prices h) e in
       published-closer s t id version advance keeps u prices w.0 w.1 reachable w.3
 
-  pub advanced-settled : (answer : Settle) → IsNext t.problem brief None → SettleStep t id version answer u → IsCloser s u id
+  pub advanced-settled : (answer : Settle) → IsNext t.problem t.cuts brief None → SettleStep t id version answer u → IsCloser s u id
   advanced-settled answer h e =
       settled-closer s t id version advance keeps u reachable (settle-goes t u id version b.node b.round answer b.is_gathered (briefed-no_more t id version brief sound b h) e)
 

@@ -5,7 +5,7 @@ use Rattle.std.specs.Prelude.{IfSome}
 use Rattle.std.proofs.lemmas.List.{append-nil}
 use Rattle.std.proofs.lemmas.Option.{slice_get_within, get_or_from_slice_get}
 use Rattle.plan_base.specs.declared.ids.BranchId.{BranchId}
-use Rattle.plan_base.specs.declared.parts.Parts.{Parts}
+use Rattle.cut_table.specs.Numbers.{CutProblem}
 use Rattle.pool_nodes.specs.Grounds.{Kept}
 use Rattle.proof_tree.specs.declared.tree.Evidence.{Evidence}
 use Rattle.pool_machine.specs.State.{Round, Node, State, state_of}
@@ -20,7 +20,7 @@ use Rattle.pool_core.proofs.Closings.{open_state-leaf}
 use Rattle.pool_machine.proofs.Runs.{IsReachable-sound}
 use Rattle.pool_core.proofs.EndedRounds.{HasEnded, HasPlaces-ended, round-within, HasGrounds-cleared}
 
-module _ (s : State) (table : Parts) (grounds : List (Option Kept)) (places : List Slot) (id : BranchId) (old : Node) (found : Evidence)
+module _ (s : State) (table : CutProblem) (grounds : List (Option Kept)) (places : List Slot) (id : BranchId) (old : Node) (found : Evidence)
     (h : IsKeptPool s table grounds places) (is : slice_get s.nodes id.0 ≡ Some old) where
   abbrev after : State
   after = examined_with s id (closed_by found old)
@@ -32,6 +32,7 @@ module _ (s : State) (table : Parts) (grounds : List (Option Kept)) (places : Li
     none_more = λ j m at. let bad : ◌≡◌ {A = Option Node} None (Some m) = at in absurd (cc);
     nodes = sym (append-nil (set s.nodes id.0 (closed_by found old)));
     problem = refl;
+    cuts = refl;
   }
 
   pub place-within : (round : Round) → old.round ≡ Some round → round.slot < length places
@@ -46,11 +47,12 @@ module _ (s : State) (table : Parts) (grounds : List (Option Kept)) (places : Li
       has_places = HasPlaces-ended s after id.0 old (closed_by found old) [] has_ended (IsReachable-sound s h.pool.reachable) places h.pool.has_places;
     };
     table_is = h.table_is;
+    cuts_are = h.cuts_are;
     has_grounds = HasGrounds-cleared s.problem s.nodes grounds id.0 old (closed_by found old) is refl h.has_grounds;
   }
 
 -- the same on the pool's own fields: the node that is read is written back closed
-module _ (s : State) (table : Parts) (grounds : List (Option Kept)) (places : List Slot) (id : BranchId) (why : Reason)
+module _ (s : State) (table : CutProblem) (grounds : List (Option Kept)) (places : List Slot) (id : BranchId) (why : Reason)
     (h : IsKeptPool s table grounds places) (is_open : is_open_state (state_of s id) ≡ true) (item : Node) (read : item ≡ get_or s.nodes id.0 item) where
   is_item : slice_get s.nodes id.0 ≡ Some item
   is_item =

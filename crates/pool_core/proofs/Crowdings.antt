@@ -33,20 +33,20 @@ module _ (s : State) (id : BranchId) (read : Round) (old prices : List ℕ) (p :
     λ crowding. absurd (not_so (read-crowd x round is_node is_round crowding.are_crowd)),
   )
 
-  crowding-by : (gain : Option ℤ) → AreCrowdPrices p old prices → IfSome gain (λ new. ForRound s id (λ x round. HasGain s.problem (ranges_of s.problem x) (columns_for s x) round.prices new))
-      → IfNone gain (ForRound s id (λ x round. HasStalled s.problem (ranges_of s.problem x) (columns_for s x) round.prices)) → ForRound s id (λ x round. IsTrue (is_none gain) ↔ IsCrowding s x round prices)
+  crowding-by : (gain : Option ℤ) → AreCrowdPrices p old prices → IfSome gain (λ new. ForRound s id (λ x round. HasGain s.problem s.cuts (ranges_of s.problem x) (columns_for s x) round.prices new))
+      → IfNone gain (ForRound s id (λ x round. HasStalled s.problem s.cuts (ranges_of s.problem x) (columns_for s x) round.prices)) → ForRound s id (λ x round. IsTrue (is_none gain) ↔ IsCrowding s x round prices)
   crowding-by None crowd some none x round is_node is_round = (
     λ so. record { stalled = none x round is_node is_round; are_crowd = own-crowd x round is_node is_round crowd },
     λ crowding. refl,
   )
   crowding-by (Some new) crowd some none x round is_node is_round =
-      let had : HasGain s.problem (ranges_of s.problem x) (columns_for s x) round.prices new = some x round is_node is_round in (
+      let had : HasGain s.problem s.cuts (ranges_of s.problem x) (columns_for s x) round.prices new = some x round is_node is_round in (
         λ bad. absurd (let e : false ≡ true = bad in cc),
-        λ crowding. absurd (gain-not_stalled s.problem (ranges_of s.problem x) (columns_for s x) round.prices had.0 crowding.stalled.0 new had.1 crowding.stalled.1),
+        λ crowding. absurd (gain-not_stalled s.problem s.cuts (ranges_of s.problem x) (columns_for s x) round.prices had.0 crowding.stalled.0 new had.1 crowding.stalled.1),
       )
 
-  pub crowding-told : (told : Bool) (gain : Option ℤ) → is_some gain ≡ not told → AreCrowdPrices p old prices → IfSome gain (λ new. ForRound s id (λ x round. HasGain s.problem (ranges_of s.problem x) (columns_for s x) round.prices new))
-      → IfNone gain (ForRound s id (λ x round. HasStalled s.problem (ranges_of s.problem x) (columns_for s x) round.prices)) → ForRound s id (λ x round. IsTrue told ↔ IsCrowding s x round prices)
+  pub crowding-told : (told : Bool) (gain : Option ℤ) → is_some gain ≡ not told → AreCrowdPrices p old prices → IfSome gain (λ new. ForRound s id (λ x round. HasGain s.problem s.cuts (ranges_of s.problem x) (columns_for s x) round.prices new))
+      → IfNone gain (ForRound s id (λ x round. HasStalled s.problem s.cuts (ranges_of s.problem x) (columns_for s x) round.prices)) → ForRound s id (λ x round. IsTrue told ↔ IsCrowding s x round prices)
   crowding-told told gain same crowd some none =
       subst (λ (b : Bool). ForRound s id (λ x round. IsTrue b ↔ IsCrowding s x round prices)) (told-none told gain same) (crowding-by gain crowd some none)
     where
@@ -70,12 +70,12 @@ module _ (s : State) (x : Node) (round : Round) (prices : List ℕ) where
 
 -- the value of the round's prices, as they are read
 pub value-at : (s : State) (id : BranchId) (read : Round) (prices : List ℕ) (old : ℤ) → Some read ≡ round_of s id → prices ≡ read.prices
-    → ForRound s id (λ x round. IsRestrictedValue s.problem (ranges_of s.problem x) (columns_for s x) prices old) → ForRound s id (λ x round. IsRestrictedValue s.problem (ranges_of s.problem x) (columns_for s x) round.prices old)
+    → ForRound s id (λ x round. IsRestrictedValue s.problem s.cuts (ranges_of s.problem x) (columns_for s x) prices old) → ForRound s id (λ x round. IsRestrictedValue s.problem s.cuts (ranges_of s.problem x) (columns_for s x) round.prices old)
 value-at s id read prices old is is_prices valued x round is_node is_round =
-    subst (λ (ps : List ℕ). IsRestrictedValue s.problem (ranges_of s.problem x) (columns_for s x) ps old) (is_prices ∙ ap (λ (r : Round). r.prices) (same-round s id read x round is is_node is_round)) (valued x round is_node is_round)
+    subst (λ (ps : List ℕ). IsRestrictedValue s.problem s.cuts (ranges_of s.problem x) (columns_for s x) ps old) (is_prices ∙ ap (λ (r : Round). r.prices) (same-round s id read x round is is_node is_round)) (valued x round is_node is_round)
 
 module _ (s : State) (id : BranchId) (prices : List ℕ) (old new : ℤ) (tried crowding : Bool) (is_tried : ForRound s id (λ x round. tried ≡ x.crowd_tried))
-    (is_old : ForRound s id (λ x round. IsRestrictedValue s.problem (ranges_of s.problem x) (columns_for s x) round.prices old)) (is_new : ForRound s id (λ x round. IsRestrictedValue s.problem (ranges_of s.problem x) (columns_for s x) prices new))
+    (is_old : ForRound s id (λ x round. IsRestrictedValue s.problem s.cuts (ranges_of s.problem x) (columns_for s x) round.prices old)) (is_new : ForRound s id (λ x round. IsRestrictedValue s.problem s.cuts (ranges_of s.problem x) (columns_for s x) prices new))
     (told : ForRound s id (λ x round. IsTrue crowding ↔ IsCrowding s x round prices)) where
   pub greater-follows : (mark : Bool) → int_lt old new ≡ true → mark ≡ (tried || crowding) → ForRound s id (λ x round. MayReplace s x round prices mark)
   greater-follows mark more is x round is_node is_round = record {

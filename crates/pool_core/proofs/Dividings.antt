@@ -27,6 +27,7 @@ use Rattle.pool_machine.specs.Dividing.{PartsBy, child_of, divided_by, Divides}
 use Rattle.pool_machine.specs.Machine.{Examining, to_examining, IsReachable}
 use Rattle.pool_nodes.specs.Slots.{given_back}
 use Rattle.pool_reading.specs.Views.{HasPlaces, IsKeptPool}
+use Rattle.cut_table.specs.Numbers.{CutProblem}
 use Rattle.pool_nodes.specs.Grounds.{Kept, IsKeptRegion, IsGroundOf, HasGrounds}
 use Rattle.pool_reading.specs.Examining.{IsReadyAt, IsChildAt, IsDivisionAt, AreChildrenAt}
 use Rattle.pool_core.specs.Children.{HasChildBehind}
@@ -57,7 +58,7 @@ HasGrounds-append p nodes grounds one other one_ground other_ground h is_one is_
     fresh (suc zero) node is = let same : other ≡ node = cc in (other_ground, refl, subst (λ (x : Node). IsGroundOf p (region_of p x) x.fate other_ground) same is_other)
     fresh (suc (suc j)) node is = let bad : ◌≡◌ {A = Option Node} None (Some node) = is in absurd (cc)
 
-module _ (s : State) (table : Parts) (grounds : List (Option Kept)) (places : List Slot) (id : BranchId) (d : Division)
+module _ (s : State) (table : CutProblem) (grounds : List (Option Kept)) (places : List Slot) (id : BranchId) (d : Division)
     (h : IsKeptPool s table grounds places) (div : IsDivisionAt s id d) where
   is_node : slice_get s.nodes id.0 ≡ Some div.node
   is_node = div.ready.open_node.is_node
@@ -89,7 +90,7 @@ module _ (s : State) (table : Parts) (grounds : List (Option Kept)) (places : Li
   after-reachable = IsReachable-step s after (Examining id) (to_examining (Ok (examined.Divided d.left_child d.right_child))) h.pool.reachable divides
 
   has_ended : HasEnded s after id.0 div.node new more
-  has_ended = record { is_node = is_node; no_round = refl; none_more = idle; nodes = refl; problem = refl }
+  has_ended = record { is_node = is_node; no_round = refl; none_more = idle; nodes = refl; problem = refl; cuts = refl }
     where
       idle : (j : ℕ) (m : Node) → slice_get more j ≡ Some m → m.round ≡ None
       idle zero m is = let same : child_of div.node (left_limit d.by) ≡ m = cc in ap (λ (x : Node). x.round) (sym same)
@@ -165,6 +166,7 @@ module _ (s : State) (table : Parts) (grounds : List (Option Kept)) (places : Li
           let kept : IsKeptPool after table (set (grounds ++ below) id.0 None) (given_back places div.node.round) = record {
             pool = record { some_budget = h.pool.some_budget; budget = h.pool.budget; reachable = after-reachable; has_places = after-places };
             table_is = h.table_is;
+            cuts_are = h.cuts_are;
             has_grounds = after-grounds;
           } in
           let give_back : back ≡ given_back places div.node.round = returned ∙ ap (λ (x : Node). given_back places x.round) is_item in

@@ -8,6 +8,7 @@ use Rattle.std.proofs.lemmas.List.Sums.{sum_by-append, sum_by-cons}
 use Rattle.plan_base.specs.declared.ids.BranchId.{BranchId}
 use Rattle.plan_base.specs.declared.parts.Parts.{Parts}
 use Rattle.plan_base.specs.Places.{places}
+use Rattle.proof_tree.specs.declared.cuts.Cut.{Cut}
 use Rattle.pool_machine.specs.State.{Round, Node, State, restriction_of, region_of, rounds_by, rounds_in, active_count}
 use Rattle.pool_machine.specs.Opening.{HasSlot, IsTaken}
 use Rattle.pool_machine.specs.Nodes.{IsSoundRound}
@@ -32,6 +33,7 @@ pub record HasEnded (s t : State) (id : ℕ) (old new : Node) (more : List Node)
   pub none_more : (j : ℕ) (m : Node) → slice_get more j ≡ Some m → m.round ≡ None
   pub nodes : t.nodes ≡ set s.nodes id new ++ more
   pub problem : t.problem ≡ s.problem
+  pub cuts : t.cuts ≡ s.cuts
 
 module _ (s t : State) (id : ℕ) (old new : Node) (more : List Node) (e : HasEnded s t id old new more) (sound : IsSound s) where
   -- a slot that the node did not have is taken as before
@@ -73,6 +75,10 @@ module _ (s t : State) (id : ℕ) (old new : Node) (more : List Node) (e : HasEn
       let none : rounds_in new ≡ 0 = ap rounds_by e.no_round in
       omega arith
 
+  -- as many prices and rates as before
+  same_width : places s.problem + length s.cuts ≡ places t.problem + length t.cuts
+  same_width = let p = ap places e.problem in let cuts : length t.cuts ≡ length s.cuts = ap (λ (xs : List Cut). length xs) e.cuts in omega arith
+
   HasPlaces-idle : (slots : List Slot) → old.round ≡ None → HasPlaces s slots → HasPlaces t slots
   HasPlaces-idle slots none h = record {
     count = h.count;
@@ -86,11 +92,11 @@ module _ (s t : State) (id : ℕ) (old new : Node) (more : List Node) (e : HasEn
     free = λ k place is taken. let b = taken-back k taken in h.free k place is (b.0, b.1, b.2, b.3);
     slot_is = h.slot_is;
     demands = λ k place is. h.demands k place is ∙ sym (ap (λ (p : Parts). length p.demands) e.problem);
-    prices = λ k place is. h.prices k place is ∙ sym (ap places e.problem);
+    prices = λ k place is. h.prices k place is ∙ same_width;
   }
 
   module _ (slots : List Slot) (round : Round) (had : old.round ≡ Some round) (h : HasPlaces s slots) where
-    is_sound : IsSoundRound s.problem (restriction_of old) round
+    is_sound : IsSoundRound s.problem s.cuts (restriction_of old) round
     is_sound = (rw had at ((node_at s id old sound e.is_node).round)).1
 
     has_slot : HasSlot round.slot old
@@ -150,7 +156,7 @@ module _ (s t : State) (id : ℕ) (old new : Node) (more : List Node) (e : HasEn
       prices = λ k place is. elim (same_place k place is) [
         | inl w ↦ ap (λ (r : Round). length r.prices) w.1 ∙ is_sound.prices.count
         | inr w ↦ h.prices k place w.1
-      ] ∙ sym (ap places e.problem);
+      ] ∙ same_width;
     }
 
   -- the slots once the round has ended are those of the state after

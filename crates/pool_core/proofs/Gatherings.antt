@@ -4,9 +4,9 @@ use Rattle.std.specs.Prelude.{Result, Ok, Err, IfOk, IsErr, IsSome, option_map, 
 use Rattle.std.specs.declared.alloc.AllocError.{AllocError}
 use Rattle.plan_base.specs.declared.ids.BranchId.{BranchId}
 use Rattle.plan_base.specs.declared.ids.DemandId.{DemandId}
-use Rattle.plan_base.specs.declared.parts.Parts.{Parts}
 use Rattle.plan_base.specs.First.{◌or_else◌, when}
 use Rattle.plan_base.proofs.FirstFault.{or_else-none}
+use Rattle.cut_table.specs.Numbers.{CutProblem}
 use Rattle.pool_nodes.specs.Grounds.{Kept}
 use Rattle.column_pool.specs.Columns.{Columns}
 use Rattle.column_pool.specs.declared.brief.Brief.{Brief}
@@ -109,7 +109,7 @@ front-of (Err e) old new found all front = front refl
 pub complete-found : (s : State) (id : BranchId) (version : ℕ) (h : IsCompleteAt s id version) (read : Round) → Some read ≡ round_of s id → read.found ≡ h.round.found
 complete-found s id version h read is = ap (λ (r : Round). r.found) (same-round s id read h.node h.round is h.is_complete.is_node h.is_complete.is_round)
 
-pub gathered-kept : (s : State) (id : BranchId) (version : ℕ) (columns : Columns) (wanting : AllocError) (table : Parts) (grounds : List (Option Kept)) (places : List Slot) → GathersFront s id version (with_columns s columns)
+pub gathered-kept : (s : State) (id : BranchId) (version : ℕ) (columns : Columns) (wanting : AllocError) (table : CutProblem) (grounds : List (Option Kept)) (places : List Slot) → GathersFront s id version (with_columns s columns)
     → IsKeptPool s table grounds places → IsKeptPool (with_columns s columns) table grounds places
 gathered-kept s id version columns wanting table grounds places front h =
     let p = h.pool.has_places in
@@ -121,6 +121,7 @@ gathered-kept s id version columns wanting table grounds places front h =
         has_places = record { count = p.count; total = p.total; taken = p.taken; free = p.free; slot_is = p.slot_is; demands = p.demands; prices = p.prices };
       };
       table_is = h.table_is;
+      cuts_are = h.cuts_are;
       has_grounds = h.has_grounds;
     }
 

@@ -14,6 +14,7 @@ pub mod RoutedPool
 pub mod TaskLaws
 pub mod Leaves
 mod KeptRanges
+pub mod ReadTables
 pub mod Steps
 pub mod Valuing
 pub mod Settlings

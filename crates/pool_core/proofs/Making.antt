@@ -8,9 +8,10 @@ use Rattle.std.proofs.lemmas.List.Sums.{sum_by-cons}
 use Rattle.plan_base.specs.declared.parts.Parts.{Parts}
 use Rattle.plan_base.specs.Facts.{IsInstance}
 use Rattle.plan_base.specs.Places.{places}
-use Rattle.link_steps.specs.Values.{AreStartPrices}
 use Rattle.link_steps.specs.Unit.{IsUnit}
-use Rattle.arc_restrict.specs.Prices.{AreWithinLimit}
+use Rattle.proof_tree.specs.declared.cuts.Cut.{Cut}
+use Rattle.proof_tree.specs.Cuts.{IsCutList}
+use Rattle.cut_table.specs.Numbers.{CutProblem, AreNumbers, AreStartNumbers}
 use Rattle.column_pool.specs.Columns.{Columns, no_columns}
 use Rattle.pool_machine.specs.declared.limits.TheConstants.{MAX_ROUNDS, MAX_BUDGET}
 use Rattle.pool_machine.specs.State.{Round, Node, State, rounds_in, region_of}
@@ -66,9 +67,9 @@ module _ (s : State) (prices : List ℕ) (nodes : s.nodes ≡ root_with prices �
       at_root zero node is has = let same : root_with prices ≡ node = cc in subst (λ (x : Node). IsSomeAnd x.round (λ r. r.slot ≡ slot)) (sym same) has
       at_root (suc n) node is has = let bad : ◌≡◌ {A = Option Node} None (Some node) = is in absurd (cc)
 
-  pub opening-slots : (slots : List Slot) → AreFreePlaces MAX_ROUNDS (length s.problem.demands) (places s.problem) slots → HasPlaces s slots
+  pub opening-slots : (slots : List Slot) → AreFreePlaces MAX_ROUNDS (length s.problem.demands) (places s.problem + length s.cuts) slots → HasPlaces s slots
   opening-slots slots h =
-      let free : (k : ℕ) (o : Slot) → slice_get slots k ≡ Some o → (place : Round) × (o ≡ Free place) × (place.slot ≡ k) × (length place.found ≡ length s.problem.demands) × (length place.prices ≡ places s.problem)
+      let free : (k : ℕ) (o : Slot) → slice_get slots k ≡ Some o → (place : Round) × (o ≡ Free place) × (place.slot ≡ k) × (length place.found ≡ length s.problem.demands) × (length place.prices ≡ places s.problem + length s.cuts)
       = λ k o is.
       let size = h.length_is in
       let within = slice_get_within slots k o is in
@@ -103,9 +104,10 @@ module _ (s : State) (prices : List ℕ) (nodes : s.nodes ≡ root_with prices �
       at_root (suc n) node is = let bad : ◌≡◌ {A = Option Node} None (Some node) = is in absurd (cc)
 
 -- the state before any event
-abbrev pub opening_with : Parts → ℕ → ℕ → List ℕ → State
-opening_with p unit budget prices = record {
+abbrev pub opening_with : Parts → List Cut → ℕ → ℕ → List ℕ → State
+opening_with p cuts unit budget prices = record {
   problem = p;
+  cuts = cuts;
   unit = unit;
   nodes = root_with prices ∷ [];
   columns = no_columns p;
@@ -116,35 +118,38 @@ opening_with p unit budget prices = record {
   accepted = 0;
 }
 
-module _ (p : Parts) (unit budget : ℕ) (prices : List ℕ) (lawful : IsInstance p) (is_unit : IsUnit p unit) (start : AreStartPrices p prices) (within : AreWithinLimit p prices) where
-  pub opening-state : IsOpeningState p budget (opening_with p unit budget prices)
-  opening-state = record { lawful = lawful; unit = unit; is_unit = is_unit; prices = prices; are_start = start; within_limit = within; is_state = refl }
+module _ (p : Parts) (cuts : List Cut) (unit budget : ℕ) (prices : List ℕ) (lawful : IsInstance p) (are_cuts : IsCutList p cuts) (is_unit : IsUnit p unit) (start : AreStartNumbers p cuts prices) (numbers : AreNumbers p cuts prices) where
+  pub opening-state : IsOpeningState p cuts budget (opening_with p cuts unit budget prices)
+  opening-state = record { lawful = lawful; are_cuts = are_cuts; unit = unit; is_unit = is_unit; prices = prices; are_start = start; are_numbers = numbers; is_state = refl }
 
-  pub opening-kept : (table : Parts) (kept : Kept) (slots : List Slot) → 0 < budget → budget ≤ MAX_BUDGET → table ≡ p
-      → AreFreePlaces MAX_ROUNDS (length p.demands) (places p) slots → IsKeptRegion p (whole p) kept
-      → IsKeptPool (opening_with p unit budget prices) table (Some kept ∷ []) slots
-  opening-kept table kept slots some most same free is_whole = record {
+  pub opening-kept : (table : CutProblem) (kept : Kept) (slots : List Slot) → 0 < budget → budget ≤ MAX_BUDGET → table.problem ≡ p → table.cuts ≡ cuts
+      → AreFreePlaces MAX_ROUNDS (length p.demands) (places p + length cuts) slots → IsKeptRegion p (whole p) kept
+      → IsKeptPool (opening_with p cuts unit budget prices) table (Some kept ∷ []) slots
+  opening-kept table kept slots some most same same_cuts free is_whole = record {
     pool = record {
       some_budget = some;
       budget = most;
-      reachable = record { opening = opening_with p unit budget prices; entries = []; is_opening = opening-state; run = refl };
-      has_places = opening-slots (opening_with p unit budget prices) prices refl slots free;
+      reachable = record { opening = opening_with p cuts unit budget prices; entries = []; is_opening = opening-state; run = refl };
+      has_places = opening-slots (opening_with p cuts unit budget prices) prices refl slots free;
     };
     table_is = same;
-    has_grounds = opening-grounds (opening_with p unit budget prices) prices refl kept is_whole;
+    cuts_are = same_cuts;
+    has_grounds = opening-grounds (opening_with p cuts unit budget prices) prices refl kept is_whole;
   }
 
   -- the same on the pool's own fields
-  pub opening-kept-at : (table : Parts) (nodes : List Node) (columns : Columns) (grounds : List (Option Kept)) (slots : List Slot) → 0 < budget → budget ≤ MAX_BUDGET → table ≡ p
-      → AreFreePlaces MAX_ROUNDS (length p.demands) (places p) slots → HasFreeRoot p grounds → nodes ≡ root_with prices ∷ [] → columns ≡ no_columns p
-      → IsKeptPool (record (opening_with p unit budget prices) { nodes = nodes; columns = columns }) table grounds slots
-  opening-kept-at table nodes columns grounds slots some most same free root is_nodes is_columns =
-      let kept = opening-kept table root.kept slots some most same free root.is_whole in
-      subst (λ (cs : Columns). IsKeptPool (record (opening_with p unit budget prices) { nodes = nodes; columns = cs }) table grounds slots) (sym is_columns)
-      (subst (λ (xs : List Node). IsKeptPool (record (opening_with p unit budget prices) { nodes = xs }) table grounds slots) (sym is_nodes)
-      (subst (λ (xs : List (Option Kept)). IsKeptPool (opening_with p unit budget prices) table xs slots) (sym root.is_ground) kept))
+  pub opening-kept-at : (table : CutProblem) (nodes : List Node) (columns : Columns) (grounds : List (Option Kept)) (slots : List Slot) → 0 < budget → budget ≤ MAX_BUDGET → table.problem ≡ p → table.cuts ≡ cuts
+      → AreFreePlaces MAX_ROUNDS (length p.demands) (places p + length cuts) slots → HasFreeRoot p grounds → nodes ≡ root_with prices ∷ [] → columns ≡ no_columns p
+      → IsKeptPool (record (opening_with p cuts unit budget prices) { nodes = nodes; columns = columns }) table grounds slots
+  opening-kept-at table nodes columns grounds slots some most same same_cuts free root is_nodes is_columns =
+      let kept = opening-kept table root.kept slots some most same same_cuts free root.is_whole in
+      subst (λ (cs : Columns). IsKeptPool (record (opening_with p cuts unit budget prices) { nodes = nodes; columns = cs }) table grounds slots) (sym is_columns)
+      (subst (λ (xs : List Node). IsKeptPool (record (opening_with p cuts unit budget prices) { nodes = xs }) table grounds slots) (sym is_nodes)
+      (subst (λ (xs : List (Option Kept)). IsKeptPool (opening_with p cuts unit budget prices) table xs slots) (sym root.is_ground) kept))
 
-  pub opening-state-at : (nodes : List Node) (columns : Columns) → nodes ≡ root_with prices ∷ [] → columns ≡ no_columns p → IsOpeningState p budget (record (opening_with p unit budget prices) { nodes = nodes; columns = columns })
-  opening-state-at nodes columns is is_columns =
-      subst (λ (cs : Columns). IsOpeningState p budget (record (opening_with p unit budget prices) { nodes = nodes; columns = cs })) (sym is_columns)
-      (subst (λ (xs : List Node). IsOpeningState p budget (record (opening_with p unit budget prices) { nodes = xs })) (sym is) opening-state)
+  pub opening-state-at : (held : List Cut) (nodes : List Node) (columns : Columns) → held ≡ cuts → nodes ≡ root_with prices ∷ [] → columns ≡ no_columns p
+      → IsOpeningState p cuts budget (record (opening_with p cuts unit budget prices) { cuts = held; nodes = nodes; columns = columns })
+  opening-state-at held nodes columns same is is_columns =
+      subst (λ (xs : List Cut). IsOpeningState p cuts budget (record (opening_with p cuts unit budget prices) { cuts = xs; nodes = nodes; columns = columns })) (sym same)
+      (subst (λ (cs : Columns). IsOpeningState p cuts budget (record (opening_with p cuts unit budget prices) { nodes = nodes; columns = cs })) (sym is_columns)
+      (subst (λ (xs : List Node). IsOpeningState p cuts budget (record (opening_with p cuts unit budget prices) { nodes = xs })) (sym is) opening-state))

@@ -8,6 +8,7 @@ use Rattle.plan_base.specs.declared.ids.BranchId.{BranchId}
 use Rattle.plan_base.specs.declared.parts.Parts.{Parts}
 use Rattle.plan_base.specs.First.{◌or_else◌, when}
 use Rattle.plan_base.proofs.FirstFault.{or_else-none, when-none}
+use Rattle.cut_table.specs.Numbers.{CutProblem}
 use Rattle.pool_nodes.specs.Grounds.{Kept}
 use Rattle.path_pricing.specs.declared.priced.Priced.{Priced}
 use Rattle.path_pricing.specs.declared.priced.Priced.TheVariants as priced
@@ -228,8 +229,8 @@ module _ (s : State) (offer : Offer) (may : MayOffer s offer) (item : Node) (rea
   pub offer-within : offer.node.0 < length s.nodes
   offer-within = slice_get_within s.nodes offer.node.0 may.node may.fits.is_node
 
-  pub put-sound : IsSound s → IsSoundNode s.problem item
-  put-sound sound = subst (IsSoundNode s.problem) (sym item-is) (node_at s offer.node.0 may.node sound may.fits.is_node)
+  pub put-sound : IsSound s → IsSoundNode s.problem s.cuts item
+  put-sound sound = subst (IsSoundNode s.problem s.cuts) (sym item-is) (node_at s offer.node.0 may.node sound may.fits.is_node)
 
   -- A cut
 
@@ -248,7 +249,7 @@ module _ (s : State) (offer : Offer) (may : MayOffer s offer) (item : Node) (rea
       becomes = ap (with_node s offer.node) cut-is;
     }
 
-    pub cut-kept : (table : Parts) (grounds : List (Option Kept)) (places : List Slot) → IsKeptPool s table grounds places → IsKeptPool (with_node s offer.node new) table grounds places
+    pub cut-kept : (table : CutProblem) (grounds : List (Option Kept)) (places : List Slot) → IsKeptPool s table grounds places → IsKeptPool (with_node s offer.node new) table grounds places
     cut-kept table grounds places h = record {
       pool = record {
         reachable = IsReachable-step s (with_node s offer.node new) (Offering offer) (to_offering offered.CutTaken) h.pool.reachable takes-cut;
@@ -258,6 +259,7 @@ module _ (s : State) (offer : Offer) (may : MayOffer s offer) (item : Node) (rea
             places s.accepted h.pool.has_places;
       };
       table_is = h.table_is;
+      cuts_are = h.cuts_are;
       has_grounds = HasGrounds-set s.problem s.nodes grounds offer.node.0 item new offer-within read (ap (λ (x : Node). x.limits) written) (ap (λ (x : Node). x.fate) written) h.has_grounds;
     }
 
@@ -278,15 +280,15 @@ module _ (s : State) (offer : Offer) (may : MayOffer s offer) (item : Node) (rea
         (sym item-is) there
 
     module _ (left count : ℕ) (new : Node) (counted : IfSome item.round (λ round. left ≡ left_of (with_found round offer.demand.0 found)))
-        (taken : IfSome item.round (λ round. TakesRound s.problem item (with_found round offer.demand.0 found) new)) (risen : count ≡ suc s.accepted) where
+        (taken : IfSome item.round (λ round. TakesRound s.problem s.cuts item (with_found round offer.demand.0 found) new)) (risen : count ≡ suc s.accepted) where
       at-node : IfSome may.node.round (λ round. left ≡ left_of (with_found round offer.demand.0 found))
       at-node = subst (λ (x : Node). IfSome x.round (λ round. left ≡ left_of (with_found round offer.demand.0 found))) item-is counted
 
-      takes : TakesRound s.problem may.node (with_found may.round offer.demand.0 found) new
+      takes : TakesRound s.problem s.cuts may.node (with_found may.round offer.demand.0 found) new
       takes =
-          let there : IfSome may.node.round (λ round. TakesRound s.problem may.node (with_found round offer.demand.0 found) new) =
-          subst (λ (x : Node). IfSome x.round (λ round. TakesRound s.problem x (with_found round offer.demand.0 found) new)) item-is taken in
-          subst (λ (o : Option Round). IfSome o (λ round. TakesRound s.problem may.node (with_found round offer.demand.0 found) new)) may.fits.is_round there
+          let there : IfSome may.node.round (λ round. TakesRound s.problem s.cuts may.node (with_found round offer.demand.0 found) new) =
+          subst (λ (x : Node). IfSome x.round (λ round. TakesRound s.problem s.cuts x (with_found round offer.demand.0 found) new)) item-is taken in
+          subst (λ (o : Option Round). IfSome o (λ round. TakesRound s.problem s.cuts may.node (with_found round offer.demand.0 found) new)) may.fits.is_round there
 
       abbrev after : State
       after = record s { nodes = set s.nodes offer.node.0 new; accepted = count }
@@ -305,19 +307,20 @@ module _ (s : State) (offer : Offer) (may : MayOffer s offer) (item : Node) (rea
         becomes = ap (λ (n : ℕ). let t : State = record s { nodes = set s.nodes offer.node.0 new; accepted = n } in t) risen;
       }
 
-      pub accepted-kept : (table : Parts) (grounds : List (Option Kept)) (places : List Slot) → IsKeptPool s table grounds places → IsKeptPool after table grounds places
+      pub accepted-kept : (table : CutProblem) (grounds : List (Option Kept)) (places : List Slot) → IsKeptPool s table grounds places → IsKeptPool after table grounds places
       accepted-kept table grounds places h = record {
         pool = record {
           reachable = IsReachable-step s after (Offering offer) (to_offering (offered.Accepted left)) h.pool.reachable accepts;
           some_budget = h.pool.some_budget;
           budget = h.pool.budget;
           has_places = HasPlaces-slot s offer.node may.node new may.round (with_found may.round offer.demand.0 found) may.fits.is_node may.fits.is_round
-              (TakesRound-round s.problem may.node (with_found may.round offer.demand.0 found) new takes) refl places count h.pool.has_places;
+              (TakesRound-round s.problem s.cuts may.node (with_found may.round offer.demand.0 found) new takes) refl places count h.pool.has_places;
         };
         table_is = h.table_is;
+        cuts_are = h.cuts_are;
         has_grounds = HasGrounds-set s.problem s.nodes grounds offer.node.0 item new offer-within read
-            (TakesRound-limits s.problem may.node (with_found may.round offer.demand.0 found) new takes ∙ ap (λ (x : Node). x.limits) (sym item-is))
-            (TakesRound-fate s.problem may.node (with_found may.round offer.demand.0 found) new takes ∙ ap (λ (x : Node). x.fate) (sym item-is)) h.has_grounds;
+            (TakesRound-limits s.problem s.cuts may.node (with_found may.round offer.demand.0 found) new takes ∙ ap (λ (x : Node). x.limits) (sym item-is))
+            (TakesRound-fate s.problem s.cuts may.node (with_found may.round offer.demand.0 found) new takes ∙ ap (λ (x : Node). x.fate) (sym item-is)) h.has_grounds;
       }
 
       -- one more accepted path can be counted

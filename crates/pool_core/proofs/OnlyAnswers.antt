@@ -65,6 +65,7 @@ module _ (s : State) (id : BranchId) (seen : ℕ) (prices : List ℕ) (next : Fo
   only-publishing (publish.Rounds x) new step = absurd (not_refused (publish.Rounds x) step.0)
   only-publishing (publish.PriceCount x) new step = absurd (not_refused (publish.PriceCount x) step.0)
   only-publishing (publish.OverPrice x) new step = absurd (not_refused (publish.OverPrice x) step.0)
+  only-publishing publish.Unlawful new step = absurd (not_refused publish.Unlawful step.0)
   only-publishing (publish.Ungathered x) new step = absurd (not_refused (publish.Ungathered x) step.0)
 
 -- what may be published follows
@@ -90,6 +91,7 @@ fault-no_success s id seen prices (publish.Incomplete x) is = tt
 fault-no_success s id seen prices (publish.Rounds x) is = tt
 fault-no_success s id seen prices (publish.PriceCount x) is = tt
 fault-no_success s id seen prices (publish.OverPrice x) is = tt
+fault-no_success s id seen prices publish.Unlawful is = tt
 fault-no_success s id seen prices (publish.Ungathered x) is = tt
 
 pub no_success-if : (answer : Publish) (Holds : ℕ → ℕ → Type 0) → IsNoSuccess answer → IfPublished answer Holds
@@ -102,6 +104,7 @@ no_success-if (publish.Incomplete x) Holds none = tt
 no_success-if (publish.Rounds x) Holds none = tt
 no_success-if (publish.PriceCount x) Holds none = tt
 no_success-if (publish.OverPrice x) Holds none = tt
+no_success-if publish.Unlawful Holds none = tt
 no_success-if (publish.Ungathered x) Holds none = tt
 
 pub refusal-answer : (s : State) (id : BranchId) (seen : ℕ) (prices : List ℕ) (answer : Publish) → IsNoSuccess answer → PublishStep s id seen prices answer s → IsPublishAnswer s id seen prices answer
@@ -114,4 +117,5 @@ refusal-answer s id seen prices (publish.Incomplete x) none is = is
 refusal-answer s id seen prices (publish.Rounds x) none is = is
 refusal-answer s id seen prices (publish.PriceCount x) none is = is
 refusal-answer s id seen prices (publish.OverPrice x) none is = is
+refusal-answer s id seen prices publish.Unlawful none is = is
 refusal-answer s id seen prices (publish.Ungathered x) none is = is

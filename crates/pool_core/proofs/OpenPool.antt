@@ -7,7 +7,6 @@ use Rattle.std.proofs.lemmas.Bool.Decides.{nat_tests}
 use Rattle.std.proofs.lemmas.Option.{slice_get_within, get_or_from_slice_get}
 use Rattle.std.proofs.lemmas.List.{length-replicate}
 use Rattle.plan_base.specs.declared.ids.BranchId.{BranchId}
-use Rattle.plan_base.specs.declared.parts.Parts.{Parts}
 use Rattle.plan_base.specs.First.{◌or_else◌, when}
 use Rattle.plan_base.proofs.Bools.{not-false}
 use Rattle.plan_base.proofs.FirstFault.{or_else-none, when-none}
@@ -31,6 +30,7 @@ use Rattle.pool_core.proofs.Answering.{is_spent-false}
 use Rattle.pool_nodes.proofs.Grounds.{HasGrounds-set}
 use Rattle.pool_machine.proofs.Opening.{none_found}
 use Rattle.pool_nodes.proofs.Completing.{TakesRound-round, TakesRound-limits, TakesRound-fate, TakesRound-from}
+use Rattle.cut_table.specs.Numbers.{CutProblem}
 use Rattle.pool_nodes.specs.Grounds.{Kept}
 use Rattle.pool_nodes.specs.Rounds.{MayComplete}
 
@@ -92,10 +92,10 @@ module _ (s : State) (places : List Slot) (id : BranchId) (slot : ℕ) (h : IsPo
       let make : ℕ → ℕ → Round = λ (a b : ℕ). record { slot = a; version = s.next_version; prices = may.node.first_prices; found = replicate b None } in
       ap₂ make slot_is (h.has_places.demands slot first.place first.is_free)
 
-  at_node : IsSoundNode s.problem may.node
+  at_node : IsSoundNode s.problem s.cuts may.node
   at_node = node_at s id.0 may.node (IsReachable-sound s h.reachable) may.is_node
 
-  empty-sound : IsSoundRound s.problem (restriction_of may.node) empty
+  empty-sound : IsSoundRound s.problem s.cuts (restriction_of may.node) empty
   empty-sound = record {
     slot = slot-within;
     count = length-replicate (length s.problem.demands) None;
@@ -134,8 +134,8 @@ module _ (s : State) (places : List Slot) (id : BranchId) (slot : ℕ) (h : IsPo
       pub begun-limits : mid.limits ≡ may.node.limits
       begun-limits = ap (λ (x : Node). x.limits) mid_is
 
-      pub begun-ready : MayComplete s.problem mid
-      begun-ready = subst (MayComplete s.problem) (sym mid_is) (record {
+      pub begun-ready : MayComplete s.problem s.cuts mid
+      begun-ready = subst (MayComplete s.problem s.cuts) (sym mid_is) (record {
         undone = may.undone;
         price_count = at_node.first_prices.count;
         ranges = at_node.ranges;
@@ -143,12 +143,12 @@ module _ (s : State) (places : List Slot) (id : BranchId) (slot : ℕ) (h : IsPo
         is_sound = empty-sound;
       })
 
-      pub begun-takes : (new : Node) → IfSome mid.round (λ r. TakesRound s.problem mid r new) → TakesRound s.problem may.node empty new
-      begun-takes new takes = TakesRound-from s.problem may.node mid new empty mid_is takes
+      pub begun-takes : (new : Node) → IfSome mid.round (λ r. TakesRound s.problem s.cuts mid r new) → TakesRound s.problem s.cuts may.node empty new
+      begun-takes new takes = TakesRound-from s.problem s.cuts may.node mid new empty mid_is takes
 
   -- The state after
 
-  module _ (after : Node) (takes : TakesRound s.problem may.node empty after) (version : ℕ) (version_is : version ≡ suc s.next_version) where
+  module _ (after : Node) (takes : TakesRound s.problem s.cuts may.node empty after) (version : ℕ) (version_is : version ≡ suc s.next_version) where
     abbrev next : State
     next = record s { nodes = set s.nodes id.0 after; next_version = version }
 
@@ -168,7 +168,7 @@ module _ (s : State) (places : List Slot) (id : BranchId) (slot : ℕ) (h : IsPo
     }
 
     after-round : after.round ≡ Some empty
-    after-round = TakesRound-round s.problem may.node empty after takes
+    after-round = TakesRound-round s.problem s.cuts may.node empty after takes
 
     taken-there : (k n : ℕ) → IsTakenBy s k n → IsTakenBy next k n
     taken-there k n t = elim (same_or_other n id.0) [
@@ -230,16 +230,17 @@ module _ (s : State) (places : List Slot) (id : BranchId) (slot : ℕ) (h : IsPo
       has_places = has_places;
     }
 
-    pub opened-kept : (table : Parts) (grounds : List (Option Kept)) (item : Node) (left : Slot) → item ≡ get_or s.nodes id.0 item → left ≡ Of id → IsKeptPool s table grounds places
+    pub opened-kept : (table : CutProblem) (grounds : List (Option Kept)) (item : Node) (left : Slot) → item ≡ get_or s.nodes id.0 item → left ≡ Of id → IsKeptPool s table grounds places
         → IsKeptPool next table grounds (set places slot left)
     opened-kept table grounds item left at_item none kept =
         let same : item ≡ may.node = at_item ∙ get_or_from_slice_get s.nodes id.0 may.node item may.is_node in
         record {
           pool = subst (λ (o : Slot). IsPool next (set places slot o)) (sym none) opened-IsPool;
           table_is = kept.table_is;
+          cuts_are = kept.cuts_are;
           has_grounds = HasGrounds-set s.problem s.nodes grounds id.0 item after (slice_get_within s.nodes id.0 may.node may.is_node) at_item
-              (TakesRound-limits s.problem may.node empty after takes ∙ ap (λ (x : Node). x.limits) (sym same))
-              (TakesRound-fate s.problem may.node empty after takes ∙ ap (λ (x : Node). x.fate) (sym same)) kept.has_grounds;
+              (TakesRound-limits s.problem s.cuts may.node empty after takes ∙ ap (λ (x : Node). x.limits) (sym same))
+              (TakesRound-fate s.problem s.cuts may.node empty after takes ∙ ap (λ (x : Node). x.fate) (sym same)) kept.has_grounds;
         }
 
 pub some_free : (s : State) (places : List Slot) (id : BranchId) → IsPool s places → MayOpen s id → 0 < count_by is_free places

@@ -4,7 +4,7 @@ use Rattle.std.specs.Prelude.{IfSome, IsSome, IsSomeAnd}
 use Rattle.std.proofs.lemmas.List.{length-replicate}
 use Rattle.std.proofs.lemmas.Option.{slice_get_within, get_or_from_slice_get}
 use Rattle.plan_base.specs.declared.ids.BranchId.{BranchId}
-use Rattle.plan_base.specs.declared.parts.Parts.{Parts}
+use Rattle.cut_table.specs.Numbers.{CutProblem}
 use Rattle.pool_nodes.specs.Grounds.{Kept}
 use Rattle.pool_machine.specs.declared.answers.Publish.TheVariants as publish
 use Rattle.pool_machine.specs.declared.limits.TheConstants.{MAX_ROUNDS}
@@ -62,13 +62,13 @@ module _ (s : State) (places : List Slot) (id : BranchId) (seen : ℕ) (prices :
   is_round : to.node.round ≡ Some to.round
   is_round = to.may.is_gathered.complete_round.is_round
 
-  at_node : IsSoundNode s.problem to.node
+  at_node : IsSoundNode s.problem s.cuts to.node
   at_node = node_at s id.0 to.node (IsReachable-sound s h.reachable) is_node
 
   pub renew-undone : to.node.fate ≡ Undone
   renew-undone = (rw is_round at (at_node.round)).0
 
-  had-sound : IsSoundRound s.problem (restriction_of to.node) to.round
+  had-sound : IsSoundRound s.problem s.cuts (restriction_of to.node) to.round
   had-sound = (rw is_round at (at_node.round)).1
 
   abbrev marked : Node
@@ -77,11 +77,11 @@ module _ (s : State) (places : List Slot) (id : BranchId) (seen : ℕ) (prices :
   abbrev empty : Round
   empty = empty_round s to.round.slot prices
 
-  empty-sound : IsSoundRound s.problem (restriction_of to.node) empty
+  empty-sound : IsSoundRound s.problem s.cuts (restriction_of to.node) empty
   empty-sound = record {
     slot = had-sound.slot;
     count = length-replicate (length s.problem.demands) None;
-    prices = record { count = to.may.count; within_limit = to.may.within_limit };
+    prices = to.may.are_numbers;
     least = λ j found is. absurd (none_found (length s.problem.demands) j found is);
   }
 
@@ -100,7 +100,7 @@ module _ (s : State) (places : List Slot) (id : BranchId) (seen : ℕ) (prices :
     pub renew-fits : IsSomeAnd item.round (λ round. length prices ≡ length round.prices)
     renew-fits =
         subst (λ (x : Node). IsSomeAnd x.round (λ round. length prices ≡ length round.prices)) (sym item_is)
-        (subst (λ (o : Option Round). IsSomeAnd o (λ round. length prices ≡ length round.prices)) (sym is_round) (to.may.count ∙ sym had-sound.prices.count))
+        (subst (λ (o : Option Round). IsSomeAnd o (λ round. length prices ≡ length round.prices)) (sym is_round) (to.may.are_numbers.count ∙ sym had-sound.prices.count))
 
     -- the round that a round is renewed as
     abbrev renewed_round : Round → Round
@@ -118,8 +118,8 @@ module _ (s : State) (places : List Slot) (id : BranchId) (seen : ℕ) (prices :
       pub renewed-limits : mid.limits ≡ to.node.limits
       renewed-limits = ap (λ (x : Node). x.limits) mid_is
 
-      pub renewed-ready : MayComplete s.problem mid
-      renewed-ready = subst (MayComplete s.problem) (sym mid_is) (record {
+      pub renewed-ready : MayComplete s.problem s.cuts mid
+      renewed-ready = subst (MayComplete s.problem s.cuts) (sym mid_is) (record {
         undone = renew-undone;
         price_count = at_node.first_prices.count;
         ranges = at_node.ranges;
@@ -127,12 +127,12 @@ module _ (s : State) (places : List Slot) (id : BranchId) (seen : ℕ) (prices :
         is_sound = empty-sound;
       })
 
-      pub renewed-takes : (new : Node) → IfSome mid.round (λ r. TakesRound s.problem mid r new) → TakesRound s.problem marked empty new
-      renewed-takes new takes = TakesRound-from s.problem marked mid new empty mid_is takes
+      pub renewed-takes : (new : Node) → IfSome mid.round (λ r. TakesRound s.problem s.cuts mid r new) → TakesRound s.problem s.cuts marked empty new
+      renewed-takes new takes = TakesRound-from s.problem s.cuts marked mid new empty mid_is takes
 
   -- The state after
 
-  module _ (after : Node) (takes : TakesRound s.problem marked empty after) (version : ℕ) (version_is : version ≡ suc s.next_version) where
+  module _ (after : Node) (takes : TakesRound s.problem s.cuts marked empty after) (version : ℕ) (version_is : version ≡ suc s.next_version) where
     abbrev next : State
     next = record s { nodes = set s.nodes id.0 after; next_version = version }
 
@@ -153,10 +153,10 @@ module _ (s : State) (places : List Slot) (id : BranchId) (seen : ℕ) (prices :
 
     has_places : HasPlaces next places
     has_places =
-        let p = HasPlaces-slot s id to.node after to.round empty is_node is_round (TakesRound-round s.problem marked empty after takes) refl places s.accepted h.has_places in
+        let p = HasPlaces-slot s id to.node after to.round empty is_node is_round (TakesRound-round s.problem s.cuts marked empty after takes) refl places s.accepted h.has_places in
         record { count = p.count; total = p.total; taken = p.taken; free = p.free; slot_is = p.slot_is; demands = p.demands; prices = p.prices }
 
-    pub renewed-kept : (table : Parts) (grounds : List (Option Kept)) (item : Node) → item ≡ get_or s.nodes id.0 item → IsKeptPool s table grounds places → IsKeptPool next table grounds places
+    pub renewed-kept : (table : CutProblem) (grounds : List (Option Kept)) (item : Node) → item ≡ get_or s.nodes id.0 item → IsKeptPool s table grounds places → IsKeptPool next table grounds places
     renewed-kept table grounds item at_item kept =
         let same : item ≡ to.node = at_item ∙ get_or_from_slice_get s.nodes id.0 to.node item is_node in
         record {
@@ -167,7 +167,8 @@ module _ (s : State) (places : List Slot) (id : BranchId) (seen : ℕ) (prices :
             has_places = has_places;
           };
           table_is = kept.table_is;
+          cuts_are = kept.cuts_are;
           has_grounds = HasGrounds-set s.problem s.nodes grounds id.0 item after (slice_get_within s.nodes id.0 to.node is_node) at_item
-              (TakesRound-limits s.problem marked empty after takes ∙ ap (λ (x : Node). x.limits) (sym same))
-              (TakesRound-fate s.problem marked empty after takes ∙ ap (λ (x : Node). x.fate) (sym same)) kept.has_grounds;
+              (TakesRound-limits s.problem s.cuts marked empty after takes ∙ ap (λ (x : Node). x.limits) (sym same))
+              (TakesRound-fate s.problem s.cuts marked empty after takes ∙ ap (λ (x : Node). x.fate) (sym same)) kept.has_grounds;
         }

@@ -28,19 +28,19 @@ enough-read s t id told x same is is_node = sym (is ∙ (ap (λ (u : State). eno
 
 -- the gain, from the value before it and the value that is reached
 pub gains-from : (s t : State) (id : BranchId) (read : Round) (prices : List ℕ) (old new : ℤ) → t ≡ s → Some read ≡ round_of t id → prices ≡ read.prices
-    → ForRound t id (λ x round. IsRestrictedValue t.problem (ranges_of t.problem x) (columns_for t x) prices old) → ForRound s id (λ x round. HasGain s.problem (ranges_of s.problem x) (columns_for s x) round.prices new)
-    → ForRound s id (λ x round. IsGain s.problem (ranges_of s.problem x) (columns_for s x) round.prices old new)
+    → ForRound t id (λ x round. IsRestrictedValue t.problem t.cuts (ranges_of t.problem x) (columns_for t x) prices old) → ForRound s id (λ x round. HasGain s.problem s.cuts (ranges_of s.problem x) (columns_for s x) round.prices new)
+    → ForRound s id (λ x round. IsGain s.problem s.cuts (ranges_of s.problem x) (columns_for s x) round.prices old new)
 gains-from s t id read prices old new same is is_prices valued gains x round is_node is_round =
-    let had : HasGain s.problem (ranges_of s.problem x) (columns_for s x) round.prices new = gains x round is_node is_round in
-    let there : ForRound s id (λ x round. IsRestrictedValue s.problem (ranges_of s.problem x) (columns_for s x) prices old) =
-    subst (λ (u : State). ForRound u id (λ x round. IsRestrictedValue u.problem (ranges_of u.problem x) (columns_for u x) prices old)) same valued in
+    let had : HasGain s.problem s.cuts (ranges_of s.problem x) (columns_for s x) round.prices new = gains x round is_node is_round in
+    let there : ForRound s id (λ x round. IsRestrictedValue s.problem s.cuts (ranges_of s.problem x) (columns_for s x) prices old) =
+    subst (λ (u : State). ForRound u id (λ x round. IsRestrictedValue u.problem u.cuts (ranges_of u.problem x) (columns_for u x) prices old)) same valued in
     let rounds : read ≡ round = same-round s id read x round (is ∙ ap (λ (u : State). round_of u id) same) is_node is_round in
-    let value : IsRestrictedValue s.problem (ranges_of s.problem x) (columns_for s x) round.prices old =
-    subst (λ (ps : List ℕ). IsRestrictedValue s.problem (ranges_of s.problem x) (columns_for s x) ps old) (is_prices ∙ ap (λ (r : Round). r.prices) rounds) (there x round is_node is_round) in
-    let same_value : had.0 ≡ old = value-unique s.problem (ranges_of s.problem x) (columns_for s x) round.prices had.0 old had.1.is_raise.is_old value in
-    subst (λ (v : ℤ). IsGain s.problem (ranges_of s.problem x) (columns_for s x) round.prices v new) same_value had.1
+    let value : IsRestrictedValue s.problem s.cuts (ranges_of s.problem x) (columns_for s x) round.prices old =
+    subst (λ (ps : List ℕ). IsRestrictedValue s.problem s.cuts (ranges_of s.problem x) (columns_for s x) ps old) (is_prices ∙ ap (λ (r : Round). r.prices) rounds) (there x round is_node is_round) in
+    let same_value : had.0 ≡ old = value-unique s.problem s.cuts (ranges_of s.problem x) (columns_for s x) round.prices had.0 old had.1.is_raise.is_old value in
+    subst (λ (v : ℤ). IsGain s.problem s.cuts (ranges_of s.problem x) (columns_for s x) round.prices v new) same_value had.1
 
-pub improvable : (s t : State) (id : BranchId) (version : ℕ) (old new : ℤ) → HasGathered s id version → ForRound s id (λ x round. (has_enough s x ≡ false) × IsGain s.problem (ranges_of s.problem x) (columns_for s x) round.prices old new)
+pub improvable : (s t : State) (id : BranchId) (version : ℕ) (old new : ℤ) → HasGathered s id version → ForRound s id (λ x round. (has_enough s x ≡ false) × IsGain s.problem s.cuts (ranges_of s.problem x) (columns_for s x) round.prices old new)
     → t ≡ s → IsImprovable s id version old new t
 improvable s t id version old new g both same =
     let is = g.is_gathered.complete_round in

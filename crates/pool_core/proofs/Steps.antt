@@ -26,6 +26,7 @@ use Rattle.pool_machine.specs.declared.tree.HeldCut.{HeldCut}
 use Rattle.std.proofs.lemmas.Bool.Decides.{nat_tests}
 use Rattle.plan_base.specs.declared.ids.BranchId.{BranchId}
 use Rattle.plan_base.specs.declared.parts.Parts.{Parts}
+use Rattle.proof_tree.specs.declared.cuts.Cut.{Cut}
 use Rattle.pool_machine.specs.declared.answers.Closing.{Closing}
 use Rattle.pool_machine.specs.declared.answers.Examined.{Examined}
 use Rattle.pool_machine.specs.declared.answers.Examined.TheVariants as examined
@@ -59,14 +60,14 @@ use Rattle.pool_core.proofs.TaskLaws.{not_priced-at}
 use Rattle.pool_reading.proofs.Reading.{sound-round}
 
 -- what becomes of a node that takes a round
-takes-round : (p : Parts) (old : Node) (round : Round) (new : Node) → TakesRound p old round new → new.round ≡ Some round
-takes-round p old round new h = elim h [ inl c ↦ ap (λ (x : Node). x.round) c.becomes | inr g ↦ ap (λ (x : Node). x.round) g.becomes ]
+takes-round : (p : Parts) (cuts : List Cut) (old : Node) (round : Round) (new : Node) → TakesRound p cuts old round new → new.round ≡ Some round
+takes-round p cuts old round new h = elim h [ inl c ↦ ap (λ (x : Node). x.round) c.becomes | inr g ↦ ap (λ (x : Node). x.round) g.becomes ]
 
-takes-cut : (p : Parts) (old : Node) (round : Round) (new : Node) → TakesRound p old round new → new.cut ≡ old.cut
-takes-cut p old round new h = elim h [ inl c ↦ ap (λ (x : Node). x.cut) c.becomes | inr g ↦ ap (λ (x : Node). x.cut) g.becomes ]
+takes-cut : (p : Parts) (cuts : List Cut) (old : Node) (round : Round) (new : Node) → TakesRound p cuts old round new → new.cut ≡ old.cut
+takes-cut p cuts old round new h = elim h [ inl c ↦ ap (λ (x : Node). x.cut) c.becomes | inr g ↦ ap (λ (x : Node). x.cut) g.becomes ]
 
-takes-settled : (p : Parts) (old : Node) (round : Round) (new : Node) → TakesRound p old round new → new.settled ≡ old.settled
-takes-settled p old round new h = elim h [ inl c ↦ ap (λ (x : Node). x.settled) c.becomes | inr g ↦ ap (λ (x : Node). x.settled) g.becomes ]
+takes-settled : (p : Parts) (cuts : List Cut) (old : Node) (round : Round) (new : Node) → TakesRound p cuts old round new → new.settled ≡ old.settled
+takes-settled p cuts old round new h = elim h [ inl c ↦ ap (λ (x : Node). x.settled) c.becomes | inr g ↦ ap (λ (x : Node). x.settled) g.becomes ]
 
 one_less : (round : Round) (k : ℕ) (found : Found) → slice_get round.found k ≡ Some None → left_of (with_found round k found) + 1 ≡ left_of round
 one_less round k found is =
@@ -137,8 +138,8 @@ versions-open completed zero some = absurd (omega arith)
 versions-open completed (suc left) some = refl
 
 -- a node takes a round: an empty one has fewer versions before it than a number that is more than twice those that are left
-taken-versions : (p : Parts) (old : Node) (round : Round) (new : Node) → TakesRound p old round new → old.completed < MAX_VERSIONS → versions_left new.completed (left_of round) ≤ 2 * (MAX_VERSIONS - old.completed)
-taken-versions p old round new h room = elim h [
+taken-versions : (p : Parts) (cuts : List Cut) (old : Node) (round : Round) (new : Node) → TakesRound p cuts old round new → old.completed < MAX_VERSIONS → versions_left new.completed (left_of round) ≤ 2 * (MAX_VERSIONS - old.completed)
+taken-versions p cuts old round new h room = elim h [
   | inl c ↦
       let count : new.completed ≡ suc old.completed = ap (λ (x : Node). x.completed) c.becomes in
       let v = versions-complete new.completed (left_of round) c.complete in
@@ -170,10 +171,10 @@ opened-closer : (s t : State) (id : BranchId) (opened : Opened) → IsReachable 
 opened-closer s t id opened h e =
     let round = empty_round s opened.slot e.node.first_prices in
     let at : slice_get t.nodes id.0 ≡ Some e.after = ap (λ (x : State). slice_get x.nodes id.0) e.becomes ∙ slice_get-set_same s.nodes id.0 e.node e.after e.is_node in
-    let has : e.after.round ≡ Some round = takes-round s.problem e.node round e.after e.takes in
-    let undone : e.after.fate ≡ Undone = TakesRound-fate s.problem e.node round e.after e.takes ∙ e.undone in
+    let has : e.after.round ≡ Some round = takes-round s.problem s.cuts e.node round e.after e.takes in
+    let undone : e.after.fate ≡ Undone = TakesRound-fate s.problem s.cuts e.node round e.after e.takes ∙ e.undone in
     let none : e.node.completed ≡ 0 = (node_at s id.0 e.node (IsReachable-sound s h) e.is_node).waiting e.undone e.no_round in
-    let versions = taken-versions s.problem e.node round e.after e.takes (omega arith) in
+    let versions = taken-versions s.problem s.cuts e.node round e.after e.takes (omega arith) in
     let same : length t.problem.demands ≡ length s.problem.demands = ap (λ (x : State). length x.problem.demands) e.becomes in
     let most = left-le round in
     let long : length round.found ≡ length s.problem.demands = length-replicate (length s.problem.demands) None in
@@ -237,7 +238,7 @@ none-offer_fault s offer h gap fits =
     (none-or_else _ _ (none-when _ offered.Already (gap-already s offer.node offer.version offer.demand gap)) fits))
 
 sound-undone : (s : State) (id : BranchId) (node : Node) (round : Round) → IsReachable s → slice_get s.nodes id.0 ≡ Some node → node.round ≡ Some round → node.fate ≡ Undone
-sound-undone s id node round h is has = round-undone s.problem node round (node_at s id.0 node (IsReachable-sound s h) is) has
+sound-undone s id node round h is has = round-undone s.problem s.cuts node round (node_at s id.0 node (IsReachable-sound s h) is) has
 
 took-cut : (s t : State) (offer : Offer) → IsReachable s → TakesCut s offer t → IsCloser s t offer.node
 took-cut s t offer h e =
@@ -260,17 +261,17 @@ took-path s t offer left h e =
     let fits = e.fits_round in
     let round = with_found e.round offer.demand.0 e.found in
     let at : slice_get t.nodes offer.node.0 ≡ Some e.after = ap (λ (x : State). slice_get x.nodes offer.node.0) e.becomes ∙ slice_get-set_same s.nodes offer.node.0 e.node e.after fits.is_node in
-    let has = takes-round s.problem e.node round e.after e.takes in
-    let undone = TakesRound-fate s.problem e.node round e.after e.takes ∙ sound-undone s offer.node e.node e.round h fits.is_node fits.is_round in
+    let has = takes-round s.problem s.cuts e.node round e.after e.takes in
+    let undone = TakesRound-fate s.problem s.cuts e.node round e.after e.takes ∙ sound-undone s offer.node e.node e.round h fits.is_node fits.is_round in
     let before = steps-round s offer.node e.node e.round fits.is_node fits.is_round in
     let same : length t.problem.demands ≡ length s.problem.demands = ap (λ (x : State). length x.problem.demands) e.becomes in
     let after = steps-round t offer.node e.after round at has
     ∙ ap (λ (d : ℕ). versions_left e.after.completed (left_of round) * (d + 3) + (left_of round + cut_left e.after.cut + unsettled_left e.after.settled)) same in
-    let cut : cut_left e.after.cut ≡ cut_left e.node.cut = ap cut_left (takes-cut s.problem e.node round e.after e.takes) in
-    let settled : unsettled_left e.after.settled ≡ unsettled_left e.node.settled = ap unsettled_left (takes-settled s.problem e.node round e.after e.takes) in
+    let cut : cut_left e.after.cut ≡ cut_left e.node.cut = ap cut_left (takes-cut s.problem s.cuts e.node round e.after e.takes) in
+    let settled : unsettled_left e.after.settled ≡ unsettled_left e.node.settled = ap unsettled_left (takes-settled s.problem s.cuts e.node round e.after e.takes) in
     let one = one_less e.round offer.demand.0 e.found fits.not_priced in
     let room = (rw fits.is_round at ((node_at s offer.node.0 e.node (IsReachable-sound s h) fits.is_node).versions)).room (omega arith) in
-    let versions = taken-versions s.problem e.node round e.after e.takes room in
+    let versions = taken-versions s.problem s.cuts e.node round e.after e.takes room in
     let had = versions-open e.node.completed (left_of e.round) (omega arith) in
     record {
       examined = ap (λ (x : State). x.examined) e.becomes;
@@ -357,13 +358,13 @@ module _ (s t : State) (id : BranchId) (version : ℕ) (advance : IsToAdvance s 
       let marked : Node = record e.node { crowd_tried = e.mark } in
       let round = empty_round t e.round.slot prices in
       let at : slice_get u.nodes id.0 ≡ Some e.after = ap (λ (x : State). slice_get x.nodes id.0) e.becomes ∙ slice_get-set_same t.nodes id.0 e.node e.after is.is_node in
-      let has : e.after.round ≡ Some round = takes-round t.problem marked round e.after e.takes in
-      let undone : e.after.fate ≡ Undone = TakesRound-fate t.problem marked round e.after e.takes ∙ sound-undone s id e.node e.round h before is.is_round in
+      let has : e.after.round ≡ Some round = takes-round t.problem t.cuts marked round e.after e.takes in
+      let undone : e.after.fate ≡ Undone = TakesRound-fate t.problem t.cuts marked round e.after e.takes ∙ sound-undone s id e.node e.round h before is.is_round in
       let same_size : length u.problem.demands ≡ length s.problem.demands = ap (λ (x : State). length x.problem.demands) e.becomes ∙ ap (λ (p : Parts). length p.demands) keeps.problem in
       let old_steps = steps-round s id e.node e.round before is.is_round in
       let new_steps = steps-round u id e.after round at has
       ∙ ap (λ (d : ℕ). versions_left e.after.completed (left_of round) * (d + 3) + (left_of round + cut_left e.after.cut + unsettled_left e.after.settled)) same_size in
-      let versions = taken-versions t.problem marked round e.after e.takes e.may.room in
+      let versions = taken-versions t.problem t.cuts marked round e.after e.takes e.may.room in
       let had = versions-complete e.node.completed (left_of e.round) is.complete in
       let most = left-le round in
       let long : length round.found ≡ length t.problem.demands = length-replicate (length t.problem.demands) None in

@@ -3,7 +3,7 @@ use Rattle.std.proofs.Common.{◌≡◌, ℕ, List, get_or, Option, Some, None, 
 use Rattle.std.specs.Prelude.{IsSome, IfSome, IfNone, option_map}
 use Rattle.plan_base.specs.declared.ids.BranchId.{BranchId}
 use Rattle.pool_machine.specs.State.{Round, Node, State, round_of}
-use Rattle.pool_machine.specs.Nodes.{IsPriceList}
+use Rattle.cut_table.specs.Numbers.{AreNumbers}
 use Rattle.pool_machine.specs.Soundness.{IsSound}
 use Rattle.pool_reading.specs.Valuing.{IsGatheredAt}
 use Rattle.pool_core.proofs.TaskLaws.{has-some}
@@ -14,7 +14,7 @@ pub gathered-some : (s : State) (id : BranchId) → IsGatheredAt s id → IsSome
 gathered-some s id h = has-some s id (gathered-round s id h)
 
 -- the prices of a gathered round are prices of the instance
-pub round-price_list : (s : State) (id : BranchId) → IsSound s → (at : IsGatheredAt s id) → IsPriceList s.problem at.round.prices
+pub round-price_list : (s : State) (id : BranchId) → IsSound s → (at : IsGatheredAt s id) → AreNumbers s.problem s.cuts at.round.prices
 round-price_list s id sound at = (sound-round s id sound (gathered-round s id at)).prices
 
 -- What is read of a state
@@ -48,7 +48,7 @@ read-prices f s id item o x prices at read shown is same =
     let there = read-round s.nodes id.0 item (has-within s id (gathered-round s id at)) read in
     gathered-prices s id at (f x) prices (shown-value f o x item.round shown is ∙ sym there) same
 
-pub read-price_list : (s t : State) (id : BranchId) (read : Round) (prices : List ℕ) → IsSound s → IsGatheredAt s id → t ≡ s → Some read ≡ round_of t id → prices ≡ read.prices → IsPriceList t.problem prices
+pub read-price_list : (s t : State) (id : BranchId) (read : Round) (prices : List ℕ) → IsSound s → IsGatheredAt s id → t ≡ s → Some read ≡ round_of t id → prices ≡ read.prices → AreNumbers t.problem t.cuts prices
 read-price_list s t id read prices sound at same is is_prices =
     let now : prices ≡ at.round.prices = gathered-prices s id at read prices (is ∙ ap (λ (u : State). round_of u id) same) is_prices in
-    subst (λ (u : State). IsPriceList u.problem prices) (sym same) (subst (IsPriceList s.problem) (sym now) (round-price_list s id sound at))
+    subst (λ (u : State). AreNumbers u.problem u.cuts prices) (sym same) (subst (AreNumbers s.problem s.cuts) (sym now) (round-price_list s id sound at))

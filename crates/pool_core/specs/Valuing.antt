@@ -9,7 +9,7 @@ use Rattle.pool_machine.specs.Publishing.{MayFollow, IsBetterStep, IsCrowdStep, 
 
 -- it has had enough versions, or no step gains
 abbrev pub HasNoMore : State → Node → Round → Type 0
-HasNoMore s node round = (has_enough s node ≡ true) ⊎ HasStalled s.problem (ranges_of s.problem node) (columns_for s node) round.prices
+HasNoMore s node round = (has_enough s node ≡ true) ⊎ HasStalled s.problem s.cuts (ranges_of s.problem node) (columns_for s node) round.prices
 
 -- the node of the number may be settled
 pub record IsToSettle (s : State) (id : BranchId) (version : ℕ) : Type 0 where
@@ -31,8 +31,8 @@ pub record MayReplace (s : State) (node : Node) (round : Round) (prices : List �
 
 -- the prices are neither, and these are the restricted values of the round's prices and of them
 pub record HasNoGain (s : State) (node : Node) (round : Round) (prices : List ℕ) (before after : ℤ) : Type 0 where
-  pub is_before : IsRestrictedValue s.problem (ranges_of s.problem node) (columns_for s node) round.prices before
-  pub is_after : IsRestrictedValue s.problem (ranges_of s.problem node) (columns_for s node) prices after
+  pub is_before : IsRestrictedValue s.problem s.cuts (ranges_of s.problem node) (columns_for s node) round.prices before
+  pub is_after : IsRestrictedValue s.problem s.cuts (ranges_of s.problem node) (columns_for s node) prices after
   pub not_greater : after ≤ℤ before
   pub no_crowd_step : IsCrowdStep s node round prices → ⊥
 

@@ -22,8 +22,8 @@ mod tasks;
 mod valuing;
 
 use column_pool::ColumnPool;
+use cut_table::CutTable;
 use leaf_work::KnownAbove;
-use link_steps::StepTable;
 use master_step::Room;
 use plan_base::{BranchId, Instance};
 use pool_machine::{Incumbent, NodeState, Opened, RoundFault};
@@ -41,7 +41,8 @@ pub struct Pool {
     /// Where memory comes from.
     alloc: Global,
     problem: Arc<Instance>,
-    table: Arc<StepTable>,
+    /// The step table of the instance, and the cuts.
+    table: Arc<CutTable>,
     /// What all costs are multiples of, in cost grains.
     unit: u128,
     nodes: Vec<PoolNode>,
@@ -74,6 +75,7 @@ impl Model for Pool {
 
     ghost view = { λ a. record {
       problem = arc_value a.problem;
+      cuts = (arc_value a.table).cuts;
       unit = a.unit;
       nodes = a.nodes.items;
       columns = a.columns;
@@ -86,6 +88,7 @@ impl Model for Pool {
 
     ghost invariant = { λ a. IsFittedPool (record {
       problem = arc_value a.problem;
+      cuts = (arc_value a.table).cuts;
       unit = a.unit;
       nodes = a.nodes.items;
       columns = a.columns;

@@ -49,9 +49,10 @@ pub struct Desk<N: Search, R: Wait + Drop> {
     pub(crate) board: BoardWriter<R>,
     of: PhantomData<N>,
     ghost problem_is: { pool.problem ≡ N.problem },
+    ghost cuts_are: { pool.cuts ≡ N.cuts },
     ghost budget_is: { pool.budget ≡ N.budget },
     ghost slots: { board.slots ≡ MAX_ROUNDS },
-    ghost prices: { board.prices ≡ places N.problem },
+    ghost prices: { board.prices ≡ places N.problem + length N.cuts },
     ghost none_pending: { board.pending ≡ [] },
 }
 
@@ -102,9 +103,9 @@ fn told_bound(cost: Option<u128>, bound: i128) -> Option<u128>
 impl<N: Search, R: Wait + Drop> Desk<N, R> {
     /// A pool and the writer of a board that fits it, on which nothing is pending.
     pub fn new(pool: Pool, board: BoardWriter<R>) -> Desk<N, R>
-        requires search { (pool.problem ≡ N.problem) × (pool.budget ≡ N.budget) }
+        requires search { (pool.problem ≡ N.problem) × (pool.cuts ≡ N.cuts) × (pool.budget ≡ N.budget) }
         requires slots { board.slots ≡ MAX_ROUNDS }
-        requires prices { board.prices ≡ places pool.problem }
+        requires prices { board.prices ≡ places pool.problem + length pool.cuts }
         requires none_pending { board.pending ≡ [] }
         ensures pool { result.pool ≡ pool }
         ensures board { result.board ≡ board }
@@ -118,14 +119,14 @@ impl<N: Search, R: Wait + Drop> Desk<N, R> {
 
     /// Whoever looks knows that the pool's state is one of the search.
     fn look(&self)
-        ensures { IsSearchState N.problem N.budget self.now.pool }
+        ensures { IsSearchState N.problem N.cuts N.budget self.now.pool }
     {
         let _inst = self.pool.instance();
     }
 
     /// What may be done next.
     pub fn task(&mut self, worker: u32) -> Task
-        ensures search { IsSearchState N.problem N.budget self.old.pool }
+        ensures search { IsSearchState N.problem N.cuts N.budget self.old.pool }
         ensures unchanged { (self.new.pool ≡ self.old.pool) × (self.new.board ≡ self.old.board) }
         ensures lawful { IsLawfulTask self.old.pool result }
         ensures done { (result ≡ Task.Done) ↔ (is_done self.old.pool ≡ true) }
@@ -155,7 +156,7 @@ impl<N: Search, R: Wait + Drop> Desk<N, R> {
 
     /// A copy of what is published of the slot.
     pub fn prices(&self, slot: u32) -> Result<Option<Published>, AllocError>
-        ensures search { IsSearchState N.problem N.budget self.now.pool }
+        ensures search { IsSearchState N.problem N.cuts N.budget self.now.pool }
         ensures published { IfOk result (IsPublishedAt self.now.pool slot) }
     {
         self.look();
@@ -164,7 +165,7 @@ impl<N: Search, R: Wait + Drop> Desk<N, R> {
 
     /// A copy of the best design so far; None exactly where there is none.
     pub fn best_design(&self) -> Result<Option<Design>, AllocError>
-        ensures search { IsSearchState N.problem N.budget self.now.pool }
+        ensures search { IsSearchState N.problem N.cuts N.budget self.now.pool }
         ensures design { IfOk result (λ found. found ≡ design_of self.now.pool) }
     {
         self.look();
@@ -173,7 +174,7 @@ impl<N: Search, R: Wait + Drop> Desk<N, R> {
 
     /// What is forbidden at an open leaf, shared; None exactly where the node is none.
     pub fn ground(&self, node: BranchId) -> Result<Option<Arc<Restriction>>, AllocError>
-        ensures search { IsSearchState N.problem N.budget self.now.pool }
+        ensures search { IsSearchState N.problem N.cuts N.budget self.now.pool }
         ensures leaf { IfOk result (λ found. IsSome found ↔ (is_open_state (state_of self.now.pool node) ≡ true)) }
         ensures value { IfOk result (λ found. IfSome found (λ rows. IfSome (slice_get self.now.pool.nodes node.0)
             (λ x. forbids (arc_value rows) ≡ restriction_of x))) }
@@ -194,7 +195,7 @@ impl<N: Search, R: Wait + Drop> Desk<N, R> {
         node: BranchId,
         reader: &mut BoardReader,
     ) -> Result<Result<Opened, RoundFault>, AllocError>
-        ensures search { IsSearchState N.problem N.budget self.old.pool }
+        ensures search { IsSearchState N.problem N.cuts N.budget self.old.pool }
         ensures event { IfOk result (λ answer. OpenStep self.old.pool node answer self.new.pool) }
         ensures shows { IfOk result (λ answer. IfOk answer (λ opened. ShowsFirst self.old.pool node self.old.board opened self.new.board)) }
         ensures refused { IfOk result (λ answer. OnErr answer ((self.new.board ≡ self.old.board) × (reader.new ≡ reader.old))) }
@@ -219,7 +220,7 @@ impl<N: Search, R: Wait + Drop> Desk<N, R> {
 
     /// An offer.
     pub fn offer(&mut self, offer: Offer) -> Offered
-        ensures search { IsSearchState N.problem N.budget self.old.pool }
+        ensures search { IsSearchState N.problem N.cuts N.budget self.old.pool }
         ensures event { OfferStep self.old.pool offer result self.new.pool }
         ensures board { self.new.board ≡ self.old.board }
     {
@@ -229,7 +230,7 @@ impl<N: Search, R: Wait + Drop> Desk<N, R> {
 
     /// A gathering.
     pub fn gather(&mut self, node: BranchId, version: u64) -> Result<Gather, AllocError>
-        ensures search { IsSearchState N.problem N.budget self.old.pool }
+        ensures search { IsSearchState N.problem N.cuts N.budget self.old.pool }
         ensures event { GatherStep self.old.pool node version result self.new.pool }
         ensures board { self.new.board ≡ self.old.board }
     {
@@ -249,7 +250,7 @@ impl<N: Search, R: Wait + Drop> Desk<N, R> {
         split: Option<LoadSplit>,
         reader: &mut BoardReader,
     ) -> Result<Publish, AllocError>
-        ensures search { IsSearchState N.problem N.budget self.old.pool }
+        ensures search { IsSearchState N.problem N.cuts N.budget self.old.pool }
         ensures event { IfOk result (λ answer. PublishStep self.old.pool node seen prices.now answer self.new.pool) }
         ensures shows { IfOk result (λ answer. IfPublished answer (λ slot version. self.new.board ≡ with_entry self.old.board slot (entry_for node version prices.now))) }
         ensures refused { IfOk result (λ answer. IfRefused answer ((self.new.board ≡ self.old.board) × (reader.new ≡ reader.old))) }
@@ -275,7 +276,7 @@ impl<N: Search, R: Wait + Drop> Desk<N, R> {
 
     /// A settling.
     pub fn settle(&mut self, node: BranchId, version: u64, split: Option<LoadSplit>) -> Settle
-        ensures search { IsSearchState N.problem N.budget self.old.pool }
+        ensures search { IsSearchState N.problem N.cuts N.budget self.old.pool }
         ensures event { SettleStep self.old.pool node version result self.new.pool }
         ensures board { self.new.board ≡ self.old.board }
     {
@@ -286,7 +287,7 @@ impl<N: Search, R: Wait + Drop> Desk<N, R> {
 
     /// A closing.
     pub fn close(&mut self, node: BranchId) -> Closing
-        ensures search { IsSearchState N.problem N.budget self.old.pool }
+        ensures search { IsSearchState N.problem N.cuts N.budget self.old.pool }
         ensures event { CloseStep self.old.pool node result self.new.pool }
         ensures board { self.new.board ≡ self.old.board }
     {
@@ -296,7 +297,7 @@ impl<N: Search, R: Wait + Drop> Desk<N, R> {
 
     /// An examination.
     pub fn examine(&mut self, node: BranchId) -> Result<Examined, ExamineFault>
-        ensures search { IsSearchState N.problem N.budget self.old.pool }
+        ensures search { IsSearchState N.problem N.cuts N.budget self.old.pool }
         ensures event { ExamineStep self.old.pool node result self.new.pool }
         ensures board { self.new.board ≡ self.old.board }
     {
@@ -306,7 +307,7 @@ impl<N: Search, R: Wait + Drop> Desk<N, R> {
 
     /// A design that may be better.
     pub fn better(&mut self, design: Design) -> Result<Better, DesignFault>
-        ensures search { IsSearchState N.problem N.budget self.old.pool }
+        ensures search { IsSearchState N.problem N.cuts N.budget self.old.pool }
         ensures event { BetterStep self.old.pool design result self.new.pool }
         ensures board { self.new.board ≡ self.old.board }
     {
@@ -317,7 +318,7 @@ impl<N: Search, R: Wait + Drop> Desk<N, R> {
     /// The pool. The board has ended. Takes no memory.
     pub fn end(self) -> Pool
         ensures pool { result ≡ self.pool }
-        ensures search { IsSearchState N.problem N.budget result }
+        ensures search { IsSearchState N.problem N.cuts N.budget result }
     {
         self.look();
         let Desk {

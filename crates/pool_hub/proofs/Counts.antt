@@ -25,6 +25,7 @@ publish_counts_if p q total id seen prices (publish.Incomplete demand) is event 
 publish_counts_if p q total id seen prices (publish.Rounds done) is event = ap (λ (s : State). s.accepted) event.1 ∙ is
 publish_counts_if p q total id seen prices (publish.PriceCount needed) is event = ap (λ (s : State). s.accepted) event.1 ∙ is
 publish_counts_if p q total id seen prices (publish.OverPrice link) is event = ap (λ (s : State). s.accepted) event.1 ∙ is
+publish_counts_if p q total id seen prices publish.Unlawful is event = ap (λ (s : State). s.accepted) event.1 ∙ is
 publish_counts_if p q total id seen prices (publish.Ungathered demand) is event = ap (λ (s : State). s.accepted) event.1 ∙ is
 publish_counts_if p q total id seen prices (publish.NoGain before after) is event = ap (λ (s : State). s.accepted) event.unchanged ∙ is
 publish_counts_if p q total id seen prices (publish.Published slot version) is event = ap (λ (s : State). s.accepted) event.becomes ∙ is

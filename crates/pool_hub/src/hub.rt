@@ -29,8 +29,8 @@ use crate::naming::Naming;
 use crate::seat::Seat;
 use arc_restrict::Restriction;
 use branch_tree::LoadSplit;
+use cut_table::CutTable;
 use dual_versions::{BoardReader, BoardWriter, Published};
-use link_steps::StepTable;
 use plan_base::{BranchId, Design, DesignFault, Instance, Prices};
 use plan_io::Standing;
 use pool_core::{
@@ -42,8 +42,8 @@ use std::alloc::{AllocError, Global};
 use std::sync::ledger::{Blank, Share};
 use std::sync::{Arc, Mutex, Wait};
 
-/// The pool and the writer of a board behind one lock, and beside it the instance and the step table, for those who work
-/// on it.
+/// The pool and the writer of a board behind one lock, and beside it the instance and the table of its steps and cuts, for
+/// those who work on it.
 ///
 /// Each call takes the lock, makes the pool's call once and lets go of the lock. Its answer is one that the pool gives in
 /// some sound state of this search. The prices of each version are on the board, which seats read without the lock.
@@ -51,9 +51,10 @@ use std::sync::{Arc, Mutex, Wait};
 pub struct Hub<N: Naming, R: Wait + Drop> {
     kept: Mutex<Kept<N, R>>,
     pub(crate) problem: Arc<Instance>,
-    pub(crate) table: Arc<StepTable>,
+    pub(crate) table: Arc<CutTable>,
     ghost problem_is: { arc_value problem ≡ N.problem },
-    ghost table_is: { arc_value table ≡ N.problem },
+    ghost table_is: { (arc_value table).problem ≡ N.problem },
+    ghost cuts_are: { (arc_value table).cuts ≡ N.cuts },
 }
 
 /// So many seats, each with a part of the ledger and nothing booked, and with a reader.
@@ -112,21 +113,22 @@ fn merged<N: Naming>(mut seats: Vec<Seat<N>>) -> Share<N>
     all
 }
 
-/// A seat for each worker, and the instance and the step table of the pool, shared.
+/// A seat for each worker, and the instance and the table of the pool, shared.
 fn seats_beside<N: Naming>(
     alloc: Global,
     pool: &Pool,
     all: Share<N>,
     workers: u32,
     readers: Vec<BoardReader>,
-) -> Result<(Vec<Seat<N>>, Arc<Instance>, Arc<StepTable>), AllocError>
+) -> Result<(Vec<Seat<N>>, Arc<Instance>, Arc<CutTable>), AllocError>
     requires few { workers ≤ MAX_WORKERS }
     requires readers { length readers.items ≡ workers }
     requires all { (all.parts ≡ workers) × (all.amount ≡ 0) }
     ensures count { IfOk result (λ made. length made.0.items ≡ workers) }
     ensures booked { IfOk result (λ made. sum_by (λ s. s.share.amount) made.0.items ≡ 0) }
     ensures problem { IfOk result (λ made. arc_value made.1 ≡ pool.now.problem) }
-    ensures table { IfOk result (λ made. arc_value made.2 ≡ pool.now.problem) }
+    ensures table { IfOk result (λ made. (arc_value made.2).problem ≡ pool.now.problem) }
+    ensures cuts { IfOk result (λ made. (arc_value made.2).cuts ≡ pool.now.cuts) }
 {
     let problem = pool.instance().clone()?;
     let table = pool.table().clone()?;
@@ -138,7 +140,7 @@ impl<N: Naming, R: Wait + Drop> Hub<N, R> {
     /// A hub for a pool, and a seat for each worker.
     ///
     /// - Takes: the blank of a ledger with as many parts as there are workers; a pool that has accepted nothing yet;
-    ///   1 to 64 workers; the writer of a board for the slots and the prices of the pool, on which nothing is pending, and
+    ///   1 to 64 workers; the writer of a board for the slots, the prices and the rates of the pool, on which nothing is pending, and
     ///   a reader of it for each worker.
     /// - Errors: want of memory alone. Then the writer has ended.
     pub fn new(
@@ -152,10 +154,10 @@ impl<N: Naming, R: Wait + Drop> Hub<N, R> {
         requires workers { (1 ≤ workers) × (workers ≤ MAX_WORKERS) }
         requires name { blank.name ≡ N.name }
         requires parts { (blank.parts ≡ N.parts) × (N.parts ≡ workers) }
-        requires search { (pool.problem ≡ N.problem) × (pool.budget ≡ N.budget) }
+        requires search { (pool.problem ≡ N.problem) × (pool.cuts ≡ N.cuts) × (pool.budget ≡ N.budget) }
         requires fresh { pool.accepted ≡ 0 }
         requires slots { writer.slots ≡ MAX_ROUNDS }
-        requires prices { writer.prices ≡ places pool.problem }
+        requires prices { writer.prices ≡ places pool.problem + length pool.cuts }
         requires none_pending { writer.pending ≡ [] }
         requires readers { length readers.items ≡ workers }
         ensures count { IfOk result (λ made. length made.1.items ≡ workers) }
@@ -171,9 +173,10 @@ impl<N: Naming, R: Wait + Drop> Hub<N, R> {
     }
 
     /// What is kept, behind a lock, and what is shared beside it.
-    fn of(kept: Kept<N, R>, problem: Arc<Instance>, table: Arc<StepTable>) -> Hub<N, R>
+    fn of(kept: Kept<N, R>, problem: Arc<Instance>, table: Arc<CutTable>) -> Hub<N, R>
         requires problem { arc_value problem ≡ N.problem }
-        requires table { arc_value table ≡ N.problem }
+        requires table { (arc_value table).problem ≡ N.problem }
+        requires cuts { (arc_value table).cuts ≡ N.cuts }
     {
         Hub {
             kept: Mutex::new(kept),
@@ -184,7 +187,7 @@ impl<N: Naming, R: Wait + Drop> Hub<N, R> {
 
     /// What may be done next.
     pub fn task<W: Wait>(&self, rt: &W, seat: &mut Seat<N>) -> Task
-        ensures answer { HasState N.problem N.budget (λ s. IsLawfulTask s result) }
+        ensures answer { HasState N.problem N.cuts N.budget (λ s. IsLawfulTask s result) }
         ensures seat { seat.new ≡ seat.old }
     {
         self.kept.lock(rt).desk.task(seat.number)
@@ -192,7 +195,7 @@ impl<N: Naming, R: Wait + Drop> Hub<N, R> {
 
     /// What may be done next, and how far the search is then, with its bound where it is asked for.
     pub fn standing_task<W: Wait>(&self, rt: &W, seat: &mut Seat<N>, asks: bool) -> (Task, Standing)
-        ensures answer { HasState N.problem N.budget (λ s. IsLawfulTask s result.0 × (result.1 ≡ standing_of asks s)) }
+        ensures answer { HasState N.problem N.cuts N.budget (λ s. IsLawfulTask s result.0 × (result.1 ≡ standing_of asks s)) }
         ensures seat { seat.new ≡ seat.old }
     {
         let mut kept = self.kept.lock(rt);
@@ -209,7 +212,7 @@ impl<N: Naming, R: Wait + Drop> Hub<N, R> {
         seat: &mut Seat<N>,
         slot: u32,
     ) -> Result<Option<Published>, AllocError>
-        ensures answer { IfOk result (λ found. HasState N.problem N.budget (λ s. IsPublishedAt s slot found)) }
+        ensures answer { IfOk result (λ found. HasState N.problem N.cuts N.budget (λ s. IsPublishedAt s slot found)) }
         ensures seat { seat.new ≡ seat.old }
     {
         let _seat = seat;
@@ -224,7 +227,7 @@ impl<N: Naming, R: Wait + Drop> Hub<N, R> {
         rt: &W,
         seat: &mut Seat<N>,
     ) -> Result<Option<Design>, AllocError>
-        ensures answer { IfOk result (λ found. HasState N.problem N.budget (λ s. found ≡ design_of s)) }
+        ensures answer { IfOk result (λ found. HasState N.problem N.cuts N.budget (λ s. found ≡ design_of s)) }
         ensures seat { seat.new ≡ seat.old }
     {
         let _seat = seat;
@@ -240,7 +243,7 @@ impl<N: Naming, R: Wait + Drop> Hub<N, R> {
         seat: &mut Seat<N>,
         node: BranchId,
     ) -> Result<Option<Arc<Restriction>>, AllocError>
-        ensures answer { IfOk result (λ found. HasState N.problem N.budget (λ s. (IsSome found ↔ (is_open_state (state_of s node) ≡ true))
+        ensures answer { IfOk result (λ found. HasState N.problem N.cuts N.budget (λ s. (IsSome found ↔ (is_open_state (state_of s node) ≡ true))
             × IfSome found (λ rows. IfSome (slice_get s.nodes node.0) (λ x. forbids (arc_value rows) ≡ restriction_of x)))) }
         ensures seat { seat.new ≡ seat.old }
     {
@@ -259,7 +262,7 @@ impl<N: Naming, R: Wait + Drop> Hub<N, R> {
         seat: &mut Seat<N>,
         node: BranchId,
     ) -> Result<Result<Opened, RoundFault>, AllocError>
-        ensures answer { IfOk result (λ answer. HasStep N.problem N.budget (λ old new. OpenStep old node answer new
+        ensures answer { IfOk result (λ answer. HasStep N.problem N.cuts N.budget (λ old new. OpenStep old node answer new
             × IfOk answer (HasFirst old node seat.new.reader))) }
         ensures later { Begins seat.old.reader seat.new.reader }
         ensures refused { IfOk result (λ answer. OnErr answer (seat.new.reader ≡ seat.old.reader)) }
@@ -272,7 +275,7 @@ impl<N: Naming, R: Wait + Drop> Hub<N, R> {
     /// Takes what a demand has found, as `Pool::offer` says, and books it in the seat's share where it is accepted.
     /// Takes no memory.
     pub fn offer<W: Wait>(&self, rt: &W, seat: &mut Seat<N>, offer: Offer) -> Offered
-        ensures answer { HasStep N.problem N.budget (λ old new. OfferStep old offer result new) }
+        ensures answer { HasStep N.problem N.cuts N.budget (λ old new. OfferStep old offer result new) }
         ensures booked { seat.new.share.amount ≡ seat.old.share.amount + accepted_by result }
         ensures number { seat.new.number ≡ seat.old.number }
         ensures reader { seat.new.reader ≡ seat.old.reader }
@@ -290,14 +293,14 @@ impl<N: Naming, R: Wait + Drop> Hub<N, R> {
         node: BranchId,
         version: u64,
     ) -> Result<Gather, AllocError>
-        ensures answer { HasStep N.problem N.budget (λ old new. GatherStep old node version result new) }
+        ensures answer { HasStep N.problem N.cuts N.budget (λ old new. GatherStep old node version result new) }
         ensures seat { seat.new ≡ seat.old }
     {
         let _seat = seat;
         self.kept.lock(rt).desk.gather(node, version)
     }
 
-    /// Gives the round of a node further prices, as `Pool::publish` says, and shows them on the board. The seat sees them
+    /// Gives the round of a node further prices and rates, as `Pool::publish` says, and shows them on the board. The seat sees them
     /// there from then on, or later ones.
     ///
     /// - Errors: want of memory alone. Then nothing changed.
@@ -311,7 +314,7 @@ impl<N: Naming, R: Wait + Drop> Hub<N, R> {
         prices: &Prices,
         split: Option<LoadSplit>,
     ) -> Result<Publish, AllocError>
-        ensures answer { IfOk result (λ answer. HasStep N.problem N.budget (λ old new. PublishStep old node seen prices.now answer new)) }
+        ensures answer { IfOk result (λ answer. HasStep N.problem N.cuts N.budget (λ old new. PublishStep old node seen prices.now answer new)) }
         ensures seen { IfOk result (λ answer. IfPublished answer (HasEntry seat.new.reader node prices.now)) }
         ensures later { Begins seat.old.reader seat.new.reader }
         ensures refused { IfOk result (λ answer. IfRefused answer (seat.new.reader ≡ seat.old.reader)) }
@@ -333,7 +336,7 @@ impl<N: Naming, R: Wait + Drop> Hub<N, R> {
         version: u64,
         split: Option<LoadSplit>,
     ) -> Settle
-        ensures answer { HasStep N.problem N.budget (λ old new. SettleStep old node version result new) }
+        ensures answer { HasStep N.problem N.cuts N.budget (λ old new. SettleStep old node version result new) }
         ensures seat { seat.new ≡ seat.old }
     {
         let _seat = seat;
@@ -342,7 +345,7 @@ impl<N: Naming, R: Wait + Drop> Hub<N, R> {
 
     /// Closes a leaf, as `Pool::close_by_bound` says. Takes no memory.
     pub fn close<W: Wait>(&self, rt: &W, seat: &mut Seat<N>, node: BranchId) -> Closing
-        ensures answer { HasStep N.problem N.budget (λ old new. CloseStep old node result new) }
+        ensures answer { HasStep N.problem N.cuts N.budget (λ old new. CloseStep old node result new) }
         ensures seat { seat.new ≡ seat.old }
     {
         let _seat = seat;
@@ -356,7 +359,7 @@ impl<N: Naming, R: Wait + Drop> Hub<N, R> {
         seat: &mut Seat<N>,
         node: BranchId,
     ) -> Result<Examined, ExamineFault>
-        ensures answer { HasStep N.problem N.budget (λ old new. ExamineStep old node result new) }
+        ensures answer { HasStep N.problem N.cuts N.budget (λ old new. ExamineStep old node result new) }
         ensures seat { seat.new ≡ seat.old }
     {
         let _seat = seat;
@@ -370,7 +373,7 @@ impl<N: Naming, R: Wait + Drop> Hub<N, R> {
         seat: &mut Seat<N>,
         design: Design,
     ) -> Result<Better, DesignFault>
-        ensures answer { HasStep N.problem N.budget (λ old new. BetterStep old design result new) }
+        ensures answer { HasStep N.problem N.cuts N.budget (λ old new. BetterStep old design result new) }
         ensures seat { seat.new ≡ seat.old }
     {
         let _seat = seat;
@@ -385,7 +388,7 @@ impl<N: Naming, R: Wait + Drop> Hub<N, R> {
         requires all { length seats.items ≡ N.parts }
         requires some { 0 < length seats.items }
         ensures accepted { result.accepted ≡ sum_by (λ s. s.share.amount) seats.items }
-        ensures search { IsSearchState N.problem N.budget result }
+        ensures search { IsSearchState N.problem N.cuts N.budget result }
     {
         let Hub {
             kept,

@@ -22,7 +22,7 @@ impl<N: Naming, R: Wait + Drop> Kept<N, R> {
     /// An offer, which is booked in the share where it is accepted.
     pub fn offer(&mut self, offer: Offer, mine: &mut Share<N>) -> Offered
         requires part { 0 < mine.old.parts }
-        ensures search { IsSearchState N.problem N.budget self.old.desk.pool }
+        ensures search { IsSearchState N.problem N.cuts N.budget self.old.desk.pool }
         ensures event { OfferStep self.old.desk.pool offer result self.new.desk.pool }
         ensures board { self.new.desk.board ≡ self.old.desk.board }
         ensures booked { mine.new.amount ≡ mine.old.amount + accepted_by result }
@@ -40,7 +40,7 @@ impl<N: Naming, R: Wait + Drop> Kept<N, R> {
         requires whole { all.parts ≡ N.parts }
         ensures pool { result ≡ self.desk.pool }
         ensures accepted { result.accepted ≡ all.amount }
-        ensures search { IsSearchState N.problem N.budget result }
+        ensures search { IsSearchState N.problem N.cuts N.budget result }
     {
         let Kept { desk, mut offers } = self;
         offers.audit(&mut all);

@@ -5,8 +5,8 @@ use crate::naming::Naming;
 use crate::seat::Seat;
 use arc_restrict::Restriction;
 use branch_tree::LoadSplit;
+use cut_table::CutTable;
 use dual_versions::Published;
-use link_steps::StepTable;
 use plan_base::{BranchId, Design, DesignFault, Instance, Prices};
 use plan_io::Standing;
 use pool_core::{
@@ -29,7 +29,7 @@ impl<N: Naming, R: Wait + Drop> Office<N> for Hub<N, R> {
 
     ghost free = { λ seat. ⊤ };
 
-    ghost ended = { λ hub seat. HasState N.problem N.budget (λ s. is_done s ≡ true) };
+    ghost ended = { λ hub seat. HasState N.problem N.cuts N.budget (λ s. is_done s ≡ true) };
 
     ghost keeps = { λ a b. b.number ≡ a.number };
 
@@ -37,7 +37,7 @@ impl<N: Naming, R: Wait + Drop> Office<N> for Hub<N, R> {
         &self.problem
     }
 
-    fn table(&self) -> &Arc<StepTable> {
+    fn table(&self) -> &Arc<CutTable> {
         &self.table
     }
 

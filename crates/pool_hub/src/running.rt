@@ -1,6 +1,6 @@
 //! A search by several workers.
 
-ghost use Rattle.std.specs.Prelude.{◌≡◌, ◌≤◌, ◌<◌, [], length, IfOk};
+ghost use Rattle.std.specs.Prelude.{◌≡◌, ◌≤◌, ◌<◌, ◌+◌, [], length, IfOk};
 ghost use Rattle.plan_base.specs.Places.{places};
 ghost use Rattle.pool_machine.specs.declared.limits.TheConstants.{MAX_ROUNDS};
 ghost use Rattle.pool_machine.specs.Tasks.{IsSearchState};
@@ -35,10 +35,10 @@ pub fn search<R: Threads + Wait + Sync, G: Gate>(
 ) -> Result<Pool, AllocError>
     requires workers { (1 ≤ workers) × (workers ≤ MAX_WORKERS) }
     requires fresh { pool.accepted ≡ 0 }
-    ensures { IfOk result (IsSearchState pool.problem pool.budget) }
+    ensures { IfOk result (IsSearchState pool.problem pool.cuts pool.budget) }
 {
-    let places = pool.instance().places();
-    let (writer, readers) = board(rt, alloc, MAX_ROUNDS, workers, places)?;
+    let numbers = pool.instance().places() + pool.table().count();
+    let (writer, readers) = board(rt, alloc, MAX_ROUNDS, workers, numbers)?;
     let blank = Blank::new(u64::from(workers));
     search_as::<Brand, R, G>(rt, alloc, blank, pool, workers, writer, readers, gate)
 }
@@ -59,13 +59,13 @@ fn search_as<'a, N: Naming + Send + Sync, R: Threads + Wait + Sync, G: Gate>(
     requires workers { (1 ≤ workers) × (workers ≤ MAX_WORKERS) }
     requires name { blank.name ≡ N.name }
     requires parts { (blank.parts ≡ N.parts) × (N.parts ≡ workers) }
-    requires search { (pool.problem ≡ N.problem) × (pool.budget ≡ N.budget) }
+    requires search { (pool.problem ≡ N.problem) × (pool.cuts ≡ N.cuts) × (pool.budget ≡ N.budget) }
     requires fresh { pool.accepted ≡ 0 }
     requires slots { writer.slots ≡ MAX_ROUNDS }
-    requires prices { writer.prices ≡ places pool.problem }
+    requires prices { writer.prices ≡ places pool.problem + length pool.cuts }
     requires none_pending { writer.pending ≡ [] }
     requires readers { length readers.items ≡ workers }
-    ensures { IfOk result (IsSearchState N.problem N.budget) }
+    ensures { IfOk result (IsSearchState N.problem N.cuts N.budget) }
 {
     let (hub, mut seats) = Hub::<N, &R>::new(alloc, blank, pool, workers, writer, readers)?;
     thread::for_each_mut(

@@ -24,7 +24,7 @@ pub fn work<N: Naming, R: Wait + Drop, W: Wait, G: Gate>(
     seat: &mut Seat<N>,
     gate: &G,
 ) -> Result<(), AllocError>
-    ensures done { OnOk result (HasState N.problem N.budget (λ s. is_done s ≡ true)) }
+    ensures done { OnOk result (HasState N.problem N.cuts N.budget (λ s. is_done s ≡ true)) }
     ensures number { seat.new.number ≡ seat.old.number }
 {
     pool_work::work::<N, Hub<N, R>, W, G>(rt, alloc, hub, seat, gate)

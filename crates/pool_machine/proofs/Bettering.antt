@@ -1,5 +1,5 @@
 -- A cheaper incumbent leaves a state sound: what closes a leaf against a cost closes it against a lower one.
-use Rattle.std.proofs.Common.{◌≡◌, ℕ, ◌≤◌, Bool, true, false, Option, Some, None, refl, sym, subst, arith}
+use Rattle.std.proofs.Common.{◌≡◌, ℕ, ◌≤◌, Bool, true, false, List, Option, Some, None, refl, sym, subst, arith}
 use Rattle.std.specs.Prelude.{IsSomeAnd, IfSome, option_map, nat_lt}
 use Rattle.std.proofs.lemmas.Int.{ints}
 use Rattle.std.proofs.lemmas.Bool.{ltb-true, ltb-false}
@@ -8,7 +8,9 @@ use Rattle.plan_base.specs.declared.ids.BranchId.{BranchId}
 use Rattle.plan_base.specs.declared.parts.Parts.{Parts}
 use Rattle.plan_base.specs.declared.path.Design.{Design}
 use Rattle.proof_tree.specs.Regions.{Region}
-use Rattle.proof_tree.specs.Evidence.{HasEvidence, ClosedByBound, ClosedByRouting}
+use Rattle.proof_tree.specs.declared.cuts.Cut.{Cut as LoadCut}
+use Rattle.proof_tree.specs.Evidence.{ClosedByRouting}
+use Rattle.proof_tree.specs.RatedEvidence.{HasRatedEvidence, ClosedByRatedBound}
 use Rattle.proof_tree.specs.Plans.{IsStatedDesign}
 use Rattle.proof_tree.specs.declared.tree.Evidence.{Evidence}
 use Rattle.proof_tree.specs.declared.tree.Evidence.TheVariants.{Bound, Routed, Overfull, Cut, Far, Crowd, Open}
@@ -19,13 +21,13 @@ use Rattle.pool_machine.specs.Nodes.{IsSoundFate, HasSoundFate}
 use Rattle.pool_machine.specs.Soundness.{IsSound}
 use Rattle.pool_machine.proofs.ClosedNodes.{closed-sound}
 
-module _ (p : Parts) (old : Option ℕ) (cost : ℕ) (below : IfSome old (λ c. cost ≤ c)) where
-  HasEvidence-cheaper : (g : Region) (found : Evidence) → HasEvidence p old g found → HasEvidence p (Some cost) g found
+module _ (p : Parts) (cuts : List LoadCut) (old : Option ℕ) (cost : ℕ) (below : IfSome old (λ c. cost ≤ c)) where
+  HasEvidence-cheaper : (g : Region) (found : Evidence) → HasRatedEvidence p cuts old g found → HasRatedEvidence p cuts (Some cost) g found
   HasEvidence-cheaper g (Bound prices) h = bound old below h
     where
-      bound : (o : Option ℕ) → IfSome o (λ c. cost ≤ c) → IsSomeAnd o (λ c. ClosedByBound p g prices c) → ClosedByBound p g prices cost
+      bound : (o : Option ℕ) → IfSome o (λ c. cost ≤ c) → IsSomeAnd o (λ c. ClosedByRatedBound p cuts g prices c) → ClosedByRatedBound p cuts g prices cost
       bound None less b = absurd b
-      bound (Some c) less b = record { within_limit = b.within_limit; bound = b.bound; is_bound = b.is_bound; unit = b.unit; is_unit = b.is_unit; enough = (let e = b.enough in let l : cost ≤ c = less in omega (arith, ints)) }
+      bound (Some c) less b = record { lawful = b.lawful; bound = b.bound; is_bound = b.is_bound; unit = b.unit; is_unit = b.is_unit; enough = (let e = b.enough in let l : cost ≤ c = less in omega (arith, ints)) }
   HasEvidence-cheaper g Routed h = routed old below h
     where
       routed : (o : Option ℕ) → IfSome o (λ c. cost ≤ c) → IsSomeAnd o (λ c. ClosedByRouting p g.forbidden c) → ClosedByRouting p g.forbidden cost
@@ -42,12 +44,12 @@ module _ (p : Parts) (old : Option ℕ) (cost : ℕ) (below : IfSome old (λ c. 
   HasEvidence-cheaper g (Crowd prices) h = h
   HasEvidence-cheaper g (Open prices) h = h
 
-  IsSoundFate-cheaper : (g : Region) (fate : Fate) → IsSoundFate p old g fate → IsSoundFate p (Some cost) g fate
+  IsSoundFate-cheaper : (g : Region) (fate : Fate) → IsSoundFate p cuts old g fate → IsSoundFate p cuts (Some cost) g fate
   IsSoundFate-cheaper g Undone h = h
   IsSoundFate-cheaper g (ClosedBy found) h = (h.0, HasEvidence-cheaper g found h.1, h.2)
   IsSoundFate-cheaper g (DividedBy d) h = h
 
-  pub HasSoundFate-cheaper : (node : Node) → HasSoundFate p old node → HasSoundFate p (Some cost) node
+  pub HasSoundFate-cheaper : (node : Node) → HasSoundFate p cuts old node → HasSoundFate p cuts (Some cost) node
   HasSoundFate-cheaper node h = IsSoundFate-cheaper (region_of p node) node.fate h
 
 -- the state with this incumbent
@@ -57,9 +59,10 @@ with_incumbent s held = record s { incumbent = Some held }
 cheaper-sound : (s : State) (held : Incumbent) → IsSound s → IsStatedDesign s.problem held.cost held.design → IfSome (cutoff_of s) (λ c. held.cost ≤ c) → IsSound (with_incumbent s held)
 cheaper-sound s held h stated below = record {
   lawful = h.lawful;
+  cuts = h.cuts;
   unit = h.unit;
   nodes = h.nodes;
-  fates = All-weaker (HasSoundFate s.problem (cutoff_of s)) (HasSoundFate s.problem (Some held.cost)) (HasSoundFate-cheaper s.problem (cutoff_of s) held.cost below) s.nodes h.fates;
+  fates = All-weaker (HasSoundFate s.problem s.cuts (cutoff_of s)) (HasSoundFate s.problem s.cuts (Some held.cost)) (HasSoundFate-cheaper s.problem s.cuts (cutoff_of s) held.cost below) s.nodes h.fates;
   apart = h.apart;
   family = h.family;
   columns = h.columns;

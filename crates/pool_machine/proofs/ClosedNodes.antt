@@ -1,12 +1,13 @@
 -- A node that is closed with evidence leaves a state sound.
-use Rattle.std.proofs.Common.{◌≡◌, ℕ, suc, inr, false, Option, Some, None, refl, sym, ap, subst, arith, pos, ◌+ℤ◌}
+use Rattle.std.proofs.Common.{◌≡◌, ℕ, suc, ◌+◌, inr, false, List, length, Option, Some, None, refl, sym, ap, subst, arith, pos, ◌+ℤ◌}
 use Rattle.std.specs.Prelude.{IsSomeAnd, ◌<ℤ◌}
 use Rattle.plan_base.specs.declared.ids.BranchId.{BranchId}
 use Rattle.plan_base.specs.declared.ids.DemandId.{DemandId}
 use Rattle.plan_base.specs.declared.parts.Parts.{Parts}
 use Rattle.plan_base.specs.Places.{places}
 use Rattle.link_steps.specs.Unit.{IsUnit}
-use Rattle.proof_tree.specs.Evidence.{HasEvidence, ClosedByBound}
+use Rattle.proof_tree.specs.declared.cuts.Cut.{Cut}
+use Rattle.proof_tree.specs.RatedEvidence.{HasRatedEvidence, ClosedByRatedBound}
 use Rattle.proof_tree.specs.declared.tree.TreeNode.TheVariants.{Leaf}
 use Rattle.proof_tree.specs.Plans.{is_open}
 use Rattle.proof_tree.specs.Spellings.{FitsEvidence}
@@ -27,12 +28,12 @@ IsSomeAnd-weaker P Q f None h = h
 IsSomeAnd-weaker P Q f (Some x) h = f x h
 
 pub closed-sound : (s : State) (id : BranchId) (node : Node) (found : Evidence) → IsSound s → IsExamined s id node
-    → is_open (Leaf found) ≡ false → HasEvidence s.problem (cutoff_of s) (region_of s.problem node) found → FitsEvidence s.problem.nodes (places s.problem) found
+    → is_open (Leaf found) ≡ false → HasRatedEvidence s.problem s.cuts (cutoff_of s) (region_of s.problem node) found → FitsEvidence s.problem.nodes (places s.problem + length s.cuts) found
     → IsSound (examined_with s id (closed_by found node))
 closed-sound s id node found h is not_open has fits =
     let new : Node = closed_by found node in
     let k = node_at s id.0 node h is.is_node in
-    let sound : IsSoundNode s.problem new = record {
+    let sound : IsSoundNode s.problem s.cuts new = record {
       first_prices = k.first_prices;
       open_enough = k.open_enough;
       ranges = k.ranges;
@@ -56,21 +57,21 @@ closed-sound s id node found h is not_open has fits =
     })
 
 -- the evidence by which a closable node is closed
-ClosesBy-evidence : (p : Parts) (unit : ℕ) (cost : Option ℕ) (node : Node) (found : Evidence) → IsUnit p unit → IsSoundNode p node → ClosesBy unit cost node found
-    → (is_open (Leaf found) ≡ false) × HasEvidence p cost (region_of p node) found × FitsEvidence p.nodes (places p) found
-ClosesBy-evidence p unit cost node found is_unit k (by_crowd prices is) = let crowd = rw is at (k.crowd) in (refl, crowd.0, crowd.1)
-ClosesBy-evidence p unit cost node found is_unit k (by_bound best none is enough) =
-    let b : IsSoundBest p (region_of p node) node.first_prices node.completed best = rw is at (k.best) in (
+ClosesBy-evidence : (p : Parts) (cuts : List Cut) (unit : ℕ) (cost : Option ℕ) (node : Node) (found : Evidence) → IsUnit p unit → IsSoundNode p cuts node → ClosesBy unit cost node found
+    → (is_open (Leaf found) ≡ false) × HasRatedEvidence p cuts cost (region_of p node) found × FitsEvidence p.nodes (places p + length cuts) found
+ClosesBy-evidence p cuts unit cost node found is_unit k (by_crowd prices is) = let crowd = rw is at (k.crowd) in (refl, crowd.0, crowd.1)
+ClosesBy-evidence p cuts unit cost node found is_unit k (by_bound best none is enough) =
+    let b : IsSoundBest p cuts (region_of p node) node.first_prices node.completed best = rw is at (k.best) in (
       refl,
-      IsSomeAnd-weaker (λ c. pos c <ℤ (best.bound +ℤ pos unit)) (λ c. ClosedByBound p (region_of p node) best.prices c)
-          (λ c reaches. record { within_limit = b.prices.within_limit; bound = best.bound; is_bound = b.is_bound; unit = unit; is_unit = is_unit; enough = reaches }) cost enough,
+      IsSomeAnd-weaker (λ c. pos c <ℤ (best.bound +ℤ pos unit)) (λ c. ClosedByRatedBound p cuts (region_of p node) best.prices c)
+          (λ c reaches. record { lawful = b.prices.lawful; bound = best.bound; is_bound = b.is_bound; unit = unit; is_unit = is_unit; enough = reaches }) cost enough,
       b.prices.count,
     )
 
 module _ (s : State) (id : BranchId) (h : IsSound s) where
   pub Closes-sound : (t : State) → Closes s id t → IsSound t
   Closes-sound t e =
-      let has = ClosesBy-evidence s.problem s.unit (cutoff_of s) e.node e.found h.unit (node_at s id.0 e.node h e.is_node) e.closes_by in
+      let has = ClosesBy-evidence s.problem s.cuts s.unit (cutoff_of s) e.node e.found h.unit (node_at s id.0 e.node h e.is_node) e.closes_by in
       subst IsSound (sym e.becomes) (closed-sound s id e.node e.found h (record { not_spent = e.not_spent; is_node = e.is_node; undone = e.undone }) has.0 has.1 has.2)
 
   pub ClosesByCut-sound : (t : State) → ClosesByCut s id t → IsSound t

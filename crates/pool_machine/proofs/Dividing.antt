@@ -6,13 +6,15 @@ use Rattle.std.proofs.lemmas.Option.{slice_get_within}
 use Rattle.plan_base.specs.declared.ids.BranchId.{BranchId}
 use Rattle.plan_base.specs.declared.parts.Parts.{Parts}
 use Rattle.link_steps.specs.Ranges.{AreRanges}
+use Rattle.proof_tree.specs.declared.cuts.Cut.{Cut}
 use Rattle.proof_tree.specs.Regions.{Region, whole}
+use Rattle.cut_table.specs.Numbers.{AreNumbers}
 use Rattle.proof_tree.proofs.RangeLaws.{AreRanges-up_to, AreRanges-above}
 use Rattle.branch_tree.specs.declared.node.Divider.TheVariants as divider
 use Rattle.pool_machine.specs.State.{Best, Limit, Divider, left_limit, right_limit, narrowed, Division, Fate, Undone, ClosedBy, DividedBy, Node, State, region_of, cutoff_of, examined_by, examined_in, left_in, divided_by_fate, divided_in, kept_by}
 use Rattle.pool_machine.specs.Dividing.{PartsBy, child_of, divided_by, Divides}
 use Rattle.pool_machine.specs.Depth.{AreAllEnds, depth_below}
-use Rattle.pool_machine.specs.Nodes.{IsPriceList, IsSoundBest, IsOpenEnough, IsSoundNode, IsSoundDivider, HasSoundFate}
+use Rattle.pool_machine.specs.Nodes.{IsSoundBest, IsOpenEnough, IsSoundNode, IsSoundDivider, HasSoundFate}
 use Rattle.pool_machine.specs.Counts.{IsShallow, weight_in, AreSoundCounts, versions_of}
 use Rattle.pool_machine.specs.Family.{badge_at, HasChildrenBy, IsFamily}
 use Rattle.pool_machine.specs.Soundness.{IsSound}
@@ -23,10 +25,10 @@ use Rattle.pool_machine.proofs.Replacing.{replaced, CountsRise, CountsRise-sound
 use Rattle.pool_machine.proofs.Splitting.{IsOpenEnough-left, IsOpenEnough-right, choices-left, choices-right, PartsAt-parts}
 use Rattle.pool_machine.proofs.Points.{points-up_to, points-above}
 
-pub kept_by-sound : (p : Parts) (node : Node) (best : Option Best) → IsPriceList p node.first_prices
-    → IfSome best (λ b. IsSoundBest p (region_of p node) node.first_prices node.completed b) → IsPriceList p (kept_by best node.first_prices)
-kept_by-sound p node None first h = first
-kept_by-sound p node (Some best) first h = h.prices
+pub kept_by-sound : (p : Parts) (cuts : List Cut) (node : Node) (best : Option Best) → AreNumbers p cuts node.first_prices
+    → IfSome best (λ b. IsSoundBest p cuts (region_of p node) node.first_prices node.completed b) → AreNumbers p cuts (kept_by best node.first_prices)
+kept_by-sound p cuts node None first h = first
+kept_by-sound p cuts node (Some best) first h = h.prices
 
 -- what a split leaves to a child: arcs enough, loads of each place, and less depth
 record IsLeft (p : Parts) (g child : Region) : Type 0 where
@@ -65,9 +67,9 @@ PartsBy-sound p g (divider.Arcs d) parts = (parts.is_split, PartsAt-parts p g.fo
 PartsBy-sound p g (divider.Load d) parts = parts.0
 
 -- a child is sound where enough is left to it
-child_of-sound : (p : Parts) (node : Node) (more : Limit) → IsSoundNode p node → IsLeft p (region_of p node) (region_of p (child_of node more)) → IsSoundNode p (child_of node more)
-child_of-sound p node more k left = record {
-  first_prices = kept_by-sound p node node.best k.first_prices k.best;
+child_of-sound : (p : Parts) (cuts : List Cut) (node : Node) (more : Limit) → IsSoundNode p cuts node → IsLeft p (region_of p node) (region_of p (child_of node more)) → IsSoundNode p cuts (child_of node more)
+child_of-sound p cuts node more k left = record {
+  first_prices = kept_by-sound p cuts node node.best k.first_prices k.best;
   open_enough = left.open_enough;
   ranges = left.ranges;
   round = tt;
@@ -115,9 +117,9 @@ waits nodes one other x y n (suc zero) m is = let same : other ≡ m = cc in no_
 waits nodes one other x y n (suc (suc j)) m is = let bad : ◌≡◌ {A = Option Node} None (Some m) = is in absurd (cc)
 
 -- a divided node and its two children at the end of the list
-module _ (p : Parts) (nodes : List Node) (i : ℕ) (node : Node) (d : Division) (is : slice_get nodes i ≡ Some node) (h : IsFamily p nodes)
+module _ (p : Parts) (cuts : List Cut) (nodes : List Node) (i : ℕ) (node : Node) (d : Division) (is : slice_get nodes i ≡ Some node) (h : IsFamily p cuts nodes)
     (left_next : d.left_child.0 ≡ length nodes) (right_next : d.right_child.0 ≡ suc (length nodes)) where
-  IsFamily-divided : IsFamily p (set nodes i (divided_by d node) ++ (child_of node (left_limit d.by) ∷ child_of node (right_limit d.by) ∷ []))
+  IsFamily-divided : IsFamily p cuts (set nodes i (divided_by d node) ++ (child_of node (left_limit d.by) ∷ child_of node (right_limit d.by) ∷ []))
   IsFamily-divided =
       let new : Node = divided_by d node in
       let left : Node = child_of node (left_limit d.by) in
@@ -137,7 +139,7 @@ module _ (p : Parts) (nodes : List Node) (i : ℕ) (node : Node) (d : Division) 
         (omega arith, left, at_left, record { limits = refl; first_prices = refl }),
         (omega arith, right, at_right, record { limits = refl; first_prices = refl }),
       ) in
-      let root = IsFamily-root p nodes i node new is base h in
+      let root = IsFamily-root p cuts nodes i node new is base h in
       record {
         root = root.0;
         is_root = slice_get-append_left xs more 0 root.0 root.1;
@@ -207,7 +209,7 @@ Divides-sound s id left_child right_child t h e =
     let more = left ∷ right ∷ [] in
     let xs = set s.nodes id.0 new in
     let k = node_at s id.0 node h is.is_node in
-    let sound : IsSoundNode p new = record {
+    let sound : IsSoundNode p s.cuts new = record {
       first_prices = k.first_prices;
       open_enough = k.open_enough;
       ranges = k.ranges;
@@ -220,13 +222,13 @@ Divides-sound s id left_child right_child t h e =
       cut = k.cut;
       crowd = k.crowd;
     } in
-    let P = IsSoundNode p in
-    let F = HasSoundFate p (cutoff_of s) in
+    let P = IsSoundNode p s.cuts in
+    let F = HasSoundFate p s.cuts (cutoff_of s) in
     let g = region_of p node in
     let to_left : IsLeft p g (region_of p left) = left-on_left p g k.open_enough k.ranges d.by e.parts in
     let to_right : IsLeft p g (region_of p right) = left-on_right p g k.open_enough k.ranges d.by e.parts in
-    let left_sound = child_of-sound p node (left_limit d.by) k to_left in
-    let right_sound = child_of-sound p node (right_limit d.by) k to_right in
+    let left_sound = child_of-sound p s.cuts node (left_limit d.by) k to_left in
+    let right_sound = child_of-sound p s.cuts node (right_limit d.by) k to_right in
     let shallow = λ (ends : ℕ → List ℕ) (are : AreAllEnds p ends). All-at (IsShallow p ends) s.nodes id.0 node (h.depths ends are) is.is_node in
     let shallow_left = λ (ends : ℕ → List ℕ) (are : AreAllEnds p ends). child-shallow p ends node (left_limit d.by) are to_left (shallow ends are) in
     let shallow_right = λ (ends : ℕ → List ℕ) (are : AreAllEnds p ends). child-shallow p ends node (right_limit d.by) are to_right (shallow ends are) in
@@ -238,6 +240,7 @@ Divides-sound s id left_child right_child t h e =
     } in
     subst IsSound (sym e.becomes) (record {
       lawful = h.lawful;
+      cuts = h.cuts;
       unit = h.unit;
       nodes = All-append P xs more (All-set P s.nodes id.0 new sound h.nodes) (All-cons P left (right ∷ []) left_sound (All-cons P right [] right_sound (All-nil P)));
       fates = All-append F xs more
@@ -245,7 +248,7 @@ Divides-sound s id left_child right_child t h e =
           (All-cons F left (right ∷ []) tt (All-cons F right [] tt (All-nil F)));
       apart = AreApart-fewer s.next_version xs (xs ++ more) (badge_at-append xs left right refl refl)
           (AreApart-set s.next_version s.nodes id.0 node new is.is_node (inr refl) h.apart);
-      family = IsFamily-divided p s.nodes id.0 node d is.is_node h.family (ap (λ (b : BranchId). b.0) e.left_is ∙ e.left_next) (ap (λ (b : BranchId). b.0) e.right_is ∙ e.right_next);
+      family = IsFamily-divided p s.cuts s.nodes id.0 node d is.is_node h.family (ap (λ (b : BranchId). b.0) e.left_is ∙ e.left_next) (ap (λ (b : BranchId). b.0) e.right_is ∙ e.right_next);
       columns = h.columns;
       incumbent = h.incumbent;
       counts = AreSoundCounts-append (replaced s id.0 new (suc s.examined) s.next_version s.accepted) more refl refl refl

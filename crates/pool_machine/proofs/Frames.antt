@@ -2,7 +2,8 @@
 use Rattle.std.proofs.Common.{◌≡◌, ◌≢◌, ℕ, suc, ◌<◌, ◌⊎◌, inl, inr, List, [], set, Option, Some, None, slice_get, sym, ap, subst, ◌∙◌, arith}
 use Rattle.std.specs.Prelude.{option_and_then}
 use Rattle.plan_base.specs.declared.parts.Parts.{Parts}
-use Rattle.link_steps.specs.Values.{AreStartPrices}
+use Rattle.proof_tree.specs.declared.cuts.Cut.{Cut}
+use Rattle.cut_table.specs.Numbers.{AreStartNumbers}
 use Rattle.pool_machine.specs.State.{Limit, left_limit, right_limit, Fate, Undone, ClosedBy, DividedBy, Node}
 use Rattle.pool_machine.specs.Family.{badge_of, badge_at, AreApart, IsChild, HasChild, HasChildrenBy, IsFamily}
 use Rattle.pool_machine.proofs.Lists.{slice_get-set_same, slice_get-set_other, slice_get-set_cases}
@@ -117,9 +118,9 @@ HasChildrenBy-set nodes i old new is base n parent (DividedBy d) h =
     (HasChild-set nodes i old new is base n parent d.left_child.0 (left_limit d.by) h.0, HasChild-set nodes i old new is base n parent d.right_child.0 (right_limit d.by) h.1)
 
 -- the root after a node has been replaced that keeps its base
-pub IsFamily-root : (p : Parts) (nodes : List Node) (i : ℕ) (old new : Node) → slice_get nodes i ≡ Some old → SameBase old new → IsFamily p nodes
-    → (root : Node) × (slice_get (set nodes i new) 0 ≡ Some root) × (root.limits ≡ []) × AreStartPrices p root.first_prices
-IsFamily-root p nodes i old new is base h = elim (same_or_other 0 i) [
+pub IsFamily-root : (p : Parts) (cuts : List Cut) (nodes : List Node) (i : ℕ) (old new : Node) → slice_get nodes i ≡ Some old → SameBase old new → IsFamily p cuts nodes
+    → (root : Node) × (slice_get (set nodes i new) 0 ≡ Some root) × (root.limits ≡ []) × AreStartNumbers p cuts root.first_prices
+IsFamily-root p cuts nodes i old new is base h = elim (same_or_other 0 i) [
   | inr ne ↦ (h.root, slice_get-set_other nodes i 0 new ne ∙ h.is_root, h.root_limits, h.root_prices)
   | inl e ↦
       let at : slice_get nodes 0 ≡ Some old = subst (λ (k : ℕ). slice_get nodes k ≡ Some old) (sym e) is in
@@ -127,15 +128,15 @@ IsFamily-root p nodes i old new is base h = elim (same_or_other 0 i) [
         new,
         subst (λ (k : ℕ). slice_get (set nodes i new) k ≡ Some new) (sym e) (slice_get-set_same nodes i old new is),
         base.limits ∙ (sym (ap (λ (x : Node). x.limits) same) ∙ h.root_limits),
-        subst (AreStartPrices p) (sym (base.first_prices ∙ sym (ap (λ (x : Node). x.first_prices) same))) h.root_prices,
+        subst (AreStartNumbers p cuts) (sym (base.first_prices ∙ sym (ap (λ (x : Node). x.first_prices) same))) h.root_prices,
       )
 ]
 
 -- a node that keeps its base and has no children
-pub IsFamily-set : (p : Parts) (nodes : List Node) (i : ℕ) (old new : Node) → slice_get nodes i ≡ Some old → SameBase old new
-    → HasChildrenBy (set nodes i new) i new new.fate → IsFamily p nodes → IsFamily p (set nodes i new)
-IsFamily-set p nodes i old new is base own h =
-    let root = IsFamily-root p nodes i old new is base h in
+pub IsFamily-set : (p : Parts) (cuts : List Cut) (nodes : List Node) (i : ℕ) (old new : Node) → slice_get nodes i ≡ Some old → SameBase old new
+    → HasChildrenBy (set nodes i new) i new new.fate → IsFamily p cuts nodes → IsFamily p cuts (set nodes i new)
+IsFamily-set p cuts nodes i old new is base own h =
+    let root = IsFamily-root p cuts nodes i old new is base h in
     record {
       root = root.0;
       is_root = root.1;

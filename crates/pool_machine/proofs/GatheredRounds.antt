@@ -58,7 +58,7 @@ gathered-all s id version node round h is = none-first_in (ungathered_at columns
     columns : Columns
     columns = gathered s.columns round.found (length s.problem.demands)
 
-    sound : IsSoundRound s.problem (restriction_of node) round
+    sound : IsSoundRound s.problem s.cuts (restriction_of node) round
     sound = (rw is.is_round at ((node_at s id.0 node h is.is_node).round)).1
 
     by : (k : ℕ) (o : Option Found) → slice_get round.found k ≡ Some o → ungathered_at columns k o ≡ None
@@ -113,7 +113,7 @@ gathered-columns s id version node round h g k below =
     is : IsCompleteRound s id version node round
     is = g.complete_round
 
-    sound : IsSoundRound s.problem (restriction_of node) round
+    sound : IsSoundRound s.problem s.cuts (restriction_of node) round
     sound = (rw is.is_round at ((node_at s id.0 node h is.is_node).round)).1
 
     found-at : (i : ℕ) → i < length s.problem.demands → slice_get round.found i ≡ Some (slice_index_or round.found i None)

@@ -35,6 +35,7 @@ AreColumns-gathered p columns found (suc n) h simple within =
 columns-sound : (s : State) (columns : Columns) → IsSound s → AreColumns s.problem columns → IsSound (record s { columns = columns })
 columns-sound s columns h are = record {
   lawful = h.lawful;
+  cuts = h.cuts;
   unit = h.unit;
   nodes = h.nodes;
   fates = h.fates;

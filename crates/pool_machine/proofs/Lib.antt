@@ -22,6 +22,8 @@ pub mod Small
 pub mod Enough
 pub mod PlanTrees
 pub mod Leads
+pub mod RefusedNumbers
+pub mod CutlessPublishing
 pub mod Unrefused
 pub mod OneAnswer
 pub mod GatheredRounds

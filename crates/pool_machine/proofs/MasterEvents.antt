@@ -1,12 +1,12 @@
 -- What the events of a master task answer at a node with a complete round.
-use Rattle.std.proofs.Common.{◌≡◌, ℕ, ◌⊎◌, true, List, length, All, Option, Some, None, refl, sym, ap, subst, ◌∙◌, ℤ}
+use Rattle.std.proofs.Common.{◌≡◌, ℕ, ◌⊎◌, true, List, All, Option, Some, None, refl, sym, subst, ◌∙◌, ℤ}
 use Rattle.std.specs.Prelude.{Ok}
 use Rattle.std.proofs.lemmas.List.Elements.{All-filter}
 use Rattle.plan_base.specs.declared.ids.ArcId.{ArcId}
 use Rattle.plan_base.specs.declared.ids.BranchId.{BranchId}
 use Rattle.plan_base.specs.Arcs.{demand_at}
 use Rattle.plan_base.specs.Paths.{IsSimplePath}
-use Rattle.arc_restrict.specs.Prices.{AreWithinLimit}
+use Rattle.cut_table.specs.Numbers.{AreNumbers}
 use Rattle.link_steps.specs.declared.range.LoadRange.{LoadRange}
 use Rattle.link_steps.specs.Ranges.{AreRanges}
 use Rattle.column_pool.specs.declared.brief.Brief.{Brief}
@@ -62,13 +62,12 @@ gather-gathers s t id version brief h e =
 
 -- what is told is a brief of the instance
 pub brief-fits : (s : State) (id : BranchId) (version : ℕ) (node : Node) (round : Round) (brief : Brief) → IsSound s → IsCompleteRound s id version node round → IsBriefOf s id node round brief
-    → IsBriefFor s.problem brief.prices brief.ranges brief.columns
+    → IsBriefFor s.problem s.cuts brief.prices brief.ranges brief.columns
 brief-fits s id version node round brief h is b =
     let k = node_at s id.0 node h is.is_node in
-    let sound : IsSoundRound s.problem (restriction_of node) round = (rw is.is_round at (k.round)).1 in
+    let sound : IsSoundRound s.problem s.cuts (restriction_of node) round = (rw is.is_round at (k.round)).1 in
     record {
-      price_count = ap length b.prices ∙ sound.prices.count;
-      price_limit = subst (AreWithinLimit s.problem) (sym b.prices) sound.prices.within_limit;
+      are_numbers = subst (AreNumbers s.problem s.cuts) (sym b.prices) sound.prices;
       are_ranges = subst (AreRanges s.problem) (sym b.ranges) k.ranges;
       list_count = b.count;
       paths = λ k below. subst (λ (paths : List (List ArcId)). All (λ path. IsSimplePath s.problem (demand_at s.problem k) path) paths) (sym (b.columns k below))
@@ -78,7 +77,7 @@ brief-fits s id version node round brief h is b =
 -- Settlings
 
 pub settle-goes : (s t : State) (id : BranchId) (version : ℕ) (node : Node) (round : Round) (answer : Settle) → IsGathered s id version node round
-    → (has_enough s node ≡ true) ⊎ HasStalled s.problem (ranges_of s.problem node) (columns_for s node) round.prices → SettleStep s id version answer t → Settles s id version t
+    → (has_enough s node ≡ true) ⊎ HasStalled s.problem s.cuts (ranges_of s.problem node) (columns_for s node) round.prices → SettleStep s id version answer t → Settles s id version t
 settle-goes s t id version node round answer is more step = by answer step
   where
     no : (a : Settle) → settle_fault s id version ≡ Some a → ⊥
@@ -93,26 +92,26 @@ settle-goes s t id version node round answer is more step = by answer step
     by (settle.Ungathered x) e = absurd (no (settle.Ungathered x) e.0)
 
 -- where no trial gains, the round is stalled
-pub same-stalled : (s : State) (id : BranchId) (node : Node) (round : Round) (brief : Brief) (value : ℤ) → IsBriefOf s id node round brief → IsStalled s.problem brief.ranges (columns_at brief.columns) brief.prices value
-    → HasStalled s.problem (ranges_of s.problem node) (columns_for s node) round.prices
+pub same-stalled : (s : State) (id : BranchId) (node : Node) (round : Round) (brief : Brief) (value : ℤ) → IsBriefOf s id node round brief → IsStalled s.problem s.cuts brief.ranges (columns_at brief.columns) brief.prices value
+    → HasStalled s.problem s.cuts (ranges_of s.problem node) (columns_for s node) round.prices
 same-stalled s id node round brief value b h =
-    let same = stalled-same s.problem brief.ranges (columns_at brief.columns) (columns_for s node) brief.prices value b.columns h in
-    let ranged : IsStalled s.problem (ranges_of s.problem node) (columns_for s node) brief.prices value = subst (λ (ranges : List LoadRange). IsStalled s.problem ranges (columns_for s node) brief.prices value) b.ranges same in
-    (value, subst (λ (prices : List ℕ). IsStalled s.problem (ranges_of s.problem node) (columns_for s node) prices value) b.prices ranged)
+    let same = stalled-same s.problem s.cuts brief.ranges (columns_at brief.columns) (columns_for s node) brief.prices value b.columns h in
+    let ranged : IsStalled s.problem s.cuts (ranges_of s.problem node) (columns_for s node) brief.prices value = subst (λ (ranges : List LoadRange). IsStalled s.problem s.cuts ranges (columns_for s node) brief.prices value) b.ranges same in
+    (value, subst (λ (prices : List ℕ). IsStalled s.problem s.cuts (ranges_of s.problem node) (columns_for s node) prices value) b.prices ranged)
 
 -- Publishings
 
 -- prices of greater value over the columns of the brief are better for its round
 pub rise-better : (s : State) (id : BranchId) (node : Node) (round : Round) (brief : Brief) (old : ℤ) (prices : List ℕ) (new : ℤ) → IsBriefOf s id node round brief
-    → IsRiseOf s.problem brief.ranges (columns_at brief.columns) brief.prices old prices new → IsBetterStep s node round prices
+    → IsRiseOf s.problem s.cuts brief.ranges (columns_at brief.columns) brief.prices old prices new → IsBetterStep s node round prices
 rise-better s id node round brief old prices new b h =
     let same : AreSame s.problem (columns_at brief.columns) (columns_for s node) = b.columns in
-    let ranged = λ (ps : List ℕ) (value : ℤ) (v : IsRestrictedValue s.problem brief.ranges (columns_at brief.columns) ps value).
-    subst (λ (ranges : List LoadRange). IsRestrictedValue s.problem ranges (columns_for s node) ps value) b.ranges (value-same s.problem brief.ranges (columns_at brief.columns) (columns_for s node) ps value same v) in
+    let ranged = λ (ps : List ℕ) (value : ℤ) (v : IsRestrictedValue s.problem s.cuts brief.ranges (columns_at brief.columns) ps value).
+    subst (λ (ranges : List LoadRange). IsRestrictedValue s.problem s.cuts ranges (columns_for s node) ps value) b.ranges (value-same s.problem s.cuts brief.ranges (columns_at brief.columns) (columns_for s node) ps value same v) in
     record {
       before = old;
       after = new;
-      is_before = subst (λ (ps : List ℕ). IsRestrictedValue s.problem (ranges_of s.problem node) (columns_for s node) ps old) b.prices (ranged brief.prices old h.is_old);
+      is_before = subst (λ (ps : List ℕ). IsRestrictedValue s.problem s.cuts (ranges_of s.problem node) (columns_for s node) ps old) b.prices (ranged brief.prices old h.is_old);
       is_after = ranged prices new h.is_new;
       greater = h.greater;
     }
@@ -135,4 +134,5 @@ publish-goes s t id seen prices node round answer may gains step = by answer ste
     by (publish.Rounds x) e = absurd (no (publish.Rounds x) e.0)
     by (publish.PriceCount x) e = absurd (no (publish.PriceCount x) e.0)
     by (publish.OverPrice x) e = absurd (no (publish.OverPrice x) e.0)
+    by publish.Unlawful e = absurd (no publish.Unlawful e.0)
     by (publish.Ungathered x) e = absurd (no (publish.Ungathered x) e.0)

@@ -1,7 +1,8 @@
 -- An offer that is taken keeps a state sound.
-use Rattle.std.proofs.Common.{◌≡◌, ℕ, zero, suc, ◌+◌, ◌<◌, inl, inr, set, Some, None, slice_get, refl, sym, ap, subst, ◌∙◌, arith, length-set}
+use Rattle.std.proofs.Common.{◌≡◌, ℕ, zero, suc, ◌+◌, ◌<◌, inl, inr, List, set, Some, None, slice_get, refl, sym, ap, subst, ◌∙◌, arith, length-set}
 use Rattle.plan_base.specs.declared.parts.Parts.{Parts}
 use Rattle.arc_restrict.specs.Restrictions.{Forbidden}
+use Rattle.proof_tree.specs.declared.cuts.Cut.{Cut}
 use Rattle.path_pricing.specs.declared.priced.Priced.{Priced}
 use Rattle.pool_machine.specs.declared.answers.Offer.{Offer}
 use Rattle.path_pricing.specs.declared.priced.Priced.TheVariants as priced
@@ -25,8 +26,8 @@ left_of-with_found : (round : Round) (k : ℕ) (found : Found) → slice_get rou
 left_of-with_found round k found is =
     let e : left_of (with_found round k found) + 1 ≡ left_of round + 0 = sum_by-set_at gap_of round.found k None (Some found) is in omega arith
 
-pub with_found-sound : (p : Parts) (r : Forbidden) (round : Round) (k : ℕ) (found : Found) → IsSoundRound p r round → IsLeastPath p round.prices k r found.path found.price → IsSoundRound p r (with_found round k found)
-with_found-sound p r round k found h least = record {
+pub with_found-sound : (p : Parts) (cuts : List Cut) (r : Forbidden) (round : Round) (k : ℕ) (found : Found) → IsSoundRound p cuts r round → IsLeastPath p round.prices k r found.path found.price → IsSoundRound p cuts r (with_found round k found)
+with_found-sound p cuts r round k found h least = record {
   slot = h.slot;
   count = length-set round.found k (Some found) ∙ h.count;
   prices = h.prices;
@@ -58,7 +59,7 @@ module _ (s : State) (offer : Offer) (h : IsSound s) where
       let undone : node.fate ≡ Undone = in_round.0 in
       let shows : priced_fault s.problem e.round.prices offer.demand.0 (restriction_of node) (priced.NoPath e.reached) ≡ None =
       subst (λ (x : Priced). priced_fault s.problem e.round.prices offer.demand.0 (restriction_of node) x ≡ None) e.is_set fits.fits in
-      let sound : IsSoundNode s.problem new = record {
+      let sound : IsSoundNode s.problem s.cuts new = record {
         first_prices = k.first_prices;
         open_enough = k.open_enough;
         ranges = k.ranges;
@@ -76,7 +77,7 @@ module _ (s : State) (offer : Offer) (h : IsSound s) where
       } in
       subst IsSound (sym e.becomes)
       (replaced-sound s offer.node.0 node new s.examined s.next_version s.accepted fits.is_node h (record { limits = refl; first_prices = refl })
-      (no_children (set s.nodes offer.node.0 new) offer.node.0 new node.fate undone) sound (undone_fate s.problem (cutoff_of s) new undone) refl
+      (no_children (set s.nodes offer.node.0 new) offer.node.0 new node.fate undone) sound (undone_fate s.problem s.cuts (cutoff_of s) new undone) refl
       (AreApart-set s.next_version s.nodes offer.node.0 node new fits.is_node (inl refl) h.apart)
       (record { examined_is = refl; within_budget = h.counts.within_budget; versions = omega arith; accepted_within = omega arith }))
 
@@ -96,12 +97,12 @@ module _ (s : State) (offer : Offer) (h : IsSound s) where
       let least : IsLeastPath s.problem round.prices offer.demand.0 r e.found.path e.found.price =
       IsPriced-priced_fault s.problem round.prices offer.demand.0 r (priced.Path e.found.path e.found.price e.potentials)
       (subst (λ (x : Priced). priced_fault s.problem round.prices offer.demand.0 r x ≡ None) e.is_path fits.fits) in
-      let new_round : IsSoundRound s.problem r more = with_found-sound s.problem r round offer.demand.0 e.found in_round.1 least in
-      let taken : HasTaken s.problem node more e.after = TakesRound-sound s.problem node more undone k new_round versions.first_round (versions.room some_left) e.after e.takes in
+      let new_round : IsSoundRound s.problem s.cuts r more = with_found-sound s.problem s.cuts r round offer.demand.0 e.found in_round.1 least in
+      let taken : HasTaken s.problem s.cuts node more e.after = TakesRound-sound s.problem s.cuts node more undone k new_round versions.first_round (versions.room some_left) e.after e.takes in
       let undone' : e.after.fate ≡ Undone = taken.fate ∙ undone in
       subst IsSound (sym e.becomes)
       (replaced-sound s offer.node.0 node e.after s.examined s.next_version (suc s.accepted) fits.is_node h taken.base
-      (no_children (set s.nodes offer.node.0 e.after) offer.node.0 e.after e.after.fate undone') taken.sound (undone_fate s.problem (cutoff_of s) e.after undone') (ap divided_by_fate taken.fate)
+      (no_children (set s.nodes offer.node.0 e.after) offer.node.0 e.after e.after.fate undone') taken.sound (undone_fate s.problem s.cuts (cutoff_of s) e.after undone') (ap divided_by_fate taken.fate)
       (AreApart-set s.next_version s.nodes offer.node.0 node e.after fits.is_node (inl (ap badge_of taken.is_round ∙ sym (ap badge_of fits.is_round))) h.apart)
       (record {
         examined_is = ap (λ (f : Fate). s.examined + examined_by f) (sym taken.fate);

@@ -122,15 +122,15 @@ module _ (s : State) (id : BranchId) (version : ℕ) where
   settle-free a x = absurd x
 
   pub no_more-not_improves : (u : State) (node : Node) (round : Round) (before after : ℤ) → IsGathered s id version node round
-      → (has_enough s node ≡ true) ⊎ HasStalled s.problem (ranges_of s.problem node) (columns_for s node) round.prices → IsImprovable s id version before after u → ⊥
+      → (has_enough s node ≡ true) ⊎ HasStalled s.problem s.cuts (ranges_of s.problem node) (columns_for s node) round.prices → IsImprovable s id version before after u → ⊥
   no_more-not_improves u node round before after is no_more y =
       let a = is.complete_round in
       let b = y.is_gathered.complete_round in
       let same = one_round s id node y.node round y.round a.is_node b.is_node a.is_round b.is_round in
-      let gain : IsGain s.problem (ranges_of s.problem node) (columns_for s node) round.prices before after = moved s node y.node round y.round (λ n prices. IsGain s.problem (ranges_of s.problem n) (columns_for s n) prices before after) same y.is_gain in
+      let gain : IsGain s.problem s.cuts (ranges_of s.problem node) (columns_for s node) round.prices before after = moved s node y.node round y.round (λ n prices. IsGain s.problem s.cuts (ranges_of s.problem n) (columns_for s n) prices before after) same y.is_gain in
       elim no_more [
         | inl enough ↦ false-not_true (has_enough s y.node) y.not_enough (ap (has_enough s) same.0 ∙ enough)
-        | inr stalled ↦ gain-not_stalled s.problem (ranges_of s.problem node) (columns_for s node) round.prices before stalled.0 after gain stalled.1
+        | inr stalled ↦ gain-not_stalled s.problem s.cuts (ranges_of s.problem node) (columns_for s node) round.prices before stalled.0 after gain stalled.1
       ]
 
   improves-one : (t u : State) (v w g h : ℤ) → IsImprovable s id version v g t → IsImprovable s id version w h u → settle.Improves v g ≡ settle.Improves w h
@@ -138,9 +138,9 @@ module _ (s : State) (id : BranchId) (version : ℕ) where
       let a = x.is_gathered.complete_round in
       let b = y.is_gathered.complete_round in
       let same = one_round s id x.node y.node x.round y.round a.is_node b.is_node a.is_round b.is_round in
-      let other : IsGain s.problem (ranges_of s.problem x.node) (columns_for s x.node) x.round.prices w h = moved s x.node y.node x.round y.round (λ n prices. IsGain s.problem (ranges_of s.problem n) (columns_for s n) prices w h) same y.is_gain in
-      let before : v ≡ w = value-unique s.problem (ranges_of s.problem x.node) (columns_for s x.node) x.round.prices v w x.is_gain.is_raise.is_old other.is_raise.is_old in
-      let after : g ≡ h = gain-unique s.problem (ranges_of s.problem x.node) (columns_for s x.node) x.round.prices v w g h x.is_gain other in
+      let other : IsGain s.problem s.cuts (ranges_of s.problem x.node) (columns_for s x.node) x.round.prices w h = moved s x.node y.node x.round y.round (λ n prices. IsGain s.problem s.cuts (ranges_of s.problem n) (columns_for s n) prices w h) same y.is_gain in
+      let before : v ≡ w = value-unique s.problem s.cuts (ranges_of s.problem x.node) (columns_for s x.node) x.round.prices v w x.is_gain.is_raise.is_old other.is_raise.is_old in
+      let after : g ≡ h = gain-unique s.problem s.cuts (ranges_of s.problem x.node) (columns_for s x.node) x.round.prices v w g h x.is_gain other in
       ap (λ (z : ℤ). settle.Improves z g) before ∙ ap (λ (z : ℤ). settle.Improves w z) after
 
   settle-both : (a b : Settle) → SettleSucceeds s id version a → SettleSucceeds s id version b → a ≡ b
@@ -162,6 +162,10 @@ PublishSucceeds s id seen prices (publish.NoGain before after) = (t : State) × 
 PublishSucceeds s id seen prices answer = ⊥
 
 module _ (s : State) (id : BranchId) (seen : ℕ) (prices : List ℕ) where
+  -- the restricted value over the columns that a node permits
+  abbrev HasValue : Node → List ℕ → ℤ → Type 0
+  HasValue node ps value = IsRestrictedValue s.problem s.cuts (ranges_of s.problem node) (columns_for s node) ps value
+
   publish-cases : (t : State) (a : Publish) → PublishStep s id seen prices a t → (publish_fault s id seen prices ≡ Some a) ⊎ PublishSucceeds s id seen prices a
   publish-cases t (publish.Published slot version) x = inr (t, x)
   publish-cases t (publish.NoGain before after) x = inr (t, x)
@@ -172,6 +176,7 @@ module _ (s : State) (id : BranchId) (seen : ℕ) (prices : List ℕ) where
   publish-cases t (publish.Rounds y) x = inl x.0
   publish-cases t (publish.PriceCount y) x = inl x.0
   publish-cases t (publish.OverPrice y) x = inl x.0
+  publish-cases t publish.Unlawful x = inl x.0
   publish-cases t (publish.Ungathered y) x = inl x.0
 
   publish-free : (a : Publish) → PublishSucceeds s id seen prices a → publish_fault s id seen prices ≡ None
@@ -193,10 +198,10 @@ module _ (s : State) (id : BranchId) (seen : ℕ) (prices : List ℕ) where
       let a = x.may.is_gathered.complete_round in
       let b = y.may.is_gathered.complete_round in
       let same = one_round s id x.node y.node x.round y.round a.is_node b.is_node a.is_round b.is_round in
-      let old : IsRestrictedValue s.problem (ranges_of s.problem x.node) (columns_for s x.node) x.round.prices w = moved s x.node y.node x.round y.round (λ n ps. IsRestrictedValue s.problem (ranges_of s.problem n) (columns_for s n) ps w) same y.is_before in
-      let new : IsRestrictedValue s.problem (ranges_of s.problem x.node) (columns_for s x.node) prices h = subst (λ (n : Node). IsRestrictedValue s.problem (ranges_of s.problem n) (columns_for s n) prices h) same.0 y.is_after in
-      let before : v ≡ w = value-unique s.problem (ranges_of s.problem x.node) (columns_for s x.node) x.round.prices v w x.is_before old in
-      let after : g ≡ h = value-unique s.problem (ranges_of s.problem x.node) (columns_for s x.node) prices g h x.is_after new in
+      let old : HasValue x.node x.round.prices w = moved s x.node y.node x.round y.round (λ n ps. HasValue n ps w) same y.is_before in
+      let new : HasValue x.node prices h = subst (λ (n : Node). HasValue n prices h) same.0 y.is_after in
+      let before : v ≡ w = value-unique s.problem s.cuts (ranges_of s.problem x.node) (columns_for s x.node) x.round.prices v w x.is_before old in
+      let after : g ≡ h = value-unique s.problem s.cuts (ranges_of s.problem x.node) (columns_for s x.node) prices g h x.is_after new in
       ap (λ (z : ℤ). publish.NoGain z g) before ∙ ap (λ (z : ℤ). publish.NoGain w z) after
 
   pub gains-not_no_gain : (u : State) (node : Node) (round : Round) (v g : ℤ) → MayFollow s id seen prices node round
@@ -207,10 +212,10 @@ module _ (s : State) (id : BranchId) (seen : ℕ) (prices : List ℕ) where
       let same = one_round s id y.node node y.round round b.is_node a.is_node b.is_round a.is_round in
       elim gains [
         | inl better ↦
-            let old : IsRestrictedValue s.problem (ranges_of s.problem y.node) (columns_for s y.node) y.round.prices better.before = moved s y.node node y.round round (λ n ps. IsRestrictedValue s.problem (ranges_of s.problem n) (columns_for s n) ps better.before) same better.is_before in
-            let new : IsRestrictedValue s.problem (ranges_of s.problem y.node) (columns_for s y.node) prices better.after = subst (λ (n : Node). IsRestrictedValue s.problem (ranges_of s.problem n) (columns_for s n) prices better.after) same.0 better.is_after in
-            let before : better.before ≡ v = value-unique s.problem (ranges_of s.problem y.node) (columns_for s y.node) y.round.prices better.before v old y.is_before in
-            let after : better.after ≡ g = value-unique s.problem (ranges_of s.problem y.node) (columns_for s y.node) prices better.after g new y.is_after in
+            let old : HasValue y.node y.round.prices better.before = moved s y.node node y.round round (λ n ps. HasValue n ps better.before) same better.is_before in
+            let new : HasValue y.node prices better.after = subst (λ (n : Node). HasValue n prices better.after) same.0 better.is_after in
+            let before : better.before ≡ v = value-unique s.problem s.cuts (ranges_of s.problem y.node) (columns_for s y.node) y.round.prices better.before v old y.is_before in
+            let after : better.after ≡ g = value-unique s.problem s.cuts (ranges_of s.problem y.node) (columns_for s y.node) prices better.after g new y.is_after in
             not_both better.before better.after better.greater (subst (λ (z : ℤ). z ≤ℤ better.before) (sym after) (subst (λ (z : ℤ). g ≤ℤ z) (sym before) y.not_greater))
         | inr crowd ↦ y.no_crowd_step (subst (λ (r : Round). IsCrowdStep s y.node r prices) same.1 (subst (λ (n : Node). IsCrowdStep s n round prices) same.0 crowd))
       ]

@@ -41,17 +41,17 @@ module _ (s : State) (id : BranchId) (h : IsSound s) where
       let demands = length s.problem.demands in
       let round : Round = empty_round s opened.slot node.first_prices in
       let all_left : left_of round ≡ demands = (let x : left_of round ≡ demands * 1 = sum_by-replicate gap_of demands None in omega arith) in
-      let is_sound : IsSoundRound s.problem (restriction_of node) round = record {
+      let is_sound : IsSoundRound s.problem s.cuts (restriction_of node) round = record {
         slot = e.slot.within;
         count = length-replicate demands None;
         prices = k.first_prices;
         least = λ j found is. absurd (none_found demands j found is);
       } in
-      let taken : HasTaken s.problem node round e.after = TakesRound-sound s.problem node round e.undone k is_sound (λ zero_. refl) (omega arith) e.after e.takes in
+      let taken : HasTaken s.problem s.cuts node round e.after = TakesRound-sound s.problem s.cuts node round e.undone k is_sound (λ zero_. refl) (omega arith) e.after e.takes in
       let undone' : e.after.fate ≡ Undone = taken.fate ∙ e.undone in
       subst IsSound (sym e.becomes)
       (replaced-sound s id.0 node e.after s.examined (suc s.next_version) s.accepted e.is_node h taken.base
-      (no_children (set s.nodes id.0 e.after) id.0 e.after e.after.fate undone') taken.sound (undone_fate s.problem (cutoff_of s) e.after undone') (ap divided_by_fate taken.fate)
+      (no_children (set s.nodes id.0 e.after) id.0 e.after e.after.fate undone') taken.sound (undone_fate s.problem s.cuts (cutoff_of s) e.after undone') (ap divided_by_fate taken.fate)
       (AreApart-new s.next_version opened.slot s.nodes id.0 node e.after e.is_node (ap badge_of taken.is_round)
       (λ n version ne x. let w = taken_by (slice_get s.nodes n) opened.slot version x in e.slot.free (n, w.0, w.1, w.2)) h.apart)
       (record {

@@ -3,12 +3,13 @@ use Rattle.std.proofs.Common.{◌≡◌, ℕ, zero, suc, ◌+◌, ◌<◌, ◌�
 use Rattle.std.proofs.lemmas.List.{append-nil}
 use Rattle.std.proofs.lemmas.Option.{slice_get_within}
 use Rattle.plan_base.specs.declared.parts.Parts.{Parts}
-use Rattle.proof_tree.specs.Evidence.{HasEvidence}
+use Rattle.proof_tree.specs.declared.cuts.Cut.{Cut}
+use Rattle.proof_tree.specs.RatedEvidence.{HasRatedEvidence}
 use Rattle.proof_tree.specs.declared.tree.Evidence.TheVariants as evidence
 use Rattle.proof_tree.specs.declared.tree.TreeNode.{TreeNode}
 use Rattle.proof_tree.specs.declared.tree.TreeNode.TheVariants.{Leaf}
 use Rattle.proof_tree.specs.Regions.{Region, whole}
-use Rattle.proof_tree.specs.Trees.{AreValidTrees, IsValidTree}
+use Rattle.proof_tree.specs.RatedTrees.{AreRatedTrees, IsRatedTree}
 use Rattle.branch_tree.specs.Records.{split_record}
 use Rattle.branch_tree.specs.declared.node.Divider.TheVariants as divider
 use Rattle.pool_machine.specs.State.{Divider, left_limit, right_limit, narrowed, Fate, Undone, ClosedBy, DividedBy, Node, State, region_of, region_by, cutoff_of, kept_prices}
@@ -21,21 +22,21 @@ use Rattle.pool_machine.proofs.Dividing.{kept_by-sound}
 use Rattle.pool_machine.proofs.Rising.{child-region}
 
 -- trees that stand at these regions: whole and valid, and each split parts two paths or two steps
-abbrev AreSoundTrees : Parts → Option ℕ → List Region → List TreeNode → Type 0
-AreSoundTrees p cost gs records = AreValidTrees p cost gs records × SplitsPart p gs records
+abbrev AreSoundTrees : Parts → List Cut → Option ℕ → List Region → List TreeNode → Type 0
+AreSoundTrees p cuts cost gs records = AreRatedTrees p cuts cost gs records × SplitsPart p gs records
 
-leaf-sound : (p : Parts) (cost : Option ℕ) (g : Region) (gs : List Region) (found : evidence.the_data) (rest : List TreeNode)
-    → HasEvidence p cost g found → AreSoundTrees p cost gs rest → AreSoundTrees p cost (g ∷ gs) (Leaf found ∷ rest)
-leaf-sound p cost g gs found rest has h = ((has, h.0), (tt, h.1))
+leaf-sound : (p : Parts) (cuts : List Cut) (cost : Option ℕ) (g : Region) (gs : List Region) (found : evidence.the_data) (rest : List TreeNode)
+    → HasRatedEvidence p cuts cost g found → AreSoundTrees p cuts cost gs rest → AreSoundTrees p cuts cost (g ∷ gs) (Leaf found ∷ rest)
+leaf-sound p cuts cost g gs found rest has h = ((has, h.0), (tt, h.1))
 
-split-sound : (p : Parts) (cost : Option ℕ) (g : Region) (gs : List Region) (by : Divider) (rest : List TreeNode)
-    → IsSoundDivider p g by → AreSoundTrees p cost (narrowed g (left_limit by) ∷ (narrowed g (right_limit by) ∷ gs)) rest → AreSoundTrees p cost (g ∷ gs) (split_record by ∷ rest)
-split-sound p cost g gs (divider.Arcs d) rest sound h = ((sound.0, h.0), (sound.1, h.1))
-split-sound p cost g gs (divider.Load d) rest sound h = ((sound.is_split, h.0), (sound, h.1))
+split-sound : (p : Parts) (cuts : List Cut) (cost : Option ℕ) (g : Region) (gs : List Region) (by : Divider) (rest : List TreeNode)
+    → IsSoundDivider p g by → AreSoundTrees p cuts cost (narrowed g (left_limit by) ∷ (narrowed g (right_limit by) ∷ gs)) rest → AreSoundTrees p cuts cost (g ∷ gs) (split_record by ∷ rest)
+split-sound p cuts cost g gs (divider.Arcs d) rest sound h = ((sound.0, h.0), (sound.1, h.1))
+split-sound p cuts cost g gs (divider.Load d) rest sound h = ((sound.is_split, h.0), (sound, h.1))
 
 module _ (s : State) (h : IsSound s) where
   abbrev Sound : List Region → List TreeNode → Type 0
-  Sound = AreSoundTrees s.problem (cutoff_of s)
+  Sound = AreSoundTrees s.problem s.cuts (cutoff_of s)
 
   -- the subtree at a number, where the depth reaches the end of the list
   records_at-sound : (depth n : ℕ) (node : Node) → slice_get s.nodes n ≡ Some node → length s.nodes ≤ depth + n
@@ -44,18 +45,18 @@ module _ (s : State) (h : IsSound s) where
   records_at-sound (suc depth) n node is deep gs rest after =
       let P : Option Node → Type 0 = λ o. Sound (region_of s.problem node ∷ gs) (records_in (records_at depth s.nodes) o ++ rest) in
       subst P (sym is)
-      (by_fate node.fate (All-at (HasSoundFate s.problem (cutoff_of s)) s.nodes n node h.fates is) (h.family.children n node is)
+      (by_fate node.fate (All-at (HasSoundFate s.problem s.cuts (cutoff_of s)) s.nodes n node h.fates is) (h.family.children n node is)
       (λ m child at above gs' rest' after'. records_at-sound depth m child at (omega arith) gs' rest' after'))
     where
-      k : IsSoundNode s.problem node
-      k = All-at (IsSoundNode s.problem) s.nodes n node h.nodes is
+      k : IsSoundNode s.problem s.cuts node
+      k = All-at (IsSoundNode s.problem s.cuts) s.nodes n node h.nodes is
 
-      by_fate : (fate : Fate) → IsSoundFate s.problem (cutoff_of s) (region_of s.problem node) fate → HasChildrenBy s.nodes n node fate
+      by_fate : (fate : Fate) → IsSoundFate s.problem s.cuts (cutoff_of s) (region_of s.problem node) fate → HasChildrenBy s.nodes n node fate
           → ((m : ℕ) (child : Node) → slice_get s.nodes m ≡ Some child → n < m → (gs' : List Region) (rest' : List TreeNode) → Sound gs' rest' → Sound (region_of s.problem child ∷ gs') (records_at depth s.nodes m ++ rest'))
           → Sound (region_of s.problem node ∷ gs) (records_by (records_at depth s.nodes) node fate ++ rest)
       by_fate Undone fate children below =
-          leaf-sound s.problem (cutoff_of s) (region_of s.problem node) gs (evidence.Open (kept_prices node)) rest (kept_by-sound s.problem node node.best k.first_prices k.best).within_limit after
-      by_fate (ClosedBy found) fate children below = leaf-sound s.problem (cutoff_of s) (region_of s.problem node) gs found rest fate.1 after
+          leaf-sound s.problem s.cuts (cutoff_of s) (region_of s.problem node) gs (evidence.Open (kept_prices node)) rest (kept_by-sound s.problem s.cuts node node.best k.first_prices k.best).lawful after
+      by_fate (ClosedBy found) fate children below = leaf-sound s.problem s.cuts (cutoff_of s) (region_of s.problem node) gs found rest fate.1 after
       by_fate (DividedBy d) fate children below =
           let g = region_of s.problem node in
           let left = children.0 in
@@ -70,9 +71,9 @@ module _ (s : State) (h : IsSound s) where
           subst (λ (x : Region). Sound (x ∷ (g_right ∷ gs)) (lefts ++ (rights ++ rest))) (child-region s.problem node left.1 (left_limit d.by) left.3)
           (below d.left_child.0 left.1 left.2 left.0 (g_right ∷ gs) (rights ++ rest) on_right) in
           let Q : List TreeNode → Type 0 = λ x. Sound (g ∷ gs) (split_record d.by ∷ x) in
-          subst Q (sym (append_assoc lefts rights rest)) (split-sound s.problem (cutoff_of s) g gs d.by (lefts ++ (rights ++ rest)) fate both)
+          subst Q (sym (append_assoc lefts rights rest)) (split-sound s.problem s.cuts (cutoff_of s) g gs d.by (lefts ++ (rights ++ rest)) fate both)
 
-  tree_of-sound : AreSoundTrees s.problem (cutoff_of s) (whole s.problem ∷ []) (tree_of s)
+  tree_of-sound : AreSoundTrees s.problem s.cuts (cutoff_of s) (whole s.problem ∷ []) (tree_of s)
   tree_of-sound =
       let f = h.family in
       let none : Sound [] [] = (tt, tt) in
@@ -81,7 +82,7 @@ module _ (s : State) (h : IsSound s) where
       let at_root : Sound (whole s.problem ∷ []) (tree_of s ++ []) = subst (λ (g : Region). Sound (g ∷ []) (tree_of s ++ [])) root all in
       subst (λ (x : List TreeNode). Sound (whole s.problem ∷ []) x) (append-nil (tree_of s)) at_root
 
-  pub tree_of-valid : IsValidTree s.problem (cutoff_of s) (tree_of s)
+  pub tree_of-valid : IsRatedTree s.problem s.cuts (cutoff_of s) (tree_of s)
   tree_of-valid = tree_of-sound.0
 
   pub tree_of-parts : PartsPaths s.problem (tree_of s)

@@ -25,7 +25,7 @@ Publishes-sound s t id seen prices slot version h e =
     let undone : node.fate ≡ Undone = in_round.0 in
     let some : 0 < node.completed = (rw is.is_round at (k.versions)).some_complete is.complete in
     let marked : Node = record node { crowd_tried = e.mark } in
-    let k' : IsSoundNode s.problem marked = record {
+    let k' : IsSoundNode s.problem s.cuts marked = record {
       first_prices = k.first_prices;
       open_enough = k.open_enough;
       ranges = k.ranges;
@@ -41,19 +41,19 @@ Publishes-sound s t id seen prices slot version h e =
     let demands = length s.problem.demands in
     let round : Round = empty_round s old.slot prices in
     let all_left : left_of round ≡ demands = (let x : left_of round ≡ demands * 1 = sum_by-replicate gap_of demands None in omega arith) in
-    let is_sound : IsSoundRound s.problem (restriction_of node) round = record {
+    let is_sound : IsSoundRound s.problem s.cuts (restriction_of node) round = record {
       slot = in_round.1.slot;
       count = length-replicate demands None;
-      prices = record { count = e.may.count; within_limit = e.may.within_limit };
+      prices = e.may.are_numbers;
       least = λ j found x. absurd (none_found demands j found x);
     } in
-    let taken : HasTaken s.problem marked round e.after = TakesRound-sound s.problem marked round undone k' is_sound (λ none. absurd (omega arith)) e.may.room e.after e.takes in
+    let taken : HasTaken s.problem s.cuts marked round e.after = TakesRound-sound s.problem s.cuts marked round undone k' is_sound (λ none. absurd (omega arith)) e.may.room e.after e.takes in
     let undone' : e.after.fate ≡ Undone = taken.fate ∙ undone in
     let base : SameBase node e.after = record { limits = taken.base.limits; first_prices = taken.base.first_prices } in
     let badge : badge_at s.nodes id.0 ≡ Some (old.slot, old.version) = badge_at-at s.nodes id.0 node is.is_node ∙ ap badge_of is.is_round in
     subst IsSound (sym e.becomes)
     (replaced-sound s id.0 node e.after s.examined (suc s.next_version) s.accepted is.is_node h base
-    (no_children (set s.nodes id.0 e.after) id.0 e.after e.after.fate undone') taken.sound (undone_fate s.problem (cutoff_of s) e.after undone') (ap divided_by_fate taken.fate)
+    (no_children (set s.nodes id.0 e.after) id.0 e.after e.after.fate undone') taken.sound (undone_fate s.problem s.cuts (cutoff_of s) e.after undone') (ap divided_by_fate taken.fate)
     (AreApart-new s.next_version old.slot s.nodes id.0 node e.after is.is_node (ap badge_of taken.is_round)
     (λ n v ne x. ne (h.apart.slots n id.0 old.slot v old.version x badge)) h.apart)
     (record {

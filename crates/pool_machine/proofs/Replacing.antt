@@ -2,6 +2,7 @@
 use Rattle.std.proofs.Common.{◌≡◌, ℕ, zero, suc, ◌+◌, ◌-◌, ◌*◌, ◌^◌, ◌≤◌, List, length, set, Option, Some, None, slice_get, sym, ap, subst, ◌∙◌, arith, sum_by, length-set}
 use Rattle.std.proofs.lemmas.List.Elements.{All-set}
 use Rattle.plan_base.specs.declared.parts.Parts.{Parts}
+use Rattle.proof_tree.specs.declared.cuts.Cut.{Cut}
 use Rattle.proof_tree.specs.Regions.{whole}
 use Rattle.pool_machine.specs.State.{Limit, region_by, Round, Fate, Undone, ClosedBy, DividedBy, Node, State, region_of, cutoff_of, left_of, examined_in, divided_in, left_in}
 use Rattle.pool_machine.specs.Depth.{depth_below}
@@ -59,16 +60,17 @@ same_weights depth nodes i old new is undivided limits h =
 
 pub replaced-sound : (s : State) (i : ℕ) (old new : Node) (examined next accepted : ℕ) → slice_get s.nodes i ≡ Some old → IsSound s
     → SameBase old new → HasChildrenBy (set s.nodes i new) i new new.fate
-    → IsSoundNode s.problem new → HasSoundFate s.problem (cutoff_of s) new → divided_in new ≡ divided_in old
+    → IsSoundNode s.problem s.cuts new → HasSoundFate s.problem s.cuts (cutoff_of s) new → divided_in new ≡ divided_in old
     → AreApart next (set s.nodes i new) → CountsRise s old new examined next accepted
     → IsSound (replaced s i new examined next accepted)
 replaced-sound s i old new examined next accepted is h base children node fate undivided apart rise = record {
   lawful = h.lawful;
+  cuts = h.cuts;
   unit = h.unit;
-  nodes = All-set (IsSoundNode s.problem) s.nodes i new node h.nodes;
-  fates = All-set (HasSoundFate s.problem (cutoff_of s)) s.nodes i new fate h.fates;
+  nodes = All-set (IsSoundNode s.problem s.cuts) s.nodes i new node h.nodes;
+  fates = All-set (HasSoundFate s.problem s.cuts (cutoff_of s)) s.nodes i new fate h.fates;
   apart = apart;
-  family = IsFamily-set s.problem s.nodes i old new is base children h.family;
+  family = IsFamily-set s.problem s.cuts s.nodes i old new is base children h.family;
   columns = h.columns;
   incumbent = h.incumbent;
   counts = CountsRise-sound s i old new examined next accepted is rise h.counts;
@@ -77,11 +79,11 @@ replaced-sound s i old new examined next accepted is h base children node fate u
   weights = λ ends are. same_weights (depth_below s.problem ends (whole s.problem)) s.nodes i old new is undivided base.limits (h.weights ends are);
 }
 
-pub undone_fate : (p : Parts) (cost : Option ℕ) (node : Node) → node.fate ≡ Undone → HasSoundFate p cost node
-undone_fate p cost node undone = subst (IsSoundFate p cost (region_of p node)) (sym undone) tt
+pub undone_fate : (p : Parts) (cuts : List Cut) (cost : Option ℕ) (node : Node) → node.fate ≡ Undone → HasSoundFate p cuts cost node
+undone_fate p cuts cost node undone = subst (IsSoundFate p cuts cost (region_of p node)) (sym undone) tt
 
-pub node_at : (s : State) (i : ℕ) (node : Node) → IsSound s → slice_get s.nodes i ≡ Some node → IsSoundNode s.problem node
-node_at s i node h is = All-at (IsSoundNode s.problem) s.nodes i node h.nodes is
+pub node_at : (s : State) (i : ℕ) (node : Node) → IsSound s → slice_get s.nodes i ≡ Some node → IsSoundNode s.problem s.cuts node
+node_at s i node h is = All-at (IsSoundNode s.problem s.cuts) s.nodes i node h.nodes is
 
 pub versions_of-le : (node : Node) → versions_of node ≤ suc node.completed
 versions_of-le node = by_cases node.fate node.round

@@ -37,12 +37,13 @@ use Rattle.pool_machine.specs.Closing.{CloseStep}
 use Rattle.pool_machine.specs.Examining.{ExamineStep}
 use Rattle.pool_machine.specs.Bettering.{BetterStep}
 use Rattle.pool_machine.specs.Machine.{Event, Opening, Offering, Gathering, Publishing, Settling, Closing_of, Examining, Bettering, Answer, to_opening, to_offering, to_gathering, to_publishing, to_settling, to_closing, to_examining, to_bettering, Step, Entry, accepted_in, versions_made_by, IsCounted, Run, root_with, IsOpeningState, IsReachable}
-use Rattle.pool_machine.specs.Nodes.{IsPriceList, IsSoundNode, HasSoundFate}
+use Rattle.pool_machine.specs.Nodes.{IsSoundNode, HasSoundFate}
 use Rattle.pool_machine.specs.Family.{badge_at, HasChildrenBy}
 use Rattle.pool_machine.specs.Counts.{IsShallow, weight_in}
 use Rattle.pool_machine.specs.Soundness.{IsSound}
 use Rattle.pool_machine.proofs.Frames.{no_children}
 use Rattle.std.proofs.lemmas.List.Sums.{sum_by-cons}
+use Rattle.proof_tree.specs.declared.cuts.Cut.{Cut}
 use Rattle.proof_tree.specs.Regions.{whole}
 use Rattle.link_steps.proofs.WholeRanges.{AreRanges-whole}
 use Rattle.pool_machine.specs.Depth.{depth_below}
@@ -90,6 +91,7 @@ module _ where
   PublishStep-sound s t id seen prices (publish.Rounds x) h e = unchanged-sound s t h e.1
   PublishStep-sound s t id seen prices (publish.PriceCount x) h e = unchanged-sound s t h e.1
   PublishStep-sound s t id seen prices (publish.OverPrice x) h e = unchanged-sound s t h e.1
+  PublishStep-sound s t id seen prices publish.Unlawful h e = unchanged-sound s t h e.1
   PublishStep-sound s t id seen prices (publish.Ungathered x) h e = unchanged-sound s t h e.1
 
   SettleStep-sound : (s t : State) (id : BranchId) (version : ℕ) (answer : Settle) → IsSound s → SettleStep s id version answer t → IsSound t
@@ -139,33 +141,34 @@ module _ where
   Run-sound s t [] h run = unchanged-sound s t h run
   Run-sound s t (entry ∷ entries) h run = Run-sound run.0 t entries (Step-sound s run.0 entry.event entry.answer h run.1) run.2
 
--- no event changes the problem or the budget, and the counts rise by what the answer says
+-- no event changes the problem, the cuts or the budget, and the counts rise by what the answer says
 pub record GoesTo (s : State) (answer : Answer) (t : State) : Type 0 where
   pub problem : t.problem ≡ s.problem
+  pub cuts : t.cuts ≡ s.cuts
   pub budget : t.budget ≡ s.budget
   pub accepted : t.accepted ≡ s.accepted + accepted_in answer
   pub next_version : t.next_version ≡ s.next_version + versions_made_by answer
 
 -- where neither count rises
-goes_to : (s : State) (answer : Answer) (t u : State) → t ≡ u → u.problem ≡ s.problem → u.budget ≡ s.budget → u.accepted ≡ s.accepted → u.next_version ≡ s.next_version
+goes_to : (s : State) (answer : Answer) (t u : State) → t ≡ u → u.problem ≡ s.problem → u.cuts ≡ s.cuts → u.budget ≡ s.budget → u.accepted ≡ s.accepted → u.next_version ≡ s.next_version
     → accepted_in answer ≡ 0 → versions_made_by answer ≡ 0 → GoesTo s answer t
-goes_to s answer t u e p b a v none none' =
-    subst (GoesTo s answer) (sym e) (record { problem = p; budget = b; accepted = omega arith; next_version = omega arith })
+goes_to s answer t u e p c b a v none none' =
+    subst (GoesTo s answer) (sym e) (record { problem = p; cuts = c; budget = b; accepted = omega arith; next_version = omega arith })
 
 refused : (s : State) (answer : Answer) (t : State) → t ≡ s → accepted_in answer ≡ 0 → versions_made_by answer ≡ 0 → GoesTo s answer t
-refused s answer t e a v = goes_to s answer t s e refl refl refl refl a v
+refused s answer t e a v = goes_to s answer t s e refl refl refl refl refl a v
 
 pub Step-goes : (s t : State) (event : Event) (answer : Answer) → Step s event answer t → GoesTo s answer t
 Step-goes s t (Opening id) (to_opening answer) e = by answer e
   where
     by : (a : Result Opened RoundFault) → OpenStep s id a t → GoesTo s (to_opening a) t
-    by (Ok opened) x = subst (GoesTo s (to_opening (Ok opened))) (sym x.becomes) (record { problem = refl; budget = refl; accepted = omega arith; next_version = omega arith })
+    by (Ok opened) x = subst (GoesTo s (to_opening (Ok opened))) (sym x.becomes) (record { problem = refl; cuts = refl; budget = refl; accepted = omega arith; next_version = omega arith })
     by (Err fault) x = refused s (to_opening (Err fault)) t x.1 refl refl
 Step-goes s t (Offering offer) (to_offering answer) e = by answer e
   where
     by : (a : Offered) → OfferStep s offer a t → GoesTo s (to_offering a) t
-    by offered.CutTaken x = goes_to s (to_offering offered.CutTaken) t _ x.becomes refl refl refl refl refl refl
-    by (offered.Accepted left) x = subst (GoesTo s (to_offering (offered.Accepted left))) (sym x.becomes) (record { problem = refl; budget = refl; accepted = omega arith; next_version = omega arith })
+    by offered.CutTaken x = goes_to s (to_offering offered.CutTaken) t _ x.becomes refl refl refl refl refl refl refl
+    by (offered.Accepted left) x = subst (GoesTo s (to_offering (offered.Accepted left))) (sym x.becomes) (record { problem = refl; cuts = refl; budget = refl; accepted = omega arith; next_version = omega arith })
     by (offered.Spent y) x = refused s (to_offering (offered.Spent y)) t x.1 refl refl
     by (offered.Stale y) x = refused s (to_offering (offered.Stale y)) t x.1 refl refl
     by (offered.NoDemand y) x = refused s (to_offering (offered.NoDemand y)) t x.1 refl refl
@@ -174,19 +177,19 @@ Step-goes s t (Offering offer) (to_offering answer) e = by answer e
 Step-goes s t (Gathering id version) (to_gathering answer) e = by answer e
   where
     by : (a : Result Gather AllocError) → GatherStep s id version a t → GoesTo s (to_gathering a) t
-    by (Ok (gather.Taken brief)) x = goes_to s (to_gathering (Ok (gather.Taken brief))) t _ x.becomes refl refl refl refl refl refl
+    by (Ok (gather.Taken brief)) x = goes_to s (to_gathering (Ok (gather.Taken brief))) t _ x.becomes refl refl refl refl refl refl refl
     by (Ok (gather.Spent y)) x = refused s (to_gathering (Ok (gather.Spent y))) t x.1 refl refl
     by (Ok (gather.Stale y)) x = refused s (to_gathering (Ok (gather.Stale y))) t x.1 refl refl
     by (Ok (gather.Incomplete y)) x = refused s (to_gathering (Ok (gather.Incomplete y))) t x.1 refl refl
     by (Err wanting) x = elim x [
       | inl same ↦ refused s (to_gathering (Err wanting)) t same refl refl
-      | inr front ↦ goes_to s (to_gathering (Err wanting)) t _ front.becomes refl refl refl refl refl refl
+      | inr front ↦ goes_to s (to_gathering (Err wanting)) t _ front.becomes refl refl refl refl refl refl refl
     ]
 Step-goes s t (Publishing id seen prices) (to_publishing answer) e = by answer e
   where
     by : (a : Publish) → PublishStep s id seen prices a t → GoesTo s (to_publishing a) t
     by (publish.Published slot version) x =
-        subst (GoesTo s (to_publishing (publish.Published slot version))) (sym x.becomes) (record { problem = refl; budget = refl; accepted = omega arith; next_version = omega arith })
+        subst (GoesTo s (to_publishing (publish.Published slot version))) (sym x.becomes) (record { problem = refl; cuts = refl; budget = refl; accepted = omega arith; next_version = omega arith })
     by (publish.NoGain y z) x = refused s (to_publishing (publish.NoGain y z)) t x.unchanged refl refl
     by (publish.Spent y) x = refused s (to_publishing (publish.Spent y)) t x.1 refl refl
     by (publish.Stale y) x = refused s (to_publishing (publish.Stale y)) t x.1 refl refl
@@ -195,11 +198,12 @@ Step-goes s t (Publishing id seen prices) (to_publishing answer) e = by answer e
     by (publish.Rounds y) x = refused s (to_publishing (publish.Rounds y)) t x.1 refl refl
     by (publish.PriceCount y) x = refused s (to_publishing (publish.PriceCount y)) t x.1 refl refl
     by (publish.OverPrice y) x = refused s (to_publishing (publish.OverPrice y)) t x.1 refl refl
+    by publish.Unlawful x = refused s (to_publishing publish.Unlawful) t x.1 refl refl
     by (publish.Ungathered y) x = refused s (to_publishing (publish.Ungathered y)) t x.1 refl refl
 Step-goes s t (Settling id version) (to_settling answer) e = by answer e
   where
     by : (a : Settle) → SettleStep s id version a t → GoesTo s (to_settling a) t
-    by settle.Done x = goes_to s (to_settling settle.Done) t _ x.becomes refl refl refl refl refl refl
+    by settle.Done x = goes_to s (to_settling settle.Done) t _ x.becomes refl refl refl refl refl refl refl
     by (settle.Spent y) x = refused s (to_settling (settle.Spent y)) t x.1 refl refl
     by (settle.Stale y) x = refused s (to_settling (settle.Stale y)) t x.1 refl refl
     by (settle.Incomplete y) x = refused s (to_settling (settle.Incomplete y)) t x.1 refl refl
@@ -208,18 +212,18 @@ Step-goes s t (Settling id version) (to_settling answer) e = by answer e
 Step-goes s t (Closing_of id) (to_closing answer) e = by answer e
   where
     by : (a : Closing) → CloseStep s id a t → GoesTo s (to_closing a) t
-    by closing.Closed x = goes_to s (to_closing closing.Closed) t _ x.becomes refl refl refl refl refl refl
+    by closing.Closed x = goes_to s (to_closing closing.Closed) t _ x.becomes refl refl refl refl refl refl refl
     by (closing.Spent y) x = refused s (to_closing (closing.Spent y)) t x.1 refl refl
     by (closing.NotOpen y) x = refused s (to_closing (closing.NotOpen y)) t x.1 refl refl
     by (closing.Weak y z) x = refused s (to_closing (closing.Weak y z)) t x.1 refl refl
 Step-goes s t (Examining id) (to_examining answer) e = by answer e
   where
     by : (a : Result Examined ExamineFault) → ExamineStep s id a t → GoesTo s (to_examining a) t
-    by (Ok examined.Cut) x = goes_to s (to_examining (Ok examined.Cut)) t _ x.becomes refl refl refl refl refl refl
-    by (Ok (examined.Divided left right)) x = goes_to s (to_examining (Ok (examined.Divided left right))) t _ x.becomes refl refl refl refl refl refl
-    by (Ok (examined.Far demand)) x = goes_to s (to_examining (Ok (examined.Far demand))) t _ x.becomes refl refl refl refl refl refl
-    by (Ok examined.Overfull) x = goes_to s (to_examining (Ok examined.Overfull)) t _ x.becomes refl refl refl refl refl refl
-    by (Ok examined.Routed) x = goes_to s (to_examining (Ok examined.Routed)) t _ x.becomes refl refl refl refl refl refl
+    by (Ok examined.Cut) x = goes_to s (to_examining (Ok examined.Cut)) t _ x.becomes refl refl refl refl refl refl refl
+    by (Ok (examined.Divided left right)) x = goes_to s (to_examining (Ok (examined.Divided left right))) t _ x.becomes refl refl refl refl refl refl refl
+    by (Ok (examined.Far demand)) x = goes_to s (to_examining (Ok (examined.Far demand))) t _ x.becomes refl refl refl refl refl refl refl
+    by (Ok examined.Overfull) x = goes_to s (to_examining (Ok examined.Overfull)) t _ x.becomes refl refl refl refl refl refl refl
+    by (Ok examined.Routed) x = goes_to s (to_examining (Ok examined.Routed)) t _ x.becomes refl refl refl refl refl refl refl
     by (Err examine_fault.OutOfMemory) x = refused s (to_examining (Err examine_fault.OutOfMemory)) t x refl refl
     by (Err (examine_fault.Spent y)) x = refused s (to_examining (Err (examine_fault.Spent y))) t x.1 refl refl
     by (Err (examine_fault.NotOpen y)) x = refused s (to_examining (Err (examine_fault.NotOpen y))) t x.1 refl refl
@@ -229,7 +233,7 @@ Step-goes s t (Examining id) (to_examining answer) e = by answer e
 Step-goes s t (Bettering design) (to_bettering answer) e = by answer e
   where
     by : (a : Result Better DesignFault) → BetterStep s design a t → GoesTo s (to_bettering a) t
-    by (Ok (better.Taken cost)) x = goes_to s (to_bettering (Ok (better.Taken cost))) t _ x.becomes refl refl refl refl refl refl
+    by (Ok (better.Taken cost)) x = goes_to s (to_bettering (Ok (better.Taken cost))) t _ x.becomes refl refl refl refl refl refl refl
     by (Ok (better.NotLess cost held)) x = refused s (to_bettering (Ok (better.NotLess cost held))) t x.unchanged refl refl
     by (Err fault) x = refused s (to_bettering (Err fault)) t x.1 refl refl
 Step-goes s t event answer e = absurd e
@@ -239,6 +243,12 @@ Run-push : (s t u : State) (entries : List Entry) (entry : Entry) → Run s entr
 Run-push s t u [] entry run step = (u, subst (λ (x : State). Step x entry.event entry.answer u) run step, refl)
 Run-push s t u (first ∷ entries) entry run step = (run.0, run.1, Run-push run.0 t u entries entry run.2 step)
 
+-- the same opening, of an equal instance, equal cuts and an equal budget
+pub opening-at : (p q : Parts) (cuts same_cuts : List Cut) (budget same_budget : ℕ) (s : State) → q ≡ p → same_cuts ≡ cuts → same_budget ≡ budget → IsOpeningState p cuts budget s → IsOpeningState q same_cuts same_budget s
+opening-at p q cuts same_cuts budget same_budget s problem cuts_are budget_is h =
+    subst (λ (x : Parts). IsOpeningState x same_cuts same_budget s) (sym problem)
+    (subst (λ (x : List Cut). IsOpeningState p x same_budget s) (sym cuts_are) (subst (λ (b : ℕ). IsOpeningState p cuts b s) (sym budget_is) h))
+
 pub IsReachable-step : (s t : State) (event : Event) (answer : Answer) → IsReachable s → Step s event answer t → IsReachable t
 IsReachable-step s t event answer h step =
     let same = Step-goes s t event answer step in
@@ -246,7 +256,7 @@ IsReachable-step s t event answer h step =
     record {
       opening = h.opening;
       entries = h.entries ++ (entry ∷ []);
-      is_opening = subst (λ (p : Parts). IsOpeningState p t.budget h.opening) (sym same.problem) (subst (λ (b : ℕ). IsOpeningState s.problem b h.opening) (sym same.budget) h.is_opening);
+      is_opening = opening-at s.problem t.problem s.cuts t.cuts s.budget t.budget h.opening same.problem same.cuts same.budget h.is_opening;
       run = Run-push h.opening s t h.entries entry h.run step;
     }
 
@@ -277,12 +287,11 @@ only : (root : Node) → root.fate ≡ Undone → (n : ℕ) (node : Node) → sl
 only root undone zero node is = let same : root ≡ node = cc in no_children (root ∷ []) zero node node.fate (subst (λ (k : Node). k.fate ≡ Undone) same undone)
 only root undone (suc n) node is = let bad : ◌≡◌ {A = Option Node} None (Some node) = is in absurd (cc)
 
-pub IsOpeningState-sound : (p : Parts) (budget : ℕ) (s : State) → IsOpeningState p budget s → IsSound s
-IsOpeningState-sound p budget s e =
+pub IsOpeningState-sound : (p : Parts) (cuts : List Cut) (budget : ℕ) (s : State) → IsOpeningState p cuts budget s → IsSound s
+IsOpeningState-sound p cuts budget s e =
     let root : Node = root_with e.prices in
-    let fits : IsPriceList p e.prices = record { count = e.are_start.count; within_limit = e.within_limit } in
-    let sound : IsSoundNode p root = record {
-      first_prices = fits;
+    let sound : IsSoundNode p cuts root = record {
+      first_prices = e.are_numbers;
       open_enough = record {
         at_target = λ k below a arc tail. refl;
         elsewhere = λ k at below a leaves. (a, leaves, refl);
@@ -299,9 +308,10 @@ IsOpeningState-sound p budget s e =
     } in
     subst IsSound (sym e.is_state) (record {
       lawful = e.lawful;
+      cuts = e.are_cuts;
       unit = e.is_unit;
-      nodes = All-cons (IsSoundNode p) root [] sound (All-nil (IsSoundNode p));
-      fates = All-cons (HasSoundFate p None) root [] tt (All-nil (HasSoundFate p None));
+      nodes = All-cons (IsSoundNode p cuts) root [] sound (All-nil (IsSoundNode p cuts));
+      fates = All-cons (HasSoundFate p cuts None) root [] tt (All-nil (HasSoundFate p cuts None));
       apart = record {
         slots = λ m n slot a b x y. absurd (no_badge root refl m (slot, a) x);
         versions = λ m n version a b x y. absurd (no_badge root refl m (a, version) x);
@@ -323,4 +333,4 @@ IsOpeningState-sound p budget s e =
     })
 
 pub IsReachable-sound : (s : State) → IsReachable s → IsSound s
-IsReachable-sound s h = Run-sound h.opening s h.entries (IsOpeningState-sound s.problem s.budget h.opening h.is_opening) h.run
+IsReachable-sound s h = Run-sound h.opening s h.entries (IsOpeningState-sound s.problem s.cuts s.budget h.opening h.is_opening) h.run

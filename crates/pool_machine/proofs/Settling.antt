@@ -14,9 +14,9 @@ Settles-sound s t id version h e =
     let node = e.node in
     let is = e.is_gathered.complete_round in
     let new : Node = record node { settled = true } in
-    let k = All-at (IsSoundNode s.problem) s.nodes id.0 node h.nodes is.is_node in
-    let fate = All-at (HasSoundFate s.problem (cutoff_of s)) s.nodes id.0 node h.fates is.is_node in
-    let sound : IsSoundNode s.problem new = record {
+    let k = All-at (IsSoundNode s.problem s.cuts) s.nodes id.0 node h.nodes is.is_node in
+    let fate = All-at (HasSoundFate s.problem s.cuts (cutoff_of s)) s.nodes id.0 node h.fates is.is_node in
+    let sound : IsSoundNode s.problem s.cuts new = record {
       first_prices = k.first_prices;
       open_enough = k.open_enough;
       ranges = k.ranges;

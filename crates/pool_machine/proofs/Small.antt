@@ -23,7 +23,7 @@ IsSound-nodes s h =
 
 pub IsSound-next_version : (s : State) → IsSound s → s.budget ≤ 4096 → s.next_version ≤ 139282
 IsSound-next_version s h small =
-    let most = sum_by-le versions_of 17 s.nodes (All-weaker (IsSoundNode s.problem) (λ node. versions_of node ≤ 17) (λ node k. let a = versions_of-le node in let b = k.version_count in omega arith) s.nodes h.nodes) in
+    let most = sum_by-le versions_of 17 s.nodes (All-weaker (IsSoundNode s.problem s.cuts) (λ node. versions_of node ≤ 17) (λ node k. let a = versions_of-le node in let b = k.version_count in omega arith) s.nodes h.nodes) in
     let nodes = IsSound-nodes s h in
     let v = h.counts.versions in
     omega arith

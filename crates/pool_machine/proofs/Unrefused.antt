@@ -1,14 +1,13 @@
 -- Where a gathering, a settling or a publishing may come, no refusal applies.
-use Rattle.std.proofs.Common.{◌≡◌, ℕ, zero, suc, ◌+◌, ◌<◌, ◌≤◌, true, false, List, [], ◌∷◌, Option, Some, None, slice_get, refl, ap, ◌∙◌, arith, sum_by}
-use Rattle.std.specs.Prelude.{option_map, option_and_then, nat_lt, nat_le}
+use Rattle.std.proofs.Common.{◌≡◌, ℕ, zero, suc, ◌+◌, ◌<◌, true, false, List, [], ◌∷◌, length, Option, Some, None, slice_get, refl, ap, ◌∙◌, arith, sum_by}
+use Rattle.std.specs.Prelude.{option_map, option_and_then, nat_le}
 use Rattle.std.proofs.lemmas.Bool.{eq-eqb}
 use Rattle.std.proofs.lemmas.Bool.Decides.{nat_tests}
 use Rattle.std.proofs.lemmas.List.Sums.{sum_by-cons}
 use Rattle.plan_base.specs.declared.ids.BranchId.{BranchId}
 use Rattle.plan_base.specs.declared.ids.DemandId.{DemandId}
 use Rattle.plan_base.specs.First.{first_in}
-use Rattle.plan_base.specs.Facts.{price_limit}
-use Rattle.plan_base.specs.Places.{places, link_of_place}
+use Rattle.plan_base.specs.Places.{places}
 use Rattle.plan_base.proofs.Bools.{not-true}
 use Rattle.plan_base.proofs.FirstFault.{none-or_else, none-when, none-first_in}
 use Rattle.pool_machine.specs.declared.limits.TheConstants.{MAX_VERSIONS}
@@ -20,15 +19,12 @@ use Rattle.pool_machine.specs.Changes.{is_spent, version_in, is_version, stale_f
 use Rattle.pool_machine.specs.Readiness.{completed_in, settled_in}
 use Rattle.pool_machine.specs.Gathering.{first_ungathered, gather_fault, IsCompleteRound, IsGathered}
 use Rattle.pool_machine.specs.Settling.{settle_fault}
-use Rattle.pool_machine.specs.Publishing.{price_fault, publish_fault, MayFollow}
+use Rattle.pool_machine.specs.Publishing.{publish_fault, MayFollow}
 use Rattle.pool_machine.specs.Tasks.{IsToAdvance}
-use Rattle.pool_machine.proofs.Lists.{All-at}
+use Rattle.pool_machine.proofs.RefusedNumbers.{none-over_price, lawful-unfaulted}
 
 unspent : (s : State) → s.examined < s.budget → is_spent s ≡ false
 unspent s h = grind (arith, nat_tests)
-
-not_below : (limit price : ℕ) → price ≤ limit → nat_lt limit price ≡ false
-not_below limit price h = grind (arith, nat_tests)
 
 not_reached : (limit count : ℕ) → count < limit → nat_le limit count ≡ false
 not_reached limit count h = grind (arith, nat_tests)
@@ -90,10 +86,10 @@ module _ (s : State) (id : BranchId) (version : ℕ) (node : Node) (round : Roun
       (none-or_else _ _ (none-when _ publish.Settled (ap settled_in is.is_node ∙ h.not_settled))
       (none-or_else _ _ (ap (λ (o : Option DemandId). option_map publish.Incomplete o) (no_gap is))
       (none-or_else _ _ (none-when _ (publish.Rounds (completed_in (slice_get s.nodes id.0))) (ap (λ (o : Option Node). nat_le MAX_VERSIONS (completed_in o)) is.is_node ∙ not_reached MAX_VERSIONS node.completed h.room))
-      (none-or_else _ _ (none-when _ (publish.PriceCount (places s.problem)) (not-true _ (eq-eqb _ _ h.count)))
-      (none-or_else _ _ (none-first_in (price_fault s.problem) prices (λ q price at.
-      none-when _ (publish.OverPrice (record { 0 = link_of_place s.problem q })) (not_below (price_limit s.problem) price (All-at (λ x. x ≤ price_limit s.problem) prices q price h.within_limit at))))
-      (ap (λ (o : Option DemandId). option_map publish.Ungathered o) (none_ungathered h.is_gathered)))))))
+      (none-or_else _ _ (none-when _ (publish.PriceCount (places s.problem + length s.cuts)) (not-true _ (eq-eqb _ _ h.are_numbers.count)))
+      (none-or_else _ _ (none-over_price s.problem s.cuts prices h.are_numbers.lawful.prices_within)
+      (none-or_else _ _ (lawful-unfaulted s.problem s.cuts prices h.are_numbers.lawful)
+      (ap (λ (o : Option DemandId). option_map publish.Ungathered o) (none_ungathered h.is_gathered))))))))
 
 -- a task to go on with a complete version names one that may be gathered
 pub master-gathers : (s : State) (id : BranchId) (version : ℕ) → IsToAdvance s id version → gather_fault s id version ≡ None

@@ -5,8 +5,9 @@ use Rattle.plan_base.specs.declared.ids.BranchId.{BranchId}
 use Rattle.plan_base.specs.declared.parts.Parts.{Parts}
 use Rattle.plan_base.specs.First.{◌or_else◌, when, first_in}
 use Rattle.plan_base.specs.Faults.{demand_id}
-use Rattle.proof_tree.specs.Bounds.{IsBound}
+use Rattle.proof_tree.specs.declared.cuts.Cut.{Cut}
 use Rattle.proof_tree.specs.Evidence.{ClosedByCrowd}
+use Rattle.proof_tree.specs.RatedEvidence.{IsBoundAt}
 use Rattle.pool_machine.specs.declared.answers.NodeState.{NodeState}
 use Rattle.pool_machine.specs.declared.answers.NodeState.TheVariants as state
 use Rattle.pool_machine.specs.State.{Round, Best, Node, State, region_of, left_of, round_of, Limit, Found, Undone}
@@ -42,11 +43,11 @@ KeepsCrowd p node prices crowd =
     ⊎ ((ClosedByCrowd p (region_of p node) prices → ⊥) × (crowd ≡ node.crowd))
 
 -- a complete round counts, and its bound and its crowd proof are recorded
-pub record Completes (p : Parts) (old : Node) (round : Round) (new : Node) : Type 0 where
+pub record Completes (p : Parts) (cuts : List Cut) (old : Node) (round : Round) (new : Node) : Type 0 where
   pub complete : left_of round ≡ 0
   pub bound : ℤ
   pub crowd : Option (List ℕ)
-  pub is_bound : IsBound p (region_of p old) round.prices bound
+  pub is_bound : IsBoundAt p cuts (region_of p old) round.prices bound
   pub is_crowd : KeepsCrowd p old round.prices crowd
   pub becomes : new ≡ record old {
     best = Some (better_of old.best bound round.prices);
@@ -61,8 +62,8 @@ pub record GoesOn (old : Node) (round : Round) (new : Node) : Type 0 where
   pub becomes : new ≡ record old { round = Some round }
 
 -- the node when its round has become this one
-abbrev pub TakesRound : Parts → Node → Round → Node → Type 0
-TakesRound p old round new = Completes p old round new ⊎ GoesOn old round new
+abbrev pub TakesRound : Parts → List Cut → Node → Round → Node → Type 0
+TakesRound p cuts old round new = Completes p cuts old round new ⊎ GoesOn old round new
 
 -- a node that is closed or divided raises the count
 abbrev pub examined_with : State → BranchId → Node → State

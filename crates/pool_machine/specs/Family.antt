@@ -1,7 +1,8 @@
 -- How the nodes of a state belong together: their rounds are apart, and children follow their parents.
 use Rattle.std.specs.Prelude.{ℕ, ◌≡◌, ◌<◌, ◌⊎◌, ⊤, List, [], ◌∷◌, Option, Some, option_and_then, option_map, slice_get}
 use Rattle.plan_base.specs.declared.parts.Parts.{Parts}
-use Rattle.link_steps.specs.Values.{AreStartPrices}
+use Rattle.proof_tree.specs.declared.cuts.Cut.{Cut}
+use Rattle.cut_table.specs.Numbers.{AreStartNumbers}
 use Rattle.pool_machine.specs.State.{Limit, left_limit, right_limit, Division, Round, Node, kept_prices, Fate, Undone, ClosedBy, DividedBy}
 
 -- the slot and the version of a node's round
@@ -37,10 +38,10 @@ HasChildrenBy nodes n node Undone = ⊤
 HasChildrenBy nodes n node (ClosedBy evidence) = ⊤
 HasChildrenBy nodes n node (DividedBy d) = HasChild nodes n node d.left_child.0 (left_limit d.by) × HasChild nodes n node d.right_child.0 (right_limit d.by)
 
--- the root has no limits and begins with the start prices; each divided node has its two children
-pub record IsFamily (p : Parts) (nodes : List Node) : Type 0 where
+-- the root has no limits and begins with the start prices and with rates of 0; each divided node has its two children
+pub record IsFamily (p : Parts) (cuts : List Cut) (nodes : List Node) : Type 0 where
   pub root : Node
   pub is_root : slice_get nodes 0 ≡ Some root
   pub root_limits : root.limits ≡ []
-  pub root_prices : AreStartPrices p root.first_prices
+  pub root_prices : AreStartNumbers p cuts root.first_prices
   pub children : (n : ℕ) (node : Node) → slice_get nodes n ≡ Some node → HasChildrenBy nodes n node node.fate

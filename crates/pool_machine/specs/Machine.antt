@@ -6,10 +6,11 @@ use Rattle.plan_base.specs.declared.parts.Parts.{Parts}
 use Rattle.plan_base.specs.declared.path.Design.{Design}
 use Rattle.plan_base.specs.declared.design_fault.DesignFault.{DesignFault}
 use Rattle.plan_base.specs.Facts.{IsInstance}
-use Rattle.link_steps.specs.Values.{AreStartPrices}
 use Rattle.link_steps.specs.Unit.{IsUnit}
-use Rattle.arc_restrict.specs.Prices.{AreWithinLimit}
 use Rattle.column_pool.specs.Columns.{no_columns}
+use Rattle.proof_tree.specs.declared.cuts.Cut.{Cut}
+use Rattle.proof_tree.specs.Cuts.{IsCutList}
+use Rattle.cut_table.specs.Numbers.{AreNumbers, AreStartNumbers}
 use Rattle.pool_machine.specs.declared.answers.Opened.{Opened}
 use Rattle.pool_machine.specs.declared.answers.RoundFault.{RoundFault}
 use Rattle.pool_machine.specs.declared.answers.Offer.{Offer}
@@ -98,16 +99,18 @@ pub record IsCounted (s : State) (entries : List Entry) (t : State) : Type 0 whe
 abbrev pub root_with : List ℕ → Node
 root_with prices = waiting_with [] prices
 
--- the root waits with the start prices, and nothing else is there
-pub record IsOpeningState (p : Parts) (budget : ℕ) (s : State) : Type 0 where
+-- the root waits with the start prices and with rates of 0, and nothing else is there
+pub record IsOpeningState (p : Parts) (cuts : List Cut) (budget : ℕ) (s : State) : Type 0 where
   pub lawful : IsInstance p
+  pub are_cuts : IsCutList p cuts
   pub unit : ℕ
   pub is_unit : IsUnit p unit
   pub prices : List ℕ
-  pub are_start : AreStartPrices p prices
-  pub within_limit : AreWithinLimit p prices
+  pub are_start : AreStartNumbers p cuts prices
+  pub are_numbers : AreNumbers p cuts prices
   pub is_state : s ≡ record {
     problem = p;
+    cuts = cuts;
     unit = unit;
     nodes = root_with prices ∷ [];
     columns = no_columns p;
@@ -118,9 +121,9 @@ pub record IsOpeningState (p : Parts) (budget : ℕ) (s : State) : Type 0 where
     accepted = 0;
   }
 
--- some events lead to the state from the opening state of its own problem and budget
+-- some events lead to the state from the opening state of its own problem, cuts and budget
 pub record IsReachable (s : State) : Type 0 where
   pub opening : State
   pub entries : List Entry
-  pub is_opening : IsOpeningState s.problem s.budget opening
+  pub is_opening : IsOpeningState s.problem s.cuts s.budget opening
   pub run : Run opening entries s

@@ -1,17 +1,18 @@
 -- What holds of each node of a state that events lead to, by itself.
-use Rattle.std.specs.Prelude.{ℕ, ◌≡◌, ◌<◌, ◌≤◌, ⊤, false, List, length, Option, Some, None, IfSome, slice_get, IsTrue, ℤ, ◌≤ℤ◌}
+use Rattle.std.specs.Prelude.{ℕ, ◌≡◌, ◌<◌, ◌≤◌, ◌+◌, ⊤, false, List, length, Option, Some, None, IfSome, slice_get, IsTrue, ℤ, ◌≤ℤ◌}
 use Rattle.plan_base.specs.declared.ids.ArcId.{ArcId}
 use Rattle.plan_base.specs.declared.parts.Parts.{Parts}
 use Rattle.plan_base.specs.Arcs.{is_arc, tail_of, demand_at}
 use Rattle.plan_base.specs.Places.{places}
 use Rattle.arc_restrict.specs.Restrictions.{Forbidden}
-use Rattle.arc_restrict.specs.Prices.{AreWithinLimit}
 use Rattle.link_steps.specs.Ranges.{AreRanges}
+use Rattle.proof_tree.specs.declared.cuts.Cut.{Cut}
 use Rattle.proof_tree.specs.Regions.{Region}
-use Rattle.proof_tree.specs.Bounds.{IsBound}
 use Rattle.proof_tree.specs.Splits.{IsSplit, PartsTwoPaths}
 use Rattle.proof_tree.specs.Spellings.{IsAscending, FitsEvidence}
-use Rattle.proof_tree.specs.Evidence.{HasEvidence, ClosedByCut, ClosedByCrowd}
+use Rattle.proof_tree.specs.Evidence.{ClosedByCut, ClosedByCrowd}
+use Rattle.proof_tree.specs.RatedEvidence.{IsBoundAt, HasRatedEvidence}
+use Rattle.cut_table.specs.Numbers.{AreNumbers}
 use Rattle.proof_tree.specs.declared.tree.TreeNode.TheVariants.{Leaf}
 use Rattle.proof_tree.specs.Plans.{is_open}
 use Rattle.pool_machine.specs.declared.limits.TheConstants.{MAX_ROUNDS, MAX_VERSIONS}
@@ -20,50 +21,45 @@ use Rattle.pool_machine.specs.State.{Round, Best, Node, restriction_of, ranges_o
 use Rattle.pool_machine.specs.Dividing.{PartsSteps}
 use Rattle.branch_tree.specs.declared.node.Divider.TheVariants as divider
 
--- one price for each place, none above the limit
-pub record IsPriceList (p : Parts) (prices : List ℕ) : Type 0 where
-  pub count : length prices ≡ places p
-  pub within_limit : AreWithinLimit p prices
-
 -- a split of arcs is one of the region, parts two paths and has ascending sides; one of loads parts two steps
 abbrev pub IsSoundDivider : Parts → Region → Divider → Type 0
 IsSoundDivider p g (divider.Arcs d) = IsSplit p g.forbidden d.demand d.at d.left d.right × PartsTwoPaths p g.forbidden d.demand d.left d.right × IsAscending d.left × IsAscending d.right
 IsSoundDivider p g (divider.Load d) = PartsSteps p g.ranges d
 
--- each split is one of the node's region; each closed leaf has its evidence, of the instance's size
-abbrev pub IsSoundFate : Parts → Option ℕ → Region → Fate → Type 0
-IsSoundFate p cost g Undone = ⊤
-IsSoundFate p cost g (ClosedBy evidence) = (is_open (Leaf evidence) ≡ false) × HasEvidence p cost g evidence × FitsEvidence p.nodes (places p) evidence
-IsSoundFate p cost g (DividedBy d) = IsSoundDivider p g d.by
+-- each split is one of the node's region; each closed leaf has its evidence, of the size of the instance and its cuts
+abbrev pub IsSoundFate : Parts → List Cut → Option ℕ → Region → Fate → Type 0
+IsSoundFate p cuts cost g Undone = ⊤
+IsSoundFate p cuts cost g (ClosedBy evidence) = (is_open (Leaf evidence) ≡ false) × HasRatedEvidence p cuts cost g evidence × FitsEvidence p.nodes (places p + length cuts) evidence
+IsSoundFate p cuts cost g (DividedBy d) = IsSoundDivider p g d.by
 
 -- the same of a node at its own region
-abbrev pub HasSoundFate : Parts → Option ℕ → Node → Type 0
-HasSoundFate p cost node = IsSoundFate p cost (region_of p node) node.fate
+abbrev pub HasSoundFate : Parts → List Cut → Option ℕ → Node → Type 0
+HasSoundFate p cuts cost node = IsSoundFate p cuts cost (region_of p node) node.fate
 
 -- a round in range, each of whose paths is a least one under the round's own prices
-pub record IsSoundRound (p : Parts) (r : Forbidden) (round : Round) : Type 0 where
+pub record IsSoundRound (p : Parts) (cuts : List Cut) (r : Forbidden) (round : Round) : Type 0 where
   pub slot : round.slot < MAX_ROUNDS
   pub count : length round.found ≡ length p.demands
-  pub prices : IsPriceList p round.prices
+  pub prices : AreNumbers p cuts round.prices
   pub least : (k : ℕ) (found : Found) → slice_get round.found k ≡ Some (Some found) → IsLeastPath p round.prices k r found.path found.price
 
 -- only an open leaf has a round, and it is sound at the restriction of the node
-abbrev pub HasSoundRound : Parts → Node → Type 0
-HasSoundRound p node = IfSome node.round (λ round. (node.fate ≡ Undone) × IsSoundRound p (restriction_of node) round)
+abbrev pub HasSoundRound : Parts → List Cut → Node → Type 0
+HasSoundRound p cuts node = IfSome node.round (λ round. (node.fate ≡ Undone) × IsSoundRound p cuts (restriction_of node) round)
 
 -- what is recorded is the bound at the best prices, and at least the bound at the first prices
-pub record IsSoundBest (p : Parts) (g : Region) (first_prices : List ℕ) (completed : ℕ) (best : Best) : Type 0 where
-  pub prices : IsPriceList p best.prices
-  pub is_bound : IsBound p g best.prices best.bound
+pub record IsSoundBest (p : Parts) (cuts : List Cut) (g : Region) (first_prices : List ℕ) (completed : ℕ) (best : Best) : Type 0 where
+  pub prices : AreNumbers p cuts best.prices
+  pub is_bound : IsBoundAt p cuts g best.prices best.bound
   pub some_complete : 0 < completed
   pub first : ℤ
-  pub is_first : IsBound p g first_prices first
+  pub is_first : IsBoundAt p cuts g first_prices first
   pub above_first : first ≤ℤ best.bound
 
 -- a complete round's bound is at most the recorded one; a node without complete versions has a round of its first
 -- prices; a round that is not complete can become so
-pub record HasSoundVersions (p : Parts) (g : Region) (first_prices : List ℕ) (completed : ℕ) (best : Option Best) (round : Round) : Type 0 where
-  pub complete_within : left_of round ≡ 0 → (bound : ℤ) → IsBound p g round.prices bound → IfSome best (λ b. bound ≤ℤ b.bound)
+pub record HasSoundVersions (p : Parts) (cuts : List Cut) (g : Region) (first_prices : List ℕ) (completed : ℕ) (best : Option Best) (round : Round) : Type 0 where
+  pub complete_within : left_of round ≡ 0 → (bound : ℤ) → IsBoundAt p cuts g round.prices bound → IfSome best (λ b. bound ≤ℤ b.bound)
   pub some_complete : left_of round ≡ 0 → 0 < completed
   pub first_round : completed ≡ 0 → round.prices ≡ first_prices
   pub room : 0 < left_of round → completed < MAX_VERSIONS
@@ -87,15 +83,15 @@ pub record IsOpenEnough (p : Parts) (r : Forbidden) : Type 0 where
   pub elsewhere : (k node : ℕ) → k < length p.demands → KeepsAnArc p r k node
 
 -- what holds of each node by itself, whatever the incumbent
-pub record IsSoundNode (p : Parts) (node : Node) : Type 0 where
-  pub first_prices : IsPriceList p node.first_prices
+pub record IsSoundNode (p : Parts) (cuts : List Cut) (node : Node) : Type 0 where
+  pub first_prices : AreNumbers p cuts node.first_prices
   pub open_enough : IsOpenEnough p (restriction_of node)
   pub ranges : AreRanges p (ranges_of p node)
-  pub round : HasSoundRound p node
-  pub best : IfSome node.best (λ best. IsSoundBest p (region_of p node) node.first_prices node.completed best)
+  pub round : HasSoundRound p cuts node
+  pub best : IfSome node.best (λ best. IsSoundBest p cuts (region_of p node) node.first_prices node.completed best)
   pub no_best : node.best ≡ None → node.completed ≡ 0
-  pub versions : IfSome node.round (λ round. HasSoundVersions p (region_of p node) node.first_prices node.completed node.best round)
+  pub versions : IfSome node.round (λ round. HasSoundVersions p cuts (region_of p node) node.first_prices node.completed node.best round)
   pub version_count : node.completed ≤ MAX_VERSIONS
   pub waiting : node.fate ≡ Undone → node.round ≡ None → node.completed ≡ 0
   pub cut : IfSome node.cut (λ cut. ClosedByCut p (restriction_of node) cut.demand cut.reached × (length cut.reached ≡ p.nodes))
-  pub crowd : IfSome node.crowd (λ prices. ClosedByCrowd p (region_of p node) prices × (length prices ≡ places p))
+  pub crowd : IfSome node.crowd (λ prices. ClosedByCrowd p (region_of p node) prices × (length prices ≡ places p + length cuts))

@@ -64,7 +64,7 @@ pub record Accepts (old : State) (offer : Offer) (left : ℕ) (new : State) : Ty
   pub is_path : offer.found ≡ priced.Path found.path found.price potentials
   pub left_is : left ≡ left_of (with_found round offer.demand.0 found)
   pub after : Node
-  pub takes : TakesRound old.problem node (with_found round offer.demand.0 found) after
+  pub takes : TakesRound old.problem old.cuts node (with_found round offer.demand.0 found) after
   pub becomes : new ≡ record old { nodes = slice_set old.nodes offer.node.0 after; accepted = suc old.accepted }
 
 -- an offer is answered so and leads from old to new; a refused one changes nothing

@@ -52,7 +52,7 @@ pub record Opens (old : State) (id : BranchId) (opened : Opened) (new : State) :
   pub slot : IsLowestFreeSlot old opened.slot
   pub version : opened.version ≡ old.next_version
   pub after : Node
-  pub takes : TakesRound old.problem node (empty_round old opened.slot node.first_prices) after
+  pub takes : TakesRound old.problem old.cuts node (empty_round old opened.slot node.first_prices) after
   pub becomes : new ≡ record old { nodes = slice_set old.nodes id.0 after; next_version = suc old.next_version }
 
 -- an opening answers so and leads from old to new; a refused one changes nothing

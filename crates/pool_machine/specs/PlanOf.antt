@@ -1,4 +1,4 @@
--- The plan of a state: its tree in preorder, with open leaves at their kept prices, its incumbent and its counts. It has no cuts.
+-- The plan of a state: its cuts, its tree in preorder, with open leaves at their kept prices, its incumbent and its counts.
 use Rattle.std.specs.Prelude.{ℕ, ◌≤ℤ◌, ⊤, ◌≡◌, Bool, true, false, ◌||◌, ◌==◌, List, [], ◌∷◌, ◌++◌, length, Option, Some, None, option_map, sum_by, MatchOption, ℤ, nat_lt}
 use Rattle.plan_base.specs.declared.parts.Parts.{Parts}
 use Rattle.plan_base.specs.declared.path.Design.{Design}
@@ -67,7 +67,7 @@ HasBoundOf p plan Optimal = plan.bound ≡ None
 HasBoundOf p plan Infeasible = plan.bound ≡ None
 HasBoundOf p plan Undecided = MatchOption plan.bound ((bound : ℤ) → IsCandidate p plan bound → ⊥) (λ bound. IsLeastCandidate p plan bound)
 
--- the plan is that of the state, without cuts
+-- the plan is that of the state
 pub record IsPlanOf (s : State) (plan : Plan) : Type 0 where
   pub nodes : plan.nodes ≡ s.problem.nodes
   pub links : plan.links ≡ length s.problem.links
@@ -77,7 +77,7 @@ pub record IsPlanOf (s : State) (plan : Plan) : Type 0 where
   pub budget : plan.budget ≡ s.budget
   pub examined : plan.examined ≡ s.examined
   pub design : plan.design ≡ stated_design s.incumbent
-  pub cuts : plan.cuts ≡ []
+  pub cuts : plan.cuts ≡ s.cuts
   pub tree : plan.tree ≡ tree_of s
   pub bound : HasBoundOf s.problem plan plan.status
 

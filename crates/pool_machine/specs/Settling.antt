@@ -22,7 +22,7 @@ pub record Settles (old : State) (id : BranchId) (version : ℕ) (new : State) :
   pub node : Node
   pub round : Round
   pub is_gathered : IsGathered old id version node round
-  pub no_more : (has_enough old node ≡ true) ⊎ HasStalled old.problem (ranges_of old.problem node) (columns_for old node) round.prices
+  pub no_more : (has_enough old node ≡ true) ⊎ HasStalled old.problem old.cuts (ranges_of old.problem node) (columns_for old node) round.prices
   pub becomes : new ≡ with_node old id (record node { settled = true })
 
 -- a price step gains, and the node has not had enough versions: the restricted values before and after the step
@@ -31,7 +31,7 @@ pub record IsImprovable (old : State) (id : BranchId) (version : ℕ) (before af
   pub round : Round
   pub is_gathered : IsGathered old id version node round
   pub not_enough : has_enough old node ≡ false
-  pub is_gain : IsGain old.problem (ranges_of old.problem node) (columns_for old node) round.prices before after
+  pub is_gain : IsGain old.problem old.cuts (ranges_of old.problem node) (columns_for old node) round.prices before after
   pub unchanged : new ≡ old
 
 -- a settling is answered so and leads from old to new; a refused one changes nothing

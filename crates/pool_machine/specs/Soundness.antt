@@ -4,6 +4,7 @@ use Rattle.plan_base.specs.Facts.{IsInstance}
 use Rattle.link_steps.specs.Unit.{IsUnit}
 use Rattle.column_pool.specs.Columns.{AreColumns}
 use Rattle.proof_tree.specs.Regions.{whole}
+use Rattle.proof_tree.specs.Cuts.{IsCutList}
 use Rattle.proof_tree.specs.Plans.{IsStatedDesign}
 use Rattle.pool_machine.specs.Nodes.{HasSoundFate, IsSoundNode}
 use Rattle.pool_machine.specs.Family.{AreApart, IsFamily}
@@ -14,11 +15,12 @@ use Rattle.pool_machine.specs.State.{State, cutoff_of, divided_in}
 -- all that holds of a state that events lead to
 pub record IsSound (s : State) : Type 0 where
   pub lawful : IsInstance s.problem
+  pub cuts : IsCutList s.problem s.cuts
   pub unit : IsUnit s.problem s.unit
-  pub nodes : All (IsSoundNode s.problem) s.nodes
-  pub fates : All (HasSoundFate s.problem (cutoff_of s)) s.nodes
+  pub nodes : All (IsSoundNode s.problem s.cuts) s.nodes
+  pub fates : All (HasSoundFate s.problem s.cuts (cutoff_of s)) s.nodes
   pub apart : AreApart s.next_version s.nodes
-  pub family : IsFamily s.problem s.nodes
+  pub family : IsFamily s.problem s.cuts s.nodes
   pub columns : AreColumns s.problem s.columns
   pub incumbent : IfSome s.incumbent (λ held. IsStatedDesign s.problem held.cost held.design)
   pub counts : AreSoundCounts s

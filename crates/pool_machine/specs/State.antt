@@ -4,6 +4,7 @@ use Rattle.plan_base.specs.declared.ids.BranchId.{BranchId}
 use Rattle.plan_base.specs.declared.parts.Parts.{Parts}
 use Rattle.link_steps.specs.declared.range.LoadRange.{LoadRange}
 use Rattle.arc_restrict.specs.Restrictions.{Forbidden}
+use Rattle.proof_tree.specs.declared.cuts.Cut.{Cut}
 use Rattle.proof_tree.specs.Regions.{Region}
 use Rattle.column_pool.specs.Columns.{Columns}
 use Rattle.pool_machine.specs.declared.answers.NodeState.{NodeState}
@@ -20,7 +21,8 @@ pub use Rattle.branch_tree.specs.declared.node.Fate.TheVariants.{Undone, ClosedB
 pub use Rattle.branch_tree.specs.Branches.{restriction_by, ranges_by, region_by, narrowed, left_limit, right_limit}
 pub use Rattle.pool_machine.specs.declared.tree.Incumbent.{Incumbent}
 
--- the round of a node: which demands are priced under one version of prices. One entry for each demand
+-- the round of a node: which demands are priced under one version of prices, which are numbers: a price for each place, and
+-- behind them a rate for each cut. One entry for each demand
 pub record Round : Type 0 where
   pub slot : ℕ
   pub version : ℕ
@@ -50,6 +52,8 @@ pub record Node : Type 0 where
 -- the whole state; a node is named by its place in the list
 pub record State : Type 0 where
   pub problem : Parts
+  -- the cuts whose rates stand behind the prices; no event changes them
+  pub cuts : List Cut
   -- what all costs are multiples of, in cost grains
   pub unit : ℕ
   pub nodes : List Node

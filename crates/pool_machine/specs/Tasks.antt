@@ -3,6 +3,7 @@ use Rattle.std.specs.Prelude.{ℕ, ◌≡◌, ◌<◌, true, false, Some, None, 
 use Rattle.plan_base.specs.declared.ids.BranchId.{BranchId}
 use Rattle.plan_base.specs.declared.ids.DemandId.{DemandId}
 use Rattle.plan_base.specs.declared.parts.Parts.{Parts}
+use Rattle.proof_tree.specs.declared.cuts.Cut.{Cut}
 use Rattle.pool_machine.specs.declared.task.Task.{Task}
 use Rattle.pool_machine.specs.declared.task.Task.TheVariants as task
 use Rattle.pool_machine.specs.declared.limits.TheConstants.{MAX_VERSIONS}
@@ -54,9 +55,10 @@ IsLawfulTask s task.Done = is_done s ≡ true
 abbrev pub LeadsTo : State → State → Type 0
 LeadsTo old new = (entries : List Entry) × Run old entries new
 
--- the state is sound, and events lead to it from the opening state of this instance and budget
-pub record IsSearchState (p : Parts) (budget : ℕ) (s : State) : Type 0 where
+-- the state is sound, and events lead to it from the opening state of this instance, these cuts and this budget
+pub record IsSearchState (p : Parts) (cuts : List Cut) (budget : ℕ) (s : State) : Type 0 where
   pub reachable : IsReachable s
   pub sound : IsSound s
   pub problem : s.problem ≡ p
+  pub cuts_are : s.cuts ≡ cuts
   pub budget_is : s.budget ≡ budget

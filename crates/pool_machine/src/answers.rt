@@ -84,7 +84,8 @@ pub enum Gather {
     Taken(Brief),
 }
 
-/// What becomes of prices that are published for a node: the first refusal in this order, or the round that has them.
+/// What becomes of prices that are published for a node: the first refusal in this order, or the round that has them. With
+/// the prices of places, published prices have behind them the rates of the search's cuts.
 #[derive(Clone, Copy, Debug, PartialEq, Eq)]
 pub enum Publish {
     /// The budget is spent: so many nodes are examined.
@@ -105,7 +106,7 @@ pub enum Publish {
     Rounds {
         done: u32,
     },
-    /// There is not one price for each place: so many are needed.
+    /// There is not one price for each place and one rate for each cut: so many numbers are needed.
     PriceCount {
         needed: u32,
     },
@@ -113,12 +114,16 @@ pub enum Publish {
     OverPrice {
         link: LinkId,
     },
+    /// A price and the rates of the cuts that its place crosses are together above the price limit, or a price is below a
+    /// thousand routing costs of the place's link where such a rate is above 0, or a rate is above the limit. Without cuts
+    /// it never arises.
+    Unlawful,
     /// The first demand whose path in the round is none of its columns.
     Ungathered {
         demand: DemandId,
     },
-    /// The prices have no greater restricted value than the round's, and are not the crowd prices of a stalled round that are
-    /// tried for the first time. Both in thousandths of a cost grain.
+    /// The prices with their rates have no greater restricted value than the round's, and are not the crowd prices of a
+    /// stalled round that are tried for the first time. Both in thousandths of a cost grain.
     NoGain {
         /// The restricted value of the round's prices.
         old: i128,

@@ -3,7 +3,8 @@
 ghost use Rattle.plan_base.specs.declared.ids.BranchId.{BranchId as AnyBranch};
 ghost use Rattle.branch_tree.specs.declared.node.Division.{Division as AnyDivision};
 ghost use Rattle.branch_tree.specs.declared.node.Fate.TheVariants.{DividedBy};
-ghost use Rattle.proof_tree.specs.Trees.{IsValidTree};
+ghost use Rattle.proof_tree.specs.declared.cuts.Cut.{Cut as AnyCut};
+ghost use Rattle.proof_tree.specs.RatedTrees.{IsRatedTree};
 ghost use Rattle.pool_machine.specs.State.{State, Node, Best, cutoff_of};
 ghost use Rattle.pool_machine.specs.Machine.{IsReachable, Run, Entry, IsCounted, IsOpeningState};
 ghost use Rattle.pool_machine.specs.Soundness.{IsSound};
@@ -13,12 +14,13 @@ ghost use Rattle.pool_machine.specs.declared.answers.Opened.{Opened as AnyOpened
 ghost use Rattle.pool_machine.specs.declared.answers.RoundFault.{RoundFault as AnyRoundFault};
 ghost use Rattle.pool_machine.specs.declared.answers.Settle.{Settle as AnySettle};
 ghost use Rattle.pool_machine.specs.declared.answers.Publish.{Publish as AnyPublish};
+ghost use Rattle.pool_machine.specs.declared.answers.Publish.TheVariants as publish;
 ghost use Rattle.pool_machine.specs.Opening.{OpenStep};
 ghost use Rattle.pool_machine.specs.Gathering.{gather_fault};
 ghost use Rattle.pool_machine.specs.Settling.{SettleStep};
 ghost use Rattle.pool_machine.specs.Publishing.{PublishStep};
 ghost use Rattle.plan_base.specs.declared.parts.Parts.{Parts};
-ghost use Rattle.std.specs.Prelude.{ℕ, Result, Some, None, slice_get, ◌≤ℤ◌, List, ◌≡◌, ◌<◌, ◌≤◌, ◌-◌, ◌^◌, ◌+◌};
+ghost use Rattle.std.specs.Prelude.{ℕ, Result, Some, None, slice_get, ◌≤ℤ◌, List, [], ◌≡◌, ◌<◌, ◌≤◌, ◌-◌, ◌^◌, ◌+◌};
 ghost use Rattle.pool_machine.specs.Depth.{IsBranchingDepth};
 ghost use Rattle.pool_machine.specs.PlanOf.{tree_of, open_count};
 
@@ -32,9 +34,9 @@ pub fn counted_run()
     ensures { (s t : State) (entries : List Entry) → Run s entries t → IsCounted s entries t }
 {}
 
-/// The tree of a sound state is a valid proof tree against its incumbent's cost.
+/// The tree of a sound state is a valid proof tree with its cuts against its incumbent's cost.
 pub fn tree_of_state()
-    ensures { (s : State) → IsSound s → IsValidTree s.problem (cutoff_of s) (tree_of s) }
+    ensures { (s : State) → IsSound s → IsRatedTree s.problem s.cuts (cutoff_of s) (tree_of s) }
 {}
 
 /// Each instance has a branching depth, and one alone.
@@ -62,9 +64,10 @@ pub fn stays_small()
     ensures accepted { (s : State) → IsSound s → s.budget ≤ 4096 → s.accepted < 2 ^ 64 }
 {}
 
-/// Where events lead from an opening state, the state is sound, and has the instance and the budget of the opening one.
+/// Where events lead from an opening state, the state is sound, and has the instance, the cuts and the budget of the
+/// opening one.
 pub fn every_search()
-    ensures { (p : Parts) (budget : ℕ) (s t : State) → IsOpeningState p budget s → LeadsTo s t → IsSearchState p budget t }
+    ensures { (p : Parts) (cuts : List AnyCut) (budget : ℕ) (s t : State) → IsOpeningState p cuts budget s → LeadsTo s t → IsSearchState p cuts budget t }
 {}
 
 /// What an opening, a settling or a publishing answers at a state is one.
@@ -73,6 +76,11 @@ pub fn one_answer()
     ensures settling { (s t u : State) (id : AnyBranch) (version : ℕ) (a b : AnySettle) → SettleStep s id version a t → SettleStep s id version b u → a ≡ b }
     ensures publishing { (s t u : State) (id : AnyBranch) (seen : ℕ) (prices : List ℕ) (a b : AnyPublish)
         → PublishStep s id seen prices a t → PublishStep s id seen prices b u → a ≡ b }
+{}
+
+/// Without cuts no publishing is refused as unlawful.
+pub fn lawful_without_cuts()
+    ensures { (s t : State) (id : AnyBranch) (seen : ℕ) (prices : List ℕ) → s.cuts ≡ [] → PublishStep s id seen prices publish.Unlawful t → ⊥ }
 {}
 
 /// The gathering that a `Master` task begins with is not refused.

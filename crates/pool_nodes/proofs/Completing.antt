@@ -14,6 +14,7 @@ use Rattle.plan_base.proofs.PathLaws.{length-IsSimplePath}
 use Rattle.arc_restrict.specs.Restrictions.{Forbidden}
 use Rattle.arc_restrict.specs.Prices.{AreWithinLimit, IsLeastPrice}
 use Rattle.link_steps.specs.declared.range.LoadRange.{LoadRange}
+use Rattle.proof_tree.specs.declared.cuts.Cut.{Cut}
 use Rattle.path_pricing.specs.Priced.{IsLeastPath}
 use Rattle.bound_assembly.specs.declared.limits.TheConstants.{MAX_PATH_LINKS}
 use Rattle.bound_assembly.specs.Rounds.{RoundState}
@@ -38,9 +39,9 @@ kept_count lengths found n kept is = ap length kept.same ∙ (length-map_price f
 pub kept_short : (p : Parts) (lengths : RoundState) (found : List (Option Found)) → IsKeptRound lengths found → AreShort p (map price_in found) → AreShort p lengths.lengths
 kept_short p lengths found kept short = subst (AreShort p) (sym kept.same) short
 
-pub kept_bound : (p : Parts) (ranges : List LoadRange) (lengths : RoundState) (found : List (Option Found)) (bound : Option ℤ) → IsKeptRound lengths found
-    → IfSome bound (IsRoundBound p ranges lengths.prices lengths.lengths) → IfSome bound (IsRoundBound p ranges lengths.prices (map price_in found))
-kept_bound p ranges lengths found bound kept is = subst (λ (ls : List (Option ℕ)). IfSome bound (IsRoundBound p ranges lengths.prices ls)) kept.same is
+pub kept_bound : (p : Parts) (cuts : List Cut) (ranges : List LoadRange) (lengths : RoundState) (found : List (Option Found)) (bound : Option ℤ) → IsKeptRound lengths found
+    → IfSome bound (IsRoundBound p cuts ranges lengths.prices lengths.lengths) → IfSome bound (IsRoundBound p cuts ranges lengths.prices (map price_in found))
+kept_bound p cuts ranges lengths found bound kept is = subst (λ (ls : List (Option ℕ)). IfSome bound (IsRoundBound p cuts ranges lengths.prices ls)) kept.same is
 
 pub kept_crowd : (p : Parts) (ranges : List LoadRange) (lengths : RoundState) (found : List (Option Found)) (crowded : Bool) → IsKeptRound lengths found
     → IsTrue crowded ↔ IsRoundCrowd p ranges lengths.prices lengths.lengths → IsTrue crowded ↔ IsRoundCrowd p ranges lengths.prices (map price_in found)
@@ -73,14 +74,14 @@ price-le p prices within i = elim (either_way (length prices) i) [
   | inr below ↦ within i 0 below
 ]
 
-module _ (p : Parts) (r : Forbidden) (round : Round) (inst : IsInstance p) (h : IsSoundRound p r round) where
+module _ (p : Parts) (cuts : List Cut) (r : Forbidden) (round : Round) (inst : IsInstance p) (h : IsSoundRound p cuts r round) where
   -- a simple path has at most so many arcs, and the place of each has a price within the limit
   path-short : (k : ℕ) (path : List ArcId) (price : ℕ) → k < length p.demands → IsLeastPath p round.prices k r path price → price ≤ MAX_PATH_LINKS * price_limit p
   path-short k path price below least =
       let demand : IsDemand p.nodes (demand_at p k) = inst.demands k no_demand below in
       let few = length-IsSimplePath p (demand_at p k) path inst demand.source least.permitted.simple in
       let nodes = inst.nodes in
-      let each = sum_by-le (λ a. slice_index round.prices (place_of p a)) (price_limit p) path (λ i d within. price-le p round.prices h.prices.within_limit (place_of p (get_or path i d))) in
+      let each = sum_by-le (λ a. slice_index round.prices (place_of p a)) (price_limit p) path (λ i d within. price-le p round.prices h.prices.lawful.prices_within (place_of p (get_or path i d))) in
       let most : length path * price_limit p ≤ MAX_PATH_LINKS * price_limit p = mul-le-mul (let few' : length path ≤ MAX_PATH_LINKS = omega arith in few') (let same : price_limit p ≤ price_limit p = omega arith in same) in
       let is = least.price_is in
       omega arith
@@ -118,30 +119,30 @@ TakesCrowd p ranges round old new =
     (IsRoundCrowd p ranges round.prices (lengths_of round) × (new ≡ Some round.prices))
     ⊎ ((IsRoundCrowd p ranges round.prices (lengths_of round) → ⊥) × (new ≡ old))
 
-module _ (p : Parts) (old : Node) (round : Round) (is : old.round ≡ Some round) where
+module _ (p : Parts) (cuts : List Cut) (old : Node) (round : Round) (is : old.round ≡ Some round) where
   -- a round that is not complete changes nothing
-  pub goes-on : 0 < left_of round → TakesRound p old round old
+  pub goes-on : 0 < left_of round → TakesRound p cuts old round old
   goes-on left = inr (record { incomplete = left; becomes = ap (λ (o : Option Round). let x : Node = record old { round = o } in x) is })
 
-  module _ (inst : IsInstance p) (h : IsSoundRound p (restriction_of old) round) where
-    keeps-crowd : (bound : ℤ) (crowd : Option (List ℕ)) → IsRoundBound p (ranges_of p old) round.prices (lengths_of round) bound → TakesCrowd p (ranges_of p old) round old.crowd crowd
+  module _ (inst : IsInstance p) (h : IsSoundRound p cuts (restriction_of old) round) where
+    keeps-crowd : (bound : ℤ) (crowd : Option (List ℕ)) → IsRoundBound p cuts (ranges_of p old) round.prices (lengths_of round) bound → TakesCrowd p (ranges_of p old) round old.crowd crowd
         → KeepsCrowd p old round.prices crowd
     keeps-crowd bound crowd all takes =
         let g = region_of p old in
-        let least = lengths-least p (restriction_of old) round inst h in
+        let least = lengths-least p cuts (restriction_of old) round inst h in
         elim takes [
-          | inl w ↦ inl (round_crowd-closed p g round.prices (lengths_of round) h.prices.within_limit least w.0, w.1)
+          | inl w ↦ inl (round_crowd-closed p g round.prices (lengths_of round) h.prices.lawful.prices_within least w.0, w.1)
           | inr w ↦ inr ((λ closed. w.0 (closed-round_crowd p g round.prices (lengths_of round) all.complete least closed)), w.1)
         ]
 
-    pub completes : (bound : ℤ) (crowd : Option (List ℕ)) (new : Node) → left_of round ≡ 0 → IsRoundBound p (ranges_of p old) round.prices (lengths_of round) bound
+    pub completes : (bound : ℤ) (crowd : Option (List ℕ)) (new : Node) → left_of round ≡ 0 → IsRoundBound p cuts (ranges_of p old) round.prices (lengths_of round) bound
         → TakesCrowd p (ranges_of p old) round old.crowd crowd
-        → new ≡ record old { best = Some (better_of old.best bound round.prices); completed = suc old.completed; crowd = crowd } → TakesRound p old round new
+        → new ≡ record old { best = Some (better_of old.best bound round.prices); completed = suc old.completed; crowd = crowd } → TakesRound p cuts old round new
     completes bound crowd new complete all takes becomes = inl (record {
       complete = complete;
       bound = bound;
       crowd = crowd;
-      is_bound = round_bound-bound p (region_of p old) round.prices (lengths_of round) bound (lengths-least p (restriction_of old) round inst h) all;
+      is_bound = round_bound-bound p cuts (region_of p old) round.prices (lengths_of round) bound (lengths-least p cuts (restriction_of old) round inst h) all;
       is_crowd = keeps-crowd bound crowd all takes;
       becomes = becomes ∙ ap (λ (o : Option Round). let x : Node = record old { best = Some (better_of old.best bound round.prices); completed = suc old.completed; crowd = crowd; round = o } in x) is;
     })
@@ -164,86 +165,86 @@ pub none-left : (bound : ℤ) (left : ℕ) → (Some bound ≡ None) ↔ (0 < le
 none-left bound zero h = refl
 none-left bound (suc left) h = absurd (let bad : Some bound ≡ None = h.1 (omega arith) in cc)
 
-module _ (p : Parts) (old : Node) (round : Round) (is : old.round ≡ Some round) (inst : IsInstance p) (ready : MayComplete p old) where
-  ready-sound : IsSoundRound p (restriction_of old) round
-  ready-sound = subst (λ (o : Option Round). IfSome o (λ r. IsSoundRound p (restriction_of old) r)) is ready.is_sound
+module _ (p : Parts) (cuts : List Cut) (old : Node) (round : Round) (is : old.round ≡ Some round) (inst : IsInstance p) (ready : MayComplete p cuts old) where
+  ready-sound : IsSoundRound p cuts (restriction_of old) round
+  ready-sound = subst (λ (o : Option Round). IfSome o (λ r. IsSoundRound p cuts (restriction_of old) r)) is ready.is_sound
 
   pub ready-short : AreShort p (lengths_of round)
-  ready-short = lengths-short p (restriction_of old) round inst ready-sound
+  ready-short = lengths-short p cuts (restriction_of old) round inst ready-sound
 
   pub ready-fits : (prices : List ℕ) → prices ≡ round.prices → length prices ≡ length old.first_prices
   ready-fits prices same = ap length same ∙ (ready-sound.prices.count ∙ sym ready.price_count)
 
   pub completed-with : (ranges : List LoadRange) (bound : ℤ) (prices : List ℕ) (best : Option Best) (crowd : Option (List ℕ)) → ranges ≡ ranges_of p old → prices ≡ round.prices → left_of round ≡ 0
-      → IsRoundBound p ranges round.prices (lengths_of round) bound → best ≡ Some (better_of old.best bound prices) → TakesCrowd p ranges round old.crowd crowd
-      → TakesRound p old round (record old { best = best; completed = old.completed + 1; crowd = crowd })
+      → IsRoundBound p cuts ranges round.prices (lengths_of round) bound → best ≡ Some (better_of old.best bound prices) → TakesCrowd p ranges round old.crowd crowd
+      → TakesRound p cuts old round (record old { best = best; completed = old.completed + 1; crowd = crowd })
   completed-with ranges bound prices best crowd mine same none all is_best takes =
       let better : best ≡ Some (better_of old.best bound round.prices) = is_best ∙ ap (λ (ps : List ℕ). Some (better_of old.best bound ps)) same in
-      completes p old round is inst ready-sound bound crowd (record old { best = best; completed = old.completed + 1; crowd = crowd }) none
-      (subst (λ (rs : List LoadRange). IsRoundBound p rs round.prices (lengths_of round) bound) mine all)
+      completes p cuts old round is inst ready-sound bound crowd (record old { best = best; completed = old.completed + 1; crowd = crowd }) none
+      (subst (λ (rs : List LoadRange). IsRoundBound p cuts rs round.prices (lengths_of round) bound) mine all)
       (subst (λ (rs : List LoadRange). TakesCrowd p rs round old.crowd crowd) mine takes)
       (ap₂ (λ (b : Option Best) (n : ℕ). let x : Node = record old { best = b; completed = n; crowd = crowd } in x) better (add-one old.completed))
 
 -- the round is that of the node before
-pub TakesRound-now : (p : Parts) (old now : Node) (round : Round) (new : Node) → old ≡ now → old.round ≡ Some round → TakesRound p old round new → IfSome now.round (λ r. TakesRound p now r new)
-TakesRound-now p old now round new same is takes =
-    subst (λ (x : Node). IfSome x.round (λ r. TakesRound p x r new)) same (subst (λ (o : Option Round). IfSome o (λ r. TakesRound p old r new)) (sym is) takes)
+pub TakesRound-now : (p : Parts) (cuts : List Cut) (old now : Node) (round : Round) (new : Node) → old ≡ now → old.round ≡ Some round → TakesRound p cuts old round new → IfSome now.round (λ r. TakesRound p cuts now r new)
+TakesRound-now p cuts old now round new same is takes =
+    subst (λ (x : Node). IfSome x.round (λ r. TakesRound p cuts x r new)) same (subst (λ (o : Option Round). IfSome o (λ r. TakesRound p cuts old r new)) (sym is) takes)
 
 -- What a node that takes a round keeps
 
-pub TakesRound-round : (p : Parts) (old : Node) (round : Round) (new : Node) → TakesRound p old round new → new.round ≡ Some round
-TakesRound-round p old round new takes = elim takes [ inl e ↦ ap (λ (x : Node). x.round) e.becomes | inr e ↦ ap (λ (x : Node). x.round) e.becomes ]
+pub TakesRound-round : (p : Parts) (cuts : List Cut) (old : Node) (round : Round) (new : Node) → TakesRound p cuts old round new → new.round ≡ Some round
+TakesRound-round p cuts old round new takes = elim takes [ inl e ↦ ap (λ (x : Node). x.round) e.becomes | inr e ↦ ap (λ (x : Node). x.round) e.becomes ]
 
-pub TakesRound-limits : (p : Parts) (old : Node) (round : Round) (new : Node) → TakesRound p old round new → new.limits ≡ old.limits
-TakesRound-limits p old round new takes = elim takes [ inl e ↦ ap (λ (x : Node). x.limits) e.becomes | inr e ↦ ap (λ (x : Node). x.limits) e.becomes ]
+pub TakesRound-limits : (p : Parts) (cuts : List Cut) (old : Node) (round : Round) (new : Node) → TakesRound p cuts old round new → new.limits ≡ old.limits
+TakesRound-limits p cuts old round new takes = elim takes [ inl e ↦ ap (λ (x : Node). x.limits) e.becomes | inr e ↦ ap (λ (x : Node). x.limits) e.becomes ]
 
-pub TakesRound-fate : (p : Parts) (old : Node) (round : Round) (new : Node) → TakesRound p old round new → new.fate ≡ old.fate
-TakesRound-fate p old round new takes = elim takes [ inl e ↦ ap (λ (x : Node). x.fate) e.becomes | inr e ↦ ap (λ (x : Node). x.fate) e.becomes ]
+pub TakesRound-fate : (p : Parts) (cuts : List Cut) (old : Node) (round : Round) (new : Node) → TakesRound p cuts old round new → new.fate ≡ old.fate
+TakesRound-fate p cuts old round new takes = elim takes [ inl e ↦ ap (λ (x : Node). x.fate) e.becomes | inr e ↦ ap (λ (x : Node). x.fate) e.becomes ]
 
 -- a node that has another round takes one as the node before does
-TakesRound-over : (p : Parts) (old : Node) (o : Option Round) (round : Round) (new : Node) → TakesRound p (record old { round = o }) round new → TakesRound p old round new
-TakesRound-over p old o round new takes = elim takes [
+TakesRound-over : (p : Parts) (cuts : List Cut) (old : Node) (o : Option Round) (round : Round) (new : Node) → TakesRound p cuts (record old { round = o }) round new → TakesRound p cuts old round new
+TakesRound-over p cuts old o round new takes = elim takes [
   | inl e ↦ inl (record { complete = e.complete; bound = e.bound; crowd = e.crowd; is_bound = e.is_bound; is_crowd = e.is_crowd; becomes = e.becomes })
   | inr e ↦ inr (record { incomplete = e.incomplete; becomes = e.becomes })
 ]
 
 -- the node with its round, completed, has taken the round
-pub TakesRound-from : (p : Parts) (old mid new : Node) (round : Round) → mid ≡ record old { round = Some round }
-    → IfSome mid.round (λ r. TakesRound p mid r new) → TakesRound p old round new
-TakesRound-from p old mid new round is takes =
+pub TakesRound-from : (p : Parts) (cuts : List Cut) (old mid new : Node) (round : Round) → mid ≡ record old { round = Some round }
+    → IfSome mid.round (λ r. TakesRound p cuts mid r new) → TakesRound p cuts old round new
+TakesRound-from p cuts old mid new round is takes =
     let over : Node = record old { round = Some round } in
-    let taken : TakesRound p over round new = subst (λ (x : Node). IfSome x.round (λ r. TakesRound p x r new)) is takes in
-    TakesRound-over p old (Some round) round new taken
+    let taken : TakesRound p cuts over round new = subst (λ (x : Node). IfSome x.round (λ r. TakesRound p cuts x r new)) is takes in
+    TakesRound-over p cuts old (Some round) round new taken
 
 -- Offers of a path
 
-module _ (p : Parts) (old : Node) (demand : ℕ) (found : Found) (h : IsSoundNode p old) where
+module _ (p : Parts) (cuts : List Cut) (old : Node) (demand : ℕ) (found : Found) (h : IsSoundNode p cuts old) where
   abbrev MayPut : Round → Type 0
   MayPut round = (slice_get round.found demand ≡ Some None) × IsLeastPath p round.prices demand (restriction_of old) found.path found.price
 
-  undone-sound : (round : Round) → old.round ≡ Some round → (old.fate ≡ Undone) × IsSoundRound p (restriction_of old) round
-  undone-sound round is = subst (λ (o : Option Round). IfSome o (λ r. (old.fate ≡ Undone) × IsSoundRound p (restriction_of old) r)) is h.round
+  undone-sound : (round : Round) → old.round ≡ Some round → (old.fate ≡ Undone) × IsSoundRound p cuts (restriction_of old) round
+  undone-sound round is = subst (λ (o : Option Round). IfSome o (λ r. (old.fate ≡ Undone) × IsSoundRound p cuts (restriction_of old) r)) is h.round
 
   -- the node with the path may become complete
-  pub put-ready : (mid : Node) → IsSomeAnd old.round MayPut → IfSome old.round (λ r. mid ≡ record old { round = Some (with_found r demand found) }) → MayComplete p mid
+  pub put-ready : (mid : Node) → IsSomeAnd old.round MayPut → IfSome old.round (λ r. mid ≡ record old { round = Some (with_found r demand found) }) → MayComplete p cuts mid
   put-ready mid may is = by_cases old.round refl may is
     where
-      by_cases : (o : Option Round) → old.round ≡ o → IsSomeAnd o MayPut → IfSome o (λ r. mid ≡ record old { round = Some (with_found r demand found) }) → MayComplete p mid
+      by_cases : (o : Option Round) → old.round ≡ o → IsSomeAnd o MayPut → IfSome o (λ r. mid ≡ record old { round = Some (with_found r demand found) }) → MayComplete p cuts mid
       by_cases None at may is = absurd may
       by_cases (Some round) at may is =
           let facts = undone-sound round at in
-          subst (MayComplete p) (sym is) (record {
+          subst (MayComplete p cuts) (sym is) (record {
             undone = facts.0;
             price_count = h.first_prices.count;
             ranges = h.ranges;
             version_count = h.version_count;
-            is_sound = with_found-sound p (restriction_of old) round demand found facts.1 may.1;
+            is_sound = with_found-sound p cuts (restriction_of old) round demand found facts.1 may.1;
           })
 
   pub put-takes : (mid new : Node) → IfSome old.round (λ r. mid ≡ record old { round = Some (with_found r demand found) })
-      → IfSome mid.round (λ r. TakesRound p mid r new) → IfSome old.round (λ r. TakesRound p old (with_found r demand found) new)
+      → IfSome mid.round (λ r. TakesRound p cuts mid r new) → IfSome old.round (λ r. TakesRound p cuts old (with_found r demand found) new)
   put-takes mid new is takes = by_cases old.round is
     where
-      by_cases : (o : Option Round) → IfSome o (λ r. mid ≡ record old { round = Some (with_found r demand found) }) → IfSome o (λ r. TakesRound p old (with_found r demand found) new)
+      by_cases : (o : Option Round) → IfSome o (λ r. mid ≡ record old { round = Some (with_found r demand found) }) → IfSome o (λ r. TakesRound p cuts old (with_found r demand found) new)
       by_cases None is = tt
-      by_cases (Some round) is = TakesRound-from p old mid new (with_found round demand found) is takes
+      by_cases (Some round) is = TakesRound-from p cuts old mid new (with_found round demand found) is takes

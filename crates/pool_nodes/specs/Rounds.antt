@@ -1,11 +1,12 @@
 -- What a node and a place for a round keep, and what is published of a round; no public contract of the pool cites it.
-use Rattle.std.specs.Prelude.{ℕ, ◌≡◌, ◌≤◌, Bool, not, false, List, length, map, Option, Some, None, option_map, IsSomeAnd, IfSome, IsSome, IsTrue, is_some, ◌||◌, true, ⊤, ℤ, int_lt, [], ◌∷◌}
+use Rattle.std.specs.Prelude.{ℕ, ◌≡◌, ◌≤◌, ◌+◌, Bool, not, false, List, length, map, Option, Some, None, option_map, IsSomeAnd, IfSome, IsSome, IsTrue, is_some, ◌||◌, true, ⊤, ℤ, int_lt, [], ◌∷◌}
 use Rattle.plan_base.specs.declared.parts.Parts.{Parts}
 use Rattle.plan_base.specs.declared.ids.BranchId.{BranchId}
 use Rattle.plan_base.specs.Places.{places}
 use Rattle.link_steps.specs.Ranges.{AreRanges}
 use Rattle.dual_versions.specs.declared.published.Published.{Published}
 use Rattle.bound_assembly.specs.Rounds.{RoundState}
+use Rattle.proof_tree.specs.declared.cuts.Cut.{Cut}
 use Rattle.proof_tree.specs.declared.tree.Evidence.{Evidence}
 use Rattle.proof_tree.specs.declared.tree.Evidence.TheVariants as evidence
 use Rattle.pool_nodes.specs.declared.reason.Reason.{Reason}
@@ -77,13 +78,14 @@ abbrev pub is_below : Option ℤ → ℤ → Bool
 is_below None bound = true
 is_below (Some held) bound = int_lt held bound
 
--- an open leaf, whose round is sound, with one first price for each place, ranges with loads and not too many complete versions
-pub record MayComplete (p : Parts) (node : Node) : Type 0 where
+-- an open leaf, whose round is sound, with one first price for each place and one rate for each cut, ranges with loads and not too
+-- many complete versions
+pub record MayComplete (p : Parts) (cuts : List Cut) (node : Node) : Type 0 where
   pub undone : node.fate ≡ Undone
-  pub price_count : length node.first_prices ≡ places p
+  pub price_count : length node.first_prices ≡ places p + length cuts
   pub ranges : AreRanges p (ranges_of p node)
   pub version_count : node.completed ≤ MAX_VERSIONS
-  pub is_sound : IfSome node.round (λ round. IsSoundRound p (restriction_of node) round)
+  pub is_sound : IfSome node.round (λ round. IsSoundRound p cuts (restriction_of node) round)
 
 -- the paths that were found, in order
 abbrev pub paths_of : List (Option Found) → List (List ArcId)

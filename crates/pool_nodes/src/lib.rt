@@ -3,8 +3,8 @@
 //! Promises that each change of a node is the one that the events of `pool_machine` make of it, and that none but a new
 //! node takes memory. Begin at `PoolNode` and `PoolRound`; what they keep beside a node of the machine stands in
 //! `specs/Rounds.antt`. Stands on `plan_base`, `link_steps`, `arc_restrict`, `path_pricing`, `proof_tree`,
-//! `bound_assembly`, `branch_tree`, `dual_versions` and `pool_machine`. Which node changes, and when, is left to
-//! `pool_core`.
+//! `cut_table`, `bound_assembly`, `branch_tree`, `dual_versions` and `pool_machine`. Which node changes, and when, is
+//! left to `pool_core`.
 #![tactic(auto)]
 
 mod ground;

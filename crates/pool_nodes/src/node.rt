@@ -136,7 +136,7 @@ impl PoolNode {
         self.best_bound
     }
 
-    /// The prices with which the node begins, in thousandths of a cost grain per load grain.
+    /// The prices and rates with which the node begins, in thousandths of a cost grain per load grain or counted grain.
     pub fn first_prices(&self) -> &Prices
         ensures { result.now ≡ self.now.first_prices }
     {

@@ -16,7 +16,7 @@ use plan_base::{BranchId, DemandId, Prices};
 use pool_machine::Found;
 use std::marker::Model;
 
-/// A place with room for the paths and the prices of one version, and what is found under it.
+/// A place with room for the paths and the numbers of one version, its prices and rates, and what is found under it.
 #[derive(Debug, Drop)]
 pub struct PoolRound {
     slot: u32,
@@ -60,7 +60,7 @@ impl PoolRound {
         self.lengths.version()
     }
 
-    /// The prices, in thousandths of a cost grain per load grain.
+    /// The prices and rates, in thousandths of a cost grain per load grain or counted grain.
     pub fn prices(&self) -> &Prices
         ensures { result.now ≡ self.now.prices }
     {

@@ -15,6 +15,8 @@ use Rattle.path_pricing.proofs.FaultLaws.{priced_fault-IsShown, IsPriced-priced_
 use Rattle.second_path.specs.Others.{IsCutOff, IsFirstEmpty, IsDetermined}
 use Rattle.second_path.specs.declared.determined.Determined.{Determined}
 use Rattle.second_path.specs.declared.determined.Determined.TheVariants as determined
+use Rattle.proof_tree.specs.declared.cuts.Cut.{Cut}
+use Rattle.cut_table.specs.Numbers.{CutProblem}
 use Rattle.pool_machine.specs.State.{Best, Node, State, restriction_of, ranges_of, region_of}
 use Rattle.pool_machine.specs.Machine.{IsReachable}
 use Rattle.pool_machine.specs.Nodes.{IsSoundNode, IsSoundBest}
@@ -51,10 +53,10 @@ best-there None completed none some = absurd (let zero_ = none refl in omega ari
 best-there (Some b) completed none some = (b, refl)
 
 -- a node with a complete version leaves each demand a path
-never-empty : (p : Parts) (node : Node) (k : ℕ) (set : List Bool) → IsSoundNode p node → 0 < node.completed → IsFirstEmpty p (restriction_of node) k set → ⊥
-never-empty p node k set sound some empty =
+never-empty : (p : Parts) (cuts : List Cut) (node : Node) (k : ℕ) (set : List Bool) → IsSoundNode p cuts node → 0 < node.completed → IsFirstEmpty p (restriction_of node) k set → ⊥
+never-empty p cuts node k set sound some empty =
     let best = best-there node.best node.completed sound.no_best some in
-    let b : IsSoundBest p (region_of p node) node.first_prices node.completed best.0 = rw best.1 at (sound.best) in
+    let b : IsSoundBest p cuts (region_of p node) node.first_prices node.completed best.0 = rw best.1 at (sound.best) in
     let least = b.is_bound.are_least k empty.is_demand in
     cut_off-none p (restriction_of node) k set empty.cut_off least.path least.permitted
 
@@ -62,7 +64,7 @@ pub determined-at : (s : State) (id : BranchId) (found : Determined) (r : Forbid
     → IsDetermined s.problem r found → IsDeterminedAt s id found
 determined-at s id (determined.Empty demand set) r reachable at same h =
     let is = at.ready.open_node in
-    never-empty s.problem at.node demand.0 set (node_at s id.0 at.node (IsReachable-sound s reachable) is.is_node) at.ready.priced (rw same at h)
+    never-empty s.problem s.cuts at.node demand.0 set (node_at s id.0 at.node (IsReachable-sound s reachable) is.is_node) at.ready.priced (rw same at h)
 determined-at s id (determined.Two demand first second) r reachable at same h = record { node = at.node; ready = at.ready; none_far = at.none_far; two = rw same at h }
 determined-at s id (determined.One paths) r reachable at same h = record { node = at.node; ready = at.ready; none_far = at.none_far; only = rw same at h }
 
@@ -70,7 +72,7 @@ abbrev pub near-ready : (s : State) (id : BranchId) → IsNearAt s id → IsRead
 near-ready s id at = record { node = at.node; ready = at.ready }
 
 -- The ground of a node that may be examined
-module _ (s : State) (table : Parts) (grounds : List (Option Kept)) (places : List Slot) (h : IsKeptPool s table grounds places) (id : BranchId) (at : IsReadyAt s id) where
+module _ (s : State) (table : CutProblem) (grounds : List (Option Kept)) (places : List Slot) (h : IsKeptPool s table grounds places) (id : BranchId) (at : IsReadyAt s id) where
   pub ready-node-within : id.0 < length s.nodes
   ready-node-within = slice_get_within s.nodes id.0 at.node at.ready.open_node.is_node
 

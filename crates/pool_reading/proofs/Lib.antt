@@ -9,6 +9,7 @@ pub mod Leaves
 mod Fitting
 mod Routes
 mod Publishing
+mod Refusing
 pub mod Valuing
 mod Gatherings
 mod Claiming

@@ -18,12 +18,13 @@ use Rattle.pool_machine.specs.Nodes.{IsSoundRound}
 use Rattle.pool_machine.specs.Soundness.{IsSound}
 use Rattle.pool_machine.proofs.Replacing.{node_at}
 use Rattle.pool_machine.proofs.Runs.{IsReachable-sound}
+use Rattle.pool_reading.proofs.Reading.{numbers-prices}
 
 -- a sound round of a node
 pub round_at : (s : State) (n : ℕ) (node : Node) (round : Round) → IsSound s → slice_get s.nodes n ≡ Some node → node.round ≡ Some round
-    → (node.fate ≡ Undone) × IsSoundRound s.problem (restriction_of node) round
+    → (node.fate ≡ Undone) × IsSoundRound s.problem s.cuts (restriction_of node) round
 round_at s n node round h at is =
-    subst (λ (o : Option Round). IfSome o (λ r. (node.fate ≡ Undone) × IsSoundRound s.problem (restriction_of node) r)) is (node_at s n node h at).round
+    subst (λ (o : Option Round). IfSome o (λ r. (node.fate ≡ Undone) × IsSoundRound s.problem s.cuts (restriction_of node) r)) is (node_at s n node h at).round
 
 -- What is asked before a check of what was found
 
@@ -37,7 +38,7 @@ open_at s id node round h at is =
     ap (λ (o : Option Node). is_open_state (state_in o)) at ∙ open_by node.fate node.round (round_at s id.0 node round h at is).0
 
 pub prices_at : (s : State) (id : BranchId) (node : Node) (round : Round) → IsSound s → slice_get s.nodes id.0 ≡ Some node → node.round ≡ Some round → ArePrices s.problem round.prices
-prices_at s id node round h at is = let fit = (round_at s id.0 node round h at is).1.prices in record { count = fit.count; within_limit = fit.within_limit }
+prices_at s id node round h at is = numbers-prices s.problem s.cuts round.prices (round_at s id.0 node round h at is).1.prices
 
 node_in : (o : Option Node) (round : Round) → option_and_then (λ (node : Node). node.round) o ≡ Some round → (node : Node) × (o ≡ Some node) × (node.round ≡ Some round)
 node_in None round is = absurd (let bad : ◌≡◌ {A = Option Round} None (Some round) = is in cc)

@@ -57,7 +57,7 @@ module _ (s : State) (places : List Slot) (h : IsPool s places) (slot : ℕ) whe
       by : (o : Option Round) → taken.1.round ≡ o → IsSomeAnd o (λ r. r.slot ≡ slot) → slot < length places
       by None is has = absurd has
       by (Some round) is has =
-          let sound : IsSoundRound s.problem (restriction_of taken.1) round = (rw is at ((node_at s taken.0 taken.1 (IsReachable-sound s h.reachable) taken.2).round)).1 in
+          let sound : IsSoundRound s.problem s.cuts (restriction_of taken.1) round = (rw is at ((node_at s taken.0 taken.1 (IsReachable-sound s h.reachable) taken.2).round)).1 in
           let within = sound.slot in
           let count = h.has_places.count in
           omega arith

@@ -7,6 +7,8 @@ use Rattle.plan_base.specs.declared.ids.BranchId.{BranchId}
 use Rattle.plan_base.specs.declared.parts.Parts.{Parts}
 use Rattle.link_steps.specs.declared.range.LoadRange.{LoadRange}
 use Rattle.arc_restrict.specs.Rows.{Rows, forbids, HasSizeOf}
+use Rattle.proof_tree.specs.declared.cuts.Cut.{Cut}
+use Rattle.cut_table.specs.Numbers.{AreNumbers}
 use Rattle.path_pricing.specs.Priced.{ArePrices}
 use Rattle.branch_tree.specs.declared.node.Fate.{Fate}
 use Rattle.branch_tree.specs.declared.node.Fate.TheVariants.{Undone}
@@ -20,11 +22,15 @@ use Rattle.pool_machine.proofs.Small.{IsSound-nodes}
 use Rattle.pool_machine.proofs.Runs.{IsReachable-sound}
 use Rattle.pool_reading.proofs.TaskLaws.{HasRound, has-undone}
 
-pub sound-round : (s : State) (id : BranchId) → IsSound s → (h : HasRound s id) → IsSoundRound s.problem (restriction_of h.node) h.round
+pub sound-round : (s : State) (id : BranchId) → IsSound s → (h : HasRound s id) → IsSoundRound s.problem s.cuts (restriction_of h.node) h.round
 sound-round s id sound h = let in_round = rw h.is_round at ((node_at s id.0 h.node sound h.is_node).round) in in_round.1
 
+-- numbers have a price for each place, and none above the limit
+pub numbers-prices : (p : Parts) (cuts : List Cut) (numbers : List ℕ) → AreNumbers p cuts numbers → ArePrices p numbers
+numbers-prices p cuts numbers h = let count = h.count in record { count = omega arith; within_limit = h.lawful.prices_within }
+
 pub round-prices : (s : State) (id : BranchId) → IsSound s → (h : HasRound s id) → ArePrices s.problem h.round.prices
-round-prices s id sound h = let prices = (sound-round s id sound h).prices in record { count = prices.count; within_limit = prices.within_limit }
+round-prices s id sound h = numbers-prices s.problem s.cuts h.round.prices (sound-round s id sound h).prices
 
 -- a ground keeps the region of the node
 pub record HasKept (p : Parts) (node : Node) (ground : Option Kept) : Type 0 where

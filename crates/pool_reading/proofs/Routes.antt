@@ -9,6 +9,7 @@ use Rattle.plan_base.specs.declared.parts.Parts.{Parts}
 use Rattle.plan_base.specs.Arcs.{demand_at}
 use Rattle.plan_base.specs.Paths.{IsSimplePath}
 use Rattle.arc_restrict.specs.Restrictions.{Forbidden, IsPermittedPath}
+use Rattle.proof_tree.specs.declared.cuts.Cut.{Cut}
 use Rattle.completions.specs.Completions.{ArePaths}
 use Rattle.pool_machine.specs.declared.tree.Found.{Found}
 use Rattle.second_path.specs.Searching.{ArePaths as ArePermitted}
@@ -36,8 +37,8 @@ paths_of-at (Some one ∷ found) zero h within = (one, refl, refl)
 paths_of-at (Some one ∷ found) (suc k) h within = paths_of-at found k (gaps-none 0 (sum_by gap_of found) _ (sum_by-cons gap_of (Some one) found) h).1 (omega arith)
 
 -- the paths of a complete round are paths of the instance
-pub round-paths : (p : Parts) (r : Forbidden) (round : Round) → IsSoundRound p r round → left_of round ≡ 0 → ArePaths p (paths_of round.found)
-round-paths p r round sound complete = record {
+pub round-paths : (p : Parts) (cuts : List Cut) (r : Forbidden) (round : Round) → IsSoundRound p cuts r round → left_of round ≡ 0 → ArePaths p (paths_of round.found)
+round-paths p cuts r round sound complete = record {
   count = paths_of-length round.found complete ∙ sound.count;
   simple = λ k within.
       let count = sound.count in
@@ -51,7 +52,7 @@ node-paths s id round reachable is complete =
     let sound = IsReachable-sound s reachable in
     let h = has-round s id (ap is_some is) in
     let same : h.round ≡ round = (let e : Some h.round ≡ Some round = sym (round_of-has s id h) ∙ is in cc) in
-    round-paths s.problem (restriction_of h.node) round (subst (IsSoundRound s.problem (restriction_of h.node)) same (sound-round s id sound h)) complete
+    round-paths s.problem s.cuts (restriction_of h.node) round (subst (IsSoundRound s.problem s.cuts (restriction_of h.node)) same (sound-round s id sound h)) complete
 
 pub complete-paths : (s : State) (id : BranchId) (round : Round) (paths : List (List ArcId)) → IsReachable s → IsSomeAnd (round_of s id) (λ r. left_of r ≡ 0)
     → Some round ≡ round_of s id → paths ≡ paths_of round.found → ArePaths s.problem paths
@@ -65,7 +66,7 @@ permitted-paths s id r round paths reachable same is complete e =
     let sound = IsReachable-sound s reachable in
     let h = has-round s id (ap is_some (sym is)) in
     let one : h.round ≡ round = (let e : Some h.round ≡ Some round = sym (round_of-has s id h) ∙ sym is in cc) in
-    let at = subst (IsSoundRound s.problem (restriction_of h.node)) one (sound-round s id sound h) in
+    let at = subst (IsSoundRound s.problem s.cuts (restriction_of h.node)) one (sound-round s id sound h) in
     let forbidden : r ≡ restriction_of h.node = subst (λ (o : Option Node). IfSome o (λ (x : Node). r ≡ restriction_of x)) h.is_node same in
     subst (ArePermitted s.problem r (length s.problem.demands)) (sym e) (subst (λ (q : Forbidden). ArePermitted s.problem q (length s.problem.demands) (paths_of round.found)) (sym forbidden) (record {
       count = paths_of-length round.found complete ∙ at.count;

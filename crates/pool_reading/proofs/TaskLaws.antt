@@ -1,5 +1,5 @@
 -- When a call would not be refused, and what is left where no node is next.
-use Rattle.std.proofs.Common.{◌≡◌, ℕ, ◌+◌, ◌*◌, ◌<◌, ◌≤◌, Bool, true, false, not, ◌&&◌, ◌||◌, ◌==◌, length, get_or, Option, Some, None, slice_get, refl, sym, ap, subst, ◌∙◌, arith}
+use Rattle.std.proofs.Common.{◌≡◌, ℕ, ◌+◌, ◌*◌, ◌<◌, ◌≤◌, Bool, true, false, not, ◌&&◌, ◌||◌, ◌==◌, List, length, get_or, Option, Some, None, slice_get, refl, sym, ap, subst, ◌∙◌, arith}
 use Rattle.std.specs.Prelude.{nat_eq, nat_lt, nat_le, is_some, option_and_then, IsSome, if◌then◌else◌}
 use Rattle.std.proofs.lemmas.Bool.{eqb-true, eqb-false}
 use Rattle.std.proofs.lemmas.Bool.Decides.{nat_tests}
@@ -12,6 +12,7 @@ use Rattle.plan_base.specs.Faults.{demand_id}
 use Rattle.plan_base.specs.First.{fault_at, first_in}
 use Rattle.plan_base.proofs.Bools.{not-true}
 use Rattle.plan_base.proofs.FirstFault.{none-or_else, none-when, IsFirst-first_fault}
+use Rattle.proof_tree.specs.declared.cuts.Cut.{Cut}
 use Rattle.pool_machine.specs.declared.answers.NodeState.{NodeState}
 use Rattle.pool_machine.specs.declared.answers.NodeState.TheVariants as state
 use Rattle.pool_machine.specs.declared.answers.RoundFault.TheVariants as round_fault
@@ -88,21 +89,21 @@ pub not_done-unspent : (s : State) → IsSound s → is_done s ≡ false → s.e
 not_done-unspent s h not_done = below s.examined s.budget (first-false (s.examined == s.budget) (open_count s == 0) not_done) h.counts.within_budget
 
 -- only an open leaf has a round
-pub round-undone : (p : Parts) (node : Node) (r : Round) → IsSoundNode p node → node.round ≡ Some r → node.fate ≡ Undone
-round-undone p node r h is = let in_round = rw is at (h.round) in in_round.0
+pub round-undone : (p : Parts) (cuts : List Cut) (node : Node) (r : Round) → IsSoundNode p cuts node → node.round ≡ Some r → node.fate ≡ Undone
+round-undone p cuts node r h is = let in_round = rw is at (h.round) in in_round.0
 
 -- a node with a round is next
-round-next : (p : Parts) (room : Bool) (node : Node) (r : Round) → IsSoundNode p node → node.round ≡ Some r → is_next_in room (state_by node.fate node.round) ≡ true
-round-next p room node r h is =
-    ap (λ (f : Fate). is_next_in room (state_by f node.round)) (round-undone p node r h is)
+round-next : (p : Parts) (cuts : List Cut) (room : Bool) (node : Node) (r : Round) → IsSoundNode p cuts node → node.round ≡ Some r → is_next_in room (state_by node.fate node.round) ≡ true
+round-next p cuts room node r h is =
+    ap (λ (f : Fate). is_next_in room (state_by f node.round)) (round-undone p cuts node r h is)
     ∙ ap (λ (o : Option Round). is_next_in room (state_by Undone o)) is
 
-idle : (p : Parts) (room : Bool) (node : Node) → IsSoundNode p node → is_next_in room (state_by node.fate node.round) ≡ false → rounds_by node.round ≤ 0
-idle p room node h not_next = by node.round refl
+idle : (p : Parts) (cuts : List Cut) (room : Bool) (node : Node) → IsSoundNode p cuts node → is_next_in room (state_by node.fate node.round) ≡ false → rounds_by node.round ≤ 0
+idle p cuts room node h not_next = by node.round refl
   where
     by : (o : Option Round) → node.round ≡ o → rounds_by node.round ≤ 0
     by None is = subst (λ (o : Option Round). rounds_by o ≤ 0) (sym is) (omega arith)
-    by (Some r) is = absurd (let bad : true ≡ false = sym (round-next p room node r h is) ∙ not_next in cc)
+    by (Some r) is = absurd (let bad : true ≡ false = sym (round-next p cuts room node r h is) ∙ not_next in cc)
 
 not_next-closed : (fate : Fate) (round : Option Round) → is_next_in true (state_by fate round) ≡ false → open_by fate ≤ 0
 not_next-closed Undone None h = absurd (let bad : true ≡ false = h in cc)
@@ -121,7 +122,7 @@ none_next-done s h none = or-right (s.examined == s.budget) (open_count s == 0) 
     at k d within = sym (ap (λ (o : Option Node). is_next_in (nat_lt (active_count s) MAX_ROUNDS) (state_in o)) (slice_get-get_or s.nodes k d within)) ∙ none k within
 
     no_rounds : active_count s ≤ length s.nodes * 0
-    no_rounds = sum_by-le rounds_in 0 s.nodes (λ k d within. idle s.problem (nat_lt (active_count s) MAX_ROUNDS) (get_or s.nodes k d) (h.nodes k d within) (at k d within))
+    no_rounds = sum_by-le rounds_in 0 s.nodes (λ k d within. idle s.problem s.cuts (nat_lt (active_count s) MAX_ROUNDS) (get_or s.nodes k d) (h.nodes k d within) (at k d within))
 
     room : nat_lt (active_count s) MAX_ROUNDS ≡ true
     room = lt-test (active_count s) MAX_ROUNDS (omega (arith, no_rounds))
@@ -182,7 +183,7 @@ pub active-some : (s : State) (id : BranchId) → state_of s id ≡ state.Active
 active-some s id h = active-some_in (slice_get s.nodes id.0) h
 
 pub has-undone : (s : State) (id : BranchId) → IsSound s → (h : HasRound s id) → h.node.fate ≡ Undone
-has-undone s id sound h = round-undone s.problem h.node h.round (node_at s id.0 h.node sound h.is_node) h.is_round
+has-undone s id sound h = round-undone s.problem s.cuts h.node h.round (node_at s id.0 h.node sound h.is_node) h.is_round
 
 pub has-open : (s : State) (id : BranchId) → IsSound s → HasRound s id → is_open_state (state_of s id) ≡ true
 has-open s id sound h =

@@ -5,17 +5,16 @@ use Rattle.std.proofs.lemmas.Option.{get_or_from_slice_get}
 use Rattle.plan_base.specs.declared.ids.BranchId.{BranchId}
 use Rattle.plan_base.specs.declared.parts.Parts.{Parts}
 use Rattle.plan_base.specs.declared.limits.TheConstants.{MAX_DEMANDS}
-use Rattle.plan_base.specs.Places.{places}
 use Rattle.link_steps.specs.declared.range.LoadRange.{LoadRange}
 use Rattle.link_steps.specs.Ranges.{AreRanges}
 use Rattle.arc_restrict.specs.Restrictions.{Forbidden}
 use Rattle.arc_restrict.specs.Rows.{Rows, forbids}
-use Rattle.arc_restrict.specs.Prices.{AreWithinLimit}
+use Rattle.proof_tree.specs.declared.cuts.Cut.{Cut}
+use Rattle.cut_table.specs.Numbers.{AreNumbers}
 use Rattle.column_pool.specs.Columns.{permitted_at, AreColumns}
 use Rattle.master_step.specs.Columns.{Choices, HasColumns}
 use Rattle.pool_machine.specs.State.{Round, Node, State, round_of, restriction_of, ranges_of}
 use Rattle.pool_machine.specs.Gathering.{columns_for}
-use Rattle.pool_machine.specs.Nodes.{IsPriceList}
 use Rattle.pool_machine.specs.Soundness.{IsSound}
 use Rattle.pool_machine.proofs.Frames.{one_at}
 use Rattle.pool_machine.proofs.Replacing.{node_at}
@@ -60,11 +59,8 @@ round-few s id round sound is =
 -- What a valuing asks for, and what it tells, where the instance and the restriction are those of the pool
 
 module _ (s : State) (id : BranchId) (sound : IsSound s) (at : IsGatheredAt s id) (p : Parts) (rows : Rows) (is_p : p ≡ s.problem) (is_rows : forbids rows ≡ restriction_of at.node) where
-  pub ask-count : (prices : List ℕ) → IsPriceList s.problem prices → length prices ≡ places p
-  ask-count prices h = subst (λ (q : Parts). length prices ≡ places q) (sym is_p) h.count
-
-  pub ask-limit : (prices : List ℕ) → IsPriceList s.problem prices → AreWithinLimit p prices
-  ask-limit prices h = subst (λ (q : Parts). AreWithinLimit q prices) (sym is_p) h.within_limit
+  pub ask-numbers : (cuts : List Cut) (numbers : List ℕ) → cuts ≡ s.cuts → AreNumbers s.problem s.cuts numbers → AreNumbers p cuts numbers
+  ask-numbers cuts numbers is_cuts h = subst (λ (q : Parts). AreNumbers q cuts numbers) (sym is_p) (subst (λ (xs : List Cut). AreNumbers s.problem xs numbers) (sym is_cuts) h)
 
   pub ask-columns : AreColumns p s.columns
   ask-columns = subst (λ (q : Parts). AreColumns q s.columns) (sym is_p) sound.columns

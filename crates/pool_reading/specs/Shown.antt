@@ -6,6 +6,7 @@ use Rattle.pool_reading.specs.declared.view.PoolView.TheInside.{Inside}
 abbrev pub shown : Inside → State
 shown a = record {
   problem = a.problem.now;
+  cuts = a.table.now.cuts;
   unit = a.unit;
   nodes = a.nodes.now;
   columns = a.columns.now;

@@ -1,9 +1,9 @@
 -- How the pool's fields show a state, and what holds of them.
 use Rattle.std.specs.Prelude.{ℕ, ◌≡◌, ◌<◌, ◌≤◌, ◌+◌, List, length, count_by, Option, Some, None, option_map, slice_get}
 use Rattle.pool_machine.specs.declared.limits.TheConstants.{MAX_ROUNDS, MAX_BUDGET}
-use Rattle.plan_base.specs.declared.parts.Parts.{Parts}
 use Rattle.plan_base.specs.declared.path.Design.{Design}
 use Rattle.plan_base.specs.Places.{places}
+use Rattle.cut_table.specs.Numbers.{CutProblem}
 use Rattle.dual_versions.specs.declared.published.Published.{Published}
 use Rattle.plan_base.specs.declared.ids.BranchId.{BranchId}
 use Rattle.pool_nodes.specs.declared.reason.Reason.{Reason}
@@ -22,8 +22,8 @@ use Rattle.pool_machine.specs.Machine.{IsReachable}
 abbrev pub IsTakenBy : State → ℕ → ℕ → Type 0
 IsTakenBy s slot n = (node : Node) × (slice_get s.nodes n ≡ Some node) × HasSlot slot node
 
--- each slot that no round has is free, with room for one length for each demand and one price for each place; each other
--- one names the node whose round has it
+-- each slot that no round has is free, with room for one length for each demand, one price for each place and one rate for
+-- each cut; each other one names the node whose round has it
 pub record HasPlaces (s : State) (slots : List Slot) : Type 0 where
   pub count : length slots ≡ MAX_ROUNDS
   pub total : count_by is_free slots + active_count s ≡ MAX_ROUNDS
@@ -31,7 +31,7 @@ pub record HasPlaces (s : State) (slots : List Slot) : Type 0 where
   pub free : (slot : ℕ) (place : Round) → slice_get slots slot ≡ Some (Free place) → IsTaken s slot → ⊥
   pub slot_is : (slot : ℕ) (place : Round) → slice_get slots slot ≡ Some (Free place) → place.slot ≡ slot
   pub demands : (slot : ℕ) (place : Round) → slice_get slots slot ≡ Some (Free place) → length place.found ≡ length s.problem.demands
-  pub prices : (slot : ℕ) (place : Round) → slice_get slots slot ≡ Some (Free place) → length place.prices ≡ places s.problem
+  pub prices : (slot : ℕ) (place : Round) → slice_get slots slot ≡ Some (Free place) → length place.prices ≡ places s.problem + length s.cuts
 
 -- each of the first slots is free, has its own number, and has room for so many demands and prices
 pub record AreFreePlaces (count demands prices : ℕ) (slots : List Slot) : Type 0 where
@@ -46,16 +46,17 @@ pub record IsPool (s : State) (slots : List Slot) : Type 0 where
   pub budget : s.budget ≤ MAX_BUDGET
   pub has_places : HasPlaces s slots
 
--- a pool with the step table of its instance and the regions of its open leaves
-pub record IsKeptPool (s : State) (table : Parts) (grounds : List (Option Kept)) (slots : List Slot) : Type 0 where
+-- a pool with the table of its instance and its cuts, and the regions of its open leaves
+pub record IsKeptPool (s : State) (table : CutProblem) (grounds : List (Option Kept)) (slots : List Slot) : Type 0 where
   pub pool : IsPool s slots
-  pub table_is : table ≡ s.problem
+  pub table_is : table.problem ≡ s.problem
+  pub cuts_are : table.cuts ≡ s.cuts
   pub has_grounds : HasGrounds s.problem s.nodes grounds
 
--- the same with room for the steps of its instance
-pub record IsFittedPool (s : State) (table : Parts) (room : ℕ) (grounds : List (Option Kept)) (slots : List Slot) : Type 0 where
+-- the same with room for the steps of its instance: one price for each place and one rate for each cut
+pub record IsFittedPool (s : State) (table : CutProblem) (room : ℕ) (grounds : List (Option Kept)) (slots : List Slot) : Type 0 where
   pub kept : IsKeptPool s table grounds slots
-  pub room_is : room ≡ places s.problem
+  pub room_is : room ≡ places s.problem + length s.cuts
 
 -- the best design so far, or none
 abbrev pub design_of : State → Option Design

@@ -22,7 +22,7 @@ mod working;
 use crate::claims::Claims;
 use crate::open_leaves::OpenLeaves;
 use column_pool::ColumnPool;
-use link_steps::StepTable;
+use cut_table::CutTable;
 use plan_base::{BranchId, DemandId, Instance};
 use pool_machine::limits::MAX_ROUNDS;
 use pool_machine::{Incumbent, NodeState, RoundFault};
@@ -38,7 +38,8 @@ pub struct PoolView<'a> {
     /// Where memory comes from.
     pub alloc: Global,
     pub problem: &'a Instance,
-    pub table: &'a StepTable,
+    /// The steps of the links and the cuts.
+    pub table: &'a CutTable,
     /// What all costs are multiples of, in cost grains.
     pub unit: u128,
     pub nodes: &'a [PoolNode],

@@ -4,6 +4,7 @@
 //! nothing.
 
 mod answers;
+mod cuts;
 mod designs;
 mod offers;
 mod pools;

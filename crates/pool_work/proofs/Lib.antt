@@ -1,1 +1,2 @@
+pub mod NumberPrices
 mod PathLists

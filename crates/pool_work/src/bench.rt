@@ -4,7 +4,7 @@ ghost use Rattle.std.specs.Prelude.{◌≡◌, ◌<◌, ◌≤◌, ◌/◌, ◌�
 ghost use Rattle.std.specs.Arc.{arc_value};
 ghost use Rattle.plan_base.specs.Designs.{cost_of, IsGoodDesign};
 ghost use Rattle.arc_restrict.specs.Rows.{forbids, HasSizeOf};
-ghost use Rattle.path_pricing.specs.Priced.{ArePrices};
+ghost use Rattle.cut_table.specs.Numbers.{AreNumbers};
 ghost use Rattle.completions.specs.Completions.{ArePaths};
 ghost use Rattle.incumbent.specs.Searches.{IsDue};
 ghost use Rattle.pool_work.specs.Offers.{IsFor, IsFitting};
@@ -13,6 +13,7 @@ use crate::ground::Ground;
 use crate::search::Search;
 use crate::told::Told;
 use arc_restrict::Restriction;
+use cut_table::CutTable;
 use dual_versions::Published;
 use leaf_work::{Guide, new_design};
 use link_steps::StepTable;
@@ -50,7 +51,7 @@ impl<N: Search> Bench<N> {
         }
     }
 
-    /// Whether the bench has the prices of the version of the node, and what is forbidden there.
+    /// Whether the bench has the prices and rates of the version of the node, and what is forbidden there.
     pub fn has(&self, node: BranchId, version: u64) -> bool
         ensures { IsTrue result ↔ IsSomeAnd self.now.ground (λ ground. (ground.published.node ≡ node) × (ground.published.version ≡ version)) }
     {
@@ -60,13 +61,21 @@ impl<N: Search> Bench<N> {
         }
     }
 
-    /// Puts what came out of the lock on the bench, where it fits the instance.
-    pub fn put(&mut self, inst: &Instance, published: Published, rows: Arc<Restriction>)
-        requires { inst.now ≡ N.problem }
-        ensures some { IsSome self.new.ground ↔ ArePrices inst.now published.prices × HasSizeOf inst.now (arc_value rows) }
+    /// Puts what came out of the lock on the bench, where it fits the instance and the cuts.
+    pub fn put(
+        &mut self,
+        inst: &Instance,
+        table: &CutTable,
+        published: Published,
+        rows: Arc<Restriction>,
+    )
+        requires inst { inst.now ≡ N.problem }
+        requires problem { table.now.problem ≡ N.problem }
+        requires cuts { table.now.cuts ≡ N.cuts }
+        ensures some { IsSome self.new.ground ↔ AreNumbers inst.now table.now.cuts published.prices × HasSizeOf inst.now (arc_value rows) }
         ensures ground { IfSome self.new.ground (λ ground. (ground.published ≡ published) × (ground.rows ≡ rows)) }
     {
-        self.ground = Ground::tested(inst, published, rows);
+        self.ground = Ground::tested(inst, table, published, rows);
     }
 
     /// What the demand finds under the version of the node, to be handed in.

@@ -3,11 +3,12 @@
 ghost use Rattle.std.specs.Prelude.{◌≡◌, ◌<◌, ◌↔◌, length, IsTrue, IfOk, IfSome, IsSome, None};
 ghost use Rattle.std.specs.Arc.{arc_value};
 ghost use Rattle.arc_restrict.specs.Rows.{forbids, HasSizeOf};
-ghost use Rattle.path_pricing.specs.Priced.{ArePrices};
+ghost use Rattle.cut_table.specs.Numbers.{AreNumbers};
 ghost use Rattle.path_pricing.specs.Faults.{priced_fault};
 
 use crate::search::Search;
 use arc_restrict::Restriction;
+use cut_table::CutTable;
 use dual_versions::Published;
 use leaf_work::{Guide, copy_of};
 use path_pricing::Priced;
@@ -16,29 +17,33 @@ use std::alloc::AllocError;
 use std::marker::PhantomData;
 use std::sync::Arc;
 
-/// The prices of one version of a node, and what is forbidden at the node. Both fit the instance of the search.
+/// The prices and rates of one version of a node, and what is forbidden at the node. They fit the instance and the cuts of
+/// the search.
 #[derive(Drop)]
 pub struct Ground<N: Search> {
     published: Published,
     rows: Arc<Restriction>,
     of: PhantomData<N>,
-    ghost prices_fit: { ArePrices N.problem published.prices },
+    ghost prices_fit: { AreNumbers N.problem N.cuts published.prices },
     ghost rows_fit: { HasSizeOf N.problem (arc_value rows) },
 }
 
 impl<N: Search> Ground<N> {
-    /// What came out of the lock, where it fits the instance.
+    /// What came out of the lock, where it fits the instance and the cuts.
     pub fn tested(
         inst: &Instance,
+        table: &CutTable,
         published: Published,
         rows: Arc<Restriction>,
     ) -> Option<Ground<N>>
-        requires { inst.now ≡ N.problem }
-        ensures some { IsSome result ↔ ArePrices inst.now published.prices × HasSizeOf inst.now (arc_value rows) }
+        requires inst { inst.now ≡ N.problem }
+        requires problem { table.now.problem ≡ N.problem }
+        requires cuts { table.now.cuts ≡ N.cuts }
+        ensures some { IsSome result ↔ AreNumbers inst.now table.now.cuts published.prices × HasSizeOf inst.now (arc_value rows) }
         ensures published { IfSome result (λ ground. ground.published ≡ published) }
         ensures rows { IfSome result (λ ground. ground.rows ≡ rows) }
     {
-        if !published.prices.fits(inst) {
+        if !table.are_numbers(&published.prices) {
             return None;
         }
         if !rows.fits(inst) {
@@ -61,6 +66,7 @@ impl<N: Search> Ground<N> {
     /// What the demand finds here, which the guide keeps to be tried again.
     ///
     /// - Errors: want of memory alone.
+    #[tactic(auto, using(crate::proofs::NumberPrices::numbers_priced))]
     pub fn found(
         &self,
         inst: &Instance,

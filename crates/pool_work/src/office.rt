@@ -7,8 +7,8 @@ ghost use Rattle.pool_machine.specs.declared.task.Task.{Task as AnyTask};
 use crate::search::Search;
 use arc_restrict::Restriction;
 use branch_tree::LoadSplit;
+use cut_table::CutTable;
 use dual_versions::Published;
-use link_steps::StepTable;
 use plan_base::{BranchId, Design, DesignFault, Instance, Prices};
 use plan_io::Standing;
 use pool_machine::{
@@ -40,9 +40,10 @@ pub trait Office<N: Search> {
     fn instance(&self) -> &Arc<Instance>
         ensures { arc_value result.now ≡ N.problem };
 
-    /// Its step table.
-    fn table(&self) -> &Arc<StepTable>
-        ensures { arc_value result.now ≡ N.problem };
+    /// The table of its steps and cuts.
+    fn table(&self) -> &Arc<CutTable>
+        ensures problem { (arc_value result.now).problem ≡ N.problem }
+        ensures cuts { (arc_value result.now).cuts ≡ N.cuts };
 
     /// The worker's number, and how many workers there are.
     fn place(&self, seat: &Self::Seat) -> (u32, u32)
@@ -130,7 +131,7 @@ pub trait Office<N: Search> {
         ensures of { of self.now seat.new }
         ensures keeps { keeps seat.old seat.new };
 
-    /// Gives the round of a node further prices.
+    /// Gives the round of a node further prices and rates.
     fn publish<T: Wait>(
         &self,
         rt: &T,

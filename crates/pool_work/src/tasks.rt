@@ -66,7 +66,7 @@ pub(crate) fn turn_to<N: Search, H: Office<N>, T: Wait>(
     let Some(rows) = hub.ground(rt, seat, published.node)? else {
         return Ok(());
     };
-    bench.put(&**hub.instance(), published, rows);
+    bench.put(&**hub.instance(), &**hub.table(), published, rows);
     Ok(())
 }
 
@@ -112,12 +112,12 @@ fn told_of<N: Search, H: Office<N>, T: Wait>(
         return Ok(None);
     };
     match hub.gather(rt, seat, node, version)? {
-        Gather::Taken(brief) => Ok(Told::tested(&**hub.instance(), brief)),
+        Gather::Taken(brief) => Ok(Told::tested(&**hub.instance(), &**hub.table(), brief)),
         _ => Ok(None),
     }
 }
 
-/// Publishes the prices that follow, or settles the node. What is refused is dropped.
+/// Publishes the prices and rates that follow, or settles the node. What is refused is dropped.
 fn go_on<N: Search, H: Office<N>, T: Wait>(
     rt: &T,
     alloc: Global,
@@ -221,7 +221,7 @@ pub(crate) fn seek_design<N: Search, H: Office<N>, T: Wait>(
     }
     learn_best(rt, hub, seat, bench)?;
     let paths = start_paths(rt, alloc, hub, seat, told)?;
-    let Some(design) = bench.design(&**hub.instance(), &**hub.table(), told, &paths)? else {
+    let Some(design) = bench.design(&**hub.instance(), hub.table().steps(), told, &paths)? else {
         return Ok(false);
     };
     let Ok(()) = hub.may_call(seat) else {

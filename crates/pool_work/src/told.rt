@@ -13,17 +13,19 @@ ghost use Rattle.leaf_work.specs.Limits.{AreFitted};
 use crate::search::Search;
 use arc_restrict::{Restriction, price_along};
 use column_pool::Brief;
+use cut_table::CutTable;
 use leaf_work::paths_within;
 use plan_base::{BranchId, DemandId, Instance, Items, Path};
 use std::alloc::{AllocError, Global};
 use std::marker::PhantomData;
 
-/// What a master step is told of a complete version. It fits the instance of the search, and each demand has a column.
+/// What a master step is told of a complete version. It fits the instance and the cuts of the search, and each demand has a
+/// column.
 #[derive(Drop)]
 pub struct Told<N: Search> {
     brief: Brief,
     of: PhantomData<N>,
-    ghost fits: { IsBriefFor N.problem brief.prices brief.ranges brief.columns },
+    ghost fits: { IsBriefFor N.problem N.cuts brief.prices brief.ranges brief.columns },
     ghost has_columns: { HasColumns N.problem (columns_at brief.columns) },
 }
 
@@ -56,13 +58,15 @@ fn least_place(inst: &Instance, prices: &[u128], columns: &[Path]) -> usize
 }
 
 impl<N: Search> Told<N> {
-    /// What came out of the lock, where it fits the instance and each demand has a column.
-    pub fn tested(inst: &Instance, brief: Brief) -> Option<Told<N>>
-        requires { inst.now ≡ N.problem }
-        ensures some { IsSome result ↔ IsBriefFor inst.now brief.prices brief.ranges brief.columns × HasColumns inst.now (columns_at brief.columns) }
+    /// What came out of the lock, where it fits the instance and the cuts, and each demand has a column.
+    pub fn tested(inst: &Instance, table: &CutTable, brief: Brief) -> Option<Told<N>>
+        requires inst { inst.now ≡ N.problem }
+        requires problem { table.now.problem ≡ N.problem }
+        requires cuts { table.now.cuts ≡ N.cuts }
+        ensures some { IsSome result ↔ IsBriefFor inst.now table.now.cuts brief.prices brief.ranges brief.columns × HasColumns inst.now (columns_at brief.columns) }
         ensures brief { IfSome result (λ told. told.brief ≡ brief) }
     {
-        if !brief.fits(inst) {
+        if !brief.fits(inst, table) {
             return None;
         }
         if !has_columns(inst, brief.columns.as_slice()) {
@@ -77,7 +81,7 @@ impl<N: Search> Told<N> {
     /// The brief.
     pub fn brief(&self) -> &Brief
         ensures value { result.now ≡ self.now.brief }
-        ensures fits { IsBriefFor N.problem result.now.prices result.now.ranges result.now.columns }
+        ensures fits { IsBriefFor N.problem N.cuts result.now.prices result.now.ranges result.now.columns }
         ensures has_columns { HasColumns N.problem (columns_at result.now.columns) }
     {
         &self.brief

@@ -8,7 +8,7 @@
 //! and how many stalled, and that the two links of docs/METHOD.md come out as they are worked out there (`worked`). Begin at
 //! `raises`.
 
-ghost use Rattle.std.specs.Prelude.{◌≡◌};
+ghost use Rattle.std.specs.Prelude.{◌≡◌, IfSome};
 
 mod columns;
 mod made;
@@ -17,10 +17,10 @@ mod worked;
 
 use column_pool::Brief;
 use columns::are_values;
-use link_steps::StepTable;
+use cut_table::CutTable;
 use made::{made_brief, made_instance};
 use master_step::{Step, advance, best_step};
-use plan_base::{Instance, Orient};
+use plan_base::{Instance, Items, Orient};
 use row_draws::Draws;
 use row_networks::table_of;
 use std::alloc::Global;
@@ -60,6 +60,17 @@ const KINDS: [Kind; 4] = [
     },
 ];
 
+/// The table of an instance, without cuts.
+///
+/// - Gives: None where a link takes too many steps, and where memory is wanting.
+#[tactic(auto, using(proof_tree::proofs::CutlessPlans::no_cuts))]
+fn cutless_table(alloc: Global, inst: &Instance) -> Option<CutTable>
+    ensures { IfSome result (λ table. table.problem ≡ inst.now) }
+{
+    let steps = table_of(alloc, inst)?;
+    CutTable::new(alloc, inst, steps, Items::new(alloc)).ok()
+}
+
 /// Whether a step is what the twin found.
 fn is_step(step: &Step, found: &Found) -> bool {
     match step {
@@ -86,13 +97,13 @@ fn is_no_worse(step: &Step, found: &Found) -> bool {
 fn steps_agree(
     alloc: Global,
     inst: &Instance,
-    table: &StepTable,
+    table: &CutTable,
     brief: &Brief,
     found: &Found,
 ) -> bool
-    requires { table.now ≡ inst.now }
+    requires { table.now.problem ≡ inst.now }
 {
-    if !brief.fits(inst) {
+    if !brief.fits(inst, table) {
         return false;
     }
     let step_agrees = match advance(alloc, inst, table, brief) {
@@ -108,7 +119,7 @@ fn steps_agree(
 
 /// Whether all answers for a brief are as the twin found.
 fn all_agree(alloc: Global, inst: &Instance, brief: &Brief, found: &Found) -> bool {
-    match table_of(alloc, inst) {
+    match cutless_table(alloc, inst) {
         Some(table) => {
             steps_agree(alloc, inst, &table, brief, found)
                 && are_values(alloc, inst, &table, brief, found)

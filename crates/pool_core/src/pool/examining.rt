@@ -38,7 +38,7 @@ impl Pool {
         if let Some(link) = outside_link(&*self.problem, &**ranges, routing) {
             return Some(link);
         }
-        overfull_link(&*self.problem, &*self.table, routing)
+        overfull_link(&*self.problem, self.table.steps(), routing)
     }
 
     /// Closes a node that leaves each demand one path: by a link that these paths overfill or of which they put a load
@@ -56,7 +56,12 @@ impl Pool {
             self.close(node, Reason::Shown(Evidence::Overfull { link }));
             return Ok(Examined::Overfull);
         }
-        let done = complete(self.alloc, &*self.problem, &*self.table, routing.paths)?;
+        let done = complete(
+            self.alloc,
+            &*self.problem,
+            self.table.steps(),
+            routing.paths,
+        )?;
         let Some((_cost, design)) = done else {
             unreachable!();
         };

@@ -1,6 +1,6 @@
 //! What an opening or a publishing would answer now. Who asks has what the answer names ready before the call is made.
 
-ghost use Rattle.std.specs.Prelude.{◌≡◌, ◌<◌, true, length, IfOk};
+ghost use Rattle.std.specs.Prelude.{◌≡◌, ◌<◌, ◌+◌, true, length, IfOk};
 ghost use Rattle.plan_base.specs.Places.{places};
 ghost use Rattle.pool_machine.specs.declared.limits.TheConstants.{MAX_ROUNDS};
 ghost use Rattle.pool_machine.specs.State.{state_of};
@@ -38,7 +38,7 @@ impl Pool {
         ensures answer { IsPublishAnswer self.old node seen prices.now result }
         ensures only { IsOnlyPublishing self.old node seen prices.now result }
         ensures slot { IfPublished result (λ slot version. slot < MAX_ROUNDS) }
-        ensures count { IfPublished result (λ slot version. length prices.now ≡ places self.old.problem) }
+        ensures count { IfPublished result (λ slot version. length prices.now ≡ places self.old.problem + length self.old.cuts) }
     {
         match self.following(node, seen, prices) {
             Ok(next) => Publish::Published {

@@ -1,8 +1,8 @@
 //! The pool before its first event.
 
-ghost use Rattle.std.specs.Prelude.{◌≡◌, ◌<◌, ◌≤◌, ◌∷◌, [], length, IfOk};
+ghost use Rattle.std.specs.Prelude.{◌≡◌, ◌<◌, ◌≤◌, ◌^◌, ◌∷◌, [], length, IfOk};
 ghost use Rattle.std.specs.Arc.{arc_value};
-ghost use Rattle.plan_base.specs.Places.{places};
+ghost use Rattle.proof_tree.specs.Cuts.{IsCutList};
 ghost use Rattle.pool_machine.specs.declared.limits.TheConstants.{MAX_BUDGET, MAX_ROUNDS};
 ghost use Rattle.pool_machine.specs.Machine.{IsOpeningState, root_with};
 ghost use Rattle.pool_reading.specs.Views.{AreFreePlaces};
@@ -11,6 +11,7 @@ ghost use Rattle.pool_core.specs.Roots.{HasFreeRoot};
 use super::Pool;
 use arc_restrict::Restriction;
 use column_pool::ColumnPool;
+use cut_table::CutTable;
 use leaf_work::KnownAbove;
 use link_steps::{Ranges, StepTable, cost_unit};
 use master_step::Room;
@@ -18,15 +19,16 @@ use plan_base::{Instance, Items, Prices};
 use pool_machine::limits::MAX_ROUNDS;
 use pool_nodes::{Ground, PoolNode, PoolRound, Slot};
 use pool_reading::{Claims, OpenLeaves};
+use proof_tree::Cut;
 use std::alloc::{AllocError, Global};
 use std::sync::Arc;
 
 /// Free room for a round in each slot.
 ///
-/// - Takes: one price for each place, which are put into each room.
+/// - Takes: one price for each place and one rate for each cut, which are put into each room.
 fn free_places(alloc: Global, inst: &Instance, prices: &Prices) -> Result<Vec<Slot>, AllocError>
-    requires { length prices.now ≡ places inst.now }
-    ensures { IfOk result (λ slots. AreFreePlaces MAX_ROUNDS (length inst.now.demands) (places inst.now) slots.items) }
+    requires few { length prices.now < 2 ^ 32 }
+    ensures { IfOk result (λ slots. AreFreePlaces MAX_ROUNDS (length inst.now.demands) (length prices.now) slots.items) }
 {
     let mut slots = Vec::new(alloc);
     for slot in 0..MAX_ROUNDS {
@@ -58,31 +60,36 @@ fn root_grounds(alloc: Global, inst: &Instance) -> Result<Vec<Ground>, AllocErro
 }
 
 impl Pool {
-    /// A pool whose root waits with the start prices. All places of rounds are taken here, and the room
-    /// in which steps are tried.
+    /// A pool whose root waits with the start prices, and with rates of 0. All places of rounds are taken here, and the
+    /// room in which steps are tried.
     ///
-    /// - Takes: an instance and its step table; how many nodes may be examined.
+    /// - Takes: an instance and its step table; how many nodes may be examined; cuts of the instance, not too many and no
+    ///   two the same, whose rates the bounds of nodes may use.
     /// - Errors: want of memory alone.
     /// - Rule: docs/METHOD.md, "The search as a machine".
     pub fn new(
         alloc: Global,
         inst: Arc<Instance>,
-        table: Arc<StepTable>,
+        steps: StepTable,
         budget: u32,
+        cuts: Items<Cut>,
     ) -> Result<Pool, AllocError>
         requires some_budget { 0 < budget }
         requires budget { budget ≤ MAX_BUDGET }
-        requires table { arc_value table ≡ arc_value inst }
-        ensures opening { IfOk result (λ pool. IsOpeningState (arc_value inst) budget pool) }
+        requires table { steps ≡ arc_value inst }
+        requires cuts { IsCutList (arc_value inst) cuts }
+        ensures opening { IfOk result (λ pool. IsOpeningState (arc_value inst) cuts budget pool) }
     {
-        inst.lawful();
-        let prices = table.start_prices(alloc)?;
+        let _places = inst.places();
+        let cut_table = CutTable::new(alloc, &*inst, steps, cuts)?;
+        let prices = cut_table.start_numbers(alloc)?;
         let places = free_places(alloc, &*inst, &prices)?;
         let nodes = root_alone(alloc, prices)?;
         let grounds = root_grounds(alloc, &*inst)?;
         let unit = cost_unit(&*inst);
         let columns = ColumnPool::new(alloc, &*inst)?;
-        let room = Room::new(alloc, &*inst)?;
+        let room = Room::new(alloc, &*inst, &cut_table)?;
+        let table = Arc::new(alloc, cut_table)?;
         let claims = Claims::none(alloc)?;
         let leaves = OpenLeaves::root(alloc)?;
         Ok(Pool {

@@ -1,9 +1,9 @@
 //! Further versions of the prices of a node.
 
-ghost use Rattle.std.specs.Prelude.{◌≡◌, ◌<◌, ◌↔◌, ◌||◌, IsTrue, IfOk, IfErr, length, int_lt};
+ghost use Rattle.std.specs.Prelude.{◌≡◌, ◌<◌, ◌+◌, ◌↔◌, ◌||◌, IsTrue, IfOk, IfErr, length, int_lt};
 ghost use Rattle.plan_base.specs.Places.{places};
 ghost use Rattle.pool_machine.specs.declared.answers.Publish.TheVariants as publish;
-ghost use Rattle.pool_machine.specs.Nodes.{IsPriceList};
+ghost use Rattle.cut_table.specs.Numbers.{AreNumbers};
 ghost use Rattle.pool_machine.specs.Publishing.{IsCrowding, PublishStep};
 ghost use Rattle.pool_machine.specs.declared.limits.TheConstants.{MAX_ROUNDS};
 ghost use Rattle.pool_reading.specs.Valuing.{IsGatheredAt, ForRound};
@@ -32,7 +32,7 @@ impl Pool {
     /// Whether the node's round is stalled, and the prices are its crowd prices.
     fn is_crowding(&mut self, node: BranchId, prices: &Prices) -> bool
         requires gathered { IsGatheredAt self.old node }
-        requires prices { IsPriceList self.old.problem prices.now }
+        requires prices { AreNumbers self.old.problem self.old.cuts prices.now }
         ensures unchanged { self.new ≡ self.old }
         ensures value { ForRound self.old node (λ x round. IsTrue result ↔ IsCrowding self.old x round prices.now) }
     {
@@ -46,7 +46,7 @@ impl Pool {
     /// values of the round's prices and of these.
     fn mark_after(&mut self, node: BranchId, prices: &Prices) -> Result<bool, (i128, i128)>
         requires gathered { IsGatheredAt self.old node }
-        requires prices { IsPriceList self.old.problem prices.now }
+        requires prices { AreNumbers self.old.problem self.old.cuts prices.now }
         ensures unchanged { self.new ≡ self.old }
         ensures follows { IfOk result (λ mark. ForRound self.old node (λ x round. MayReplace self.old x round prices.now mark)) }
         ensures no_gain { IfErr result (λ both. ForRound self.old node (λ x round. HasNoGain self.old x round prices.now both.0 both.1)) }
@@ -83,7 +83,7 @@ impl Pool {
         ensures refused { IfErr result (λ refusal. PublishStep self.old node seen prices.now refusal self.old) }
         ensures no_success { IfErr result (λ refusal. IfPublished refusal (λ slot version. ⊥)) }
         ensures slot { IfOk result (λ next. next.slot < MAX_ROUNDS) }
-        ensures count { IfOk result (λ next. length prices.now ≡ places self.old.problem) }
+        ensures count { IfOk result (λ next. length prices.now ≡ places self.old.problem + length self.old.cuts) }
     {
         if let Some(refusal) = self.view().publish_refusal(node, seen, prices) {
             return Err(refusal);
@@ -118,13 +118,16 @@ impl Pool {
 
     /// Gives the round of a node further prices, under which no demand is priced. Takes no memory.
     ///
-    /// - Takes: the version of its round; the prices, in thousandths of a cost grain per load grain.
+    /// - Takes: the version of its round; the prices, in thousandths of a cost grain per load grain, and behind them the
+    ///   rates, in thousandths of a cost grain per counted grain.
     /// - Gives: in this order, `Spent` where the budget is spent; `Stale` where the node has no round of the version;
     ///   `Settled` where it is settled; `Incomplete` with the first demand that is not priced; `Rounds` where 16 versions
-    ///   were complete; `PriceCount` where there is not one price for each place; `OverPrice` with the link of the first
-    ///   place whose price is above the price limit; `Ungathered` with the first demand whose path is none of its columns; `NoGain`
-    ///   where the prices have no greater restricted value than the round's, and are not the crowd prices of a stalled
-    ///   round that are tried for the first time; else `Published` with the slot and the version.
+    ///   were complete; `PriceCount` where there is not one price for each place and one rate for each cut; `OverPrice`
+    ///   with the link of the first place whose price is above the price limit; `Unlawful` where a price and the rates of
+    ///   the cuts that its place crosses are together above the limit, or a price is below the routing cost where such a
+    ///   rate is above 0, or a rate is above the limit; `Ungathered` with the first demand whose path is none of its
+    ///   columns; `NoGain` where the prices have no greater restricted value than the round's, and are not the crowd prices
+    ///   of a stalled round that are tried for the first time; else `Published` with the slot and the version.
     /// - Rule: docs/METHOD.md, "The search as a machine".
     pub fn publish(&mut self, node: BranchId, seen: u64, prices: &Prices) -> Publish
         ensures event { PublishStep self.old node seen prices.now result self.new }

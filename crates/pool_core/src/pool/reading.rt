@@ -1,6 +1,6 @@
 //! What the pool tells without an event.
 
-ghost use Rattle.std.specs.Prelude.{◌≡◌, ◌↔◌, true, IsSome, IfSome, IfOk, length, slice_get};
+ghost use Rattle.std.specs.Prelude.{◌≡◌, ◌↔◌, ◌+◌, true, IsSome, IfSome, IfOk, length, slice_get};
 ghost use Rattle.std.specs.Arc.{arc_value};
 ghost use Rattle.plan_base.specs.Places.{places};
 ghost use Rattle.arc_restrict.specs.Rows.{forbids};
@@ -14,8 +14,8 @@ ghost use Rattle.pool_reading.specs.OpenBounds.{open_bound_of};
 
 use super::Pool;
 use arc_restrict::Restriction;
+use cut_table::CutTable;
 use dual_versions::Published;
-use link_steps::StepTable;
 use plan_base::{BranchId, Design, Instance, Prices};
 use std::alloc::AllocError;
 use std::sync::Arc;
@@ -71,11 +71,12 @@ impl Pool {
     }
 
     /// The prices with which a node that waits begins, one for each place, in thousandths of a cost grain per load
-    /// grain; None exactly where the node does not wait.
+    /// grain, and behind them one rate for each cut, in thousandths of a cost grain per counted grain; None exactly where
+    /// the node does not wait.
     pub fn first_prices(&self, node: BranchId) -> Option<&Prices>
         ensures waits { IsSome result ↔ (is_waiting (state_of self.now node) ≡ true) }
         ensures value { IfSome result (λ prices. IfSome (slice_get self.now.nodes node.0) (λ x. prices.now ≡ x.first_prices)) }
-        ensures count { IfSome result (λ prices. length prices.now ≡ places self.now.problem) }
+        ensures count { IfSome result (λ prices. length prices.now ≡ places self.now.problem + length self.now.cuts) }
     {
         self.view().first_prices(node)
     }
@@ -88,8 +89,8 @@ impl Pool {
         self.view().restriction(node)
     }
 
-    /// A copy of the prices of the round in the slot, in thousandths of a cost grain per load grain, with its node and
-    /// its version; None exactly where no round has the slot.
+    /// A copy of the prices and rates of the round in the slot, with its node and its version; None exactly where no round
+    /// has the slot.
     ///
     /// - Errors: want of memory alone.
     pub fn prices(&self, slot: u32) -> Result<Option<Published>, AllocError>
@@ -108,9 +109,10 @@ impl Pool {
         &self.problem
     }
 
-    /// The step table of the instance.
-    pub fn table(&self) -> &Arc<StepTable>
-        ensures { arc_value result.now ≡ self.now.problem }
+    /// The step table of the instance, and the cuts.
+    pub fn table(&self) -> &Arc<CutTable>
+        ensures problem { (arc_value result.now).problem ≡ self.now.problem }
+        ensures cuts { (arc_value result.now).cuts ≡ self.now.cuts }
     {
         &self.table
     }

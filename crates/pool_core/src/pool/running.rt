@@ -163,6 +163,7 @@ impl Pool {
         ensures done { OnOk result (is_done self.new ≡ true) }
         ensures leads { LeadsTo self.old self.new }
         ensures problem { self.new.problem ≡ self.old.problem }
+        ensures cuts { self.new.cuts ≡ self.old.cuts }
         ensures budget { self.new.budget ≡ self.old.budget }
     {
         let mut guide = Guide::new(self.alloc, 0, 1);

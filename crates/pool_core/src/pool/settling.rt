@@ -18,7 +18,7 @@ impl Pool {
     fn improvement(&mut self, node: BranchId) -> Option<(i128, i128)>
         requires { IsGatheredAt self.old node }
         ensures unchanged { self.new ≡ self.old }
-        ensures some { IfSome result (λ both. ForRound self.old node (λ x round. (has_enough self.old x ≡ false) × IsGain self.old.problem (ranges_of self.old.problem x) (columns_for self.old x) round.prices both.0 both.1)) }
+        ensures some { IfSome result (λ both. ForRound self.old node (λ x round. (has_enough self.old x ≡ false) × IsGain self.old.problem self.old.cuts (ranges_of self.old.problem x) (columns_for self.old x) round.prices both.0 both.1)) }
         ensures none { IfNone result (ForRound self.old node (HasNoMore self.old)) }
     {
         // Whoever looks into the pool knows what its type keeps, which the proof needs.

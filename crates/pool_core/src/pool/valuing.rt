@@ -15,8 +15,8 @@ impl Pool {
     pub(super) fn gain(&mut self, node: BranchId) -> Option<i128>
         requires { IsGatheredAt self.old node }
         ensures unchanged { self.new ≡ self.old }
-        ensures some { IfSome result (λ new. ForRound self.old node (λ x round. HasGain self.old.problem (ranges_of self.old.problem x) (columns_for self.old x) round.prices new)) }
-        ensures none { IfNone result (ForRound self.old node (λ x round. HasStalled self.old.problem (ranges_of self.old.problem x) (columns_for self.old x) round.prices)) }
+        ensures some { IfSome result (λ new. ForRound self.old node (λ x round. HasGain self.old.problem self.old.cuts (ranges_of self.old.problem x) (columns_for self.old x) round.prices new)) }
+        ensures none { IfNone result (ForRound self.old node (λ x round. HasStalled self.old.problem self.old.cuts (ranges_of self.old.problem x) (columns_for self.old x) round.prices)) }
     {
         let plot = self.grounds[node.0 as usize].plot().unwrap();
         let round = self.nodes[node.0 as usize].round().unwrap();

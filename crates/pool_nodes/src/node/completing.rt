@@ -9,7 +9,8 @@ ghost use Rattle.pool_machine.specs.Changes.{better_of, TakesRound};
 ghost use Rattle.pool_nodes.specs.Rounds.{best_in, is_below, MayComplete};
 
 use super::PoolNode;
-use link_steps::{Ranges, StepTable};
+use cut_table::CutTable;
+use link_steps::Ranges;
 use plan_base::{DemandId, Instance, Prices};
 use pool_machine::Found;
 
@@ -23,16 +24,16 @@ impl PoolNode {
         demand: DemandId,
         found: Found,
         inst: &Instance,
-        table: &StepTable,
+        table: &CutTable,
         ranges: &Ranges,
     ) -> u32
-        requires table { table.now ≡ inst.now }
+        requires table { table.now.problem ≡ inst.now }
         requires ranges { ranges.now ≡ ranges_of inst.now self.old }
-        requires sound { IsSoundNode inst.now self.old }
+        requires sound { IsSoundNode inst.now table.now.cuts self.old }
         requires round { IsSomeAnd self.old.round (λ round. (slice_get round.found demand.0 ≡ Some None)
             × IsLeastPath inst.now round.prices demand.0 (restriction_of self.old) found.path found.price) }
         ensures left { IfSome self.old.round (λ round. result ≡ left_of (with_found round demand.0 found)) }
-        ensures takes { IfSome self.old.round (λ round. TakesRound inst.now self.old (with_found round demand.0 found) self.new) }
+        ensures takes { IfSome self.old.round (λ round. TakesRound inst.now table.now.cuts self.old (with_found round demand.0 found) self.new) }
     {
         let left = self.add(demand, found);
         self.complete(inst, table, ranges);
@@ -41,11 +42,11 @@ impl PoolNode {
 
     /// Where the node's round has priced each demand, the version is complete: its bound is recorded, with its prices
     /// where it is the greatest so far, and its crowd proof where it is one. Takes no memory.
-    pub fn complete(&mut self, inst: &Instance, table: &StepTable, ranges: &Ranges)
-        requires table { table.now ≡ inst.now }
+    pub fn complete(&mut self, inst: &Instance, table: &CutTable, ranges: &Ranges)
+        requires table { table.now.problem ≡ inst.now }
         requires ranges { ranges.now ≡ ranges_of inst.now self.old }
-        requires ready { MayComplete inst.now self.old }
-        ensures { IfSome self.old.round (λ round. TakesRound inst.now self.old round self.new) }
+        requires ready { MayComplete inst.now table.now.cuts self.old }
+        ensures { IfSome self.old.round (λ round. TakesRound inst.now table.now.cuts self.old round self.new) }
     {
         inst.lawful();
         let Some(round) = &self.round else {

@@ -14,8 +14,8 @@ use std::sync::Arc;
 impl PoolNode {
     /// A node that waits and has nothing recorded, with room for its best prices and for a crowd proof.
     ///
-    /// - Takes: what the splits above it allow less, the last one first; the prices with which it begins; the bound by which
-    ///   it is chosen while it has none of its own, in cost grains.
+    /// - Takes: what the splits above it allow less, the last one first; the prices and rates with which it begins; the bound
+    ///   by which it is chosen while it has none of its own, in cost grains.
     /// - Errors: want of memory alone.
     pub fn new(
         limits: Items<Arc<Limit>>,

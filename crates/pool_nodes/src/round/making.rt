@@ -1,7 +1,6 @@
 //! New places.
 
-ghost use Rattle.std.specs.Prelude.{◌≡◌, length, replicate, None, IfOk};
-ghost use Rattle.plan_base.specs.Places.{places};
+ghost use Rattle.std.specs.Prelude.{◌≡◌, ◌<◌, ◌^◌, length, replicate, None, IfOk};
 
 use super::PoolRound;
 use bound_assembly::Round;
@@ -23,7 +22,7 @@ fn none_found(alloc: Global, demands: u32) -> Result<Vec<Option<Found>>, AllocEr
 impl PoolRound {
     /// A place that no round has used.
     ///
-    /// - Takes: its slot; one price for each place, which are put there.
+    /// - Takes: its slot; one price for each place and one rate for each cut, which are put there.
     /// - Errors: want of memory alone.
     pub fn new(
         alloc: Global,
@@ -31,14 +30,15 @@ impl PoolRound {
         inst: &Instance,
         prices: &Prices,
     ) -> Result<PoolRound, AllocError>
-        requires { length prices.now ≡ places inst.now }
+        requires few { length prices.now < 2 ^ 32 }
         ensures slot { IfOk result (λ place. place.slot ≡ slot) }
         ensures demands { IfOk result (λ place. length place.found ≡ length inst.now.demands) }
-        ensures prices { IfOk result (λ place. length place.prices ≡ places inst.now) }
+        ensures prices { IfOk result (λ place. length place.prices ≡ length prices.now) }
     {
         let demands = inst.demands();
+        let numbers = prices.as_slice().len() as u32;
         let found = none_found(alloc, demands)?;
-        let mut lengths = Round::new(alloc, demands, inst.places())?;
+        let mut lengths = Round::new(alloc, demands, numbers)?;
         lengths.restart(BranchId(0), 0, prices);
         Ok(PoolRound {
             slot,

@@ -138,7 +138,7 @@ impl<'a> PoolView<'a> {
         let Some(ranges) = ground.ranges() else {
             unreachable!();
         };
-        if parts_steps(self.problem, self.table, &**ranges, split) {
+        if parts_steps(self.problem, self.table.steps(), &**ranges, split) {
             return Some(self.division(Divider::Load(split)));
         }
         None

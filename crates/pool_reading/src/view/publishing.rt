@@ -1,28 +1,31 @@
-//! Why prices are not published, and which prices are crowd prices.
+//! Why prices and rates are not published, and which of them are crowd prices.
 
-ghost use Rattle.std.specs.Prelude.{◌≡◌, ◌<◌, ◌↔◌, IsTrue, length, not, ◌==◌, if◌then◌else◌};
+ghost use Rattle.std.specs.Prelude.{ℕ, ◌≡◌, ◌<◌, ◌≤◌, ◌+◌, ◌↔◌, IsTrue, length, take, slice_index, not, ◌==◌, if◌then◌else◌};
 ghost use Rattle.plan_base.specs.First.{◌or_else◌, when, first_in};
 ghost use Rattle.plan_base.specs.Facts.{is_useful};
 ghost use Rattle.plan_base.specs.Arcs.{link_at};
 ghost use Rattle.plan_base.specs.Places.{places, link_of_place};
-ghost use Rattle.master_step.specs.Outcomes.{AreCrowdPrices};
+ghost use Rattle.master_step.specs.Outcomes.{crowd_price, AreCrowdPrices};
 ghost use Rattle.pool_machine.specs.declared.answers.Publish.TheVariants as publish;
-ghost use Rattle.pool_machine.specs.Publishing.{price_fault, publish_fault};
+ghost use Rattle.pool_machine.specs.Publishing.{price_fault, unlawful_fault, publish_fault};
 
 use super::PoolView;
+use cut_table::CutTable;
 use plan_base::{BranchId, Instance, Prices};
 use pool_machine::Publish;
 use pool_machine::limits::MAX_VERSIONS;
 
 /// The link of the first place whose price is above the price limit, as a refusal.
+///
+/// - Takes: the prices of the places alone.
 #[tactic(auto, using(plan_base::proofs::FirstFault::first_faults))]
-fn over_price(inst: &Instance, prices: &Prices) -> Option<Publish>
+fn over_price(inst: &Instance, prices: &[u128]) -> Option<Publish>
     requires { length prices.now ≡ places inst.now }
     ensures { result ≡ first_in (price_fault inst.now) prices.now }
 {
     let _places = inst.places();
     let limit = inst.price_limit();
-    for (place, price) in prices.as_slice().iter().enumerate() {
+    for (place, price) in prices.iter().enumerate() {
         if *price > limit {
             return Some(Publish::OverPrice {
                 link: inst.link_of_place(place as u32),
@@ -32,15 +35,25 @@ fn over_price(inst: &Instance, prices: &Prices) -> Option<Publish>
     None
 }
 
-/// Why prices are none of the instance, if they are not.
-fn price_refusal(inst: &Instance, prices: &Prices) -> Option<Publish>
-    ensures { result ≡ (when (not (length prices.now == places inst.now)) (publish.PriceCount (places inst.now)) or_else first_in (price_fault inst.now) prices.now) }
+/// Why prices and rates are none of the instance with the table's cuts, if they are not.
+fn price_refusal(inst: &Instance, table: &CutTable, prices: &Prices) -> Option<Publish>
+    requires { table.now.problem ≡ inst.now }
+    ensures { result ≡ (when (not (length prices.now == places inst.now + length table.now.cuts)) (publish.PriceCount (places inst.now + length table.now.cuts))
+        or_else first_in (price_fault inst.now) (take (places inst.now) prices.now)
+        or_else unlawful_fault inst.now table.now.cuts prices.now) }
 {
-    let needed = inst.places();
-    if prices.as_slice().len() != needed as usize {
+    let needed = inst.places() + table.count();
+    let numbers = prices.as_slice();
+    if numbers.len() != needed as usize {
         return Some(Publish::PriceCount { needed });
     }
-    over_price(inst, prices)
+    if let Some(refusal) = over_price(inst, &numbers[..inst.places() as usize]) {
+        return Some(refusal);
+    }
+    if !table.are_numbers(prices) {
+        return Some(Publish::Unlawful);
+    }
+    None
 }
 
 /// The price of a place when the places of useful links are free.
@@ -55,23 +68,43 @@ fn crowd_price(inst: &Instance, place: u32, price: u128) -> u128
     }
 }
 
-/// Whether the second prices are the crowd prices of the first ones.
-pub fn are_crowd_prices(inst: &Instance, prices: &Prices, crowd: &Prices) -> bool
-    requires count { length prices.now ≡ places inst.now }
-    requires crowd_count { length crowd.now ≡ places inst.now }
-    ensures { IsTrue result ↔ AreCrowdPrices inst.now prices.now crowd.now }
+/// Whether the places have the crowd prices of the first numbers in the second ones.
+fn are_crowded(inst: &Instance, numbers: &[u128], crowd: &[u128]) -> bool
+    requires count { places inst.now ≤ length numbers.now }
+    requires crowd_count { places inst.now ≤ length crowd.now }
+    ensures { IsTrue result ↔ ((q : ℕ) → q < places inst.now → slice_index crowd.now q ≡ crowd_price inst.now numbers.now q) }
 {
-    let _places = inst.places();
-    for (place, price) in prices.as_slice().iter().enumerate() {
-        if crowd.as_slice()[place] != crowd_price(inst, place as u32, *price) {
+    for place in 0..inst.places() {
+        if crowd[place as usize] != crowd_price(inst, place, numbers[place as usize]) {
             return false;
         }
     }
     true
 }
 
+/// Whether the rates of all cuts are 0.
+fn have_no_rates(inst: &Instance, numbers: &[u128]) -> bool
+    ensures { IsTrue result ↔ ((i : ℕ) → places inst.now ≤ i → slice_index numbers.now i ≡ 0) }
+{
+    for place in inst.places() as usize..numbers.len() {
+        if numbers[place] != 0 {
+            return false;
+        }
+    }
+    true
+}
+
+/// Whether the second numbers are the crowd prices of the first ones, with rates of 0.
+pub fn are_crowd_prices(inst: &Instance, prices: &Prices, crowd: &Prices) -> bool
+    requires count { places inst.now ≤ length prices.now }
+    requires crowd_count { length crowd.now ≡ length prices.now }
+    ensures { IsTrue result ↔ AreCrowdPrices inst.now prices.now crowd.now }
+{
+    have_no_rates(inst, crowd.as_slice()) && are_crowded(inst, prices.as_slice(), crowd.as_slice())
+}
+
 impl<'a> PoolView<'a> {
-    /// Why prices are refused before they are valued, if they are.
+    /// Why prices and rates are refused before they are valued, if they are.
     #[tactic(auto, unfolding(pool_machine::specs::Publishing::publish_fault))]
     pub fn publish_refusal(&self, node: BranchId, seen: u64, prices: &Prices) -> Option<Publish>
         ensures { result ≡ publish_fault self.now node seen prices.now }
@@ -95,7 +128,7 @@ impl<'a> PoolView<'a> {
         if done >= MAX_VERSIONS {
             return Some(Publish::Rounds { done });
         }
-        if let Some(refusal) = price_refusal(self.problem, prices) {
+        if let Some(refusal) = price_refusal(self.problem, self.table, prices) {
             return Some(refusal);
         }
         self.first_ungathered(node)

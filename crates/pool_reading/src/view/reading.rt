@@ -1,6 +1,6 @@
 //! What a pool tells of a node, of its best design and of a slot.
 
-ghost use Rattle.std.specs.Prelude.{◌≡◌, ◌↔◌, true, IsSome, IfSome, IfOk, length, slice_get};
+ghost use Rattle.std.specs.Prelude.{◌≡◌, ◌↔◌, ◌+◌, true, IsSome, IfSome, IfOk, length, slice_get};
 ghost use Rattle.std.specs.Arc.{arc_value};
 ghost use Rattle.plan_base.specs.Places.{places};
 ghost use Rattle.arc_restrict.specs.Rows.{forbids};
@@ -37,11 +37,12 @@ impl<'a> PoolView<'a> {
     }
 
     /// The prices with which a node that waits begins, one for each place, in thousandths of a cost grain per load
-    /// grain; None exactly where the node does not wait.
+    /// grain, and behind them one rate for each cut, in thousandths of a cost grain per counted grain; None exactly where
+    /// the node does not wait.
     pub fn first_prices(&self, node: BranchId) -> Option<&'a Prices>
         ensures waits { IsSome result ↔ (is_waiting (state_of self.now node) ≡ true) }
         ensures value { IfSome result (λ prices. IfSome (slice_get self.now.nodes node.0) (λ x. prices.now ≡ x.first_prices)) }
-        ensures count { IfSome result (λ prices. length prices.now ≡ places self.now.problem) }
+        ensures count { IfSome result (λ prices. length prices.now ≡ places self.now.problem + length self.now.cuts) }
     {
         if !super::is_waiting(self.state(node)) {
             return None;
@@ -60,8 +61,8 @@ impl<'a> PoolView<'a> {
         }
     }
 
-    /// A copy of the prices of the round in the slot, in thousandths of a cost grain per load grain, with its node and
-    /// its version; None exactly where no round has the slot.
+    /// A copy of the prices and rates of the round in the slot, with its node and its version; None exactly where no round
+    /// has the slot.
     ///
     /// - Errors: want of memory alone.
     pub fn prices(&self, slot: u32) -> Result<Option<Published>, AllocError>

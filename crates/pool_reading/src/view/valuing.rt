@@ -1,9 +1,9 @@
 //! What prices are worth at a node, over the columns that it permits.
 
 ghost use Rattle.std.specs.Prelude.{◌≡◌};
+ghost use Rattle.cut_table.specs.Numbers.{AreNumbers};
 ghost use Rattle.pool_machine.specs.State.{round_of, ranges_of};
 ghost use Rattle.pool_machine.specs.Gathering.{columns_for, first_ungathered};
-ghost use Rattle.pool_machine.specs.Nodes.{IsPriceList};
 ghost use Rattle.master_step.specs.Restricted.{IsRestrictedValue};
 ghost use Rattle.pool_reading.specs.Valuing.{IsGatheredAt, ForRound};
 
@@ -21,12 +21,12 @@ impl<'a> PoolView<'a> {
         }
     }
 
-    /// The restricted value of prices over the columns that the node permits, in thousandths of a cost grain. Takes no
-    /// memory.
+    /// The restricted value of prices and rates over the columns that the node permits, in thousandths of a cost grain.
+    /// Takes no memory.
     pub fn value(&self, node: BranchId, prices: &Prices) -> i128
         requires gathered { IsGatheredAt self.now node }
-        requires prices { IsPriceList self.now.problem prices.now }
-        ensures { ForRound self.now node (λ x round. IsRestrictedValue self.now.problem (ranges_of self.now.problem x) (columns_for self.now x) prices.now result) }
+        requires prices { AreNumbers self.now.problem self.now.cuts prices.now }
+        ensures { ForRound self.now node (λ x round. IsRestrictedValue self.now.problem self.now.cuts (ranges_of self.now.problem x) (columns_for self.now x) prices.now result) }
     {
         let plot = self.grounds[node.0 as usize].plot().unwrap();
         master_step::value(

@@ -70,7 +70,7 @@ impl<'a> PoolView<'a> {
         leaf_work::new_design(
             self.alloc,
             self.problem,
-            self.table,
+            self.table.steps(),
             &paths,
             self.examined,
             guide.designs(),

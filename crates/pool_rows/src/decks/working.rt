@@ -11,6 +11,7 @@ use block_deques::Deck;
 use dual_versions::board;
 use instance_maker::sample_problem;
 use linear_hub::{LinearHub, LinearSeat, Naming, work_blocks};
+use plan_base::Items;
 use plan_io::NoGate;
 use pool_core::Pool;
 use pool_machine::limits::MAX_ROUNDS;
@@ -19,11 +20,11 @@ use std::marker::Brand;
 use std::sync::{Arc, Wait};
 
 /// A pool on the fifth sample of 16 nodes and 64 demands, of which two nodes may be examined.
+#[tactic(auto, using(proof_tree::proofs::CutlessPlans::no_cuts))]
 fn sample_pool(alloc: Global) -> Option<Pool> {
     let problem = sample_problem(alloc, 5, 16, 64).ok()?;
     let inst = Arc::new(alloc, problem.inst).ok()?;
-    let table = Arc::new(alloc, problem.table).ok()?;
-    Pool::new(alloc, inst, table, 2).ok()
+    Pool::new(alloc, inst, problem.table, 2, Items::new(alloc)).ok()
 }
 
 /// The last seat of a hub.
@@ -40,11 +41,11 @@ fn last_seat<N: Naming, R: Wait + Drop>(
 /// Lets one seat of a hub work with a deck until nothing is left to do.
 fn work_with<N: Naming, R: Wait>(rt: &R, alloc: Global, pool: Pool, deck: &mut Deck) -> Option<()>
     requires opening { pool ≡ N.opening }
-    requires search { (pool.problem ≡ N.problem) × (pool.budget ≡ N.budget) }
+    requires search { (pool.problem ≡ N.problem) × (pool.cuts ≡ N.cuts) × (pool.budget ≡ N.budget) }
     ensures { IsSameDeck deck.old deck.new }
 {
-    let places = pool.instance().places();
-    let (writer, readers) = board(rt, alloc, MAX_ROUNDS, 1, places).ok()?;
+    let numbers = pool.instance().places() + pool.table().count();
+    let (writer, readers) = board(rt, alloc, MAX_ROUNDS, 1, numbers).ok()?;
     let Ok((hub, seats)) = LinearHub::<N, &R>::new(alloc, pool, 1, writer, readers) else {
         return None;
     };

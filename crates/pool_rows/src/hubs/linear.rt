@@ -133,12 +133,12 @@ fn take_turns<N: Naming, R: Wait>(
     text: &mut String,
 ) -> Option<()>
     requires opening { pool ≡ N.opening }
-    requires search { (pool.problem ≡ N.problem) × (pool.budget ≡ N.budget) }
+    requires search { (pool.problem ≡ N.problem) × (pool.cuts ≡ N.cuts) × (pool.budget ≡ N.budget) }
 {
     let demands = pool.instance().demands();
     let arcs = pool.instance().arcs();
-    let places = pool.instance().places();
-    let (writer, readers) = board(rt, alloc, MAX_ROUNDS, 2, places).ok()?;
+    let numbers = pool.instance().places() + pool.table().count();
+    let (writer, readers) = board(rt, alloc, MAX_ROUNDS, 2, numbers).ok()?;
     let Ok((hub, seats)) = LinearHub::<N, &R>::new(alloc, pool, 2, writer, readers) else {
         return None;
     };

@@ -72,13 +72,13 @@ fn take_turns<N: Naming, R: Wait>(
     requires workers { (1 ≤ workers) × (workers ≤ MAX_WORKERS) }
     requires name { blank.name ≡ N.name }
     requires parts { (blank.parts ≡ N.parts) × (N.parts ≡ workers) }
-    requires search { (pool.problem ≡ N.problem) × (pool.budget ≡ N.budget) }
+    requires search { (pool.problem ≡ N.problem) × (pool.cuts ≡ N.cuts) × (pool.budget ≡ N.budget) }
     requires fresh { pool.accepted ≡ 0 }
 {
     let demands = pool.instance().demands();
     let arcs = pool.instance().arcs();
-    let places = pool.instance().places();
-    let (writer, readers) = board(rt, alloc, MAX_ROUNDS, workers, places).ok()?;
+    let numbers = pool.instance().places() + pool.table().count();
+    let (writer, readers) = board(rt, alloc, MAX_ROUNDS, workers, numbers).ok()?;
     let (hub, mut seats) = Hub::<N, &R>::new(alloc, blank, pool, workers, writer, readers).ok()?;
     let common = Common {
         rt,

@@ -9,7 +9,7 @@ mod twin;
 
 use super::working::price_all;
 use networks::made_network;
-use plan_base::{BranchId, Instance};
+use plan_base::{BranchId, Instance, Items};
 use pool_core::Pool;
 use row_draws::Draws;
 use row_networks::table_of;
@@ -24,12 +24,12 @@ const NETWORKS: u32 = 100;
 const BUDGET: u32 = 300;
 
 /// A new pool on the instance.
+#[tactic(auto, using(proof_tree::proofs::CutlessPlans::no_cuts))]
 fn pool_on(alloc: Global, inst: &Instance) -> Option<Pool> {
     let inst = inst.copy(alloc).ok()?;
     let table = table_of(alloc, &inst)?;
     let inst = Arc::new(alloc, inst).ok()?;
-    let table = Arc::new(alloc, table).ok()?;
-    Pool::new(alloc, inst, table, BUDGET).ok()
+    Pool::new(alloc, inst, table, BUDGET, Items::new(alloc)).ok()
 }
 
 /// The bound of the root at the start prices.
@@ -57,7 +57,7 @@ fn is_found(alloc: Global, pool: &mut Pool, inst: &Instance) -> Option<bool> {
 fn next_is_decided(alloc: Global, draws: &mut Draws) -> Option<bool> {
     let inst = made_network(alloc, draws)?;
     let mut pool = pool_on(alloc, &inst)?;
-    let prices = pool.table().start_prices(alloc).ok()?;
+    let prices = pool.table().steps().start_prices(alloc).ok()?;
     if first_bound(alloc, &mut pool) != Some(root_bound(alloc, &inst, prices.as_slice())?) {
         return None;
     }

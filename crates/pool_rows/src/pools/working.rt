@@ -11,11 +11,12 @@ use pool_core::{Closing, Examined, Gather, Offer, Offered, Pool, Publish, Settle
 use std::alloc::Global;
 
 /// What is found for a demand at these prices under its node's restriction.
+#[tactic(auto, using(pool_work::proofs::NumberPrices::numbers_priced))]
 fn found_at(alloc: Global, pool: &Pool, published: &Published, demand: DemandId) -> Option<Priced> {
     let inst = pool.instance();
     let rows = pool.restriction(published.node)?;
     let prices = &published.prices;
-    if demand.0 >= inst.demands() || !prices.fits(&**inst) {
+    if demand.0 >= inst.demands() || !pool.table().are_numbers(prices) {
         return None;
     }
     price(alloc, &**inst, prices, demand, &**rows).ok()
@@ -91,11 +92,11 @@ pub(crate) fn tell_divided(
 
 /// The prices that a master step raises those of a complete version to.
 fn raised(alloc: Global, pool: &Pool, brief: &Brief) -> Option<Option<Prices>> {
-    let inst = pool.instance();
-    if !brief.fits(&**inst) {
+    let (inst, table) = (&**pool.instance(), &**pool.table());
+    if !brief.fits(inst, table) {
         return None;
     }
-    match advance(alloc, &**inst, &**pool.table(), brief).ok()? {
+    match advance(alloc, inst, table, brief).ok()? {
         Step::Raised { prices, .. } => Some(Some(prices)),
         _ => Some(None),
     }

@@ -10,7 +10,7 @@ use super::twin::Found;
 use arc_restrict::Restriction;
 use column_pool::laws::columns_stay;
 use column_pool::{Brief, ColumnPool};
-use link_steps::StepTable;
+use cut_table::CutTable;
 use master_step::{Room, gain, value};
 use plan_base::{DemandId, Instance, Items, Path, is_simple_path};
 use std::alloc::{AllocError, Global};
@@ -92,20 +92,20 @@ fn have_columns(
 fn both_agree(
     alloc: Global,
     inst: &Instance,
-    table: &StepTable,
+    table: &CutTable,
     brief: &Brief,
     pool: &ColumnPool,
     found: &Found,
 ) -> Option<bool>
-    requires table { table.now ≡ inst.now }
-    requires brief { IsBriefFor inst.now brief.now.prices brief.now.ranges brief.now.columns }
+    requires table { table.now.problem ≡ inst.now }
+    requires brief { IsBriefFor inst.now table.now.cuts brief.now.prices brief.now.ranges brief.now.columns }
     requires columns { AreColumns inst.now pool.now }
 {
     let restriction = Restriction::none(alloc, inst).ok()?;
     if !have_columns(alloc, inst, pool, &restriction).ok()? {
         return None;
     }
-    let mut room = Room::new(alloc, inst).ok()?;
+    let mut room = Room::new(alloc, inst, table).ok()?;
     let value = value(
         inst,
         table,
@@ -130,13 +130,13 @@ fn both_agree(
 pub(crate) fn are_values(
     alloc: Global,
     inst: &Instance,
-    table: &StepTable,
+    table: &CutTable,
     brief: &Brief,
     found: &Found,
 ) -> bool
-    requires { table.now ≡ inst.now }
+    requires { table.now.problem ≡ inst.now }
 {
-    if !brief.fits(inst) {
+    if !brief.fits(inst, table) {
         return false;
     }
     match pool_of(alloc, inst, brief.columns.as_slice()) {

@@ -353,7 +353,7 @@ fn signed(alloc: Global, prices: &[u128]) -> Option<Vec<i128>> {
 
 /// The ranges of a brief, one for each place. None where they are not those of the instance.
 fn ranges_of(alloc: Global, inst: &Instance, brief: &Brief) -> Option<Vec<LoadRange>> {
-    if !brief.fits(inst) {
+    if !brief.ranges.fits(inst) {
         return None;
     }
     let mut ranges = Vec::new(alloc);

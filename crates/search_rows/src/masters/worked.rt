@@ -1,5 +1,6 @@
 //! The two links between a and b of docs/METHOD.md, "Master step", which that section works out by hand.
 
+use super::cutless_table;
 use column_pool::Brief;
 use link_steps::Ranges;
 use master_step::{Step, advance, best_step, crowd_prices};
@@ -7,7 +8,6 @@ use plan_base::{
     ArcId, BranchId, CountLaw, Demand, Instance, Items, Link, Module, NodeId, Orient, Parts, Path,
     Prices,
 };
-use row_networks::table_of;
 use std::alloc::Global;
 
 /// A link from a to b.
@@ -88,8 +88,8 @@ fn raises(step: &Step, wanted: &[u128], value: i128) -> bool {
 
 /// The step of a brief, or the better of it and an ascent. None where the brief does not fit, and where memory is wanting.
 fn step_of(alloc: Global, inst: &Instance, brief: &Brief, is_best: bool) -> Option<Step> {
-    let table = table_of(alloc, inst)?;
-    if !brief.fits(inst) {
+    let table = cutless_table(alloc, inst)?;
+    if !brief.fits(inst, &table) {
         return None;
     }
     if is_best {

@@ -14,8 +14,7 @@ raise-requires c =
     let has : HasColumns p (columns_at lists.now) = c.in_default.ensures.none in
     record {
       table = c.requires.table;
-      price_count = c.requires.brief.price_count;
-      price_limit = c.requires.brief.price_limit;
+      are_numbers = c.requires.brief.are_numbers;
       are_ranges = c.requires.brief.are_ranges;
       source = lists-source p lists (c.as_slice-lists.ensures.len ∙ c.requires.brief.list_count)
           (subst (λ (columns : Columns). AreAllPaths p columns (length p.demands)) (sym c.as_slice-lists.ensures.value) c.requires.brief.paths);
@@ -24,5 +23,5 @@ raise-requires c =
 
 pub returns : goal.returns
 returns c =
-    subst (λ (choices : Choices). IfOk c.raise.result (IsStepOf c.args.inst.now c.args.brief.now.ranges choices c.args.brief.now.prices))
+    subst (λ (choices : Choices). IfOk c.raise.result (IsStepOf c.args.inst.now c.args.table.now.cuts c.args.brief.now.ranges choices c.args.brief.now.prices))
     (lists-allowed c.as_slice-lists.result ∙ ap columns_at c.as_slice-lists.ensures.value) c.raise.ensures

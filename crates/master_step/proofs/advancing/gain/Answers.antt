@@ -14,6 +14,6 @@ none-weaker (Some x) P Q weaker h = h
 pub returns-clause-none : goal.returns-clause-none
 returns-clause-none c =
     none-weaker c.climb-old.result.1
-    (IsStalled c.args.inst.now c.args.ranges.now (permitted_at (forbids c.args.restriction.now) c.args.columns.now) c.args.prices.now c.climb-old.result.0)
-    (HasStalled c.args.inst.now c.args.ranges.now (permitted_at (forbids c.args.restriction.now) c.args.columns.now) c.args.prices.now)
+    (IsStalled c.args.inst.now c.args.table.now.cuts c.args.ranges.now (permitted_at (forbids c.args.restriction.now) c.args.columns.now) c.args.prices.now c.climb-old.result.0)
+    (HasStalled c.args.inst.now c.args.table.now.cuts c.args.ranges.now (permitted_at (forbids c.args.restriction.now) c.args.columns.now) c.args.prices.now)
     (λ stalled. (c.climb-old.result.0, stalled)) c.climb-old.ensures.stalled

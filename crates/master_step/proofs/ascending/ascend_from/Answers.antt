@@ -2,12 +2,12 @@ use Rattle.std.proofs.Common.{◌≡◌, ℕ, List, refl, sym, ap, subst, ◌∙
 use Rattle.std.proofs.lemmas.Int.{to_z-of_z}
 use mir.Syntax.{w128}
 use mir.Val.{SFits}
+use Rattle.cut_table.specs.Numbers.{AreNumbers}
 use Rattle.column_pool.specs.Columns.{Columns, columns_at}
 use Rattle.master_step.specs.declared.source.Source.TheVariants.{Lists}
 use Rattle.master_step.specs.Columns.{Choices, HasColumns}
 use Rattle.master_step.specs.Restricted.{IsRestrictedValue}
 use Rattle.master_step.specs.Choosing.{allowed_of}
-use Rattle.master_step.specs.Ascents.{ArePrices}
 use Rattle.master_step.proofs.Looking.{lists-allowed}
 use Rattle.master_step.proofs.Trying.{same-le, int_lt-false}
 use Rattle.master_step.proofs.ascending.ascend_from.Goals as goal
@@ -20,31 +20,33 @@ value_of-old-requires-clause-columns c =
 pub returns-then-new-old : goal.returns-then-new-old
 returns-then-new-old c =
     let p = c.args.inst.now in
+    let cuts = c.args.table.now.cuts in
     let ranges = c.args.brief.now.ranges in
     let prices = c.args.from.now in
     let choices : allowed_of (Lists c.as_slice-lists.result) ≡ columns_at c.args.brief.now.columns = lists-allowed c.as_slice-lists.result ∙ ap columns_at c.as_slice-lists.ensures.value in
     let fits : SFits w128 c.value_of-old.result = search rules in
-    let old : IsRestrictedValue p ranges (columns_at c.args.brief.now.columns) prices c.value_of-old.result =
-    subst (λ (cs : Choices). IsRestrictedValue p ranges cs prices c.value_of-old.result) choices c.value_of-old.ensures in
+    let old : IsRestrictedValue p cuts ranges (columns_at c.args.brief.now.columns) prices c.value_of-old.result =
+    subst (λ (cs : Choices). IsRestrictedValue p cuts ranges cs prices c.value_of-old.result) choices c.value_of-old.ensures in
     rw (to_z-of_z w128 c.value_of-old.result fits) (record {
-      are_prices = subst (ArePrices p) (sym c.in_ok-prices-2.ensures) (c.requires.from);
+      are_numbers = subst (AreNumbers p cuts) (sym c.in_ok-prices-2.ensures) (c.requires.from);
       is_old = old;
-      is_new = subst (λ (xs : List ℕ). IsRestrictedValue p ranges (columns_at c.args.brief.now.columns) xs c.value_of-old.result) (sym c.in_ok-prices-2.ensures) old;
+      is_new = subst (λ (xs : List ℕ). IsRestrictedValue p cuts ranges (columns_at c.args.brief.now.columns) xs c.value_of-old.result) (sym c.in_ok-prices-2.ensures) old;
       not_less = same-le c.value_of-old.result c.value_of-old.result refl;
     })
 
 pub returns : goal.returns
 returns c =
     let p = c.args.inst.now in
+    let cuts = c.args.table.now.cuts in
     let ranges = c.args.brief.now.ranges in
     let prices = c.args.from.now in
     let choices : allowed_of (Lists c.as_slice-lists.result) ≡ columns_at c.args.brief.now.columns = lists-allowed c.as_slice-lists.result ∙ ap columns_at c.as_slice-lists.ensures.value in
     let fits : SFits w128 c.value_of-old.result = search rules in
     let new_fits : SFits w128 c.value_of-new.result = search rules in
     rw (to_z-of_z w128 c.value_of-old.result fits, to_z-of_z w128 c.value_of-new.result new_fits) (record {
-      are_prices = c.in_ok-prices.ensures;
-      is_old = subst (λ (cs : Choices). IsRestrictedValue p ranges cs prices c.value_of-old.result) choices c.value_of-old.ensures;
-      is_new = subst (λ (cs : Choices). IsRestrictedValue p ranges cs c.in_ok-prices.prices c.value_of-new.result) choices c.value_of-new.ensures;
+      are_numbers = c.in_ok-prices.ensures;
+      is_old = subst (λ (cs : Choices). IsRestrictedValue p cuts ranges cs prices c.value_of-old.result) choices c.value_of-old.ensures;
+      is_new = subst (λ (cs : Choices). IsRestrictedValue p cuts ranges cs c.in_ok-prices.prices c.value_of-new.result) choices c.value_of-new.ensures;
       not_less =
           (let less = rw (to_z-of_z w128 c.value_of-new.result new_fits, to_z-of_z w128 c.value_of-old.result fits) at c.if-new-old.false in
           int_lt-false c.value_of-new.result c.value_of-old.result less);

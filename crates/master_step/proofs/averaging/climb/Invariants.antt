@@ -1,6 +1,6 @@
-use Rattle.master_step.specs.Ascents.{ArePrices}
+use Rattle.cut_table.specs.Numbers.{AreNumbers}
 use Rattle.master_step.proofs.averaging.climb.Given as goal
 
--- the best prices and those of the turn fit
+-- the best numbers and those of the turn fit
 abbrev pub invariant-loop-turn : goal.invariant-loop-turn
-invariant-loop-turn l = record { best : ArePrices l.inst l.best; trial : ArePrices l.inst l.trial }
+invariant-loop-turn l = record { best : AreNumbers l.inst l.table.cuts l.best; trial : AreNumbers l.inst l.table.cuts l.trial }

@@ -1,5 +1,5 @@
-use Rattle.master_step.specs.Ascents.{ArePrices}
+use Rattle.cut_table.specs.Numbers.{AreNumbers}
 use Rattle.master_step.proofs.averaging.move_prices.Given as goal
 
 abbrev pub invariant-loop-place : goal.invariant-loop-place
-invariant-loop-place l = ArePrices l.inst l.trial
+invariant-loop-place l = AreNumbers l.inst l.table.cuts l.trial

@@ -1,6 +1,4 @@
 use Rattle.std.proofs.Common.{◌≡◌, inl, inr, length, slice_index, arith}
-use Rattle.plan_base.specs.Places.{there_of, back_of}
-use Rattle.link_steps.specs.Values.{ranges_of_link}
 use Rattle.link_steps.proofs.Order.{before_or_last}
 use Rattle.master_step.specs.Trials.{HasValueLoads, AreValueLoads}
 use Rattle.master_step.proofs.PlaceLaws.{values-low}
@@ -9,12 +7,13 @@ use Rattle.master_step.proofs.loads.fill_value_loads.Goals as goal
 pub loop-number-preserved : goal.loop-number-preserved
 loop-number-preserved c =
     let p = c.args.inst.now in
+    let cuts = c.args.table.now.cuts in
     let n = c.loop-number.number in
-    let prices = c.args.prices.now in
+    let numbers = c.args.prices.now in
     let ranges = c.args.ranges.now in
-    let value = rw (c.requires.table, c.of_link-priced.ensures.there, c.of_link-priced.ensures.back, c.of_link-ranged.ensures.value) at c.link_value-found.ensures.value in
-    let loads = rw (c.requires.table, c.of_link-priced.ensures.there, c.of_link-priced.ensures.back, c.of_link-ranged.ensures.value) at c.link_value-found.ensures.loads in
-    let here : HasValueLoads p n (ranges_of_link p ranges n) (there_of p (slice_index prices) n) (back_of p (slice_index prices) n) c.link_value-found.result.load c.link_value-found.result.back =
+    let value = rw (c.requires.table, c.of_link-ranged.ensures.value) at c.link_value-found.ensures.value in
+    let loads = rw (c.requires.table, c.of_link-ranged.ensures.value) at c.link_value-found.ensures.loads in
+    let here : HasValueLoads p cuts ranges numbers n c.link_value-found.result.load c.link_value-found.result.back =
     record { value = c.link_value-found.result.value; is_value = value; are_first = loads } in
     record {
       size = c.put_loads.ensures.size;
@@ -28,6 +27,6 @@ pub returns-clause-within : goal.returns-clause-within
 returns-clause-within c =
     let p = c.args.inst.now in
     let all : c.loop-number.number ≡ length p.links = omega arith in
-    let loads : AreValueLoads p c.args.ranges.now c.args.prices.now (slice_index c.loop-number.loads) =
+    let loads : AreValueLoads p c.args.table.now.cuts c.args.ranges.now c.args.prices.now (slice_index c.loop-number.loads) =
     rw all at c.loop-number.invariant.value in
-    values-low p c.args.ranges.now c.args.prices.now (slice_index c.loop-number.loads) c.requires.are_ranges loads
+    values-low p c.args.table.now.cuts c.args.ranges.now c.args.prices.now (slice_index c.loop-number.loads) c.requires.are_ranges loads

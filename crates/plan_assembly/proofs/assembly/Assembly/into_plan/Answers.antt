@@ -1,6 +1,7 @@
 use Rattle.std.proofs.Common.{◌≡◌, true, length, refl, sym, ap, subst, ◌∙◌}
 use Rattle.plan_base.specs.declared.parts.Parts.{Parts}
 use Rattle.plan_base.specs.Places.{is_two_way}
+use Rattle.cut_table.specs.Numbers.{CutProblem}
 use Rattle.proof_tree.specs.declared.plan.Plan.{Plan}
 use Rattle.proof_tree.specs.Plans.{IsValidPlan}
 use Rattle.plan_assembly.specs.contracts.assembly.Assembly.{the_view}
@@ -43,17 +44,17 @@ returns c =
       examined = c.self.inside.examined;
       design = c.design_of.result;
       bound = c.in_ok-bound.bound;
-      cuts = c.new.result;
+      cuts = c.in_ok-cuts.cuts;
       tree = c.in_ok-tree.tree;
     } in
     let is : IsPlanOf s plan =
     made_plan s plan reach
-    (c.nodes.ensures.value ∙ ap (λ (p : Parts). p.nodes) c.deref.ensures)
-    (c.links.ensures.value ∙ ap (λ (p : Parts). length p.links) c.deref-2.ensures)
-    (c.demands.ensures.value ∙ ap (λ (p : Parts). length p.demands) c.deref-3.ensures)
-    (c.is_two_way.ensures ∙ ap is_two_way (c.orient.ensures ∙ ap (λ (p : Parts). p.orient) c.deref-4.ensures))
+    (c.nodes.ensures.value ∙ ap (λ (p : Parts). p.nodes) c.deref-2.ensures)
+    (c.links.ensures.value ∙ ap (λ (p : Parts). length p.links) c.deref-3.ensures)
+    (c.demands.ensures.value ∙ ap (λ (p : Parts). length p.demands) c.deref-4.ensures)
+    (c.is_two_way.ensures ∙ ap is_two_way (c.orient.ensures ∙ ap (λ (p : Parts). p.orient) c.deref-5.ensures))
     (c.status-status.ensures ∙ sym (ap status_of c.self.view_is))
-    refl refl c.design_of.ensures c.new.ensures c.in_ok-tree.ensures
+    refl refl c.design_of.ensures (c.in_ok-cuts.ensures ∙ (c.cuts.ensures.value ∙ ap (λ (t : CutProblem). t.cuts) c.deref.ensures)) c.in_ok-tree.ensures
     (subst (λ (x : State). IsStatedBound x c.status-status.result c.in_ok-bound.bound) (sym c.self.view_is) c.in_ok-bound.ensures) in
     record {
       plan = subst (λ (x : State). IsPlanOf x plan) c.self.view_is is;

@@ -3,7 +3,7 @@ use Rattle.std.proofs.lemmas.Int.{to_z-of_z}
 use mir.Syntax.{w128}
 use mir.Val.{SFits, to_z, of_z}
 use Rattle.plan_base.specs.declared.parts.Parts.{Parts}
-use Rattle.path_pricing.specs.Priced.{ArePrices}
+use Rattle.cut_table.specs.Numbers.{CutProblem, AreNumbers}
 use Rattle.link_steps.specs.Ranges.{AreRanges}
 use Rattle.pool_nodes.specs.Grounds.{Kept}
 use Rattle.plan_assembly.specs.contracts.assembly.Assembly.{the_view}
@@ -23,13 +23,14 @@ returns-in-Some-bound c =
     c.in-Some.plot.now (read-ground _ c.plot.result c.in-Some.plot c.index.result.now c.plot.ensures c.in-Some.is)
     c.in-Some-bound.bound (sym c.bound.ensures ∙ c.in-Some-bound.is)))
 
-pub bound_at-requires-clause-prices : goal.bound_at-requires-clause-prices
-bound_at-requires-clause-prices c =
+pub bound_at-requires-clause-numbers : goal.bound_at-requires-clause-numbers
+bound_at-requires-clause-numbers c =
     let within : c.args.number < length (the_view c.self.inside).nodes = subst (λ (x : State). c.args.number < length x.nodes) (sym c.self.view_is) c.requires in
-    subst (λ (p : Parts). ArePrices p c.first_prices.result.now) (sym c.deref.ensures)
-    (subst (λ (ps : List ℕ). ArePrices (the_view c.self.inside).problem ps) (sym c.first_prices.ensures)
+    subst (λ (p : Parts). AreNumbers p c.deref-2.result.now.cuts c.first_prices.result.now) (sym c.deref.ensures)
+    (subst (λ (t : CutProblem). AreNumbers (the_view c.self.inside).problem t.cuts c.first_prices.result.now) (sym c.deref-2.ensures)
+    (subst (λ (ps : List ℕ). AreNumbers (the_view c.self.inside).problem (the_view c.self.inside).cuts ps) (sym c.first_prices.ensures)
     (read-first (the_view c.self.inside) c.self.invariant.reachable c.self.inside.grounds.items c.self.invariant.has_grounds c.args.number within
-    c.index.result.now c.index.ensures c.index-leaf.result.now c.index-leaf.ensures))
+    c.index.result.now c.index.ensures c.index-leaf.result.now c.index-leaf.ensures)))
 
 pub bound_at-requires-clause-ranges : goal.bound_at-requires-clause-ranges
 bound_at-requires-clause-ranges c =
@@ -44,14 +45,15 @@ pub returns : goal.returns
 returns c =
     let within : c.args.number < length (the_view c.self.inside).nodes = subst (λ (x : State). c.args.number < length x.nodes) (sym c.self.view_is) c.requires in
     let kept : Kept = record { rows = c.deref-3.result.now; ranges = c.deref-4.result.now } in
-    if_ok-more (IsBoundOrNone c.deref.result.now (region_in kept) c.first_prices.result.now) (IsLeafBoundOrNone c.args.self.now c.args.number) c.bound_at.result
+    if_ok-more (IsBoundOrNone c.deref.result.now c.deref-2.result.now.cuts (region_in kept) c.first_prices.result.now) (IsLeafBoundOrNone c.args.self.now c.args.number) c.bound_at.result
     (λ found is. subst (λ (x : State). IsLeafBoundOrNone x c.args.number found) c.self.view_is
     (read-priced (the_view c.self.inside) c.self.invariant.reachable c.self.inside.grounds.items c.self.invariant.has_grounds c.args.number within
     c.index.result.now c.index.ensures c.index-leaf.result.now c.index-leaf.ensures
     c.in-Some.plot.now (read-ground _ c.plot.result c.in-Some.plot c.index.result.now c.plot.ensures c.in-Some.is)
     found (sym c.bound.ensures ∙ c.in_default-bound.is)
-    (subst (λ (p : Parts). IsBoundOrNone p (region_in c.in-Some.plot.now) c.index-leaf.result.now.first_prices found) c.deref.ensures
-    (subst (λ (k : Kept). IsBoundOrNone c.deref.result.now (region_in k) c.index-leaf.result.now.first_prices found)
+    (subst (λ (p : Parts). IsBoundOrNone p (the_view c.self.inside).cuts (region_in c.in-Some.plot.now) c.index-leaf.result.now.first_prices found) c.deref.ensures
+    (subst (λ (t : CutProblem). IsBoundOrNone c.deref.result.now t.cuts (region_in c.in-Some.plot.now) c.index-leaf.result.now.first_prices found) c.deref-2.ensures
+    (subst (λ (k : Kept). IsBoundOrNone c.deref.result.now c.deref-2.result.now.cuts (region_in k) c.index-leaf.result.now.first_prices found)
     (kept-is c.in-Some.plot.now kept (c.deref-3.ensures ∙ c.rows.ensures) (c.deref-4.ensures ∙ c.ranges-2.ensures))
-    (subst (λ (ps : List ℕ). IsBoundOrNone c.deref.result.now (region_in kept) ps found) c.first_prices.ensures is)))))
+    (subst (λ (ps : List ℕ). IsBoundOrNone c.deref.result.now c.deref-2.result.now.cuts (region_in kept) ps found) c.first_prices.ensures is))))))
     c.bound_at.ensures

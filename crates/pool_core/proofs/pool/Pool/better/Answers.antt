@@ -16,6 +16,7 @@ invariant_of-self c = record {
         pool = IsPool-holding s c.self.inside.places.items c.in_ok-cost.cost c.args.design c.self.invariant.kept.pool
             (takes_better s c.args.design c.in_ok-cost.cost good cost cheaper);
         table_is = c.self.invariant.kept.table_is;
+        cuts_are = c.self.invariant.kept.cuts_are;
         has_grounds = c.self.invariant.kept.has_grounds;
       }
       );

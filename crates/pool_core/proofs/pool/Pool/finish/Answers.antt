@@ -10,3 +10,7 @@ returns-clause-problem c =
 pub returns-clause-budget : goal.returns-clause-budget
 returns-clause-budget c =
     (LeadsTo-base c.args.self.now c.remember.new.self (subst (LeadsTo c.args.self.now) (sym c.remember.ensures) c.work_all-worked.ensures.leads)).budget
+
+pub returns-clause-cuts : goal.returns-clause-cuts
+returns-clause-cuts c =
+    (LeadsTo-base c.args.self.now c.remember.new.self (subst (LeadsTo c.args.self.now) (sym c.remember.ensures) c.work_all-worked.ensures.leads)).cuts

@@ -28,8 +28,7 @@ mark_after-requires-clause-gathered c =
 
 pub mark_after-requires-clause-prices : goal.mark_after-requires-clause-prices
 mark_after-requires-clause-prices c =
-    let h : HasFollowing c.args.self.now c.args.node c.args.seen c.args.prices.now = publish_fault-none c.args.self.now c.args.node c.args.seen c.args.prices.now (sym (c.publish_refusal.ensures ∙ ap (λ (s : State). publish_fault s c.args.node c.args.seen c.args.prices.now) c.view.ensures) ∙ c.in_default.is) in
-    record { count = h.may.count; within_limit = h.may.within_limit }
+    (publish_fault-none c.args.self.now c.args.node c.args.seen c.args.prices.now (sym (c.publish_refusal.ensures ∙ ap (λ (s : State). publish_fault s c.args.node c.args.seen c.args.prices.now) c.view.ensures) ∙ c.in_default.is)).may.are_numbers
 
 pub round_at-requires : goal.round_at-requires
 round_at-requires c =
@@ -60,7 +59,7 @@ returns-clause-slot c =
 
 pub returns-clause-count : goal.returns-clause-count
 returns-clause-count c =
-    (publish_fault-none c.args.self.now c.args.node c.args.seen c.args.prices.now (sym (c.publish_refusal.ensures ∙ ap (λ (s : State). publish_fault s c.args.node c.args.seen c.args.prices.now) c.view.ensures) ∙ c.in_default.is)).may.count
+    (publish_fault-none c.args.self.now c.args.node c.args.seen c.args.prices.now (sym (c.publish_refusal.ensures ∙ ap (λ (s : State). publish_fault s c.args.node c.args.seen c.args.prices.now) c.view.ensures) ∙ c.in_default.is)).may.are_numbers.count
 
 pub returns-in-Err-clause-refused : goal.returns-in-Err-clause-refused
 returns-in-Err-clause-refused c =

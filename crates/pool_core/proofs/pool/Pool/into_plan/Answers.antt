@@ -6,5 +6,6 @@ invariant_of-assembly c = record {
   some_budget = c.self.invariant.kept.pool.some_budget;
   budget = c.self.invariant.kept.pool.budget;
   table_is = c.self.invariant.kept.table_is;
+  cuts_are = c.self.invariant.kept.cuts_are;
   has_grounds = c.self.invariant.kept.has_grounds;
 }

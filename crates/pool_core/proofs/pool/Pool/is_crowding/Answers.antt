@@ -1,4 +1,4 @@
-use Rattle.std.proofs.Common.{refl, sym, ap, subst, ◌∙◌}
+use Rattle.std.proofs.Common.{◌≡◌, arith, refl, sym, ap, subst, ◌∙◌}
 use Rattle.plan_base.specs.Places.{places}
 use Rattle.pool_machine.specs.State.{State, round_of}
 use Rattle.pool_machine.specs.Machine.{IsReachable}
@@ -15,11 +15,15 @@ pub are_crowd_prices-requires-clause-count : goal.are_crowd_prices-requires-clau
 are_crowd_prices-requires-clause-count c =
     let sound = IsReachable-sound c.args.self.now (subst IsReachable c.self.view_is c.self.invariant.kept.pool.reachable) in
     let list = read-price_list c.args.self.now c.args.self.now c.args.node c.round_at.result.now c.prices.result.now sound c.requires.gathered refl (c.round_at.ensures ∙ ap (λ (s : State). round_of s c.args.node) c.view.ensures) c.prices.ensures in
-    list.count ∙ ap places (sym (c.deref.ensures ∙ ap (λ (s : State). s.problem) c.self.view_is))
+    let is : places c.deref.result.now ≡ places c.args.self.now.problem = ap places (c.deref.ensures ∙ ap (λ (s : State). s.problem) c.self.view_is) in
+    let count = list.count in
+    omega arith
 
 pub are_crowd_prices-requires-clause-crowd_count : goal.are_crowd_prices-requires-clause-crowd_count
 are_crowd_prices-requires-clause-crowd_count c =
-    c.requires.prices.count ∙ ap places (sym (c.deref.ensures ∙ ap (λ (s : State). s.problem) c.self.view_is))
+    let sound = IsReachable-sound c.args.self.now (subst IsReachable c.self.view_is c.self.invariant.kept.pool.reachable) in
+    let list = read-price_list c.args.self.now c.args.self.now c.args.node c.round_at.result.now c.prices.result.now sound c.requires.gathered refl (c.round_at.ensures ∙ ap (λ (s : State). round_of s c.args.node) c.view.ensures) c.prices.ensures in
+    c.requires.prices.count ∙ sym list.count
 
 pub returns-then-are_crowd_prices-clause-value : goal.returns-then-are_crowd_prices-clause-value
 returns-then-are_crowd_prices-clause-value c =

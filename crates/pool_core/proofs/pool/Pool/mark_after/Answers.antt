@@ -15,7 +15,7 @@ use Rattle.pool_core.proofs.Crowdings.{value-at, greater-follows, crowd-follows,
 use Rattle.std.specs.Prelude.{IsSome}
 use Rattle.pool_machine.specs.Gathering.{columns_for}
 use Rattle.master_step.specs.Restricted.{IsRestrictedValue}
-use Rattle.pool_machine.specs.Nodes.{IsPriceList}
+use Rattle.cut_table.specs.Numbers.{AreNumbers}
 use Rattle.pool_core.proofs.pool.Pool.mark_after.Goals as goal
 
 pub index-requires : goal.index-requires
@@ -40,7 +40,7 @@ pub value-new-requires-clause-gathered : goal.value-new-requires-clause-gathered
 value-new-requires-clause-gathered c = subst (λ (s : State). IsGatheredAt s c.args.node) (sym c.view-view.ensures) c.requires.gathered
 
 pub value-new-requires-clause-prices : goal.value-new-requires-clause-prices
-value-new-requires-clause-prices c = subst (λ (s : State). IsPriceList s.problem c.args.prices.now) (sym c.view-view.ensures) c.requires.prices
+value-new-requires-clause-prices c = subst (λ (s : State). AreNumbers s.problem s.cuts c.args.prices.now) (sym c.view-view.ensures) c.requires.prices
 
 pub returns-then-is_less-clause-follows : goal.returns-then-is_less-clause-follows
 returns-then-is_less-clause-follows c =
@@ -48,7 +48,7 @@ returns-then-is_less-clause-follows c =
     let new_fits : SFits w128 c.value-new.result = search rules in
     greater-follows c.args.self.now c.args.node c.args.prices.now c.value-old.result c.value-new.result c.crowd_tried-tried.result c.is_crowding-crowding.result
     (λ x round is_node is_round. c.crowd_tried-tried.ensures ∙ ap (λ (n : Node). n.crowd_tried) (read-node (the_view c.self.inside) c.args.self.now c.args.node c.index.result.now x c.self.view_is c.index.ensures is_node))
-    (value-at c.args.self.now c.args.node c.round_at.result.now c.prices.result.now c.value-old.result (c.round_at.ensures ∙ ap (λ (s : State). round_of s c.args.node) c.view-view.ensures) c.prices.ensures (subst (λ (s : State). ForRound s c.args.node (λ x round. IsRestrictedValue s.problem (ranges_of s.problem x) (columns_for s x) c.prices.result.now c.value-old.result)) c.view-view.ensures c.value-old.ensures)) (subst (λ (s : State). ForRound s c.args.node (λ x round. IsRestrictedValue s.problem (ranges_of s.problem x) (columns_for s x) c.args.prices.now c.value-new.result)) c.view-view.ensures c.value-new.ensures) c.is_crowding-crowding.ensures.value
+    (value-at c.args.self.now c.args.node c.round_at.result.now c.prices.result.now c.value-old.result (c.round_at.ensures ∙ ap (λ (s : State). round_of s c.args.node) c.view-view.ensures) c.prices.ensures (subst (λ (s : State). ForRound s c.args.node (λ x round. IsRestrictedValue s.problem s.cuts (ranges_of s.problem x) (columns_for s x) c.prices.result.now c.value-old.result)) c.view-view.ensures c.value-old.ensures)) (subst (λ (s : State). ForRound s c.args.node (λ x round. IsRestrictedValue s.problem s.cuts (ranges_of s.problem x) (columns_for s x) c.args.prices.now c.value-new.result)) c.view-view.ensures c.value-new.ensures) c.is_crowding-crowding.ensures.value
     c.either.result (rw (to_z-of_z w128 c.value-old.result old_fits, to_z-of_z w128 c.value-new.result new_fits) at (sym c.if-is_less.ensures)) c.either.ensures
 
 pub returns-then-tried-clause-no_gain : goal.returns-then-tried-clause-no_gain
@@ -58,14 +58,14 @@ returns-then-tried-clause-no_gain c =
     rw (to_z-of_z w128 c.value-old.result old_fits, to_z-of_z w128 c.value-new.result new_fits)
     (tried-no_gain c.args.self.now c.args.node c.args.prices.now c.value-old.result c.value-new.result c.crowd_tried-tried.result c.is_crowding-crowding.result
     (λ x round is_node is_round. c.crowd_tried-tried.ensures ∙ ap (λ (n : Node). n.crowd_tried) (read-node (the_view c.self.inside) c.args.self.now c.args.node c.index.result.now x c.self.view_is c.index.ensures is_node))
-    (value-at c.args.self.now c.args.node c.round_at.result.now c.prices.result.now c.value-old.result (c.round_at.ensures ∙ ap (λ (s : State). round_of s c.args.node) c.view-view.ensures) c.prices.ensures (subst (λ (s : State). ForRound s c.args.node (λ x round. IsRestrictedValue s.problem (ranges_of s.problem x) (columns_for s x) c.prices.result.now c.value-old.result)) c.view-view.ensures c.value-old.ensures)) (subst (λ (s : State). ForRound s c.args.node (λ x round. IsRestrictedValue s.problem (ranges_of s.problem x) (columns_for s x) c.args.prices.now c.value-new.result)) c.view-view.ensures c.value-new.ensures) c.is_crowding-crowding.ensures.value
+    (value-at c.args.self.now c.args.node c.round_at.result.now c.prices.result.now c.value-old.result (c.round_at.ensures ∙ ap (λ (s : State). round_of s c.args.node) c.view-view.ensures) c.prices.ensures (subst (λ (s : State). ForRound s c.args.node (λ x round. IsRestrictedValue s.problem s.cuts (ranges_of s.problem x) (columns_for s x) c.prices.result.now c.value-old.result)) c.view-view.ensures c.value-old.ensures)) (subst (λ (s : State). ForRound s c.args.node (λ x round. IsRestrictedValue s.problem s.cuts (ranges_of s.problem x) (columns_for s x) c.args.prices.now c.value-new.result)) c.view-view.ensures c.value-new.ensures) c.is_crowding-crowding.ensures.value
     (rw (to_z-of_z w128 c.value-old.result old_fits, to_z-of_z w128 c.value-new.result new_fits) at (sym c.if-is_less.ensures)) c.if-tried.true)
 
 pub returns-then-crowding-clause-follows : goal.returns-then-crowding-clause-follows
 returns-then-crowding-clause-follows c =
     crowd-follows c.args.self.now c.args.node c.args.prices.now c.value-old.result c.value-new.result c.crowd_tried-tried.result c.is_crowding-crowding.result
     (λ x round is_node is_round. c.crowd_tried-tried.ensures ∙ ap (λ (n : Node). n.crowd_tried) (read-node (the_view c.self.inside) c.args.self.now c.args.node c.index.result.now x c.self.view_is c.index.ensures is_node))
-    (value-at c.args.self.now c.args.node c.round_at.result.now c.prices.result.now c.value-old.result (c.round_at.ensures ∙ ap (λ (s : State). round_of s c.args.node) c.view-view.ensures) c.prices.ensures (subst (λ (s : State). ForRound s c.args.node (λ x round. IsRestrictedValue s.problem (ranges_of s.problem x) (columns_for s x) c.prices.result.now c.value-old.result)) c.view-view.ensures c.value-old.ensures)) (subst (λ (s : State). ForRound s c.args.node (λ x round. IsRestrictedValue s.problem (ranges_of s.problem x) (columns_for s x) c.args.prices.now c.value-new.result)) c.view-view.ensures c.value-new.ensures) c.is_crowding-crowding.ensures.value
+    (value-at c.args.self.now c.args.node c.round_at.result.now c.prices.result.now c.value-old.result (c.round_at.ensures ∙ ap (λ (s : State). round_of s c.args.node) c.view-view.ensures) c.prices.ensures (subst (λ (s : State). ForRound s c.args.node (λ x round. IsRestrictedValue s.problem s.cuts (ranges_of s.problem x) (columns_for s x) c.prices.result.now c.value-old.result)) c.view-view.ensures c.value-old.ensures)) (subst (λ (s : State). ForRound s c.args.node (λ x round. IsRestrictedValue s.problem s.cuts (ranges_of s.problem x) (columns_for s x) c.args.prices.now c.value-new.result)) c.view-view.ensures c.value-new.ensures) c.is_crowding-crowding.ensures.value
     c.if-tried.false c.if-crowding.true
 
 pub returns-clause-no_gain : goal.returns-clause-no_gain
@@ -75,5 +75,5 @@ returns-clause-no_gain c =
     rw (to_z-of_z w128 c.value-old.result old_fits, to_z-of_z w128 c.value-new.result new_fits)
     (none-no_gain c.args.self.now c.args.node c.args.prices.now c.value-old.result c.value-new.result c.crowd_tried-tried.result c.is_crowding-crowding.result
     (λ x round is_node is_round. c.crowd_tried-tried.ensures ∙ ap (λ (n : Node). n.crowd_tried) (read-node (the_view c.self.inside) c.args.self.now c.args.node c.index.result.now x c.self.view_is c.index.ensures is_node))
-    (value-at c.args.self.now c.args.node c.round_at.result.now c.prices.result.now c.value-old.result (c.round_at.ensures ∙ ap (λ (s : State). round_of s c.args.node) c.view-view.ensures) c.prices.ensures (subst (λ (s : State). ForRound s c.args.node (λ x round. IsRestrictedValue s.problem (ranges_of s.problem x) (columns_for s x) c.prices.result.now c.value-old.result)) c.view-view.ensures c.value-old.ensures)) (subst (λ (s : State). ForRound s c.args.node (λ x round. IsRestrictedValue s.problem (ranges_of s.problem x) (columns_for s x) c.args.prices.now c.value-new.result)) c.view-view.ensures c.value-new.ensures) c.is_crowding-crowding.ensures.value
+    (value-at c.args.self.now c.args.node c.round_at.result.now c.prices.result.now c.value-old.result (c.round_at.ensures ∙ ap (λ (s : State). round_of s c.args.node) c.view-view.ensures) c.prices.ensures (subst (λ (s : State). ForRound s c.args.node (λ x round. IsRestrictedValue s.problem s.cuts (ranges_of s.problem x) (columns_for s x) c.prices.result.now c.value-old.result)) c.view-view.ensures c.value-old.ensures)) (subst (λ (s : State). ForRound s c.args.node (λ x round. IsRestrictedValue s.problem s.cuts (ranges_of s.problem x) (columns_for s x) c.args.prices.now c.value-new.result)) c.view-view.ensures c.value-new.ensures) c.is_crowding-crowding.ensures.value
     (rw (to_z-of_z w128 c.value-old.result old_fits, to_z-of_z w128 c.value-new.result new_fits) at (sym c.if-is_less.ensures)) c.if-crowding.false)

@@ -23,6 +23,7 @@ invariant_of-self c =
             settle-IsPool (the_view c.self.inside) _ c.self.inside.places.items c.args.node c.args.version c.self.invariant.kept.pool
             (settles-written (the_view c.self.inside) c.args.node c.args.version c.index_mut-settled.result.now c.settle.new.self to c.index_mut-settled.ensures.value c.settle.ensures);
         table_is = c.self.invariant.kept.table_is;
+        cuts_are = c.self.invariant.kept.cuts_are;
         has_grounds = HasGrounds-set _ c.self.inside.nodes.items c.self.inside.grounds.items c.args.node.0 c.index_mut-settled.result.now c.settle.new.self
             (to_settle-within (the_view c.self.inside) c.args.node c.args.version to)
             c.index_mut-settled.ensures.value (ap (λ (x : Node). x.limits) c.settle.ensures) (ap (λ (x : Node). x.fate) c.settle.ensures) c.self.invariant.kept.has_grounds;

@@ -1,44 +1,72 @@
-use Rattle.std.proofs.Common.{◌≡◌, length, subst, ◌∙◌}
+use Rattle.std.proofs.Common.{refl, ◌≡◌, ◌+◌, ◌<◌, ◌≤◌, ◌^◌, ℕ, List, length, ap, sym, subst, ◌∙◌, arith}
 use Rattle.std.specs.Arc.{arc_value}
 use Rattle.plan_base.specs.declared.parts.Parts.{Parts}
 use Rattle.plan_base.specs.Facts.{IsInstance}
 use Rattle.plan_base.specs.Places.{places}
-use Rattle.link_steps.specs.Values.{AreStartPrices}
 use Rattle.link_steps.specs.Unit.{IsUnit}
-use Rattle.arc_restrict.specs.Prices.{AreWithinLimit}
+use Rattle.proof_tree.specs.declared.cuts.Cut.{Cut}
+use Rattle.proof_tree.specs.Cuts.{IsCutList}
+use Rattle.cut_table.specs.Numbers.{CutProblem, AreNumbers, AreStartNumbers}
 use Rattle.column_pool.specs.Columns.{no_columns}
+use Rattle.pool_machine.specs.State.{State}
+use Rattle.pool_machine.specs.Machine.{IsOpeningState}
 use Rattle.pool_reading.specs.Views.{AreFreePlaces}
 use Rattle.pool_core.specs.Roots.{HasFreeRoot}
+use Rattle.pool_core.proofs.ReadTables.{of_equal}
 use Rattle.pool_core.proofs.Making.{opening-kept-at, opening-state-at}
 use Rattle.pool_core.proofs.pool.Pool.new.Goals as goal
+
+pub free_places-requires : goal.free_places-requires
+free_places-requires c =
+    let p = arc_value c.args.inst in
+    let same : c.deref.result.now ≡ p = c.deref.ensures in
+    let table : c.in_ok-cut_table.cut_table.problem ≡ p = ap (λ (t : CutProblem). t.problem) c.in_ok-cut_table.ensures ∙ c.deref-2.ensures in
+    let cuts : length c.in_ok-cut_table.cut_table.cuts ≡ length c.args.cuts = ap (λ (t : CutProblem). length t.cuts) c.in_ok-cut_table.ensures in
+    let width : length c.in_ok-prices.prices ≡ places c.in_ok-cut_table.cut_table.problem + length c.in_ok-cut_table.cut_table.cuts = c.in_ok-prices.ensures.start.count in
+    let few = c.requires.cuts.few in
+    let one : places c.in_ok-cut_table.cut_table.problem ≡ places p = ap places table in
+    let most : places p ≤ 2048 = subst (λ (q : Parts). places q ≤ 2048) same (subst (λ (n : ℕ). n ≤ 2048) c.places-places.ensures.value c.places-places.ensures.within) in
+    omega arith
 
 pub invariant_of-result : goal.invariant_of-result
 invariant_of-result c =
     let p = arc_value c.args.inst in
+    let table = arc_value c.in_ok-table.table in
     let prices = c.in_ok-prices.prices in
-    let lawful : IsInstance p = subst IsInstance c.deref.ensures c.lawful.ensures in
+    let lawful : IsInstance p = subst IsInstance c.deref.ensures c.places-places.ensures.lawful in
     let is_unit : IsUnit p c.cost_unit-unit.result = subst (λ (q : Parts). IsUnit q c.cost_unit-unit.result) c.deref-5.ensures c.cost_unit-unit.ensures in
-    let start : AreStartPrices p prices = subst (λ (q : Parts). AreStartPrices q prices) (c.deref-2.ensures ∙ c.requires.table) c.in_ok-prices.ensures.value in
-    let within : AreWithinLimit p prices = subst (λ (q : Parts). AreWithinLimit q prices) (c.deref-2.ensures ∙ c.requires.table) c.in_ok-prices.ensures.within in
+    let is_p : c.in_ok-cut_table.cut_table.problem ≡ p = ap (λ (t : CutProblem). t.problem) c.in_ok-cut_table.ensures ∙ c.deref-2.ensures in
+    let same : c.in_ok-cut_table.cut_table ≡ table = sym c.in_ok-table.ensures.ok in
+    let cuts : c.args.cuts ≡ table.cuts = sym (ap (λ (t : CutProblem). t.cuts) c.in_ok-cut_table.ensures) ∙ ap (λ (t : CutProblem). t.cuts) same in
+    let are_cuts : IsCutList p table.cuts = subst (IsCutList p) cuts c.requires.cuts in
+    let start : AreStartNumbers p table.cuts prices = of_equal (λ q xs. AreStartNumbers q xs prices) _ _ _ _ is_p (ap (λ (t : CutProblem). t.cuts) same) c.in_ok-prices.ensures.start in
+    let numbers : AreNumbers p table.cuts prices = of_equal (λ q xs. AreNumbers q xs prices) _ _ _ _ is_p (ap (λ (t : CutProblem). t.cuts) same) c.in_ok-prices.ensures.numbers in
     let columns : c.in_ok-columns.columns ≡ no_columns p = subst (λ (q : Parts). c.in_ok-columns.columns ≡ no_columns q) c.deref-6.ensures c.in_ok-columns.ensures in
     record {
       kept =
-          opening-kept-at p c.cost_unit-unit.result c.args.budget prices lawful is_unit start within (arc_value c.args.table) c.in_ok-nodes.nodes.items c.in_ok-columns.columns c.in_ok-grounds.grounds.items c.in_ok-places.places.items
-          c.requires.some_budget c.requires.budget c.requires.table
-          (subst (λ (q : Parts). AreFreePlaces 64 (length q.demands) (places q) c.in_ok-places.places.items) c.deref-3.ensures c.in_ok-places.ensures)
+          opening-kept-at p table.cuts c.cost_unit-unit.result c.args.budget prices lawful are_cuts is_unit start numbers table c.in_ok-nodes.nodes.items c.in_ok-columns.columns c.in_ok-grounds.grounds.items c.in_ok-places.places.items
+          c.requires.some_budget c.requires.budget (ap (λ (t : CutProblem). t.problem) (sym same) ∙ is_p) refl
+          (subst (λ (n : ℕ). AreFreePlaces 64 (length p.demands) n c.in_ok-places.places.items) start.count
+          (subst (λ (q : Parts). AreFreePlaces 64 (length q.demands) (length prices) c.in_ok-places.places.items) c.deref-3.ensures c.in_ok-places.ensures))
           (subst (λ (q : Parts). HasFreeRoot q c.in_ok-grounds.grounds.items) c.deref-4.ensures c.in_ok-grounds.ensures)
           c.in_ok-nodes.ensures
           columns;
-      room_is = subst (λ (q : Parts). c.in_ok-room.room ≡ places q) c.deref-7.ensures c.in_ok-room.ensures;
+      room_is = of_equal (λ q xs. c.in_ok-room.room ≡ places q + length xs) _ _ _ _ c.deref-7.ensures (ap (λ (t : CutProblem). t.cuts) same) c.in_ok-room.ensures;
     }
 
 pub returns : goal.returns
 returns c =
     let p = arc_value c.args.inst in
     let prices = c.in_ok-prices.prices in
-    let lawful : IsInstance p = subst IsInstance c.deref.ensures c.lawful.ensures in
+    let lawful : IsInstance p = subst IsInstance c.deref.ensures c.places-places.ensures.lawful in
     let is_unit : IsUnit p c.cost_unit-unit.result = subst (λ (q : Parts). IsUnit q c.cost_unit-unit.result) c.deref-5.ensures c.cost_unit-unit.ensures in
-    let start : AreStartPrices p prices = subst (λ (q : Parts). AreStartPrices q prices) (c.deref-2.ensures ∙ c.requires.table) c.in_ok-prices.ensures.value in
-    let within : AreWithinLimit p prices = subst (λ (q : Parts). AreWithinLimit q prices) (c.deref-2.ensures ∙ c.requires.table) c.in_ok-prices.ensures.within in
+    let is_p : c.in_ok-cut_table.cut_table.problem ≡ p = ap (λ (t : CutProblem). t.problem) c.in_ok-cut_table.ensures ∙ c.deref-2.ensures in
+    let is_cuts : c.in_ok-cut_table.cut_table.cuts ≡ c.args.cuts = ap (λ (t : CutProblem). t.cuts) c.in_ok-cut_table.ensures in
+    let start : AreStartNumbers p c.args.cuts prices = of_equal (λ q xs. AreStartNumbers q xs prices) _ _ _ _ is_p is_cuts c.in_ok-prices.ensures.start in
+    let numbers : AreNumbers p c.args.cuts prices = of_equal (λ q xs. AreNumbers q xs prices) _ _ _ _ is_p is_cuts c.in_ok-prices.ensures.numbers in
     let columns : c.in_ok-columns.columns ≡ no_columns p = subst (λ (q : Parts). c.in_ok-columns.columns ≡ no_columns q) c.deref-6.ensures c.in_ok-columns.ensures in
-    record { opening = opening-state-at p c.cost_unit-unit.result c.args.budget prices lawful is_unit start within c.in_ok-nodes.nodes.items c.in_ok-columns.columns c.in_ok-nodes.ensures columns }
+    let held : (arc_value c.in_ok-table.table).cuts ≡ c.args.cuts = ap (λ (t : CutProblem). t.cuts) (c.in_ok-table.ensures.ok ∙ c.in_ok-cut_table.ensures) in
+    record {
+      opening = opening-state-at p c.args.cuts c.cost_unit-unit.result c.args.budget prices lawful c.requires.cuts is_unit start numbers (arc_value c.in_ok-table.table).cuts
+          c.in_ok-nodes.nodes.items c.in_ok-columns.columns held c.in_ok-nodes.ensures columns;
+    }

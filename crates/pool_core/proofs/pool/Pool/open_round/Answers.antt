@@ -3,13 +3,13 @@ use Rattle.pool_nodes.specs.declared.slot.Slot.TheVariants.{Free}
 use Rattle.std.proofs.Common.{◌≡◌, ◌<◌, ◌+◌, ◌≤◌, List, None, length, rules, add-one, sym, subst, ◌∙◌, ap}
 use Rattle.std.specs.Prelude.{IfSome}
 use Rattle.std.proofs.lemmas.Option.{slice_get_within}
-use Rattle.plan_base.specs.declared.parts.Parts.{Parts}
 use Rattle.pool_core.specs.contracts.pool.Pool.{the_view}
 use Rattle.pool_machine.specs.State.{State}
 use Rattle.pool_machine.specs.Opening.{open_fault, Opens}
 use Rattle.pool_machine.specs.Changes.{TakesRound, with_node}
 use Rattle.pool_nodes.specs.Rounds.{MayComplete}
 use Rattle.pool_nodes.specs.Slots.{IsFirstFree}
+use Rattle.pool_core.proofs.ReadTables.{as_read, as_kept}
 use Rattle.pool_core.proofs.KeptRanges.{leaf-within, leaf-some, leaf-ranges}
 use Rattle.pool_core.proofs.OpenPool.{MayOpen, open_fault-none, some_free, read-free, place-fits, version-small, slot-within, begun-limits, begun-ready, begun-takes, opens, opened-kept}
 use Rattle.pool_core.proofs.pool.Pool.open_round.Goals as goal
@@ -67,7 +67,7 @@ pub complete-requires-clause-ready : goal.complete-requires-clause-ready
 complete-requires-clause-ready c =
     let may : MayOpen (the_view c.self.inside) c.args.node = open_fault-none (the_view c.self.inside) c.args.node (subst (λ (s : State). open_fault s c.args.node ≡ None) (sym c.self.view_is) (sym (c.open_refusal.ensures ∙ ap (λ (s : State). open_fault s c.args.node) c.view.ensures) ∙ c.in_default.is)) in
     let first : IsFirstFree c.self.inside.places.items c.first_free-slot.result = subst (λ (xs : List Slot). IsFirstFree xs c.first_free-slot.result) c.as_slice.ensures.value c.first_free-slot.ensures in
-    subst (λ (p : Parts). MayComplete p c.begin.new.self) (sym c.deref.ensures)
+    as_read (λ p cuts. MayComplete p cuts c.begin.new.self) _ _ _ _ c.deref.ensures c.deref-2.ensures
     (begun-ready (the_view c.self.inside) c.self.inside.places.items c.args.node c.first_free-slot.result c.self.invariant.kept.pool may first c.index_mut-opened.result.now c.in-Free.place c.index_mut-free.result.now c.index_mut-opened.ensures.value c.index_mut-free.ensures.value (sym c.replace.ensures.value ∙ c.in-Free.is) c.begin.new.self c.begin.ensures)
 
 pub overflow_add-self : goal.overflow_add-self
@@ -90,7 +90,7 @@ invariant_of-self c = record {
       let may : MayOpen (the_view c.self.inside) c.args.node = open_fault-none (the_view c.self.inside) c.args.node (subst (λ (s : State). open_fault s c.args.node ≡ None) (sym c.self.view_is) (sym (c.open_refusal.ensures ∙ ap (λ (s : State). open_fault s c.args.node) c.view.ensures) ∙ c.in_default.is)) in
       let first : IsFirstFree c.self.inside.places.items c.first_free-slot.result = subst (λ (xs : List Slot). IsFirstFree xs c.first_free-slot.result) c.as_slice.ensures.value c.first_free-slot.ensures in
       let takes = begun-takes (the_view c.self.inside) c.self.inside.places.items c.args.node c.first_free-slot.result c.self.invariant.kept.pool may first c.index_mut-opened.result.now c.in-Free.place c.index_mut-free.result.now c.index_mut-opened.ensures.value c.index_mut-free.ensures.value (sym c.replace.ensures.value ∙ c.in-Free.is) c.begin.new.self c.begin.ensures c.complete.new.self
-      (subst (λ (p : Parts). IfSome c.begin.new.self.round (λ r. TakesRound p c.begin.new.self r c.complete.new.self)) c.deref.ensures c.complete.ensures) in
+      (as_kept (λ p cuts. IfSome c.begin.new.self.round (λ r. TakesRound p cuts c.begin.new.self r c.complete.new.self)) _ _ _ _ c.deref.ensures c.deref-2.ensures c.complete.ensures) in
       opened-kept (the_view c.self.inside) c.self.inside.places.items c.args.node c.first_free-slot.result c.self.invariant.kept.pool may first c.complete.new.self takes (c.self.inside.next_version + 1) (add-one c.self.inside.next_version) _ c.self.inside.grounds.items
       c.index_mut-opened.result.now c.replace.new.dest c.index_mut-opened.ensures.value c.replace.ensures.after c.self.invariant.kept
       );
@@ -102,7 +102,7 @@ returns c =
     let may : MayOpen (the_view c.self.inside) c.args.node = open_fault-none (the_view c.self.inside) c.args.node (subst (λ (s : State). open_fault s c.args.node ≡ None) (sym c.self.view_is) (sym (c.open_refusal.ensures ∙ ap (λ (s : State). open_fault s c.args.node) c.view.ensures) ∙ c.in_default.is)) in
     let first : IsFirstFree c.self.inside.places.items c.first_free-slot.result = subst (λ (xs : List Slot). IsFirstFree xs c.first_free-slot.result) c.as_slice.ensures.value c.first_free-slot.ensures in
     let takes = begun-takes (the_view c.self.inside) c.self.inside.places.items c.args.node c.first_free-slot.result c.self.invariant.kept.pool may first c.index_mut-opened.result.now c.in-Free.place c.index_mut-free.result.now c.index_mut-opened.ensures.value c.index_mut-free.ensures.value (sym c.replace.ensures.value ∙ c.in-Free.is) c.begin.new.self c.begin.ensures c.complete.new.self
-    (subst (λ (p : Parts). IfSome c.begin.new.self.round (λ r. TakesRound p c.begin.new.self r c.complete.new.self)) c.deref.ensures c.complete.ensures) in
+    (as_kept (λ p cuts. IfSome c.begin.new.self.round (λ r. TakesRound p cuts c.begin.new.self r c.complete.new.self)) _ _ _ _ c.deref.ensures c.deref-2.ensures c.complete.ensures) in
     record {
       event = subst (λ (s : State). Opens s c.args.node (record { slot = c.first_free-slot.result; version = c.self.inside.next_version }) (record (the_view c.self.inside) { nodes = (with_node (the_view c.self.inside) c.args.node c.complete.new.self).nodes; next_version = c.self.inside.next_version + 1 })) c.self.view_is
           (opens (the_view c.self.inside) c.self.inside.places.items c.args.node c.first_free-slot.result c.self.invariant.kept.pool may first c.complete.new.self takes (c.self.inside.next_version + 1) (add-one c.self.inside.next_version));

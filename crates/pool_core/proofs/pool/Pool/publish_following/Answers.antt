@@ -1,13 +1,13 @@
 use Rattle.std.proofs.Common.{ℕ, ◌<◌, ◌+◌, ◌≤◌, length, rules, add-one, sym, subst}
 use Rattle.std.specs.Prelude.{IfSome}
 use Rattle.std.specs.Arc.{arc_value}
-use Rattle.plan_base.specs.declared.parts.Parts.{Parts}
 use Rattle.pool_core.specs.contracts.pool.Pool.{the_view}
 use Rattle.pool_machine.specs.State.{State}
 use Rattle.pool_machine.specs.Changes.{TakesRound, with_node}
 use Rattle.pool_machine.specs.Publishing.{Publishes}
 use Rattle.pool_nodes.specs.Rounds.{MayComplete}
 use Rattle.pool_core.specs.Foretold.{IsFollowing}
+use Rattle.pool_core.proofs.ReadTables.{as_read, as_kept}
 use Rattle.pool_core.proofs.KeptRanges.{leaf-within, leaf-some, leaf-ranges}
 use Rattle.pool_core.proofs.Renewing.{to_publish-of, renew-within, renew-small, renew-fits, renew-undone, renewed-limits, renewed-ready, renewed-takes, publishes, renewed-kept}
 use Rattle.pool_core.proofs.pool.Pool.publish_following.Goals as goal
@@ -59,7 +59,7 @@ complete-requires-clause-ready c =
     let s = the_view c.self.inside in
     let next : IsFollowing s c.args.node c.args.seen c.args.prices.now c.args.next = subst (λ (x : State). IsFollowing x c.args.node c.args.seen c.args.prices.now c.args.next) (sym c.self.view_is) c.requires in
     let to = to_publish-of s c.args.node c.args.seen c.args.prices.now c.args.next next in
-    subst (λ (p : Parts). MayComplete p c.renew.new.self) (sym c.deref.ensures)
+    as_read (λ p cuts. MayComplete p cuts c.renew.new.self) _ _ _ _ c.deref.ensures c.deref-2.ensures
     (renewed-ready s c.self.inside.places.items c.args.node c.args.seen c.args.prices.now c.args.next.crowd_tried c.self.invariant.kept.pool to c.index_mut-renewed.result.now c.index_mut-renewed.ensures.value c.renew.new.self c.renew.ensures)
 
 pub overflow_add-self : goal.overflow_add-self
@@ -76,7 +76,7 @@ invariant_of-self c =
     let next : IsFollowing s c.args.node c.args.seen c.args.prices.now c.args.next = subst (λ (x : State). IsFollowing x c.args.node c.args.seen c.args.prices.now c.args.next) (sym c.self.view_is) c.requires in
     let to = to_publish-of s c.args.node c.args.seen c.args.prices.now c.args.next next in
     let takes = renewed-takes s c.self.inside.places.items c.args.node c.args.seen c.args.prices.now c.args.next.crowd_tried c.self.invariant.kept.pool to c.index_mut-renewed.result.now c.index_mut-renewed.ensures.value c.renew.new.self c.renew.ensures c.complete.new.self
-    (subst (λ (p : Parts). IfSome c.renew.new.self.round (λ r. TakesRound p c.renew.new.self r c.complete.new.self)) c.deref.ensures c.complete.ensures) in
+    (as_kept (λ p cuts. IfSome c.renew.new.self.round (λ r. TakesRound p cuts c.renew.new.self r c.complete.new.self)) _ _ _ _ c.deref.ensures c.deref-2.ensures c.complete.ensures) in
     record {
       kept = renewed-kept s c.self.inside.places.items c.args.node c.args.seen c.args.prices.now c.args.next.crowd_tried c.self.invariant.kept.pool to c.complete.new.self takes (c.self.inside.next_version + 1) (add-one c.self.inside.next_version) (arc_value c.self.inside.table) c.self.inside.grounds.items
           c.index_mut-renewed.result.now c.index_mut-renewed.ensures.value c.self.invariant.kept;
@@ -89,7 +89,7 @@ returns c =
     let next : IsFollowing s c.args.node c.args.seen c.args.prices.now c.args.next = subst (λ (x : State). IsFollowing x c.args.node c.args.seen c.args.prices.now c.args.next) (sym c.self.view_is) c.requires in
     let to = to_publish-of s c.args.node c.args.seen c.args.prices.now c.args.next next in
     let takes = renewed-takes s c.self.inside.places.items c.args.node c.args.seen c.args.prices.now c.args.next.crowd_tried c.self.invariant.kept.pool to c.index_mut-renewed.result.now c.index_mut-renewed.ensures.value c.renew.new.self c.renew.ensures c.complete.new.self
-    (subst (λ (p : Parts). IfSome c.renew.new.self.round (λ r. TakesRound p c.renew.new.self r c.complete.new.self)) c.deref.ensures c.complete.ensures) in
+    (as_kept (λ p cuts. IfSome c.renew.new.self.round (λ r. TakesRound p cuts c.renew.new.self r c.complete.new.self)) _ _ _ _ c.deref.ensures c.deref-2.ensures c.complete.ensures) in
     let event : Publishes s c.args.node c.args.seen c.args.prices.now c.args.next.slot c.args.next.version (record s { nodes = (with_node s c.args.node c.complete.new.self).nodes; next_version = c.self.inside.next_version + 1 }) =
     subst (λ (version : ℕ). Publishes s c.args.node c.args.seen c.args.prices.now c.args.next.slot version (record s { nodes = (with_node s c.args.node c.complete.new.self).nodes; next_version = c.self.inside.next_version + 1 })) (sym next.version_is)
     (publishes s c.self.inside.places.items c.args.node c.args.seen c.args.prices.now c.args.next.crowd_tried c.self.invariant.kept.pool to c.complete.new.self takes (c.self.inside.next_version + 1) (add-one c.self.inside.next_version) c.args.next.slot next.slot_is) in

@@ -10,6 +10,7 @@ use Rattle.pool_machine.specs.Changes.{TakesRound, with_node}
 use Rattle.pool_machine.specs.Nodes.{IsSoundNode}
 use Rattle.pool_machine.specs.Soundness.{IsSound}
 use Rattle.pool_machine.proofs.Runs.{IsReachable-sound}
+use Rattle.pool_core.proofs.ReadTables.{as_read, as_kept}
 use Rattle.pool_core.proofs.KeptRanges.{leaf-within, leaf-some, leaf-ranges}
 use Rattle.pool_core.proofs.OfferPool.{MayOffer, offer_fault-none, put-limits, offer-undone, put-sound, takes-cut, cut-kept, put-round, accepts, accepted-kept, accepted-small}
 use Rattle.pool_core.proofs.pool.Pool.take.Goals as goal
@@ -74,7 +75,7 @@ put-left-requires-clause-sound c =
     let s = the_view c.self.inside in
     let sound : IsSound s = IsReachable-sound s c.self.invariant.kept.pool.reachable in
     let may : MayOffer s c.args.offer = offer_fault-none s c.args.offer sound (subst (λ (s : State). offer_fault s c.args.offer ≡ None) (sym c.self.view_is) c.requires) in
-    subst (λ (p : Parts). IsSoundNode p c.index_mut-priced.result.now) (sym c.deref.ensures) (put-sound s c.args.offer may c.index_mut-priced.result.now c.index_mut-priced.ensures.value sound)
+    as_read (λ p cuts. IsSoundNode p cuts c.index_mut-priced.result.now) _ _ _ _ c.deref.ensures c.deref-in-Path.ensures (put-sound s c.args.offer may c.index_mut-priced.result.now c.index_mut-priced.ensures.value sound)
 
 pub put-left-requires-clause-round : goal.put-left-requires-clause-round
 put-left-requires-clause-round c =
@@ -90,8 +91,8 @@ overflow_add-self c =
     let s = the_view c.self.inside in
     let sound : IsSound s = IsReachable-sound s c.self.invariant.kept.pool.reachable in
     let may : MayOffer s c.args.offer = offer_fault-none s c.args.offer sound (subst (λ (s : State). offer_fault s c.args.offer ≡ None) (sym c.self.view_is) c.requires) in
-    let takes = subst (λ (p : Parts). IfSome c.index_mut-priced.result.now.round (λ round. TakesRound p c.index_mut-priced.result.now (with_found round c.args.offer.demand.0 (record { path = c.in-Path.path; price = c.in-Path.length })) c.put-left.new.self))
-    c.deref.ensures c.put-left.ensures.takes in
+    let takes = as_kept (λ p cuts. IfSome c.index_mut-priced.result.now.round (λ round. TakesRound p cuts c.index_mut-priced.result.now (with_found round c.args.offer.demand.0 (record { path = c.in-Path.path; price = c.in-Path.length })) c.put-left.new.self)) _ _ _ _
+    c.deref.ensures c.deref-in-Path.ensures c.put-left.ensures.takes in
     let small : c.self.inside.accepted + 1 < 2 ^ 64 = accepted-small s c.args.offer may c.index_mut-priced.result.now c.index_mut-priced.ensures.value (record { path = c.in-Path.path; price = c.in-Path.length }) _ c.in-Path.is c.put-left.result (c.self.inside.accepted + 1) c.put-left.new.self c.put-left.ensures.left takes (add-one c.self.inside.accepted) c.self.inside.places.items c.self.invariant.kept.pool in
     search rules
 
@@ -101,8 +102,8 @@ invariant_of-self-in-Path c = record {
       let s = the_view c.self.inside in
       let sound : IsSound s = IsReachable-sound s c.self.invariant.kept.pool.reachable in
       let may : MayOffer s c.args.offer = offer_fault-none s c.args.offer sound (subst (λ (s : State). offer_fault s c.args.offer ≡ None) (sym c.self.view_is) c.requires) in
-      let takes = subst (λ (p : Parts). IfSome c.index_mut-priced.result.now.round (λ round. TakesRound p c.index_mut-priced.result.now (with_found round c.args.offer.demand.0 (record { path = c.in-Path.path; price = c.in-Path.length })) c.put-left.new.self))
-      c.deref.ensures c.put-left.ensures.takes in
+      let takes = as_kept (λ p cuts. IfSome c.index_mut-priced.result.now.round (λ round. TakesRound p cuts c.index_mut-priced.result.now (with_found round c.args.offer.demand.0 (record { path = c.in-Path.path; price = c.in-Path.length })) c.put-left.new.self)) _ _ _ _
+      c.deref.ensures c.deref-in-Path.ensures c.put-left.ensures.takes in
       accepted-kept s c.args.offer may c.index_mut-priced.result.now c.index_mut-priced.ensures.value (record { path = c.in-Path.path; price = c.in-Path.length }) _ c.in-Path.is c.put-left.result (c.self.inside.accepted + 1) c.put-left.new.self c.put-left.ensures.left takes (add-one c.self.inside.accepted) _ c.self.inside.grounds.items c.self.inside.places.items c.self.invariant.kept
       );
   room_is = c.self.invariant.room_is;
@@ -113,8 +114,8 @@ returns-in-Path c =
     let s = the_view c.self.inside in
     let sound : IsSound s = IsReachable-sound s c.self.invariant.kept.pool.reachable in
     let may : MayOffer s c.args.offer = offer_fault-none s c.args.offer sound (subst (λ (s : State). offer_fault s c.args.offer ≡ None) (sym c.self.view_is) c.requires) in
-    let takes = subst (λ (p : Parts). IfSome c.index_mut-priced.result.now.round (λ round. TakesRound p c.index_mut-priced.result.now (with_found round c.args.offer.demand.0 (record { path = c.in-Path.path; price = c.in-Path.length })) c.put-left.new.self))
-    c.deref.ensures c.put-left.ensures.takes in
+    let takes = as_kept (λ p cuts. IfSome c.index_mut-priced.result.now.round (λ round. TakesRound p cuts c.index_mut-priced.result.now (with_found round c.args.offer.demand.0 (record { path = c.in-Path.path; price = c.in-Path.length })) c.put-left.new.self)) _ _ _ _
+    c.deref.ensures c.deref-in-Path.ensures c.put-left.ensures.takes in
     record {
       event = subst (λ (s : State). Accepts s c.args.offer c.put-left.result (record (the_view c.self.inside) { nodes = (with_node (the_view c.self.inside) c.args.offer.node c.put-left.new.self).nodes; accepted = c.self.inside.accepted + 1 })) c.self.view_is
           (accepts s c.args.offer may c.index_mut-priced.result.now c.index_mut-priced.ensures.value (record { path = c.in-Path.path; price = c.in-Path.length }) _ c.in-Path.is c.put-left.result (c.self.inside.accepted + 1) c.put-left.new.self c.put-left.ensures.left takes (add-one c.self.inside.accepted));

@@ -1,7 +1,6 @@
 use Rattle.std.proofs.Common.{length}
-use Rattle.plan_base.specs.Places.{places}
 use Rattle.pool_reading.specs.Views.{AreFreePlaces}
 use Rattle.pool_core.proofs.pool.making.free_places.Given as goal
 
 abbrev pub invariant-loop-slot : goal.invariant-loop-slot
-invariant-loop-slot l = AreFreePlaces l.slot (length l.inst.demands) (places l.inst) l.slots.items
+invariant-loop-slot l = AreFreePlaces l.slot (length l.inst.demands) (length l.prices) l.slots.items

@@ -1,4 +1,4 @@
-use Rattle.std.proofs.Common.{◌≡◌, length, Some, slice_get, refl, ap, ◌∙◌}
+use Rattle.std.proofs.Common.{◌≡◌, ◌+◌, length, Some, slice_get, refl, ap, ◌∙◌}
 use Rattle.std.proofs.lemmas.Option.{slice_get_read}
 use Rattle.plan_base.specs.Places.{places}
 use Rattle.pool_reading.specs.Shown.{shown}
@@ -14,4 +14,4 @@ returns-clause-count c =
     let is_node : slice_get s.nodes c.args.node.0 ≡ Some c.in_ok-get.field-0.now =
     slice_get_read s.nodes (length s.nodes) c.args.node.0 c.in_ok-get.field-0.now refl look.3.0 look.1 in
     let sound = node_at s c.args.node.0 c.in_ok-get.field-0.now (IsReachable-sound s c.self.invariant.pool.reachable) is_node in
-    ap length c.first_prices.ensures ∙ (sound.first_prices.count ∙ ap (λ (t : State). places t.problem) c.self.view_is)
+    ap length c.first_prices.ensures ∙ (sound.first_prices.count ∙ ap (λ (t : State). places t.problem + length t.cuts) c.self.view_is)

@@ -1,11 +1,11 @@
-use Rattle.std.proofs.Common.{sym, ap, subst}
+use Rattle.std.proofs.Common.{sym, ap, subst, ◌∙◌}
 use Rattle.plan_base.specs.declared.parts.Parts.{Parts}
 use Rattle.completions.specs.Completions.{ArePaths}
 use Rattle.pool_machine.specs.State.{State}
 use Rattle.pool_reading.proofs.view.PoolView.new_design.Goals as goal
 
 pub new_design-requires-clause-table : goal.new_design-requires-clause-table
-new_design-requires-clause-table c = c.self.invariant.table_is
+new_design-requires-clause-table c = c.steps.ensures ∙ c.self.invariant.table_is
 
 pub new_design-requires-clause-paths : goal.new_design-requires-clause-paths
 new_design-requires-clause-paths c =

@@ -4,4 +4,4 @@ abbrev pub ghosts-take_turns-N-Ledger : goal.ghosts-take_turns-N-Ledger
 ghosts-take_turns-N-Ledger g a = record { name = a.blank.name; parts = a.blank.parts }
 
 abbrev pub ghosts-take_turns-N-Search : goal.ghosts-take_turns-N-Search
-ghosts-take_turns-N-Search g a = record { problem = a.pool.problem; budget = a.pool.budget }
+ghosts-take_turns-N-Search g a = record { problem = a.pool.problem; cuts = a.pool.cuts; budget = a.pool.budget }

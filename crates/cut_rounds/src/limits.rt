@@ -1,0 +1,22 @@
+//! How long cuts are looked for.
+
+/// The most rounds at the whole region.
+pub const MAX_ROUNDS: u32 = 14;
+
+/// The most nodes of the short search behind them.
+pub const MAX_TRIED: u32 = 30;
+
+/// The most cuts that a round finds.
+pub const FOUND_IN_ROUND: u32 = 25;
+
+/// The most cuts that a node of the short search finds.
+pub const FOUND_AT_NODE: u32 = 2;
+
+/// The turns of an ascent whose loads are looked at, at most.
+pub const SEEN_TURNS: u16 = 60;
+
+/// For how many rounds a cut may go without a rate.
+pub const IDLE_ROUNDS: u32 = 2;
+
+/// The rounds end where no cut has had a rate for so many of them.
+pub const FRUITLESS_ROUNDS: u32 = 3;

@@ -1,0 +1,148 @@
+//! The ascent at a region, with the loads that it sees.
+
+ghost use Rattle.std.specs.Prelude.{◌≡◌, ◌↔◌, ◌<◌, length, IfOk, IfSome, IsTrue};
+ghost use Rattle.link_steps.specs.Ranges.{AreRanges};
+ghost use Rattle.column_pool.specs.Columns.{columns_at};
+ghost use Rattle.column_pool.specs.Briefs.{IsBriefFor};
+ghost use Rattle.cut_table.specs.Numbers.{AreNumbers};
+ghost use Rattle.master_step.specs.Columns.{HasColumns};
+ghost use Rattle.master_step.specs.Ascents.{HaveSizes};
+
+use crate::seeker::Ground;
+use column_pool::{Brief, ColumnPool};
+use cut_table::{CutTable, SeenLoads};
+use link_steps::Ranges;
+use master_step::{Averages, ascend_from, averaged};
+use plan_base::{BranchId, DemandId, Instance, Items, Path, Prices};
+use std::alloc::{AllocError, Global};
+
+/// What an ascent has to reach.
+#[derive(Clone, Copy, Debug)]
+pub(crate) struct Aim {
+    /// What a design costs, in cost grains.
+    pub(crate) cost: u128,
+    /// What the costs of all designs are multiples of, in cost grains.
+    pub(crate) unit: u128,
+}
+
+impl Aim {
+    /// The least bound that leaves no cheaper design, in cost grains.
+    pub(crate) fn bound(self) -> i128 {
+        let most = self.cost.saturating_sub(self.unit);
+        i128::try_from(most).unwrap_or(i128::MAX).saturating_add(1)
+    }
+
+    /// The same for a restricted value, in thousandths of a cost grain.
+    fn goal(self) -> i128 {
+        self.bound()
+            .saturating_sub(1)
+            .saturating_mul(1000)
+            .saturating_add(1)
+    }
+}
+
+/// What an ascent comes to.
+#[derive(Debug, Drop)]
+pub(crate) struct Risen {
+    /// Prices and rates whose restricted value is at least that of the ones that it began with.
+    pub(crate) numbers: Prices,
+    pub(crate) averages: Averages,
+}
+
+/// Whether each list has a column.
+fn have_columns(inst: &Instance, columns: &[Items<Path>]) -> bool
+    requires { length columns.now ≡ length inst.now.demands }
+    ensures { IsTrue result → HasColumns inst.now (columns_at columns.now) }
+{
+    for place in 0..inst.demands() {
+        if columns[place as usize].len() == 0 {
+            return false;
+        }
+    }
+    true
+}
+
+/// What an ascent is told: the columns of all demands.
+fn brief_of(
+    ground: Ground<'_>,
+    columns: &ColumnPool,
+    ranges: &Ranges,
+    numbers: &Prices,
+    aim: Aim,
+) -> Result<Brief, AllocError>
+    requires { length columns.now ≡ length ground.inst.now.demands }
+{
+    let mut lists = Vec::new(ground.alloc);
+    for place in 0..ground.inst.demands() {
+        lists.push(columns.permitted(ground.alloc, DemandId(place), ground.none)?)?;
+    }
+    Ok(Brief {
+        node: BranchId(0),
+        version: 0,
+        prices: numbers.copy()?,
+        ranges: ranges.copy()?,
+        columns: Items::from_vec(lists),
+        crowd_tried: false,
+        has_enough: false,
+        incumbent: Some(aim.cost),
+        unit: aim.unit,
+    })
+}
+
+/// The better of two passes of ascent: from what an averaged ascent found, and from the numbers that are held.
+fn passed(
+    alloc: Global,
+    inst: &Instance,
+    table: &CutTable,
+    brief: &Brief,
+    found: &Prices,
+    held: &Prices,
+) -> Result<Prices, AllocError>
+    requires table { table.now.problem ≡ inst.now }
+    requires brief { IsBriefFor inst.now table.now.cuts brief.now.prices brief.now.ranges brief.now.columns }
+    requires columns { HasColumns inst.now (columns_at brief.now.columns) }
+    requires found { AreNumbers inst.now table.now.cuts found.now }
+    requires held { AreNumbers inst.now table.now.cuts held.now }
+{
+    let one = ascend_from(alloc, inst, table, brief, found)?;
+    let other = ascend_from(alloc, inst, table, brief, held)?;
+    Ok(if one.new >= other.new {
+        one.prices
+    } else {
+        other.prices
+    })
+}
+
+/// The ascent from these numbers under ranges, or a pass from those that are held where it is better, and what its averages
+/// come to; the loads that it sees are noted. None where the numbers are not as they have to be, or a demand has no column.
+pub(crate) fn rise(
+    ground: Ground<'_>,
+    table: &CutTable,
+    columns: &ColumnPool,
+    ranges: &Ranges,
+    numbers: &Prices,
+    held: &Prices,
+    aim: Aim,
+    seen: &mut SeenLoads,
+) -> Result<Option<Risen>, AllocError>
+    requires table { table.now.problem ≡ ground.inst.now }
+    requires count { length columns.now ≡ length ground.inst.now.demands }
+    ensures { IfOk result (λ risen. IfSome risen (λ found. HaveSizes ground.entry.inst.now found.averages)) }
+{
+    let alloc = ground.alloc;
+    let inst = ground.inst;
+    let brief = brief_of(ground, columns, ranges, numbers, aim)?;
+    if !brief.fits(inst, table) || !table.are_numbers(held) {
+        return Ok(None);
+    }
+    if !have_columns(inst, brief.columns.as_slice()) {
+        return Ok(None);
+    }
+    seen.clear();
+    let found = averaged(alloc, inst, table, &brief, aim.goal())?;
+    let numbers = passed(alloc, inst, table, &brief, &found.prices, held)?;
+    Ok(Some(Risen {
+        numbers,
+        averages: found.averages,
+    }))
+}

@@ -1,0 +1,152 @@
+//! The search for cuts as a whole.
+
+ghost use Rattle.std.specs.Prelude.{◌≡◌, length, IfOk, OnOk};
+ghost use Rattle.proof_tree.specs.Cuts.{IsCutList};
+
+use crate::bounding::bound_at;
+use crate::designs::laid_cost;
+use crate::limits::{MAX_ROUNDS, MAX_TRIED, SEEN_TURNS};
+use crate::lists::{copy_of, tested};
+use crate::rising::Aim;
+use crate::rounds::{Standing, go_rounds};
+use crate::trying::try_nodes;
+use arc_restrict::Restriction;
+use column_pool::ColumnPool;
+use cut_search::CutSearch;
+use cut_table::{CutTable, SeenLoads};
+use link_steps::{Ranges, StepTable, cost_unit};
+use plan_base::{DemandId, Instance, Items, Path};
+use proof_tree::Cut;
+use std::alloc::{AllocError, Global};
+
+/// What all parts of the search for cuts look at.
+#[derive(Clone, Copy)]
+pub(crate) struct Ground<'a> {
+    pub(crate) alloc: Global,
+    pub(crate) inst: &'a Instance,
+    pub(crate) search: &'a CutSearch,
+    /// No arc is forbidden.
+    pub(crate) none: &'a Restriction,
+    /// All loads of each place.
+    pub(crate) whole: &'a Ranges,
+}
+
+/// How many rounds and nodes a budget of nodes is worth: what they cost together is less than the nodes.
+fn effort_of(budget: u32) -> (u32, u32) {
+    (MAX_ROUNDS.min(budget / 8), MAX_TRIED.min(budget / 8))
+}
+
+/// The first column of each demand; None where one has none.
+fn first_columns(
+    alloc: Global,
+    inst: &Instance,
+    columns: &ColumnPool,
+) -> Result<Option<Items<Path>>, AllocError>
+    requires { length columns.now ≡ length inst.now.demands }
+{
+    let mut paths = Vec::new(alloc);
+    for place in 0..inst.demands() {
+        let demand = DemandId(place);
+        if columns.count(demand) == 0 {
+            return Ok(None);
+        }
+        paths.push(columns.column(demand, 0).copy()?)?;
+    }
+    Ok(Some(Items::from_vec(paths)))
+}
+
+/// The aim of the ascents: what a design costs that is laid from least paths. None where there is none.
+fn aim_of(
+    ground: Ground<'_>,
+    table: &CutTable,
+    columns: &ColumnPool,
+) -> Result<Option<Aim>, AllocError>
+    requires table { table.now.problem ≡ ground.inst.now }
+    requires count { length columns.now ≡ length ground.inst.now.demands }
+{
+    let Some(paths) = first_columns(ground.alloc, ground.inst, columns)? else {
+        return Ok(None);
+    };
+    let steps = table.steps();
+    match laid_cost(ground.alloc, ground.inst, steps, &paths)? {
+        Some(cost) => Ok(Some(Aim {
+            cost,
+            unit: cost_unit(ground.inst),
+        })),
+        None => Ok(None),
+    }
+}
+
+/// The table with the cuts that are found.
+fn sought(ground: Ground<'_>, table: CutTable, budget: u32) -> Result<CutTable, AllocError>
+    requires table { table.problem ≡ ground.inst.now }
+    ensures { IfOk result (λ table. table.problem ≡ ground.entry.inst.now) }
+{
+    let (rounds, nodes) = effort_of(budget);
+    let mut columns = ColumnPool::new(ground.alloc, ground.inst)?;
+    let mut seen = SeenLoads::new(ground.alloc, ground.inst, SEEN_TURNS)?;
+    let start = table.start_numbers(ground.alloc)?;
+    let found = bound_at(ground, &table, ground.whole, &start, &mut columns)?;
+    let Some(bound) = found else {
+        return Ok(table);
+    };
+    let Some(aim) = aim_of(ground, &table, &columns)? else {
+        return Ok(table);
+    };
+    let mut standing = Standing {
+        best: start.copy()?,
+        numbers: start,
+        bound,
+        idle: Vec::new(ground.alloc),
+        fruitless: 0,
+    };
+    let table = go_rounds(
+        ground,
+        table,
+        rounds,
+        aim,
+        &mut columns,
+        &mut seen,
+        &mut standing,
+    )?;
+    if table.count() == 0 {
+        return Ok(table);
+    }
+    let Standing { best, .. } = standing;
+    try_nodes(ground, table, nodes, aim, &mut columns, &mut seen, best)
+}
+
+/// Cuts for a search, and the step table again.
+///
+/// - Takes: the instance and its step table; how many nodes the search may examine.
+/// - Gives: the step table, and cuts that a plan of the instance may have; none where the budget is small, or rates help
+///   nothing.
+/// - Errors: want of memory alone.
+/// - Rule: docs/METHOD.md, "Where cuts come from".
+/// - Time: that of at most 14 ascents of a search at the whole region, of as many rounds of `CutSearch::extend`, and of the
+///   examination of at most 30 nodes.
+pub fn found_cuts(
+    alloc: Global,
+    inst: &Instance,
+    steps: StepTable,
+    budget: u32,
+) -> Result<(StepTable, Items<Cut>), AllocError>
+    requires { steps ≡ inst.now }
+    ensures steps { IfOk result (λ found. found.0 ≡ inst.now) }
+    ensures cuts { IfOk result (λ found. IsCutList inst.now found.1) }
+{
+    let none = Restriction::none(alloc, inst)?;
+    let whole = Ranges::whole(alloc, inst)?;
+    let search = CutSearch::new(alloc, inst, &steps)?;
+    let table = CutTable::new(alloc, inst, steps, tested(alloc, inst, Vec::new(alloc)))?;
+    let ground = Ground {
+        alloc,
+        inst,
+        search: &search,
+        none: &none,
+        whole: &whole,
+    };
+    let table = sought(ground, table, budget)?;
+    let cuts = tested(alloc, inst, copy_of(alloc, table.cuts())?);
+    Ok((table.into_steps(), cuts))
+}

@@ -1,0 +1,221 @@
+//! The short search behind the rounds: places are divided at loads, and each node finds cuts for those below it.
+
+ghost use Rattle.std.specs.Prelude.{◌≡◌, ◌<◌, length, IfOk, OnOk};
+
+use crate::bounding::bound_at;
+use crate::limits::FOUND_AT_NODE;
+use crate::lists::{copy_of, is_marked, marked, rate_at, table_of, tested, widened};
+use crate::nodes::{Node, next_of};
+use crate::rising::{Aim, rise};
+use crate::seeker::Ground;
+use branch_tree::LoadSplit;
+use column_pool::ColumnPool;
+use cut_table::{CutTable, SeenLoads};
+use leaf_work::load_split;
+use link_steps::{LoadRange, Ranges};
+use plan_base::Prices;
+use std::alloc::AllocError;
+
+/// What an examination of a node leaves.
+#[derive(Drop)]
+struct Examined {
+    /// The numbers of its greater bound, and that bound, in cost grains.
+    numbers: Prices,
+    bound: i128,
+    /// By which loads it is divided.
+    split: Option<LoadSplit>,
+}
+
+/// The greater of the bounds at a node's numbers and at those of an ascent, and where the node is divided. None where there
+/// is no bound.
+fn examine(
+    ground: Ground<'_>,
+    table: &CutTable,
+    aim: Aim,
+    columns: &mut ColumnPool,
+    seen: &mut SeenLoads,
+    node: &Node,
+) -> Result<Option<Examined>, AllocError>
+    requires table { table.now.problem ≡ ground.inst.now }
+    requires count { length columns.old ≡ length ground.inst.now.demands }
+    ensures { OnOk result (length columns.new ≡ length ground.entry.inst.now.demands) }
+{
+    let first = widened(ground.alloc, ground.inst, &node.numbers, table.count())?;
+    let Some(bound) = bound_at(ground, table, &node.ranges, &first, columns)? else {
+        return Ok(None);
+    };
+    let Some(risen) = rise(
+        ground,
+        table,
+        columns,
+        &node.ranges,
+        &first,
+        &first,
+        aim,
+        seen,
+    )?
+    else {
+        return Ok(None);
+    };
+    let Some(further) = bound_at(ground, table, &node.ranges, &risen.numbers, columns)? else {
+        return Ok(None);
+    };
+    if !node.ranges.fits(ground.inst) {
+        return Ok(None);
+    }
+    let split = load_split(ground.inst, table.steps(), &node.ranges, &risen.averages);
+    Ok(Some(if further > bound {
+        Examined {
+            numbers: risen.numbers,
+            bound: further,
+            split,
+        }
+    } else {
+        Examined {
+            numbers: first,
+            bound,
+            split,
+        }
+    }))
+}
+
+/// The ranges of a node with another range of one place.
+fn with_range(node: &Node, place: u32, range: LoadRange) -> Result<Ranges, AllocError>
+    requires { place < length node.now.ranges }
+{
+    let mut ranges = node.ranges.copy()?;
+    ranges.set(place, range);
+    Ok(ranges)
+}
+
+/// Puts the two children of a node in.
+fn put_children(
+    ground: Ground<'_>,
+    node: &Node,
+    examined: &Examined,
+    split: LoadSplit,
+    nodes: &mut Vec<Node>,
+) -> Result<(), AllocError> {
+    if split.place >= ground.inst.places() || !node.ranges.fits(ground.inst) {
+        return Ok(());
+    }
+    let range = node.ranges.at(split.place);
+    let left = LoadRange {
+        least: range.least,
+        most: split.load,
+    };
+    let right = LoadRange {
+        least: split.load.saturating_add(1),
+        most: range.most,
+    };
+    for child in [left, right] {
+        nodes.push(Node {
+            ranges: with_range(node, split.place, child)?,
+            numbers: examined.numbers.copy()?,
+            bound: examined.bound,
+        })?;
+    }
+    Ok(())
+}
+
+/// Marks the cuts that have a rate.
+fn mark_used(
+    ground: Ground<'_>,
+    table: &CutTable,
+    numbers: &Prices,
+    used: &mut Vec<bool>,
+) -> Result<(), AllocError> {
+    used.resize(table.count() as usize, false)?;
+    for number in 0..table.count() as usize {
+        if rate_at(ground.inst, numbers, number) > 0 {
+            if let Some(mark) = used.get_mut(number) {
+                *mark = true;
+            }
+        }
+    }
+    Ok(())
+}
+
+/// The table with the cuts besides that the loads seen violate.
+fn wider_table(
+    ground: Ground<'_>,
+    table: CutTable,
+    seen: &SeenLoads,
+) -> Result<CutTable, AllocError>
+    requires table { table.problem ≡ ground.inst.now }
+    ensures { IfOk result (λ table. table.problem ≡ ground.entry.inst.now) }
+{
+    let held = copy_of(ground.alloc, table.cuts())?;
+    let mut cuts = tested(ground.alloc, ground.inst, held).into_vec();
+    let found = ground
+        .search
+        .extend(ground.alloc, ground.inst, seen, FOUND_AT_NODE, &mut cuts)?;
+    if found == 0 {
+        return Ok(table);
+    }
+    table_of(ground.alloc, ground.inst, table, cuts)
+}
+
+/// The table of the cuts before a number, and of those that had a rate.
+fn used_table(
+    ground: Ground<'_>,
+    table: CutTable,
+    before: u32,
+    used: &[bool],
+) -> Result<CutTable, AllocError>
+    requires table { table.problem ≡ ground.inst.now }
+    ensures { IfOk result (λ table. table.problem ≡ ground.entry.inst.now) }
+{
+    let mut marks = Vec::new(ground.alloc);
+    for number in 0..table.count() {
+        marks.push(number < before || is_marked(used, number as usize))?;
+    }
+    let stay = marked(ground.alloc, table.cuts(), &marks)?;
+    table_of(ground.alloc, ground.inst, table, stay)
+}
+
+/// Examines so many nodes, the one of least bound first, and gives the table with the cuts besides that had a rate at one.
+pub(crate) fn try_nodes(
+    ground: Ground<'_>,
+    table: CutTable,
+    most: u32,
+    aim: Aim,
+    columns: &mut ColumnPool,
+    seen: &mut SeenLoads,
+    numbers: Prices,
+) -> Result<CutTable, AllocError>
+    requires table { table.problem ≡ ground.inst.now }
+    requires count { length columns.old ≡ length ground.inst.now.demands }
+    ensures { IfOk result (λ table. table.problem ≡ ground.entry.inst.now) }
+{
+    let before = table.count();
+    let mut table = table;
+    let mut used = Vec::new(ground.alloc);
+    let mut nodes = Vec::new(ground.alloc);
+    nodes.push(Node {
+        ranges: ground.whole.copy()?,
+        numbers,
+        bound: i128::MIN,
+    })?;
+    for _ in 0..most {
+        let Some(at) = next_of(&nodes) else {
+            break;
+        };
+        if at >= nodes.len() {
+            break;
+        }
+        let node = nodes.remove(at);
+        let Some(found) = examine(ground, &table, aim, columns, seen, &node)? else {
+            continue;
+        };
+        mark_used(ground, &table, &found.numbers, &mut used)?;
+        if found.bound >= aim.bound() {
+            continue;
+        }
+        table = wider_table(ground, table, seen)?;
+        if let Some(split) = found.split {
+            put_children(ground, &node, &found, split, &mut nodes)?;
+        }
+    }
+    used_table(ground, table, before, &used)
+}

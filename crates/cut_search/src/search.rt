@@ -1,0 +1,139 @@
+//! The search for cuts that loads violate.
+
+ghost use Rattle.std.specs.Prelude.{◌≡◌, ◌≤◌, IfOk};
+ghost use Rattle.proof_tree.specs.Cuts.{IsCutList};
+
+use crate::lengths::step_lengths;
+use crate::node_sets::node_sets;
+use crate::side::{Missing, Side};
+use crate::sightings::Sightings;
+use cut_table::SeenLoads;
+use link_steps::StepTable;
+use plan_base::Instance;
+use proof_tree::limits::MAX_CUTS;
+use proof_tree::{Cut, is_new};
+use std::alloc::{AllocError, Global};
+use std::cmp::Reverse;
+
+/// A set of nodes, by its number, that loads violate.
+#[derive(Clone, Copy, Debug)]
+struct Violated {
+    side: usize,
+    missing: Missing,
+}
+
+/// The sets of nodes of an instance, with what crosses them.
+#[derive(Debug, Drop)]
+pub struct CutSearch {
+    sides: Vec<Side>,
+}
+
+/// Puts a cut behind the list where the list may go on with it, and tells whether it does.
+fn put_cut(inst: &Instance, cut: Cut, list: &mut Vec<Cut>) -> Result<bool, AllocError>
+    requires { IsCutList inst.now list.old.items }
+    ensures { IfOk result (λ done. IsCutList inst.now list.new.items) }
+{
+    if list.len() >= MAX_CUTS {
+        return Ok(false);
+    }
+    if !cut.fits(inst) {
+        return Ok(false);
+    }
+    let number = list.len();
+    list.push(cut)?;
+    if is_new(list, number) {
+        return Ok(true);
+    }
+    list.pop();
+    Ok(false)
+}
+
+impl CutSearch {
+    /// The sets of nodes of an instance, with what crosses them.
+    ///
+    /// - Takes: the step table of the instance.
+    /// - Errors: want of memory alone.
+    /// - Time: for each set linear in the nodes, demands and places.
+    pub fn new(alloc: Global, inst: &Instance, table: &StepTable) -> Result<CutSearch, AllocError>
+        requires { table.now ≡ inst.now }
+    {
+        let lengths = step_lengths(alloc, inst, table)?;
+        let mut sides = Vec::new(alloc);
+        for nodes in node_sets(alloc, inst)? {
+            sides.push(Side::of(alloc, inst, nodes, &lengths)?)?;
+        }
+        Ok(CutSearch { sides })
+    }
+
+    /// The sets that the loads seen violate, the most violated first.
+    fn violated_sides(&self, alloc: Global, seen: &Sightings) -> Result<Vec<Violated>, AllocError> {
+        let mut violated = Vec::new(alloc);
+        for (side, of_side) in self.sides.iter().enumerate() {
+            if let Some(missing) = of_side.most_missing(seen) {
+                violated.push(Violated { side, missing })?;
+            }
+        }
+        violated.sort_unstable_by_key(|violated| (Reverse(violated.missing.share), violated.side));
+        Ok(violated)
+    }
+
+    /// Puts the cut of a set behind the list where further ones are wanted and the places that cross it have room, and gives
+    /// how many it puts.
+    fn put_next(
+        &self,
+        alloc: Global,
+        inst: &Instance,
+        violated: Violated,
+        wanted: u32,
+        used: &mut Vec<u32>,
+        list: &mut Vec<Cut>,
+    ) -> Result<u32, AllocError>
+        requires { IsCutList inst.now list.old.items }
+        ensures list { IfOk result (λ done. IsCutList inst.now list.new.items) }
+        ensures within { IfOk result (λ found. found ≤ wanted) }
+    {
+        if wanted == 0 {
+            return Ok(0);
+        }
+        let Some(side) = self.sides.get(violated.side) else {
+            return Ok(0);
+        };
+        if !side.has_room(used) {
+            return Ok(0);
+        }
+        let cut = side.cut(alloc, inst, violated.missing.counting)?;
+        if !put_cut(inst, cut, list)? {
+            return Ok(0);
+        }
+        side.take_room(used);
+        Ok(1)
+    }
+
+    /// Puts cuts behind a list that the loads seen in the turns of an ascent violate: the most violated first, of each set at
+    /// most one, and so that no place crosses many of them.
+    ///
+    /// - Takes: the loads seen; the most cuts that are put; a list of cuts that a plan may have.
+    /// - Gives: how many cuts are put.
+    /// - Errors: want of memory alone.
+    /// - Rule: docs/DEFINITIONS.md, "Cuts".
+    /// - Time: for each set the places that cross it, times the periods that are tried and the loads that were seen there.
+    pub fn extend(
+        &self,
+        alloc: Global,
+        inst: &Instance,
+        seen: &SeenLoads,
+        most: u32,
+        list: &mut Vec<Cut>,
+    ) -> Result<u32, AllocError>
+        requires { IsCutList inst.now list.old.items }
+        ensures { IfOk result (λ found. IsCutList inst.now list.new.items) }
+    {
+        let sightings = Sightings::of(alloc, inst, seen)?;
+        let mut used = vec![in alloc; 0u32; inst.places() as usize]?;
+        let mut found: u32 = 0;
+        for violated in &self.violated_sides(alloc, &sightings)? {
+            found += self.put_next(alloc, inst, *violated, most - found, &mut used, list)?;
+        }
+        Ok(found)
+    }
+}

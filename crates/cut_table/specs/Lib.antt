@@ -1,0 +1,3 @@
+pub mod Numbers
+pub mod LinkValues
+pub mod Crossings
