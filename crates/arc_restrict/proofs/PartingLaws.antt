@@ -24,7 +24,8 @@ abbrev node_of : ℕ → NodeId
 node_of n = record { 0 = n }
 
 -- the arcs after the same front lead on from one node
-pub part_at : (p : Parts) (first second : List ArcId) (n : ℕ) (one other : ArcId) (node : NodeId) → AreOfOneDemand p first second → take n first ≡ take n second → n < length first → n < length second → one ≡ arc_at first n → other ≡ arc_at second n → one.0 ≢ other.0 → node ≡ tail_of p one → PartAt p first second node one other
+pub part_at : (p : Parts) (first second : List ArcId) (n : ℕ) (one other : ArcId) (node : NodeId) → AreOfOneDemand p first second → take n first ≡ take n second
+    → n < length first → n < length second → one ≡ arc_at first n → other ≡ arc_at second n → one.0 ≢ other.0 → node ≡ tail_of p one → PartAt p first second node one other
 part_at p first second n one other node of_one same in_first in_second one_is other_is differ from = record {
   place = n;
   in_first = in_first;

@@ -3,7 +3,7 @@ use Rattle.std.proofs.Common.{◌≡◌, ◌≢◌, ℕ, ◌+◌, ◌-◌, ◌*�
 use Rattle.std.proofs.Math.Path.{fun_ext}
 use Rattle.std.specs.Int.{bit_at}
 use Rattle.std.proofs.lemmas.Bool.{cases_lt, cases_eq}
-use Rattle.std.proofs.lemmas.List.{get_or-set_same, get_or-set_other, get_or-replicate, take_all, get_or_append_left, get_or-append_right, length-replicate, length-set, length-append}
+use Rattle.std.proofs.lemmas.List.{get_or-set_same, get_or-set_other, get_or-replicate, take_all, get_or_append_left, get_or-append_right, length-set}
 use Rattle.std.proofs.lemmas.List.Sums.{sum_by-set, sum_by-le}
 use Rattle.std.proofs.Math.Nat.{min-le_right, mul-le-mul_right}
 use Rattle.std.proofs.lemmas.Nat.Bits.{bit_at-zero}
@@ -95,34 +95,3 @@ module _ (rows : Rows) (used room : ℕ) (kept : IsKept rows used room) (k : ℕ
   -- the same with words that are known to be these
   pub forbids-resized : (words : List ℕ) → words ≡ rows.words ++ replicate (row_len rows.arcs) 0 → forbids (record rows { row_of = set rows.row_of k (used + 1); words = words }) ≡ forbids rows
   forbids-resized words is = ap (λ (ws : List ℕ). forbids (record rows { row_of = set rows.row_of k (used + 1); words = ws })) is ∙ forbids-with_row
-
-  within_more : (j : ℕ) → slice_index (set rows.row_of k (used + 1)) j ≤ used + 1
-  within_more j = elim (cases_eq j k) [
-    | inl here ↦ omega (arith, ap (λ (i : ℕ). slice_index (set rows.row_of k (used + 1)) i) here, at_itself)
-    | inr apart ↦ omega (arith, at_other j apart, kept.within j)
-  ]
-
-  apart_more : (i j : ℕ) → 0 < slice_index (set rows.row_of k (used + 1)) i → slice_index (set rows.row_of k (used + 1)) i ≡ slice_index (set rows.row_of k (used + 1)) j → i ≡ j
-  apart_more i j has same = elim (cases_eq i k) [
-    | inl here ↦ elim (cases_eq j k) [
-      | inl there ↦ here ∙ sym there
-      | inr apart ↦ absurd (omega (arith, ap (λ (n : ℕ). slice_index (set rows.row_of k (used + 1)) n) here, at_itself, at_other j apart, kept.within j, same))
-    ]
-    | inr other ↦ elim (cases_eq j k) [
-      | inl there ↦ absurd (omega (arith, ap (λ (n : ℕ). slice_index (set rows.row_of k (used + 1)) n) there, at_itself, at_other i other, kept.within i, same))
-      | inr apart ↦ kept.apart i j (rw (← at_other i other) has) (sym (at_other i other) ∙ same ∙ at_other j apart)
-    ]
-  ]
-
-  -- with a row more the rows are kept, with one row more used
-  pub IsKept-with_row : IsKept (with_row rows used k) (used + 1) room
-  IsKept-with_row = record {
-    few_demands = kept.few_demands;
-    few_arcs = kept.few_arcs;
-    all_demands = length-set rows.row_of k (used + 1) ∙ kept.all_demands;
-    counted = one_more;
-    within = within_more;
-    apart = apart_more;
-    whole = omega (arith, length-append rows.words (replicate (row_len rows.arcs) 0), length-replicate {A = ℕ} (row_len rows.arcs) 0, kept.whole);
-    has_room = kept.has_room;
-  }

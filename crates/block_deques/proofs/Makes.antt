@@ -14,12 +14,8 @@ use Rattle.block_deques.specs.Hands.{thief, owner_after, all_parts}
 use Rattle.block_deques.specs.Reaches.{reach_view, taken_at}
 use Rattle.block_deques.specs.Decks.{DeckId, deck_id}
 use Rattle.block_deques.specs.Wholes.{AreNewDecks}
-use Rattle.block_deques.specs.Making.{OwnerOf, IsFresh, AreFresh, AreRich, HasGiven, HaveGiven, IsRow, AreRows, IsDeckOf, AreDecksOf}
+use Rattle.block_deques.specs.Making.{OwnerOf, AreFresh, AreRich, HasGiven, HaveGiven, IsRow, AreRows, IsDeckOf, AreDecksOf}
 use Rattle.block_deques.proofs.Places.{some_same, at_seam, got_end, got_last, got_longer, set_cases, there, map-pointwise, got_map}
-
--- one new worker more
-pub fresh_more : (parts : ℕ) (ws : List OwnerOf) (w : OwnerOf) → AreFresh parts ws → IsFresh parts w → AreFresh parts (ws ++ w ∷ [])
-fresh_more parts ws w all new k u at = ⊎_elim (λ t. all k u t) (λ (t : (k ≡ length ws) × (w ≡ u)). subst (IsFresh parts) t.1 new) (got_end ws w u k at)
 
 -- the first n of ws have given a part away
 pub record Halfway (ws vs : List OwnerOf) (rs : List Reach) (n : ℕ) : Type 0 where

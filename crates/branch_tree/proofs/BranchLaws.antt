@@ -20,7 +20,7 @@ use Rattle.branch_tree.specs.declared.node.Division.{Division}
 use Rattle.branch_tree.specs.declared.node.Fate.{Fate}
 use Rattle.branch_tree.specs.declared.node.Fate.TheVariants.{Undone, ClosedBy, DividedBy}
 use Rattle.branch_tree.specs.declared.node.BranchNode.{BranchNode}
-use Rattle.branch_tree.specs.Branches.{tree_node_at, no_tree_node, limits_at, ranges_with, left_limit, right_limit, ranges_at, region_at, is_open_in, is_open_at, with_fate, with_prices, child_of, with_division, arcs_split, IsLimitOf, IsDivider, IsFateOf, IsNodeOf, IsTreeOf, IsBranching}
+use Rattle.branch_tree.specs.Branches.{tree_node_at, no_tree_node, limits_at, ranges_with, left_limit, right_limit, ranges_at, region_at, is_open_in, is_open_at, with_fate, child_of, with_division, arcs_split, IsLimitOf, IsDivider, IsNodeOf, IsTreeOf, IsBranching}
 use Rattle.branch_tree.specs.Records.{HasLaterChildren, AreInherited, AreNodes}
 use Rattle.branch_tree.proofs.LimitLaws.{HasSides}
 
@@ -74,14 +74,6 @@ tree_of-with_division p old n d within are is sides =
       ranges = ranges;
       fate = tt;
     }
-
--- a node of a tree for the instance may have another fate that is as it should be, and other prices
-pub tree_of-with_fate : (p : Parts) (nodes : List BranchNode) (n : ℕ) (fate : Fate) → n < length nodes → IsTreeOf p nodes → IsFateOf p (region_at p nodes n) fate → IsTreeOf p (with_fate nodes n fate)
-tree_of-with_fate p nodes n fate within are is_fate = All-set (IsNodeOf p) nodes n (record (tree_node_at nodes n) { fate = fate }) (record { limits = (are n no_tree_node within).limits; ranges = (are n no_tree_node within).ranges; fate = is_fate }) are
-
--- other prices of a node leave a tree for the instance
-pub tree_of-with_prices : (p : Parts) (nodes : List BranchNode) (n : ℕ) (prices : List ℕ) → n < length nodes → IsTreeOf p nodes → IsTreeOf p (with_prices nodes n prices)
-tree_of-with_prices p nodes n prices within are = All-set (IsNodeOf p) nodes n (record (tree_node_at nodes n) { prices = prices }) (record { limits = (are n no_tree_node within).limits; ranges = (are n no_tree_node within).ranges; fate = (are n no_tree_node within).fate }) are
 
 -- children have the limits of their parent where nothing of theirs changed
 inherited-same : (count n : ℕ) (before after : ℕ → List Limit) (limits : List Limit) (fate : Fate) → ((m : ℕ) → m < count → after m ≡ before m) → HasLaterChildren count n fate → AreInherited before limits fate → AreInherited after limits fate
@@ -146,11 +138,6 @@ AreNodes-set nodes n node are within limits later inherited = record {
 pub AreNodes-with_fate : (nodes : List BranchNode) (n : ℕ) (fate : Fate) → AreNodes nodes → n < length nodes → ((count : ℕ) → HasLaterChildren count n fate) → ((limits_of : ℕ → List Limit) (limits : List Limit) → AreInherited limits_of limits fate) → AreNodes (with_fate nodes n fate)
 AreNodes-with_fate nodes n fate are within later inherited =
     AreNodes-set nodes n (record (tree_node_at nodes n) { fate = fate }) are within refl (later (length nodes)) (inherited (limits_at nodes) (limits_at nodes n))
-
--- other prices of one node
-pub AreNodes-with_prices : (nodes : List BranchNode) (n : ℕ) (prices : List ℕ) → AreNodes nodes → n < length nodes → AreNodes (with_prices nodes n prices)
-AreNodes-with_prices nodes n prices are within =
-    AreNodes-set nodes n (record (tree_node_at nodes n) { prices = prices }) are within refl (are.later n within) (are.inherited n within)
 
 -- a split of an open node with its children at the end
 pub AreNodes-with_division : (old : List BranchNode) (n : ℕ) (d : Division) → AreNodes old → n < length old → suc (suc (length old)) < 2 ^ 32 → d.left_child.0 ≡ length old → d.right_child.0 ≡ suc (length old) → AreNodes (with_division old n d)
@@ -227,10 +214,6 @@ AreNodes-with_division old n d are within room left right = record {
 -- a node that was read, written back with another fate or other prices, also where nodes follow
 pub set-with_fate : (nodes : List BranchNode) (n : ℕ) (node : BranchNode) (fate : Fate) → n < length nodes → node ≡ get_or nodes n node → set nodes n (record node { fate = fate }) ≡ with_fate nodes n fate
 set-with_fate nodes n node fate within read = ap (λ (x : BranchNode). set nodes n (record x { fate = fate })) (read ∙ get_or_default nodes n node no_tree_node within)
-
--- a node that was read, written back with other prices
-pub set-with_prices : (nodes : List BranchNode) (n : ℕ) (node : BranchNode) (prices : List ℕ) → n < length nodes → node ≡ get_or nodes n node → set nodes n (record node { prices = prices }) ≡ with_prices nodes n prices
-set-with_prices nodes n node prices within read = ap (λ (x : BranchNode). set nodes n (record x { prices = prices })) (read ∙ get_or_default nodes n node no_tree_node within)
 
 -- a split node that is read and written back keeps the nodes behind it
 pub set-with_division : (nodes last : List BranchNode) (n : ℕ) (node : BranchNode) (fate : Fate) → n < length nodes → node ≡ get_or (nodes ++ last) n node → set (nodes ++ last) n (record node { fate = fate }) ≡ with_fate nodes n fate ++ last

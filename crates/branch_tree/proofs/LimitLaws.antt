@@ -1,6 +1,5 @@
 -- Limits: what they ask of a restriction and of ranges, and that the children of a split have them.
-use Rattle.std.proofs.Common.{◌≡◌, ◌*◌, ◌<◌, ◌≤◌, List, length, refl, arith}
-use Rattle.std.proofs.lemmas.List.{length-set}
+use Rattle.std.proofs.Common.{◌≡◌, ◌*◌, ◌<◌, ◌≤◌, List, length, arith}
 use Rattle.std.proofs.lemmas.List.Elements.{All-weaker}
 use Rattle.plan_base.specs.declared.ids.ArcId.{ArcId}
 use Rattle.plan_base.specs.declared.parts.Parts.{Parts}
@@ -35,12 +34,6 @@ pub limit-range : (p : Parts) (ranges : List LoadRange) (last : Limit) → lengt
 limit-range p ranges (limit.Arcs id arcs) count is = tt
 limit-range p ranges (limit.UpTo place load) count is = (omega (arith, count, is.0), is.1)
 limit-range p ranges (limit.Above place load) count is = (omega (arith, count, is.0), is.1)
-
--- a limit leaves as many ranges
-pub length-ranges_with : (ranges : List LoadRange) (last : Limit) → length (ranges_with ranges last) ≡ length ranges
-length-ranges_with ranges (limit.Arcs id arcs) = refl
-length-ranges_with ranges (limit.UpTo place load) = length-set ranges place _
-length-ranges_with ranges (limit.Above place load) = length-set ranges place _
 
 -- both children of a split may have its limits: they are limits of the instance, and leave each place a load
 pub record HasSides (p : Parts) (ranges : List LoadRange) (by : Divider) : Type 0 where

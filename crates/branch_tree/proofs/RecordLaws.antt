@@ -62,7 +62,8 @@ waiting_for-with_children nodes ids (ClosedBy found) = refl
 waiting_for-with_children nodes ids (DividedBy d) = children_wait nodes ids d.left_child d.right_child
 
 -- the last node that waits has its record and its children's subtrees to come first
-pub waiting_for-last : (nodes : List BranchNode) (ids : List BranchId) (id : BranchId) → AreNodes nodes → id.0 < length nodes → waiting_for nodes (ids ++ (id ∷ [])) ≡ record_by (tree_node_at nodes id.0).prices (tree_node_at nodes id.0).fate ∷ waiting_for nodes (with_children ids (tree_node_at nodes id.0).fate)
+pub waiting_for-last : (nodes : List BranchNode) (ids : List BranchId) (id : BranchId) → AreNodes nodes → id.0 < length nodes
+    → waiting_for nodes (ids ++ (id ∷ [])) ≡ record_by (tree_node_at nodes id.0).prices (tree_node_at nodes id.0).fate ∷ waiting_for nodes (with_children ids (tree_node_at nodes id.0).fate)
 waiting_for-last nodes ids id are within =
     waiting_for-push nodes ids id
     ∙ ap (λ (records : List TreeNode). records ++ waiting_for nodes ids) (subtree_at-step nodes id.0 are within)
@@ -102,7 +103,8 @@ waiting_for-falls : (nodes : List BranchNode) (ids : List BranchId) (id : Branch
 waiting_for-falls nodes ids id are within = omega (arith, ap (λ (records : List TreeNode). length records) (waiting_for-last nodes ids id are within))
 
 -- the last of the nodes that wait is read, its record is written, and its children wait
-module _ (nodes : List BranchNode) (written : List TreeNode) (before ids after : List BranchId) (id : BranchId) (node : BranchNode) (are : AreNodes nodes) (writing : IsWriting nodes written before) (popped : before ≡ ids ++ (id ∷ [])) (read : node ≡ get_or nodes id.0 node) (awaited : after ≡ with_children ids node.fate) where
+module _ (nodes : List BranchNode) (written : List TreeNode) (before ids after : List BranchId) (id : BranchId) (node : BranchNode)
+    (are : AreNodes nodes) (writing : IsWriting nodes written before) (popped : before ≡ ids ++ (id ∷ [])) (read : node ≡ get_or nodes id.0 node) (awaited : after ≡ with_children ids node.fate) where
   still : IsWriting nodes written (ids ++ (id ∷ []))
   still = subst (IsWriting nodes written) popped writing
 

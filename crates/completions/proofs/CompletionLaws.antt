@@ -115,11 +115,6 @@ module _ (p : Parts) (ranges : List LoadRange) (d : Design) (q load : ℕ) (is_l
         | inr here ↦ rw here (subst (IsIn (range_at ranges q)) loaded inside)
       ]
 
--- before the first link, no counts cost nothing
-pub AreCompletedTo-none : (p : Parts) (paths : List (List ArcId)) → AreCompletedTo p paths 0 0 []
-AreCompletedTo-none p paths =
-    record { list_count = refl; least = λ e within. absurd (omega arith); in_shape = λ e within. absurd (omega arith); is_cost = refl }
-
 -- one link more
 AreCompletedTo-push : (p : Parts) (paths : List (List ArcId)) (n cost more : ℕ) (all : List (List ℕ)) (counts : List ℕ) → AreCompletedTo p paths n cost all
     → IsLinkCompletion p n (there_of p (load_at p (with_paths paths)) n) (back_of p (load_at p (with_paths paths)) n) more counts → AreCompletedTo p paths (n + 1) (cost + more) (all ++ counts ∷ [])

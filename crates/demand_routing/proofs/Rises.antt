@@ -1,9 +1,8 @@
 -- Loads with one more.
-use Rattle.std.proofs.Common.{◌≡◌, ℕ, ◌+◌, ◌-◌, ◌*◌, ◌<◌, ◌≤◌, Bool, true, false, min, max, ◌==◌, if◌then◌else◌, refl, arith, eq-eqb}
+use Rattle.std.proofs.Common.{◌≡◌, ℕ, ◌+◌, ◌-◌, ◌*◌, ◌<◌, ◌≤◌, Bool, true, false, min, max, ◌==◌, if◌then◌else◌, refl, arith}
 use Rattle.plan_base.specs.declared.parts.Parts.{Parts}
 use Rattle.plan_base.specs.Facts.{total_load}
 use Rattle.plan_base.specs.Places.{is_two_way, link_of_place, there_of, back_of}
-use Rattle.plan_base.proofs.PlaceSums.{place-le-larger}
 use Rattle.link_steps.specs.Costs.{CannotCarry, IsStepCost}
 use Rattle.demand_routing.specs.Traffic.{with_more, larger_of, IsTooMuch, IsCostOf, IsRise}
 
@@ -27,12 +26,6 @@ larger-le p f q load e =
     let there : there_of p f e ≤ there_of p (with_more f q load) e = more-le f q load _ in
     let back = back-le p f q load e in
     omega arith
-
--- a place's load with one more is at most what its link needs then
-pub more-within : (p : Parts) (f : ℕ → ℕ) (q load : ℕ) → larger_of p (with_more f q load) (link_of_place p q) ≤ total_load p → f q + load ≤ total_load p
-more-within p f q load within =
-    let here : with_more f q load q ≡ f q + load = rw (eq-eqb q q refl) refl in
-    omega (arith, here, within, place-le-larger p (with_more f q load) q)
 
 -- what is too much is so with a load more
 pub too_much-more : (p : Parts) (f : ℕ → ℕ) (q load e : ℕ) → IsTooMuch p f e → IsTooMuch p (with_more f q load) e

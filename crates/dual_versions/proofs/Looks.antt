@@ -33,7 +33,9 @@ sees v w u x seen e same is =
 
 -- what a reader reads of a slot is the entry of the newest table that it has seen
 pub reads : (v w u : View) (x t : Table) (slot : ℕ) → Entered v x x w → u ≡ w → t ≡ x → entry_at slot u.seen ≡ slice_index_or (shown_by t.rows.items) slot None
-reads v w u x t slot e same is = ap (λ (l : List Entries). slice_index_or (last_of l) slot None) (ap (λ (y : View). y.seen) (same ∙ e.all)) ∙ (ap (λ (l : Entries). slice_index_or l slot None) (last_of_more e.before (shown_by x.rows.items)) ∙ ap (λ (y : Table). slice_index_or (shown_by y.rows.items) slot None) (sym is))
+reads v w u x t slot e same is =
+    ap (λ (l : List Entries). slice_index_or (last_of l) slot None) (ap (λ (y : View). y.seen) (same ∙ e.all))
+    ∙ (ap (λ (l : Entries). slice_index_or l slot None) (last_of_more e.before (shown_by x.rows.items)) ∙ ap (λ (y : Table). slice_index_or (shown_by y.rows.items) slot None) (sym is))
 
 -- a beginning of a beginning is a beginning
 pub begins_trans : (a b c : List Entries) → Begins a b → Begins b c → Begins a c

@@ -21,7 +21,8 @@ longer seen log more b = (b.0 ++ more, ap (λ l. l ++ more) b.1 ∙ append_assoc
 fits_newcomer : (log : List Entries) (number writer seat : ℕ) → Fits log number writer seat newcomer
 fits_newcomer log number writer seat = record { seen = (log, refl); whole = λ w. absurd (off w) }
 
-fits_set : (log : List Entries) (number writer : ℕ) (views : List View) (by : ℕ) (w : View) → ((j : ℕ) (u : View) → j ≢ by → get_elem? views j ≡ some u → Fits log number writer j u) → Fits log number writer by w → (j : ℕ) (u : View) → get_elem? (set views by w) j ≡ some u → Fits log number writer j u
+fits_set : (log : List Entries) (number writer : ℕ) (views : List View) (by : ℕ) (w : View) → ((j : ℕ) (u : View) → j ≢ by → get_elem? views j ≡ some u → Fits log number writer j u)
+    → Fits log number writer by w → (j : ℕ) (u : View) → get_elem? (set views by w) j ≡ some u → Fits log number writer j u
 fits_set log number writer views by w others mine j u e =
     ⊎_elim
     (λ (x : (j ≡ by) × (w ≡ u)). subst (λ (y : ℕ × View). Fits log number writer y.0 y.1) (λ i. (sym x.0 i, x.1 i)) mine)

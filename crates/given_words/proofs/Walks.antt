@@ -97,14 +97,6 @@ next_or : (a b : Kinds) (o : Option (List Row)) → got_next (or_else a b) o ≡
 next_or [] b o = refl
 next_or (k ∷ ks) b o = refl
 
-got_none : (a : Kinds) → got_next a None ≡ None
-got_none [] = refl
-got_none (k ∷ ks) = refl
-
-got_or : (a b : Kinds) (rows : List Row) → got (or_else a b) rows ≡ got_next a (got b rows)
-got_or [] b rows = refl
-got_or (k ∷ ks) b rows = refl
-
 as_next : (a : Kinds) (rows : List Row) → got a rows ≡ got_next a (Some rows)
 as_next [] rows = refl
 as_next (k ∷ ks) rows = refl
@@ -353,8 +345,10 @@ module _ (base : Shape) (c : List Rule) where
         known : Met c id o → Met c id (arg_by_id c id)
         known m = record { long = m.long; index = m.index; required = m.required; is = m.found; found = m.found; same = m.same }
     option_step rest follows us p pends position names places word called (Some v) o (Some id) m =
-        rw m.is (next_or (or_else (settle_fault c false (held (map use_row us) (pending_use p))) (use_fault false (plain id m.long m.index m.required) (v ∷ []) (settled_rows c (pending_use p) (map use_row us)))) [] (outcome s (walk_at (used (plain id m.long m.index m.required) (v ∷ []) (settled_rows c (pending_use p) (map use_row us))) None idle position false) rest)
-        ∙ next_or (settle_fault c false (held (map use_row us) (pending_use p))) (use_fault false (plain id m.long m.index m.required) (v ∷ []) (settled_rows c (pending_use p) (map use_row us))) (outcome s (walk_at (used (plain id m.long m.index m.required) (v ∷ []) (settled_rows c (pending_use p) (map use_row us))) None idle position false) rest)
+        rw m.is (next_or (or_else (settle_fault c false (held (map use_row us) (pending_use p))) (use_fault false (plain id m.long m.index m.required) (v ∷ []) (settled_rows c (pending_use p) (map use_row us))))
+        [] (outcome s (walk_at (used (plain id m.long m.index m.required) (v ∷ []) (settled_rows c (pending_use p) (map use_row us))) None idle position false) rest)
+        ∙ next_or (settle_fault c false (held (map use_row us) (pending_use p))) (use_fault false (plain id m.long m.index m.required) (v ∷ []) (settled_rows c (pending_use p) (map use_row us)))
+        (outcome s (walk_at (used (plain id m.long m.index m.required) (v ∷ []) (settled_rows c (pending_use p) (map use_row us))) None idle position false) rest)
         ∙ settled_next c us p pends (λ rows. got_next (use_fault false (plain id m.long m.index m.required) (v ∷ []) rows) (outcome s (walk_at (used (plain id m.long m.index m.required) (v ∷ []) rows) None idle position false) rest))
         ∙ ap (λ x. if is_new us p then x else None) (one_use (after us p) id v m.long m.index m.required (λ rows. outcome s (walk_at rows None idle position false) rest)
         ∙ ap (λ x. if is_new (after us p) (Some (id, v)) then x else None) (follows.idles (after us p ++ (id, v) ∷ []) None tt position names places ∙ ap (expect (after us p ++ (id, v) ∷ [])) (same_map (given options rest names None)))

@@ -9,6 +9,8 @@ use Rattle.plan_base.specs.declared.parts.Parts.{Parts}
 use Rattle.plan_base.specs.Facts.{IsInstance}
 use Rattle.plan_base.specs.Arcs.{is_arc, tail_of, head_of, link_of, is_back, no_link, no_arc}
 use Rattle.plan_base.specs.Paths.{arc_at, node_at}
+use Rattle.plan_base.proofs.Bools.{and-first}
+use Rattle.plan_base.proofs.PathLaws.{head-within}
 use Rattle.least_path.specs.declared.label.Label.{Label}
 use Rattle.least_path.specs.declared.label.Stop.{Stop}
 use Rattle.least_path.specs.Paths.{Weights, weight_at, weight_of, IsUsable, IsUsablePath, IsLeastPath, ArePotentials, IsIn, IsClosedSet, IsBelow, HasNoUsablePath, HasNoneBelow}
@@ -18,14 +20,16 @@ use Rattle.least_path.proofs.NearestLaws.{decide, label_within, lt_or_le, some_s
 use Rattle.least_path.proofs.WayLaws.{way-path}
 
 -- along a usable path potentials rise by at most the weights
-rises : (p : Parts) (ws : Weights) (s t : NodeId) (potential : ℕ → ℕ) (arcs : List ArcId) → potential s.0 ≡ 0 → ((a : ArcId) → IsUsable p ws a → potential (head_of p a).0 ≤ potential (tail_of p a).0 + weight_at ws a) → IsUsablePath p ws s t arcs → (i : ℕ) → i ≤ length arcs → potential (node_at p s arcs i) ≤ sum_by (λ a. weight_at ws a) (take i arcs)
+rises : (p : Parts) (ws : Weights) (s t : NodeId) (potential : ℕ → ℕ) (arcs : List ArcId) → potential s.0 ≡ 0 → ((a : ArcId) → IsUsable p ws a → potential (head_of p a).0 ≤ potential (tail_of p a).0 + weight_at ws a)
+    → IsUsablePath p ws s t arcs → (i : ℕ) → i ≤ length arcs → potential (node_at p s arcs i) ≤ sum_by (λ a. weight_at ws a) (take i arcs)
 rises p ws s t potential arcs start along h zero within = omega (arith, start)
 rises p ws s t potential arcs start along h (suc i) within =
     let a = arc_at arcs i in
     let before = rises p ws s t potential arcs start along h i (omega arith) in
     let step = along a (h.usable i (omega arith)) in
     let tail : potential (tail_of p a).0 ≡ potential (node_at p s arcs i) = ap potential (h.simple.goes_on i (omega arith)) in
-    let more : sum_by (λ b. weight_at ws b) (take (suc i) arcs) ≡ sum_by (λ b. weight_at ws b) (take i arcs) + weight_at ws a = subst (λ (k : ℕ). sum_by (λ b. weight_at ws b) (take k arcs) ≡ sum_by (λ b. weight_at ws b) (take i arcs) + weight_at ws a) (let e : i + 1 ≡ suc i = omega arith in e) (sum_by_more (λ b. weight_at ws b) arcs i no_arc (omega arith)) in
+    let more : sum_by (λ b. weight_at ws b) (take (suc i) arcs) ≡ sum_by (λ b. weight_at ws b) (take i arcs) + weight_at ws a =
+    subst (λ (k : ℕ). sum_by (λ b. weight_at ws b) (take k arcs) ≡ sum_by (λ b. weight_at ws b) (take i arcs) + weight_at ws a) (let e : i + 1 ≡ suc i = omega arith in e) (sum_by_more (λ b. weight_at ws b) arcs i no_arc (omega arith)) in
     omega (arith, before, step, tail, more)
 
 -- potentials from the source to the target bound the weight of each path from below
@@ -39,20 +43,10 @@ either : {X : Type 0} (b : Bool) (P : X → Type 0) {x y : X} → P x → P y �
 either true P on_true on_false = on_true
 either false P on_true on_false = on_false
 
-first : (a b : Bool) → (a && b) ≡ true → a ≡ true
-first true b h = refl
-first false b h = h
-
--- the ends of an arc are nodes
-pub head-within : (p : Parts) (a : ArcId) → IsInstance p → is_arc p a ≡ true → (head_of p a).0 < p.nodes
-head-within p a inst is =
-    let lawful = inst.links (link_of a) no_link (ltb-true (link_of a) (length p.links) (first _ _ is)) in
-    either (is_back a) (λ (n : NodeId). n.0 < p.nodes) lawful.source lawful.target
-
 -- the tail of an arc is a node
 pub tail-within : (p : Parts) (a : ArcId) → IsInstance p → is_arc p a ≡ true → (tail_of p a).0 < p.nodes
 tail-within p a inst is =
-    let lawful = inst.links (link_of a) no_link (ltb-true (link_of a) (length p.links) (first _ _ is)) in
+    let lawful = inst.links (link_of a) no_link (ltb-true (link_of a) (length p.links) (and-first _ _ is)) in
     either (is_back a) (λ (n : NodeId). n.0 < p.nodes) lawful.target lawful.source
 
 -- a potential is at most the weight that caps it
@@ -101,7 +95,8 @@ done-all p ws limit s t ls weight h none below = record {
 }
 
 -- along an arc whose tail has this label
-along-arc : (p : Parts) (ws : Weights) (limit : Option ℕ) (s t : NodeId) (ls : Labels) (weight : ℕ) (a : ArcId) (known : Option Label) → IsSearch p ws limit s t ls → IsDoneBelow limit t ls weight → IsUsable p ws a → label_at ls (tail_of p a).0 ≡ known → (head_of p a).0 < length ls → (tail_of p a).0 < length ls → get_or (map (potential_of weight) ls) (head_of p a).0 0 ≤ get_or (map (potential_of weight) ls) (tail_of p a).0 0 + weight_at ws a
+along-arc : (p : Parts) (ws : Weights) (limit : Option ℕ) (s t : NodeId) (ls : Labels) (weight : ℕ) (a : ArcId) (known : Option Label) → IsSearch p ws limit s t ls → IsDoneBelow limit t ls weight → IsUsable p ws a
+    → label_at ls (tail_of p a).0 ≡ known → (head_of p a).0 < length ls → (tail_of p a).0 < length ls → get_or (map (potential_of weight) ls) (head_of p a).0 0 ≤ get_or (map (potential_of weight) ls) (tail_of p a).0 0 + weight_at ws a
 along-arc p ws limit s t ls weight a None h done usable is head tail =
     let at_tail : get_or (map (potential_of weight) ls) (tail_of p a).0 0 ≡ weight = potential-at ls weight (tail_of p a).0 tail ∙ ap (potential_of weight) is in
     omega (arith, at_tail, potential-at ls weight (head_of p a).0 head, potential-at_most weight (label_at ls (head_of p a).0))
@@ -126,7 +121,8 @@ all-along p ws limit s t ls weight inst h done = λ a usable. along-arc p ws lim
     (omega (arith, tail-within p a inst usable.is_an_arc, h.labels.count))
 
 -- they show the weight of a path to a node that has this potential
-pub all-shown : (p : Parts) (ws : Weights) (limit : Option ℕ) (s outside t : NodeId) (ls : Labels) (weight : ℕ) → IsInstance p → IsSearch p ws limit s outside ls → IsDoneBelow limit outside ls weight → get_or (map (potential_of weight) ls) t.0 0 ≡ weight → ArePotentials p ws s t weight (map (potential_of weight) ls)
+pub all-shown : (p : Parts) (ws : Weights) (limit : Option ℕ) (s outside t : NodeId) (ls : Labels) (weight : ℕ) → IsInstance p → IsSearch p ws limit s outside ls
+    → IsDoneBelow limit outside ls weight → get_or (map (potential_of weight) ls) t.0 0 ≡ weight → ArePotentials p ws s t weight (map (potential_of weight) ls)
 all-shown p ws limit s outside t ls weight inst h done at_target = record {
   count = length-map ls (potential_of weight) ∙ h.labels.count;
   at_source = let at = potential-label ls weight s.0 h.labels.source_label h.labels.source_is in omega (arith, at, h.labels.source_length);

@@ -54,10 +54,6 @@ pub open_one-unsettled : (k : Option Label) → ((m : Label) → k ≡ Some m �
 open_one-unsettled None h = refl
 open_one-unsettled (Some m) h = rw (h m refl) refl
 
--- a settled node does not count as open
-pub open_one-settled : (l : Label) → l.settled ≡ true → open_one (Some l) ≡ 0
-open_one-settled l h = rw h refl
-
 -- where one label is replaced, each label is the new one or an old one
 pub record IsOld (ls : Labels) (v w : ℕ) (m : Label) : Type 0 where
   pub other : w ≢ v
@@ -96,13 +92,15 @@ reached-kept p ws ls v l w m open_ r = record {
 }
 
 -- the head of the arc is open where the label is better
-open-head : (p : Parts) (ws : Weights) (limit : Option ℕ) (s t : NodeId) (ls : Labels) (stop : Stop) (arcs : List ArcId) (i : ℕ) (a : ArcId) (l : Label) → IsSpread p ws limit s t ls stop arcs i → GoesOn p ws limit ls stop a l → is_better l (label_at ls (head_of p a).0) ≡ true → (m : Label) → label_at ls (head_of p a).0 ≡ Some m → m.settled ≡ false
+open-head : (p : Parts) (ws : Weights) (limit : Option ℕ) (s t : NodeId) (ls : Labels) (stop : Stop) (arcs : List ArcId) (i : ℕ) (a : ArcId) (l : Label) → IsSpread p ws limit s t ls stop arcs i
+    → GoesOn p ws limit ls stop a l → is_better l (label_at ls (head_of p a).0) ≡ true → (m : Label) → label_at ls (head_of p a).0 ≡ Some m → m.settled ≡ false
 open-head p ws limit s t ls stop arcs i a l h g better m at = elim (decide m.settled) [
   | inl settled ↦ absurd (let early = h.latest (head_of p a).0 m at settled in let less = shorter l (label_at ls (head_of p a).0) m better at in omega (arith, early, less, g.length_is))
   | inr open_ ↦ open_
 ]
 
-new-label : (p : Parts) (ws : Weights) (limit : Option ℕ) (s t : NodeId) (ls : Labels) (stop : Stop) (arcs : List ArcId) (i : ℕ) (a : ArcId) (l : Label) → IsSpread p ws limit s t ls stop arcs i → GoesOn p ws limit ls stop a l → ((k : Label) → label_at ls (head_of p a).0 ≡ Some k → k.settled ≡ false) → open_count (set ls (head_of p a).0 (Some l)) ≡ open_count ls → IsLabel p ws s (set ls (head_of p a).0 (Some l)) (head_of p a).0 l
+new-label : (p : Parts) (ws : Weights) (limit : Option ℕ) (s t : NodeId) (ls : Labels) (stop : Stop) (arcs : List ArcId) (i : ℕ) (a : ArcId) (l : Label) → IsSpread p ws limit s t ls stop arcs i → GoesOn p ws limit ls stop a l
+    → ((k : Label) → label_at ls (head_of p a).0 ≡ Some k → k.settled ≡ false) → open_count (set ls (head_of p a).0 (Some l)) ≡ open_count ls → IsLabel p ws s (set ls (head_of p a).0 (Some l)) (head_of p a).0 l
 new-label p ws limit s t ls stop arcs i a l h g open_ same = record {
   steps_within = omega (arith, h.steps, g.steps, same);
   length_within =
@@ -145,7 +143,8 @@ open_count-offered ls v l within open_l open_ =
     omega (arith, change, before, after)
 
 -- the labels after one of an open node is replaced by one that is still open
-replaced-labels : (p : Parts) (ws : Weights) (s t : NodeId) (ls : Labels) (v : ℕ) (l : Label) → v < length ls → AreLabels p ws s t ls → ((k : Label) → label_at ls v ≡ Some k → k.settled ≡ false) → is_better l (label_at ls v) ≡ true → l.settled ≡ false → ((w : ℕ) (m : Label) → label_at ls w ≡ Some m → m.settled ≡ true → m.length ≤ l.length) → open_count (set ls v (Some l)) ≡ open_count ls → IsLabel p ws s (set ls v (Some l)) v l → AreLabels p ws s t (set ls v (Some l))
+replaced-labels : (p : Parts) (ws : Weights) (s t : NodeId) (ls : Labels) (v : ℕ) (l : Label) → v < length ls → AreLabels p ws s t ls → ((k : Label) → label_at ls v ≡ Some k → k.settled ≡ false) → is_better l (label_at ls v) ≡ true
+    → l.settled ≡ false → ((w : ℕ) (m : Label) → label_at ls w ≡ Some m → m.settled ≡ true → m.length ≤ l.length) → open_count (set ls v (Some l)) ≡ open_count ls → IsLabel p ws s (set ls v (Some l)) v l → AreLabels p ws s t (set ls v (Some l))
 replaced-labels p ws s t ls v l within h open_ better open_l latest same new =
     let source_other : s.0 ≢ v = λ here. omega (arith, shorter l (label_at ls v) h.source_label better (subst (λ (k : ℕ). label_at ls k ≡ Some h.source_label) here h.source_is), h.source_length) in
     record {
@@ -199,20 +198,23 @@ relaxed-kept p ws limit t ls v l b within better open_l h = λ m at settled want
 ]
 
 -- the arc is relaxed where its head has a label that is short enough
-relaxed-now : (p : Parts) (ws : Weights) (limit : Option ℕ) (t : NodeId) (ls : Labels) (stop : Stop) (a : ArcId) (bound : ℕ) → (tail_of p a).0 ≡ stop.node.0 → label_at ls stop.node.0 ≡ Some stop.label → bound ≡ stop.label.length + weight_at ws a → IsServed p limit t ls a bound → IsRelaxed p ws limit t ls a
+relaxed-now : (p : Parts) (ws : Weights) (limit : Option ℕ) (t : NodeId) (ls : Labels) (stop : Stop) (a : ArcId) (bound : ℕ) → (tail_of p a).0 ≡ stop.node.0
+    → label_at ls stop.node.0 ≡ Some stop.label → bound ≡ stop.label.length + weight_at ws a → IsServed p limit t ls a bound → IsRelaxed p ws limit t ls a
 relaxed-now p ws limit t ls stop a bound tail here is h = λ m at settled.
     let same : stop.label ≡ m = some_same (label_at ls stop.node.0) stop.label m here (subst (λ (k : ℕ). label_at ls k ≡ Some m) tail at) in
     subst (λ (x : Label). IsServed p limit t ls a (x.length + weight_at ws a)) same (subst (IsServed p limit t ls a) is h)
 
 -- where the first arcs of a node are relaxed and the next one is, one arc more is relaxed
-pub done-more : (p : Parts) (ws : Weights) (limit : Option ℕ) (t : NodeId) (ls : Labels) (arcs : List ArcId) (i : ℕ) → ((j : ℕ) → j < i → IsUsable p ws (arc_at arcs j) → IsRelaxed p ws limit t ls (arc_at arcs j)) → (IsUsable p ws (arc_at arcs i) → IsRelaxed p ws limit t ls (arc_at arcs i)) → (j : ℕ) → j < suc i → IsUsable p ws (arc_at arcs j) → IsRelaxed p ws limit t ls (arc_at arcs j)
+pub done-more : (p : Parts) (ws : Weights) (limit : Option ℕ) (t : NodeId) (ls : Labels) (arcs : List ArcId) (i : ℕ) → ((j : ℕ) → j < i → IsUsable p ws (arc_at arcs j) → IsRelaxed p ws limit t ls (arc_at arcs j))
+    → (IsUsable p ws (arc_at arcs i) → IsRelaxed p ws limit t ls (arc_at arcs i)) → (j : ℕ) → j < suc i → IsUsable p ws (arc_at arcs j) → IsRelaxed p ws limit t ls (arc_at arcs j)
 done-more p ws limit t ls arcs i before now j below = elim (below_cases j i below) [
   | inl early ↦ before j early
   | inr here ↦ subst (λ (k : ℕ). IsUsable p ws (arc_at arcs k) → IsRelaxed p ws limit t ls (arc_at arcs k)) (sym here) now
 ]
 
 -- a better label is taken
-spread-taken : (p : Parts) (ws : Weights) (limit : Option ℕ) (s t : NodeId) (ls : Labels) (stop : Stop) (arcs : List ArcId) (i : ℕ) (a : ArcId) (l : Label) → arc_at arcs i ≡ a → IsSpread p ws limit s t ls stop arcs i → GoesOn p ws limit ls stop a l → is_better l (label_at ls (head_of p a).0) ≡ true → IsSpread p ws limit s t (set ls (head_of p a).0 (Some l)) stop arcs (suc i)
+spread-taken : (p : Parts) (ws : Weights) (limit : Option ℕ) (s t : NodeId) (ls : Labels) (stop : Stop) (arcs : List ArcId) (i : ℕ) (a : ArcId) (l : Label) → arc_at arcs i ≡ a
+    → IsSpread p ws limit s t ls stop arcs i → GoesOn p ws limit ls stop a l → is_better l (label_at ls (head_of p a).0) ≡ true → IsSpread p ws limit s t (set ls (head_of p a).0 (Some l)) stop arcs (suc i)
 spread-taken p ws limit s t ls stop arcs i a l number h g better =
     let v = (head_of p a).0 in
     let open_ = open-head p ws limit s t ls stop arcs i a l h g better in
@@ -249,13 +251,15 @@ spread-same p ws limit s t ls stop arcs i h now = record {
   done = done-more p ws limit t ls arcs i h.done now;
 }
 
-spread-left : (p : Parts) (ws : Weights) (limit : Option ℕ) (s t : NodeId) (ls : Labels) (stop : Stop) (arcs : List ArcId) (i : ℕ) (a : ArcId) (l : Label) → arc_at arcs i ≡ a → IsSpread p ws limit s t ls stop arcs i → GoesOn p ws limit ls stop a l → is_better l (label_at ls (head_of p a).0) ≡ false → IsSpread p ws limit s t ls stop arcs (suc i)
+spread-left : (p : Parts) (ws : Weights) (limit : Option ℕ) (s t : NodeId) (ls : Labels) (stop : Stop) (arcs : List ArcId) (i : ℕ) (a : ArcId) (l : Label) → arc_at arcs i ≡ a
+    → IsSpread p ws limit s t ls stop arcs i → GoesOn p ws limit ls stop a l → is_better l (label_at ls (head_of p a).0) ≡ false → IsSpread p ws limit s t ls stop arcs (suc i)
 spread-left p ws limit s t ls stop arcs i a l number h g worse = spread-same p ws limit s t ls stop arcs i h (λ usable.
     let known = no_longer l (label_at ls (head_of p a).0) worse in
     subst (IsRelaxed p ws limit t ls) (sym number) (relaxed-now p ws limit t ls stop a l.length g.tail h.here g.length_is (λ wanted. record { label = known.label; is = known.is; within = known.within })))
 
 -- offering a usable arc's head its new label relaxes that arc and keeps the search right
-pub spread-offered : (p : Parts) (ws : Weights) (limit : Option ℕ) (s t : NodeId) (ls : Labels) (stop : Stop) (arcs : List ArcId) (i : ℕ) (a : ArcId) (l : Label) → arc_at arcs i ≡ a → IsSpread p ws limit s t ls stop arcs i → GoesOn p ws limit ls stop a l → IsSpread p ws limit s t (offered ls (head_of p a).0 l) stop arcs (suc i)
+pub spread-offered : (p : Parts) (ws : Weights) (limit : Option ℕ) (s t : NodeId) (ls : Labels) (stop : Stop) (arcs : List ArcId) (i : ℕ) (a : ArcId) (l : Label)
+    → arc_at arcs i ≡ a → IsSpread p ws limit s t ls stop arcs i → GoesOn p ws limit ls stop a l → IsSpread p ws limit s t (offered ls (head_of p a).0 l) stop arcs (suc i)
 spread-offered p ws limit s t ls stop arcs i a l number h g = elim (decide (is_better l (label_at ls (head_of p a).0))) [
   | inl better ↦ subst (λ (x : Labels). IsSpread p ws limit s t x stop arcs (suc i)) (sym (offered-better ls (head_of p a).0 l better)) (spread-taken p ws limit s t ls stop arcs i a l number h g better)
   | inr worse ↦ subst (λ (x : Labels). IsSpread p ws limit s t x stop arcs (suc i)) (sym (offered-worse ls (head_of p a).0 l worse)) (spread-left p ws limit s t ls stop arcs i a l number h g worse)

@@ -143,19 +143,6 @@ spread-start p ws limit s t ls stop h near other =
       done = λ j below. absurd (omega arith);
     }
 
--- before its first arc, the way through a node's arcs is the same for any list of them
-pub spread-arcs : (p : Parts) (ws : Weights) (limit : Option ℕ) (s t : NodeId) (ls : Labels) (stop : Stop) (arcs : List ArcId) → IsSpread p ws limit s t ls stop [] 0 → IsSpread p ws limit s t ls stop arcs 0
-spread-arcs p ws limit s t ls stop arcs h = record {
-  labels = h.labels;
-  below = h.below;
-  here = h.here;
-  settled = h.settled;
-  latest = h.latest;
-  steps = h.steps;
-  others = h.others;
-  done = λ j below. absurd (omega arith);
-}
-
 -- all arcs that leave the node are done
 pub spread-end : (p : Parts) (ws : Weights) (limit : Option ℕ) (s t : NodeId) (ls : Labels) (stop : Stop) (arcs : List ArcId) → AreLeaving p stop.node.0 arcs → IsSpread p ws limit s t ls stop arcs (length arcs) → IsSearch p ws limit s t ls
 spread-end p ws limit s t ls stop arcs leaving h = record {

@@ -88,7 +88,8 @@ read_none p ws s ls last here arcs n h within read none =
     cc
 
 -- the arcs that were read, in reverse, are a least path
-pub read_least : (p : Parts) (ws : Weights) (s t : NodeId) (ls : Labels) (last here : Label) (arcs : List ArcId) (n : ℕ) → IsInstance p → IsTree p ws s ls → label_at ls t.0 ≡ Some last → n ≡ last.steps → IsReadTo p ls last here arcs n → IsLeastPath p ws s t (reverse arcs) (unwrap_or (length_at ls t.0) 0)
+pub read_least : (p : Parts) (ws : Weights) (s t : NodeId) (ls : Labels) (last here : Label) (arcs : List ArcId) (n : ℕ) → IsInstance p → IsTree p ws s ls
+    → label_at ls t.0 ≡ Some last → n ≡ last.steps → IsReadTo p ls last here arcs n → IsLeastPath p ws s t (reverse arcs) (unwrap_or (length_at ls t.0) 0)
 read_least p ws s t ls last here arcs n inst h is all read =
     let length_is : unwrap_or (length_at ls t.0) 0 ≡ last.length = ap (λ (x : Option Label). unwrap_or (length_of_label x) 0) is in
     let arcs_are = back-end p ls last here arcs (omega (arith, all, read.left)) read.back in

@@ -8,14 +8,14 @@ use Rattle.std.specs.List.{Contains}
 use Rattle.std.specs.BinaryHeap.{IsUpperBound}
 use Rattle.std.proofs.Math.ListN.{set}
 use Rattle.std.proofs.lemmas.Bool.{ltb-false}
-use Rattle.std.proofs.lemmas.List.Elements.{All-nil, All-cons, All-contains}
+use Rattle.std.proofs.lemmas.List.Elements.{All-nil, All-cons}
 use Rattle.std.proofs.lemmas.List.Sorted.{Contains-permutation}
 use Rattle.least_path.specs.declared.label.Label.{Label}
 use Rattle.least_path.specs.declared.label.Stop.{Stop}
 use Rattle.least_path.specs.declared.queue.Waiting.{Waiting}
-use Rattle.least_path.specs.Labels.{Labels, label_at, HasNoOpen, IsNearest, first_labels_of}
-use Rattle.least_path.specs.Waits.{Waiter, waits, nearer_first, AllWait, OthersWait, IsFresh, IsStale}
-use Rattle.least_path.proofs.NearestLaws.{decide, label_within}
+use Rattle.least_path.specs.Labels.{Labels, label_at, IsNearest, first_labels_of}
+use Rattle.least_path.specs.Waits.{Waiter, waits, nearer_first, AllWait, OthersWait, IsStale}
+use Rattle.least_path.proofs.NearestLaws.{label_within}
 use Rattle.least_path.proofs.OfferLaws.{new_or_old}
 use Rattle.least_path.proofs.SettleLaws.{settled_label, settled_in, first-only}
 
@@ -44,24 +44,6 @@ contains-at y x queue (suc k) within is = inr (k, omega arith, is)
 
 contains-cases : (y x : Waiter) (queue : List Waiter) → Contains (y ∷ queue) x → (y ≡ x) ⊎ Contains queue x
 contains-cases y x queue h = contains-at y x queue h.0 h.1 h.2
-
-contains-none : (x : Waiter) → Contains [] x → ⊥
-contains-none x h = let within = h.1 in omega arith
-
--- where nothing waits, no node is open
-pub none-open : (ls : Labels) (queue : List Waiter) → queue ≡ [] → AllWait ls queue → HasNoOpen ls
-none-open ls queue empty h = λ v l is. elim (decide l.settled) [
-  | inl settled ↦ settled
-  | inr open_ ↦ absurd (contains-none (waits v l.length) (subst (λ (xs : List Waiter). Contains xs (waits v l.length)) empty (h v l is open_)))
-]
-
--- what waits first and is fresh is the nearest
-pub fresh-nearest : (ls : Labels) (queue : List Waiter) (first : Waiting) (label : Label) → AllWait ls queue → All (λ (o : Waiter). first.length ≤ o.0.length) queue → IsFresh ls first label → IsNearest ls (record { node = first.node; label = label })
-fresh-nearest ls queue first label h all f = record {
-  is = f.is;
-  unsettled = f.unsettled;
-  least = λ v l is open_. omega (arith, All-contains (λ (o : Waiter). first.length ≤ o.0.length) queue (waits v l.length) all (h v l is open_), f.length_is);
-}
 
 -- when the first of the queue is taken, the other open nodes still wait
 pub others-wait : (ls : Labels) (old new : List Waiter) (first : Waiting) → AllWait ls old → IsPermutation old (waits first.node.0 first.length ∷ new) → OthersWait ls new first.node.0

@@ -26,7 +26,8 @@ along p ws s t ls la limit arcs h path (suc i) within few =
     let a = arc_at arcs i in
     let before = along p ws s t ls la limit arcs h path i (omega (arith, within)) (omega (arith, few)) in
     let next = h.done before.place before.is.within (omega (arith, before.steps_within, few)) a (path.usable i (omega (arith, within))) (path.simple.goes_on i (omega (arith, within)) ∙ sym before.is.node_is) in
-    let more : sum_by (λ b. weight_at ws b) (take (suc i) arcs) ≡ sum_by (λ b. weight_at ws b) (take i arcs) + weight_at ws a = subst (λ (k : ℕ). sum_by (λ b. weight_at ws b) (take k arcs) ≡ sum_by (λ b. weight_at ws b) (take i arcs) + weight_at ws a) (let e : i + 1 ≡ suc i = omega arith in e) (sum_by_more (λ b. weight_at ws b) arcs i no_arc (omega (arith, within))) in
+    let more : sum_by (λ b. weight_at ws b) (take (suc i) arcs) ≡ sum_by (λ b. weight_at ws b) (take i arcs) + weight_at ws a =
+    subst (λ (k : ℕ). sum_by (λ b. weight_at ws b) (take k arcs) ≡ sum_by (λ b. weight_at ws b) (take i arcs) + weight_at ws a) (let e : i + 1 ≡ suc i = omega arith in e) (sum_by_more (λ b. weight_at ws b) arcs i no_arc (omega (arith, within))) in
     record {
       place = next.place;
       is = next.is;
@@ -82,7 +83,8 @@ within-enough p ws s t hops arcs inst source path =
     record { path = path.path; short = omega (arith, few, path.short) }
 
 -- after the last round, the latest label of the target is a least path of at most so many arcs
-pub found : (p : Parts) (ws : Weights) (s t : NodeId) (ls : Labels) (la : Latest) (hops b : ℕ) → IsInstance p → s.0 < p.nodes → IsSearch p ws s ls la (min hops (p.nodes - 1)) → latest_at la t.0 ≡ Some b → IsLeastWithin p ws s t hops (way ls (label_at ls b).steps (label_at ls b)) (label_at ls b).length
+pub found : (p : Parts) (ws : Weights) (s t : NodeId) (ls : Labels) (la : Latest) (hops b : ℕ) → IsInstance p → s.0 < p.nodes → IsSearch p ws s ls la (min hops (p.nodes - 1))
+    → latest_at la t.0 ≡ Some b → IsLeastWithin p ws s t hops (way ls (label_at ls b).steps (label_at ls b)) (label_at ls b).length
 found p ws s t ls la hops b inst source h is =
     let limit = min hops (p.nodes - 1) in
     let least = found-limit p ws s t ls la limit b h is in

@@ -109,7 +109,8 @@ pub record GoesOn (p : Parts) (ws : Weights) (ls : Labels) (start n k : ℕ) (l 
   pub length_is : l.length ≡ (label_at ls k).length + weight_at ws l.via
 
 -- the label that goes on along the arc at place i of those that leave the node
-pub goes-on : (p : Parts) (ws : Weights) (ls : Labels) (start n k : ℕ) (from : Label) (arcs : List ArcId) (i weight : ℕ) (head : NodeId) → k < start → label_at ls k ≡ from → AreLeaving p from.node.0 arcs → i < length arcs → slice_index_or ws (arc_at arcs i).0 None ≡ Some weight → head ≡ head_of p (arc_at arcs i) → head.0 < p.nodes → GoesOn p ws ls start n k (record { node = head; length = from.length + weight; steps = n; via = arc_at arcs i; parent = k })
+pub goes-on : (p : Parts) (ws : Weights) (ls : Labels) (start n k : ℕ) (from : Label) (arcs : List ArcId) (i weight : ℕ) (head : NodeId) → k < start → label_at ls k ≡ from → AreLeaving p from.node.0 arcs → i < length arcs
+    → slice_index_or ws (arc_at arcs i).0 None ≡ Some weight → head ≡ head_of p (arc_at arcs i) → head.0 < p.nodes → GoesOn p ws ls start n k (record { node = head; length = from.length + weight; steps = n; via = arc_at arcs i; parent = k })
 goes-on p ws ls start n k from arcs i weight head before is leaving within weighted head_is inside =
     let weight_is : weight_at ws (arc_at arcs i) ≡ weight = ap (λ (x : Option ℕ). unwrap_or x 0) weighted in
     record {
@@ -377,7 +378,8 @@ module _ (p : Parts) (ws : Weights) (s : NodeId) (ls : Labels) (la : Latest) (st
   }
 
 -- the search has gone on along one arc more
-spread-more : (p : Parts) (ws : Weights) (s : NodeId) (ls : Labels) (la : Latest) (start n k : ℕ) (arcs : List ArcId) (m : ℕ) → IsRound p ws s ls la start n k → ((j : ℕ) → j < m → IsUsable p ws (arc_at arcs j) → IsRelaxed p ws ls (label_at ls k) (arc_at arcs j)) → (IsUsable p ws (arc_at arcs m) → IsRelaxed p ws ls (label_at ls k) (arc_at arcs m)) → IsSpread p ws s ls la start n k arcs (m + 1)
+spread-more : (p : Parts) (ws : Weights) (s : NodeId) (ls : Labels) (la : Latest) (start n k : ℕ) (arcs : List ArcId) (m : ℕ) → IsRound p ws s ls la start n k
+    → ((j : ℕ) → j < m → IsUsable p ws (arc_at arcs j) → IsRelaxed p ws ls (label_at ls k) (arc_at arcs j)) → (IsUsable p ws (arc_at arcs m) → IsRelaxed p ws ls (label_at ls k) (arc_at arcs m)) → IsSpread p ws s ls la start n k arcs (m + 1)
 spread-more p ws s ls la start n k arcs m h before here = record {
   round = h;
   relaxed = λ j below usable. elim (below_cases j m (omega (arith, below))) [
@@ -390,7 +392,8 @@ spread-more p ws s ls la start n k arcs m h before here = record {
 pub spread-passed : (p : Parts) (ws : Weights) (s : NodeId) (ls : Labels) (la : Latest) (start n k : ℕ) (arcs : List ArcId) (m : ℕ) → IsSpread p ws s ls la start n k arcs m → (IsUsable p ws (arc_at arcs m) → ⊥) → IsSpread p ws s ls la start n k arcs (m + 1)
 spread-passed p ws s ls la start n k arcs m h none = spread-more p ws s ls la start n k arcs m h.round h.relaxed (λ usable. absurd (none usable))
 
-spread-taken : (p : Parts) (ws : Weights) (s : NodeId) (ls : Labels) (la : Latest) (start n k : ℕ) (arcs : List ArcId) (m : ℕ) (l : Label) (i : ℕ) → AreWeights p ws → IsSpread p ws s ls la start n k arcs m → GoesOn p ws ls start n k l → Goes ls la start l i → l.via ≡ arc_at arcs m → IsSpread p ws s (written ls i l) (set la l.node.0 (Some i)) start n k arcs (m + 1)
+spread-taken : (p : Parts) (ws : Weights) (s : NodeId) (ls : Labels) (la : Latest) (start n k : ℕ) (arcs : List ArcId) (m : ℕ) (l : Label) (i : ℕ) → AreWeights p ws
+    → IsSpread p ws s ls la start n k arcs m → GoesOn p ws ls start n k l → Goes ls la start l i → l.via ≡ arc_at arcs m → IsSpread p ws s (written ls i l) (set la l.node.0 (Some i)) start n k arcs (m + 1)
 spread-taken p ws s ls la start n k arcs m l i weights h on g via =
     let same = before-kept ls la start l i k h.round.start_within g on.parent_before in
     spread-more p ws s (written ls i l) (set la l.node.0 (Some i)) start n k arcs m
@@ -415,18 +418,15 @@ spread-left p ws s ls la start n k arcs m l h on known via =
     } in
     spread-more p ws s ls la start n k arcs m h.round h.relaxed (λ usable. subst (λ (a : ArcId). IsRelaxed p ws ls (label_at ls k) a) via relaxed)
 
-spread-with : (p : Parts) (ws : Weights) (s : NodeId) (ls : Labels) (la : Latest) (start n k : ℕ) (arcs : List ArcId) (m : ℕ) (l : Label) (place : Option ℕ) → AreWeights p ws → IsSpread p ws s ls la start n k arcs m → GoesOn p ws ls start n k l → l.via ≡ arc_at arcs m → place_of ls la start l ≡ place → IsSpread p ws s (labels_with ls l place) (latest_with la l place) start n k arcs (m + 1)
+spread-with : (p : Parts) (ws : Weights) (s : NodeId) (ls : Labels) (la : Latest) (start n k : ℕ) (arcs : List ArcId) (m : ℕ) (l : Label) (place : Option ℕ) → AreWeights p ws → IsSpread p ws s ls la start n k arcs m
+    → GoesOn p ws ls start n k l → l.via ≡ arc_at arcs m → place_of ls la start l ≡ place → IsSpread p ws s (labels_with ls l place) (latest_with la l place) start n k arcs (m + 1)
 spread-with p ws s ls la start n k arcs m l None weights h on via is = spread-left p ws s ls la start n k arcs m l h on (no_shorter ls la start l is) via
 spread-with p ws s ls la start n k arcs m l (Some i) weights h on via is = spread-taken p ws s ls la start n k arcs m l i weights h on (goes ls la start l i h.round.start_within (λ b known. (h.round.ways.latest l.node.0 b known).within) is) via
 
 -- offering the head of a usable arc its label relaxes that arc and keeps the round right
-pub spread-offered : (p : Parts) (ws : Weights) (s : NodeId) (ls : Labels) (la : Latest) (start n k : ℕ) (arcs : List ArcId) (m : ℕ) (l : Label) → AreWeights p ws → IsSpread p ws s ls la start n k arcs m → GoesOn p ws ls start n k l → l.via ≡ arc_at arcs m → IsSpread p ws s (labels_with ls l (place_of ls la start l)) (latest_with la l (place_of ls la start l)) start n k arcs (m + 1)
+pub spread-offered : (p : Parts) (ws : Weights) (s : NodeId) (ls : Labels) (la : Latest) (start n k : ℕ) (arcs : List ArcId) (m : ℕ) (l : Label) → AreWeights p ws → IsSpread p ws s ls la start n k arcs m
+    → GoesOn p ws ls start n k l → l.via ≡ arc_at arcs m → IsSpread p ws s (labels_with ls l (place_of ls la start l)) (latest_with la l (place_of ls la start l)) start n k arcs (m + 1)
 spread-offered p ws s ls la start n k arcs m l weights h on via = spread-with p ws s ls la start n k arcs m l (place_of ls la start l) weights h on via refl
-
--- the length along the arc fits
-pub length-fits : (p : Parts) (ws : Weights) (s : NodeId) (ls : Labels) (la : Latest) (start n k : ℕ) (a : ArcId) → AreWeights p ws → IsRound p ws s ls la start n k → k < start → (label_at ls k).length + weight_at ws a ≤ n * MAX_WEIGHT
-length-fits p ws s ls la start n k a weights h below =
-    omega (arith, weight-small p ws weights a, (h.ways.each k (omega (arith, below, h.start_within))).length_within, h.front k (omega arith) below)
 
 -- what an offer asks for
 pub latest-within : (p : Parts) (ws : Weights) (s : NodeId) (ls : Labels) (la : Latest) (v : ℕ) → AreWays p ws s ls la → IfSome (latest_at la v) (λ place. place < length ls)

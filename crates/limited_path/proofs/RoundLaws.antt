@@ -1,15 +1,14 @@
 -- Where the search, a round and the way through a node's arcs begin and end.
-use Rattle.std.proofs.Common.{◌≡◌, ℕ, zero, suc, ◌+◌, ◌-◌, ◌*◌, ◌<◌, ◌≤◌, inl, inr, List, length, Option, Some, None, replicate, refl, sym, ◌∙◌, ap, subst, arith}
+use Rattle.std.proofs.Common.{◌≡◌, ℕ, ◌+◌, ◌-◌, ◌<◌, ◌≤◌, inl, inr, List, length, Option, Some, None, replicate, refl, sym, ◌∙◌, ap, subst, arith}
 use Rattle.std.proofs.Math.ListN.{length-set}
 use Rattle.std.proofs.lemmas.List.{get_or-set_same, get_or-set_other, get_or-replicate, get_or_past, length-replicate}
-use Rattle.std.proofs.Math.Nat.{suc-mul}
 use Rattle.plan_base.specs.declared.ids.NodeId.{NodeId}
 use Rattle.plan_base.specs.declared.ids.ArcId.{ArcId}
 use Rattle.plan_base.specs.declared.parts.Parts.{Parts}
 use Rattle.plan_base.specs.Leaving.{AreLeaving}
 use Rattle.least_path.specs.Paths.{Weights, IsUsable}
 use Rattle.limited_path.specs.declared.label.Label.{Label}
-use Rattle.limited_path.specs.Labels.{Labels, Latest, label_at, latest_at, IsLabel, IsKnown, IsOf, AreWays, IsRelaxed, IsDone, IsRound, AreRounds, IsSpread, IsSearch, first_label_of, first_labels_of, first_latest_of}
+use Rattle.limited_path.specs.Labels.{Labels, Latest, label_at, latest_at, IsLabel, IsKnown, IsOf, AreWays, IsRelaxed, IsDone, IsRound, AreRounds, IsSpread, first_label_of, first_labels_of, first_latest_of}
 use Rattle.limited_path.proofs.WrittenLaws.{same_or_not, lt_or_le, below_cases, some_same}
 use Rattle.limited_path.proofs.OfferLaws.{few-labels}
 
@@ -43,26 +42,6 @@ spread-end p ws s ls la start n k here arcs m here_is leave all spread =
       new = h.round.new;
     }
 
--- one round more
-round-times : (n m : ℕ) → 0 < n → (n - 1) * m + m ≡ n * m
-round-times zero m some = absurd (omega (arith, some))
-round-times (suc n) m some =
-    let less : suc n - 1 ≡ n = omega arith in
-    rw less (sym (suc-mul n m))
-
--- after the rounds before it a round begins with none of its labels spread
-pub round-start : (p : Parts) (ws : Weights) (s : NodeId) (ls : Labels) (la : Latest) (from n : ℕ) → 0 < n → AreRounds p ws s ls la from (n - 1) → IsRound p ws s ls la (length ls) n from
-round-start p ws s ls la from n some h = record {
-  ways = h.ways;
-  some_before = h.ways.source_within;
-  start_within = omega arith;
-  few = omega (arith, h.few, round-times n p.nodes some);
-  before = λ i below. omega (arith, some, h.most i below);
-  front = λ i after below. omega (arith, some, h.last i after below);
-  done = h.done;
-  new = λ i after below. absurd (omega (arith, after, below));
-}
-
 -- when all labels of the last round are spread, one more round is done
 pub round-end : (p : Parts) (ws : Weights) (s : NodeId) (ls : Labels) (la : Latest) (start n : ℕ) → IsRound p ws s ls la start n start → AreRounds p ws s ls la start n
 round-end p ws s ls la start n h = record {
@@ -75,25 +54,6 @@ round-end p ws s ls la start n h = record {
     | inr after ↦ omega (arith, (h.new i after below).steps)
   ];
   last = λ i after below. (h.new i after below).steps;
-}
-
--- as many rounds as were asked for are done
-pub rounds-end : (p : Parts) (ws : Weights) (s : NodeId) (ls : Labels) (la : Latest) (from n : ℕ) → AreRounds p ws s ls la from n → IsSearch p ws s ls la n
-rounds-end p ws s ls la from n h = record {
-  ways = h.ways;
-  most = h.most;
-  done = λ i below few. elim (lt_or_le i from) [
-    | inl before ↦ h.done i before
-    | inr after ↦ absurd (omega (arith, h.last i after below, few))
-  ];
-}
-
--- the last round found nothing
-pub rounds-idle : (p : Parts) (ws : Weights) (s : NodeId) (ls : Labels) (la : Latest) (from n limit : ℕ) → AreRounds p ws s ls la from n → from ≡ length ls → n ≤ limit → IsSearch p ws s ls la limit
-rounds-idle p ws s ls la from n limit h idle upto = record {
-  ways = h.ways;
-  most = λ i below. omega (arith, h.most i below, upto);
-  done = λ i below few. h.done i (omega (arith, below, idle));
 }
 
 -- the one label is that of the source

@@ -1,28 +1,12 @@
 -- What stands where after a label is written.
-use Rattle.std.proofs.Common.{◌≡◌, ◌≢◌, ℕ, suc, ◌<◌, ◌≤◌, ◌⊎◌, inl, inr, Bool, true, false, nat_lt, [], ◌∷◌, ◌++◌, length, Option, Some, refl, sym, ◌∙◌, ap, arith, length-append}
+use Rattle.std.proofs.Common.{◌≡◌, ◌≢◌, ℕ, suc, ◌<◌, ◌≤◌, ◌⊎◌, inl, inr, true, false, nat_lt, [], ◌∷◌, ◌++◌, length, Option, Some, refl, sym, ◌∙◌, ap, arith, length-append}
 use Rattle.std.proofs.Math.ListN.{set, length-set}
 use Rattle.std.proofs.Math.Seq.{get_or-append_seam}
 use Rattle.std.proofs.lemmas.Bool.{ltb-true, ltb-false}
 use Rattle.std.proofs.lemmas.List.{get_or-set_same, get_or-set_other, get_or_append_left}
+pub use Rattle.least_path.proofs.NearestLaws.{decide, same_or_not, lt_or_le, below_cases}
 use Rattle.limited_path.specs.declared.label.Label.{Label}
 use Rattle.limited_path.specs.Labels.{Labels, label_at, no_label, written}
-
--- a test holds or fails
-pub decide : (b : Bool) → (b ≡ true) ⊎ (b ≡ false)
-decide true = inl refl
-decide false = inr refl
-
--- two numbers are equal or differ
-pub same_or_not : (v w : ℕ) → (v ≡ w) ⊎ (v ≢ w)
-same_or_not v w = grind arith
-
--- a number is below another or reaches it
-pub lt_or_le : (v n : ℕ) → (v < n) ⊎ (n ≤ v)
-lt_or_le v n = grind arith
-
--- a number below the next one is below this one or equal to it
-pub below_cases : (i l : ℕ) → i < suc l → (i < l) ⊎ (i ≡ l)
-below_cases i l h = grind arith
 
 -- a node has one latest label
 pub some_same : (x : Option ℕ) (i j : ℕ) → x ≡ Some i → x ≡ Some j → i ≡ j

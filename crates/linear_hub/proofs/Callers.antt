@@ -4,17 +4,11 @@ use Rattle.std.proofs.lemmas.List.Elements.{All-pop}
 use mathlib.Core.List.{IsPrefix}
 use lib.ListN.{take}
 use Rattle.one_history.specs.declared.view.Entry.{Entry}
+use Rattle.block_deques.proofs.Places.{got_end}
 
 -- a beginning of a beginning of a history is a beginning of it
 pub prefix_trans : {A : Type 0} (xs ys zs : List A) → IsPrefix xs ys → IsPrefix ys zs → IsPrefix xs zs
 prefix_trans xs ys zs p q = (p.0 ++ q.0, sym (append_assoc xs p.0 q.0) ∙ (ap (λ w. w ++ q.0) p.1 ∙ q.1))
-
--- what stands in a list with one item more stood there before or is the new one
-pub got_end : {A : Type 0} (xs : List A) (x u : A) (k : ℕ) → slice_get (xs ++ x ∷ []) k ≡ Some u → (slice_get xs k ≡ Some u) ⊎ ((k ≡ length xs) × (x ≡ u))
-got_end [] x u zero e = inr (refl, cc e)
-got_end [] x u (suc k) e = absurd (cc e)
-got_end (y ∷ xs) x u zero e = inl e
-got_end (y ∷ xs) x u (suc k) e = ⊎_elim (λ t. inl t) (λ (t : (k ≡ length xs) × (x ≡ u)). inr (ap suc t.0, t.1)) (got_end xs x u k e)
 
 -- what holds of each in a list holds of the last one and of those before it
 pub last_of : {L : Type 0} (P : L → Type 0) (xs ys : List L) (x : L) → xs ≡ ys ++ x ∷ [] → All P xs → P x × All P ys

@@ -1,12 +1,13 @@
 -- Seats as they are made, and as they are taken in.
-use Rattle.std.proofs.Common.{◌≡◌, ℕ, List, [], ◌∷◌, ◌++◌, length, inl, ⊎_elim, sym, subst, Some, slice_get}
+use Rattle.std.proofs.Common.{◌≡◌, ℕ, List, [], ◌∷◌, ◌++◌, length, ⊎_elim, sym, subst, Some, slice_get}
 use mathlib.Core.List.{IsPrefix}
 use Rattle.one_history.specs.declared.view.Entry.{Entry}
 use Rattle.one_history.specs.declared.view.View.{View}
 use Rattle.one_history.specs.Histories.{IsCaller}
 use Rattle.one_history.specs.Passes.{HasMet as Meets}
 use Rattle.one_history.proofs.Calling.{own_calls}
-use Rattle.linear_hub.proofs.Callers.{got_end, prefix_trans, still, none_left}
+use Rattle.block_deques.proofs.Places.{got_end}
+use Rattle.linear_hub.proofs.Callers.{prefix_trans, still, none_left}
 use Rattle.pool_machine.specs.State.{State}
 use Rattle.linear_hub.specs.Calls.{Call}
 use Rattle.linear_hub.specs.Histories.{Leads}
@@ -19,10 +20,6 @@ pub new_more : {L : Type 0} (number_of calls_of : L → ℕ) (view_in : L → Vi
 new_more {L} number_of calls_of view_in xs x all new k s at = ⊎_elim (λ t. all k s t)
     (λ (t : (k ≡ length xs) × (x ≡ s)). subst (λ (z : ℕ × L). (number_of z.1 ≡ z.0) × (calls_of z.1 ≡ 0) × ((view_in z.1).seen ≡ []) × ((view_in z.1).mine ≡ [])) (λ i. (sym t.0 i, t.1 i)) new)
     (got_end xs x s k at)
-
--- all remain before any is taken in
-pub all_remain : {L : Type 0} (seen_by : L → List (Entry Call)) (xs : List L) (history : List (Entry Call)) → Remains seen_by xs xs history
-all_remain seen_by xs history k x at = inl at
 
 -- one was taken in
 pub one_less : {L : Type 0} (seen_by : L → List (Entry Call)) (all old ys : List L) (x : L) (before after : List (Entry Call)) → old ≡ ys ++ x ∷ [] → IsPrefix before after → IsPrefix (seen_by x) after

@@ -14,14 +14,6 @@ pub moved : {A : Type 0} (whole left less behind more : List A) (x : A) → left
 moved whole left less behind more x l m w =
     w ∙ ap (λ zs. zs ++ reverse behind) l ∙ append_assoc less (x ∷ []) (reverse behind) ∙ ap (λ zs. less ++ zs) (sym (ap reverse m ∙ reverse-append behind (x ∷ [])))
 
--- the same of what the items are seen as
-pub moved_seen : {A W : Type 0} (f : W → A) (whole left less : List A) (ws : List W) (w : W) → left ≡ less ++ f w ∷ [] → whole ≡ left ++ reverse (map f ws) → whole ≡ less ++ reverse (map f (ws ++ w ∷ []))
-moved_seen f whole left less ws w l e = moved whole left less (map f ws) (map f (ws ++ w ∷ [])) (f w) l (map-append f ws (w ∷ [])) e
-
--- the same where an item goes from the workers to those behind
-pub moved_back : {A W : Type 0} (f : W → A) (whole behind more : List A) (ws less : List W) (w : W) → ws ≡ less ++ w ∷ [] → more ≡ behind ++ f w ∷ [] → whole ≡ map f ws ++ reverse behind → whole ≡ map f less ++ reverse more
-moved_back f whole behind more ws less w l m e = moved whole (map f ws) (map f less) behind more (f w) (ap (map f) l ∙ map-append f less (w ∷ [])) m e
-
 all_reversed : {A : Type 0} (P : A → Type 0) (xs : List A) → All P xs → All P (reverse xs)
 all_reversed P [] h = h
 all_reversed P (x ∷ xs) h =

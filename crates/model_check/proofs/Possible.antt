@@ -99,7 +99,8 @@ can_links count rs h =
 can_demand : (hop : HopModel) (count : ℕ) (r : DemandRecord) → IsGoodDemand count r → (k : ℕ) → Can (demand_fault count k (demand_of hop r))
 unfolding demand_fault
 can_demand hop count r h k =
-    can_or (when (has_end_outside count r.source r.target) (EndOutOfRange (end.Demand (demand_id k)))) (when (r.source.0 == r.target.0) (LoopDemand (demand_id k))) (never_when (has_end_outside count r.source r.target) (EndOutOfRange (end.Demand (demand_id k))) (ends_inside count r.source r.target h.source h.target)) (λ _.
+    can_or (when (has_end_outside count r.source r.target) (EndOutOfRange (end.Demand (demand_id k)))) (when (r.source.0 == r.target.0) (LoopDemand (demand_id k)))
+    (never_when (has_end_outside count r.source r.target) (EndOutOfRange (end.Demand (demand_id k))) (ends_inside count r.source r.target h.source h.target)) (λ _.
     can_when (r.source.0 == r.target.0) (LoopDemand (demand_id k)) tt)
 
 can_demands : (hop : HopModel) (count : ℕ) (rs : List DemandRecord) → All (IsGoodDemand count) rs → Can (first_in (demand_fault count) (map (demand_of hop) rs))

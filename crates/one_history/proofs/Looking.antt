@@ -136,10 +136,6 @@ module _ {D C : Type 0} (leads : Leading D C) where
   pub served_after : (m new : Knowing D C) (t n : ℕ) → LooksAt leads m.0.stage m n new → m.0.stage ≡ Waiting t → n ≡ t → IsServed leads t m new
   served_after m new t n l is e = (subst (λ stage. LooksAt leads stage m n new) is l).0 e
 
-  -- a look that finds another ticket changes nothing
-  pub unserved_after : (m new : Knowing D C) (t n : ℕ) → LooksAt leads m.0.stage m n new → m.0.stage ≡ Waiting t → n ≢ t → new ≡ m
-  unserved_after m new t n l is ne = (subst (λ stage. LooksAt leads stage m n new) is l).1 ne
-
   -- a pass whose ticket is served has the slot, in front of what it had
   pub has_slot : (m new : Knowing D C) (t : ℕ) → IsServed leads t m new → (value : D) × (new.1 ≡ (0, Some value) ∷ rest new.1)
   has_slot m new t h = (h.value, ap (λ x. x.1) h.after ∙ ap (λ xs. (0, Some h.value) ∷ xs) (sym (ap (λ (x : Knowing D C). rest x.1) h.after)))

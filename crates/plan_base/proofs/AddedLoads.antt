@@ -38,7 +38,9 @@ abbrev pub added : (ArcId → ℕ) → List ArcId → ℕ → ℕ → ℕ
 added kind arcs load e = if uses_by kind e arcs then load else 0
 
 -- one arc more
-pub added-next : (kind : ArcId → ℕ) (loads old : List ℕ) (arcs : List ArcId) (load i : ℕ) (d : ArcId) → HasOnce kind MAX_PLACES arcs → i < length arcs → length loads ≡ MAX_PLACES → ((e : ℕ) → e < MAX_PLACES → slice_index loads e ≡ slice_index old e + added kind (take i arcs) load e) → (e : ℕ) → e < MAX_PLACES → slice_index (set loads (kind (get_or arcs i d)) (slice_index loads (kind (get_or arcs i d)) + load)) e ≡ slice_index old e + added kind (take (i + 1) arcs) load e
+pub added-next : (kind : ArcId → ℕ) (loads old : List ℕ) (arcs : List ArcId) (load i : ℕ) (d : ArcId) → HasOnce kind MAX_PLACES arcs → i < length arcs → length loads ≡ MAX_PLACES
+    → ((e : ℕ) → e < MAX_PLACES → slice_index loads e ≡ slice_index old e + added kind (take i arcs) load e) → (e : ℕ) → e < MAX_PLACES
+    → slice_index (set loads (kind (get_or arcs i d)) (slice_index loads (kind (get_or arcs i d)) + load)) e ≡ slice_index old e + added kind (take (i + 1) arcs) load e
 added-next kind loads old arcs load i d once within size so_far e inside =
     let a = get_or arcs i d in
     let same : a ≡ arc_at arcs i = get_or_default arcs i d no_arc within in

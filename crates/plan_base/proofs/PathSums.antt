@@ -10,7 +10,7 @@ use Rattle.plan_base.specs.Sums.{sum_below}
 use Rattle.plan_base.specs.Arcs.{link_of, is_arc}
 use Rattle.plan_base.specs.Places.{is_two_way, places, place_of}
 use Rattle.plan_base.specs.Paths.{arc_at, uses_by, IsSimplePath}
-use Rattle.plan_base.specs.Walks.{HasOnce, HasLinksOnce, HasPlacesOnce}
+use Rattle.plan_base.specs.Walks.{HasOnce, HasPlacesOnce}
 use Rattle.plan_base.proofs.Bools.{and-first}
 use Rattle.plan_base.proofs.SimplePaths.{uses_link-once}
 
@@ -68,13 +68,6 @@ sum_by-taken kind f n (a ∷ arcs) h =
     let more = taken-more kind f a arcs n (h.within 0 (omega arith)) new in
     let cons = sum_by-cons (λ (x : ArcId). f (kind x)) a arcs in
     omega arith
-
--- a simple path uses each link at most once, and only links of the instance
-pub HasLinksOnce-simple : (p : Parts) (k : Demand) (arcs : List ArcId) → IsSimplePath p k arcs → HasLinksOnce (length p.links) arcs
-HasLinksOnce-simple p k arcs simple = record {
-  within = λ i below. ltb-true _ _ (and-first _ _ (simple.are_arcs i below));
-  once = λ i j first second same. uses_link-once p k arcs i j simple first second same;
-}
 
 -- an arc of the instance is of one of its places
 pub place-within : (p : Parts) (a : ArcId) → is_arc p a ≡ true → place_of p a < places p

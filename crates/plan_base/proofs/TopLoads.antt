@@ -23,10 +23,6 @@ top-le p l = by_cases (is_useful l) refl
     by_cases true is = rw is (useful-le p.law l (total_load p))
     by_cases false is = rw is (omega arith)
 
--- a module of a link that is not useful has no capacity
-pub no-capacity : (l : Link) (m : ℕ) → is_useful l ≡ false → m < length l.modules → (module_at l m).capacity ≡ 0
-no-capacity l m none within = omega (arith, ltb-false _ _ (list_any-false_at (λ (x : Module). nat_lt 0 x.capacity) l.modules m no_module within none))
-
 -- without a useful module, counts add no capacity
 pub capacity-useless : (l : Link) (counts : List ℕ) → is_useful l ≡ false → capacity_with l counts ≡ l.pre
 capacity-useless l counts none =

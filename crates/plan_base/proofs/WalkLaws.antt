@@ -32,13 +32,15 @@ step_fault-walk_fault p id source arcs i here met a walk = by_cases (is_arc p a)
         rw (same, walk.stands) refl
 
 -- the walk stops here
-pub walk-stops : (p : Parts) (id : DemandId) (source : NodeId) (arcs : List ArcId) (i here : ℕ) (met : Stamps) (d : ArcId) (e : DesignFault) → IsWalk p source arcs i here met → i < length arcs → first_fault (fault_at (step_fault p id source arcs) arcs) i ≡ None → Some e ≡ walk_fault p id met here i (get_or arcs i d) → first_in (step_fault p id source arcs) arcs ≡ Some e
+pub walk-stops : (p : Parts) (id : DemandId) (source : NodeId) (arcs : List ArcId) (i here : ℕ) (met : Stamps) (d : ArcId) (e : DesignFault) → IsWalk p source arcs i here met → i < length arcs
+    → first_fault (fault_at (step_fault p id source arcs) arcs) i ≡ None → Some e ≡ walk_fault p id met here i (get_or arcs i d) → first_in (step_fault p id source arcs) arcs ≡ Some e
 walk-stops p id source arcs i here met d e walk within before here_is =
     first_fault-here (fault_at (step_fault p id source arcs) arcs) e i (length arcs) before
     (fault_at-get_or (step_fault p id source arcs) arcs i d within ∙ step_fault-walk_fault p id source arcs i here met (get_or arcs i d) walk ∙ sym here_is) within
 
 -- the walk goes on
-pub walk-goes_on : (p : Parts) (id : DemandId) (source : NodeId) (arcs : List ArcId) (i here : ℕ) (met : Stamps) (d : ArcId) → IsWalk p source arcs i here met → i < length arcs → first_fault (fault_at (step_fault p id source arcs) arcs) i ≡ None → None ≡ walk_fault p id met here i (get_or arcs i d) → first_fault (fault_at (step_fault p id source arcs) arcs) (i + 1) ≡ None
+pub walk-goes_on : (p : Parts) (id : DemandId) (source : NodeId) (arcs : List ArcId) (i here : ℕ) (met : Stamps) (d : ArcId) → IsWalk p source arcs i here met → i < length arcs
+    → first_fault (fault_at (step_fault p id source arcs) arcs) i ≡ None → None ≡ walk_fault p id met here i (get_or arcs i d) → first_fault (fault_at (step_fault p id source arcs) arcs) (i + 1) ≡ None
 walk-goes_on p id source arcs i here met d walk within before none =
     first_fault-next (fault_at (step_fault p id source arcs) arcs) i before
     (fault_at-get_or (step_fault p id source arcs) arcs i d within ∙ step_fault-walk_fault p id source arcs i here met (get_or arcs i d) walk ∙ sym none)
@@ -66,7 +68,8 @@ or-assoc true b c = refl
 or-assoc false b c = refl
 
 -- one arc more, and the node that it leads to
-pub IsWalk-next : (p : Parts) (id : DemandId) (source : NodeId) (arcs : List ArcId) (i here : ℕ) (met next_met : Stamps) (d : ArcId) (next : NodeId) → IsInstance p → IsWalk p source arcs i here met → i < length arcs → None ≡ walk_fault p id met here i (get_or arcs i d) → next ≡ head_of p (get_or arcs i d) → ((n : ℕ) → is_met next_met n ≡ (is_met met n || (next.0 == n))) → IsWalk p source arcs (i + 1) next.0 next_met
+pub IsWalk-next : (p : Parts) (id : DemandId) (source : NodeId) (arcs : List ArcId) (i here : ℕ) (met next_met : Stamps) (d : ArcId) (next : NodeId) → IsInstance p → IsWalk p source arcs i here met → i < length arcs
+    → None ≡ walk_fault p id met here i (get_or arcs i d) → next ≡ head_of p (get_or arcs i d) → ((n : ℕ) → is_met next_met n ≡ (is_met met n || (next.0 == n))) → IsWalk p source arcs (i + 1) next.0 next_met
 IsWalk-next p id source arcs i here met next_met d next inst walk within none is_next more =
     let a = get_or arcs i d in
     let is = is_arc-no_fault p id met here i a none in

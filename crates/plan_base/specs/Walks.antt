@@ -8,7 +8,7 @@ use Rattle.plan_base.specs.declared.parts.Parts.{Parts}
 use Rattle.plan_base.specs.declared.design_fault.DesignFault.{DesignFault}
 use Rattle.plan_base.specs.declared.design_fault.DesignFault.TheVariants.{NotAPath, Repeats}
 use Rattle.plan_base.specs.First.{◌or_else◌, when}
-use Rattle.plan_base.specs.Arcs.{is_arc, tail_of, head_of, link_of}
+use Rattle.plan_base.specs.Arcs.{is_arc, tail_of, head_of}
 use Rattle.plan_base.specs.Places.{place_of}
 use Rattle.plan_base.specs.Paths.{arc_at, node_at}
 use Rattle.plan_base.specs.DesignFaults.{has_met}
@@ -29,10 +29,6 @@ pub record IsWalk (p : Parts) (source : NodeId) (arcs : List ArcId) (i here : �
 pub record HasOnce (kind : ArcId → ℕ) (n : ℕ) (arcs : List ArcId) : Type 0 where
   pub within : (i : ℕ) → i < length arcs → kind (arc_at arcs i) < n
   pub once : (i j : ℕ) → i < length arcs → j < length arcs → kind (arc_at arcs i) ≡ kind (arc_at arcs j) → i ≡ j
-
--- no two arcs are of one link
-abbrev pub HasLinksOnce : ℕ → List ArcId → Type 0
-HasLinksOnce n arcs = HasOnce link_of n arcs
 
 -- no two arcs are of one place
 abbrev pub HasPlacesOnce : Parts → ℕ → List ArcId → Type 0

@@ -44,7 +44,8 @@ pub strips : (bytes word : List ℕ) (r : Option (Bor (List ℕ))) → MatchOpti
 strips bytes word r h = strip_prefix_is Decides-eqb bytes word r h
 
 -- what a slice's `strip_suffix` says
-pub strips_end : (bytes word : List ℕ) (r : Option (Bor (List ℕ))) → MatchOption r (pointwise nat_eq (drop (length bytes - length word) bytes) word ≡ false) (λ x. (pointwise nat_eq (drop (length bytes - length word) bytes) word ≡ true) × (x.now ≡ take (length bytes - length word) bytes) × (length x.now + length word ≡ length bytes))
+pub strips_end : (bytes word : List ℕ) (r : Option (Bor (List ℕ)))
+    → MatchOption r (pointwise nat_eq (drop (length bytes - length word) bytes) word ≡ false) (λ x. (pointwise nat_eq (drop (length bytes - length word) bytes) word ≡ true) × (x.now ≡ take (length bytes - length word) bytes) × (length x.now + length word ≡ length bytes))
     → found_now r ≡ before word bytes
 unfolding before
 strips_end bytes word None h = ap (λ t. cond t (Some (take (length bytes - length word) bytes)) None) (sym h)

@@ -1,22 +1,11 @@
 -- The digits behind a point, without the zeros at their end.
-use Rattle.std.proofs.Common.{◌≡◌, ◌≢◌, ℕ, zero, suc, ◌+◌, ◌-◌, ◌*◌, ◌/◌, ◌%◌, ◌^◌, ◌<◌, ◌≤◌, List, [], ◌∷◌, ◌++◌, length, take, drop, replicate, decimal, refl, sym, ap, ◌∙◌, append_assoc, arith}
-use Rattle.std.proofs.lemmas.Bool.Decides.{nat_tests}
+use Rattle.std.proofs.Common.{◌≡◌, ℕ, zero, suc, ◌+◌, ◌-◌, ◌*◌, ◌/◌, ◌%◌, ◌^◌, ◌<◌, ◌≤◌, List, [], ◌∷◌, ◌++◌, length, take, drop, replicate, decimal, refl, sym, ap, ◌∙◌, append_assoc, arith}
 use Rattle.std.proofs.Math.Nat.{pow-suc, pow-le-pow_right}
 use Rattle.std.proofs.lemmas.Fmt.{length-decimal-le_wide}
 use Rattle.std.proofs.lemmas.List.{take-append-drop, take-replicate, length-append, length-replicate}
 use Rattle.std.proofs.Math.Seq.{take-append_seam}
 use Rattle.scaled_numbers.specs.Canonical.{padded, fraction_digits, behind_point, grains_text}
 use Rattle.scaled_numbers.specs.Kept.{shown}
-
--- a fraction that ends in a zero is that of one place less
-pub drops_zero : (places n : ℕ) → 0 < places → n % 10 ≡ 0 → fraction_digits places n ≡ fraction_digits (places - 1) (n / 10)
-drops_zero zero n some e = absurd (omega arith)
-drops_zero (suc places) n some e = let less : places ≡ suc places - 1 = omega arith in rw e (ap (λ k. fraction_digits k (n / 10)) less)
-
--- a fraction that does not end in a zero is written whole
-pub keeps_all : (places n : ℕ) → n % 10 ≢ 0 → fraction_digits places n ≡ shown places n
-keeps_all zero n some = refl
-keeps_all (suc places) n some = grind (arith, nat_tests)
 
 -- without its last digit, a fraction fits one place less
 pub one_less : (places n : ℕ) → 0 < places → n < 10 ^ places → n / 10 < 10 ^ (places - 1)

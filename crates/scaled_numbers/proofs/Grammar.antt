@@ -108,9 +108,6 @@ abbrev Leads : ℕ → Numeral → Glyph → Option Stage → Type 0
 Leads b n g None = Unit {0}
 Leads b n g (Some st) = Reached st (with_byte st g b n) × (spelled (with_byte st g b n) ≡ spelled n ++ b ∷ [])
 
-push : (xs ys : List ℕ) (b : ℕ) → xs ++ (ys ++ b ∷ []) ≡ (xs ++ ys) ++ b ∷ []
-push xs ys b = sym (append_assoc xs ys (b ∷ []))
-
 step : (st : Stage) (g : Glyph) (b : ℕ) (n : Numeral) → Tells b g → Reached st n → Leads b n g (stage_after st g)
 step Start glyphs.Digit b n t r = rw r (record { digits = (t, tt); some = omega arith; point = refl; fraction = refl; power = refl }, refl)
 step Start glyphs.Dot b n t r = rw (r, t) (refl, refl)
@@ -176,7 +173,12 @@ step Signed glyphs.Plus b n t r = tt
 step Signed glyphs.Minus b n t r = tt
 step Signed glyphs.Other b n t r = tt
 step Power glyphs.Digit b n t (sign, digits, some, r) = (
-  (sign, digits ++ b ∷ [], omega (arith, length-append digits (b ∷ [])), record { before = record { whole = r.before.whole; fraction = r.before.fraction; some = r.before.some; no_point = r.before.no_point }; mark = r.mark; letter = r.letter; power = rw r.power refl; all = digits_push 10 digits b r.all t }),
+  (
+    sign,
+    digits ++ b ∷ [],
+    omega (arith, length-append digits (b ∷ [])),
+    record { before = record { whole = r.before.whole; fraction = r.before.fraction; some = r.before.some; no_point = r.before.no_point }; mark = r.mark; letter = r.letter; power = rw r.power refl; all = digits_push 10 digits b r.all t },
+  ),
   rw r.power (simp append_assoc),
 )
 step Power glyphs.Dot b n t r = tt

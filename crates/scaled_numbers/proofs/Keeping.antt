@@ -39,11 +39,6 @@ keep_fraction s d st n b v h r =
     let m : digits_value 10 (n.whole ++ (n.fraction ++ b ∷ [])) ≡ digits_value 10 (n.whole ++ n.fraction) * 10 + (b - 48) = rw (← append_assoc n.whole n.fraction (b ∷ []), digits_value_push, v) refl in
     record { digits = rw m h; places = omega (arith, r.places, length-append n.fraction (b ∷ [])); power = r.power; negative = r.negative }
 
--- a minus before an exponent keeps what the scan knows, with the exponent negative
-pub keep_minus : (s : Scan) (st : Stage) (n : Numeral) (b : ℕ) → Expects Signed n → Sees s n
-    → Sees (record { stage = st; digits = s.digits; places = s.places; power = s.power; negative = true }) (with_byte Signed glyphs.Minus b n)
-keep_minus s st n b (mark, e) r = record { digits = r.digits; places = r.places; power = rw e (r.power ∙ rw e refl); negative = rw e refl }
-
 -- a digit of the exponent keeps what the scan knows, with the exponent capped
 pub keep_power : (s : Scan) (st : Stage) (n : Numeral) (b power : ℕ) → Expects Power n → digit_value b ≡ b - 48 → power ≡ min (s.power * 10 + (b - 48)) (10 ^ 9) → Sees s n
     → Sees (record { stage = st; digits = s.digits; places = s.places; power = power; negative = s.negative }) (in_power glyphs.Digit b n)

@@ -70,13 +70,6 @@ holds_zero core zeros n h = record {
   last = h.last;
 }
 
--- a zero behind nothing is nothing
-pub holds_nothing : (zeros n : ℕ) → Holds 0 zeros n → Holds 0 zeros (n * 10)
-holds_nothing zeros n h =
-    let none : h.exact ≡ 0 = omega (arith, h.kept) in
-    let n-is : n ≡ 0 = h.value ∙ ap (λ (e : ℕ). e * 10 ^ zeros) none ∙ zero-mul (10 ^ zeros) in
-    record { exact = h.exact; kept = h.kept; value = rw (n-is, none) (sym (zero-mul (10 ^ zeros))); last = h.last }
-
 -- ---- shifting
 
 -- a power of ten that divides another

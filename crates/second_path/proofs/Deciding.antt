@@ -54,7 +54,8 @@ pub has_paths : (p : Parts) (r : Forbidden) (n : ℕ) (paths : List (List ArcId)
 has_paths p r n paths h m below = record { path = slice_index_or paths m []; permitted = h.permitted m below }
 
 -- what is held at the end is the first demand that has two paths, with both of them
-pub is_two : (p : Parts) (r : Forbidden) (paths : List (List ArcId)) (held : Held) (first second : List ArcId) → ArePaths p r (length p.demands) paths → IsHeld p r paths (length p.demands) held → IsPermittedPath p r held.demand.0 first → IsOtherPath p r held.demand.0 first second → IsFirstTwo p r held.demand.0 first second
+pub is_two : (p : Parts) (r : Forbidden) (paths : List (List ArcId)) (held : Held) (first second : List ArcId) → ArePaths p r (length p.demands) paths
+    → IsHeld p r paths (length p.demands) held → IsPermittedPath p r held.demand.0 first → IsOtherPath p r held.demand.0 first second → IsFirstTwo p r held.demand.0 first second
 is_two p r paths held first second h is_held permitted other = record {
   is_demand = is_held.within;
   permitted = permitted;

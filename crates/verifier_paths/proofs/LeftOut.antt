@@ -1,7 +1,7 @@
 -- Another path leaves out an arc of the first.
 use Rattle.std.proofs.Common.{◌≡◌, ◌≢◌, ℕ, zero, suc, ◌+◌, ◌<◌, ◌≤◌, ◌⊎◌, inl, inr, true, false, List, [], ◌∷◌, ◌++◌, length, Option, Some, None, is_some, IfNone, IsTrue, refl, sym, ap, subst, ◌∙◌, arith, length-append}
 use Rattle.std.proofs.Math.Seq.{get_or-append_seam}
-use Rattle.std.proofs.lemmas.Bool.{cases_eq, cases_order, eqb-false, ne_eqb}
+use Rattle.std.proofs.lemmas.Bool.{cases_eq, cases_order, ne_eqb}
 use Rattle.std.proofs.lemmas.List.{same_lists, get_or_default, get_or_append_left}
 use Rattle.std.proofs.lemmas.List.Elements.{All-from_get_or, All-weaker}
 use Rattle.plan_base.specs.declared.ids.ArcId.{ArcId}
@@ -10,9 +10,9 @@ use Rattle.plan_base.specs.Arcs.{tail_of, head_of, no_arc, demand_at}
 use Rattle.plan_base.specs.Paths.{arc_at, node_at}
 use Rattle.arc_restrict.specs.Restrictions.{Forbidden, IsPermittedPath, IsOnlyPath}
 use Rattle.verifier_paths.specs.Labels.{may_take}
-use Rattle.verifier_paths.specs.OnlyPaths.{IsPathOf, path_in, ArePathsTo, AreOnlyTo, HavePaths, HasSecond}
+use Rattle.verifier_paths.specs.OnlyPaths.{IsPathOf, path_in, ArePathsTo, HavePaths, HasSecond}
 use Rattle.verifier_paths.proofs.Offers.{before_or_at, arc_of}
-use Rattle.verifier_paths.proofs.LeastPrices.{taken_permitted, taken_not_left_out, takes_of, path-taken}
+use Rattle.verifier_paths.proofs.LeastPrices.{taken_permitted, takes_of, path-taken}
 
 -- ---- paths that may be taken are permitted
 
@@ -112,14 +112,6 @@ only_of_left_out p r k path path_is none = record { permitted = path_is; only = 
           ]
         ]
 
--- a path that leaves out one of its arcs is another
-pub not_only : (p : Parts) (r : Forbidden) (k : ℕ) (path others : List ArcId) (i : ℕ) → i < length path → IsPathOf p (may_take p r k (Some (arc_at path i))) k others → IsOnlyPath p r k path → ⊥
-not_only p r k path others i within h only =
-    let same : others ≡ path = only.only others (permitted_of_path p r k (Some (arc_at path i)) others h) in
-    let in_others : i < length others = omega (arith, within, ap length same) in
-    let out = taken_not_left_out p r k (Some (arc_at path i)) (arc_at others i) (h.taken i no_arc in_others) in
-    eqb-false _ _ out (ap (λ (arcs : List ArcId). (arc_at arcs i).0) (sym same))
-
 -- ---- all demands
 
 path_before : (paths : List (List ArcId)) (path : List ArcId) (k : ℕ) → k < length paths → path_in (paths ++ path ∷ []) k ≡ path_in paths k
@@ -139,10 +131,6 @@ paths_more p r n paths path h is = record {
   ];
 }
 
--- no demands need no paths
-pub paths_none : (p : Parts) (r : Forbidden) → ArePathsTo p r 0 []
-paths_none p r = record { count = refl; each = λ k below. absurd (omega (arith, below)) }
-
 -- a demand without a path
 pub no_paths : (p : Parts) (r : Forbidden) (k : ℕ) → k < length p.demands → ((arcs : List ArcId) → IsPathOf p (may_take p r k None) k arcs → ⊥) → HavePaths p r → ⊥
 no_paths p r k within none have = let path = have k within in none path.0 (path_of_permitted p r k path.0 path.1)
@@ -158,13 +146,6 @@ has_second p r k path within path_is second = record {
   within = within;
   second = λ arcs only. second (subst (IsOnlyPath p r k) (sym (only.only path path_is)) only);
 }
-
--- one demand more
-pub only_more : (p : Parts) (r : Forbidden) (n : ℕ) (paths : List (List ArcId)) → AreOnlyTo p r n paths → IsOnlyPath p r n (path_in paths n) → AreOnlyTo p r (n + 1) paths
-only_more p r n paths h is k below = elim (before_or_at k n below) [
-  | inl before ↦ h k before
-  | inr here ↦ subst (λ (m : ℕ). IsOnlyPath p r m (path_in paths m)) (sym here) is
-]
 
 -- ---- what a search answers
 

@@ -12,7 +12,7 @@ use Rattle.arc_restrict.specs.Restrictions.{Forbidden, none_forbidden, IsPermitt
 use Rattle.arc_restrict.specs.Prices.{price_of, AreWithinLimit, IsLeastPrice}
 use Rattle.verifier_paths.specs.Kept.{IsUnrestricted}
 use Rattle.verifier_paths.specs.Labels.{label_at, may_take, AreLeast}
-use Rattle.verifier_paths.specs.Sources.{IsPriceOf, ArePricesOf, AreUnrestricted, IsFrom, HasPriced}
+use Rattle.verifier_paths.specs.Sources.{IsPriceOf, AreUnrestricted, IsFrom, HasPriced}
 use Rattle.verifier_paths.proofs.Offers.{before_or_at}
 use Rattle.verifier_paths.proofs.LeastPrices.{least-price, label-within}
 
@@ -60,10 +60,6 @@ pub record HasPricedBelow (p : Parts) (r : Forbidden) (prices : List ℕ) (sourc
   pub kept : (k : ℕ) → k < length p.demands → IsPriceOf p r prices k (label_at before k) → IsPriceOf p r prices k (label_at after k)
   pub found : (k : ℕ) → k < n → IsFrom p source k → IsPriceOf p r prices k (label_at after k)
 
--- before the first demand, all prices are as they were
-pub priced-start : (p : Parts) (r : Forbidden) (prices : List ℕ) (source : ℕ) (before : List (Option ℕ)) → HasPricedBelow p r prices source 0 before before
-priced-start p r prices source before = record { count = refl; kept = λ k within h. h; found = λ k below. absurd (omega (arith, below)) }
-
 -- another source's demand
 pub priced-over : (p : Parts) (r : Forbidden) (prices : List ℕ) (source n : ℕ) (before after : List (Option ℕ)) → (IsFrom p source n → ⊥)
     → HasPricedBelow p r prices source n before after → HasPricedBelow p r prices source (n + 1) before after
@@ -98,31 +94,9 @@ priced-more p r prices source n before after price within is h = record {
 pub priced-all : (p : Parts) (r : Forbidden) (prices : List ℕ) (source n : ℕ) (before after : List (Option ℕ)) → n ≡ length p.demands → HasPricedBelow p r prices source n before after → HasPriced p r prices source before after
 priced-all p r prices source n before after all h = record { count = h.count; kept = h.kept; found = λ k within from. h.found k (omega (arith, within, all)) from }
 
--- a source of no demand
-pub priced-nothing : (p : Parts) (r : Forbidden) (prices : List ℕ) (source : ℕ) (before : List (Option ℕ)) → ((k : ℕ) → k < length p.demands → IsFrom p source k → ⊥) → HasPriced p r prices source before before
-priced-nothing p r prices source before none = record { count = refl; kept = λ k within h. h; found = λ k within from. absurd (none k within from) }
-
 -- ---- source by source
 
 -- the demands of the first so many nodes have their prices
 pub record HasPricedTo (p : Parts) (r : Forbidden) (prices : List ℕ) (n : ℕ) (found : List (Option ℕ)) : Type 0 where
   pub count : length found ≡ length p.demands
   pub each : (k : ℕ) → k < length p.demands → (demand_at p k).source.0 < n → IsPriceOf p r prices k (label_at found k)
-
--- before the first node, no price is asked for
-pub sources-start : (p : Parts) (r : Forbidden) (prices : List ℕ) (found : List (Option ℕ)) → length found ≡ length p.demands → HasPricedTo p r prices 0 found
-sources-start p r prices found count = record { count = count; each = λ k within below. absurd (omega (arith, below)) }
-
--- with one node more, the demands that it sends have their prices
-pub sources-more : (p : Parts) (r : Forbidden) (prices : List ℕ) (n : ℕ) (before after : List (Option ℕ)) → HasPriced p r prices n before after → HasPricedTo p r prices n before → HasPricedTo p r prices (n + 1) after
-sources-more p r prices n before after here h = record {
-  count = here.count ∙ h.count;
-  each = λ k within below. elim (before_or_at (demand_at p k).source.0 n below) [
-    | inl earlier ↦ here.kept k within (h.each k within earlier)
-    | inr is ↦ here.found k within is
-  ];
-}
-
--- when the last node is gone through, all demands have their prices
-pub sources-all : (p : Parts) (r : Forbidden) (prices : List ℕ) (n : ℕ) (found : List (Option ℕ)) → n ≡ p.nodes → ((k : ℕ) → k < length p.demands → (demand_at p k).source.0 < p.nodes) → HasPricedTo p r prices n found → ArePricesOf p r prices found
-sources-all p r prices n found all lawful h = record { count = h.count; each = λ k within. h.each k within (let inside = lawful k within in omega (arith, inside, all)) }

@@ -1,5 +1,5 @@
 -- Counts of arcs as prices: from a node that is reached an arc leads back to one that is one arc nearer.
-use Rattle.std.proofs.Common.{◌≡◌, ℕ, suc, ◌+◌, ◌*◌, ◌<◌, ◌≤◌, inl, inr, Bool, List, [], ◌∷◌, ◌++◌, length, reverse, slice_index, Option, Some, None, refl, sym, ap, subst, ◌∙◌, arith, length-append}
+use Rattle.std.proofs.Common.{◌≡◌, ℕ, suc, ◌+◌, ◌<◌, ◌≤◌, Bool, List, [], ◌∷◌, ◌++◌, length, reverse, slice_index, Option, Some, None, refl, sym, ap, subst, ◌∙◌, arith, length-append}
 use Rattle.std.specs.Prelude.{⊤, MatchOption}
 use Rattle.std.proofs.lemmas.List.{reverse-append}
 use Rattle.plan_base.specs.declared.ids.ArcId.{ArcId}
@@ -14,8 +14,8 @@ use Rattle.arc_restrict.specs.Prices.{price_of, IsLeastPrice}
 use Rattle.verifier_paths.specs.Labels.{may_take, label_at, IsAtMost, IsWay, AreLeast}
 use Rattle.verifier_paths.specs.OnlyPaths.{AreOnes, AreFewest, IsPathOf, IsStep}
 use Rattle.verifier_paths.proofs.Ways.{Avoids, MeetOnce, has_last, way_on, price-cons, simple_of_way, way-all, way_of_simple}
-use Rattle.verifier_paths.proofs.Offers.{known, before_or_at, arc_of}
-use Rattle.verifier_paths.proofs.Rounding.{TakesArcs, tail-within, number-within}
+use Rattle.verifier_paths.proofs.Offers.{known}
+use Rattle.verifier_paths.proofs.Rounding.{TakesArcs, tail-within}
 use Rattle.verifier_paths.proofs.LeastPrices.{takes_arcs, path-taken, label-below}
 
 -- ---- prices 1 count arcs
@@ -89,17 +89,6 @@ has_step p takes source here steps labels inst are within least is =
 abbrev pub HasNoStep : Parts → (ArcId → Bool) → List (Option ℕ) → ℕ → ℕ → ℕ → Type 0
 HasNoStep p takes labels here steps number = (a : ArcId) → a.0 < number → IsStep p takes labels here steps a → ⊥
 
--- an arc that is no step back is one more of which none is
-pub no_step-more : (p : Parts) (takes : ArcId → Bool) (labels : List (Option ℕ)) (here steps number : ℕ) → (IsStep p takes labels here steps (arc_of number) → ⊥) → HasNoStep p takes labels here steps number → HasNoStep p takes labels here steps (number + 1)
-no_step-more p takes labels here steps number not_this h a below step = elim (before_or_at a.0 number below) [
-  | inl before ↦ h a before step
-  | inr is ↦ not_this (subst (IsStep p takes labels here steps) (ap arc_of is) step)
-]
-
--- where no arc at all is a step back, there is none
-pub no_step-all : (p : Parts) (takes : ArcId → Bool) (labels : List (Option ℕ)) (here steps number : ℕ) → TakesArcs p takes → number ≡ 2 * length p.links → HasNoStep p takes labels here steps number → (a : ArcId) → IsStep p takes labels here steps a → ⊥
-no_step-all p takes labels here steps number are all h a step = h a (let inside = number-within p a (are a step.taken) in omega (arith, inside, all)) step
-
 -- ---- the way back
 
 -- along the arcs from a node of so many steps, each node has one step more
@@ -113,10 +102,6 @@ pub record IsBack (p : Parts) (takes : ArcId → Bool) (labels : List (Option �
   pub steps : label_at labels here ≡ Some left
   pub way : IsWay p takes here target (reverse arcs)
   pub rising : IsRising p labels left (reverse arcs)
-
--- at the target the way back has no arcs
-pub back-none : (p : Parts) (takes : ArcId → Bool) (labels : List (Option ℕ)) (target left : ℕ) → target < p.nodes → label_at labels target ≡ Some left → IsBack p takes labels target left target []
-back-none p takes labels target left inside steps = record { inside = inside; steps = steps; way = refl; rising = tt }
 
 -- one step back more
 pub back-more : (p : Parts) (takes : ArcId → Bool) (labels : List (Option ℕ)) (target left here : ℕ) (arcs : List ArcId) (a : ArcId) → IsInstance p → TakesArcs p takes

@@ -19,7 +19,8 @@ returns-clause-some c =
     let f = slice_index c.args.loads.now in
     let after = rw c.link_of_place-link.ensures.value at c.in_ok-after.ensures.some in
     let above : total_load p < 340282366920938463463374607431768211455 = omega (arith, c.requires.lawful.total) in
-    rw c.saturating_sub.ensures (rise-cut p f c.args.place c.args.load c.loads_with-more.result.there c.loads_with-more.result.back c.args.before.cost c.in_ok-after.after.cost 340282366920938463463374607431768211455 above c.loads_with-more.ensures.there c.loads_with-more.ensures.back c.in_ok-after.ensures.load c.requires.before after)
+    rw c.saturating_sub.ensures (rise-cut p f c.args.place c.args.load c.loads_with-more.result.there c.loads_with-more.result.back c.args.before.cost c.in_ok-after.after.cost
+    340282366920938463463374607431768211455 above c.loads_with-more.ensures.there c.loads_with-more.ensures.back c.in_ok-after.ensures.load c.requires.before after)
 
 pub returns-clause-within : goal.returns-clause-within
 returns-clause-within c = omega (arith, c.saturating_sub.ensures, c.in_ok-after.ensures.within)

@@ -17,7 +17,8 @@ pub loop-place-preserved : goal.loop-place-preserved
 loop-place-preserved c =
     record {
       no_fault = walk-goes_on c.args.inst.now c.args.id c.args.demand.now.source c.args.arcs.now c.loop-place.place c.loop-place.here.0 c.loop-place.met no_arc c.loop-place.invariant.walk (omega arith) c.loop-place.invariant.no_fault c.in_ok-here.ensures.fault;
-      walk = IsWalk-next c.args.inst.now c.args.id c.args.demand.now.source c.args.arcs.now c.loop-place.place c.loop-place.here.0 c.loop-place.met c.next_node.new.met no_arc c.in_ok-here.here c.requires.lawful c.loop-place.invariant.walk (omega arith) c.in_ok-here.ensures.fault c.in_ok-here.ensures.next c.in_ok-here.ensures.met;
+      walk = IsWalk-next c.args.inst.now c.args.id c.args.demand.now.source c.args.arcs.now c.loop-place.place c.loop-place.here.0 c.loop-place.met c.next_node.new.met no_arc
+          c.in_ok-here.here c.requires.lawful c.loop-place.invariant.walk (omega arith) c.in_ok-here.ensures.fault c.in_ok-here.ensures.next c.in_ok-here.ensures.met;
     }
 
 pub returns-clause-short : goal.returns-clause-short

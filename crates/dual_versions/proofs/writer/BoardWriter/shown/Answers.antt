@@ -31,4 +31,5 @@ returns g c =
     let some' : 0 < length ps = search rules in
     let done = at_ok _ _ c.publish_as-writer.result.1 (c.publish_as-writer.ensures.succeeds tt) c.publish_as-writer.ensures.values in
     let told = at_ok _ _ c.publish_as-writer.result.1 (c.publish_as-writer.ensures.succeeds tt) c.publish_as-writer.ensures.rule in
-    shows_pending c.self.inside.prices (known_by w.desk.place) (known_by c.publish_as-writer.result.0.desk.place) w.desk.shown.value c.publish_as-writer.result.0.desk.shown.value ps (drop c.publish_as-writer.result.0.behind c.publish_as-writer.result.0.log.items) c.self.invariant some' done.1.0 done.1.1 told.1 ∙ ap with_pending_shown c.self.view_is
+    shows_pending c.self.inside.prices (known_by w.desk.place) (known_by c.publish_as-writer.result.0.desk.place) w.desk.shown.value c.publish_as-writer.result.0.desk.shown.value
+    ps (drop c.publish_as-writer.result.0.behind c.publish_as-writer.result.0.log.items) c.self.invariant some' done.1.0 done.1.1 told.1 ∙ ap with_pending_shown c.self.view_is
