@@ -1,6 +1,6 @@
 //! The ascent: each place's own price in turn, to the best that it can be.
 
-ghost use Rattle.std.specs.Prelude.{◌≡◌, ◌<◌, ◌≤◌, false, length, IfOk};
+ghost use Rattle.std.specs.Prelude.{◌≡◌, ◌<◌, ◌≤◌, false, length, slice_index, IfOk};
 ghost use Rattle.plan_base.specs.Facts.{price_limit};
 ghost use Rattle.plan_base.specs.Places.{is_two_way, places};
 ghost use Rattle.link_steps.specs.Ranges.{AreRanges};
@@ -11,11 +11,17 @@ ghost use Rattle.cut_table.specs.Numbers.{AreNumbers, IsPriceWithin};
 ghost use Rattle.master_step.specs.Ascents.{IsAscent};
 ghost use Rattle.master_step.specs.Climbing.{IsTurn};
 
+use crate::counts::rates_on;
 use crate::crossings::Crossings;
 use crate::gaps::greatest_price;
+use crate::hull::{Hull, Point};
+use crate::leaving::{Ends, other_place};
+use crate::rating::moved_rates;
+use crate::searching::first_not_rising;
 use crate::share::Share;
 use crate::source::Source;
 use crate::valuing::value_of;
+use crate::work::parted;
 use column_pool::Brief;
 use cut_table::{CutTable, PriceBounds};
 use link_steps::{LinkRanges, LinkValue, Ranges, StepTable};
@@ -24,9 +30,6 @@ use std::alloc::{AllocError, Global};
 
 /// How many times the greatest price a price may become.
 const MOST_TIMES: u128 = 4096;
-
-/// The part of a price within which the best one is looked for first.
-const NEAR: u128 = 16;
 
 /// A link of which one place's price is moved.
 #[derive(Clone, Copy)]
@@ -42,95 +45,108 @@ pub struct Turn {
     pub bounds: PriceBounds,
 }
 
-/// What the link has at this price of the place.
-fn found_at(steps: &StepTable, turn: Turn, price: u128) -> LinkValue
-    requires turn { IsTurn steps.now turn }
-    requires price { price ≤ price_limit steps.now }
-{
-    let (there, back) = if turn.is_back {
-        (turn.other, price)
-    } else {
-        (price, turn.other)
-    };
-    steps.link_value(turn.link, turn.ranges, there, back)
+/// A place on whose link a rate is above 0.
+#[derive(Clone, Copy)]
+struct RatedPlace<'a> {
+    /// What is left of the link's costs beside the price of the place less routing costs.
+    hull: &'a Hull,
+    /// A thousand routing costs, in thousandths of a cost grain per load grain.
+    routing: u128,
+    /// The least load of the place.
+    least: u64,
 }
 
-/// The part of the restricted value that the price of this place decides.
-fn worth(steps: &StepTable, turn: Turn, share: &Share, price: u128) -> i128
-    requires turn { IsTurn steps.now turn }
-    requires price { price ≤ price_limit steps.now }
-{
-    share
-        .income(price)
-        .saturating_add(found_at(steps, turn, price).value)
-}
-
-/// The load that the place has where the link has this value, in load grains.
-fn load_of(turn: Turn, found: LinkValue) -> i128 {
-    i128::from(if turn.is_back { found.back } else { found.load })
-}
-
-/// Whether the next higher price is worth more: it brings in more by the loads that stay, and the value of the link falls by
-/// at least the load that the place has.
-fn rises(steps: &StepTable, turn: Turn, share: &Share, price: u128) -> bool
-    requires turn { IsTurn steps.now turn }
-    requires price { price < price_limit steps.now }
-{
-    let rise = share.rise(price);
-    let found = found_at(steps, turn, price);
-    if rise <= load_of(turn, found) {
-        return false;
-    }
-    let next = found_at(steps, turn, price + 1);
-    found.value.saturating_sub(next.value) < rise
-}
-
-/// The prices from which to which to look for the best one: it is mostly near the one that is moved.
-fn bounds_near(steps: &StepTable, turn: Turn, share: &Share, price: u128) -> PriceBounds
-    requires turn { IsTurn steps.now turn }
-    ensures order { result.least ≤ result.most }
-    ensures least { turn.bounds.least ≤ result.least }
-    ensures most { result.most ≤ turn.bounds.most }
-{
-    let PriceBounds { least, most } = turn.bounds;
-    let below = price - price / NEAR;
-    let above = price.saturating_add(price / NEAR);
-    if below < least || below >= most {
-        return turn.bounds;
-    }
-    if !rises(steps, turn, share, below) {
-        return PriceBounds { least, most: below };
-    }
-    let least = below + 1;
-    if above >= most || above <= below {
-        return PriceBounds { least, most };
-    }
-    if rises(steps, turn, share, above) {
-        let least = above + 1;
-        PriceBounds { least, most }
-    } else {
-        PriceBounds { least, most: above }
-    }
-}
-
-/// The least price from which on a higher one is worth no more: the worth rises first, and then falls.
-fn best_price(steps: &StepTable, turn: Turn, share: &Share, price: u128) -> u128
-    requires turn { IsTurn steps.now turn }
-    ensures least { turn.bounds.least ≤ result }
-    ensures most { result ≤ turn.bounds.most }
-{
-    let near = bounds_near(steps, turn, share, price);
-    let mut low = near.least;
-    let mut high = near.most;
-    while low < high {
-        let middle = low + (high - low) / 2;
-        if rises(steps, turn, share, middle) {
-            low = middle + 1;
-        } else {
-            high = middle;
+impl RatedPlace<'_> {
+    /// What the link has at this price of the place; the load is given for both places.
+    fn found_at(self, price: u128) -> LinkValue {
+        let Point { amount, cost } = self.hull.least(price.saturating_sub(self.routing));
+        if price >= self.routing {
+            return LinkValue {
+                value: cost,
+                load: amount,
+                back: amount,
+            };
+        }
+        let routed = (self.routing - price).saturating_mul(u128::from(self.least));
+        LinkValue {
+            value: cost.saturating_add(i128::try_from(routed).unwrap_or(i128::MAX)),
+            load: self.least,
+            back: self.least,
         }
     }
-    low
+}
+
+/// What the price of a place is looked for by.
+#[derive(Clone, Copy)]
+pub struct Seeker<'a> {
+    steps: &'a StepTable,
+    turn: Turn,
+    share: &'a Share,
+    /// Where a rate is above 0 on a place of its link.
+    rated: Option<RatedPlace<'a>>,
+}
+
+impl Seeker<'_> {
+    /// What the link has at this price of the place.
+    fn found_at(self, price: u128) -> LinkValue
+        requires turn { IsTurn self.steps.now self.turn }
+        requires price { price ≤ price_limit self.steps.now }
+    {
+        let turn = self.turn;
+        if let Some(rated) = self.rated {
+            return rated.found_at(price);
+        }
+        let (there, back) = if turn.is_back {
+            (turn.other, price)
+        } else {
+            (price, turn.other)
+        };
+        self.steps.link_value(turn.link, turn.ranges, there, back)
+    }
+
+    /// The part of the restricted value that the price of this place decides.
+    fn worth(self, price: u128) -> i128
+        requires turn { IsTurn self.steps.now self.turn }
+        requires price { price ≤ price_limit self.steps.now }
+    {
+        self.share
+            .income(price)
+            .saturating_add(self.found_at(price).value)
+    }
+
+    /// The load that the place has where the link has this value, in load grains.
+    fn load_of(self, found: LinkValue) -> i128 {
+        i128::from(if self.turn.is_back {
+            found.back
+        } else {
+            found.load
+        })
+    }
+
+    /// Whether the next higher price is worth more: it brings in more by the loads that stay, and the value of the link falls
+    /// by at least the load that the place has.
+    fn rises(self, price: u128) -> bool
+        requires turn { IsTurn self.steps.now self.turn }
+        requires price { price < price_limit self.steps.now }
+    {
+        let rise = self.share.rise(price);
+        let found = self.found_at(price);
+        if rise <= self.load_of(found) {
+            return false;
+        }
+        let next = self.found_at(price + 1);
+        found.value.saturating_sub(next.value) < rise
+    }
+
+    /// The least price within the bounds from which on a higher one is worth no more.
+    fn best_price(self, price: u128) -> u128
+        requires { IsTurn self.steps.now self.turn }
+        ensures least { self.entry.turn.bounds.least ≤ result }
+        ensures most { result ≤ self.entry.turn.bounds.most }
+    {
+        let PriceBounds { least, most } = self.turn.bounds;
+        first_not_rising(least, most, price, |price| self.rises(price))
+    }
 }
 
 /// Whether the place is that of its link's arc back, where the link has two.
@@ -147,12 +163,10 @@ fn other_price(inst: &Instance, table: &CutTable, prices: &Prices, place: u32) -
     ensures within { result ≤ price_limit inst.now }
     ensures one_way { is_two_way inst.now.orient ≡ false → result ≡ 0 }
 {
-    inst.lawful();
-    if !inst.orient().is_two_way() {
-        return 0;
+    match other_place(inst, place) {
+        Some(other) => prices.as_slice()[other as usize],
+        None => 0,
     }
-    let other = if place % 2 == 1 { place - 1 } else { place + 1 };
-    prices.as_slice()[other as usize]
 }
 
 /// From where to where a price is looked for: as the rates permit, and not above this most.
@@ -213,14 +227,98 @@ pub(crate) fn put_price(
     prices.put(place, price);
 }
 
+/// Whether a rate is above 0 on a place of a place's link.
+fn is_rated(inst: &Instance, table: &CutTable, numbers: &Prices, place: u32) -> bool
+    requires table { table.now.problem ≡ inst.now }
+    requires place { place < places inst.now }
+{
+    if table.count() == 0 {
+        return false;
+    }
+    let (_, rates) = parted(numbers.as_slice(), inst.places() as usize);
+    if rates_on(table.crossings(place), rates) > 0 {
+        return true;
+    }
+    match other_place(inst, place) {
+        Some(other) => rates_on(table.crossings(other), rates) > 0,
+        None => false,
+    }
+}
+
+/// What a pass over the prices works on.
+#[derive(Drop)]
+struct Pass {
+    /// The most that a price becomes, in thousandths of a cost grain per load grain.
+    most: u128,
+    crossings: Crossings,
+    share: Share,
+    ends: Ends,
+    /// That of the place that is moved, where a rate is above 0 on its link.
+    hull: Hull,
+}
+
+impl Pass {
+    /// Writes what a place's price is looked for by, and whether a rate is above 0 on its link.
+    fn look(
+        &mut self,
+        inst: &Instance,
+        table: &CutTable,
+        ranges: &Ranges,
+        numbers: &Prices,
+        place: u32,
+        price: u128,
+    ) -> Result<bool, AllocError>
+        requires table { table.now.problem ≡ inst.now }
+        requires place { place < places inst.now }
+        requires ranges { AreRanges inst.now ranges.now }
+    {
+        self.crossings.fill_share(place, price, &mut self.share)?;
+        let is_rated = is_rated(inst, table, numbers, place);
+        if is_rated {
+            self.ends.meet(inst, table, ranges, place)?;
+            self.ends
+                .fill_hull(inst, table, ranges, numbers, place, None, &mut self.hull)?;
+        }
+        Ok(is_rated)
+    }
+
+    /// What the price of a place is looked for by.
+    fn seeker<'a>(
+        &'a self,
+        inst: &Instance,
+        steps: &'a StepTable,
+        turn: Turn,
+        is_rated: bool,
+    ) -> Seeker<'a>
+        requires link { turn.link.0 < length inst.now.links }
+        ensures turn { result.turn ≡ turn }
+        ensures steps { result.steps.now ≡ steps.now }
+    {
+        let ranged = if turn.is_back {
+            turn.ranges.back
+        } else {
+            turn.ranges.there
+        };
+        let rated = RatedPlace {
+            hull: &self.hull,
+            routing: 1000 * u128::from(inst.link(turn.link).routing),
+            least: ranged.least,
+        };
+        Seeker {
+            steps,
+            turn,
+            share: &self.share,
+            rated: if is_rated { Some(rated) } else { None },
+        }
+    }
+}
+
 /// Moves the price of a place to where it is worth most, if that is more than what it is worth now.
 fn move_place(
     inst: &Instance,
     table: &CutTable,
     ranges: &Ranges,
-    most: u128,
-    crossings: &mut Crossings,
-    share: &mut Share,
+    pass: &mut Pass,
     moved: &mut Prices,
     place: u32,
 ) -> Result<(), AllocError>
@@ -230,13 +328,13 @@ fn move_place(
     requires prices { AreNumbers inst.now table.now.cuts moved.old }
     ensures { AreNumbers inst.now table.now.cuts moved.new }
 {
-    let steps = table.steps();
-    let turn = turn_of(inst, table, ranges, moved, place, most);
+    let turn = turn_of(inst, table, ranges, moved, place, pass.most);
     let price = moved.as_slice()[place as usize];
-    crossings.fill_share(place, price, share)?;
-    let best = best_price(steps, turn, share, price);
-    if worth(steps, turn, share, best) > worth(steps, turn, share, price) {
-        crossings.move_price(place, price, best);
+    let is_rated = pass.look(inst, table, ranges, moved, place, price)?;
+    let seeker = pass.seeker(inst, table.steps(), turn, is_rated);
+    let best = seeker.best_price(price);
+    if seeker.worth(best) > seeker.worth(price) {
+        pass.crossings.move_price(place, price, best);
         put_price(inst, table, moved, place, best);
     }
     Ok(())
@@ -257,27 +355,44 @@ fn moved_prices(
     requires lists { length lists.now ≡ length inst.now.demands }
     ensures { IfOk result (AreNumbers inst.now table.now.cuts) }
 {
-    let most = inst
-        .price_limit()
-        .min(greatest_price(inst, prices).saturating_mul(MOST_TIMES));
+    let greatest = greatest_price(inst, prices).saturating_mul(MOST_TIMES);
     let mut moved = prices.copy()?;
-    let mut crossings = Crossings::new(alloc, inst, lists, prices.as_slice())?;
-    let mut share = Share::new(alloc);
+    let mut pass = Pass {
+        most: inst.price_limit().min(greatest),
+        crossings: Crossings::new(alloc, inst, lists, prices.as_slice())?,
+        share: Share::new(alloc),
+        ends: Ends::new(alloc),
+        hull: Hull::new(alloc),
+    };
     for place in 0..inst.places() {
         if inst.top_load(inst.link_of_place(place)) > 0 {
-            move_place(
-                inst,
-                table,
-                ranges,
-                most,
-                &mut crossings,
-                &mut share,
-                &mut moved,
-                place,
-            )?;
+            move_place(inst, table, ranges, &mut pass, &mut moved, place)?;
         }
     }
     Ok(moved)
+}
+
+/// The numbers after one pass over the prices, and where there are cuts one over the rates.
+fn moved_numbers(
+    alloc: Global,
+    inst: &Instance,
+    table: &CutTable,
+    ranges: &Ranges,
+    from: &Prices,
+    lists: &[Items<Path>],
+) -> Result<Prices, AllocError>
+    requires table { table.now.problem ≡ inst.now }
+    requires ranges { AreRanges inst.now ranges.now }
+    requires prices { AreNumbers inst.now table.now.cuts from.now }
+    requires lists { length lists.now ≡ length inst.now.demands }
+    ensures { IfOk result (AreNumbers inst.now table.now.cuts) }
+{
+    let moved = moved_prices(alloc, inst, table, ranges, from, lists)?;
+    if table.count() == 0 {
+        Ok(moved)
+    } else {
+        moved_rates(alloc, inst, table, ranges, &moved)
+    }
 }
 
 /// Numbers, and what they are worth.
@@ -338,7 +453,7 @@ pub fn ascend_from(
     let lists = brief.columns.as_slice();
     let source = Source::Lists(lists);
     let ranges = &brief.ranges;
-    let prices = moved_prices(alloc, inst, table, ranges, from, lists)?;
+    let prices = moved_numbers(alloc, inst, table, ranges, from, lists)?;
     let old = value_of(inst, table, ranges, from, &source);
     let new = value_of(inst, table, ranges, &prices, &source);
     if new < old {

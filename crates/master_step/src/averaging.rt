@@ -1,6 +1,6 @@
-//! The averaged ascent: prices moved towards what averages of columns and values disagree on.
+//! The averaged ascent: prices and rates moved towards what averages of columns, values and cuts disagree on.
 
-ghost use Rattle.std.specs.Prelude.{◌≡◌, ◌<◌, ◌≤◌, length, IfOk};
+ghost use Rattle.std.specs.Prelude.{◌≡◌, ◌<◌, ◌≤◌, ◌+◌, length, IfOk};
 ghost use Rattle.plan_base.specs.Places.{places};
 ghost use Rattle.link_steps.specs.Ranges.{AreRanges};
 ghost use Rattle.column_pool.specs.Briefs.{IsBriefFor};
@@ -8,243 +8,21 @@ ghost use Rattle.cut_table.specs.Numbers.{AreNumbers};
 ghost use Rattle.master_step.specs.Ascents.{HaveSizes};
 
 use crate::ascending::put_price;
-use crate::choice::{Choices, number_at, put_at};
-use crate::limits::MAX_TURNS;
-use crate::means::{Averages, Mean, mean_at, moved_mean, recent_loads};
+use crate::choice::number_at;
+use crate::counts::{Count, Counts, rates_on};
+use crate::limits::{MAX_CUT_TURNS, MAX_TURNS};
+use crate::means::{Averages, Mean, mean_at};
 use crate::pace::Pace;
+use crate::work::{Parts, Work, parted, take_turn};
 use column_pool::Brief;
-use cut_table::{CutTable, PriceBounds, RatedRows};
-use link_steps::{LinkValue, Ranges};
-use plan_base::{Instance, Items, LinkId, LinkPrices, Prices};
+use cut_table::{CutTable, PriceBounds, SeenLoads};
+use link_steps::Ranges;
+use plan_base::{Instance, Prices};
 use std::alloc::{AllocError, Global};
 
-/// What the turns of an ascent work on. No contract rests on it.
-#[derive(Drop)]
-struct Work {
-    choices: Choices,
-    /// What the least columns put on each place, in load grains.
-    column_loads: Vec<u128>,
-    /// What gives each link its value, in load grains.
-    value_loads: Vec<u128>,
-    /// The averages of each place.
-    means: Vec<Mean>,
-    /// For each link the average module cost of the loads that give it its value, in thousandths of a cost grain.
-    costs: Vec<u128>,
-    /// Room for the rates of a link's places.
-    rows: RatedRows,
-}
-
-/// By how many 64ths averages move in a turn.
-#[derive(Clone, Copy)]
-struct Parts {
-    /// Those that moves follow.
-    part: u128,
-    /// Those that a division reads.
-    recent: u128,
-}
-
-/// The parts of a turn: all in the first one.
-fn parts_of(turn: u32) -> Parts
-    requires { turn < MAX_TURNS }
-{
-    Parts {
-        part: if turn == 0 { 64 } else { 10 },
-        recent: (64 / (u128::from(turn) + 1)).max(16),
-    }
-}
-
-/// The prices of the places of the link of this number, the second 0 where it has one place.
-fn prices_of(prices: &[u128], is_two_way: bool, number: usize) -> LinkPrices {
-    if is_two_way {
-        let place = number.saturating_mul(2);
-        LinkPrices {
-            there: number_at(prices, place),
-            back: number_at(prices, place.saturating_add(1)),
-        }
-    } else {
-        LinkPrices {
-            there: number_at(prices, number),
-            back: 0,
-        }
-    }
-}
-
-/// The module cost of the loads that give a link its value, in thousandths of a cost grain: what prices ask of the loads and
-/// the value together, less the routing costs. None of these passes 128 bits.
-fn module_cost(found: LinkValue, priced: LinkPrices, routing: u64) -> u128 {
-    let load = u128::from(found.load);
-    let back = u128::from(found.back);
-    let there = priced.there.wrapping_mul(load);
-    let both = there.wrapping_add(priced.back.wrapping_mul(back));
-    let whole = i128::try_from(both).unwrap_or(i128::MAX);
-    let cost = u128::try_from(whole.saturating_add(found.value)).unwrap_or(0);
-    let routed = u128::from(routing).wrapping_mul(load.wrapping_add(back));
-    cost.saturating_sub(routed.wrapping_mul(1000))
-}
-
-impl Work {
-    /// The work of an ascent over the columns of a brief.
-    fn new(
-        alloc: Global,
-        inst: &Instance,
-        table: &CutTable,
-        brief: &Brief,
-    ) -> Result<Work, AllocError> {
-        let places = inst.places() as usize;
-        Ok(Work {
-            choices: Choices::new(alloc, inst, brief.columns.as_slice())?,
-            column_loads: vec![in alloc; 0; places]?,
-            value_loads: vec![in alloc; 0; places]?,
-            means: vec![in alloc; Mean::none(); places]?,
-            costs: vec![in alloc; 0; inst.links() as usize]?,
-            rows: table.rated_rows(),
-        })
-    }
-
-    /// Writes the loads that give a link its value, and moves the average of their module cost.
-    fn put_value(
-        &mut self,
-        is_two_way: bool,
-        number: usize,
-        found: LinkValue,
-        cost: u128,
-        recent: u128,
-    ) {
-        let loads = self.value_loads.as_mut_slice();
-        if is_two_way {
-            put_at(loads, number.saturating_mul(2), u128::from(found.load));
-            put_at(
-                loads,
-                number.saturating_mul(2).saturating_add(1),
-                u128::from(found.back),
-            );
-        } else {
-            put_at(loads, number, u128::from(found.load));
-        }
-        let held = number_at(self.costs.as_slice(), number);
-        put_at(
-            self.costs.as_mut_slice(),
-            number,
-            moved_mean(held, cost, recent),
-        );
-    }
-
-    /// Moves the averages of all places towards the loads.
-    fn move_means(&mut self, parts: Parts) {
-        for (place, mean) in self.means.iter_mut().enumerate() {
-            let columns = number_at(self.column_loads.as_slice(), place);
-            let values = number_at(self.value_loads.as_slice(), place);
-            *mean = mean.moved(columns, values, parts.part, parts.recent);
-        }
-    }
-
-    /// The widest gap between the averages of a place whose price may follow them, in load grains.
-    fn widest(&self, prices: &[u128]) -> u64 {
-        let mut widest = 0;
-        for (place, mean) in self.means.iter().enumerate() {
-            widest = mean.gap(number_at(prices, place)).max(widest);
-        }
-        widest
-    }
-
-    /// The sum of the squares of these gaps, each without its last bits, so that 16 bits are left of the widest.
-    fn squares(&self, prices: &[u128], shift: u32) -> u64
-        requires { shift < 64 }
-    {
-        let mut total: u64 = 0;
-        for (place, mean) in self.means.iter().enumerate() {
-            let gap = mean.gap(number_at(prices, place)) >> shift;
-            total = total.wrapping_add(gap.wrapping_mul(gap));
-        }
-        total
-    }
-
-    /// How far the price of the place with the widest gap moves, so that the move asks for so many 64ths of thousandths of
-    /// a cost grain.
-    fn move_of(&self, prices: &[u128], widest: u64, asked: u128) -> u128 {
-        let shift = 48u32.saturating_sub(widest.leading_zeros());
-        let squares = u128::from(self.squares(prices, shift));
-        let share = (squares << shift) / u128::from((widest >> shift).max(1));
-        (asked / 64 / share.max(1)).max(1)
-    }
-
-    /// The average costs of all links, in cost grains.
-    fn link_costs(&self, alloc: Global, inst: &Instance) -> Result<Items<u128>, AllocError>
-        ensures { IfOk result (λ costs. length costs ≡ length inst.now.links) }
-    {
-        let mut costs = Vec::new(alloc);
-        for number in 0..inst.links() {
-            costs.push(number_at(self.costs.as_slice(), number as usize) / 1000)?;
-        }
-        Ok(Items::from_vec(costs))
-    }
-
-    /// What the averages come to.
-    fn averages(&self, alloc: Global, inst: &Instance) -> Result<Averages, AllocError>
-        ensures { IfOk result (HaveSizes inst.now) }
-    {
-        Ok(Averages {
-            loads: recent_loads(alloc, inst, self.means.as_slice())?,
-            costs: self.link_costs(alloc, inst)?,
-        })
-    }
-}
-
-/// Writes the loads that give the links their values at these prices, and gives the sum of the values, in thousandths of a
-/// cost grain.
-fn fill_values(
-    inst: &Instance,
-    table: &CutTable,
-    ranges: &Ranges,
-    prices: &Prices,
-    recent: u128,
-    work: &mut Work,
-) -> i128
-    requires table { table.now.problem ≡ inst.now }
-    requires are_ranges { AreRanges inst.now ranges.now }
-    requires prices { AreNumbers inst.now table.now.cuts prices.now }
-{
-    let is_two_way = inst.orient().is_two_way();
-    let mut total: i128 = 0;
-    for number in 0..inst.links() {
-        let link = LinkId(number);
-        let priced = prices_of(prices.as_slice(), is_two_way, number as usize);
-        let ranged = ranges.of_link(inst, link);
-        let found = table.link_value(link, ranged, prices, &mut work.rows);
-        work.put_value(
-            is_two_way,
-            number as usize,
-            found,
-            module_cost(found, priced, inst.link(link).routing),
-            recent,
-        );
-        total = total.saturating_add(found.value);
-    }
-    total
-}
-
-/// Moves the averages towards what columns and values put on the places at these prices, and gives the restricted value, in
-/// thousandths of a cost grain.
-fn take_turn(
-    inst: &Instance,
-    table: &CutTable,
-    ranges: &Ranges,
-    prices: &Prices,
-    parts: Parts,
-    work: &mut Work,
-) -> i128
-    requires table { table.now.problem ≡ inst.now }
-    requires are_ranges { AreRanges inst.now ranges.now }
-    requires prices { AreNumbers inst.now table.now.cuts prices.now }
-{
-    let values = fill_values(inst, table, ranges, prices, parts.recent, work);
-    let loads = work.column_loads.as_mut_slice();
-    let priced = work.choices.fill(prices.as_slice(), loads);
-    work.move_means(parts);
-    i128::try_from(priced)
-        .unwrap_or(i128::MAX)
-        .saturating_add(values)
-}
+/// No rate is above this part of the price limit, so that those of as many cuts as there may be are together at most half of
+/// it.
+pub(crate) const RATE_SHARE: u128 = 512;
 
 /// Keeps the prices of a turn where its value is better than that of all before.
 fn keep_better(
@@ -264,30 +42,55 @@ fn keep_better(
     }
 }
 
-/// A price moved as its averages ask for.
-fn moved_price(bounds: PriceBounds, most: u128, widest: u64, mean: Mean, price: u128) -> u128
+/// How far numbers move: that with the widest gap by the most, others in proportion to their gaps.
+#[derive(Clone, Copy)]
+struct Move {
+    most: u128,
+    widest: u64,
+}
+
+impl Move {
+    /// A number moved by its gap.
+    fn apply(self, number: u128, gap: u64, rises: bool) -> u128 {
+        let step = self.most.saturating_mul(u128::from(gap)) / u128::from(self.widest.max(1));
+        if rises {
+            number.saturating_add(step)
+        } else {
+            number.saturating_sub(step)
+        }
+    }
+
+    /// A price moved as its averages ask for.
+    fn of_price(self, mean: Mean, price: u128) -> u128 {
+        self.apply(
+            price,
+            mean.gap(price),
+            mean.column_load() > mean.value_load(),
+        )
+    }
+
+    /// A rate moved as what its cut counts on average asks for.
+    fn of_rate(self, count: Count, rate: u128) -> u128 {
+        self.apply(rate, count.gap(rate), count.is_short())
+    }
+}
+
+/// A price as far as its bounds permit.
+fn bounded(bounds: PriceBounds, price: u128) -> u128
     requires { bounds.least ≤ bounds.most }
     ensures least { bounds.least ≤ result }
     ensures most { result ≤ bounds.most }
 {
-    let gap = u128::from(mean.gap(price));
-    let step = most.saturating_mul(gap) / u128::from(widest.max(1));
-    let asked = if mean.column_load() > mean.value_load() {
-        price.saturating_add(step)
-    } else {
-        price.saturating_sub(step)
-    };
-    asked.min(bounds.most).max(bounds.least)
+    price.min(bounds.most).max(bounds.least)
 }
 
-/// Writes the best prices, each moved, over those of the last turn.
+/// Writes the best prices, each moved, over those of the last turn, as far as the rates permit.
 fn move_prices(
     inst: &Instance,
     table: &CutTable,
     best: &Prices,
     means: &[Mean],
-    most: u128,
-    widest: u64,
+    by: Move,
     trial: &mut Prices,
 )
     requires table { table.now.problem ≡ inst.now }
@@ -295,15 +98,92 @@ fn move_prices(
     ensures { AreNumbers inst.now table.now.cuts trial.new }
 {
     for place in 0..inst.places() {
-        let mean = mean_at(means, place as usize);
-        let bounds = table.price_bounds(trial, place);
         let price = number_at(best.as_slice(), place as usize);
-        let moved = moved_price(bounds, most, widest, mean, price);
-        put_price(inst, table, trial, place, moved);
+        let moved = by.of_price(mean_at(means, place as usize), price);
+        let bounds = table.price_bounds(trial, place);
+        put_price(inst, table, trial, place, bounded(bounds, moved));
     }
 }
 
-/// Moves the prices, or tells that no move is asked for.
+/// Writes the best rates, each moved, over those of the last turn: none above the most.
+fn put_rates(
+    inst: &Instance,
+    table: &CutTable,
+    best: &Prices,
+    counts: &Counts,
+    by: Move,
+    most: u128,
+    trial: &mut Prices,
+)
+    requires { length trial.old ≡ places inst.now + length table.now.cuts }
+    ensures { length trial.new ≡ length trial.old }
+{
+    let places = inst.places();
+    for number in 0..table.count() {
+        let rate = number_at(best.as_slice(), (places + number) as usize);
+        let moved = by.of_rate(counts.at(number as usize), rate);
+        trial.put(places + number, moved.min(most));
+    }
+}
+
+/// A price moved, and beside these rates on its place as much as it has to be and as little as it may be.
+fn price_beside(inst: &Instance, place: u32, rates: u128, limit: u128, price: u128) -> u128
+    requires { place < places inst.now }
+{
+    if rates == 0 {
+        return price.min(limit);
+    }
+    let routing = u128::from(inst.link(inst.link_of_place(place)).routing);
+    price.max(1000 * routing).min(limit.saturating_sub(rates))
+}
+
+/// Writes the best prices, each moved, over those of the last turn, beside the rates that the turn has.
+fn put_prices(
+    inst: &Instance,
+    table: &CutTable,
+    best: &Prices,
+    means: &[Mean],
+    by: Move,
+    trial: &mut Prices,
+)
+    requires table { table.now.problem ≡ inst.now }
+    requires trial { length trial.old ≡ places inst.now + length table.now.cuts }
+    ensures { length trial.new ≡ length trial.old }
+{
+    let limit = inst.price_limit();
+    for place in 0..inst.places() {
+        let (_, rates) = parted(trial.as_slice(), inst.places() as usize);
+        let beside = rates_on(table.crossings(place), rates);
+        let price = number_at(best.as_slice(), place as usize);
+        let moved = by.of_price(mean_at(means, place as usize), price);
+        trial.put(place, price_beside(inst, place, beside, limit, moved));
+    }
+}
+
+/// Writes the best numbers, each moved, over those of the last turn; where they are then not as they have to be, the best
+/// ones as they are.
+fn move_numbers(
+    inst: &Instance,
+    table: &CutTable,
+    best: &Prices,
+    work: &Work,
+    by: Move,
+    trial: &mut Prices,
+)
+    requires table { table.now.problem ≡ inst.now }
+    requires best { AreNumbers inst.now table.now.cuts best.now }
+    requires trial { AreNumbers inst.now table.now.cuts trial.old }
+    ensures { AreNumbers inst.now table.now.cuts trial.new }
+{
+    let most = inst.price_limit() / RATE_SHARE;
+    put_rates(inst, table, best, &work.counts, by, most, trial);
+    put_prices(inst, table, best, work.means.as_slice(), by, trial);
+    if !table.are_numbers(trial) {
+        trial.set_to(best);
+    }
+}
+
+/// Moves the numbers, or tells that no move is asked for.
 fn move_on(
     inst: &Instance,
     table: &CutTable,
@@ -314,23 +194,52 @@ fn move_on(
     trial: &mut Prices,
 ) -> bool
     requires table { table.now.problem ≡ inst.now }
+    requires best { AreNumbers inst.now table.now.cuts best.now }
     requires trial { AreNumbers inst.now table.now.cuts trial.old }
     ensures { AreNumbers inst.now table.now.cuts trial.new }
 {
-    let prices = best.as_slice();
-    let widest = work.widest(prices);
+    let widest = work.widest(best.as_slice());
     match pace.asked(goal) {
         Some(asked) if widest > 0 => {
-            let most = work.move_of(prices, widest, asked).min(inst.price_limit());
-            let means = work.means.as_slice();
-            move_prices(inst, table, best, means, most, widest, trial);
+            let most = work.move_of(best.as_slice(), widest, asked);
+            let most = most.min(inst.price_limit());
+            let by = Move { most, widest };
+            if table.count() == 0 {
+                move_prices(inst, table, best, work.means.as_slice(), by, trial);
+            } else {
+                move_numbers(inst, table, best, work, by, trial);
+            }
             true
         }
         _ => false,
     }
 }
 
-/// Puts the best prices of the ascent over those that it begins with.
+/// How many turns an averaged ascent makes at most.
+fn turns_of(table: &CutTable) -> u32 {
+    if table.count() == 0 {
+        MAX_TURNS
+    } else {
+        MAX_CUT_TURNS
+    }
+}
+
+/// The parts of a turn, all in the first one: with cuts averages are over more turns, and those that a division reads over
+/// fewer.
+fn parts_of(table: &CutTable, turn: u32) -> Parts {
+    let (part, recent) = if table.count() == 0 {
+        (40, 64)
+    } else {
+        (7, 128)
+    };
+    let mean = (64 / (u128::from(turn) + 1)).saturating_mul(4);
+    Parts {
+        part: if turn == 0 { 256 } else { part },
+        recent: mean.max(recent),
+    }
+}
+
+/// Puts the best numbers of the ascent over those that it begins with. Loads are noted in the last half of the turns.
 fn climb(
     inst: &Instance,
     table: &CutTable,
@@ -338,6 +247,7 @@ fn climb(
     goal: i128,
     best: &mut Prices,
     trial: &mut Prices,
+    seen: &mut SeenLoads,
     work: &mut Work,
 )
     requires table { table.now.problem ≡ inst.now }
@@ -346,9 +256,13 @@ fn climb(
     requires trial { AreNumbers inst.now table.now.cuts trial.old }
     ensures { AreNumbers inst.now table.now.cuts best.new }
 {
+    let turns = turns_of(table);
     let mut pace = Pace::new();
-    for turn in 0..MAX_TURNS {
-        let value = take_turn(inst, table, ranges, trial, parts_of(turn), work);
+    for turn in 0..turns {
+        let value = take_turn(inst, table, ranges, trial, parts_of(table, turn), work);
+        if turn >= turns / 2 {
+            work.note_values(inst, seen);
+        }
         keep_better(inst, table, value, trial, &mut pace, best);
         if !move_on(inst, table, goal, &pace, best, work, trial) {
             return;
@@ -367,14 +281,49 @@ pub struct AveragedAscent {
 }
 
 /// The averaged ascent: each turn moves the best prices so far up where the columns put more on a place on average than what
-/// gives its link its value, and down where they put less, by as much as would take the restricted value towards the goal.
+/// gives its link its value, and down where they put less, and the best rates up where the cuts count less of it on average
+/// than at least, and down where they count more, by as much as would take the restricted value towards the goal.
 ///
-/// - Takes: the instance and its table; a brief that fits it; the goal, in thousandths of a cost grain.
-/// - Gives: the best prices that it met with the rates of the brief, those of the brief among them, which fit the instance.
+/// - Takes: the instance and its table; a brief that fits it; the goal, in thousandths of a cost grain; room for the loads
+///   that give the links their values, which are noted in the last half of the turns that there may be.
+/// - Gives: the best prices and rates that it met, those of the brief among them, which fit the instance.
 /// - Errors: want of memory alone.
 /// - Rule: docs/METHOD.md, "Master step".
-/// - Time: at most `MAX_TURNS` times the arcs of the columns of demands with more than one, and as often one link value
-///   for each link.
+/// - Time: at most `MAX_TURNS` times, with cuts `MAX_CUT_TURNS` times, the arcs of the columns of demands with more than one,
+///   and as often one link value for each link and a look at the cuts that each place crosses.
+pub fn averaged_seen(
+    alloc: Global,
+    inst: &Instance,
+    table: &CutTable,
+    brief: &Brief,
+    goal: i128,
+    seen: &mut SeenLoads,
+) -> Result<AveragedAscent, AllocError>
+    requires table { table.now.problem ≡ inst.now }
+    requires brief { IsBriefFor inst.now table.now.cuts brief.now.prices brief.now.ranges brief.now.columns }
+    ensures prices { IfOk result (λ averaged. AreNumbers inst.now table.now.cuts averaged.prices) }
+    ensures sizes { IfOk result (λ averaged. HaveSizes inst.now averaged.averages) }
+{
+    let mut work = Work::new(alloc, inst, table, brief)?;
+    let mut best = brief.prices.copy()?;
+    let mut trial = brief.prices.copy()?;
+    let ranges = &brief.ranges;
+    climb(
+        inst, table, ranges, goal, &mut best, &mut trial, seen, &mut work,
+    );
+    Ok(AveragedAscent {
+        prices: best,
+        averages: work.averages(alloc, inst)?,
+    })
+}
+
+/// The averaged ascent, of which no loads are noted.
+///
+/// - Takes: the instance and its table; a brief that fits it; the goal, in thousandths of a cost grain.
+/// - Gives: what `averaged_seen` gives.
+/// - Errors: want of memory alone.
+/// - Rule: docs/METHOD.md, "Master step".
+/// - Time: that of `averaged_seen`.
 pub fn averaged(
     alloc: Global,
     inst: &Instance,
@@ -387,13 +336,6 @@ pub fn averaged(
     ensures prices { IfOk result (λ averaged. AreNumbers inst.now table.now.cuts averaged.prices) }
     ensures sizes { IfOk result (λ averaged. HaveSizes inst.now averaged.averages) }
 {
-    let mut work = Work::new(alloc, inst, table, brief)?;
-    let mut best = brief.prices.copy()?;
-    let mut trial = brief.prices.copy()?;
-    let ranges = &brief.ranges;
-    climb(inst, table, ranges, goal, &mut best, &mut trial, &mut work);
-    Ok(AveragedAscent {
-        prices: best,
-        averages: work.averages(alloc, inst)?,
-    })
+    let mut seen = SeenLoads::new(alloc, inst, 0)?;
+    averaged_seen(alloc, inst, table, brief, goal, &mut seen)
 }

@@ -15,21 +15,21 @@ pub struct Averages {
     pub costs: Items<u128>,
 }
 
-/// The average, moved towards the newest number by so many 64ths, rounded down. Numbers are below 2^120, so nothing passes
+/// The average, moved towards the newest number by so many 256ths, rounded down. Numbers are below 2^120, so nothing passes
 /// 128 bits.
 pub(crate) fn moved_mean(mean: u128, newest: u128, part: u128) -> u128 {
-    let rest = 64u128.wrapping_sub(part);
+    let rest = 256u128.wrapping_sub(part);
     let sum = newest
         .wrapping_mul(part)
         .wrapping_add(mean.wrapping_mul(rest));
-    sum / 64
+    sum / 256
 }
 
 /// What the averages of loads are multiplied by.
-const FINE: u128 = 1 << 20;
+pub(crate) const FINE: u128 = 1 << 20;
 
 /// An average in load grains, rounded down.
-fn whole_load(average: u128) -> u64 {
+pub(crate) fn whole_load(average: u128) -> u64 {
     u64::try_from(average / FINE).unwrap_or(u64::MAX)
 }
 

@@ -1,5 +1,5 @@
 use Rattle.std.proofs.Common.{◌≡◌, length}
-use Rattle.master_step.proofs.averaging.Work.link_costs.Given as goal
+use Rattle.master_step.proofs.work.Work.link_costs.Given as goal
 
 abbrev pub invariant-loop-number : goal.invariant-loop-number
 invariant-loop-number l = length l.costs.items ≡ l.number
