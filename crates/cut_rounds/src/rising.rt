@@ -12,7 +12,7 @@ use crate::seeker::Ground;
 use column_pool::{Brief, ColumnPool};
 use cut_table::{CutTable, SeenLoads};
 use link_steps::Ranges;
-use master_step::{Averages, ascend_from, averaged};
+use master_step::{Averages, ascend_from, averaged_seen};
 use plan_base::{BranchId, DemandId, Instance, Items, Path, Prices};
 use std::alloc::{AllocError, Global};
 
@@ -139,7 +139,7 @@ pub(crate) fn rise(
         return Ok(None);
     }
     seen.clear();
-    let found = averaged(alloc, inst, table, &brief, aim.goal())?;
+    let found = averaged_seen(alloc, inst, table, &brief, aim.goal(), seen)?;
     let numbers = passed(alloc, inst, table, &brief, &found.prices, held)?;
     Ok(Some(Risen {
         numbers,

@@ -9,7 +9,7 @@ ghost use Rattle.plan_run.specs.Plans.{IsPlanned, IsPlanDone};
 
 use crate::searching::search;
 use cert_format::write_plan;
-use plan_base::Items;
+use cut_rounds::found_cuts;
 use plan_io::{Gate, Shelf};
 use plan_texts::{Answer, Problem, Status, Stop, read_problem};
 use std::alloc::{AllocError, Global};
@@ -17,7 +17,6 @@ use std::sync::{Arc, Wait};
 use std::thread::Threads;
 
 /// What is written of the plan of an instance.
-#[tactic(auto, using(proof_tree::proofs::CutlessPlans::no_cuts))]
 fn planned<R: Threads + Wait + Sync, G: Gate>(
     rt: &R,
     alloc: Global,
@@ -31,9 +30,9 @@ fn planned<R: Threads + Wait + Sync, G: Gate>(
     requires budget { IsBudget budget }
     ensures { IfOk result (λ answer. IsPlanned problem.inst budget answer.status answer.text.items) }
 {
+    let (table, cuts) = found_cuts(alloc, &problem.inst, problem.table, budget)?;
     let inst = Arc::new(alloc, problem.inst)?;
-    let cuts = Items::new(alloc);
-    let plan = search(rt, alloc, inst, problem.table, workers, budget, cuts, gate)?;
+    let plan = search(rt, alloc, inst, table, workers, budget, cuts, gate)?;
     let text = write_plan(alloc, &plan)?;
     Ok(Answer {
         status: Status::of_plan(plan.status),
