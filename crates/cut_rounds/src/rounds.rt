@@ -5,7 +5,7 @@ ghost use Rattle.proof_tree.specs.Cuts.{IsCutList};
 ghost use Rattle.cut_table.specs.Numbers.{AreNumbers};
 
 use crate::bounding::bound_at;
-use crate::limits::{FOUND_IN_ROUND, FRUITLESS_ROUNDS, IDLE_ROUNDS};
+use crate::limits::{FOUND_IN_ROUND, FRUITLESS_ROUNDS, IDLE_ROUNDS, LEAST_GAIN};
 use crate::lists::{is_marked, marked, marked_numbers, rate_at, table_of, tested, widened};
 use crate::rising::{Aim, Risen, rise};
 use crate::seeker::Ground;
@@ -23,6 +23,8 @@ pub(crate) struct Standing {
     pub(crate) best: Prices,
     /// The greatest bound, in cost grains.
     pub(crate) bound: i128,
+    /// The bound at the start prices, in cost grains.
+    pub(crate) plain: i128,
     /// For each cut for how many rounds it has had no rate.
     pub(crate) idle: Vec<u32>,
     /// For how many rounds no cut has had a rate.
@@ -49,6 +51,11 @@ fn has_rate(ground: Ground<'_>, table: &CutTable, numbers: &Prices) -> bool {
 }
 
 impl Standing {
+    /// Whether the bound has risen by so much that cuts are worth the time that they take.
+    fn is_worthwhile(&self) -> bool {
+        self.bound.saturating_sub(self.plain) >= self.plain / LEAST_GAIN
+    }
+
     /// Takes the bound of the numbers in, where it is the greatest.
     fn take(
         &mut self,
@@ -171,7 +178,7 @@ fn next_table(
     Ok(table)
 }
 
-/// The table of the cuts that have a rate where the bound is greatest, with their numbers in the standing's best.
+/// The table of the cuts that have a rate where the bound is greatest, or of none where they raise it by little.
 fn last_table(
     ground: Ground<'_>,
     table: CutTable,
@@ -180,9 +187,11 @@ fn last_table(
     requires table { table.problem ≡ ground.inst.now }
     ensures { IfOk result (λ table. table.problem ≡ ground.entry.inst.now) }
 {
+    let is_worthwhile = standing.is_worthwhile();
     let mut marks = Vec::new(ground.alloc);
     for number in 0..table.count() {
-        marks.push(rate_at(ground.inst, &standing.best, number as usize) > 0)?;
+        let is_used = rate_at(ground.inst, &standing.best, number as usize) > 0;
+        marks.push(is_worthwhile && is_used)?;
     }
     let stay = marked(ground.alloc, table.cuts(), &marks)?;
     let table = table_of(ground.alloc, ground.inst, table, stay)?;

@@ -97,6 +97,7 @@ fn sought(ground: Ground<'_>, table: CutTable, budget: u32) -> Result<CutTable, 
         best: start.copy()?,
         numbers: start,
         bound,
+        plain: bound,
         idle: Vec::new(ground.alloc),
         fruitless: 0,
     };
