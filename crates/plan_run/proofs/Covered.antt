@@ -1,7 +1,8 @@
 -- With a node for each place down to the branching depth a search decides.
-use Rattle.std.proofs.Common.{◌≡◌, ◌≤◌, ◌+◌, ◌-◌, ◌^◌, ℕ, List, [], Option, Some, None, refl, subst, sym, ◌∙◌}
+use Rattle.std.proofs.Common.{◌≡◌, ◌≤◌, ◌+◌, ◌-◌, ◌^◌, ℕ, List, Option, Some, None, refl, subst, sym, ◌∙◌}
 use Rattle.std.specs.Prelude.{nat_lt}
 use Rattle.plan_base.specs.declared.parts.Parts.{Parts}
+use Rattle.proof_tree.specs.declared.cuts.Cut.{Cut}
 use Rattle.proof_tree.specs.declared.plan.Plan.{Plan}
 use Rattle.proof_tree.specs.declared.plan.PlanStatus.{PlanStatus}
 use Rattle.proof_tree.specs.declared.plan.PlanStatus.TheVariants as plan_statuses
@@ -27,8 +28,8 @@ none-undecided : (open_leaves : ℕ) (held : Option Incumbent) → open_leaves �
 none-undecided open_leaves None none is = absurd (let bad : ◌≡◌ {A = PlanStatus} plan_statuses.Infeasible plan_statuses.Undecided = rw none at is in cc)
 none-undecided open_leaves (Some held) none is = absurd (let bad : ◌≡◌ {A = PlanStatus} plan_statuses.Optimal plan_statuses.Undecided = rw none at is in cc)
 
-decided : Decides → (p : Parts) (budget : ℕ) (plan : Plan) → IsSearched p [] budget plan → CoversSplits p budget → plan.status ≡ plan_statuses.Undecided → ⊥
-decided decides p budget plan h covers is =
+decided : Decides → (p : Parts) (cuts : List Cut) (budget : ℕ) (plan : Plan) → IsSearched p cuts budget plan → CoversSplits p budget → plan.status ≡ plan_statuses.Undecided → ⊥
+decided decides p cuts budget plan h covers is =
     let of = h.of_search in
     let undecided = subst (HasStatus p plan) is h.valid.status in
     let spent : of.state.examined ≡ of.state.budget = sym of.is_plan.examined ∙ undecided.spent ∙ of.is_plan.budget in
@@ -44,8 +45,8 @@ undecided-plan plan_statuses.Undecided is = refl
 
 -- so the plan that is written ends as a decided one
 pub decided-planned : Decides → (p : Parts) (budget : ℕ) (bytes : List ℕ) → IsPlanned p budget Undecided bytes → CoversSplits p budget → ⊥
-decided-planned decides p budget bytes h covers = decided decides p budget h.plan h.searched covers (undecided-plan h.plan.status h.is_status)
+decided-planned decides p budget bytes h covers = decided decides p h.cuts budget h.plan h.searched covers (undecided-plan h.plan.status h.is_status)
 
 -- and so does the plan of which a line is written
-pub decided-searched : Decides → (p : Parts) (budget : ℕ) (plan : Plan) → IsSearched p [] budget plan → Undecided ≡ status_of_plan plan.status → CoversSplits p budget → ⊥
-decided-searched decides p budget plan h is covers = decided decides p budget plan h covers (undecided-plan plan.status is)
+pub decided-searched : Decides → (p : Parts) (cuts : List Cut) (budget : ℕ) (plan : Plan) → IsSearched p cuts budget plan → Undecided ≡ status_of_plan plan.status → CoversSplits p budget → ⊥
+decided-searched decides p cuts budget plan h is covers = decided decides p cuts budget plan h covers (undecided-plan plan.status is)

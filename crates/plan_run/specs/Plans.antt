@@ -1,6 +1,7 @@
 -- What is written where a network is planned.
-use Rattle.std.specs.Prelude.{ℕ, ◌≡◌, List, []}
+use Rattle.std.specs.Prelude.{ℕ, ◌≡◌, List}
 use Rattle.plan_base.specs.declared.parts.Parts.{Parts}
+use Rattle.proof_tree.specs.declared.cuts.Cut.{Cut}
 use Rattle.proof_tree.specs.declared.plan.Plan.{Plan}
 use Rattle.cert_format.specs.Grammar.{written_text, SpellsPlan}
 use Rattle.plan_texts.specs.declared.status.Status.{Status}
@@ -9,12 +10,13 @@ use Rattle.plan_texts.specs.Texts.{Texts}
 use Rattle.plan_texts.specs.Refusals.{HoldsOfProblem}
 use Rattle.plan_run.specs.Searches.{IsSearched}
 
--- the text that is written of a plan that a search without cuts gives for the instance and the budget, with the status of that plan
+-- the text that is written of a plan that a search gives for the instance, a list of cuts and the budget, with the status of that plan
 pub record IsPlanned (parts : Parts) (budget : ℕ) (status : Status) (bytes : List ℕ) : Type 0 where
   pub plan : Plan
+  pub cuts : List Cut
   pub spelt : SpellsPlan bytes plan
   pub text : bytes ≡ written_text plan
-  pub searched : IsSearched parts [] budget plan
+  pub searched : IsSearched parts cuts budget plan
   pub is_status : status ≡ status_of_plan plan.status
 
 -- the texts spell an instance within its limits, and this is the text of such a plan of it

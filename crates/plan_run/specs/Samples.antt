@@ -1,10 +1,11 @@
 -- What is written of a sample: its network, and the line of a trial.
-use Rattle.std.specs.Prelude.{ℕ, ◌≡◌, List, []}
+use Rattle.std.specs.Prelude.{ℕ, ◌≡◌, List}
 use Rattle.plan_base.specs.declared.parts.Parts.{Parts}
 use Rattle.snd_network.specs.declared.file.NetworkFile.{NetworkFile}
 use Rattle.snd_network.specs.Spelling.{SpellsNetwork}
 use Rattle.snd_network.specs.Writing.{network_text}
 use Rattle.model_check.specs.Reading.{ReadsAs}
+use Rattle.proof_tree.specs.declared.cuts.Cut.{Cut}
 use Rattle.proof_tree.specs.declared.plan.Plan.{Plan}
 use Rattle.plan_report.specs.Reports.{trial_line}
 use Rattle.instance_maker.specs.declared.trials.TheConstants.{TRIAL_BUDGET}
@@ -32,11 +33,12 @@ pub record IsSampled (key : SampleKey) (status : Status) (bytes : List ℕ) : Ty
   pub text : bytes ≡ network_text (network_of key)
   pub spelt : SpellsNetwork bytes (network_of key)
 
--- the line of a plan that a search without cuts gives for the network of a sample under the model of a trial, with the status of that plan
+-- the line of a plan that a search gives for the network of a sample under the model of a trial and a list of cuts, with the status of that plan
 pub record IsTried (key : SampleKey) (status : Status) (bytes : List ℕ) : Type 0 where
   pub plan : Plan
+  pub cuts : List Cut
   pub stands : ReadsAs (network_of key) trial_model (parts_of key)
-  pub searched : IsSearched (parts_of key) [] TRIAL_BUDGET plan
+  pub searched : IsSearched (parts_of key) cuts TRIAL_BUDGET plan
   pub line : bytes ≡ trial_line (parts_of key) plan
   pub is_status : status ≡ status_of_plan plan.status
 

@@ -6,9 +6,9 @@ ghost use Rattle.plan_run.specs.Samples.{IsSampled, IsTried, IsMade};
 
 use crate::searching::search_alone;
 use command_words::{SampleKey, SampleWork};
+use cut_rounds::found_cuts;
 use instance_maker::laws::samples_are_instances;
 use instance_maker::{TRIAL_BUDGET, sample, sample_problem};
-use plan_base::Items;
 use plan_report::trial_line;
 use plan_texts::{Answer, Status};
 use snd_network::write_network;
@@ -29,22 +29,15 @@ fn write_sample(alloc: Global, key: SampleKey) -> Result<Answer, AllocError>
 }
 
 /// Plans the network of a sample, and tells what its plan claims.
-#[tactic(auto, using(proof_tree::proofs::CutlessPlans::no_cuts))]
 fn try_sample(alloc: Global, key: SampleKey) -> Result<Answer, AllocError>
     requires { IsSampleKey key }
     ensures { IfOk result (λ answer. IsTried key answer.status answer.text.items) }
 {
     samples_are_instances();
     let problem = sample_problem(alloc, key.number, key.nodes, key.demands)?;
+    let (table, cuts) = found_cuts(alloc, &problem.inst, problem.table, TRIAL_BUDGET)?;
     let inst = Arc::new(alloc, problem.inst)?;
-    let cuts = Items::new(alloc);
-    let plan = search_alone(
-        alloc,
-        Arc::try_clone(&inst)?,
-        problem.table,
-        TRIAL_BUDGET,
-        cuts,
-    )?;
+    let plan = search_alone(alloc, Arc::try_clone(&inst)?, table, TRIAL_BUDGET, cuts)?;
     let text = trial_line(alloc, &*inst, &plan)?;
     Ok(Answer {
         status: Status::of_plan(plan.status),

@@ -7,4 +7,4 @@ pub returns-clause-planned : goal.returns-clause-planned
 returns-clause-planned c = λ budget texts bytes done. decided-planned c.enough_budget.ensures done.parts budget bytes done.holds
 
 pub returns-clause-tried : goal.returns-clause-tried
-returns-clause-tried c = λ key bytes tried. decided-searched c.enough_budget.ensures (parts_of key) TRIAL_BUDGET tried.plan tried.searched tried.is_status
+returns-clause-tried c = λ key bytes tried. decided-searched c.enough_budget.ensures (parts_of key) tried.cuts TRIAL_BUDGET tried.plan tried.searched tried.is_status
