@@ -4,13 +4,13 @@
 pub const MAX_ROUNDS: u32 = 14;
 
 /// The most nodes of the short search behind them.
-pub const MAX_TRIED: u32 = 100;
+pub const MAX_TRIED: u32 = 60;
 
 /// The most cuts that a round finds.
 pub const FOUND_IN_ROUND: u32 = 25;
 
 /// The most cuts that a node of the short search finds.
-pub const FOUND_AT_NODE: u32 = 3;
+pub const FOUND_AT_NODE: u32 = 2;
 
 /// The turns of an ascent whose loads are looked at, at most.
 pub const SEEN_TURNS: u16 = 60;
