@@ -18,8 +18,8 @@ pub const SEEN_TURNS: u16 = 60;
 /// For how many rounds a cut may go without a rate.
 pub const IDLE_ROUNDS: u32 = 2;
 
-/// The rounds end where the greatest bound has had no rate in more of them.
-pub const FRUITLESS_ROUNDS: u32 = 4;
+/// After so many rounds an ascent has to have come so far that cuts may be worth their time.
+pub const TRUSTED_ROUNDS: u32 = 3;
 
-/// Cuts are kept where they raise the bound by at least this part of it.
-pub const LEAST_GAIN: i128 = 100;
+/// Cuts are worth their time where they raise the bound by at least one in so many.
+pub const LEAST_GAIN: i128 = 128;

@@ -99,7 +99,8 @@ fn sought(ground: Ground<'_>, table: CutTable, budget: u32) -> Result<CutTable, 
         bound,
         plain: bound,
         idle: Vec::new(ground.alloc),
-        fruitless: 0,
+        value: bound,
+        rounds: 0,
     };
     let table = go_rounds(
         ground,
