@@ -22,4 +22,4 @@ pub const IDLE_ROUNDS: u32 = 2;
 pub const TRUSTED_ROUNDS: u32 = 3;
 
 /// Cuts are worth their time where they raise the bound by at least one in so many.
-pub const LEAST_GAIN: i128 = 128;
+pub const LEAST_GAIN: i128 = 256;
