@@ -76,7 +76,7 @@ impl Count {
 #[derive(Drop)]
 pub(crate) struct Counts {
     rows: Vec<Count>,
-    /// For each place the load that is counted, in load grains.
+    /// For each place the load that is counted, in load grains; empty where there are no cuts.
     loads: Vec<u64>,
 }
 
@@ -97,9 +97,14 @@ impl Counts {
                 mean: 0,
             })?;
         }
+        let places = if table.count() == 0 {
+            0
+        } else {
+            inst.places() as usize
+        };
         Ok(Counts {
             rows,
-            loads: vec![in alloc; 0; inst.places() as usize]?,
+            loads: vec![in alloc; 0; places]?,
         })
     }
 
