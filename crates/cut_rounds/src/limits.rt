@@ -4,7 +4,7 @@
 pub const MAX_ROUNDS: u32 = 14;
 
 /// The most nodes of the short search behind them.
-pub const MAX_TRIED: u32 = 30;
+pub const MAX_TRIED: u32 = 60;
 
 /// The most cuts that a round finds.
 pub const FOUND_IN_ROUND: u32 = 25;
@@ -18,5 +18,8 @@ pub const SEEN_TURNS: u16 = 60;
 /// For how many rounds a cut may go without a rate.
 pub const IDLE_ROUNDS: u32 = 2;
 
-/// The rounds end where no cut has had a rate for so many of them.
-pub const FRUITLESS_ROUNDS: u32 = 3;
+/// After so many rounds an ascent has to have come so far that cuts may be worth their time.
+pub const TRUSTED_ROUNDS: u32 = 3;
+
+/// Cuts are worth their time where they raise the bound by at least one in so many.
+pub const LEAST_GAIN: i128 = 256;

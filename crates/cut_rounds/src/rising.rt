@@ -12,7 +12,7 @@ use crate::seeker::Ground;
 use column_pool::{Brief, ColumnPool};
 use cut_table::{CutTable, SeenLoads};
 use link_steps::Ranges;
-use master_step::{Averages, ascend_from, averaged};
+use master_step::{Averages, ascend_from, averaged_seen};
 use plan_base::{BranchId, DemandId, Instance, Items, Path, Prices};
 use std::alloc::{AllocError, Global};
 
@@ -46,6 +46,8 @@ impl Aim {
 pub(crate) struct Risen {
     /// Prices and rates whose restricted value is at least that of the ones that it began with.
     pub(crate) numbers: Prices,
+    /// Their restricted value, which no bound at them is above, in thousandths of a cost grain.
+    pub(crate) value: i128,
     pub(crate) averages: Averages,
 }
 
@@ -97,7 +99,7 @@ fn passed(
     brief: &Brief,
     found: &Prices,
     held: &Prices,
-) -> Result<Prices, AllocError>
+) -> Result<(Prices, i128), AllocError>
     requires table { table.now.problem ≡ inst.now }
     requires brief { IsBriefFor inst.now table.now.cuts brief.now.prices brief.now.ranges brief.now.columns }
     requires columns { HasColumns inst.now (columns_at brief.now.columns) }
@@ -107,9 +109,9 @@ fn passed(
     let one = ascend_from(alloc, inst, table, brief, found)?;
     let other = ascend_from(alloc, inst, table, brief, held)?;
     Ok(if one.new >= other.new {
-        one.prices
+        (one.prices, one.new)
     } else {
-        other.prices
+        (other.prices, other.new)
     })
 }
 
@@ -139,10 +141,11 @@ pub(crate) fn rise(
         return Ok(None);
     }
     seen.clear();
-    let found = averaged(alloc, inst, table, &brief, aim.goal())?;
-    let numbers = passed(alloc, inst, table, &brief, &found.prices, held)?;
+    let found = averaged_seen(alloc, inst, table, &brief, aim.goal(), seen)?;
+    let (numbers, value) = passed(alloc, inst, table, &brief, &found.prices, held)?;
     Ok(Some(Risen {
         numbers,
+        value,
         averages: found.averages,
     }))
 }

@@ -5,7 +5,7 @@ ghost use Rattle.proof_tree.specs.Cuts.{IsCutList};
 ghost use Rattle.cut_table.specs.Numbers.{AreNumbers};
 
 use crate::bounding::bound_at;
-use crate::limits::{FOUND_IN_ROUND, FRUITLESS_ROUNDS, IDLE_ROUNDS};
+use crate::limits::{FOUND_IN_ROUND, IDLE_ROUNDS, LEAST_GAIN, TRUSTED_ROUNDS};
 use crate::lists::{is_marked, marked, marked_numbers, rate_at, table_of, tested, widened};
 use crate::rising::{Aim, Risen, rise};
 use crate::seeker::Ground;
@@ -23,10 +23,14 @@ pub(crate) struct Standing {
     pub(crate) best: Prices,
     /// The greatest bound, in cost grains.
     pub(crate) bound: i128,
+    /// The bound at the start prices, in cost grains.
+    pub(crate) plain: i128,
     /// For each cut for how many rounds it has had no rate.
     pub(crate) idle: Vec<u32>,
-    /// For how many rounds no cut has had a rate.
-    pub(crate) fruitless: u32,
+    /// The greatest restricted value that an ascent came to, in cost grains.
+    pub(crate) value: i128,
+    /// How many rounds have gone.
+    pub(crate) rounds: u32,
 }
 
 /// Nine tenths of each price, or as much as the rates beside it ask for, and the rates as they are.
@@ -43,27 +47,29 @@ fn lowered(ground: Ground<'_>, table: &CutTable, numbers: &Prices) -> Result<Pri
     Ok(lower)
 }
 
-/// Whether a cut has a rate.
-fn has_rate(ground: Ground<'_>, table: &CutTable, numbers: &Prices) -> bool {
-    (0..table.count()).any(|number| rate_at(ground.inst, numbers, number as usize) > 0)
-}
-
 impl Standing {
+    /// Whether a bound is so much above that at the start prices that cuts are worth the time that they take.
+    fn is_worthwhile(&self, bound: i128) -> bool {
+        bound.saturating_sub(self.plain) >= self.plain / LEAST_GAIN
+    }
+
+    /// Whether further rounds may make cuts worth their time: values rise early if they rise at all.
+    fn is_promising(&self) -> bool {
+        self.rounds < TRUSTED_ROUNDS || self.is_worthwhile(self.value)
+    }
+
+    /// Takes in what an ascent came to.
+    fn rise(&mut self, numbers: Prices, value: i128) {
+        self.numbers = numbers;
+        self.value = self.value.max(value / 1000);
+        self.rounds = self.rounds.saturating_add(1);
+    }
+
     /// Takes the bound of the numbers in, where it is the greatest.
-    fn take(
-        &mut self,
-        ground: Ground<'_>,
-        table: &CutTable,
-        bound: i128,
-    ) -> Result<(), AllocError> {
+    fn take(&mut self, bound: i128) -> Result<(), AllocError> {
         if bound > self.bound {
             self.bound = bound;
             self.best = self.numbers.copy()?;
-        }
-        if has_rate(ground, table, &self.best) {
-            self.fruitless = 0;
-        } else {
-            self.fruitless = self.fruitless.saturating_add(1);
         }
         Ok(())
     }
@@ -118,8 +124,8 @@ fn go_round(
     let Some(bound) = bound_at(ground, table, ground.whole, &standing.numbers, columns)? else {
         return Ok(false);
     };
-    standing.take(ground, table, bound)?;
-    if standing.bound >= aim.bound() || standing.fruitless > FRUITLESS_ROUNDS {
+    standing.take(bound)?;
+    if standing.bound >= aim.bound() || !standing.is_promising() {
         return Ok(false);
     }
     if !table.are_numbers(&standing.numbers) {
@@ -140,10 +146,11 @@ fn go_round(
         Some(
             Risen {
                 numbers,
+                value,
                 averages: _averages,
             },
         ) => {
-            standing.numbers = numbers;
+            standing.rise(numbers, value);
             Ok(true)
         }
         None => Ok(false),
@@ -171,7 +178,7 @@ fn next_table(
     Ok(table)
 }
 
-/// The table of the cuts that have a rate where the bound is greatest, with their numbers in the standing's best.
+/// The table of the cuts that have a rate where the bound is greatest, or of none where they raise it by little.
 fn last_table(
     ground: Ground<'_>,
     table: CutTable,
@@ -180,9 +187,11 @@ fn last_table(
     requires table { table.problem ≡ ground.inst.now }
     ensures { IfOk result (λ table. table.problem ≡ ground.entry.inst.now) }
 {
+    let is_worthwhile = standing.is_worthwhile(standing.bound);
     let mut marks = Vec::new(ground.alloc);
     for number in 0..table.count() {
-        marks.push(rate_at(ground.inst, &standing.best, number as usize) > 0)?;
+        let is_used = rate_at(ground.inst, &standing.best, number as usize) > 0;
+        marks.push(is_worthwhile && is_used)?;
     }
     let stay = marked(ground.alloc, table.cuts(), &marks)?;
     let table = table_of(ground.alloc, ground.inst, table, stay)?;
@@ -213,7 +222,7 @@ pub(crate) fn go_rounds(
         table = next_table(ground, table, seen, standing)?;
     }
     if let Some(bound) = bound_at(ground, &table, ground.whole, &standing.numbers, columns)? {
-        standing.take(ground, &table, bound)?;
+        standing.take(bound)?;
     }
     last_table(ground, table, standing)
 }

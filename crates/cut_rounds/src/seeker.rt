@@ -33,7 +33,7 @@ pub(crate) struct Ground<'a> {
 
 /// How many rounds and nodes a budget of nodes is worth: what they cost together is less than the nodes.
 fn effort_of(budget: u32) -> (u32, u32) {
-    (MAX_ROUNDS.min(budget / 8), MAX_TRIED.min(budget / 8))
+    (MAX_ROUNDS.min(budget / 8), MAX_TRIED.min(budget / 4))
 }
 
 /// The first column of each demand; None where one has none.
@@ -97,8 +97,10 @@ fn sought(ground: Ground<'_>, table: CutTable, budget: u32) -> Result<CutTable, 
         best: start.copy()?,
         numbers: start,
         bound,
+        plain: bound,
         idle: Vec::new(ground.alloc),
-        fruitless: 0,
+        value: bound,
+        rounds: 0,
     };
     let table = go_rounds(
         ground,
