@@ -52,9 +52,14 @@ fn are_good_rows<T: Record>(count: usize, rows: &[T]) -> bool
 fn are_different(file: &NetworkFile) -> bool
     ensures { IsTrue result ↔ (AreDifferent (node_names file.now.nodes) × AreDifferent (link_names file.now.links) × AreDifferent (demand_names file.now.demands)) }
 {
-    are_different_rows(file.nodes.as_slice())
-        && are_different_rows(file.links.as_slice())
-        && are_different_rows(file.demands.as_slice())
+    are_different_rows(file.nodes.as_slice()) && are_different_routes(file)
+}
+
+/// Whether names differ among links, and among demands.
+fn are_different_routes(file: &NetworkFile) -> bool
+    ensures { IsTrue result ↔ (AreDifferent (link_names file.now.links) × AreDifferent (demand_names file.now.demands)) }
+{
+    are_different_rows(file.links.as_slice()) && are_different_rows(file.demands.as_slice())
 }
 
 /// Whether no two of these records have the same name.
@@ -76,8 +81,6 @@ fn has_name<T: Record>(rows: &[T], name: &Name) -> bool
     rows.iter()
         .any(|row| name.as_slice() == row.name().as_slice())
 }
-
-// ---- words
 
 /// Whether the byte may stand in a word.
 fn is_word_byte(byte: u8) -> bool
@@ -108,8 +111,6 @@ fn is_coordinate(word: &Name) -> bool
     let bytes = word.as_slice();
     is_word(bytes) && bytes.len() <= MAX_TEXT_BYTES && checked_coordinate(bytes).is_ok()
 }
-
-// ---- parts of records
 
 /// Whether a node has no place, or two coordinates.
 pub(crate) fn is_place(place: &Option<(Name, Name)>) -> bool

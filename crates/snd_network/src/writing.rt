@@ -89,8 +89,6 @@ fn push_line<T: Record>(text: &mut Vec<u8>, nodes: &[NodeRecord], row: &T) -> Re
     Ok(())
 }
 
-// ---- parts of records
-
 /// Writes a space and the name of a node.
 fn push_end(text: &mut Vec<u8>, nodes: &[NodeRecord], node: NodeId) -> Result<(), AllocError>
     requires { node.0 < length nodes.now }
