@@ -21,5 +21,5 @@ returns-in_err-draft-clause-fault c =
 pub returns-clause-value : goal.returns-clause-value
 returns-clause-value c =
     let tokens = subst (HasTokens dialects.Model model_header c.args.text.now) (sym c.cursor.ensures) c.in_ok-tokens.ensures.tokens in
-    spelt c.args.text.now c.cursor.result c.in-Some-file.file c.in_ok-draft.draft c.pairs.new.cursor tokens c.in_ok-draft.ensures.gives
-    (made c.in_ok-draft.draft c.in-Some-file.file c.in-Some-file.ensures c.in_ok-draft.ensures.complete)
+    spelt c.args.text.now c.cursor.result c.in-Some.file c.in_ok-draft.draft c.pairs.new.cursor tokens c.in_ok-draft.ensures.gives
+    (made c.in_ok-draft.draft c.in-Some.file c.in-Some.ensures c.in_ok-draft.ensures.complete)
