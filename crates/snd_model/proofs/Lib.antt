@@ -1,10 +1,8 @@
-pub mod Through
 pub mod Tabled
 pub mod Whole
 pub mod Complaints
 pub mod Once
 pub mod Top
 pub mod Written
-pub mod WrittenLines
 pub mod FirstFound
 pub mod Turns

@@ -1,14 +1,14 @@
 -- Model texts are read lawfully: pairs of different keys in any order, and then the end.
 use Rattle.std.proofs.Common.{◌≡◌, ℕ, zero, suc, Bool, true, false, List, [], ◌∷◌, ◌++◌, Option, Some, None, refl, sym, ap, subst, ◌∙◌}
 use Rattle.std.specs.Prelude.{Result, Ok, Err, if◌then◌else◌}
-use Rattle.std.proofs.lemmas.List.{append-nil}
 use Rattle.snd_reader.specs.Readers.{Lexeme, word, open_bracket, close_bracket, equals_sign, the_end, Placed}
 use Rattle.snd_reader.specs.Forms.{IsToken, AreItems, Items, IsFirstBad}
 use Rattle.snd_reader.specs.Tests.{equals_test}
 use Rattle.snd_reader.specs.declared.fault.Complaint.{Complaint}
 use Rattle.snd_reader.specs.declared.fault.Complaint.TheVariants.{Ended}
-use Rattle.snd_reader.proofs.Lawful.{Lawful, apart}
-use Rattle.snd_reader.proofs.Live.{Live, live_bind, live_done, live_token, IsMore, EndsLast, items_end_last, end_last_once}
+use Rattle.snd_reader.proofs.Lawful.{Lawful}
+use Rattle.snd_reader.proofs.Endings.{equals-end}
+use Rattle.snd_reader.proofs.Live.{Live, live_bind, live_done, live_token, IsMore, EndsLast, items_end_last}
 use Rattle.snd_reader.proofs.Many.{lawful_items}
 use Rattle.snd_model.specs.declared.keys.Key.{Key}
 use Rattle.snd_model.specs.declared.keys.Key.TheVariants as keys
@@ -31,7 +31,7 @@ use Rattle.snd_model.specs.declared.values.HopModel.TheVariants as hops
 use Rattle.snd_model.specs.declared.values.SurvivabilityModel.TheVariants as survivals
 use Rattle.snd_model.specs.declared.draft.Draft.{Draft}
 use Rattle.snd_model.specs.declared.file.ModelFile.{ModelFile}
-use Rattle.snd_model.specs.Table.{key_word, key_of, spelling, key_named}
+use Rattle.snd_model.specs.Table.{key_word, key_of, spelling, key_named, setting_named}
 use Rattle.snd_model.specs.Grammar.{no_settings, settings_of, and_setting, has_setting, is_complete, once, key_begun, key_head, valued, value_test, PairForm, PairsForm, ModelForm}
 use Rattle.snd_model.specs.Reading.{equals, value, key_turn, pair, pairs}
 use Rattle.snd_model.proofs.Tabled.{key-found, setting-found, some_setting, some-key}
@@ -42,15 +42,26 @@ sample l = record { at = 0; is = l }
 -- ---- a pair
 
 live_equals : Live (IsToken (λ t. equals_test t.is)) equals
-live_equals = live_token (λ t. equals_test t.is) (sample equals_sign) tt refl (λ t e. rw e refl)
+live_equals = live_token (λ t. equals_test t.is) (sample equals_sign) tt refl (λ t e. rw e refl) (λ t e. equals-end t.is e)
 
 good_value : (s : Setting) → value_test (key_of s) (word (spelling s)) ≡ Ok s
 good_value s = ap valued (setting-found s)
 
+value-end : (k : Key) (l : Lexeme) → value_test k l ≡ Err Ended → l ≡ the_end
+value-end k (word bytes) e = absurd (by (setting_named k bytes) e)
+  where
+    by : (o : Option Setting) → valued o ≡ Err Ended → ⊥
+    by None e = cc
+    by (Some s) e = cc
+value-end k open_bracket e = absurd cc
+value-end k close_bracket e = absurd cc
+value-end k equals_sign e = absurd cc
+value-end k the_end e = refl
+
 live_value : (k : Key) → Live (IsToken (λ t. value_test k t.is)) (value k)
 live_value k =
     let s = some_setting k in
-    live_token (λ t. value_test k t.is) (sample (word (spelling s))) s (subst (λ (key : Key). value_test key (word (spelling s)) ≡ Ok s) (some-key k) (good_value s)) (λ t e. rw e refl)
+    live_token (λ t. value_test k t.is) (sample (word (spelling s))) s (subst (λ (key : Key). value_test key (word (spelling s)) ≡ Ok s) (some-key k) (good_value s)) (λ t e. rw e refl) (λ t e. value-end k t.is e)
 
 pub live_pair : (d : Draft) (k : Key) → Live (PairForm d k) (pair d k)
 unfolding pair
@@ -168,16 +179,6 @@ only-more d t k e = by t.is e
 
 pub pairs_end : (l : List Placed) (d : Draft) → PairsForm l d → EndsLast l
 pairs_end l d f = items_end_last key_turn PairForm (λ s k m x g. (live_pair s k).no_end m x g) only-end only-more f.0 no_settings l d f.1
-
--- the reader of a text that has an end stops at a token
-pub stops_at_token : (a : List Placed) (e : Placed) (c : Complaint) → e.is ≡ the_end → pairs (a ++ e ∷ []) ≡ Err (c, []) → ⊥
-stops_at_token a e c is r =
-    let k = lawful_pairs.stops (a ++ e ∷ []) c [] r in
-    let whole : a ++ e ∷ [] ≡ k.front = k.whole ∙ append-nil k.front in
-    let form : PairsForm ((a ++ e ∷ []) ++ k.begun.0) k.begun.1 = subst (λ (l : List Placed). PairsForm (l ++ k.begun.0) k.begun.1) (sym whole) k.begun.2 in
-    let none : k.begun.0 ≡ [] = end_last_once a k.begun.0 e is (pairs_end ((a ++ e ∷ []) ++ k.begun.0) k.begun.1 form) in
-    let again : pairs ((a ++ e ∷ []) ++ []) ≡ Ok (k.begun.1, []) = lawful_pairs.again (a ++ e ∷ []) k.begun.1 [] (subst (λ (l : List Placed). PairsForm l k.begun.1) (ap (λ (l : List Placed). (a ++ e ∷ []) ++ l) none ∙ append-nil (a ++ e ∷ [])) form) in
-    apart (sym r ∙ ap pairs (sym (append-nil (a ++ e ∷ []))) ∙ again)
 
 -- ---- where a text may end, each key has a value
 

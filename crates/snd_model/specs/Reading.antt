@@ -1,10 +1,6 @@
 -- The readers of model texts, which the code follows; their forms are in Grammar.
-use Rattle.std.specs.Prelude.{◌≡◌, ◌+◌, ℕ, List, Option, Result}
-use Rattle.snd_lexer.specs.declared.token.Dialect.TheVariants as dialects
-use Rattle.snd_lexer.specs.Cutting.{StopsAt}
+use Rattle.std.specs.Prelude.{Option, Result}
 use Rattle.snd_reader.specs.declared.fault.Complaint.{Complaint}
-use Rattle.snd_reader.specs.declared.fault.TextFault.{TextFault}
-use Rattle.snd_reader.specs.declared.fault.TextFault.TheVariants.{Header, Unexpected, Number, Twice, Unknown, Ended, LongId, Control, OutOfMemory}
 use Rattle.snd_reader.specs.Readers.{Placed, Reader, done, bind, token, items}
 use Rattle.snd_reader.specs.Tests.{equals_test}
 use Rattle.snd_model.specs.declared.keys.Key.{Key}
@@ -31,15 +27,3 @@ pair d k = bind equals (λ _. bind (value k) (λ s. done (and_setting d s)))
 -- the pairs of a text, up to its end
 abbrev pub pairs : Reader Draft
 pairs = items key_turn pair no_settings
-
--- the text that begins at a place of the whole text stops at the fault's place, or memory ran out
-abbrev pub IsCutFault : List ℕ → ℕ → TextFault → Type 0
-IsCutFault text base (Control at) = (place : ℕ) × StopsAt dialects.Model text place × (at ≡ base + place)
-IsCutFault text base OutOfMemory = Unit {0}
-IsCutFault text base Header = ⊥
-IsCutFault text base (Unknown at) = ⊥
-IsCutFault text base (Unexpected at w) = ⊥
-IsCutFault text base (Number at f) = ⊥
-IsCutFault text base (Twice at) = ⊥
-IsCutFault text base (Ended at) = ⊥
-IsCutFault text base (LongId at) = ⊥

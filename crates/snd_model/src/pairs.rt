@@ -11,7 +11,7 @@ use crate::verdicts::{key_of, value_of};
 use snd_reader::{Cursor, TextFault};
 
 /// A pair behind its key.
-#[tactic(auto, using(crate::proofs::Through::through), unfolding(crate::specs::Reading::pair))]
+#[tactic(auto, using(snd_reader::proofs::Faults::through), unfolding(crate::specs::Reading::pair))]
 fn pair(cursor: &mut Cursor<'_>, draft: &mut Draft, key: Key) -> Result<(), TextFault>
     ensures gives { Gives (λ _. (draft.new, cursor.new)) result (pair draft.old key cursor.old) }
 {

@@ -1,19 +1,16 @@
 //! Reading a model text.
 
-ghost use Rattle.std.specs.Prelude.{◌≤◌, ◌+◌, length, IfOk, IfErr};
-ghost use Rattle.std.specs.List.{All};
+ghost use Rattle.std.specs.Prelude.{◌≤◌, length, IfOk, IfErr};
 ghost use Rattle.snd_lexer.specs.declared.limits.TheConstants.{MAX_TEXT_BYTES};
-ghost use Rattle.snd_lexer.specs.declared.token.Dialect.TheVariants.{Model};
-ghost use Rattle.snd_lexer.specs.Cutting.{Lexes, IsWithin};
 ghost use Rattle.snd_reader.specs.declared.fault.TextFault.{TextFault};
+ghost use Rattle.snd_reader.specs.Texts.{OnlyFile, OnlyFault};
 ghost use Rattle.snd_model.specs.declared.file.ModelFile.{ModelFile};
-ghost use Rattle.snd_model.specs.Spelling.{SpellsModel, IsFault, OnlyFile, OnlyFault};
-ghost use Rattle.snd_model.specs.Reading.{IsCutFault};
+ghost use Rattle.snd_model.specs.Spelling.{SpellsModel, IsFault};
 
 use crate::file::ModelFile;
 use crate::pairs::pairs;
-use snd_lexer::{Dialect, LexFault, Tokens, lex};
-use snd_reader::{Cursor, TextFault, behind_header};
+use snd_lexer::Dialect;
+use snd_reader::{TextFault, cut_text};
 use std::alloc::Global;
 
 /// The first line of a model text.
@@ -50,29 +47,10 @@ fn told(alloc: Global, text: &[u8]) -> Result<ModelFile, TextFault>
     ensures value { IfOk result (SpellsModel text.now) }
     ensures fault { IfErr result (IsFault text.now) }
 {
-    let Some(rest) = behind_header(HEADER, text) else {
-        return Err(TextFault::Header);
-    };
-    let base = (text.len() - rest.len()) as u32;
-    let tokens = cut(alloc, rest, base)?;
-    let mut cursor = Cursor::new(rest, tokens.as_slice(), base);
-    let draft = pairs(&mut cursor)?;
+    let tokens = cut_text(alloc, Dialect::Model, HEADER, text)?;
+    let draft = pairs(&mut tokens.cursor())?;
     let Some(file) = draft.file() else {
         unreachable!()
     };
     Ok(file)
-}
-
-/// The tokens of a text that begins at the place `base` of the whole text.
-fn cut(alloc: Global, text: &[u8], base: u32) -> Result<Tokens, TextFault>
-    requires { base + length text.now ≤ MAX_TEXT_BYTES }
-    ensures cut { IfOk result (λ tokens. Lexes Model text.now tokens) }
-    ensures within { IfOk result (λ tokens. All (IsWithin (length text.now)) tokens) }
-    ensures fault { IfErr result (IsCutFault text.now base) }
-{
-    match lex(alloc, text, Dialect::Model) {
-        Ok(tokens) => Ok(tokens),
-        Err(LexFault::Control { at }) => Err(TextFault::Control { at: base + at }),
-        Err(LexFault::OutOfMemory) => Err(TextFault::OutOfMemory),
-    }
 }

@@ -22,7 +22,8 @@ use Rattle.snd_network.specs.declared.draft.Section.TheVariants.{Nodes, Links, D
 use Rattle.snd_network.specs.Grammar.{no_nodes, NodeForm, NodesForm, SectionForm, no_sections}
 use Rattle.snd_network.specs.Reading.{node_turn, section_turn}
 use Rattle.snd_network.specs.Ends.{names_of}
-use Rattle.snd_network.specs.Spelling.{network_header, HasTokens, SpellsDraft}
+use Rattle.snd_network.specs.Spelling.{network_header, SpellsDraft}
+use Rattle.snd_reader.specs.Texts.{HasTokens}
 
 -- ---- nodes and tokens
 
@@ -68,7 +69,7 @@ tokens-within d at (open_bracket ∷ ps) after c = omega (arith, tokens-within d
 tokens-within d at (close_bracket ∷ ps) after c = omega (arith, tokens-within d (at + 1) ps after c.1)
 tokens-within d at (equals_sign ∷ ps) after c = omega (arith, tokens-within d (at + 1) ps after c.1)
 
-has-few : (text : List ℕ) (ts : List Placed) → HasTokens text ts → length ts ≤ length text + 1
+has-few : (text : List ℕ) (ts : List Placed) → HasTokens dialects.Network network_header text ts → length ts ≤ length text + 1
 has-few text ts h =
     let base = length text - length h.rest in
     let few = tokens-within dialects.Network 0 h.cut.pieces [] h.cut.cut in

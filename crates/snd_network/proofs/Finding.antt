@@ -17,7 +17,7 @@ use Rattle.snd_network.specs.declared.draft.Draft.{Draft}
 use Rattle.snd_reader.specs.declared.fault.TextFault.{TextFault}
 use Rattle.snd_reader.specs.declared.fault.TextFault.TheVariants.{Header, Unexpected, Number, Twice, Unknown, Ended, LongId, Control, OutOfMemory}
 use Rattle.snd_network.specs.Steps.{IsUnknown}
-use Rattle.snd_network.specs.Names.{number_of}
+use Rattle.snd_reader.specs.Names.{number_of}
 use Rattle.snd_network.specs.Ends.{node_id, IsNode, IsLinkOf, IsDemandOf, AreAllOf, IsFileOf, names_of, rows_of, link_ends, demand_ends, all_ends, first_unknown}
 
 -- ---- ends that are all known

@@ -48,11 +48,14 @@ use Rattle.snd_network.specs.declared.draft.Draft.{Draft}
 use Rattle.snd_network.specs.declared.draft.Section.{Section}
 use Rattle.snd_network.specs.declared.draft.Section.TheVariants.{Nodes, Links, Demands, Meta, Paths}
 use Rattle.snd_network.specs.declared.limits.TheConstants.{MAX_NAME_BYTES}
-use Rattle.snd_network.specs.Names.{is_among, number_of, checked_name}
+use Rattle.snd_reader.specs.Names.{is_among, number_of}
+use Rattle.snd_network.specs.Names.{checked_name}
 use Rattle.snd_network.specs.Tests.{named, list_head, node_named, node_head, module_begun, module_head, checked_coordinate, kept, coordinate_test, limited, hops_test, section_head}
-use Rattle.snd_network.specs.Grammar.{IsOpen, IsClose, IsNumber, IsEnd, IsCoordinate, IsHopLimit, no_nodes, last_node, with_last, and_named, all_nodes, NodeForm, NodesForm, ModuleForm, ModulesForm, LinkForm, DemandForm, no_rows, and_row, ItemForm, ListForm, IsSkipped, no_sections, and_nodes, and_links, and_demands, and_meta, and_paths, SectionForm, NetworkForm}
+use Rattle.snd_network.specs.Grammar.{IsOpen, IsClose, IsNumber, IsEnd, IsCoordinate, IsHopLimit, no_nodes, last_node, with_last, and_named, all_nodes, NodeForm, NodesForm, ModuleForm, ModulesForm, LinkForm, DemandForm, no_rows, and_row, ItemForm, ListForm, no_sections, and_nodes, and_links, and_demands, and_meta, and_paths, SectionForm, NetworkForm}
 use Rattle.snd_network.specs.Ends.{node_id, IsNode, IsLinkOf, IsDemandOf, AreAllOf, IsFileOf, names_of, rows_of}
-use Rattle.snd_network.specs.Spelling.{network_header, HasTokens, SpellsNetwork}
+use Rattle.snd_network.specs.Spelling.{network_header, SpellsNetwork}
+use Rattle.snd_reader.specs.Texts.{HasTokens}
+use Rattle.snd_reader.specs.Brackets.{IsSkipped}
 use Rattle.snd_network.specs.WellFormed.{IsWord, IsName, IsCoordinateWord, IsGrains, IsWhole, IsPlace, IsLimit, IsModule, IsGoodNode, IsGoodLink, IsGoodDemand, AreDifferent, IsWellFormed}
 
 -- ---- the words of a text are words
@@ -115,7 +118,7 @@ sound-apart : (a b : List Placed) → AreSound (a ++ b) → AreSound a × AreSou
 sound-apart [] b h = (tt, h)
 sound-apart (t ∷ a) b h = let k = sound-apart a b h.1 in ((h.0, k.0), k.1)
 
-sound-tokens : (text : List ℕ) (ts : List Placed) → length text ≤ MAX_TEXT_BYTES → HasTokens text ts → AreSound ts
+sound-tokens : (text : List ℕ) (ts : List Placed) → length text ≤ MAX_TEXT_BYTES → HasTokens dialects.Network network_header text ts → AreSound ts
 sound-tokens text ts n h =
     let s = lexes_shows dialects.Network h.rest h.tokens h.cut in
     let short : length (text_of s.pieces) ≤ MAX_TEXT_BYTES = omega (arith, n, rest_within network_header text h.rest h.header, ap length s.whole) in

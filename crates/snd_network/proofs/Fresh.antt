@@ -4,8 +4,8 @@ use Rattle.std.specs.Prelude.{Result, Ok, Err, nat_lt, is_some, if◌then◌else
 use Rattle.snd_reader.specs.declared.fault.Complaint.{Complaint}
 use Rattle.snd_reader.specs.declared.fault.Complaint.TheVariants.{Unexpected, Twice, LongId, Ended}
 use Rattle.snd_reader.specs.declared.fault.Wanted.TheVariants as wants
-use Rattle.snd_reader.specs.Readers.{Lexeme, word, open_bracket, close_bracket, equals_sign, the_end, Placed, judged, token}
-use Rattle.snd_reader.proofs.Lawful.{ok-parts}
+use Rattle.snd_reader.specs.Readers.{Lexeme, word, open_bracket, close_bracket, equals_sign, the_end, Placed, token}
+use Rattle.snd_reader.proofs.Turns.{taken_good}
 use Rattle.snd_network.specs.declared.draft.NodeItem.{NodeItem}
 use Rattle.snd_network.specs.declared.draft.NodeItem.TheVariants as node_items
 use Rattle.snd_network.specs.declared.draft.NodeList.{NodeList}
@@ -14,20 +14,12 @@ use Rattle.snd_network.specs.declared.draft.Table.{Table}
 use Rattle.snd_network.specs.declared.draft.Draft.{Draft}
 use Rattle.snd_network.specs.declared.draft.Section.{Section}
 use Rattle.snd_network.specs.declared.limits.TheConstants.{MAX_NAME_BYTES}
-use Rattle.snd_network.specs.Names.{is_among, checked_name}
+use Rattle.snd_reader.specs.Names.{is_among}
+use Rattle.snd_network.specs.Names.{checked_name}
 use Rattle.snd_network.specs.Tests.{named, list_head, node_named, node_head, section_head, is_complete}
 use Rattle.snd_network.specs.Reading.{list_turn, node_turn, section_turn}
 use Rattle.snd_network.specs.Steps.{IsNewItem}
 use Rattle.snd_network.proofs.Whole.{only-end}
-
-judged-ok : {A : Type 0} (t : Placed) (ts us : List Placed) (j : Result A Complaint) (x : A) → judged t ts j ≡ Ok (x, us) → j ≡ Ok x
-judged-ok {A} t ts us (Ok y) x e = ap (λ (z : A). Ok z) (ok-parts y x ts us e).0
-judged-ok t ts us (Err c) x e = absurd cc
-
--- the test of a token that is taken found it good
-pub taken_good : {A : Type 0} (test : Placed → Result A Complaint) (ts us : List Placed) (x : A) → token test ts ≡ Ok (x, us) → (t : Placed) × (test t ≡ Ok x)
-taken_good test [] us x e = absurd cc
-taken_good test (t ∷ ts) us x e = (t, judged-ok t ts us (test t) x e)
 
 checked-free : (names : List (List ℕ)) (bytes : List ℕ) (u : Unit {0}) → checked_name names bytes ≡ Ok u → is_among names bytes ≡ false
 checked-free names bytes u e = by (nat_lt MAX_NAME_BYTES (length bytes)) (is_among names bytes) e

@@ -11,8 +11,9 @@ use Rattle.snd_reader.proofs.Live.{IsMore, HasNoEnd}
 use Rattle.snd_network.specs.declared.draft.Draft.{Draft}
 use Rattle.snd_network.specs.Reading.{network}
 use Rattle.snd_network.specs.Spelling.{network_header, IsFault}
-use Rattle.snd_network.proofs.Endings.{ends_network}
-use Rattle.snd_network.proofs.Top.{has-end, end_place}
+use Rattle.snd_lexer.specs.declared.token.Dialect.TheVariants as dialects
+use Rattle.snd_reader.proofs.ReadTexts.{has-end, end_place}
+use Rattle.snd_network.proofs.Whole.{ends_network}
 
 no-more : (a more : List Placed) (e : Placed) → a ++ (e ∷ more) ≡ [] → ⊥
 no-more [] more e h = cc
@@ -42,7 +43,7 @@ ended_at text at b =
     let told = told-end at b.bad.at b.complaint b.is in
     let says : network b.ts ≡ stopped_at complaints.Ended (b.bad ∷ b.after) = b.says ∙ ap (λ (c : Complaint). stopped_at {A = Draft} c (b.bad ∷ b.after)) told.0 in
     let is_end : b.bad.is ≡ the_end = ends_network.at_end b.ts b.bad b.after says in
-    let e = has-end text b.ts b.tokens in
+    let e = has-end dialects.Network network_header text b.ts b.tokens in
     let last : b.bad ≡ e.last = last-end b.first.front e.before b.first.after b.bad e.last is_end e.no_end (sym b.first.whole ∙ e.whole) in
-    let place : b.bad.at ≡ length text - length b.tokens.rest + length b.tokens.rest = ap (λ (t : Placed). t.at) last ∙ end_place text b.ts b.tokens in
+    let place : b.bad.at ≡ length text - length b.tokens.rest + length b.tokens.rest = ap (λ (t : Placed). t.at) last ∙ end_place dialects.Network network_header text b.ts b.tokens in
     omega (arith, told.1, place, rest_within network_header text b.tokens.rest b.tokens.header)

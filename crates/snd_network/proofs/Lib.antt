@@ -1,14 +1,9 @@
-pub mod NameSets
 pub mod Parts
-pub mod Skips
-pub mod SkipLoop
 pub mod Whole
 pub mod Finding
 pub mod FoundFile
 pub mod Once
 pub mod Top
-pub mod Turns
-pub mod Through
 pub mod InOrder
 pub mod Opened
 pub mod Counts
@@ -16,10 +11,7 @@ pub mod Fresh
 pub mod Formed
 pub mod Endings
 pub mod Lengths
-pub mod WrittenLists
-pub mod CutTexts
 pub mod NameLists
-pub mod Pieces
 pub mod SpeltRecords
 pub mod SpeltSections
 pub mod Spelt

@@ -6,7 +6,7 @@ use Rattle.std.proofs.lemmas.Bool.{lt-ltb}
 use Rattle.std.proofs.lemmas.List.{take_more, drop_more, take-append-drop, map-append}
 use Rattle.std.proofs.lemmas.List.Quantifiers.{all_pairs_push}
 use Rattle.std.proofs.lemmas.Bool.{true≢false}
-use Rattle.snd_network.specs.Names.{is_among, number_of}
+use Rattle.snd_reader.specs.Names.{is_among, number_of}
 use Rattle.snd_network.specs.WellFormed.{AreDifferent}
 
 -- ---- equal names

@@ -7,7 +7,7 @@ use Rattle.snd_network.specs.declared.draft.Draft.{Draft}
 use Rattle.snd_network.specs.declared.draft.Section.{Section}
 use Rattle.snd_network.specs.declared.draft.Section.TheVariants.{Nodes, Links, Demands, Meta, Paths}
 use Rattle.snd_network.specs.Reading.{opening, section}
-use Rattle.snd_network.proofs.Through.{through}
+use Rattle.snd_reader.proofs.Faults.{through}
 
 pub section_opens : (d : Draft) (k : Section) (ts : List Placed) (f : TextFault) → Fails f (opening ts) → Fails f (section d k ts)
 unfolding section

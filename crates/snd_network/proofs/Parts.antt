@@ -7,6 +7,8 @@ use Rattle.snd_reader.specs.Forms.{IsNothing, Items}
 use Rattle.snd_reader.specs.Tests.{open_test, close_test, number_test}
 use Rattle.snd_reader.proofs.Live.{Live, live_bind, live_done, live_token, live_items}
 use Rattle.snd_reader.proofs.Many.{finish_by}
+use Rattle.snd_reader.proofs.Endings.{open-end, close-end, number-end}
+use Rattle.snd_network.proofs.Endings.{end-end, list-end, node-end, module-end, coordinate-end, hops-end}
 use Rattle.snd_network.specs.declared.draft.NodeItem.{NodeItem}
 use Rattle.snd_network.specs.declared.draft.NodeItem.TheVariants as node_items
 use Rattle.snd_network.specs.declared.draft.NodeList.{NodeList}
@@ -26,10 +28,10 @@ zero_word = word (48 ∷ [])
 -- ---- single tokens
 
 pub live_opening : Live IsOpen opening
-live_opening = live_token (λ t. open_test t.is) (sample open_bracket) tt refl (λ t e. rw e refl)
+live_opening = live_token (λ t. open_test t.is) (sample open_bracket) tt refl (λ t e. rw e refl) (λ t e. open-end t.is e)
 
 pub live_closing : Live IsClose closing
-live_closing = live_token (λ t. close_test t.is) (sample close_bracket) tt refl (λ t e. rw e refl)
+live_closing = live_token (λ t. close_test t.is) (sample close_bracket) tt refl (λ t e. rw e refl) (λ t e. close-end t.is e)
 
 zero-whole : number_test 0 zero_word ≡ Ok 0
 unfolding decimal_of run
@@ -40,23 +42,23 @@ unfolding decimal_of run
 zero-grains = refl
 
 live_whole : Live (IsNumber 0) (number 0)
-live_whole = live_token (λ t. number_test 0 t.is) (sample zero_word) 0 zero-whole (λ t e. rw e refl)
+live_whole = live_token (λ t. number_test 0 t.is) (sample zero_word) 0 zero-whole (λ t e. rw e refl) (λ t e. number-end 0 t.is e)
 
 live_grains : Live (IsNumber 6) (number 6)
-live_grains = live_token (λ t. number_test 6 t.is) (sample zero_word) 0 zero-grains (λ t e. rw e refl)
+live_grains = live_token (λ t. number_test 6 t.is) (sample zero_word) 0 zero-grains (λ t e. rw e refl) (λ t e. number-end 6 t.is e)
 
 live_end : Live IsEnd end_name
-live_end = live_token end_test (sample zero_word) (record { at = 0; name = 48 ∷ [] }) refl (λ t e. rw e refl)
+live_end = live_token end_test (sample zero_word) (record { at = 0; name = 48 ∷ [] }) refl (λ t e. rw e refl) (λ t e. end-end t.at t.is e)
 
 zero-coordinate : coordinate_test zero_word ≡ Ok (48 ∷ [])
 unfolding decimal_of run
 zero-coordinate = refl
 
 live_coordinate : Live IsCoordinate coordinate
-live_coordinate = live_token (λ t. coordinate_test t.is) (sample zero_word) (48 ∷ []) zero-coordinate (λ t e. rw e refl)
+live_coordinate = live_token (λ t. coordinate_test t.is) (sample zero_word) (48 ∷ []) zero-coordinate (λ t e. rw e refl) (λ t e. coordinate-end t.is e)
 
 live_hops : Live IsHopLimit hop_limit
-live_hops = live_token (λ t. hops_test t.is) (sample (word (codes "UNLIMITED"))) None refl (λ t e. rw e refl)
+live_hops = live_token (λ t. hops_test t.is) (sample (word (codes "UNLIMITED"))) None refl (λ t e. rw e refl) (λ t e. hops-end t.is e)
 
 -- ---- nodes
 
@@ -74,7 +76,7 @@ live_node s (node_items.Name bytes) = live_done (and_named s bytes)
 live_node s node_items.Place = live_place s
 
 live_node_items : Live (Items (λ (s : NodeList) (t : Placed). node_head s t.is) NodeForm no_nodes) node_list
-live_node_items = live_items node_turn node_item NodeForm live_node (finish_by node_turn NodeForm (sample close_bracket) (λ s. refl)) (λ s t e. rw e refl) no_nodes
+live_node_items = live_items node_turn node_item NodeForm live_node (finish_by node_turn NodeForm (sample close_bracket) (λ s. refl)) (λ s t e. rw e refl) (λ s t e. node-end s t.is e) no_nodes
 
 pub live_nodes : Live NodesForm nodes
 live_nodes = live_bind _ _ _ _ live_node_items (λ s. live_done (all_nodes s))
@@ -86,7 +88,7 @@ unfolding module_item
 live_module modules capacity = live_bind (IsNumber 6) (λ cost. IsNothing (modules ++ (capacity, cost) ∷ [])) (number 6) (λ cost. done (modules ++ (capacity, cost) ∷ [])) live_grains (λ cost. live_done (modules ++ (capacity, cost) ∷ []))
 
 live_modules : Live ModulesForm modules
-live_modules = live_items module_turn module_item ModuleForm live_module (finish_by module_turn ModuleForm (sample close_bracket) (λ s. refl)) (λ s t e. rw e refl) []
+live_modules = live_items module_turn module_item ModuleForm live_module (finish_by module_turn ModuleForm (sample close_bracket) (λ s. refl)) (λ s t e. rw e refl) (λ s t e. module-end t.is e) []
 
 pub live_link : Live LinkForm link
 unfolding link
@@ -124,4 +126,4 @@ unfolding list_item
 live_item F part live s name = live_bind F (λ x. IsNothing (and_row s name x)) part (λ x. done (and_row s name x)) live (λ x. live_done (and_row s name x))
 
 pub live_list : {T : Type 0} (F : List Placed → T → Type 0) (part : Reader T) → Live F part → Live (ListForm F) (list_of part)
-live_list F part live = live_items list_turn (list_item part) (ItemForm F) (live_item F part live) (finish_by list_turn (ItemForm F) (sample close_bracket) (λ s. refl)) (λ s t e. rw e refl) no_rows
+live_list F part live = live_items list_turn (list_item part) (ItemForm F) (live_item F part live) (finish_by list_turn (ItemForm F) (sample close_bracket) (λ s. refl)) (λ s t e. rw e refl) (λ s t e. list-end s.names t.is e) no_rows

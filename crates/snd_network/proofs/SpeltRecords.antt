@@ -17,14 +17,16 @@ use Rattle.snd_network.specs.declared.file.DemandRecord.{DemandRecord}
 use Rattle.snd_network.specs.declared.draft.LinkDraft.{LinkDraft}
 use Rattle.snd_network.specs.declared.draft.DemandDraft.{DemandDraft}
 use Rattle.snd_network.specs.declared.limits.TheConstants.{MAX_NAME_BYTES}
-use Rattle.snd_network.specs.Names.{number_of, checked_length}
+use Rattle.snd_reader.specs.Names.{number_of}
+use Rattle.snd_network.specs.Names.{checked_length}
 use Rattle.snd_network.specs.Tests.{end_by, end_test, kept, coordinate_test, limited, hops_test, module_begun, module_head}
 use Rattle.snd_network.specs.Grammar.{IsOpen, IsClose, IsNumber, IsEnd, IsCoordinate, IsHopLimit, ModuleForm, ModulesForm, LinkForm, DemandForm}
 use Rattle.snd_network.specs.Ends.{node_id, IsNode, IsLinkOf, IsDemandOf}
 use Rattle.snd_network.specs.WellFormed.{IsName, IsCoordinateWord, IsGrains, IsWhole, IsLimit, IsModule, IsGoodNode, IsGoodLink, IsGoodDemand, AreDifferent, node_names}
-use Rattle.snd_network.specs.Writing.{grains, whole, end_token, module_tokens, limit_token}
+use Rattle.snd_reader.specs.Writing.{grains, whole}
+use Rattle.snd_network.specs.Writing.{end_token, module_tokens, limit_token}
 use Rattle.snd_network.proofs.NameLists.{other_name, own_number}
-use Rattle.snd_network.proofs.Pieces.{Reads, reads_then, reads_last, reads_placed, reads_token, reads_end, reads_item}
+use Rattle.snd_reader.proofs.Standing.{Reads, reads_then, reads_last, reads_placed, reads_token, reads_end, reads_item}
 
 -- what is written of a number below 10^12 is read back as it
 abbrev pub IsReadBack : Type 0

@@ -21,16 +21,17 @@ use Rattle.snd_network.specs.declared.draft.Draft.{Draft}
 use Rattle.snd_network.specs.declared.draft.Section.{Section}
 use Rattle.snd_network.specs.declared.draft.Section.TheVariants.{Nodes, Links, Demands}
 use Rattle.snd_network.specs.declared.limits.TheConstants.{MAX_NAME_BYTES}
-use Rattle.snd_network.specs.Names.{is_among, checked_name}
+use Rattle.snd_reader.specs.Names.{is_among}
+use Rattle.snd_network.specs.Names.{checked_name}
 use Rattle.snd_network.specs.Tests.{named, list_head, node_named, node_head, section_head}
 use Rattle.snd_network.specs.Grammar.{no_nodes, last_node, with_last, and_named, NodeForm, NodesForm, LinkForm, DemandForm, no_rows, and_row, ItemForm, ListForm, no_sections, and_nodes, and_links, SectionForm, NetworkForm}
 use Rattle.snd_network.specs.Ends.{IsLinkOf, IsDemandOf, AreAllOf, IsFileOf}
 use Rattle.snd_network.specs.WellFormed.{IsName, IsPlace, IsGoodNode, IsGoodLink, IsGoodDemand, AreDifferent, node_names, IsWellFormed}
 use Rattle.snd_network.specs.Writing.{place_tokens, node_tokens, link_tokens, demand_tokens}
-use Rattle.snd_network.proofs.CutTexts.{section_tokens}
+use Rattle.snd_reader.proofs.CutTexts.{section_tokens}
 use Rattle.snd_network.proofs.Finding.{all-push}
 use Rattle.snd_network.proofs.NameLists.{is_new}
-use Rattle.snd_network.proofs.Pieces.{Reads, reads_then, reads_last, reads_nothing, reads_end, reads_item}
+use Rattle.snd_reader.proofs.Standing.{Reads, reads_then, reads_last, reads_nothing, reads_end, reads_item}
 use Rattle.snd_network.proofs.SpeltRecords.{IsReadBack, reads_open, reads_close, reads_coordinate, reads_link, reads_demand}
 
 pub new_name : (names : List (List ℕ)) (bytes : List ℕ) → length bytes ≤ MAX_NAME_BYTES → is_among names bytes ≡ false → checked_name names bytes ≡ Ok tt

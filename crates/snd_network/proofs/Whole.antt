@@ -6,9 +6,11 @@ use Rattle.snd_reader.specs.Readers.{Lexeme, word, open_bracket, close_bracket, 
 use Rattle.snd_reader.specs.Forms.{Then, IsNothing, AreItems, Items}
 use Rattle.snd_reader.specs.declared.fault.Complaint.{Complaint}
 use Rattle.snd_reader.specs.declared.fault.Complaint.TheVariants.{Ended}
-use Rattle.snd_reader.proofs.Lawful.{Lawful, apart}
-use Rattle.snd_reader.proofs.Live.{Live, live_bind, live_done, IsMore, EndsLast, items_end_last, end_last_once}
+use Rattle.snd_reader.proofs.Lawful.{Lawful}
+use Rattle.snd_reader.proofs.Live.{Live, live_bind, live_done, IsMore, EndsLast, items_end_last}
 use Rattle.snd_reader.proofs.Many.{lawful_items}
+use Rattle.snd_reader.proofs.Endings.{EndsAtEnd, ends_items}
+use Rattle.snd_network.proofs.Endings.{section-end}
 use Rattle.snd_network.specs.declared.file.NodeRecord.{NodeRecord}
 use Rattle.snd_network.specs.declared.draft.LinkDraft.{LinkDraft}
 use Rattle.snd_network.specs.declared.draft.DemandDraft.{DemandDraft}
@@ -21,7 +23,7 @@ use Rattle.snd_network.specs.Tests.{section_named, has_section, once, section_be
 use Rattle.snd_network.specs.Grammar.{IsOpen, NodesForm, LinkForm, DemandForm, ListForm, no_sections, and_nodes, and_links, and_demands, and_meta, and_paths, SectionForm, NetworkForm}
 use Rattle.snd_network.specs.Reading.{link, demand, list_of, section_turn, section, network}
 use Rattle.snd_network.proofs.Parts.{live_opening, live_nodes, live_link, live_demand, live_list}
-use Rattle.snd_network.proofs.Skips.{live_skip}
+use Rattle.snd_reader.proofs.Skips.{live_skip}
 
 live_links : Live (ListForm LinkForm) (list_of link)
 live_links = live_list LinkForm link live_link
@@ -121,12 +123,6 @@ only-more d t k e = by t.is e
 pub network_ends : (l : List Placed) (d : Draft) → NetworkForm l d → EndsLast l
 network_ends l d f = items_end_last section_turn SectionForm (λ s h l x g. (live_section s h).no_end l x g) only-end only-more f.0 no_sections l d f.1
 
--- the reader of a text that has an end stops at a token
-pub stops_at_token : (a : List Placed) (e : Placed) (c : Complaint) → e.is ≡ the_end → network (a ++ e ∷ []) ≡ Err (c, []) → ⊥
-stops_at_token a e c is r =
-    let k = lawful_network.stops (a ++ e ∷ []) c [] r in
-    let whole : a ++ e ∷ [] ≡ k.front = k.whole ∙ append-nil k.front in
-    let form : NetworkForm ((a ++ e ∷ []) ++ k.begun.0) k.begun.1 = subst (λ (l : List Placed). NetworkForm (l ++ k.begun.0) k.begun.1) (sym whole) k.begun.2 in
-    let none : k.begun.0 ≡ [] = end_last_once a k.begun.0 e is (network_ends ((a ++ e ∷ []) ++ k.begun.0) k.begun.1 form) in
-    let again : network ((a ++ e ∷ []) ++ []) ≡ Ok (k.begun.1, []) = lawful_network.again (a ++ e ∷ []) k.begun.1 [] (subst (λ (l : List Placed). NetworkForm l k.begun.1) (ap (λ (l : List Placed). (a ++ e ∷ []) ++ l) none ∙ append-nil (a ++ e ∷ [])) form) in
-    apart (sym r ∙ ap network (sym (append-nil (a ++ e ∷ []))) ∙ again)
+-- the end of a text is told at its end alone
+pub ends_network : EndsAtEnd network
+ends_network = ends_items section_turn section (λ d t e. section-end d t.is e) (λ d k. (live_section d k).at_end) no_sections

@@ -11,7 +11,7 @@ use Rattle.snd_network.specs.declared.draft.DemandDraft.{DemandDraft}
 use Rattle.snd_network.specs.declared.draft.Named.{Named}
 use Rattle.snd_network.specs.declared.draft.Table.{Table}
 use Rattle.snd_network.specs.declared.draft.Draft.{Draft}
-use Rattle.snd_network.specs.Names.{number_of}
+use Rattle.snd_reader.specs.Names.{number_of}
 
 -- the node of this number
 abbrev pub node_id : ℕ → NodeId

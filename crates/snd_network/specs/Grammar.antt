@@ -1,7 +1,8 @@
 -- The grammar of network texts: which lists of tokens stand for which records.
-use Rattle.std.specs.Prelude.{◌≡◌, ℕ, zero, suc, true, false, List, [], ◌∷◌, ◌++◌, Option, Some, None}
-use Rattle.snd_reader.specs.Readers.{Lexeme, word, open_bracket, close_bracket, equals_sign, the_end, Placed}
+use Rattle.std.specs.Prelude.{ℕ, true, false, List, [], ◌∷◌, ◌++◌, Option, Some, None}
+use Rattle.snd_reader.specs.Readers.{Placed}
 use Rattle.snd_reader.specs.Forms.{Then, IsToken, IsNothing, Items}
+use Rattle.snd_reader.specs.Brackets.{IsSkipped}
 use Rattle.snd_reader.specs.Tests.{open_test, close_test, number_test}
 use Rattle.snd_network.specs.declared.file.NodeRecord.{NodeRecord}
 use Rattle.snd_network.specs.declared.draft.End.{End}
@@ -133,24 +134,6 @@ abbrev pub ListForm : {T : Type 0} → (List Placed → T → Type 0) → List P
 ListForm {T} F = Items (λ (s : Table (Named T)) (t : Placed). list_head s.names t.is) (ItemForm F) no_rows
 
 -- ---- sections
-
--- what the first token says of tokens with balanced brackets, where so many are open
-abbrev pub IsBalancedBy : (ℕ → Type 0) → ℕ → List Placed → Lexeme → Type 0
-IsBalancedBy Later depth ts (word bytes) = Later depth
-IsBalancedBy Later depth ts open_bracket = Later (suc depth)
-IsBalancedBy Later zero ts close_bracket = ts ≡ []
-IsBalancedBy Later (suc depth) ts close_bracket = Later depth
-IsBalancedBy Later depth ts equals_sign = Later depth
-IsBalancedBy Later depth ts the_end = ⊥
-
--- tokens with balanced brackets, and the Close behind them, where so many brackets are open
-abbrev pub IsBalanced : ℕ → List Placed → Type 0
-IsBalanced depth [] = ⊥
-IsBalanced depth (t ∷ ts) = IsBalancedBy (λ d. IsBalanced d ts) depth ts t.is
-
--- tokens that are passed over
-abbrev pub IsSkipped : List Placed → Unit {0} → Type 0
-IsSkipped ts x = IsBalanced 0 ts
 
 -- no section has been read
 abbrev pub no_sections : Draft

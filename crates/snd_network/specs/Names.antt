@@ -1,18 +1,9 @@
--- Names, and the numbers that they have among names.
-use Rattle.std.specs.Prelude.{ℕ, Bool, nat_eq, nat_lt, if◌then◌else◌, List, length, position, Option, Result, Ok, Err}
-use Rattle.std.specs.List.{list_any}
-use Rattle.std.specs.Cmp.Lexicographic.{pointwise}
+-- Which names a network text may have in their places.
+use Rattle.std.specs.Prelude.{ℕ, nat_lt, if◌then◌else◌, List, length, Result, Ok, Err}
 use Rattle.snd_reader.specs.declared.fault.Complaint.{Complaint}
 use Rattle.snd_reader.specs.declared.fault.Complaint.TheVariants.{Twice, LongId}
+use Rattle.snd_reader.specs.Names.{is_among}
 use Rattle.snd_network.specs.declared.limits.TheConstants.{MAX_NAME_BYTES}
-
--- it is one of these names
-abbrev pub is_among : List (List ℕ) → List ℕ → Bool
-is_among names bytes = list_any (λ name. pointwise nat_eq bytes name) names
-
--- its number among names, from 0 on, if it is one of them
-abbrev pub number_of : List (List ℕ) → List ℕ → Option ℕ
-number_of names bytes = position (λ name. pointwise nat_eq bytes name) names
 
 -- a name that refers to a node has at most 64 bytes
 abbrev pub checked_length : List ℕ → Result (Unit {0}) Complaint

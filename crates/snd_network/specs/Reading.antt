@@ -1,16 +1,14 @@
 -- The readers of network texts, which the code follows; their forms are in Grammar.
-use Rattle.std.specs.Prelude.{ℕ, zero, suc, List, [], ◌∷◌, ◌++◌, Option, Some, Result, Ok, Err}
+use Rattle.std.specs.Prelude.{ℕ, List, [], ◌∷◌, ◌++◌, Option, Some, Result}
 use Rattle.snd_reader.specs.declared.fault.Complaint.{Complaint}
-use Rattle.snd_reader.specs.declared.fault.Complaint.TheVariants.{Ended}
-use Rattle.snd_reader.specs.Readers.{Lexeme, word, open_bracket, close_bracket, equals_sign, the_end, Placed, Stopped, Reader, done, bind, token, items}
+use Rattle.snd_reader.specs.Readers.{Placed, Reader, done, bind, token, items}
+use Rattle.snd_reader.specs.Brackets.{skip}
 use Rattle.snd_reader.specs.Tests.{open_test, close_test, number_test}
 use Rattle.snd_network.specs.declared.file.NodeRecord.{NodeRecord}
 use Rattle.snd_network.specs.declared.draft.End.{End}
 use Rattle.snd_network.specs.declared.draft.NodeItem.{NodeItem}
 use Rattle.snd_network.specs.declared.draft.NodeItem.TheVariants as node_items
 use Rattle.snd_network.specs.declared.draft.NodeList.{NodeList}
-use Rattle.snd_network.specs.declared.draft.Depth.{Depth}
-use Rattle.snd_network.specs.declared.draft.Depth.TheVariants.{Closed, Deep, Over}
 use Rattle.snd_network.specs.declared.draft.LinkDraft.{LinkDraft}
 use Rattle.snd_network.specs.declared.draft.DemandDraft.{DemandDraft}
 use Rattle.snd_network.specs.declared.draft.Named.{Named}
@@ -126,28 +124,6 @@ list_item part s name = bind part (λ item. done (and_row s name item))
 -- reads items up to a Close
 abbrev pub list_of : {T : Type 0} → Reader T → Reader (Table (Named T))
 list_of part = items list_turn (list_item part) no_rows
-
--- ---- tokens that are passed over
-
--- what a token says of brackets: all are closed, so many are open behind it, or the text ends
-abbrev pub depth_at : ℕ → Lexeme → Depth
-depth_at depth (word bytes) = Deep depth
-depth_at depth open_bracket = Deep (suc depth)
-depth_at zero close_bracket = Closed
-depth_at (suc depth) close_bracket = Deep depth
-depth_at depth equals_sign = Deep depth
-depth_at depth the_end = Over
-
--- goes on as the first token says
-abbrev pub skip_by : (ℕ → Result (Unit {0} × List Placed) Stopped) → Placed → List Placed → Depth → Result (Unit {0} × List Placed) Stopped
-skip_by later t ts Closed = Ok (tt, ts)
-skip_by later t ts (Deep d) = later d
-skip_by later t ts Over = Err (Ended, t ∷ ts)
-
--- reads tokens with balanced brackets, and the Close behind them, where so many brackets are open
-unfoldable pub skip : ℕ → Reader (Unit {0})
-skip depth [] = Err (Ended, [])
-skip depth (t ∷ ts) = skip_by (λ d. skip d ts) t ts (depth_at depth t.is)
 
 -- ---- sections
 

@@ -1,13 +1,11 @@
 -- Steps of the readers' loops. No public clause cites this module.
-use Rattle.snd_lexer.specs.declared.token.Dialect.TheVariants as dialects
-use Rattle.snd_lexer.specs.Cutting.{StopsAt}
-use Rattle.std.specs.Prelude.{◌≡◌, ◌+◌, ℕ, false, List, Some, Result, Ok, Err}
+use Rattle.std.specs.Prelude.{◌≡◌, ℕ, false, List, Some, Result, Ok, Err}
 use Rattle.snd_reader.specs.declared.fault.TextFault.{TextFault}
 use Rattle.snd_reader.specs.declared.fault.TextFault.TheVariants.{Header, Unexpected, Number, Twice, Unknown, Ended, LongId, Control, OutOfMemory}
 use Rattle.snd_network.specs.declared.draft.NodeItem.{NodeItem}
 use Rattle.snd_network.specs.declared.draft.NodeItem.TheVariants as node_items
 use Rattle.snd_network.specs.declared.draft.End.{End}
-use Rattle.snd_network.specs.Names.{is_among}
+use Rattle.snd_reader.specs.Names.{is_among}
 use Rattle.snd_network.specs.Ends.{first_unknown}
 
 -- the name of the item is none of these
@@ -31,15 +29,3 @@ IsUnknown names ends (Number at f) = ⊥
 IsUnknown names ends (Twice at) = ⊥
 IsUnknown names ends (Ended at) = ⊥
 IsUnknown names ends (LongId at) = ⊥
-
--- the text that begins at a place of the whole text stops at the fault's place, or memory ran out
-abbrev pub IsCutFault : List ℕ → ℕ → TextFault → Type 0
-IsCutFault text base (Control at) = (place : ℕ) × StopsAt dialects.Network text place × (at ≡ base + place)
-IsCutFault text base OutOfMemory = Unit {0}
-IsCutFault text base Header = ⊥
-IsCutFault text base (Unknown at) = ⊥
-IsCutFault text base (Unexpected at w) = ⊥
-IsCutFault text base (Number at f) = ⊥
-IsCutFault text base (Twice at) = ⊥
-IsCutFault text base (Ended at) = ⊥
-IsCutFault text base (LongId at) = ⊥

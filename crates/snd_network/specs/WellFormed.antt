@@ -1,8 +1,8 @@
 -- Which networks a text can hold: what write_network takes, and what NetworkFile's well_formed tests.
-use Rattle.std.specs.Prelude.{◌≡◌, ◌≢◌, ℕ, ◌<◌, ◌≤◌, ◌^◌, true, List, length, map, All, AllPairs, Option, Some, None, Ok}
+use Rattle.std.specs.Prelude.{◌≡◌, ◌≢◌, ℕ, ◌<◌, ◌≤◌, ◌^◌, List, length, map, All, AllPairs, Option, Some, None, Ok}
 use Rattle.snd_lexer.specs.declared.token.Dialect.TheVariants as dialects
 use Rattle.snd_lexer.specs.declared.limits.TheConstants.{MAX_TEXT_BYTES}
-use Rattle.snd_lexer.specs.Cutting.{is_word}
+use Rattle.snd_reader.specs.Writing.{IsWordOf}
 use Rattle.snd_network.specs.declared.file.NodeRecord.{NodeRecord}
 use Rattle.snd_network.specs.declared.file.LinkRecord.{LinkRecord}
 use Rattle.snd_network.specs.declared.file.DemandRecord.{DemandRecord}
@@ -11,9 +11,8 @@ use Rattle.snd_network.specs.declared.limits.TheConstants.{MAX_NAME_BYTES}
 use Rattle.snd_network.specs.Tests.{checked_coordinate}
 
 -- one byte or more, and each may stand in a word of a network text
-pub record IsWord (bytes : List ℕ) : Type 0 where
-  pub some : 0 < length bytes
-  pub word_bytes : All (λ byte. is_word dialects.Network byte ≡ true) bytes
+abbrev pub IsWord : List ℕ → Type 0
+IsWord bytes = IsWordOf dialects.Network bytes
 
 -- a word of at most 64 bytes
 pub record IsName (bytes : List ℕ) : Type 0 where

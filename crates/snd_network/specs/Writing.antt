@@ -1,8 +1,8 @@
 -- The canonical text of a network, from the tokens of its records.
-use Rattle.std.specs.Prelude.{ℕ, List, [], ◌∷◌, ◌++◌, codes, decimal, slice_index_or, flat_map, Option, Some, None}
-use Rattle.scaled_numbers.specs.Canonical.{grains_text}
+use Rattle.std.specs.Prelude.{ℕ, List, [], ◌∷◌, ◌++◌, codes, slice_index_or, flat_map, Option, Some, None}
 use Rattle.plan_base.specs.declared.ids.NodeId.{NodeId}
-use Rattle.snd_reader.specs.Readers.{Lexeme, word, open_bracket, close_bracket, equals_sign, the_end}
+use Rattle.snd_reader.specs.Readers.{Lexeme, word, open_bracket, close_bracket}
+use Rattle.snd_reader.specs.Writing.{line_of, section_text, grains, whole}
 use Rattle.snd_network.specs.declared.file.NodeRecord.{NodeRecord}
 use Rattle.snd_network.specs.declared.file.LinkRecord.{LinkRecord}
 use Rattle.snd_network.specs.declared.file.DemandRecord.{DemandRecord}
@@ -10,34 +10,7 @@ use Rattle.snd_network.specs.declared.file.NetworkFile.{NetworkFile}
 use Rattle.snd_network.specs.Spelling.{network_header}
 use Rattle.snd_network.specs.WellFormed.{node_names}
 
--- ---- tokens as bytes
-
--- the bytes of a token
-abbrev pub lexeme_text : Lexeme → List ℕ
-lexeme_text (word bytes) = bytes
-lexeme_text open_bracket = 40 ∷ []
-lexeme_text close_bracket = 41 ∷ []
-lexeme_text equals_sign = 61 ∷ []
-lexeme_text the_end = []
-
--- tokens, each with a space in front
-abbrev pub spaced : List Lexeme → List ℕ
-spaced [] = []
-spaced (t ∷ ts) = 32 ∷ (lexeme_text t ++ spaced ts)
-
--- the line of a record: its tokens, another space in front of the first, and an LF
-abbrev pub line_of : List Lexeme → List ℕ
-line_of ts = 32 ∷ (spaced ts ++ 10 ∷ [])
-
 -- ---- the tokens of the records
-
--- a number of millionths, as its one canonical decimal
-abbrev pub grains : ℕ → Lexeme
-grains n = word (grains_text n 6)
-
--- a whole number in decimal digits
-abbrev pub whole : ℕ → Lexeme
-whole n = word (decimal n)
 
 -- the place of a node, if it has one: its two coordinates in brackets
 abbrev pub place_tokens : Option (List ℕ × List ℕ) → List Lexeme
@@ -87,10 +60,6 @@ link_lines nodes links = flat_map (λ l. line_of (link_tokens nodes l)) links
 -- the lines of the demands
 abbrev pub demand_lines : List NodeRecord → List DemandRecord → List ℕ
 demand_lines nodes demands = flat_map (λ d. line_of (demand_tokens nodes d)) demands
-
--- a line that names the section, the lines of its records, and a line that closes it
-abbrev pub section_text : List ℕ → List ℕ → List ℕ
-section_text name lines = name ++ (codes " (\n" ++ (lines ++ codes ")\n"))
 
 -- the header line, then the nodes, the links and the demands
 unfoldable pub network_text : NetworkFile → List ℕ

@@ -1,51 +1,8 @@
 //! Networks as they are read, before the ends of links and demands are looked up.
 
-ghost use Rattle.std.specs.Prelude.{◌≡◌, ◌++◌, ◌∷◌, [], IfOk};
-
 use crate::file::NodeRecord;
-use crate::name::{Name, Names};
 use plan_base::Items;
-use std::alloc::{AllocFailed, Global};
-use std::marker::Model;
-
-/// Items in order.
-#[derive(Drop)]
-pub struct Rows<T> {
-    rows: Vec<T>,
-}
-
-impl<T> Model for Rows<T> {
-    ghost use Rattle.std.specs.Prelude.{List};
-
-    ghost Value = { List T };
-
-    ghost view = { λ a. a.rows.items };
-}
-
-impl<T> Rows<T> {
-    /// No items.
-    pub(crate) fn new(alloc: Global) -> Self
-        ensures { result ≡ [] }
-    {
-        Rows {
-            rows: Vec::new(alloc),
-        }
-    }
-
-    /// One item more.
-    pub(crate) fn push(&mut self, item: T) -> Result<(), AllocFailed<T>>
-        ensures { IfOk result (λ _. self.new ≡ self.old ++ item ∷ []) }
-    {
-        self.rows.push(item)
-    }
-
-    /// The items.
-    pub(crate) fn into_vec(self) -> Vec<T>
-        ensures { result.items ≡ self }
-    {
-        self.rows
-    }
-}
+use snd_reader::{Name, Names, Rows};
 
 /// The end of a link or demand: the place of its name in the text, and the name.
 #[derive(Drop)]
@@ -88,14 +45,6 @@ pub struct DemandDraft {
 pub enum NodeItem {
     Name(Name),
     Place,
-}
-
-/// How many brackets are open behind a token: all are closed, so many are open, or the text ends.
-#[derive(Clone, Copy)]
-pub enum Depth {
-    Closed,
-    Deep(usize),
-    Over,
 }
 
 /// The nodes so far. The last name waits for a place that may stand behind it.

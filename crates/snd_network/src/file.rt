@@ -1,7 +1,7 @@
 //! What a network text holds, number by number as it is written.
 
-use crate::name::Name;
 use plan_base::{Items, NodeId};
+use snd_reader::Name;
 
 /// A node.
 #[derive(Debug, Drop)]

@@ -3,18 +3,17 @@
 ghost use Rattle.std.specs.Prelude.{◌≡◌, false};
 ghost use Rattle.snd_reader.specs.Readers.{token};
 ghost use Rattle.snd_reader.specs.Faults.{Gives};
-ghost use Rattle.snd_network.specs.Names.{is_among};
+ghost use Rattle.snd_reader.specs.Names.{is_among};
 ghost use Rattle.snd_network.specs.Tests.{list_head};
 ghost use Rattle.snd_network.specs.Grammar.{and_named, and_row, with_last};
 ghost use Rattle.snd_network.specs.Reading.{node_turn, node_place, node_item, node_list, nodes, link, demand, list_item, list_of};
 ghost use Rattle.snd_network.specs.Steps.{IsNewItem, Makes};
 
-use crate::draft::{DemandDraft, LinkDraft, Named, NodeItem, NodeList, Rows, Table};
+use crate::draft::{DemandDraft, LinkDraft, Named, NodeItem, NodeList, Table};
 use crate::file::NodeRecord;
-use crate::name::{Name, Names};
 use crate::readers::{coordinate, demand, link};
 use crate::verdicts::{name_of, node_item_of};
-use snd_reader::{Cursor, TextFault};
+use snd_reader::{Cursor, Name, Names, Rows, TextFault};
 use std::alloc::Global;
 
 /// The last name becomes a node of this place.

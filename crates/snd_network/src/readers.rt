@@ -1,18 +1,15 @@
 //! Readers of the parts of network texts.
 
-ghost use Rattle.std.specs.Prelude.{◌≡◌, ◌<◌, ◌+◌, ◌^◌};
-ghost use Rattle.snd_reader.specs.Readers.{open_bracket, token};
+ghost use Rattle.snd_reader.specs.Readers.{token};
 ghost use Rattle.snd_reader.specs.Faults.{Gives};
-ghost use Rattle.snd_reader.specs.Seen.{seen};
 ghost use Rattle.snd_network.specs.Tests.{module_head};
-ghost use Rattle.snd_network.specs.Reading.{end_name, coordinate, hop_limit, module_item, modules, link, demand, depth_at, skip};
+ghost use Rattle.snd_network.specs.Reading.{end_name, coordinate, hop_limit, module_item, modules, link, demand};
 ghost use Rattle.snd_network.specs.InParts.{ends, link_numbers, demand_numbers};
 
-use crate::draft::{DemandDraft, Depth, End, LinkDraft};
-use crate::name::Name;
+use crate::draft::{DemandDraft, End, LinkDraft};
 use crate::verdicts::{capacity_of, coordinate_of, end_of, hops_of};
 use plan_base::Items;
-use snd_reader::{Cursor, Lexeme, TextFault};
+use snd_reader::{Cursor, Name, TextFault};
 use std::alloc::Global;
 
 /// The end of a link or demand.
@@ -48,7 +45,7 @@ fn next_capacity(cursor: &mut Cursor<'_>) -> Result<Option<u64>, TextFault>
 }
 
 /// A module more, behind its capacity.
-#[tactic(auto, using(crate::proofs::Through::through), unfolding(crate::specs::Reading::module_item))]
+#[tactic(auto, using(snd_reader::proofs::Faults::through), unfolding(crate::specs::Reading::module_item))]
 fn module_item(
     cursor: &mut Cursor<'_>,
     modules: &mut Vec<(u64, u64)>,
@@ -139,37 +136,4 @@ pub(crate) fn demand(cursor: &mut Cursor<'_>, alloc: Global) -> Result<DemandDra
         value,
         hops,
     })
-}
-
-/// How many brackets are open behind a token, where so many are open before it.
-fn depth_behind(depth: usize, lexeme: Lexeme<'_>) -> Depth
-    requires { seen lexeme ≡ open_bracket → depth + 1 < 2 ^ 64 }
-    ensures { result ≡ depth_at depth (seen lexeme.entry) }
-{
-    match lexeme {
-        Lexeme::Word(_) | Lexeme::Equals => Depth::Deep(depth),
-        Lexeme::Open => Depth::Deep(depth + 1),
-        Lexeme::Close if depth == 0 => Depth::Closed,
-        Lexeme::Close => Depth::Deep(depth - 1),
-        Lexeme::End => Depth::Over,
-    }
-}
-
-/// Goes past tokens with balanced brackets and the bracket that closes them.
-pub(crate) fn skip(cursor: &mut Cursor<'_>) -> Result<(), TextFault>
-    ensures gives { Gives (λ x. (x, cursor.new)) result (skip 0 cursor.old) }
-{
-    let _left = cursor.count();
-    let mut depth = 0usize;
-    'tokens: loop {
-        match depth_behind(depth, cursor.first()) {
-            Depth::Closed => {
-                cursor.pass();
-                return Ok(());
-            }
-            Depth::Deep(behind) => depth = behind,
-            Depth::Over => return Err(TextFault::Ended { at: cursor.at() }),
-        }
-        cursor.pass();
-    }
 }

@@ -1,24 +1,21 @@
 //! Reading a network text.
 
-ghost use Rattle.std.specs.Prelude.{◌≡◌, ◌≤◌, ◌<◌, ◌+◌, ◌-◌, ◌^◌, length, true, IfOk, IfErr};
+ghost use Rattle.std.specs.Prelude.{◌≡◌, ◌≤◌, ◌<◌, ◌^◌, length, true, IfOk, IfErr};
 ghost use Rattle.snd_lexer.specs.declared.limits.TheConstants.{MAX_TEXT_BYTES};
-ghost use Rattle.snd_lexer.specs.declared.token.Dialect.TheVariants.{Network};
-ghost use Rattle.snd_lexer.specs.Cutting.{Lexes, IsWithin};
-ghost use Rattle.std.specs.List.{All};
 ghost use Rattle.snd_reader.specs.declared.fault.TextFault.{TextFault};
+ghost use Rattle.snd_reader.specs.Texts.{OnlyFile, OnlyFault};
 ghost use Rattle.snd_network.specs.declared.file.NetworkFile.{NetworkFile};
 ghost use Rattle.snd_network.specs.Tests.{is_complete};
-ghost use Rattle.snd_network.specs.Spelling.{SpellsDraft, SpellsNetwork, IsFault, OnlyFile, OnlyFault};
+ghost use Rattle.snd_network.specs.Spelling.{SpellsDraft, SpellsNetwork, IsFault};
 ghost use Rattle.snd_network.specs.WellFormed.{IsWellFormed};
 ghost use Rattle.snd_network.specs.Ends.{names_of};
-ghost use Rattle.snd_network.specs.Steps.{IsCutFault};
 
 use crate::draft::Draft;
 use crate::file::NetworkFile;
 use crate::resolve::file_of;
 use crate::sections::network;
-use snd_lexer::{Dialect, LexFault, Tokens, lex};
-use snd_reader::{Cursor, TextFault, behind_header};
+use snd_lexer::Dialect;
+use snd_reader::{TextFault, cut_text};
 use std::alloc::Global;
 
 /// The first line of a network text.
@@ -60,25 +57,6 @@ fn read_draft(alloc: Global, text: &[u8]) -> Result<Draft, TextFault>
     ensures few { IfOk result (λ draft. length (names_of draft.nodes) < 2 ^ 32) }
     ensures fault { IfErr result (IsFault text.now) }
 {
-    let Some(rest) = behind_header(HEADER, text) else {
-        return Err(TextFault::Header);
-    };
-    let base = (text.len() - rest.len()) as u32;
-    let tokens = cut(alloc, rest, base)?;
-    let mut cursor = Cursor::new(rest, tokens.as_slice(), base);
-    network(&mut cursor, alloc)
-}
-
-/// The tokens of a text that begins at the place `base` of the whole text.
-fn cut(alloc: Global, text: &[u8], base: u32) -> Result<Tokens, TextFault>
-    requires { base + length text.now ≤ MAX_TEXT_BYTES }
-    ensures cut { IfOk result (λ tokens. Lexes Network text.now tokens) }
-    ensures within { IfOk result (λ tokens. All (IsWithin (length text.now)) tokens) }
-    ensures fault { IfErr result (IsCutFault text.now base) }
-{
-    match lex(alloc, text, Dialect::Network) {
-        Ok(tokens) => Ok(tokens),
-        Err(LexFault::Control { at }) => Err(TextFault::Control { at: base + at }),
-        Err(LexFault::OutOfMemory) => Err(TextFault::OutOfMemory),
-    }
+    let tokens = cut_text(alloc, Dialect::Network, HEADER, text)?;
+    network(&mut tokens.cursor(), alloc)
 }

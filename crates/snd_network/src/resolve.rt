@@ -2,16 +2,15 @@
 
 ghost use Rattle.std.specs.Prelude.{◌≡◌, ◌∷◌, [], ◌<◌, ◌^◌, length, true, Some, None, IfOk, IfErr};
 ghost use Rattle.snd_reader.specs.declared.fault.TextFault.TheVariants.{Unknown};
-ghost use Rattle.snd_network.specs.Names.{number_of};
+ghost use Rattle.snd_reader.specs.Names.{number_of};
 ghost use Rattle.snd_network.specs.Tests.{is_complete};
 ghost use Rattle.snd_network.specs.Ends.{IsNode, IsLinkOf, IsDemandOf, AreAllOf, IsFileOf, names_of, link_ends, demand_ends, all_ends};
 ghost use Rattle.snd_network.specs.Steps.{IsUnknown};
 
 use crate::draft::{DemandDraft, Draft, End, LinkDraft, Named};
 use crate::file::{DemandRecord, LinkRecord, NetworkFile};
-use crate::name::Names;
 use plan_base::{Items, NodeId};
-use snd_reader::TextFault;
+use snd_reader::{Names, TextFault};
 use std::alloc::Global;
 
 /// The number of the node of this name.

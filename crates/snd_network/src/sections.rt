@@ -8,9 +8,8 @@ ghost use Rattle.snd_network.specs.Reading.{section_turn, section, network};
 
 use crate::draft::{Draft, Section};
 use crate::lists::{demands, links, nodes};
-use crate::readers::skip;
 use crate::verdicts::section_of;
-use snd_reader::{Cursor, TextFault};
+use snd_reader::{Cursor, TextFault, skip};
 use std::alloc::Global;
 
 /// A section behind its name.

@@ -9,9 +9,8 @@ ghost use Rattle.snd_network.specs.Tests.{end_at, list_head, node_head, module_h
 
 use crate::draft::{Draft, End, NodeItem, NodeList, Section};
 use crate::limits::MAX_NAME_BYTES;
-use crate::name::{Name, Names};
 use scaled_numbers::{NumberFault, read_decimal};
-use snd_reader::{Complaint, Lexeme, Wanted};
+use snd_reader::{Complaint, Lexeme, Name, Names, Wanted};
 use std::alloc::{AllocError, Global};
 
 /// Whether a name is not too long.

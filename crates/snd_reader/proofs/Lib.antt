@@ -1,6 +1,16 @@
 pub mod Lawful
 pub mod Many
+pub mod Endings
 pub mod Live
 pub mod Faults
 pub mod Loops
 pub mod Headers
+pub mod Skips
+pub mod SkipLoop
+pub mod CutTexts
+pub mod Standing
+pub mod ReadTexts
+pub mod OneFault
+pub mod NameSets
+pub mod Turns
+pub mod WrittenLists

@@ -8,6 +8,7 @@ use Rattle.snd_reader.specs.Readers.{Lexeme, word, open_bracket, close_bracket, 
 use Rattle.snd_reader.specs.Forms.{Then, IsToken, IsNothing, AreItems, Items}
 use Rattle.snd_reader.proofs.Lawful.{Lawful, lawful_done, lawful_token, lawful_bind, apart}
 use Rattle.snd_reader.proofs.Many.{lawful_items}
+use Rattle.snd_reader.proofs.Endings.{EndsAtEnd, ends_done, ends_token, ends_bind, ends_items}
 
 -- it is no end of a text
 abbrev pub IsMore : Lexeme → Type 0
@@ -29,6 +30,7 @@ pub record Live {A : Type 0} (F : List Placed → A → Type 0) (r : Reader A) :
   pub law : Lawful F r
   pub some : (l : List Placed) × (z : A) × F l z
   pub no_end : (l : List Placed) (z : A) → F l z → HasNoEnd l
+  pub at_end : EndsAtEnd r
 
 pub live_bind : {A X : Type 0} (F : List Placed → A → Type 0) (G : A → List Placed → X → Type 0) (r : Reader A) (s : A → Reader X)
     → Live F r → ((x : A) → Live (G x) (s x)) → Live (Then F G) (bind r s)
@@ -36,13 +38,14 @@ live_bind {A} {X} F G r s first after = record {
   law = lawful_bind F G r s first.law (λ x. (after x).law) (λ y. (after y).some);
   some = (let a = first.some in let b = (after a.1).some in (a.0 ++ b.0, b.1, (a.0, a.1, b.0, a.2, b.2, refl)));
   no_end = λ l z f. no_end l z f;
+  at_end = ends_bind r s first.at_end (λ x. (after x).at_end);
 }
   where
     no_end : (l : List Placed) (z : X) → Then F G l z → HasNoEnd l
     no_end l z (a, x, b, f, g, e) = subst HasNoEnd (sym e) (no_end_append a b (first.no_end a x f) ((after x).no_end b z g))
 
 pub live_done : {A : Type 0} (v : A) → Live (IsNothing v) (done v)
-live_done v = record { law = lawful_done v; some = ([], v, (refl, refl)); no_end = λ l z f. subst HasNoEnd (sym f.0) tt }
+live_done v = record { law = lawful_done v; some = ([], v, (refl, refl)); no_end = λ l z f. subst HasNoEnd (sym f.0) tt; at_end = ends_done v }
 
 -- what a test finds good is no end
 pub more_by : {A : Type 0} (test : Placed → Result A Complaint) → ((t : Placed) → t.is ≡ the_end → test t ≡ Err Ended) → (t : Placed) (x : A) → test t ≡ Ok x → IsMore t.is
@@ -55,14 +58,15 @@ more_by {A} test ends t x e = by t.is refl
     by equals_sign is = rw is tt
     by the_end is = absurd (apart (sym (ends t is) ∙ e))
 
-pub live_token : {A : Type 0} (test : Placed → Result A Complaint) (some : Placed) (value : A) → test some ≡ Ok value → ((t : Placed) → t.is ≡ the_end → test t ≡ Err Ended) → Live (IsToken test) (token test)
-live_token {A} test some value good ends = record { law = lawful_token test some value good; some = (some ∷ [], value, (some, refl, good)); no_end = λ l z f. no_end l z f }
+pub live_token : {A : Type 0} (test : Placed → Result A Complaint) (some : Placed) (value : A) → test some ≡ Ok value → ((t : Placed) → t.is ≡ the_end → test t ≡ Err Ended) → ((t : Placed) → test t ≡ Err Ended → t.is ≡ the_end) → Live (IsToken test) (token test)
+live_token {A} test some value good ends only = record { law = lawful_token test some value good; some = (some ∷ [], value, (some, refl, good)); no_end = λ l z f. no_end l z f; at_end = ends_token test only }
   where
     no_end : (l : List Placed) (z : A) → IsToken test l z → HasNoEnd l
     no_end l z (t, e, h) = subst HasNoEnd (sym e) (more_by test ends t z h, tt)
 
 module _ {S H : Type 0} (head : S → Placed → Result (Option H) Complaint) (body : S → H → Reader S) (F : S → H → List Placed → S → Type 0)
-    (live : (s : S) (h : H) → Live (F s h) (body s h)) (finish : (s : S) → (l : List Placed) × (x : S) × Items head F s l x) (ends : (s : S) (t : Placed) → t.is ≡ the_end → head s t ≡ Err Ended) where
+    (live : (s : S) (h : H) → Live (F s h) (body s h)) (finish : (s : S) → (l : List Placed) × (x : S) × Items head F s l x) (ends : (s : S) (t : Placed) → t.is ≡ the_end → head s t ≡ Err Ended)
+    (only : (s : S) (t : Placed) → head s t ≡ Err Ended → t.is ≡ the_end) where
   items_no_end : (n : ℕ) (s : S) (l : List Placed) (x : S) → AreItems head F n s l x → HasNoEnd l
   unfolding AreItems
   items_no_end zero s l x (t, a, e, b) = subst HasNoEnd (sym e) (more_by (head s) (ends s) t None a, tt)
@@ -74,6 +78,7 @@ module _ {S H : Type 0} (head : S → Placed → Result (Option H) Complaint) (b
     law = lawful_items head body F (λ u h. (live u h).law) finish s;
     some = finish s;
     no_end = λ l x f. items_no_end f.0 s l x f.1;
+    at_end = ends_items head body only (λ u h. (live u h).at_end) s;
   }
 
 -- ---- a list that the end of a text ends

@@ -5,3 +5,7 @@ pub mod Faults
 pub mod Tokens
 pub mod Seen
 pub mod Header
+pub mod Brackets
+pub mod Texts
+pub mod Writing
+pub mod Names

@@ -6,12 +6,22 @@
 //! to the crates above, whose contracts may rest on the forms and laws that stand here.
 #![tactic(auto)]
 
+mod brackets;
 mod cursor;
 mod fault;
 mod header;
 mod lexeme;
+mod name;
+mod rows;
+mod tokens;
+mod writing;
 
+pub use brackets::skip;
 pub use cursor::Cursor;
 pub use fault::{Complaint, TextFault, Wanted};
 pub use header::behind_header;
 pub use lexeme::Lexeme;
+pub use name::{Name, Names};
+pub use rows::Rows;
+pub use tokens::{TokenText, cut_text};
+pub use writing::{push_close, push_grains, push_open, push_whole, push_word};

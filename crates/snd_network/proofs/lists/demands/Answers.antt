@@ -1,6 +1,6 @@
 use Rattle.std.proofs.lemmas.Result.{err_from_is_err_and}
 use Rattle.snd_reader.proofs.Loops.{head_fails, closes, body_fails, goes_on}
-use Rattle.snd_network.proofs.Turns.{turn_shorter}
+use Rattle.snd_reader.proofs.Turns.{turn_shorter}
 use Rattle.snd_network.specs.Grammar.{DemandForm, ItemForm}
 use Rattle.snd_network.specs.Reading.{list_turn, list_item, list_of, demand}
 use Rattle.snd_network.proofs.Parts.{live_item, live_demand}

@@ -1,6 +1,6 @@
 use Rattle.std.proofs.lemmas.Result.{err_from_is_err_and}
 use Rattle.snd_network.specs.Reading.{link, list_item}
-use Rattle.snd_network.proofs.Through.{through}
+use Rattle.snd_reader.proofs.Faults.{through}
 use Rattle.snd_network.proofs.lists.link_item.Goals as goal
 
 pub returns-in_err-part : goal.returns-in_err-part

@@ -1,6 +1,6 @@
 use Rattle.std.proofs.lemmas.Result.{err_from_is_err_and}
 use Rattle.snd_reader.proofs.Loops.{head_fails, closes, body_fails, goes_on}
-use Rattle.snd_network.proofs.Turns.{turn_shorter}
+use Rattle.snd_reader.proofs.Turns.{turn_shorter}
 use Rattle.snd_network.specs.Grammar.{NodeForm}
 use Rattle.snd_network.specs.Reading.{node_turn, node_item, node_list}
 use Rattle.snd_network.proofs.Parts.{live_node}

@@ -1,6 +1,6 @@
 use Rattle.std.proofs.lemmas.Result.{err_from_is_err_and}
 use Rattle.snd_network.specs.Reading.{node_list}
-use Rattle.snd_network.proofs.Through.{through}
+use Rattle.snd_reader.proofs.Faults.{through}
 use Rattle.snd_network.proofs.lists.nodes.Goals as goal
 
 pub returns-in_err-list : goal.returns-in_err-list

@@ -1,6 +1,6 @@
 use Rattle.std.proofs.lemmas.Result.{err_from_is_err_and}
 use Rattle.snd_network.specs.InParts.{ends, demand_numbers}
-use Rattle.snd_network.proofs.Through.{through}
+use Rattle.snd_reader.proofs.Faults.{through}
 use Rattle.snd_network.proofs.InOrder.{demand_in_parts}
 use Rattle.snd_network.proofs.readers.demand.Goals as goal
 

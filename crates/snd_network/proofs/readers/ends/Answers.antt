@@ -1,7 +1,7 @@
 use Rattle.std.proofs.lemmas.Result.{err_from_is_err_and}
 use Rattle.snd_network.specs.Reading.{opening, closing, end_name}
 use Rattle.snd_network.specs.InParts.{ends}
-use Rattle.snd_network.proofs.Through.{through}
+use Rattle.snd_reader.proofs.Faults.{through}
 use Rattle.snd_network.proofs.readers.ends.Goals as goal
 
 pub returns-in_err-open : goal.returns-in_err-open

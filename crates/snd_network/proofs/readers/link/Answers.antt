@@ -1,7 +1,7 @@
 use Rattle.std.proofs.lemmas.Result.{err_from_is_err_and}
 use Rattle.snd_network.specs.Reading.{modules}
 use Rattle.snd_network.specs.InParts.{ends, link_numbers}
-use Rattle.snd_network.proofs.Through.{through}
+use Rattle.snd_reader.proofs.Faults.{through}
 use Rattle.snd_network.proofs.InOrder.{link_in_parts}
 use Rattle.snd_network.proofs.readers.link.Goals as goal
 

@@ -1,7 +1,7 @@
 use Rattle.std.proofs.lemmas.Result.{err_from_is_err_and}
 use Rattle.snd_network.specs.Reading.{opening, number}
 use Rattle.snd_network.specs.InParts.{link_numbers}
-use Rattle.snd_network.proofs.Through.{through}
+use Rattle.snd_reader.proofs.Faults.{through}
 use Rattle.snd_network.proofs.readers.link_numbers.Goals as goal
 
 pub returns-in_err-pre : goal.returns-in_err-pre

@@ -1,7 +1,7 @@
 use Rattle.std.proofs.Common.{sym, ap, ◌∙◌}
 use Rattle.std.proofs.lemmas.Result.{err_from_is_err_and}
 use Rattle.snd_reader.proofs.Loops.{head_fails, closes, body_fails, goes_on}
-use Rattle.snd_network.proofs.Turns.{turn_shorter}
+use Rattle.snd_reader.proofs.Turns.{turn_shorter}
 use Rattle.std.specs.Prelude.{Ok}
 use Rattle.snd_network.specs.Grammar.{ModuleForm}
 use Rattle.snd_network.specs.Reading.{module_turn, module_item, modules}

@@ -1,7 +1,8 @@
 use Rattle.std.proofs.lemmas.Result.{err_from_is_err_and}
-use Rattle.snd_network.specs.Reading.{nodes, link, demand, list_of, skip, section}
+use Rattle.snd_network.specs.Reading.{nodes, link, demand, list_of, section}
+use Rattle.snd_reader.specs.Brackets.{skip}
 use Rattle.snd_network.proofs.Opened.{section_opens}
-use Rattle.snd_network.proofs.Through.{through}
+use Rattle.snd_reader.proofs.Faults.{through}
 use Rattle.snd_network.proofs.sections.section.Goals as goal
 
 pub returns-in_err-open : goal.returns-in_err-open

@@ -1,7 +1,7 @@
 use Rattle.std.proofs.Common.{ℕ, [], ◌∷◌, get_or}
 use Rattle.std.proofs.lemmas.List.{get_or_default}
-use Rattle.snd_network.specs.Writing.{grains}
-use Rattle.snd_network.proofs.WrittenLists.{tokens_more}
+use Rattle.snd_reader.specs.Writing.{grains}
+use Rattle.snd_reader.proofs.WrittenLists.{tokens_more}
 use Rattle.snd_network.proofs.writing.push_pairs.Goals as goal
 
 pub loop-pair-preserved : goal.loop-pair-preserved

@@ -1,5 +1,6 @@
 use Rattle.std.proofs.Common.{◌≡◌, ◌++◌, take}
-use Rattle.snd_network.specs.Writing.{spaced, module_tokens}
+use Rattle.snd_reader.specs.Writing.{spaced}
+use Rattle.snd_network.specs.Writing.{module_tokens}
 use Rattle.snd_network.proofs.writing.push_pairs.Given as goal
 
 -- the modules before this one are written
