@@ -48,6 +48,23 @@ fn lowered(ground: Ground<'_>, table: &CutTable, numbers: &Prices) -> Result<Pri
 }
 
 impl Standing {
+    /// Before the first round, at numbers of this bound.
+    pub(crate) fn at(
+        ground: Ground<'_>,
+        numbers: Prices,
+        bound: i128,
+    ) -> Result<Standing, AllocError> {
+        Ok(Standing {
+            best: numbers.copy()?,
+            numbers,
+            bound,
+            plain: bound,
+            idle: Vec::new(ground.alloc),
+            value: bound,
+            rounds: 0,
+        })
+    }
+
     /// Whether a bound is so much above that at the start prices that cuts are worth the time that they take.
     fn is_worthwhile(&self, bound: i128) -> bool {
         bound.saturating_sub(self.plain) >= self.plain / LEAST_GAIN

@@ -9,7 +9,7 @@ use crate::limits::{MAX_ROUNDS, MAX_TRIED, SEEN_TURNS};
 use crate::lists::{copy_of, tested};
 use crate::rising::Aim;
 use crate::rounds::{Standing, go_rounds};
-use crate::trying::try_nodes;
+use crate::trying::{first_nodes, try_nodes};
 use arc_restrict::Restriction;
 use column_pool::ColumnPool;
 use cut_search::CutSearch;
@@ -77,45 +77,59 @@ fn aim_of(
     }
 }
 
+/// Where the rounds begin, and what they aim at. None where a demand has no path, or no design is laid.
+fn opened(
+    ground: Ground<'_>,
+    table: &CutTable,
+    columns: &mut ColumnPool,
+) -> Result<Option<(Standing, Aim)>, AllocError>
+    requires table { table.now.problem ≡ ground.inst.now }
+    requires count { length columns.old ≡ length ground.inst.now.demands }
+    ensures { OnOk result (length columns.new ≡ length ground.entry.inst.now.demands) }
+{
+    let start = table.start_numbers(ground.alloc)?;
+    let Some(bound) = bound_at(ground, table, ground.whole, &start, columns)? else {
+        return Ok(None);
+    };
+    let Some(aim) = aim_of(ground, table, columns)? else {
+        return Ok(None);
+    };
+    Ok(Some((Standing::at(ground, start, bound)?, aim)))
+}
+
+/// The table with the cuts that rounds and the short search behind them find.
+fn found_from(
+    ground: Ground<'_>,
+    table: CutTable,
+    budget: u32,
+    aim: Aim,
+    columns: &mut ColumnPool,
+    standing: &mut Standing,
+) -> Result<CutTable, AllocError>
+    requires table { table.problem ≡ ground.inst.now }
+    requires count { length columns.old ≡ length ground.inst.now.demands }
+    ensures { IfOk result (λ table. table.problem ≡ ground.entry.inst.now) }
+{
+    let (rounds, tried) = effort_of(budget);
+    let mut seen = SeenLoads::new(ground.alloc, ground.inst, SEEN_TURNS)?;
+    let table = go_rounds(ground, table, rounds, aim, columns, &mut seen, standing)?;
+    if table.count() == 0 {
+        return Ok(table);
+    }
+    let nodes = first_nodes(ground, standing.best.copy()?)?;
+    try_nodes(ground, table, tried, aim, columns, &mut seen, nodes)
+}
+
 /// The table with the cuts that are found.
 fn sought(ground: Ground<'_>, table: CutTable, budget: u32) -> Result<CutTable, AllocError>
     requires table { table.problem ≡ ground.inst.now }
     ensures { IfOk result (λ table. table.problem ≡ ground.entry.inst.now) }
 {
-    let (rounds, nodes) = effort_of(budget);
     let mut columns = ColumnPool::new(ground.alloc, ground.inst)?;
-    let mut seen = SeenLoads::new(ground.alloc, ground.inst, SEEN_TURNS)?;
-    let start = table.start_numbers(ground.alloc)?;
-    let found = bound_at(ground, &table, ground.whole, &start, &mut columns)?;
-    let Some(bound) = found else {
+    let Some((mut standing, aim)) = opened(ground, &table, &mut columns)? else {
         return Ok(table);
     };
-    let Some(aim) = aim_of(ground, &table, &columns)? else {
-        return Ok(table);
-    };
-    let mut standing = Standing {
-        best: start.copy()?,
-        numbers: start,
-        bound,
-        plain: bound,
-        idle: Vec::new(ground.alloc),
-        value: bound,
-        rounds: 0,
-    };
-    let table = go_rounds(
-        ground,
-        table,
-        rounds,
-        aim,
-        &mut columns,
-        &mut seen,
-        &mut standing,
-    )?;
-    if table.count() == 0 {
-        return Ok(table);
-    }
-    let Standing { best, .. } = standing;
-    try_nodes(ground, table, nodes, aim, &mut columns, &mut seen, best)
+    found_from(ground, table, budget, aim, &mut columns, &mut standing)
 }
 
 /// Cuts for a search, and the step table again.

@@ -26,6 +26,28 @@ struct Examined {
     split: Option<LoadSplit>,
 }
 
+/// Takes the node of least bound out, where one is left.
+fn taken(nodes: &mut Vec<Node>) -> Option<Node> {
+    let at = next_of(nodes)?;
+    if at < nodes.len() {
+        Some(nodes.remove(at))
+    } else {
+        None
+    }
+}
+
+/// The nodes before the first is examined: the whole region, with these numbers.
+pub(crate) fn first_nodes(ground: Ground<'_>, numbers: Prices) -> Result<Vec<Node>, AllocError> {
+    let ranges = ground.whole.copy()?;
+    let mut nodes = Vec::new(ground.alloc);
+    nodes.push(Node {
+        ranges,
+        numbers,
+        bound: i128::MIN,
+    })?;
+    Ok(nodes)
+}
+
 /// The greater of the bounds at a node's numbers and at those of an ascent, and where the node is divided. None where there
 /// is no bound.
 fn examine(
@@ -174,6 +196,55 @@ fn used_table(
     table_of(ground.alloc, ground.inst, table, stay)
 }
 
+/// Puts the children of an examined node in, and gives the table with the cuts besides that its loads violate, where a cheaper
+/// design may be left there.
+fn put_examined(
+    ground: Ground<'_>,
+    table: CutTable,
+    aim: Aim,
+    seen: &SeenLoads,
+    node: &Node,
+    found: &Examined,
+    nodes: &mut Vec<Node>,
+) -> Result<CutTable, AllocError>
+    requires { table.problem ≡ ground.inst.now }
+    ensures { IfOk result (λ table. table.problem ≡ ground.entry.inst.now) }
+{
+    if found.bound >= aim.bound() {
+        return Ok(table);
+    }
+    if let Some(split) = found.split {
+        put_children(ground, node, found, split, nodes)?;
+    }
+    wider_table(ground, table, seen)
+}
+
+/// Examines the node of least bound, where one is left, marks the cuts that have a rate there, and gives the table with those
+/// besides that it finds.
+fn try_next(
+    ground: Ground<'_>,
+    table: CutTable,
+    aim: Aim,
+    columns: &mut ColumnPool,
+    seen: &mut SeenLoads,
+    nodes: &mut Vec<Node>,
+    used: &mut Vec<bool>,
+) -> Result<CutTable, AllocError>
+    requires table { table.problem ≡ ground.inst.now }
+    requires count { length columns.old ≡ length ground.inst.now.demands }
+    ensures table { IfOk result (λ table. table.problem ≡ ground.entry.inst.now) }
+    ensures count { OnOk result (length columns.new ≡ length ground.entry.inst.now.demands) }
+{
+    let Some(node) = taken(nodes) else {
+        return Ok(table);
+    };
+    let Some(found) = examine(ground, &table, aim, columns, seen, &node)? else {
+        return Ok(table);
+    };
+    mark_used(ground, &table, &found.numbers, used)?;
+    put_examined(ground, table, aim, seen, &node, &found, nodes)
+}
+
 /// Examines so many nodes, the one of least bound first, and gives the table with the cuts besides that had a rate at one.
 pub(crate) fn try_nodes(
     ground: Ground<'_>,
@@ -182,7 +253,7 @@ pub(crate) fn try_nodes(
     aim: Aim,
     columns: &mut ColumnPool,
     seen: &mut SeenLoads,
-    numbers: Prices,
+    mut nodes: Vec<Node>,
 ) -> Result<CutTable, AllocError>
     requires table { table.problem ≡ ground.inst.now }
     requires count { length columns.old ≡ length ground.inst.now.demands }
@@ -191,31 +262,8 @@ pub(crate) fn try_nodes(
     let before = table.count();
     let mut table = table;
     let mut used = Vec::new(ground.alloc);
-    let mut nodes = Vec::new(ground.alloc);
-    nodes.push(Node {
-        ranges: ground.whole.copy()?,
-        numbers,
-        bound: i128::MIN,
-    })?;
     for _ in 0..most {
-        let Some(at) = next_of(&nodes) else {
-            break;
-        };
-        if at >= nodes.len() {
-            break;
-        }
-        let node = nodes.remove(at);
-        let Some(found) = examine(ground, &table, aim, columns, seen, &node)? else {
-            continue;
-        };
-        mark_used(ground, &table, &found.numbers, &mut used)?;
-        if found.bound >= aim.bound() {
-            continue;
-        }
-        table = wider_table(ground, table, seen)?;
-        if let Some(split) = found.split {
-            put_children(ground, &node, &found, split, &mut nodes)?;
-        }
+        table = try_next(ground, table, aim, columns, seen, &mut nodes, &mut used)?;
     }
     used_table(ground, table, before, &used)
 }
