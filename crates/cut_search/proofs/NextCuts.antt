@@ -1,7 +1,7 @@
 -- A list of cuts may go on with one that is new to it.
-use Rattle.std.proofs.Common.{◌≡◌, ◌≢◌, ℕ, ◌+◌, ◌<◌, List, [], ◌∷◌, ◌++◌, length, inl, inr, sym, subst, ap, ◌∙◌, arith}
+use Rattle.std.proofs.Common.{◌≡◌, ◌≢◌, ℕ, ◌+◌, ◌-◌, ◌<◌, ◌≤◌, List, [], ◌∷◌, ◌++◌, length, take, inl, inr, sym, subst, ap, ◌∙◌, refl, arith}
 use Rattle.std.proofs.Math.Seq.{get_or-append_seam}
-use Rattle.std.proofs.lemmas.List.{length-append, get_or_append_left}
+use Rattle.std.proofs.lemmas.List.{length-append, get_or_append_left, take_at, take-take}
 use Rattle.plan_base.specs.declared.parts.Parts.{Parts}
 use Rattle.link_steps.proofs.Order.{before_or_last}
 use Rattle.proof_tree.specs.declared.limits.TheConstants.{MAX_CUTS}
@@ -39,3 +39,17 @@ pub grown_list : (p : Parts) (cuts : List Cut) (cut : Cut) (new : List Cut) (n :
 grown_list p cuts cut new n is_new is_end is few is_cut fresh =
     let here : (i : ℕ) → i < length cuts → cut_at new i ≢ cut_at new (length cuts) = subst (λ (m : ℕ). (i : ℕ) → i < m → cut_at new i ≢ cut_at new m) is_end fresh in
     subst (IsCutList p) (sym is_new) (with_cut p cuts cut is few is_cut (subst (λ (list : List Cut). (i : ℕ) → i < length cuts → cut_at list i ≢ cut_at list (length cuts)) is_new here))
+
+-- what a list has stays before a cut that is put behind it
+pub kept_before : (old new : List Cut) (cut : Cut) → new ≡ old ++ cut ∷ [] → take (length old) new ≡ old
+kept_before old new cut is = ap (take (length old)) is ∙ take_at old (cut ∷ []) (length old) refl
+
+-- a list is as before once the cut behind it is gone
+pub gone_again : (old more new : List Cut) (cut : Cut) (n : ℕ) → more ≡ old ++ cut ∷ [] → new ≡ take (n - 1) more → n ≡ length old + 1 → new ≡ old
+gone_again old more new cut n is less count =
+    let last : n - 1 ≡ length old = omega (arith, count) in
+    less ∙ ap (λ (m : ℕ). take m more) last ∙ kept_before old more cut is
+
+-- what a list has stays where it is in what goes on with one that goes on with it
+pub kept_on : (old now new : List Cut) → take (length old) now ≡ old → take (length now) new ≡ now → length old ≤ length now → take (length old) new ≡ old
+kept_on old now new before here few = sym (take-take (length old) (length now) new few) ∙ ap (take (length old)) here ∙ before

@@ -1,11 +1,13 @@
 //! Where cuts come from: sets of nodes, which grains of their loads are counted, and which of them loads violate.
 //!
-//! Promises that a list which `CutSearch::extend` gets, and which a plan may have, is one that a plan may have afterwards; no
-//! proof has to trust how cuts are found. Begin at `CutSearch::new` and `CutSearch::extend`. Stands on `plan_base`,
-//! `link_steps`, `proof_tree` and `cut_table`. Which loads are looked at, and what rates the cuts get, is left to the crates
-//! above.
+//! Promises of a list of cuts that a plan may have, and that `CutSearch::extend` gets, that it stays one: all that it has stays
+//! where it is, and behind it come at most so many others. No proof has to trust how cuts are found, and no clause tells how
+//! good they are. Begin at `CutSearch::new` and `CutSearch::extend`; how many sets and countings are tried is in `limits`.
+//! Stands on `plan_base`, `link_steps`, `proof_tree` and `cut_table`. Which loads are looked at, and what rates the cuts get,
+//! is left to the crates above.
 #![tactic(auto)]
 
+mod counting;
 mod lengths;
 pub mod limits;
 mod neighbours;

@@ -37,7 +37,7 @@ fn grow_set(
     most: u32,
     sets: &mut IndexSet<NodeSet>,
 ) -> Result<(), AllocError> {
-    if set.count() >= most {
+    if set.count() >= most || sets.len() >= MAX_SETS {
         return Ok(());
     }
     let beside = near.beside(set);

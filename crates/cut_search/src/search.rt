@@ -1,11 +1,12 @@
 //! The search for cuts that loads violate.
 
-ghost use Rattle.std.specs.Prelude.{◌≡◌, ◌≤◌, IfOk};
+ghost use Rattle.std.specs.Prelude.{◌≡◌, ◌+◌, ◌≤◌, IfOk, length, take};
 ghost use Rattle.proof_tree.specs.Cuts.{IsCutList};
 
+use crate::counting::Missing;
 use crate::lengths::step_lengths;
 use crate::node_sets::node_sets;
-use crate::side::{Missing, Side};
+use crate::side::Side;
 use crate::sightings::Sightings;
 use cut_table::SeenLoads;
 use link_steps::StepTable;
@@ -28,24 +29,28 @@ pub struct CutSearch {
     sides: Vec<Side>,
 }
 
-/// Puts a cut behind the list where the list may go on with it, and tells whether it does.
-fn put_cut(inst: &Instance, cut: Cut, list: &mut Vec<Cut>) -> Result<bool, AllocError>
+/// Puts a cut behind the list where the list may go on with it, and gives how many it puts.
+#[tactic(auto, using(crate::proofs::NextCuts::kept_before, crate::proofs::NextCuts::gone_again))]
+fn put_cut(inst: &Instance, cut: Cut, list: &mut Vec<Cut>) -> Result<u32, AllocError>
     requires { IsCutList inst.now list.old.items }
-    ensures { IfOk result (λ done. IsCutList inst.now list.new.items) }
+    ensures list { IsCutList inst.now list.new.items }
+    ensures kept { take (length list.old.items) list.new.items ≡ list.old.items }
+    ensures count { IfOk result (λ found. length list.new.items ≡ length list.old.items + found) }
+    ensures within { IfOk result (λ found. found ≤ 1) }
 {
     if list.len() >= MAX_CUTS {
-        return Ok(false);
+        return Ok(0);
     }
     if !cut.fits(inst) {
-        return Ok(false);
+        return Ok(0);
     }
     let number = list.len();
     list.push(cut)?;
     if is_new(list, number) {
-        return Ok(true);
+        return Ok(1);
     }
     list.pop();
-    Ok(false)
+    Ok(0)
 }
 
 impl CutSearch {
@@ -60,7 +65,10 @@ impl CutSearch {
         let lengths = step_lengths(alloc, inst, table)?;
         let mut sides = Vec::new(alloc);
         for nodes in node_sets(alloc, inst)? {
-            sides.push(Side::of(alloc, inst, nodes, &lengths)?)?;
+            let side = Side::of(alloc, inst, nodes, &lengths)?;
+            if side.has_countings() {
+                sides.push(side)?;
+            }
         }
         Ok(CutSearch { sides })
     }
@@ -89,7 +97,9 @@ impl CutSearch {
         list: &mut Vec<Cut>,
     ) -> Result<u32, AllocError>
         requires { IsCutList inst.now list.old.items }
-        ensures list { IfOk result (λ done. IsCutList inst.now list.new.items) }
+        ensures list { IsCutList inst.now list.new.items }
+        ensures kept { take (length list.old.items) list.new.items ≡ list.old.items }
+        ensures count { IfOk result (λ found. length list.new.items ≡ length list.old.items + found) }
         ensures within { IfOk result (λ found. found ≤ wanted) }
     {
         if wanted == 0 {
@@ -102,21 +112,24 @@ impl CutSearch {
             return Ok(0);
         }
         let cut = side.cut(alloc, inst, violated.missing.counting)?;
-        if !put_cut(inst, cut, list)? {
-            return Ok(0);
+        let found = put_cut(inst, cut, list)?;
+        if found > 0 {
+            side.take_room(used);
         }
-        side.take_room(used);
-        Ok(1)
+        Ok(found)
     }
 
     /// Puts cuts behind a list that the loads seen in the turns of an ascent violate: the most violated first, of each set at
-    /// most one, and so that no place crosses many of them.
+    /// most one, and so that no place crosses more than `MAX_CROSSING` of them. How much is missing of what they count at
+    /// least no clause tells.
     ///
-    /// - Takes: the loads seen; the most cuts that are put; a list of cuts that a plan may have.
-    /// - Gives: how many cuts are put.
-    /// - Errors: want of memory alone.
+    /// - Takes: the instance of the search; the loads seen; the most cuts that are put; a list of cuts that a plan may have.
+    /// - Gives: how many cuts are put. None of them is among the cuts of the list, which stay where they are.
+    /// - Errors: want of memory alone; the list may then have some of the cuts.
     /// - Rule: docs/DEFINITIONS.md, "Cuts".
-    /// - Time: for each set the places that cross it, times the periods that are tried and the loads that were seen there.
+    /// - Time: for each set the places that cross it, times the countings that are tried and the different loads that were
+    ///   seen there.
+    #[tactic(auto, using(crate::proofs::NextCuts::kept_on))]
     pub fn extend(
         &self,
         alloc: Global,
@@ -126,7 +139,10 @@ impl CutSearch {
         list: &mut Vec<Cut>,
     ) -> Result<u32, AllocError>
         requires { IsCutList inst.now list.old.items }
-        ensures { IfOk result (λ found. IsCutList inst.now list.new.items) }
+        ensures list { IsCutList inst.now list.new.items }
+        ensures kept { take (length list.old.items) list.new.items ≡ list.old.items }
+        ensures count { IfOk result (λ found. length list.new.items ≡ length list.old.items + found) }
+        ensures within { IfOk result (λ found. found ≤ most) }
     {
         let sightings = Sightings::of(alloc, inst, seen)?;
         let mut used = vec![in alloc; 0u32; inst.places() as usize]?;

@@ -1,46 +1,12 @@
 //! A set of nodes with what crosses it.
 
-ghost use Rattle.std.specs.Prelude.{◌≡◌, ◌≤◌, ◌↔◌, IsTrue};
-ghost use Rattle.plan_base.specs.declared.limits.TheConstants.{MAX_TOTAL_LOAD};
-ghost use Rattle.link_steps.specs.Tallies.{IsTally};
-
-use crate::limits::{LEAST_MISSING, MAX_CROSSING, MAX_PERIODS};
+use crate::counting::{Counting, Crossing, Missing, put_countings};
+use crate::limits::{MAX_CROSSING, MAX_PERIODS};
 use crate::node_set::{NODE_BOUND, NodeSet};
-use crate::sightings::{Sighting, Sightings};
-use link_steps::{Batch, tally};
+use crate::sightings::Sightings;
 use plan_base::{Instance, Items, LinkId};
 use proof_tree::Cut;
 use std::alloc::{AllocError, Global};
-
-/// A place that crosses a set.
-#[derive(Clone, Copy, Debug)]
-struct Crossing {
-    place: u32,
-    /// The number of its link.
-    link: u32,
-    /// The pre-installed capacity of its link, in load grains.
-    pre: u64,
-}
-
-/// Which grains of the loads that cross a set are counted.
-#[derive(Clone, Copy, Debug)]
-pub(crate) struct Counting {
-    /// In load grains.
-    period: u64,
-    /// How many grains of each period are counted.
-    first: u64,
-    /// Whether what the pre-installed capacities carry is left out before counting.
-    counts_installed: bool,
-    /// What crosses the set beyond that, in load grains.
-    rest: u64,
-}
-
-/// A counting, and how many millionths of what it counts at least are missing.
-#[derive(Clone, Copy, Debug)]
-pub(crate) struct Missing {
-    pub(crate) share: u128,
-    pub(crate) counting: Counting,
-}
 
 /// A set of nodes, with the places that cross it and the ways to count what does.
 #[derive(Debug, Drop)]
@@ -119,115 +85,57 @@ fn periods_of(
     Ok(periods)
 }
 
-/// Whether some grains of each period are counted, and at most all.
-fn is_tally(counting: Counting) -> bool
-    ensures { IsTrue result ↔ IsTally counting.period counting.first }
-{
-    1 <= counting.first && counting.first <= counting.period
+/// The pre-installed capacities of the links of these places, in load grains.
+fn installed_on(crossings: &[Crossing]) -> u64 {
+    let mut installed: u64 = 0;
+    for crossing in crossings {
+        installed = installed.saturating_add(crossing.pre);
+    }
+    installed
 }
 
-/// Puts the countings of a rest in: for each period that is not longer the grains of the rest that are past whole periods,
-/// and at last all grains up to the rest.
-fn put_countings(
-    periods: &[u64],
-    rest: u64,
-    counts_installed: bool,
-    countings: &mut Vec<Counting>,
-) -> Result<(), AllocError>
-    requires { rest ≤ MAX_TOTAL_LOAD }
-{
-    for period in periods {
-        let period = *period;
-        if 0 < period && period <= rest && rest % period > 0 {
-            countings.push(Counting {
-                period,
-                first: rest % period,
-                counts_installed,
-                rest,
-            })?;
-        }
-    }
-    if rest > 0 {
-        countings.push(Counting {
-            period: rest + 1,
-            first: rest,
-            counts_installed,
-            rest,
-        })?;
-    }
-    Ok(())
-}
-
-impl Counting {
-    /// What a place counts.
-    fn batch(self, crossing: Crossing) -> Batch
-        ensures period { result.period ≡ self.period }
-        ensures first { result.first ≡ self.first }
-    {
-        Batch {
-            period: self.period,
-            first: self.first,
-            before: if self.counts_installed {
-                crossing.pre
-            } else {
-                0
-            },
-            rest: self.rest,
-        }
-    }
-
-    /// How many grains a place counts of all loads that it was seen with, at least as many as are asked for where there are so
-    /// many.
-    fn counted(self, crossing: Crossing, seen: &[Sighting]) -> u128
-        requires { IsTally self.period self.first }
-    {
-        let batch = self.batch(crossing);
-        let mut counted: u128 = 0;
-        for sighting in seen {
-            let part = u128::from(batch.part(sighting.load));
-            counted = counted.saturating_add(part.saturating_mul(u128::from(sighting.times)));
-        }
-        counted
-    }
-
-    /// How many millionths of what is counted at least are missing over the turns; 0 where too few are.
-    fn missing(self, crossings: &[Crossing], seen: &Sightings) -> u128 {
-        if !is_tally(self) {
-            return 0;
-        }
-        let least = tally(self.period, self.first, self.rest);
-        let wanted = u128::from(least).saturating_mul(u128::from(seen.turns));
-        let mut counted: u128 = 0;
-        for crossing in crossings {
-            counted = counted.saturating_add(self.counted(*crossing, seen.at(crossing.place)));
-            if is_enough(counted, wanted) {
-                return 0;
-            }
-        }
-        share_of(wanted.saturating_sub(counted), wanted)
-    }
-}
-
-/// Whether so little of what is wanted is missing that a cut does not pay.
-fn is_enough(counted: u128, wanted: u128) -> bool {
-    counted.saturating_mul(1000) > wanted.saturating_mul(1000 - LEAST_MISSING)
-}
-
-/// How many millionths one number is of another.
-fn share_of(part: u128, whole: u128) -> u128 {
-    if whole == 0 {
-        return 0;
-    }
-    part.saturating_mul(1_000_000) / whole
-}
-
-/// Whether routing over a place costs so much that no rate may be put on it.
-fn is_dear(inst: &Instance, crossing: Crossing) -> bool {
+/// Whether routing over a place costs more than half of what a price may be, so that rates have little room there.
+fn is_dear(inst: &Instance, limit: u128, crossing: Crossing) -> bool {
     if crossing.link >= inst.links() {
         return true;
     }
     let routing = u128::from(inst.link(LinkId(crossing.link)).routing);
-    routing.saturating_mul(1000) > inst.price_limit() / 2
+    routing.saturating_mul(1000) > limit / 2
+}
+
+/// Whether routing over one of the places costs so much that no rate may be put on it.
+fn are_dear(inst: &Instance, crossings: &[Crossing]) -> bool {
+    let limit = inst.price_limit();
+    crossings
+        .iter()
+        .any(|crossing| is_dear(inst, limit, *crossing))
+}
+
+/// The ways to count what crosses, as a list of nodes tells what does: none where rates may not be put on one of the places.
+fn countings_of(
+    alloc: Global,
+    inst: &Instance,
+    cut: &Cut,
+    crossings: &[Crossing],
+    lengths: &[Items<u64>],
+) -> Result<Vec<Counting>, AllocError> {
+    let mut countings = Vec::new(alloc);
+    if are_dear(inst, crossings) {
+        return Ok(countings);
+    }
+    let periods = periods_of(alloc, inst, crossings, lengths)?;
+    let rest = cut.rest(inst);
+    put_countings(&periods, rest, false, &mut countings)?;
+    let installed = installed_on(crossings);
+    if installed > 0 {
+        put_countings(
+            &periods,
+            rest.saturating_sub(installed),
+            true,
+            &mut countings,
+        )?;
+    }
+    Ok(countings)
 }
 
 impl Side {
@@ -238,32 +146,24 @@ impl Side {
         nodes: NodeSet,
         lengths: &[Items<u64>],
     ) -> Result<Side, AllocError> {
-        let mut cut = Cut {
+        let cut = Cut {
             nodes: marks(alloc, inst, nodes)?,
             period: 1,
             first: 1,
             counts_installed: false,
         };
         let crossings = crossings_of(alloc, inst, &cut)?;
-        let mut countings = Vec::new(alloc);
-        if crossings.iter().any(|crossing| is_dear(inst, *crossing)) {
-            return Ok(Side {
-                nodes,
-                crossings,
-                countings,
-            });
-        }
-        let periods = periods_of(alloc, inst, &crossings, lengths)?;
-        put_countings(&periods, cut.rest(inst), false, &mut countings)?;
-        if crossings.iter().any(|crossing| crossing.pre > 0) {
-            cut.counts_installed = true;
-            put_countings(&periods, cut.rest(inst), true, &mut countings)?;
-        }
+        let countings = countings_of(alloc, inst, &cut, &crossings, lengths)?;
         Ok(Side {
             nodes,
             crossings,
             countings,
         })
+    }
+
+    /// Whether there is a way to count what crosses.
+    pub(crate) fn has_countings(&self) -> bool {
+        self.countings.len() > 0
     }
 
     /// The first of the countings that miss the most, where one misses enough.

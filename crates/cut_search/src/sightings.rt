@@ -31,15 +31,20 @@ fn count(sightings: &mut Vec<Sighting>, load: u64) -> Result<(), AllocError> {
     Ok(())
 }
 
-/// The loads above 0 of a place.
-fn of_place(alloc: Global, seen: &SeenLoads, place: u32) -> Result<Items<Sighting>, AllocError> {
-    let mut loads = Vec::new(alloc);
+/// The loads above 0 of a place; room for the loads of all turns is handed in.
+fn of_place(
+    alloc: Global,
+    seen: &SeenLoads,
+    place: u32,
+    loads: &mut Vec<u64>,
+) -> Result<Items<Sighting>, AllocError> {
+    loads.clear();
     for turn in 0..seen.turns() {
         loads.push(seen.load(place, turn))?;
     }
     loads.sort_unstable();
     let mut sightings = Vec::new(alloc);
-    for load in &loads {
+    for load in loads.as_slice() {
         if *load > 0 {
             count(&mut sightings, *load)?;
         }
@@ -55,8 +60,9 @@ impl Sightings {
         seen: &SeenLoads,
     ) -> Result<Sightings, AllocError> {
         let mut places = Vec::new(alloc);
+        let mut loads = Vec::new(alloc);
         for place in 0..inst.places() {
-            places.push(of_place(alloc, seen, place)?)?;
+            places.push(of_place(alloc, seen, place, &mut loads)?)?;
         }
         Ok(Sightings {
             places,

@@ -159,8 +159,8 @@ impl<N: Naming, R: Wait + Drop> LinearHub<N, R> {
         answer
     }
 
-    /// Gives the round of a node further prices and rates, as `Pool::publish` says, and shows them on the board. The seat sees them
-    /// there from then on, or later ones.
+    /// Gives the round of a node further prices and rates, as `Pool::publish` says, and shows them on the board. The seat sees
+    /// them there from then on, or later ones.
     ///
     /// - Errors: want of memory alone. Then nothing changed but the history.
     pub fn publish<T: Wait>(

@@ -7,7 +7,7 @@ ghost use Rattle.one_history.specs.declared.limits.TheConstants.{MAX_CALLERS, MA
 ghost use Rattle.least_path.specs.declared.limits.TheConstants.{MAX_WEIGHT};
 ghost use Rattle.verifier_paths.specs.declared.limits.TheConstants.{MAX_WAY_ARCS};
 ghost use Rattle.bound_assembly.specs.declared.limits.TheConstants.{MAX_PATH_LINKS};
-ghost use Rattle.master_step.specs.declared.limits.TheConstants.{MAX_TRIALS, MAX_TURNS};
+ghost use Rattle.master_step.specs.declared.limits.TheConstants.{MAX_TRIALS, MAX_TURNS, MAX_CUT_TURNS};
 ghost use Rattle.column_pool.specs.declared.limits.TheConstants.{MAX_COLUMNS};
 ghost use Rattle.pool_machine.specs.State.{State};
 ghost use Rattle.pool_machine.specs.Machine.{Event, Answer, Step};
@@ -24,10 +24,11 @@ pub fn sizes_of_searches()
     ensures columns { MAX_COLUMNS ≡ 64 }
 {}
 
-/// How many trials a master step makes, and turns an averaged ascent.
+/// How many trials a master step makes, and turns an averaged ascent without cuts and with cuts.
 pub fn trials_of_steps()
     ensures trials { MAX_TRIALS ≡ 24 }
     ensures turns { MAX_TURNS ≡ 100 }
+    ensures cut_turns { MAX_CUT_TURNS ≡ 120 }
 {}
 
 /// How many arcs a simple path has at most, for whoever assembles a bound and for the verifier, and the greatest weight of an

@@ -140,8 +140,8 @@ impl<N: Naming, R: Wait + Drop> Hub<N, R> {
     /// A hub for a pool, and a seat for each worker.
     ///
     /// - Takes: the blank of a ledger with as many parts as there are workers; a pool that has accepted nothing yet;
-    ///   1 to 64 workers; the writer of a board for the slots, the prices and the rates of the pool, on which nothing is pending, and
-    ///   a reader of it for each worker.
+    ///   1 to 64 workers; the writer of a board for the slots, the prices and the rates of the pool, on which nothing is
+    ///   pending, and a reader of it for each worker.
     /// - Errors: want of memory alone. Then the writer has ended.
     pub fn new(
         alloc: Global,
@@ -300,8 +300,8 @@ impl<N: Naming, R: Wait + Drop> Hub<N, R> {
         self.kept.lock(rt).desk.gather(node, version)
     }
 
-    /// Gives the round of a node further prices and rates, as `Pool::publish` says, and shows them on the board. The seat sees them
-    /// there from then on, or later ones.
+    /// Gives the round of a node further prices and rates, as `Pool::publish` says, and shows them on the board. The seat sees
+    /// them there from then on, or later ones.
     ///
     /// - Errors: want of memory alone. Then nothing changed.
     #[tactic(auto, using(crate::proofs::Counts::publish_counts))]
