@@ -33,7 +33,9 @@ pub(crate) struct Splits {
 #[derive(Clone, Copy)]
 pub(crate) struct Known {
     pub(crate) range: Range,
-    /// Those of the plan that tells it.
+    /// How many cuts the plan has that tells it.
+    pub(crate) cuts: u32,
+    /// The splits of that plan.
     pub(crate) splits: Splits,
 }
 
@@ -50,13 +52,18 @@ pub(crate) struct Claim<'a> {
     pub(crate) known: Known,
 }
 
-impl Splits {
-    /// The first line of the text of a plan with these.
+impl Known {
+    /// Whether the plan that tells it has a text of version 3: the earlier ones know neither cuts nor splits of loads.
+    pub(crate) fn is_third(self) -> bool {
+        self.cuts > 0 || self.splits.loads > 0
+    }
+
+    /// The first line of the text of that plan.
     pub(crate) fn first_line(self) -> &'static str {
-        if self.loads == 0 {
-            "SNDPLAN 2\n"
-        } else {
+        if self.is_third() {
             "SNDPLAN 3\n"
+        } else {
+            "SNDPLAN 2\n"
         }
     }
 }
@@ -101,8 +108,9 @@ impl fmt::Display for Splits {
 impl fmt::Display for Known {
     fn fmt<W: fmt::Write>(&self, f: &mut fmt::Formatter<W>) -> fmt::Result {
         let range = self.range;
+        let cuts = self.cuts;
         let splits = self.splits;
-        write!(f, "{range}, {splits}")
+        write!(f, "{range}, cuts {cuts}, {splits}")
     }
 }
 
@@ -184,6 +192,15 @@ fn range_of(plan: &str, status: &str, cost: &str) -> Result<Range> {
     Ok(Range { lower, upper })
 }
 
+/// How many cuts this plan has. Only texts of version 3 tell.
+fn cuts_of(plan: &str) -> Result<u32> {
+    if plan.starts_with("SNDPLAN 3\n") {
+        number_of(plan, "CUTS ")
+    } else {
+        Ok(0)
+    }
+}
+
 /// The splits of this plan.
 fn splits_of(plan: &str) -> Splits {
     let mut splits = Splits { arcs: 0, loads: 0 };
@@ -208,6 +225,7 @@ pub(crate) fn claim_of(plan: &str) -> Result<Claim<'_>> {
         cost,
         known: Known {
             range: range_of(plan, status, cost)?,
+            cuts: cuts_of(plan)?,
             splits: splits_of(plan),
         },
     })

@@ -3,13 +3,14 @@
 //! The networks have 4 to 12 nodes and come from a small generator (`made`), the same ones in each run: with directed,
 //! undirected and bidirected links, none to three modules on a link, whole and decimal numbers, some that have no
 //! design, some with limits on the links of paths, and some with explicit capacities. Each plan must be accepted by
-//! `verify`, state its status and its budget, and stand in version 3 exactly where it splits loads. `upgrade` must give
-//! its text again, and read the same plan in version 1, which `versions` writes where there is one. The plans of one
-//! network must agree: a greater budget never knows less, and what several workers find contradicts nothing. Where few
-//! paths can be chosen from, the least cost of all choices, which `choices` finds by trying them, must lie where each
-//! plan says. The program writes a line for each network, with the splits of either kind in its last plan by one worker,
-//! and ends with an error at the first plan that is not as it must be; the error names the network and the budget. Begin
-//! at `plan_network`. Stands on `plan_run` and promises nothing of its own.
+//! `verify`, state its status and its budget, and stand in version 3 exactly where it has cuts or splits loads. `upgrade`
+//! must give its text again, and read the same plan in version 1, which `versions` writes where there is one. The plans
+//! of one network must agree: none contradicts another, also of those by several workers, and of two searches with the
+//! same cuts the one with the greater budget never knows less. Where few paths can be chosen from, the least cost of all
+//! choices, which `choices` finds by trying them, must lie where each plan says. The program writes a line for each
+//! network, with the cuts and the splits of either kind in its last plan by one worker, and ends with an error at the
+//! first plan that is not as it must be; the error names the network and the budget. Begin at `plan_network`. Stands on
+//! `plan_run` and promises nothing of its own.
 #![tactic(auto)]
 
 mod choices;
@@ -42,17 +43,37 @@ const BIDIRECTED: u32 = 40;
 /// How many of any links with hop limits, and as many with explicit capacities, with the numbers behind those.
 const EXTRA: u32 = 20;
 
-/// With how many nodes of the search tree each network is planned, in turn, until its best design is known.
-const BUDGETS: [u32; 4] = [1, 3, 10, 100];
+/// With fewer nodes of the search tree no cuts are looked for.
+const LEAST_FOR_CUTS: u32 = 8;
 
-/// The most nodes of the search tree. Each network is planned with them too, whatever is known.
+/// With so many nodes all cuts are looked for, and more nodes find no others. Each network is planned with them.
+const MOST_FOR_CUTS: u32 = 240;
+
+/// With how many nodes each network is planned before that, in turn, until its best design is known.
+const FEW_NODES: [u32; 3] = [1, 3, 10];
+
+/// With how many nodes it is planned last, where its best design is not known then.
 const MOST_NODES: u32 = 1_000;
 
 /// How many workers plan each network once more.
 const WORKERS: u32 = 3;
 
-/// With how many nodes of the search tree these plan.
+/// With how many nodes these plan.
 const SHARED_NODES: u32 = 64;
+
+/// What a plan claimed with a smaller budget.
+#[derive(Clone, Copy)]
+struct Former {
+    budget: u32,
+    range: Range,
+}
+
+impl Former {
+    /// Whether a search with this budget, which is no smaller, has the same cuts.
+    fn has_same_cuts(self, budget: u32) -> bool {
+        budget < LEAST_FOR_CUTS || self.budget >= MOST_FOR_CUTS
+    }
+}
 
 /// Looks whether a plan may claim this.
 fn look_over(claimed: Range, tried: Tried) -> Result<()> {
@@ -67,11 +88,26 @@ fn look_over(claimed: Range, tried: Tried) -> Result<()> {
     Ok(())
 }
 
-/// Looks whether a plan may claim this, where the one with the budget before claimed the former.
-fn compare(former: Range, claimed: Range, tried: Tried) -> Result<()> {
-    look_over(claimed, tried)?;
-    ensure!(former.lower <= claimed.lower, "the bound fell");
-    ensure!(claimed.upper <= former.upper, "the cost rose");
+/// Looks whether two plans of one network may claim these.
+fn agree(one: Range, other: Range) -> Result<()> {
+    ensure!(
+        one.lower <= other.upper,
+        "the former bound is above the cost"
+    );
+    ensure!(
+        other.lower <= one.upper,
+        "the bound is above the former cost"
+    );
+    Ok(())
+}
+
+/// Looks whether the plan with this budget may claim this, where one with a smaller budget claimed the former.
+fn compare(former: Former, budget: u32, claimed: Range) -> Result<()> {
+    agree(former.range, claimed)?;
+    if former.has_same_cuts(budget) {
+        ensure!(former.range.lower <= claimed.lower, "the bound fell");
+        ensure!(claimed.upper <= former.range.upper, "the cost rose");
+    }
     Ok(())
 }
 
@@ -81,11 +117,12 @@ fn claimed_within<R: Threads + Wait + Sync>(
     alloc: Global,
     texts: &Texts,
     budget: u32,
-    former: Range,
+    former: Former,
     tried: Tried,
 ) -> Result<Known> {
     let known = plan_within(rt, alloc, texts, 1, budget).context(format_args!("budget {budget}"))?;
-    compare(former, known.range, tried).context(format_args!("budget {budget}"))?;
+    look_over(known.range, tried).context(format_args!("budget {budget}"))?;
+    compare(former, budget, known.range).context(format_args!("budget {budget}"))?;
     Ok(known)
 }
 
@@ -99,15 +136,31 @@ fn plan_together<R: Threads + Wait + Sync>(
 ) -> Result<()> {
     let claimed = plan_within(rt, alloc, texts, WORKERS, SHARED_NODES)?.range;
     look_over(claimed, tried)?;
-    ensure!(
-        claimed.lower <= known.upper,
-        "the bound is above one worker's cost"
-    );
-    ensure!(
-        known.lower <= claimed.upper,
-        "the cost is below one worker's bound"
-    );
-    Ok(())
+    agree(known, claimed)
+}
+
+/// Plans a network with few nodes, by one worker. Gives what the last of these plans claims.
+fn plan_with_few<R: Threads + Wait + Sync>(
+    rt: &R,
+    alloc: Global,
+    texts: &Texts,
+    tried: Tried,
+) -> Result<Former> {
+    let mut former = Former {
+        budget: 1,
+        range: Range::any(),
+    };
+    for budget in FEW_NODES.iter() {
+        let range = claimed_within(rt, alloc, texts, *budget, former, tried)?.range;
+        former = Former {
+            budget: *budget,
+            range,
+        };
+        if range.is_decided() {
+            break;
+        }
+    }
+    Ok(former)
 }
 
 /// Plans a network with the budgets, by one worker and then by several. Gives what the last plan of one worker tells.
@@ -117,14 +170,15 @@ fn plan_network<R: Threads + Wait + Sync>(
     texts: &Texts,
     tried: Tried,
 ) -> Result<Known> {
-    let mut range = Range::any();
-    for budget in BUDGETS.iter() {
-        range = claimed_within(rt, alloc, texts, *budget, range, tried)?.range;
-        if range.is_decided() {
-            break;
-        }
+    let former = plan_with_few(rt, alloc, texts, tried)?;
+    let mut known = claimed_within(rt, alloc, texts, MOST_FOR_CUTS, former, tried)?;
+    if !known.range.is_decided() {
+        let former = Former {
+            budget: MOST_FOR_CUTS,
+            range: known.range,
+        };
+        known = claimed_within(rt, alloc, texts, MOST_NODES, former, tried)?;
     }
-    let known = claimed_within(rt, alloc, texts, MOST_NODES, range, tried)?;
     plan_together(rt, alloc, texts, known.range, tried).context("several workers")?;
     Ok(known)
 }

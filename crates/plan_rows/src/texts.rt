@@ -49,7 +49,7 @@ impl fmt::Display for Hundredths {
 pub(crate) struct Texts {
     pub(crate) network: String,
     pub(crate) model: String,
-    /// Whether both ways of a link share its capacity, so that plans without `LOADS` and `FAR` have a text of version 1.
+    /// Whether both ways of a link share its capacity, so that plans without cuts, `LOADS` and `FAR` have a text of version 1.
     pub(crate) has_first_text: bool,
 }
 

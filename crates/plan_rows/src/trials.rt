@@ -94,7 +94,7 @@ fn read_plan_again<R: Threads + Wait + Sync>(
 ) -> Result<()> {
     verify_plan(rt, alloc, texts, plan, claim)?;
     upgrade_plan(rt, alloc, plan, plan)?;
-    if texts.has_first_text && claim.known.splits.loads == 0 && !plan.contains("\nFAR ") {
+    if texts.has_first_text && !claim.known.is_third() && !plan.contains("\nFAR ") {
         let first = first_text(alloc, plan)?;
         verify_plan(rt, alloc, texts, first.as_str(), claim).context("version 1")?;
         upgrade_plan(rt, alloc, first.as_str(), plan).context("version 1")?;
@@ -122,7 +122,7 @@ pub(crate) fn plan_within<R: Threads + Wait + Sync>(
     ensure!(claim.budget == budget, "another budget");
     ensure!(claim.keeps_budget(), "examined: {}", claim.examined);
     ensure!(
-        plan.starts_with(claim.known.splits.first_line()),
+        plan.starts_with(claim.known.first_line()),
         "another version"
     );
     read_plan_again(rt, alloc, texts, plan, &claim)?;
