@@ -140,7 +140,7 @@ fn sought(ground: Ground<'_>, table: CutTable, budget: u32) -> Result<CutTable, 
 /// - Errors: want of memory alone.
 /// - Rule: docs/METHOD.md, "Where cuts come from".
 /// - Time: that of at most 14 ascents of a search at the whole region, of as many rounds of `CutSearch::extend`, and of the
-///   examination of at most 30 nodes.
+///   examination of at most 60 nodes.
 pub fn found_cuts(
     alloc: Global,
     inst: &Instance,
@@ -163,6 +163,6 @@ pub fn found_cuts(
         whole: &whole,
     };
     let table = sought(ground, table, budget)?;
-    let cuts = tested(alloc, inst, copy_of(alloc, table.cuts())?);
+    let cuts = Items::from_vec(copy_of(alloc, table.cuts())?);
     Ok((table.into_steps(), cuts))
 }

@@ -4,7 +4,7 @@ ghost use Rattle.std.specs.Prelude.{◌≡◌, ◌<◌, length, IfOk, OnOk};
 
 use crate::bounding::bound_at;
 use crate::limits::FOUND_AT_NODE;
-use crate::lists::{copy_of, is_marked, marked, rate_at, table_of, tested, widened};
+use crate::lists::{copy_of, is_marked, marked, rate_at, table_of, widened};
 use crate::nodes::{Node, next_of};
 use crate::rising::{Aim, rise};
 use crate::seeker::Ground;
@@ -167,8 +167,7 @@ fn wider_table(
     requires table { table.problem ≡ ground.inst.now }
     ensures { IfOk result (λ table. table.problem ≡ ground.entry.inst.now) }
 {
-    let held = copy_of(ground.alloc, table.cuts())?;
-    let mut cuts = tested(ground.alloc, ground.inst, held).into_vec();
+    let mut cuts = copy_of(ground.alloc, table.cuts())?;
     let found = ground
         .search
         .extend(ground.alloc, ground.inst, seen, FOUND_AT_NODE, &mut cuts)?;
