@@ -30,8 +30,9 @@ fn planned<R: Threads + Wait + Sync, G: Gate>(
     requires budget { IsBudget budget }
     ensures { IfOk result (λ answer. IsPlanned problem.inst budget answer.status answer.text.items) }
 {
-    let (table, cuts) = found_cuts(alloc, &problem.inst, problem.table, budget)?;
-    let inst = Arc::new(alloc, problem.inst)?;
+    let Problem { inst, table, .. } = problem;
+    let (table, cuts) = found_cuts(alloc, &inst, table, budget)?;
+    let inst = Arc::new(alloc, inst)?;
     let plan = search(rt, alloc, inst, table, workers, budget, cuts, gate)?;
     let text = write_plan(alloc, &plan)?;
     Ok(Answer {

@@ -8,7 +8,7 @@ use crate::searching::search_alone;
 use command_words::{SampleKey, SampleWork};
 use cut_rounds::found_cuts;
 use instance_maker::laws::samples_are_instances;
-use instance_maker::{TRIAL_BUDGET, sample, sample_problem};
+use instance_maker::{Problem, TRIAL_BUDGET, sample, sample_problem};
 use plan_report::trial_line;
 use plan_texts::{Answer, Status};
 use snd_network::write_network;
@@ -34,9 +34,9 @@ fn try_sample(alloc: Global, key: SampleKey) -> Result<Answer, AllocError>
     ensures { IfOk result (λ answer. IsTried key answer.status answer.text.items) }
 {
     samples_are_instances();
-    let problem = sample_problem(alloc, key.number, key.nodes, key.demands)?;
-    let (table, cuts) = found_cuts(alloc, &problem.inst, problem.table, TRIAL_BUDGET)?;
-    let inst = Arc::new(alloc, problem.inst)?;
+    let Problem { inst, table } = sample_problem(alloc, key.number, key.nodes, key.demands)?;
+    let (table, cuts) = found_cuts(alloc, &inst, table, TRIAL_BUDGET)?;
+    let inst = Arc::new(alloc, inst)?;
     let plan = search_alone(alloc, Arc::try_clone(&inst)?, table, TRIAL_BUDGET, cuts)?;
     let text = trial_line(alloc, &*inst, &plan)?;
     Ok(Answer {
