@@ -11,7 +11,6 @@ ghost use Rattle.cut_table.specs.Numbers.{AreNumbers, IsPriceWithin};
 ghost use Rattle.master_step.specs.Ascents.{IsAscent};
 ghost use Rattle.master_step.specs.Climbing.{IsTurn};
 
-use crate::counts::rates_on;
 use crate::crossings::Crossings;
 use crate::gaps::greatest_price;
 use crate::hull::{Hull, Point};
@@ -21,7 +20,6 @@ use crate::searching::first_not_rising;
 use crate::share::Share;
 use crate::source::Source;
 use crate::valuing::value_of;
-use crate::work::parted;
 use column_pool::Brief;
 use cut_table::{CutTable, PriceBounds};
 use link_steps::{LinkRanges, LinkValue, Ranges, StepTable};
@@ -227,24 +225,6 @@ pub(crate) fn put_price(
     prices.put(place, price);
 }
 
-/// Whether a rate is above 0 on a place of a place's link.
-fn is_rated(inst: &Instance, table: &CutTable, numbers: &Prices, place: u32) -> bool
-    requires table { table.now.problem ≡ inst.now }
-    requires place { place < places inst.now }
-{
-    if table.count() == 0 {
-        return false;
-    }
-    let (_, rates) = parted(numbers.as_slice(), inst.places() as usize);
-    if rates_on(table.crossings(place), rates) > 0 {
-        return true;
-    }
-    match other_place(inst, place) {
-        Some(other) => rates_on(table.crossings(other), rates) > 0,
-        None => false,
-    }
-}
-
 /// What a pass over the prices works on.
 #[derive(Drop)]
 struct Pass {
@@ -252,32 +232,28 @@ struct Pass {
     most: u128,
     crossings: Crossings,
     share: Share,
-    ends: Ends,
     /// That of the place that is moved, where a rate is above 0 on its link.
     hull: Hull,
 }
 
 impl Pass {
-    /// Writes what a place's price is looked for by, and whether a rate is above 0 on its link.
+    /// Writes what a place's price is looked for by, and tells whether a rate is above 0 on its link.
     fn look(
         &mut self,
         inst: &Instance,
-        table: &CutTable,
         ranges: &Ranges,
+        ends: &Ends,
         numbers: &Prices,
         place: u32,
         price: u128,
     ) -> Result<bool, AllocError>
-        requires table { table.now.problem ≡ inst.now }
         requires place { place < places inst.now }
         requires ranges { AreRanges inst.now ranges.now }
     {
         self.crossings.fill_share(place, price, &mut self.share)?;
-        let is_rated = is_rated(inst, table, numbers, place);
+        let is_rated = ends.is_rated(place, other_place(inst, place));
         if is_rated {
-            self.ends.meet(inst, table, ranges, place)?;
-            self.ends
-                .fill_hull(inst, table, ranges, numbers, place, None, &mut self.hull)?;
+            ends.fill_price_hull(inst, ranges, numbers.as_slice(), place, &mut self.hull)?;
         }
         Ok(is_rated)
     }
@@ -318,6 +294,7 @@ fn move_place(
     inst: &Instance,
     table: &CutTable,
     ranges: &Ranges,
+    ends: &Ends,
     pass: &mut Pass,
     moved: &mut Prices,
     place: u32,
@@ -330,7 +307,7 @@ fn move_place(
 {
     let turn = turn_of(inst, table, ranges, moved, place, pass.most);
     let price = moved.as_slice()[place as usize];
-    let is_rated = pass.look(inst, table, ranges, moved, place, price)?;
+    let is_rated = pass.look(inst, ranges, ends, moved, place, price)?;
     let seeker = pass.seeker(inst, table.steps(), turn, is_rated);
     let best = seeker.best_price(price);
     if seeker.worth(best) > seeker.worth(price) {
@@ -346,6 +323,7 @@ fn moved_prices(
     inst: &Instance,
     table: &CutTable,
     ranges: &Ranges,
+    ends: &Ends,
     prices: &Prices,
     lists: &[Items<Path>],
 ) -> Result<Prices, AllocError>
@@ -361,12 +339,11 @@ fn moved_prices(
         most: inst.price_limit().min(greatest),
         crossings: Crossings::new(alloc, inst, lists, prices.as_slice())?,
         share: Share::new(alloc),
-        ends: Ends::new(alloc),
         hull: Hull::new(alloc),
     };
     for place in 0..inst.places() {
         if inst.top_load(inst.link_of_place(place)) > 0 {
-            move_place(inst, table, ranges, &mut pass, &mut moved, place)?;
+            move_place(inst, table, ranges, ends, &mut pass, &mut moved, place)?;
         }
     }
     Ok(moved)
@@ -387,11 +364,13 @@ fn moved_numbers(
     requires lists { length lists.now ≡ length inst.now.demands }
     ensures { IfOk result (AreNumbers inst.now table.now.cuts) }
 {
-    let moved = moved_prices(alloc, inst, table, ranges, from, lists)?;
+    let mut ends = Ends::new(alloc, inst, table, ranges)?;
+    ends.weigh_all(inst, table, ranges, from.as_slice());
+    let moved = moved_prices(alloc, inst, table, ranges, &ends, from, lists)?;
     if table.count() == 0 {
         Ok(moved)
     } else {
-        moved_rates(alloc, inst, table, ranges, &moved)
+        moved_rates(alloc, inst, table, ranges, &mut ends, &moved)
     }
 }
 

@@ -20,18 +20,17 @@ pub(crate) fn counted(batch: Batch, load: u64) -> u64 {
     whole.wrapping_add(batch.first.min(past % period))
 }
 
-/// The rates of the cuts of a row times what they count of a load, in thousandths of a cost grain; far below 2^128, as prices
-/// and rates are within their limits.
-pub(crate) fn counted_worth(row: &[Crossing], rates: &[u128], load: u64) -> u128 {
-    let mut total: u128 = 0;
-    for crossing in row {
-        let rate = number_at(rates, crossing.number as usize);
-        if rate > 0 {
-            let part = u128::from(counted(crossing.batch, load));
-            total = total.wrapping_add(rate.wrapping_mul(part));
+/// The least load of which as many grains are counted as of this one.
+pub(crate) fn least_counted(batch: Batch, load: u64) -> u64 {
+    match counted(batch, load).checked_sub(1) {
+        Some(last) => {
+            let first = batch.first.max(1);
+            let whole = batch.period.wrapping_mul(last / first);
+            let past = whole.wrapping_add(last % first).wrapping_add(1);
+            batch.before.wrapping_add(past)
         }
+        None => 0,
     }
-    total
 }
 
 /// The rates of the cuts of a row together, in thousandths of a cost grain per counted grain.

@@ -21,20 +21,53 @@ use std::alloc::{AllocError, Global};
 /// How many times the greatest price a rate may become.
 const MOST_TIMES: u128 = 16;
 
-/// What a cut counts on a place that crosses it.
-fn batch_in(row: &[Crossing], number: u32) -> Option<Batch> {
-    for crossing in row {
+/// A cut of a place's row.
+#[derive(Clone, Copy)]
+struct Placed {
+    /// Its place in the row.
+    at: usize,
+    crossing: Crossing,
+}
+
+/// The cut of this number in a place's row.
+fn placed_in(row: &[Crossing], number: u32) -> Option<Placed> {
+    for (at, crossing) in row.iter().enumerate() {
         if crossing.number == number {
-            return Some(crossing.batch);
+            return Some(Placed {
+                at,
+                crossing: *crossing,
+            });
         }
     }
     None
 }
 
+/// Weighs the counted grains of all places after the rate of a cut moved.
+fn weigh_moved(
+    inst: &Instance,
+    table: &CutTable,
+    ranges: &Ranges,
+    ends: &mut Ends,
+    number: u32,
+    old: u128,
+    new: u128,
+)
+    requires table { table.now.problem ≡ inst.now }
+    requires ranges { length ranges.now ≡ places inst.now }
+{
+    if old == new {
+        return;
+    }
+    for place in 0..inst.places() {
+        if let Some(Placed { at, crossing }) = placed_in(table.crossings(place), number) {
+            ends.move_rate(ranges.at(place), place, at, crossing, old, new);
+        }
+    }
+}
+
 /// What the rate of a cut leaves of the costs of the places that cross it. No contract rests on it.
 #[derive(Drop)]
 struct RateHulls {
-    ends: Ends,
     hulls: Vec<Hull>,
     /// How many of the hulls are those of a place.
     count: usize,
@@ -46,7 +79,6 @@ impl RateHulls {
     /// Those of no cut.
     fn new(alloc: Global) -> RateHulls {
         RateHulls {
-            ends: Ends::new(alloc),
             hulls: Vec::new(alloc),
             count: 0,
             least: 0,
@@ -58,35 +90,33 @@ impl RateHulls {
         &mut self,
         alloc: Global,
         inst: &Instance,
-        table: &CutTable,
         ranges: &Ranges,
+        ends: &Ends,
         numbers: &Prices,
         place: u32,
         batch: Batch,
     ) -> Result<(), AllocError>
-        requires table { table.now.problem ≡ inst.now }
         requires place { place < places inst.now }
         requires ranges { length ranges.now ≡ places inst.now }
     {
-        self.ends.meet(inst, table, ranges, place)?;
         if self.count >= self.hulls.len() {
             self.hulls.push(Hull::new(alloc))?;
         }
         if let Some(hull) = self.hulls.get_mut(self.count) {
-            self.ends
-                .fill_hull(inst, table, ranges, numbers, place, Some(batch), hull)?;
+            ends.fill_rate_hull(inst, ranges, numbers.as_slice(), place, batch, hull)?;
             self.count = self.count.saturating_add(1);
         }
         Ok(())
     }
 
-    /// Writes the hulls of a cut, whose rate is 0 in the numbers.
+    /// Writes the hulls of a cut, whose rate was weighed as 0.
     fn fill(
         &mut self,
         alloc: Global,
         inst: &Instance,
         table: &CutTable,
         ranges: &Ranges,
+        ends: &Ends,
         numbers: &Prices,
         number: u32,
     ) -> Result<(), AllocError>
@@ -97,8 +127,9 @@ impl RateHulls {
         self.count = 0;
         self.least = table.least_count(number);
         for place in 0..inst.places() {
-            if let Some(batch) = batch_in(table.crossings(place), number) {
-                self.add(alloc, inst, table, ranges, numbers, place, batch)?;
+            if let Some(placed) = placed_in(table.crossings(place), number) {
+                let batch = placed.crossing.batch;
+                self.add(alloc, inst, ranges, ends, numbers, place, batch)?;
             }
         }
         Ok(())
@@ -144,7 +175,7 @@ fn room_of(
     let mut room = most;
     for place in 0..inst.places() {
         let row = table.crossings(place);
-        if batch_in(row, number).is_some() {
+        if placed_in(row, number).is_some() {
             let price = number_at(prices, place as usize);
             if price < 1000 * u128::from(inst.link(inst.link_of_place(place)).routing) {
                 return None;
@@ -169,6 +200,7 @@ fn move_rate(
     inst: &Instance,
     table: &CutTable,
     ranges: &Ranges,
+    ends: &mut Ends,
     number: u32,
     most: u128,
     hulls: &mut RateHulls,
@@ -183,8 +215,11 @@ fn move_rate(
     put_number(moved, at, 0);
     let best = match room_of(inst, table, moved.as_slice(), number, most) {
         Some(room) => {
-            hulls.fill(alloc, inst, table, ranges, moved, number)?;
-            hulls.best(rate, room)
+            weigh_moved(inst, table, ranges, ends, number, rate, 0);
+            hulls.fill(alloc, inst, table, ranges, ends, moved, number)?;
+            let best = hulls.best(rate, room);
+            weigh_moved(inst, table, ranges, ends, number, 0, best);
+            best
         }
         None => rate,
     };
@@ -194,7 +229,8 @@ fn move_rate(
 
 /// The numbers after each rate was moved once, in the order of the list.
 ///
-/// - Takes: the instance and its table; ranges of its places; numbers that fit it.
+/// - Takes: the instance and its table; ranges of its places, and the ends under these, weighed at the rates of the numbers;
+///   numbers that fit the instance.
 /// - Errors: want of memory alone.
 /// - Rule: docs/METHOD.md, "Restricted value".
 pub(crate) fn moved_rates(
@@ -202,6 +238,7 @@ pub(crate) fn moved_rates(
     inst: &Instance,
     table: &CutTable,
     ranges: &Ranges,
+    ends: &mut Ends,
     from: &Prices,
 ) -> Result<Prices, AllocError>
     requires table { table.now.problem ≡ inst.now }
@@ -215,7 +252,7 @@ pub(crate) fn moved_rates(
     let mut hulls = RateHulls::new(alloc);
     for number in 0..table.count() {
         move_rate(
-            alloc, inst, table, ranges, number, most, &mut hulls, &mut moved,
+            alloc, inst, table, ranges, ends, number, most, &mut hulls, &mut moved,
         )?;
     }
     if table.are_numbers(&moved) {

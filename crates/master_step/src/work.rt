@@ -1,12 +1,14 @@
 //! What the turns of an averaged ascent work on.
 
 ghost use Rattle.std.specs.Prelude.{◌≡◌, ◌<◌, length, IfOk};
+ghost use Rattle.plan_base.specs.Places.{places};
 ghost use Rattle.link_steps.specs.Ranges.{AreRanges};
 ghost use Rattle.cut_table.specs.Numbers.{AreNumbers};
 ghost use Rattle.master_step.specs.Ascents.{HaveSizes};
 
 use crate::choice::{Choices, number_at, put_at};
-use crate::counts::{Counts, counted_worth};
+use crate::counts::Counts;
+use crate::leaving::{Ends, Found};
 use crate::means::{Averages, Mean, moved_mean, recent_loads};
 use column_pool::Brief;
 use cut_table::{CutTable, RatedRows, SeenLoads};
@@ -37,6 +39,8 @@ pub(crate) struct Work {
     pub counts: Counts,
     /// For each link the average module cost of the loads that give it its value, in thousandths of a cost grain.
     pub costs: Vec<u128>,
+    /// The ends of steps, and what counted grains are worth there.
+    pub ends: Ends,
     /// Room for the rates of a link's places.
     pub rows: RatedRows,
 }
@@ -62,14 +66,14 @@ fn prices_of(prices: &[u128], is_two_way: bool, number: usize) -> LinkPrices {
     }
 }
 
-/// The module cost of the loads that give a link its value, in thousandths of a cost grain: what prices and rates ask of the
-/// loads and the value together, less the routing costs. None of these passes 128 bits.
-fn module_cost(found: LinkValue, priced: LinkPrices, counted: u128, routing: u64) -> u128 {
+/// The module cost of the loads that give a link its value, in thousandths of a cost grain: what prices ask of the loads and
+/// the value together, less the routing costs. None of these passes 128 bits.
+fn module_cost(found: LinkValue, priced: LinkPrices, routing: u64) -> u128 {
     let load = u128::from(found.load);
     let back = u128::from(found.back);
     let there = priced.there.wrapping_mul(load);
     let both = there.wrapping_add(priced.back.wrapping_mul(back));
-    let whole = i128::try_from(both.wrapping_add(counted)).unwrap_or(i128::MAX);
+    let whole = i128::try_from(both).unwrap_or(i128::MAX);
     let cost = u128::try_from(whole.saturating_add(found.value)).unwrap_or(0);
     let routed = u128::from(routing).wrapping_mul(load.wrapping_add(back));
     cost.saturating_sub(routed.wrapping_mul(1000))
@@ -84,7 +88,10 @@ impl Work {
         inst: &Instance,
         table: &CutTable,
         brief: &Brief,
-    ) -> Result<Work, AllocError> {
+    ) -> Result<Work, AllocError>
+        requires table { table.now.problem ≡ inst.now }
+        requires ranges { length brief.now.ranges ≡ places inst.now }
+    {
         let places = inst.places() as usize;
         Ok(Work {
             choices: Choices::new(alloc, inst, brief.columns.as_slice())?,
@@ -93,29 +100,24 @@ impl Work {
             means: vec![in alloc; Mean::none(); places]?,
             counts: Counts::new(alloc, inst, table)?,
             costs: vec![in alloc; 0; inst.links() as usize]?,
+            ends: Ends::new(alloc, inst, table, &brief.ranges)?,
             rows: table.rated_rows(),
         })
     }
 
     /// Writes the loads that give a link its value, and moves the average of their module cost.
-    fn put_value(
-        &mut self,
-        is_two_way: bool,
-        number: usize,
-        found: LinkValue,
-        cost: u128,
-        recent: u128,
-    ) {
+    fn put_value(&mut self, is_two_way: bool, number: usize, found: Found, recent: u128) {
+        let Found { value, cost } = found;
         let loads = self.value_loads.as_mut_slice();
         if is_two_way {
-            put_at(loads, number.saturating_mul(2), u128::from(found.load));
+            put_at(loads, number.saturating_mul(2), u128::from(value.load));
             put_at(
                 loads,
                 number.saturating_mul(2).saturating_add(1),
-                u128::from(found.back),
+                u128::from(value.back),
             );
         } else {
-            put_at(loads, number, u128::from(found.load));
+            put_at(loads, number, u128::from(value.load));
         }
         let held = number_at(self.costs.as_slice(), number);
         put_at(
@@ -214,24 +216,26 @@ impl Work {
     }
 }
 
-/// What prices and rates ask of the loads that give a link its value beside its prices, in thousandths of a cost grain.
-fn rated_worth(
+/// What gives a link its value at these numbers, where no cut that crosses it has a rate.
+fn unrated(
     inst: &Instance,
     table: &CutTable,
-    numbers: &[u128],
+    ranges: &Ranges,
+    numbers: &Prices,
     link: LinkId,
-    found: LinkValue,
-) -> u128
+    rows: &mut RatedRows,
+) -> Found
     requires table { table.now.problem ≡ inst.now }
+    requires are_ranges { AreRanges inst.now ranges.now }
+    requires numbers { AreNumbers inst.now table.now.cuts numbers.now }
     requires link { link.0 < length inst.now.links }
 {
-    let (_, rates) = parted(numbers, inst.places() as usize);
-    if inst.orient().is_two_way() {
-        let there = counted_worth(table.crossings(2 * link.0), rates, found.load);
-        let back = counted_worth(table.crossings(2 * link.0 + 1), rates, found.back);
-        there.wrapping_add(back)
-    } else {
-        counted_worth(table.crossings(link.0), rates, found.load)
+    let is_two_way = inst.orient().is_two_way();
+    let value = table.link_value(link, ranges.of_link(inst, link), numbers, rows);
+    let priced = prices_of(numbers.as_slice(), is_two_way, link.0 as usize);
+    Found {
+        value,
+        cost: module_cost(value, priced, inst.link(link).routing),
     }
 }
 
@@ -254,17 +258,18 @@ fn fill_values(
     let mut total: i128 = 0;
     for number in 0..inst.links() {
         let link = LinkId(number);
-        let priced = prices_of(numbers.as_slice(), is_two_way, number as usize);
-        let ranged = ranges.of_link(inst, link);
-        let found = table.link_value(link, ranged, numbers, &mut work.rows);
-        let counted = if has_cuts {
-            rated_worth(inst, table, numbers.as_slice(), link, found)
+        let rated = if has_cuts {
+            work.ends
+                .found(inst, table, ranges, numbers.as_slice(), link)
         } else {
-            0
+            None
         };
-        let cost = module_cost(found, priced, counted, inst.link(link).routing);
-        work.put_value(is_two_way, number as usize, found, cost, recent);
-        total = total.saturating_add(found.value);
+        let found = match rated {
+            Some(found) => found,
+            None => unrated(inst, table, ranges, numbers, link, &mut work.rows),
+        };
+        work.put_value(is_two_way, number as usize, found, recent);
+        total = total.saturating_add(found.value.value);
     }
     total
 }
