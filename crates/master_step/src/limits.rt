@@ -7,4 +7,4 @@ pub const MAX_TRIALS: u32 = 24;
 pub const MAX_TURNS: u32 = 100;
 
 /// Those with cuts.
-pub const MAX_CUT_TURNS: u32 = 120;
+pub const MAX_CUT_TURNS: u32 = 180;

@@ -28,7 +28,7 @@ pub fn sizes_of_searches()
 pub fn trials_of_steps()
     ensures trials { MAX_TRIALS ≡ 24 }
     ensures turns { MAX_TURNS ≡ 100 }
-    ensures cut_turns { MAX_CUT_TURNS ≡ 120 }
+    ensures cut_turns { MAX_CUT_TURNS ≡ 180 }
 {}
 
 /// How many arcs a simple path has at most, for whoever assembles a bound and for the verifier, and the greatest weight of an
