@@ -1,5 +1,50 @@
 -- Each line is read exactly where it is written so.
-use Rattle.std.proofs.Common.{◌≡◌, ℕ, zero, suc, ◌-◌, ◌^◌, ◌<◌, ◌≤◌, ◌==◌, ◌&&◌, ◌⊎◌, inl, inr, nat_lt, nat_le, not, Bool, true, false, true≢false, cond, List, [], ◌∷◌, ◌++◌, length, take, drop, map, codes, Option, Some, None, refl, sym, ap, subst, ◌∙◌, append_assoc, length-append, ℤ, pos, negsuc, arith}
+use Rattle.std.proofs.Common.{
+  ◌≡◌,
+  ℕ,
+  zero,
+  suc,
+  ◌-◌,
+  ◌^◌,
+  ◌<◌,
+  ◌≤◌,
+  ◌==◌,
+  ◌&&◌,
+  ◌⊎◌,
+  inl,
+  inr,
+  nat_lt,
+  nat_le,
+  not,
+  Bool,
+  true,
+  false,
+  true≢false,
+  cond,
+  List,
+  [],
+  ◌∷◌,
+  ◌++◌,
+  length,
+  take,
+  drop,
+  map,
+  codes,
+  Option,
+  Some,
+  None,
+  refl,
+  sym,
+  ap,
+  subst,
+  ◌∙◌,
+  append_assoc,
+  length-append,
+  ℤ,
+  pos,
+  negsuc,
+  arith,
+}
 use Rattle.std.specs.Prelude.{IfSome, MatchOption}
 use Rattle.std.specs.Option.{option_map}
 use Rattle.std.specs.List.{AllByRecursion}
@@ -20,7 +65,35 @@ use Rattle.cert_format.specs.declared.form.Form.TheVariants.{First, Second, Thir
 use Rattle.cert_format.specs.Lists.{is_among}
 use Rattle.plan_words.specs.Words.{◌>>=◌, numerals, row, behind, before, each, numbers_of, grains_of, row_of}
 use Rattle.cert_format.specs.Grammar.{header_line, both_word, count_line, size_line, status_line, number_line, cost_line, signed_text, bound_line, arc_numbers, counted, path_line, modules_line, price_line, CanTell, AreArcs, IsBoundField}
-use Rattle.cert_format.specs.Bodies.{only_if, choose, fixed_of, one_in, number_row, sizes_with, sizes_in, count_row, with_both, both_row, size_row, form_of, status_of, none_or, cost_allowed, cost_of, positive, negative, signed_of, bound_of, numbered_arc, arc_of, count_of, uncounted, path_of, modules_of, list_row}
+use Rattle.cert_format.specs.Bodies.{
+  only_if,
+  choose,
+  fixed_of,
+  one_in,
+  number_row,
+  sizes_with,
+  sizes_in,
+  count_row,
+  with_both,
+  both_row,
+  size_row,
+  form_of,
+  status_of,
+  none_or,
+  cost_allowed,
+  cost_of,
+  positive,
+  negative,
+  signed_of,
+  bound_of,
+  numbered_arc,
+  arc_of,
+  count_of,
+  uncounted,
+  path_of,
+  modules_of,
+  list_row,
+}
 use Rattle.plan_words.proofs.NumberWords.{then-some, map-some, behind_found, behind_takes, numbers_found, numbers_takes, each_takes, each_found}
 use Rattle.plan_words.proofs.Digits.{grains_found, grains_takes, grains_first}
 
@@ -30,32 +103,39 @@ AreSmall ns = AllByRecursion (λ n. n < 2 ^ 128) ns
 
 -- ---- parts
 
+-- numbers that are read behind a word are below 2^128, and the line is the word and these numbers
 pub row_takes : (word body ns : List ℕ) → row_of word body ≡ Some ns → AreSmall ns × (body ≡ row word ns)
 row_takes word body ns e =
     let (rest, first, later) = then-some (behind word body) numbers_of ns e in
     let more = numbers_takes rest ns later in
     (more.0, behind_takes word body rest first ∙ ap (λ bs. word ++ bs) more.1)
 
+-- the line of a word and numbers below 2^128 is read as these numbers
 pub row_again : (word ns : List ℕ) → AreSmall ns → row_of word (row word ns) ≡ Some ns
 row_again word ns h = ap (λ o. o >>= numbers_of) (behind_found word (numerals ns)) ∙ numbers_found ns h
 
+-- a value that depends on a test is found where the test holds
 pub only_true : {A : Type 0} (t : Bool) (x : A) → t ≡ true → only_if t x ≡ Some x
 only_true t x e = ap (λ b. cond b (Some x) None) e
 
+-- what a choice finds is what the first answer leads to, or the other one
 pub chosen : {A B : Type 0} (o : Option A) (f : A → Option B) (other : Option B) (y : B) → choose o f other ≡ Some y → ((x : A) × (o ≡ Some x) × (f x ≡ Some y)) ⊎ (other ≡ Some y)
 chosen None f other y e = inr e
 chosen (Some x) f other y e = inl (x, refl, e)
 
+-- bytes that are read as a fixed line are this line
 pub fixed_takes : (line body : List ℕ) (x : Unit {0}) → fixed_of line body ≡ Some x → body ≡ line
 unfolding fixed_of
 fixed_takes line body x e = (bytes_eq-Decides body line).0 (cond_some (bytes_eq body line) tt x e).0
 
+-- a fixed line is read as such
 pub fixed_again : (line : List ℕ) → fixed_of line line ≡ Some tt
 unfolding fixed_of
 fixed_again line = only_true (bytes_eq line line) tt ((bytes_eq-Decides line line).1 refl)
 
 -- ---- a number within bounds
 
+-- a lone number that is read is within its bounds, and there is no other number
 pub one_takes : (low high : ℕ) (ns : List ℕ) (n : ℕ) → one_in low high ns ≡ Some n → (low ≤ n) × (n ≤ high) × (ns ≡ n ∷ [])
 unfolding one_in
 one_takes low high [] n e = absurd cc
@@ -65,10 +145,12 @@ one_takes low high (m ∷ []) n e =
     (subst (λ k. low ≤ k) is (leb-true low m both.0), subst (λ k. k ≤ high) is (leb-true m high both.1), ap (λ k. k ∷ []) is)
 one_takes low high (m ∷ k ∷ ns) n e = absurd cc
 
+-- a lone number within its bounds is read as it stands
 pub one_again : (low high n : ℕ) → low ≤ n → n ≤ high → one_in low high (n ∷ []) ≡ Some n
 unfolding one_in
 one_again low high n above below = only_true (nat_le low n && nat_le n high) n (and_from (nat_le low n) (nat_le n high) (le-leb low n above) (le-leb n high below))
 
+-- a number that is read behind a word is within its bounds, and the line is the word and this number
 pub number_row_takes : (word : List ℕ) (low high : ℕ) (body : List ℕ) (n : ℕ) → number_row word low high body ≡ Some n → (low ≤ n) × (n ≤ high) × (body ≡ number_line word n)
 unfolding number_row
 number_row_takes word low high body n e =
@@ -76,12 +158,14 @@ number_row_takes word low high body n e =
     let one = one_takes low high ns n later in
     (one.0, one.1, (row_takes word body ns first).1 ∙ ap (row word) one.2)
 
+-- the line of a word and a number within its bounds is read as this number
 pub number_row_again : (word : List ℕ) (low high n : ℕ) → high < 2 ^ 128 → low ≤ n → n ≤ high → number_row word low high (number_line word n) ≡ Some n
 unfolding number_row
 number_row_again word low high n fits above below = ap (λ o. o >>= one_in low high) (row_again word (n ∷ []) (omega arith, tt)) ∙ one_again low high n above below
 
 -- ---- the sizes
 
+-- counts of nodes, links and demands that an instance can have
 pub record AreSizes (x : ℕ × ℕ × ℕ) : Type 0 where
   pub nodes : x.0 ≤ MAX_NODES
   pub links : x.1 ≤ MAX_LINKS
@@ -185,6 +269,7 @@ both-again n l d true s =
     ∙ ap (λ o. choose o (λ rest. option_map (with_both true) (count_row rest)) None) (before-found (codes " BOTH") (count_line n l d))
     ∙ ap (option_map (with_both true)) (count-again-line n l d s)
 
+-- sizes that are read are those of an instance, the version can tell them, and the line is theirs
 pub size_takes : (form : Form) (body : List ℕ) (x : Sizes) → size_row form body ≡ Some x → AreTold form x × (body ≡ size_line form x.nodes x.links x.demands x.both)
 unfolding size_row
 size_takes First body x e =
@@ -194,6 +279,7 @@ size_takes First body x e =
 size_takes Second body x e = (let w = both-takes body x e in (record { sizes = w.sizes; told = tt }, w.line))
 size_takes Third body x e = (let w = both-takes body x e in (record { sizes = w.sizes; told = tt }, w.line))
 
+-- the line of sizes that the version can tell is read as these sizes
 pub size_again : (form : Form) (n l d : ℕ) (both : Bool) → AreTold form (sizes_at n l d both) → size_row form (size_line form n l d both) ≡ Some (sizes_at n l d both)
 unfolding size_row
 size_again First n l d both t =
@@ -211,6 +297,7 @@ two-ways false x o s e = inr e
 told : {A : Type 0} (print : A → List ℕ) (body : List ℕ) (one s : A) → bytes_eq body (print one) ≡ true → one ≡ s → body ≡ print s
 told print body one s t is = (bytes_eq-Decides body (print one)).0 t ∙ ap print is
 
+-- bytes that are read as a version are the first line of this version
 pub form_takes : (body : List ℕ) (form : Form) → form_of body ≡ Some form → body ≡ header_line form
 unfolding form_of
 form_takes body form e =
@@ -225,12 +312,14 @@ form_takes body form e =
       ]
     ]
 
+-- the first line of a version is read as this version
 pub form_again : (form : Form) → form_of (header_line form) ≡ Some form
 unfolding form_of
 form_again First = refl
 form_again Second = refl
 form_again Third = refl
 
+-- bytes that are read as a status are the line of this status
 pub status_takes : (body : List ℕ) (s : PlanStatus) → status_of body ≡ Some s → body ≡ status_line s
 unfolding status_of
 status_takes body s e =
@@ -245,6 +334,7 @@ status_takes body s e =
       ]
     ]
 
+-- the line of a status is read as this status
 pub status_again : (s : PlanStatus) → status_of (status_line s) ≡ Some s
 unfolding status_of
 status_again Optimal = refl
@@ -265,6 +355,7 @@ none_takes {A} f bytes o e =
     none None is t = t
     none (Some x) is t = absurd cc
 
+-- where the word none may stand as well, other bytes are read as they are without it
 pub some_again : {A : Type 0} (f : List ℕ → Option A) (bytes : List ℕ) (x : A) → bytes_eq bytes (codes "none") ≡ false → f bytes ≡ Some x → none_or f bytes ≡ Some (Some x)
 some_again f bytes x other e = ap (λ b. cond b (Some None) (option_map (λ x. Some x) (f bytes))) other ∙ ap (option_map (λ x. Some x)) e
 
@@ -280,6 +371,7 @@ pub record IsCost (status : PlanStatus) (cost : Option ℕ) : Type 0 where
   pub allowed : cost_allowed status cost ≡ true
   pub small : IfSome cost (λ c. c < 2 ^ 128)
 
+-- a cost that is read, or none, is allowed by the status and below 2^128, and the line is its own
 pub cost_takes : (status : PlanStatus) (body : List ℕ) (cost : Option ℕ) → cost_of status body ≡ Some cost → IsCost status cost × (body ≡ cost_line cost)
 unfolding cost_of
 cost_takes status body cost e =
@@ -293,6 +385,7 @@ cost_takes status body cost e =
     by None rest allowed m line = (record { allowed = allowed; small = tt }, line ∙ ap (λ bs. codes "COST " ++ bs) m)
     by (Some c) rest allowed m line = (let g = grains_takes rest c m in (record { allowed = allowed; small = g.0 }, line ∙ ap (λ bs. codes "COST " ++ bs) g.1))
 
+-- the line of a cost, or of none, that the status allows is read as it
 pub cost_again : (status : PlanStatus) (cost : Option ℕ) → IsCost status cost → cost_of status (cost_line cost) ≡ Some cost
 unfolding cost_of behind
 cost_again status None c = only_true (cost_allowed status None) None c.allowed
@@ -301,6 +394,7 @@ cost_again status (Some cost) c =
     ∙ ap (λ o. o >>= λ cost. only_if (cost_allowed status cost) cost) (some_again grains_of (grains_text cost 12) cost (not_none cost c.small) (grains_found (grains_text cost 12) cost c.small refl))
     ∙ only_true (cost_allowed status (Some cost)) (Some cost) c.allowed
 
+-- a bound that is read fits its field, and the bytes are its decimal, with a minus where it is negative
 pub signed_takes : (bytes : List ℕ) (b : ℤ) → signed_of bytes ≡ Some b → IsBoundField b × (bytes ≡ signed_text b)
 unfolding signed_of
 signed_takes bytes b e =
@@ -327,6 +421,7 @@ no-minus v small =
     let differs : (c == 45) ≡ false = ne_eqb c 45 (λ e. absurd (omega arith)) in
     ap (behind (codes "-")) is ∙ ap (λ b. cond b (Some rest) None) differs
 
+-- the decimal of a bound that fits its field, with its minus, is read as this bound
 pub signed_again : (b : ℤ) → IsBoundField b → signed_of (signed_text b) ≡ Some b
 unfolding signed_of behind
 signed_again (pos n) small =
@@ -337,6 +432,7 @@ signed_again (negsuc n) small =
     ap (λ o. o >>= negative) (grains_found (grains_text (suc n) 12) (suc n) (omega arith) refl)
     ∙ only_true (nat_lt n (2 ^ 127)) (negsuc n) (lt-ltb n (2 ^ 127) small)
 
+-- a bound that is read, or none, fits its field, and the line is its own
 pub bound_takes : (body : List ℕ) (b : Option ℤ) → bound_of body ≡ Some b → IfSome b IsBoundField × (body ≡ bound_line b)
 unfolding bound_of
 bound_takes body b e =
@@ -351,6 +447,7 @@ signed-not-none : (b : ℤ) → IsBoundField b → bytes_eq (signed_text b) (cod
 signed-not-none (pos n) small = not_none n (omega arith)
 signed-not-none (negsuc n) small = refl
 
+-- the line of a bound that fits its field, or of none, is read as it
 pub bound_again : (b : Option ℤ) → IfSome b IsBoundField → bound_of (bound_line b) ≡ Some b
 unfolding bound_of behind
 bound_again None h = refl
@@ -360,6 +457,7 @@ bound_again (Some b) h =
 
 -- ---- paths and counts
 
+-- numbers that are read behind their count are few enough, and stand there with this count in front
 pub uncounted_takes : (most : ℕ) (ns ms : List ℕ) → uncounted most ns ≡ Some ms → (length ms ≤ most) × (ns ≡ counted ms)
 uncounted_takes most [] ms e = absurd cc
 uncounted_takes most (m ∷ ns) ms e =
@@ -368,15 +466,18 @@ uncounted_takes most (m ∷ ns) ms e =
     let same : m ≡ length ns = eqb-true m (length ns) both.0 in
     (subst (λ xs. length xs ≤ most) is (subst (λ k. k ≤ most) same (leb-true m most both.1)), ap (λ k. k ∷ ns) same ∙ ap counted is)
 
+-- few enough numbers with their count in front are read as these numbers
 pub uncounted_again : (most : ℕ) (ms : List ℕ) → length ms ≤ most → uncounted most (counted ms) ≡ Some ms
 uncounted_again most ms few = only_true (length ms == length ms && nat_le (length ms) most) ms (and_from (length ms == length ms) (nat_le (length ms) most) (eq-eqb (length ms) (length ms) refl) (le-leb (length ms) most few))
 
+-- an arc that is read from a number has this number, and it fits its field
 pub arc_takes : (n : ℕ) (a : ArcId) → arc_of n ≡ Some a → (a.0 < 2 ^ 32) × (n ≡ a.0)
 arc_takes n a e =
     let (test, is) = cond_some (nat_lt n (2 ^ 32)) (numbered_arc n) a e in
     let same : n ≡ a.0 = ap (λ (x : ArcId). x.0) is in
     (subst (λ k. k < 2 ^ 32) same (ltb-true n (2 ^ 32) test), same)
 
+-- the number of an arc, where it fits its field, is read as this arc
 pub arc_again : (a : ArcId) → a.0 < 2 ^ 32 → arc_of a.0 ≡ Some a
 arc_again a small = only_true (nat_lt a.0 (2 ^ 32)) a (lt-ltb a.0 (2 ^ 32) small)
 
@@ -392,14 +493,17 @@ map-same : (ns : List ℕ) → map (λ n. n) ns ≡ ns
 map-same [] = refl
 map-same (n ∷ ns) = ap (λ ms. n ∷ ms) (map-same ns)
 
+-- the numbers of arcs that fit their fields are below 2^128
 pub arcs_small : (arcs : List ArcId) → AreArcs arcs → AreSmall (arc_numbers arcs)
 arcs_small [] h = tt
 arcs_small (a ∷ arcs) h = (omega (arith, h.0), arcs_small arcs h.1)
 
+-- counts below 2^64 are numbers below 2^128
 pub counts_small : (counts : List ℕ) → AllByRecursion (λ c. c < 2 ^ 64) counts → AreSmall counts
 counts_small [] h = tt
 counts_small (c ∷ counts) h = (omega (arith, h.0), counts_small counts h.1)
 
+-- a path that is read is short enough and of arcs that fit their fields, and the line is its own
 pub path_takes : (body : List ℕ) (arcs : List ArcId) → path_of body ≡ Some arcs → (length arcs ≤ MAX_PATH_ARCS) × AreArcs arcs × (body ≡ path_line arcs)
 unfolding path_of
 path_takes body arcs e =
@@ -409,6 +513,7 @@ path_takes body arcs e =
     let each_arc = each_takes arc_of (λ (a : ArcId). a.0 < 2 ^ 32) (λ (a : ArcId). a.0) arc_takes ms arcs last in
     (omega (arith, few.0, ap length each_arc.1, length-map arcs (λ (a : ArcId). a.0)), each_arc.0, (row_takes (codes "PATH") body ns first).1 ∙ ap (row (codes "PATH")) (few.1 ∙ ap counted each_arc.1))
 
+-- the line of a path that is short enough and of arcs that fit their fields is read as this path
 pub path_again : (arcs : List ArcId) → length arcs ≤ MAX_PATH_ARCS → AreArcs arcs → path_of (path_line arcs) ≡ Some arcs
 unfolding path_of
 path_again arcs few h =
@@ -417,6 +522,7 @@ path_again arcs few h =
     ∙ ap (λ o. o >>= each arc_of) (uncounted_again MAX_PATH_ARCS (arc_numbers arcs) long)
     ∙ each_found arc_of (λ (a : ArcId). a.0 < 2 ^ 32) (λ (a : ArcId). a.0) arc_again arcs h
 
+-- counts of modules that are read are few enough and below 2^64, and the line is theirs
 pub modules_takes : (body counts : List ℕ) → modules_of body ≡ Some counts → (length counts ≤ MAX_MODULES) × AllByRecursion (λ c. c < 2 ^ 64) counts × (body ≡ modules_line counts)
 unfolding modules_of
 modules_takes body counts e =
@@ -427,6 +533,7 @@ modules_takes body counts e =
     let same : ms ≡ counts = each_count.1 ∙ map-same counts in
     (subst (λ xs. length xs ≤ MAX_MODULES) same few.0, each_count.0, (row_takes (codes "MODULES") body ns first).1 ∙ ap (row (codes "MODULES")) (few.1 ∙ ap counted same))
 
+-- the line of few enough counts of modules below 2^64 is read as these counts
 pub modules_again : (counts : List ℕ) → length counts ≤ MAX_MODULES → AllByRecursion (λ c. c < 2 ^ 64) counts → modules_of (modules_line counts) ≡ Some counts
 unfolding modules_of
 modules_again counts few h =
@@ -443,6 +550,7 @@ pub record IsNewList (entries : ℕ) (lists : List (List ℕ)) (list : List ℕ)
   pub small : AreSmall list
   pub fresh : is_among lists list ≡ false
 
+-- a price list that is read can stand behind those before it, and the line is its own
 pub list_takes : (entries : ℕ) (lists : List (List ℕ)) (body list : List ℕ) → list_row entries lists body ≡ Some list → IsNewList entries lists list × (body ≡ price_line list)
 unfolding list_row
 list_takes entries lists body list e =
@@ -458,6 +566,7 @@ list_takes entries lists body list e =
     not-true true e = absurd (true≢false (sym e))
     not-true false e = refl
 
+-- the line of a price list that can stand behind those before it is read as this list
 pub list_again : (entries : ℕ) (lists : List (List ℕ)) (list : List ℕ) → IsNewList entries lists list → list_row entries lists (price_line list) ≡ Some list
 unfolding list_row
 list_again entries lists list n =

@@ -34,6 +34,7 @@ bit-again : (b : Bool) → (bit b == 1) ≡ b
 bit-again true = refl
 bit-again false = refl
 
+-- what is written for yes or no is at most 1
 pub bit_few : (b : Bool) → bit b ≤ 1
 bit_few true = omega arith
 bit_few false = omega arith
@@ -58,6 +59,7 @@ in-takes nodes (period ∷ first ∷ installed ∷ ns) cut e =
       ap (λ k. period ∷ first ∷ k ∷ ns) (bit-takes installed (leb-true installed 1 parts.1)) ∙ ap (λ ms. period ∷ first ∷ bit (installed == 1) ∷ ms) set.1,
     )
 
+-- a cut of the plan that is read has an answer for each node, its numbers fit, and the line is its own
 pub cut_takes : (nodes : ℕ) (body : List ℕ) (cut : LoadCut) → load_cut_row nodes body ≡ Some cut → GoodCut nodes cut × (body ≡ cut_line cut)
 unfolding load_cut_row
 cut_takes nodes body cut e =
@@ -81,6 +83,7 @@ in-again nodes cut g =
     ∙ ap (option_map (load_cut_with cut.period cut.first b)) (set_again nodes cut.nodes g.0)
     ∙ ap (λ t. Some (with-bit cut t)) (bit-again cut.counts_installed)
 
+-- the line of a cut with an answer for each node and numbers that fit is read as this cut
 pub cut_again : (nodes : ℕ) (cut : LoadCut) → AreSmall (cut_numbers cut) → GoodCut nodes cut → load_cut_row nodes (cut_line cut) ≡ Some cut
 unfolding load_cut_row
 cut_again nodes cut small g = ap (λ o. o >>= load_cut_in nodes) (row_again (codes "C") (cut_numbers cut) small) ∙ in-again nodes cut g
@@ -109,6 +112,7 @@ no-members at (suc n) = no-members (suc at) n
 abbrev pub empty_cut : ℕ → LoadCut
 empty_cut nodes = record { nodes = nobody nodes; period = 0; first = 0; counts_installed = false }
 
+-- the line of a cut of no nodes is read as this cut
 pub empty_again : (nodes : ℕ) → load_cut_row nodes (cut_line (empty_cut nodes)) ≡ Some (empty_cut nodes)
 empty_again nodes =
     let none : AreSmall (counted []) = (omega arith, tt) in

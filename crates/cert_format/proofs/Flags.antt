@@ -51,6 +51,7 @@ flags_end front at nodes ns ge = step-end front at (nodes - at) ns (omega arith)
 
 -- ---- ascending lists
 
+-- where a number is greater than the one before, the list ascends from that one exactly where it does from this one
 pub ascends_more : (ns : List ℕ) (i : ℕ) → 1 ≤ i → i < length ns → get_or ns (i - 1) 0 < get_or ns i 0 → ascends (drop (i - 1) ns) ≡ ascends (drop (i + 1 - 1) ns)
 unfolding ascends
 ascends_more ns i some lt less =
@@ -61,6 +62,7 @@ ascends_more ns i some lt less =
     ap ascends (here ∙ ap (λ k. get_or ns (i - 1) 0 ∷ drop k ns) again ∙ ap (λ zs. get_or ns (i - 1) 0 ∷ zs) there)
     ∙ (rw (lt-ltb (get_or ns (i - 1) 0) (get_or ns i 0) less) (ap ascends (sym there) ∙ ap (λ k. ascends (drop k ns)) (sym later)))
 
+-- where a number is not greater than the one before it, the list does not ascend from that one on
 pub ascends_stop : (ns : List ℕ) (i : ℕ) → 1 ≤ i → i < length ns → get_or ns i 0 ≤ get_or ns (i - 1) 0 → ascends (drop (i - 1) ns) ≡ false
 unfolding ascends
 ascends_stop ns i some lt ge =
@@ -76,5 +78,6 @@ short-ascends [] few = refl
 short-ascends (x ∷ []) few = refl
 short-ascends (x ∷ y ∷ xs) few = absurd (omega arith)
 
+-- where no number is left to compare with the one before it, what remains of the list ascends
 pub ascends_end : (ns : List ℕ) (i : ℕ) → length ns ≤ i → ascends (drop (i - 1) ns) ≡ true
 ascends_end ns i ge = short-ascends (drop (i - 1) ns) (omega (arith, length-drop (i - 1) ns))

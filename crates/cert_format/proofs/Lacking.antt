@@ -26,7 +26,41 @@ use Rattle.cert_format.specs.declared.limits.TheConstants.{MAX_LISTS}
 use Rattle.cert_format.specs.Lists.{lists_in, shown, width}
 use Rattle.cert_format.specs.Drafts.{AreStated, AreListed}
 use Rattle.plan_words.specs.Words.{numerals, row}
-use Rattle.cert_format.specs.Grammar.{header_line, both_word, both_text, count_line, status_line, signed_text, path_line, modules_line, leaf_line, record_line, end_line, head_lines, design_lines, bound_lines, cut_numbers, cut_line, cut_lines, price_line, list_lines, price_lines, front_lines, tree_lines, plan_lines, arc_numbers, counted, members, AreArcs, HasCutFields, HasLeafFields, HasRecordFields, HasDesignFields, IsBoundField, HasFields}
+use Rattle.cert_format.specs.Grammar.{
+  header_line,
+  both_word,
+  both_text,
+  count_line,
+  status_line,
+  signed_text,
+  path_line,
+  modules_line,
+  leaf_line,
+  record_line,
+  end_line,
+  head_lines,
+  design_lines,
+  bound_lines,
+  cut_numbers,
+  cut_line,
+  cut_lines,
+  price_line,
+  list_lines,
+  price_lines,
+  front_lines,
+  tree_lines,
+  plan_lines,
+  arc_numbers,
+  counted,
+  members,
+  AreArcs,
+  HasCutFields,
+  HasLeafFields,
+  HasRecordFields,
+  HasDesignFields,
+  IsBoundField,
+  HasFields,
+}
 use Rattle.plan_words.specs.Cuts.{Lacks}
 use Rattle.plan_words.proofs.Cutting.{lacks-append}
 use Rattle.plan_words.proofs.NumberWords.{digits-lack, decimal_digits}
@@ -132,7 +166,8 @@ design-lacks demands links (Some d) h k = (
   lacks-append 10 (codes "COST ") (grains_text d.0 12) (lacks-by (codes "COST ") refl) (grains-lack d.0 k.cost_within),
   rec-append (map path_line d.1.paths) (map modules_line d.1.counts)
       (rec-map GoodPath path_line path-lacks d.1.paths (pair_of (λ (arcs : List ArcId). length arcs ≤ MAX_PATH_ARCS) AreArcs d.1.paths (recursion_from_All (λ (arcs : List ArcId). length arcs ≤ MAX_PATH_ARCS) d.1.paths h.short_paths) k.arcs))
-      (rec-map GoodCounts modules_line modules-lack d.1.counts (pair_of (λ (counts : List ℕ). length counts ≤ MAX_MODULES) (λ counts. AllByRecursion (λ c. c < 2 ^ 64) counts) d.1.counts (recursion_from_All (λ (counts : List ℕ). length counts ≤ MAX_MODULES) d.1.counts h.short_lists) k.counts_within)),
+      (rec-map GoodCounts modules_line modules-lack d.1.counts
+      (pair_of (λ (counts : List ℕ). length counts ≤ MAX_MODULES) (λ counts. AllByRecursion (λ c. c < 2 ^ 64) counts) d.1.counts (recursion_from_All (λ (counts : List ℕ). length counts ≤ MAX_MODULES) d.1.counts h.short_lists) k.counts_within)),
 )
 
 bound-lacks : (s : PlanStatus) (b : Option ℤ) → IfSome b IsBoundField → AllByRecursion (Lacks 10) (bound_lines s b)
@@ -181,6 +216,7 @@ prices-lack First entries lists h = tt
 prices-lack Second entries lists h = lists-lack entries lists h
 prices-lack Third entries lists h = lists-lack entries lists h
 
+-- no line of a plan that can be spelt has a line end in it
 pub plan_lacks : (form : Form) (plan : Plan) → IsSpellable plan → HasFields plan → AreReady form (numbers_in plan) plan.tree → AllByRecursion (Lacks 10) (plan_lines form plan)
 unfolding front_lines
 plan_lacks form plan s f r =

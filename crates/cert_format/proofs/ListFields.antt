@@ -68,5 +68,6 @@ fields-from all lists (node ∷ nodes) h k = (
   fields-from all (with_some lists (prices_at node)) nodes h.1 k,
 )
 
+-- where the price lists of a tree and its records, as their lines show them, fit their fields, so do the records
 pub all_fields : (nodes : List TreeNode) (lists : List (List ℕ)) → lists ≡ lists_of nodes → AllByRecursion (AreWithin 128) lists → AllByRecursion (HasShownFields lists) nodes → AllByRecursion HasRecordFields nodes
 all_fields nodes lists same h k = fields-from lists [] nodes k (subst AreInFields same h)

@@ -82,12 +82,14 @@ number_at w before (x ∷ lists) (suc n) list h e =
     let regrouped : number_in ((before ++ x ∷ []) ++ lists) list ≡ number_in (before ++ x ∷ lists) list = ap (λ ls. number_in ls list) (append_assoc before (x ∷ []) lists) in
     omega (arith, later, regrouped, length-append before (x ∷ []))
 
+-- each of different price lists has so many numbers, all of them below 2^128
 pub list_good : (w : ℕ) (before lists : List (List ℕ)) (n : ℕ) (list : List ℕ) → AreNew w before lists → slice_get lists n ≡ Some list → (length list ≡ w) × AreSmall list
 unfolding AreNew
 list_good w before [] n list h e = absurd cc
 list_good w before (x ∷ lists) zero list h e = subst (λ y. (length y ≡ w) × AreSmall y) (some-same x list e) (h.0, h.1)
 list_good w before (x ∷ lists) (suc n) list h e = list_good w (before ++ x ∷ []) lists n list h.3 e
 
+-- the numbers of different price lists are below 2^128
 pub lists_small : (w : ℕ) (before lists : List (List ℕ)) → AreNew w before lists → AllByRecursion AreSmall lists
 unfolding AreNew
 lists_small w before [] h = tt
@@ -221,6 +223,7 @@ new-more : (w : ℕ) (lists added : List (List ℕ)) (ps : List ℕ) → (length
 unfolding AreNew
 new-more w lists added ps good f new = (good.0, good.1, f, new)
 
+-- records that fit add different new price lists to those that are there, and name all of these in order
 pub gathering : (count w : ℕ) (lists : List (List ℕ)) (nodes : List TreeNode) → AllByRecursion (λ node. FitsRecord count w node × HasRecordFields node) nodes → Gathering w lists nodes
 unfolding gathered AreNew AreNamed named_from
 gathering count w lists [] h = record { added = []; all_is = sym (append-nil lists); new = tt; named = tt; ends = ap length (sym (append-nil lists)) }
@@ -258,6 +261,7 @@ gathering count w lists (node ∷ nodes) h = by (prices_at node) refl (gathering
 
 -- ---- a tree has no more lists than leaves
 
+-- how many of the records are leaves
 abbrev pub leaves : List TreeNode → ℕ
 leaves [] = 0
 leaves (Leaf evidence ∷ nodes) = suc (leaves nodes)
@@ -279,6 +283,7 @@ few-gathered lists (Split demand at left right ∷ nodes) = few-gathered lists n
 few-gathered lists (Loads place load ∷ nodes) = few-gathered lists nodes
 few-gathered lists (Leaf evidence ∷ nodes) = omega (arith, few-gathered (with_some lists (prices_at (Leaf evidence))) nodes, with-few lists (prices_at (Leaf evidence)))
 
+-- in whole trees, twice the count of leaves is the count of records and that of trees together
 pub half_leaves : (nodes : List TreeNode) (trees : ℕ) → are_trees trees nodes ≡ true → 2 * leaves nodes ≡ length nodes + trees
 half_leaves [] zero e = omega arith
 half_leaves [] (suc n) e = absurd (true≢false (sym e))
@@ -296,6 +301,7 @@ few-lists nodes e few = omega (arith, few, few-gathered [] nodes, half_leaves no
 abbrev pub AreNumbered : ℕ → List (List ℕ) → Type 0
 AreNumbered entries lists = (length lists ≤ MAX_LISTS) × AreNew entries [] lists
 
+-- where the version has price lists, numbers can stand for these
 abbrev pub AreGood : Form → ℕ → List (List ℕ) → Type 0
 AreGood First entries lists = ⊤
 AreGood Second entries lists = AreNumbered entries lists
@@ -307,6 +313,7 @@ numbered-stated entries stated lists h =
     let within : length lists ≤ stated = h.1 in
     (omega (arith, few, within), h.2)
 
+-- price lists as the version has them are such that numbers can stand for them
 pub good_listed : (form : Form) (entries stated : ℕ) (lists : List (List ℕ)) → AreListed form entries stated lists → AreGood form entries lists
 good_listed First entries stated lists h = tt
 good_listed Second entries stated lists h = numbered-stated entries stated lists h
@@ -354,6 +361,7 @@ second-ready count entries nodes whole few h =
       ends = subst (λ ls. named_from Second ls 0 nodes ≡ length ls) (sym g.all_is) g.ends;
     }
 
+-- the price lists of a whole tree, the records of which fit, can be told in a text of each version
 pub lists_ready : (form : Form) (count entries : ℕ) (nodes : List TreeNode) → IsTrue (are_trees 1 nodes) → length nodes ≤ MAX_RECORDS → AllByRecursion (λ node. FitsRecord count entries node × HasRecordFields node) nodes → AreReady form entries nodes
 lists_ready First count entries nodes whole few h = record { listed = (refl, refl); named = first-named [] 0 nodes; ends = first-ends [] 0 nodes }
 lists_ready Second count entries nodes whole few h = second-ready count entries nodes whole few h
@@ -369,6 +377,7 @@ lists_told Third entries stated lists nodes h named ends = sym (lists_named entr
 
 -- ---- one record more
 
+-- with one record more, as many price lists are named as behind this record
 pub named_more : (form : Form) (lists : List (List ℕ)) (named : ℕ) (nodes : List TreeNode) (node : TreeNode) → named_from form lists named (nodes ++ node ∷ []) ≡ named_behind form lists (named_from form lists named nodes) node
 unfolding named_from
 named_more form lists named [] node = refl

@@ -10,25 +10,31 @@ use Rattle.indexmap.specs.IndexSet.{insert_key}
 use Rattle.proof_tree.specs.declared.tree.TreeNode.{TreeNode}
 use Rattle.cert_format.specs.Lists.{place_in, number_in, prices_at, with_some, with_list, gathered}
 
+-- some item of a viewed list passes a test exactly where the view of some item does
 pub any_viewed : {X Y : Type 0} (view : X → Y) (p : Y → Bool) (xs : List X) → list_any p (map view xs) ≡ list_any (λ x. p (view x)) xs
 any_viewed view p [] = refl
 any_viewed view p (x ∷ xs) = rw (any_viewed view p xs) refl
 
+-- the first place of a viewed list that passes a test, or its length, is that of the items' views
 pub place_viewed : {X Y : Type 0} (view : X → Y) (p : Y → Bool) (xs : List X) → position_or_len p (map view xs) ≡ position_or_len (λ x. p (view x)) xs
 place_viewed view p [] = refl
 place_viewed view p (x ∷ xs) = ap (λ (n : ℕ). cond (not (p (view x))) (1 + n) 0) (place_viewed view p xs)
 
+-- what stands at a place of a viewed list is the view of the item at this place
 pub at_viewed : {X Y : Type 0} (view : X → Y) (xs : List X) (n : ℕ) → slice_get (map view xs) n ≡ option_map view (slice_get xs n)
 at_viewed view [] n = refl
 at_viewed view (x ∷ xs) zero = refl
 at_viewed view (x ∷ xs) (suc n) = at_viewed view xs n
 
+-- a viewed list is as long as the list itself
 pub length_viewed : {X Y : Type 0} (view : X → Y) (xs : List X) → length (map view xs) ≡ length xs
 length_viewed view xs = length-map xs view
 
+-- where an item stands at a place, its view stands at this place of the viewed list
 pub at_some : {X Y : Type 0} (view : X → Y) (xs : List X) (n : ℕ) (x : X) → Some x ≡ slice_get xs n → Some (view x) ≡ slice_get (map view xs) n
 at_some view xs n x e = ap (option_map view) e ∙ sym (at_viewed view xs n)
 
+-- where no item stands at a place, nothing stands at this place of the viewed list
 pub at_none : {X Y : Type 0} (view : X → Y) (xs : List X) (n : ℕ) → None ≡ slice_get xs n → None ≡ slice_get (map view xs) n
 at_none view xs n e = ap (option_map view) e ∙ sym (at_viewed view xs n)
 
@@ -55,14 +61,17 @@ place-most p (x ∷ xs) = by (p x) (place-most p xs)
     by true more = omega arith
     by false more = omega (arith, more)
 
+-- the first place of a viewed list that passes a test, if there is one, is that of the items' views
 pub position_viewed : {X Y : Type 0} (view : X → Y) (p : Y → Bool) (xs : List X) → position p (map view xs) ≡ position (λ x. p (view x)) xs
 position_viewed view p xs =
     ap (λ (n : ℕ). found n (length (map view xs))) (place_viewed view p xs) ∙ ap (found (position_or_len (λ x. p (view x)) xs)) (length-map xs view)
 
+-- the place where a price list is found among the lists is its number
 pub number_found : (lists : List (List ℕ)) (prices : List ℕ) (n : ℕ) → Some n ≡ place_in lists prices → n ≡ number_in lists prices
 unfolding place_in
 number_found lists prices n e = number-some (number_in lists prices) (length lists) n (nat_lt (number_in lists prices) (length lists)) refl e
 
+-- the number of a price list that is not among the lists is their count
 pub number_lost : (lists : List (List ℕ)) (prices : List ℕ) → None ≡ place_in lists prices → length lists ≡ number_in lists prices
 unfolding place_in
 number_lost lists prices e = number-none (number_in lists prices) (length lists) (nat_lt (number_in lists prices) (length lists)) refl e (place-most (λ list. pointwise nat_eq prices list) lists)
@@ -74,6 +83,7 @@ added view eq ks new k fresh n = rw (n, fresh) (map-append view ks (k ∷ []))
 
 -- ---- the lists of a tree
 
+-- the lists gathered from a record on are those gathered behind it, with its own prices among the lists
 pub gathered_more : (lists new : List (List ℕ)) (nodes : List TreeNode) (i : ℕ) (d : TreeNode) (o : Option (List ℕ)) → i < length nodes → prices_at (get_or nodes i d) ≡ o → with_some lists o ≡ new → gathered lists (drop i nodes) ≡ gathered new (drop (i + 1) nodes)
 unfolding gathered
 gathered_more lists new nodes i d o lt e w =
@@ -81,12 +91,15 @@ gathered_more lists new nodes i d o lt e w =
     ∙ ap (λ p. gathered (with_some lists p) (drop (i + 1) nodes)) e
     ∙ ap (λ ls. gathered ls (drop (i + 1) nodes)) w
 
+-- behind a record with prices, once these are among the lists, the same is gathered as from it on
 pub gathered_some : (lists new : List (List ℕ)) (nodes : List TreeNode) (i : ℕ) (d : TreeNode) (ps : List ℕ) → i < length nodes → Some ps ≡ prices_at (get_or nodes i d) → new ≡ with_list lists ps → gathered new (drop (i + 1) nodes) ≡ gathered lists (drop i nodes)
 gathered_some lists new nodes i d ps lt e w = sym (gathered_more lists new nodes i d (Some ps) lt (sym e) (sym w))
 
+-- behind a record without prices the same lists are gathered as from it on
 pub gathered_none : (lists : List (List ℕ)) (nodes : List TreeNode) (i : ℕ) (d : TreeNode) → i < length nodes → None ≡ prices_at (get_or nodes i d) → gathered lists (drop (i + 1) nodes) ≡ gathered lists (drop i nodes)
 gathered_none lists nodes i d lt e = sym (gathered_more lists lists nodes i d None lt (sym e) refl)
 
+-- behind the last record no further list is gathered
 pub gathered_end : (lists : List (List ℕ)) (nodes : List TreeNode) (i : ℕ) → length nodes ≤ i → gathered lists (drop i nodes) ≡ lists
 unfolding gathered
 gathered_end lists nodes i ge = ap (gathered lists) (drop_all i nodes ge)

@@ -44,6 +44,7 @@ spelt-begun text plan s = record {
   begins = plan_drafted s.form plan s.spellable s.fields s.asked ∙ sym (plan_text_lines s.form plan s.spellable s.fields) ∙ ap lines_of (sym s.is_text) ∙ sym (append-nil (lines_of text));
 }
 
+-- a text that spells a plan has no fault, though want of memory may be told of it
 pub no_fault : (text : List ℕ) (plan : Plan) (fault : PlanFault) → SpellsPlan text plan → IsFault text fault → fault ≡ faults.OutOfMemory
 no_fault text plan (faults.Line at) s f = absurd (not-begun text at f (spelt-begun text plan s))
 no_fault text plan (faults.Ended at) s f = absurd (f.unfinished_text plan s)
@@ -52,6 +53,7 @@ no_fault text plan faults.OutOfMemory s f = refl
 one-place : (text : List ℕ) (a b : ℕ) → IsMisplaced text a → IsMisplaced text b → a ≡ b
 one-place text a b m n = m.place ∙ ap (λ ls. length (text_of ls)) (once IsBegun front m.before n.before m.line n.line m.after n.after (sym m.lines ∙ n.lines) m.begun m.bad n.begun n.bad) ∙ sym n.place
 
+-- two faults of a text are the same, or one of them is want of memory
 pub one_fault : (text : List ℕ) (one other : PlanFault) → IsFault text one → IsFault text other → (one ≡ faults.OutOfMemory) ⊎ ((other ≡ faults.OutOfMemory) ⊎ (one ≡ other))
 one_fault text faults.OutOfMemory other f g = inl refl
 one_fault text (faults.Line a) faults.OutOfMemory f g = inr (inl refl)
@@ -63,10 +65,12 @@ one_fault text (faults.Ended a) (faults.Ended b) f g = inr (inr (ap (λ x. fault
 
 -- ---- what is answered
 
+-- where a plan is answered, the text spells it
 pub answers_plan : (text : List ℕ) (r : Result Plan PlanFault) → Gives r (plan_of text) → IfOk r (SpellsPlan text)
 answers_plan text (Ok plan) g = spells_takes text plan g
 answers_plan text (Err fault) g = tt
 
+-- where a fault is answered, it is a fault of the text
 pub answers_fault : (text : List ℕ) (r : Result Plan PlanFault) → Gives r (plan_of text) → IfErr r (IsFault text)
 answers_fault text (Ok plan) g = tt
 answers_fault text (Err (faults.Line at)) g = told_line text at g
@@ -79,10 +83,12 @@ read plan = Ok plan
 same : (one other : Plan) → read one ≡ read other → one ≡ other
 same one other e = cc
 
+-- of a text that spells a plan, this plan or want of memory is answered
 pub answers_only_plan : (text : List ℕ) (r : Result Plan PlanFault) → Gives r (plan_of text) → (plan : Plan) → SpellsPlan text plan → OnlyPlan r plan
 answers_only_plan text (Ok found) g plan s = same found plan (sym g ∙ spells_again text plan s)
 answers_only_plan text (Err fault) g plan s = no_fault text plan fault s (answers_fault text (Err fault) g)
 
+-- of a text with a fault other than want of memory, this fault or want of memory is answered
 pub answers_only_fault : (text : List ℕ) (r : Result Plan PlanFault) → Gives r (plan_of text) → (fault : PlanFault) → IsFault text fault → OnlyFault r fault
 answers_only_fault text (Ok found) g fault f = no_fault text found fault (answers_plan text (Ok found) g) f
 answers_only_fault text (Err told) g fault f = one_fault text told fault (answers_fault text (Err told) g) f

@@ -275,6 +275,7 @@ module _ (s : Stated) (draft : IsDraft s) (long : length s.lists ≡ s.stated) w
           let only : whole end_line ∷ (k ∷ b.more) ≡ whole end_line ∷ [] = follows (whole end_line) shorter ∙ ap (λ t. cond t (whole end_line ∷ []) []) complete in
           absurd (omega (arith, ap length only))
 
+-- where reading stops, the lines before begin a draft, and with the line at the stop they do not
 pub whole_stops : (ls bad : List Line) → whole_plan ls ≡ Err bad → StopsWell ls bad
 unfolding whole_plan
 whole_stops ls bad e = by (before_end ls) refl e
@@ -315,6 +316,7 @@ stopped-at text fault e = by (whole_plan (lines_of text)) refl e
     by (Ok plan) h f = absurd cc
     by (Err bad) h f = (bad, h, cc)
 
+-- where a line is told, it cannot stand there, and all lines before it can
 pub told_line : (text : List ℕ) (at : ℕ) → plan_of text ≡ Err (faults.Line at) → IsMisplaced text at
 told_line text at e = (let (bad, h, is) = stopped-at text (faults.Line at) e in by bad (whole_stops (lines_of text) bad h) is)
   where
@@ -324,6 +326,7 @@ told_line text at e = (let (bad, h, is) = stopped-at text (faults.Line at) e in 
         let place : length text - length (text_of (l ∷ after)) ≡ at = cc in
         record { before = s.front; line = l; after = after; lines = s.parts; place = sym place ∙ place-of-front text s.front (l ∷ after) s.parts; begun = s.begun; bad = s.refused l after refl }
 
+-- where the end is told, all lines of the text can stand, and it spells no plan
 pub told_end : (text : List ℕ) (at : ℕ) → plan_of text ≡ Err (faults.Ended at) → IsUnfinished text at
 told_end text at e = (let (bad, h, is) = stopped-at text (faults.Ended at) e in by bad (whole_stops (lines_of text) bad h) is)
   where

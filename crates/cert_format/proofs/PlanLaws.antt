@@ -23,7 +23,31 @@ use Rattle.cert_format.specs.declared.reading.Head.{Head}
 use Rattle.plan_words.specs.Lines.{Line, whole, text_of, lines_of}
 use Rattle.cert_format.specs.Versions.{TellsCuts, HasLines, is_asked}
 use Rattle.cert_format.specs.Lists.{lists_in, named_from, AreNamed, AreNew}
-use Rattle.cert_format.specs.Grammar.{number_line, cost_line, bound_line, cut_line, price_line, end_line, head_lines, design_lines, bound_lines, cut_lines, price_lines, front_lines, tree_lines, lines_with, plan_lines, plan_text, CanTell, HasCutFields, HasRecordFields, HasDesignFields, IsBoundField, HasFields, SpellsPlan}
+use Rattle.cert_format.specs.Grammar.{
+  number_line,
+  cost_line,
+  bound_line,
+  cut_line,
+  price_line,
+  end_line,
+  head_lines,
+  design_lines,
+  bound_lines,
+  cut_lines,
+  price_lines,
+  front_lines,
+  tree_lines,
+  lines_with,
+  plan_lines,
+  plan_text,
+  CanTell,
+  HasCutFields,
+  HasRecordFields,
+  HasDesignFields,
+  IsBoundField,
+  HasFields,
+  SpellsPlan,
+}
 use Rattle.cert_format.specs.Drafts.{IsGrown, Stated, AreListed, IsDraft, has_counts, is_complete, front_of, tree_of, closing, draft_lines}
 use Rattle.cert_format.specs.Bodies.{fixed_of, number_row, cost_allowed, cost_of, bound_of, load_cut_row}
 use Rattle.cert_format.specs.Reading.{Reader, ◌>>=◌, bind, done, one, many, head, design_of, design, bound, load_cuts, list_count, front_with, entries_of, opening, lists, records, tree, tree_with, ground_with, stated_on, before_end, last_line, ending, whole_plan, read_as, plan_of}
@@ -31,11 +55,42 @@ use Rattle.plan_words.proofs.Cutting.{text_of_lines, lines_of_text}
 use Rattle.cert_format.proofs.BodyLaws.{IsCost, fixed_takes, fixed_again, number_row_takes, number_row_again, cost_takes, cost_again, bound_takes, bound_again}
 use Rattle.cert_format.proofs.CutLaws.{GoodCut, good_cuts, cut_takes, cut_again, cut_numbers_small}
 use Rattle.cert_format.proofs.ListLaws.{AreReady, good_listed, lists_ready, lists_told}
-use Rattle.cert_format.proofs.ReadingLaws.{read_one, bind_ok, taken, and_then, done_parts, done_is, one_line, one_again, many_takes, many_again, IsHead, lines_of_head, head_takes, head_again, both-of, after_cost, cost_in, IsDesignIn, design_of_takes, design_of_again, lists_take, lists_again, lists_short, IsGround, FitsGround, line_on, grown_takes, grown_again, grown_whole}
+use Rattle.cert_format.proofs.ReadingLaws.{
+  read_one,
+  bind_ok,
+  taken,
+  and_then,
+  done_parts,
+  done_is,
+  one_line,
+  one_again,
+  many_takes,
+  many_again,
+  IsHead,
+  lines_of_head,
+  head_takes,
+  head_again,
+  both-of,
+  after_cost,
+  cost_in,
+  IsDesignIn,
+  design_of_takes,
+  design_of_again,
+  lists_take,
+  lists_again,
+  lists_short,
+  IsGround,
+  FitsGround,
+  line_on,
+  grown_takes,
+  grown_again,
+  grown_whole,
+}
 use Rattle.cert_format.proofs.Lacking.{plan_lacks}
 
 -- ---- cost and design
 
+-- a cost, or none, that the status allows, and a design of it that fits
 pub record IsDesignRead (h : Head) (o : Option (ℕ × Design)) : Type 0 where
   pub cost : IsCost h.status (cost_in o)
   pub design_in : IsDesignIn h.demands h.links o
@@ -45,6 +100,7 @@ unfolding design_lines
 lines-of-design None = refl
 lines-of-design (Some d) = refl
 
+-- a cost and design that are read fit the first five lines, and the lines taken are theirs
 pub design_takes : (h : Head) (ls : List Line) (o : Option (ℕ × Design)) (rest : List Line) → design h ls ≡ read_one o rest → IsDesignRead h o × (ls ≡ map whole (design_lines o) ++ rest)
 unfolding design
 design_takes h ls o rest e =
@@ -56,6 +112,7 @@ design_takes h ls o rest e =
       line ∙ ap (λ b. whole b ∷ us) (c.1 ∙ ap cost_line (sym d.0)) ∙ ap (λ us. whole (cost_line (cost_in o)) ∷ us) d.2 ∙ ap (λ bs. map whole bs ++ rest) (lines-of-design o),
     )
 
+-- the lines of a cost and design that fit the first five lines are read as these
 pub design_again : (h : Head) (o : Option (ℕ × Design)) (rest : List Line) → IsDesignRead h o → design h (map whole (design_lines o) ++ rest) ≡ Ok (o, rest)
 unfolding design
 design_again h o rest d =
@@ -66,6 +123,7 @@ design_again h o rest d =
 
 -- ---- the bound
 
+-- a bound as the status asks for it: one that fits its field, or none, and none where the plan is decided
 abbrev pub IsBoundRead : PlanStatus → Option ℤ → Type 0
 IsBoundRead Optimal b = IsNone b
 IsBoundRead Infeasible b = IsNone b
@@ -74,6 +132,7 @@ IsBoundRead Undecided b = IfSome b IsBoundField
 none-read : (b : Option ℤ) (ls rest : List Line) → done None ls ≡ read_one b rest → IsNone b × (ls ≡ rest)
 none-read b ls rest e = (let p = done_parts {A = Option ℤ} None b ls rest e in (subst IsNone p.0 refl, p.1))
 
+-- a bound that is read is as the status asks for it, and the lines taken are its own
 pub bound_read_takes : (s : PlanStatus) (ls : List Line) (b : Option ℤ) (rest : List Line) → bound s ls ≡ read_one b rest → IsBoundRead s b × (ls ≡ map whole (bound_lines s b) ++ rest)
 unfolding bound bound_lines
 bound_read_takes Optimal ls b rest e = none-read b ls rest e
@@ -87,6 +146,7 @@ none-again : (b : Option ℤ) (rest : List Line) → IsNone b → done None rest
 none-again None rest h = done_is {A = Option ℤ} None rest
 none-again (Some x) rest h = absurd cc
 
+-- the lines of a bound that is as the status asks for it are read as this bound
 pub bound_read_again : (s : PlanStatus) (b : Option ℤ) (rest : List Line) → IsBoundRead s b → bound s (map whole (bound_lines s b) ++ rest) ≡ Ok (b, rest)
 unfolding bound bound_lines
 bound_read_again Optimal b rest h = none-again b rest h
@@ -95,6 +155,7 @@ bound_read_again Undecided b rest h = one_again bound_of (bound_line b) b rest (
 
 -- ---- the tree
 
+-- a stated count, and records that fit the ground, up to the end of the tree or as many as stated
 pub record IsTreeRead (g : Ground) (count : ℕ) (nodes : List TreeNode) : Type 0 where
   pub some : 1 ≤ count
   pub few : count ≤ MAX_RECORDS
@@ -103,9 +164,11 @@ pub record IsTreeRead (g : Ground) (count : ℕ) (nodes : List TreeNode) : Type 
   pub has_lines : HasLines g.form nodes
   pub names : AreNamed g.form g.lists 0 nodes
 
+-- the line with the stated count of records, and the lines of records
 abbrev pub lines_of_tree : Ground → ℕ → List TreeNode → List (List ℕ)
 lines_of_tree g count nodes = number_line (codes "TREE") count ∷ map (line_on g) nodes
 
+-- a count and records that are read fit the ground, and the lines taken are theirs
 pub tree_takes : (g : Ground) → IsGround g → (ls : List Line) (x : ℕ × List TreeNode) (rest : List Line) → tree g ls ≡ read_one x rest → IsTreeRead g x.0 x.1 × (ls ≡ map whole (lines_of_tree g x.0 x.1) ++ rest)
 unfolding tree
 tree_takes g good ls x rest e =
@@ -120,16 +183,19 @@ tree_takes g good ls x rest e =
       line ∙ ap (λ bs. whole bs ∷ us) n.2 ∙ ap (λ us. whole (number_line (codes "TREE") count) ∷ us) (t.lines ∙ ap (λ ws. map whole (map (line_on g) nodes) ++ ws) p.1),
     )
 
+-- the lines of a count and of records that fit the ground are read as these
 pub tree_again : (g : Ground) → IsGround g → g.nodes ≤ MAX_NODES → (count : ℕ) (nodes : List TreeNode) (rest : List Line) → IsTreeRead g count nodes → tree g (map whole (lines_of_tree g count nodes) ++ rest) ≡ Ok ((count, nodes), rest)
 unfolding tree
 tree_again g good small count nodes rest t =
-    and_then (one (number_row (codes "TREE") 1 MAX_RECORDS)) (λ count. bind (records g 0 count 1) λ nodes. done (tree_with count nodes)) (whole (number_line (codes "TREE") count) ∷ (map whole (map (line_on g) nodes) ++ rest)) count (map whole (map (line_on g) nodes) ++ rest) (Ok ((count, nodes), rest))
+    and_then (one (number_row (codes "TREE") 1 MAX_RECORDS)) (λ count. bind (records g 0 count 1) λ nodes. done (tree_with count nodes))
+    (whole (number_line (codes "TREE") count) ∷ (map whole (map (line_on g) nodes) ++ rest)) count (map whole (map (line_on g) nodes) ++ rest) (Ok ((count, nodes), rest))
     (one_again (number_row (codes "TREE") 1 MAX_RECORDS) (number_line (codes "TREE") count) count (map whole (map (line_on g) nodes) ++ rest) (number_row_again (codes "TREE") 1 MAX_RECORDS count (omega arith) t.some t.few))
     (and_then (records g 0 count 1) (λ nodes. done (tree_with count nodes)) (map whole (map (line_on g) nodes) ++ rest) nodes rest (Ok ((count, nodes), rest))
     (grown_again g good small 0 count 1 nodes rest t.grown t.each t.has_lines t.names) (done_is (tree_with count nodes) rest))
 
 -- ---- the cuts
 
+-- few enough cuts, with an answer for each node and numbers that fit, for which the version has lines
 pub record AreCutsRead (form : Form) (nodes : ℕ) (cuts : List LoadCut) : Type 0 where
   pub few : length cuts ≤ MAX_CUTS
   pub each : AllByRecursion (GoodCut nodes) cuts
@@ -169,11 +235,13 @@ cuts-again Third nodes cuts rest few c =
 
 -- ---- how many price lists are stated
 
+-- how many price lists a text of the version may state: the first one has none
 abbrev pub IsListCount : Form → ℕ → Type 0
 IsListCount First stated = stated ≡ 0
 IsListCount Second stated = stated ≤ MAX_LISTS
 IsListCount Third stated = stated ≤ MAX_LISTS
 
+-- the line that states how many price lists there are, where the version has it
 abbrev pub count_lines : Form → ℕ → List (List ℕ)
 count_lines First stated = []
 count_lines Second stated = number_line (codes "PRICES") stated ∷ []
@@ -206,18 +274,23 @@ list-count-again Third n rest h = count-again n rest h
 abbrev pub Front : Type 0
 Front = Head × Option (ℕ × Design) × Option ℤ × List LoadCut × ℕ
 
+-- reads what stands before the price lists from their count on
 abbrev pub front4 : Head → Option (ℕ × Design) → Option ℤ → List LoadCut → Reader Front
 front4 h d b cuts = bind (list_count h.form) λ stated. done (front_with h d b cuts stated)
 
+-- reads what stands before the price lists from the cuts on
 abbrev pub front3 : Head → Option (ℕ × Design) → Option ℤ → Reader Front
 front3 h d b = bind (load_cuts h.form h.nodes) λ cuts. front4 h d b cuts
 
+-- reads what stands before the price lists from the bound on
 abbrev pub front2 : Head → Option (ℕ × Design) → Reader Front
 front2 h d = bind (bound h.status) λ b. front3 h d b
 
+-- reads what stands before the price lists from the cost on
 abbrev pub front1 : Head → Reader Front
 front1 h = bind (design h) λ d. front2 h d
 
+-- what stands before the price lists, each part of it as it has to be
 pub record IsFront (f : Front) : Type 0 where
   pub head_is : IsHead f.0
   pub design_is : IsDesignRead f.0 f.1
@@ -229,6 +302,7 @@ pub record IsFront (f : Front) : Type 0 where
 abbrev pub front_text : Front → List Line → List Line
 front_text f rest = map whole (lines_of_head f.0) ++ (map whole (design_lines f.1) ++ (map whole (bound_lines f.0.status f.2) ++ (map whole (cut_lines f.0.form f.3) ++ (map whole (count_lines f.0.form f.4) ++ rest))))
 
+-- what is read before the price lists is as it has to be, and the lines taken are its own
 pub front_takes : (ls : List Line) (f : Front) (rest : List Line) → opening ls ≡ read_one f rest → IsFront f × (ls ≡ front_text f rest)
 unfolding opening
 front_takes ls f rest e =
@@ -248,6 +322,7 @@ front_takes ls f rest e =
       hh.1 ∙ ap (λ us. map whole (lines_of_head h) ++ us) (dd.1 ∙ ap (λ vs. map whole (design_lines d) ++ vs) (bb.1 ∙ ap (λ ws. map whole (bound_lines h.status b) ++ ws) (cs.1 ∙ ap (λ ys. map whole (cut_lines h.form cuts) ++ ys) (nn.1 ∙ ap (λ zs. map whole (count_lines h.form n) ++ zs) p.1)))),
     )
 
+-- the lines of what may stand before the price lists are read as this
 pub front_again : (f : Front) (rest : List Line) → IsFront f → opening (front_text f rest) ≡ Ok (f, rest)
 unfolding opening
 front_again f rest g =
@@ -270,6 +345,7 @@ front_again f rest g =
 abbrev pub entries_on : Front → ℕ
 entries_on f = entries_of f.0 f.3
 
+-- what the lines of the tree depend on, where this stands before the price lists, and these are the lists
 abbrev pub ground_on : Front → List (List ℕ) → Ground
 ground_on f found = ground_with f.0 f.3 found
 
@@ -285,7 +361,8 @@ pub front_same : (f : Front) (found : List (List ℕ)) (t : ℕ × List TreeNode
     → front_text f (map whole (map price_line found) ++ rest) ≡ front_of (stated_on f found t) ++ rest
 unfolding front_lines head_lines
 front_same f found t rest count listed =
-    sym (ap (λ ws. ws ++ rest) (five (lines_of_head f.0) (design_lines f.1) (bound_lines f.0.status f.2) (cut_lines f.0.form f.3) (price_lines f.0.form f.4 found)) ∙ regroup (map whole (lines_of_head f.0)) (map whole (design_lines f.1)) (map whole (bound_lines f.0.status f.2)) (map whole (cut_lines f.0.form f.3)) (map whole (price_lines f.0.form f.4 found)) rest
+    sym (ap (λ ws. ws ++ rest) (five (lines_of_head f.0) (design_lines f.1) (bound_lines f.0.status f.2) (cut_lines f.0.form f.3) (price_lines f.0.form f.4 found))
+    ∙ regroup (map whole (lines_of_head f.0)) (map whole (design_lines f.1)) (map whole (bound_lines f.0.status f.2)) (map whole (cut_lines f.0.form f.3)) (map whole (price_lines f.0.form f.4 found)) rest
     ∙ ap (λ ws. map whole (lines_of_head f.0) ++ (map whole (design_lines f.1) ++ (map whole (bound_lines f.0.status f.2) ++ (map whole (cut_lines f.0.form f.3) ++ ws)))) (prices-split f.0.form (entries_on f) f.4 found rest listed))
   where
     five : (a b c d e : List (List ℕ)) → map whole (a ++ (b ++ (c ++ (d ++ e)))) ≡ map whole a ++ (map whole b ++ (map whole c ++ (map whole d ++ map whole e)))
@@ -300,18 +377,22 @@ pub record AreParts (f : Front) (found : List (List ℕ)) (t : ℕ × List TreeN
   pub listed : AreListed f.0.form (entries_on f) f.4 found
   pub tree_is : IsTreeRead (ground_on f found) t.0 t.1
 
+-- as many different price lists as stated are price lists as the version has them
 pub listed_from : (form : Form) (entries n : ℕ) (found : List (List ℕ)) → IsListCount form n → length found ≡ n → AreNew entries [] found → AreListed form entries n found
 listed_from First entries n [] count long new = (count, refl)
 listed_from First entries n (list ∷ found) count long new = (let zero_is : n ≡ 0 = count in absurd (omega (arith, zero_is, long)))
 listed_from Second entries n found count long new = (count, omega (arith, long), new)
 listed_from Third entries n found count long new = (count, omega (arith, long), new)
 
+-- reads the tree behind the price lists, and gives what is stated
 abbrev pub before2 : Front → List (List ℕ) → Reader Stated
 before2 f found = bind (tree (ground_on f found)) λ t. done (stated_on f found t)
 
+-- reads the price lists and the tree, and gives what is stated
 abbrev pub before1 : Front → Reader Stated
 before1 f = bind (lists (entries_on f) f.4 []) λ found. before2 f found
 
+-- what is read before the last line has parts as they have to be and all lists; the lines taken are its own
 pub parts_take : (ls : List Line) (x : Stated) (rest : List Line) → before_end ls ≡ read_one x rest
     → (f : Front) × (found : List (List ℕ)) × (t : ℕ × List TreeNode) × AreParts f found t × (length found ≡ f.4) × (stated_on f found t ≡ x) × (ls ≡ front_of (stated_on f found t) ++ (tree_of (stated_on f found t) ++ rest))
 unfolding before_end
@@ -341,6 +422,7 @@ new-from First entries n found h = subst (AreNew entries []) (sym h.1) tt
 new-from Second entries n found h = h.2
 new-from Third entries n found h = h.2
 
+-- the lines of parts that are as they have to be, with all price lists stated, are read as what these state
 pub parts_again : (f : Front) (found : List (List ℕ)) (t : ℕ × List TreeNode) (rest : List Line) → AreParts f found t → length found ≡ f.4
     → before_end (front_of (stated_on f found t) ++ (tree_of (stated_on f found t) ++ rest)) ≡ Ok (stated_on f found t, rest)
 unfolding before_end
@@ -401,6 +483,7 @@ seconds : (nodes links : ℕ) (ns : List TreeNode) → AllByRecursion (FitsRecor
 seconds nodes links [] h k = tt
 seconds nodes links (n ∷ ns) h k = ((h.0, k.0), seconds nodes links ns h.1 k.1)
 
+-- parts that are as they have to be state a draft
 pub draft_from : (f : Front) (found : List (List ℕ)) (t : ℕ × List TreeNode) → AreParts f found t → IsDraft (stated_on f found t)
 draft_from f found t g =
     let h : Head = f.0 in
@@ -429,9 +512,11 @@ draft_from f found t g =
       named = g.tree_is.names;
     }
 
+-- what the first five lines of a draft tell
 abbrev pub head_of : Stated → Head
 head_of s = record { form = s.form; nodes = s.plan.nodes; links = s.plan.links; demands = s.plan.demands; both = s.plan.both; status = s.plan.status; budget = s.plan.budget; examined = s.plan.examined }
 
+-- what stands before the price lists of a draft
 abbrev pub front_parts : Stated → Front
 front_parts s = (head_of s, s.plan.design, s.plan.bound, s.plan.cuts, s.stated)
 
@@ -464,6 +549,7 @@ count-by Third entries n found h = h.0
 cuts-by : (form : Form) (nodes : ℕ) (cuts : List LoadCut) → FitsCuts nodes cuts → TellsCuts form cuts → AllByRecursion HasCutFields cuts → AreCutsRead form nodes cuts
 cuts-by form nodes cuts fits told fields = record { few = fits.few; each = good_cuts nodes cuts fits fields; told = told }
 
+-- the parts of a draft are as they have to be
 pub parts_from : (s : Stated) → IsDraft s → AreParts (front_parts s) s.lists (s.count, s.plan.tree)
 parts_from s g =
     let plan : Plan = s.plan in
@@ -479,14 +565,17 @@ parts_from s g =
       tree_is = record { some = g.some; few = g.few; grown = g.grown; each = seconds plan.nodes (numbers_in plan) plan.tree g.records g.fields.record_fields; has_lines = g.lines; names = g.named };
     }
 
+-- what is read before the last line is a draft with all price lists stated, and the lines taken are its own
 pub draft_takes : (ls : List Line) (s : Stated) (rest : List Line) → before_end ls ≡ read_one s rest → IsDraft s × (length s.lists ≡ s.stated) × (ls ≡ front_of s ++ (tree_of s ++ rest))
 draft_takes ls s rest e =
     let (f, found, t, g, long, is, lines) = parts_take ls s rest e in
     subst (λ (s : Stated). IsDraft s × (length s.lists ≡ s.stated) × (ls ≡ front_of s ++ (tree_of s ++ rest))) is (draft_from f found t g, long, lines)
 
+-- the lines of a draft with all price lists stated are read as this draft
 pub draft_again : (s : Stated) (rest : List Line) → IsDraft s → length s.lists ≡ s.stated → before_end (front_of s ++ (tree_of s ++ rest)) ≡ Ok (s, rest)
 draft_again s rest g long = parts_again (front_parts s) s.lists (s.count, s.plan.tree) rest (parts_from s g) long
 
+-- where price lists lack in a draft, reading stops at the end behind those that are there
 pub draft_short : (s : Stated) → IsDraft s → length s.lists < s.stated → before_end (front_of s) ≡ Err []
 draft_short s g short = (let p = parts_from s g in parts_short (front_parts s) s.lists (s.count, s.plan.tree) p.front_is p.listed short)
 
@@ -512,6 +601,7 @@ whole-lines s long lists_are count =
     ∙ ap (λ n. map whole (front_lines s.form (length s.lists) s.lists s.plan ++ (tree_lines s.form s.lists n s.plan.tree ++ end_line ∷ []))) (sym count)
     ∙ ap (λ ls. map whole (lines_with s.form ls s.plan)) lists_are
 
+-- lines that are read as a plan are those of a plan that can be spelt, in one of the versions
 pub whole_takes : (ls : List Line) (plan : Plan) → whole_plan ls ≡ Ok plan → IsToldBy ls plan
 unfolding whole_plan
 whole_takes ls plan e =
@@ -560,11 +650,13 @@ whole_takes ls plan e =
 abbrev pub stated_by : Form → Plan → Stated
 stated_by form plan = record { form = form; stated = length (lists_in form plan.tree); lists = lists_in form plan.tree; count = length plan.tree; plan = plan }
 
+-- the price lists of a plan that can be spelt can be told in a text of each version
 pub plan_ready : (form : Form) (plan : Plan) → IsSpellable plan → HasFields plan → AreReady form (numbers_in plan) plan.tree
 plan_ready form plan s f =
     lists_ready form plan.nodes (numbers_in plan) plan.tree s.whole s.records.few
     (seconds plan.nodes (numbers_in plan) plan.tree (recursion_from_All (FitsRecord plan.nodes (numbers_in plan)) plan.tree s.records.each) f.record_fields)
 
+-- what the text of a plan states is a draft, where the plan can be spelt and the version can tell it
 pub spelled_draft : (form : Form) (plan : Plan) → IsSpellable plan → HasFields plan → CanTell form plan.both → TellsCuts form plan.cuts → HasLines form plan.tree → IsDraft (stated_by form plan)
 spelled_draft form plan s f told cuts_told lines =
     let r = plan_ready form plan s f in
@@ -608,6 +700,7 @@ plan_drafted form plan s f asked =
     ∙ ap (λ b. front_of x ++ (tree_of x ++ cond b (whole end_line ∷ []) [])) (plan-complete form plan s f asked)
     ∙ whole-lines x refl refl refl
 
+-- the lines of a plan that can be spelt, in a version that can tell it and is asked for, are read as it
 pub whole_again : (form : Form) (plan : Plan) → IsSpellable plan → HasFields plan → CanTell form plan.both → TellsCuts form plan.cuts → HasLines form plan.tree → IsTrue (is_asked form plan.cuts plan.tree) → whole_plan (map whole (plan_lines form plan)) ≡ Ok plan
 unfolding whole_plan
 whole_again form plan s f told cuts_told lines asked =
@@ -619,6 +712,7 @@ whole_again form plan s f told cuts_told lines asked =
 
 -- ---- texts
 
+-- a text that is read as a plan spells this plan
 pub spells_takes : (text : List ℕ) (plan : Plan) → plan_of text ≡ Ok plan → SpellsPlan text plan
 unfolding plan_of plan_text
 spells_takes text plan e =
@@ -633,11 +727,13 @@ nil-lines : (ls : List Line) → ls ++ lines_of [] ≡ ls
 unfolding lines_of
 nil-lines ls = append-nil ls
 
+-- the text of a plan that can be spelt, cut into lines, gives the lines of this plan
 pub plan_text_lines : (form : Form) (plan : Plan) → IsSpellable plan → HasFields plan → lines_of (plan_text form plan) ≡ map whole (plan_lines form plan)
 unfolding plan_text
 plan_text_lines form plan s f =
     ap lines_of (sym (append-nil (text_of (map whole (plan_lines form plan))))) ∙ lines_of_text (plan_lines form plan) [] (plan_lacks form plan s f (plan_ready form plan s f)) ∙ nil-lines (map whole (plan_lines form plan))
 
+-- a text that spells a plan is read as this plan
 pub spells_again : (text : List ℕ) (plan : Plan) → SpellsPlan text plan → plan_of text ≡ Ok plan
 unfolding plan_of
 spells_again text plan s =

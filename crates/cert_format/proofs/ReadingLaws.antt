@@ -30,15 +30,18 @@ use Rattle.cert_format.proofs.ShownLaws.{record_in_takes, record_in_again}
 
 -- ---- answers
 
+-- a value that was read, with the lines behind it
 abbrev pub read_one : {A : Type 0} → A → List Line → Result (A × List Line) (List Line)
 read_one x rest = Ok (x, rest)
 
 same-ok : {A : Type 0} (p q : A × List Line) → read_one p.0 p.1 ≡ read_one q.0 q.1 → p ≡ q
 same-ok p q e = cc
 
+-- where two things read are equal, so are the values, and so are the lines behind them
 pub ok-parts : {A : Type 0} (x y : A) (a b : List Line) → read_one x a ≡ read_one y b → (x ≡ y) × (a ≡ b)
 ok-parts {A} x y a b e = let s = same-ok (x, a) (y, b) e in (ap (λ (p : A × List Line). p.0) s, ap (λ (p : A × List Line). p.1) s)
 
+-- where something is read in two parts, the first part was read, and so was what goes on from it
 pub bind_ok : {A B : Type 0} (r : Result A (List Line)) (f : A → Result B (List Line)) (y : B) → (r >>= f) ≡ Ok y → (x : A) × (r ≡ Ok x) × (f x ≡ Ok y)
 bind_ok (Ok x) f y e = (x, refl, e)
 bind_ok (Err ls) f y e = absurd cc
@@ -48,14 +51,17 @@ pub taken : {A B : Type 0} (r : Reader A) (s : A → Reader B) (ls : List Line) 
 unfolding bind
 taken r s ls y rest e = let (p, first, later) = bind_ok (r ls) (λ p. s p.0 p.1) (y, rest) e in (p.0, p.1, first, later)
 
+-- where the first of two readers gives a value, both give what the second one gives from there on
 pub and_then : {A B : Type 0} (r : Reader A) (s : A → Reader B) (ls : List Line) (x : A) (us : List Line) (o : Result (B × List Line) (List Line)) → r ls ≡ Ok (x, us) → s x us ≡ o → bind r s ls ≡ o
 unfolding bind
 and_then r s ls x us o e f = ap (λ t. t >>= λ p. s p.0 p.1) e ∙ f
 
+-- a reader that reads nothing gives its own value and leaves all lines
 pub done_parts : {A : Type 0} (x y : A) (a b : List Line) → done x a ≡ read_one y b → (x ≡ y) × (a ≡ b)
 unfolding done
 done_parts x y a b e = ok-parts x y a b e
 
+-- where one line is read, it is whole and the first one, and the value is what it is read as
 pub one_line : {A : Type 0} (f : List ℕ → Option A) (ls : List Line) (x : A) (rest : List Line) → one f ls ≡ read_one x rest → (body : List ℕ) × (ls ≡ whole body ∷ rest) × (f body ≡ Some x)
 unfolding one
 one_line f [] x rest e = absurd cc
@@ -66,16 +72,19 @@ one_line {A} f (whole body ∷ ls) x rest e = by (f body) refl e
     by None h e = absurd cc
     by (Some y) h e = (let p = ok-parts y x ls rest e in (body, ap (λ us. whole body ∷ us) p.1, h ∙ ap (λ z. Some z) p.0))
 
+-- a whole line that can be read is read from lines that begin with it
 pub one_again : {A : Type 0} (f : List ℕ → Option A) (body : List ℕ) (x : A) (rest : List Line) → f body ≡ Some x → one f (whole body ∷ rest) ≡ Ok (x, rest)
 unfolding one
 one_again f body x rest e = ap (judged (whole body) rest) e
 
+-- reading nothing gives the value and leaves all lines
 pub done_is : {A : Type 0} (x : A) (rest : List Line) → done x rest ≡ Ok (x, rest)
 unfolding done
 done_is x rest = refl
 
 -- ---- many lines
 
+-- where so many lines of a kind are read, there are so many good items, and the lines taken are theirs
 pub many_takes : {A : Type 0} (f : List ℕ → Option A) (Good : A → Type 0) (print : A → List ℕ) → ((body : List ℕ) (x : A) → f body ≡ Some x → Good x × (body ≡ print x))
     → (n : ℕ) (ls : List Line) (xs : List A) (rest : List Line) → many n f ls ≡ read_one xs rest → (length xs ≡ n) × AllByRecursion Good xs × (ls ≡ map whole (map print xs) ++ rest)
 unfolding many
@@ -92,6 +101,7 @@ many_takes f Good print law (suc n) ls xs rest e =
       line ∙ ap (λ bs. whole bs ∷ us) here.1 ∙ ap (λ us. whole (print x) ∷ us) there.2 ∙ ap (λ ws. whole (print x) ∷ (map whole (map print ys) ++ ws)) p.1 ∙ ap (λ zs. map whole (map print zs) ++ rest) p.0,
     )
 
+-- the lines of good items are read as these items
 pub many_again : {A : Type 0} (f : List ℕ → Option A) (Good : A → Type 0) (print : A → List ℕ) → ((x : A) → Good x → f (print x) ≡ Some x)
     → (xs : List A) (rest : List Line) → AllByRecursion Good xs → many (length xs) f (map whole (map print xs) ++ rest) ≡ Ok (xs, rest)
 unfolding many
@@ -103,12 +113,14 @@ many_again f Good print law (x ∷ xs) rest h =
 
 -- ---- the five lines that begin each text
 
+-- what the first five lines tell is within its limits, and the version can tell it
 pub record IsHead (h : Head) : Type 0 where
   pub told : AreTold h.form (sizes_at h.nodes h.links h.demands h.both)
   pub some_budget : 1 ≤ h.budget
   pub budget : h.budget ≤ MAX_BUDGET
   pub examined : h.examined < 2 ^ 32
 
+-- the five lines that begin a text which tells this
 abbrev pub lines_of_head : Head → List (List ℕ)
 lines_of_head h = header_line h.form ∷ size_line h.form h.nodes h.links h.demands h.both ∷ status_line h.status ∷ number_line (codes "BUDGET") h.budget ∷ number_line (codes "EXAMINED") h.examined ∷ []
 
@@ -117,15 +129,19 @@ abbrev pub head4 : Form → Sizes → PlanStatus → ℕ → Reader Head
 head4 form sizes status budget = bind (one (number_row (codes "EXAMINED") 0 (2 ^ 32 - 1))) λ examined.
     done (head_with form sizes status budget examined)
 
+-- reads the first five lines from the budget on
 abbrev pub head3 : Form → Sizes → PlanStatus → Reader Head
 head3 form sizes status = bind (one (number_row (codes "BUDGET") 1 MAX_BUDGET)) λ budget. head4 form sizes status budget
 
+-- reads the first five lines from the status on
 abbrev pub head2 : Form → Sizes → Reader Head
 head2 form sizes = bind (one status_of) λ status. head3 form sizes status
 
+-- reads the first five lines from the sizes on
 abbrev pub head1 : Form → Reader Head
 head1 form = bind (one (size_row form)) λ sizes. head2 form sizes
 
+-- what the first five lines are read as is within its limits, and the lines taken are its own
 pub head_takes : (ls : List Line) (h : Head) (rest : List Line) → head ls ≡ read_one h rest → IsHead h × (ls ≡ map whole (lines_of_head h) ++ rest)
 unfolding head
 head_takes ls h rest e =
@@ -154,6 +170,7 @@ head_takes ls h rest e =
     subst (λ (h : Head). IsHead h × (ls ≡ map whole (lines_of_head h) ++ rest)) p.0
     (record { told = s.0; some_budget = g.0; budget = g.1; examined = omega (arith, x.1) }, lines)
 
+-- the first five lines of what is within its limits are read as this
 pub head_again : (h : Head) (rest : List Line) → IsHead h → head (map whole (lines_of_head h) ++ rest) ≡ Ok (h, rest)
 unfolding head
 head_again h rest g =
@@ -166,19 +183,24 @@ head_again h rest g =
     and_then (one form_of) (λ form. head1 form) (whole (header_line h.form) ∷ ls1) h.form ls1 (Ok (h, rest)) (one_again form_of (header_line h.form) h.form ls1 (form_again h.form))
     (and_then (one (size_row h.form)) (λ sizes. head2 h.form sizes) ls1 sizes ls2 (Ok (h, rest)) (one_again (size_row h.form) (size_line h.form h.nodes h.links h.demands h.both) sizes ls2 (size_again h.form h.nodes h.links h.demands h.both g.told))
     (and_then (one status_of) (λ status. head3 h.form sizes status) ls2 h.status ls3 (Ok (h, rest)) (one_again status_of (status_line h.status) h.status ls3 (status_again h.status))
-    (and_then (one (number_row (codes "BUDGET") 1 MAX_BUDGET)) (λ budget. head4 h.form sizes h.status budget) ls3 h.budget ls4 (Ok (h, rest)) (one_again (number_row (codes "BUDGET") 1 MAX_BUDGET) (number_line (codes "BUDGET") h.budget) h.budget ls4 (number_row_again (codes "BUDGET") 1 MAX_BUDGET h.budget (omega arith) g.some_budget g.budget))
-    (and_then (one (number_row (codes "EXAMINED") 0 (2 ^ 32 - 1))) (λ examined. done (head_with h.form sizes h.status h.budget examined)) ls4 h.examined ls5 (Ok (h, rest)) (one_again (number_row (codes "EXAMINED") 0 (2 ^ 32 - 1)) (number_line (codes "EXAMINED") h.examined) h.examined ls5 (number_row_again (codes "EXAMINED") 0 (2 ^ 32 - 1) h.examined (omega arith) (omega arith) (omega (arith, g.examined))))
+    (and_then (one (number_row (codes "BUDGET") 1 MAX_BUDGET)) (λ budget. head4 h.form sizes h.status budget) ls3 h.budget ls4 (Ok (h, rest))
+    (one_again (number_row (codes "BUDGET") 1 MAX_BUDGET) (number_line (codes "BUDGET") h.budget) h.budget ls4 (number_row_again (codes "BUDGET") 1 MAX_BUDGET h.budget (omega arith) g.some_budget g.budget))
+    (and_then (one (number_row (codes "EXAMINED") 0 (2 ^ 32 - 1))) (λ examined. done (head_with h.form sizes h.status h.budget examined)) ls4 h.examined ls5 (Ok (h, rest))
+    (one_again (number_row (codes "EXAMINED") 0 (2 ^ 32 - 1)) (number_line (codes "EXAMINED") h.examined) h.examined ls5 (number_row_again (codes "EXAMINED") 0 (2 ^ 32 - 1) h.examined (omega arith) (omega arith) (omega (arith, g.examined))))
     (done_is h rest)))))
 
 -- ---- the design
 
+-- a design that fits the counts of demands and links, and its cost and numbers fit their fields
 pub record IsDesignOf (demands links : ℕ) (cost : ℕ) (d : Design) : Type 0 where
   pub fits : FitsDesign demands links d
   pub fields : HasDesignFields cost d
 
+-- a path that is short enough, and of arcs that fit their fields
 abbrev pub GoodPath : List ArcId → Type 0
 GoodPath arcs = (length arcs ≤ MAX_PATH_ARCS) × AreArcs arcs
 
+-- few enough counts of modules, each below 2^64
 abbrev pub GoodCounts : List ℕ → Type 0
 GoodCounts counts = (length counts ≤ MAX_MODULES) × AllByRecursion (λ c. c < 2 ^ 64) counts
 
@@ -188,10 +210,12 @@ path-law body arcs e = let p = path_takes body arcs e in ((p.0, p.1), p.2)
 counts-law : (body counts : List ℕ) → modules_of body ≡ Some counts → GoodCounts counts × (body ≡ modules_line counts)
 counts-law body counts e = let p = modules_takes body counts e in ((p.0, p.1), p.2)
 
+-- where two facts hold of each item, the one holds of all items, and so does the other
 pub both-of : {A : Type 0} (P Q : A → Type 0) (xs : List A) → AllByRecursion (λ x. P x × Q x) xs → AllByRecursion P xs × AllByRecursion Q xs
 both-of P Q [] h = (tt, tt)
 both-of P Q (x ∷ xs) h = let more = both-of P Q xs h.1 in ((h.0.0, more.0), (h.0.1, more.1))
 
+-- where one fact holds of all items, and so does another, both hold of each item
 pub pair_of : {A : Type 0} (P Q : A → Type 0) (xs : List A) → AllByRecursion P xs → AllByRecursion Q xs → AllByRecursion (λ x. P x × Q x) xs
 pair_of P Q [] h k = tt
 pair_of P Q (x ∷ xs) h k = ((h.0, k.0), pair_of P Q xs h.1 k.1)
@@ -201,13 +225,16 @@ abbrev pub after_cost : Option (ℕ × Design) → List (List ℕ)
 after_cost None = []
 after_cost (Some design) = map path_line design.1.paths ++ map modules_line design.1.counts
 
+-- the cost of a design, where there is one
 abbrev pub cost_in : Option (ℕ × Design) → Option ℕ
 cost_in None = None
 cost_in (Some design) = Some design.0
 
+-- where there is a design, it fits the counts of demands and links, and its arcs and counts fit their fields
 abbrev pub IsDesignIn : ℕ → ℕ → Option (ℕ × Design) → Type 0
 IsDesignIn demands links o = IfSome o (λ design. FitsDesign demands links design.1 × AllByRecursion AreArcs design.1.paths × AllByRecursion (λ counts. AllByRecursion (λ c. c < 2 ^ 64) counts) design.1.counts)
 
+-- a design that is read behind a cost has this cost and fits, and the lines taken are its own
 pub design_of_takes : (demands links : ℕ) (cost : Option ℕ) (ls : List Line) (o : Option (ℕ × Design)) (rest : List Line) → design_of demands links cost ls ≡ read_one o rest
     → (cost_in o ≡ cost) × IsDesignIn demands links o × (ls ≡ map whole (after_cost o) ++ rest)
 unfolding design_of
@@ -240,6 +267,7 @@ design_of_takes demands links (Some cost) ls o rest e =
       lines,
     )
 
+-- the lines behind the cost of a design that fits are read as this design
 pub design_of_again : (demands links : ℕ) (o : Option (ℕ × Design)) (rest : List Line) → IsDesignIn demands links o → design_of demands links (cost_in o) (map whole (after_cost o) ++ rest) ≡ Ok (o, rest)
 unfolding design_of
 design_of_again demands links None rest h = done_is {A = Option (ℕ × Design)} None rest
@@ -252,7 +280,8 @@ design_of_again demands links (Some design) rest h =
     (ap (λ ws. ws ++ rest) (map-append whole (map path_line d.paths) (map modules_line d.counts)) ∙ append_assoc (map whole (map path_line d.paths)) (map whole (map modules_line d.counts)) rest) in
     ap (bind (many demands path_of) λ paths. bind (many links modules_of) λ counts. done (design_with design.0 paths counts)) split
     ∙ and_then (many demands path_of) (λ paths. bind (many links modules_of) λ counts. done (design_with design.0 paths counts)) (map whole (map path_line d.paths) ++ (map whole (map modules_line d.counts) ++ rest)) d.paths (map whole (map modules_line d.counts) ++ rest) (Ok (Some design, rest))
-    (subst (λ n. many n path_of (map whole (map path_line d.paths) ++ (map whole (map modules_line d.counts) ++ rest)) ≡ Ok (d.paths, map whole (map modules_line d.counts) ++ rest)) fits.path_count (many_again path_of GoodPath path_line (λ arcs g. path_again arcs g.0 g.1) d.paths (map whole (map modules_line d.counts) ++ rest) pa))
+    (subst (λ n. many n path_of (map whole (map path_line d.paths) ++ (map whole (map modules_line d.counts) ++ rest)) ≡ Ok (d.paths, map whole (map modules_line d.counts) ++ rest)) fits.path_count
+    (many_again path_of GoodPath path_line (λ arcs g. path_again arcs g.0 g.1) d.paths (map whole (map modules_line d.counts) ++ rest) pa))
     (and_then (many links modules_of) (λ counts. done (design_with design.0 d.paths counts)) (map whole (map modules_line d.counts) ++ rest) d.counts rest (Ok (Some design, rest))
     (subst (λ n. many n modules_of (map whole (map modules_line d.counts) ++ rest) ≡ Ok (d.counts, rest)) fits.list_count (many_again modules_of GoodCounts modules_line (λ counts g. modules_again counts g.0 g.1) d.counts rest pb))
     (done_is (Some design) rest))
@@ -267,6 +296,7 @@ pub record AreRead (entries n : ℕ) (before found : List (List ℕ)) (ls rest :
   pub new : AreNew entries before more
   pub lines : ls ≡ map whole (map price_line more) ++ rest
 
+-- price lists that are read are new and as many as asked for, and the lines taken are theirs
 pub lists_take : (entries n : ℕ) (before : List (List ℕ)) (ls : List Line) (found : List (List ℕ)) (rest : List Line) → lists entries n before ls ≡ read_one found rest → AreRead entries n before found ls rest
 unfolding lists AreNew
 lists_take entries zero before ls found rest e = (let p = done_parts before found ls rest e in record { more = []; all = sym p.0 ∙ sym (append-nil before); count = refl; new = tt; lines = p.1 })
@@ -283,6 +313,7 @@ lists_take entries (suc n) before ls found rest e =
       lines = line ∙ ap (λ bs. whole bs ∷ us) here.1 ∙ ap (λ us. whole (price_line list) ∷ us) there.lines;
     }
 
+-- the lines of new price lists are read as these, behind the lists before them
 pub lists_again : (entries : ℕ) (before more : List (List ℕ)) (rest : List Line) → AreNew entries before more → lists entries (length more) before (map whole (map price_line more) ++ rest) ≡ Ok (before ++ more, rest)
 unfolding lists AreNew
 lists_again entries before [] rest new = done_is before rest ∙ ap (λ ls. read_one ls rest) (sym (append-nil before))
@@ -331,6 +362,7 @@ pub record AreGrown (g : Ground) (named left trees : ℕ) (ns : List TreeNode) (
   pub names : AreNamed g.form g.lists named ns
   pub lines : ls ≡ map whole (map (line_on g) ns) ++ rest
 
+-- records that are read fit the ground and end with the last tree or the count, and the lines taken are theirs
 pub grown_takes : (g : Ground) → IsGround g → (named left trees : ℕ) (ls : List Line) (ns : List TreeNode) (rest : List Line) → records g named left trees ls ≡ read_one ns rest → AreGrown g named left trees ns ls rest
 unfolding records IsGrown AreNamed
 grown_takes g good named zero trees ls ns rest e = (let p = done_parts {A = List TreeNode} [] ns ls rest e in subst (λ (ns : List TreeNode). AreGrown g named 0 trees ns ls rest) p.0 (record { grown = refl; each = tt; has_lines = tt; names = tt; lines = p.1 }))
@@ -350,6 +382,7 @@ grown_takes g good named (suc left) (suc others) ls ns rest e =
       lines = line ∙ ap (λ bs. whole bs ∷ us) here.line ∙ ap (λ us. whole (line_on g node) ∷ us) (there.lines ∙ ap (λ ws. map whole (map (line_on g) more) ++ ws) p.1);
     })
 
+-- the lines of records that fit the ground and end with the last tree or the count are read as these records
 pub grown_again : (g : Ground) → IsGround g → g.nodes ≤ MAX_NODES → (named left trees : ℕ) (ns : List TreeNode) (rest : List Line) → IsGrown left trees ns → AllByRecursion (FitsGround g) ns → HasLines g.form ns → AreNamed g.form g.lists named ns
     → records g named left trees (map whole (map (line_on g) ns) ++ rest) ≡ Ok (ns, rest)
 unfolding records IsGrown AreNamed

@@ -15,10 +15,41 @@ use Rattle.proof_tree.specs.declared.tree.TreeNode.TheVariants.{Split, Loads, Le
 use Rattle.proof_tree.specs.Spellings.{IsAscending, IsWrittenSide, FitsEvidence, FitsRecord}
 use Rattle.plan_words.specs.Words.{◌>>=◌, numerals, row, behind, each, numbers_of}
 use Rattle.cert_format.specs.Grammar.{arc_numbers, counted, members, leaf_line, record_line, AreArcs, HasLeafFields, HasRecordFields}
-use Rattle.cert_format.specs.Bodies.{only_if, choose, fixed_of, one_in, arc_of, uncounted, ascends, side_arcs, with_rest, side_of, two_sides, right_side, behind_left, sides_of, split_with, split_in, loads_in, cut_with, overfull_with, far_with, lone_number, behind_number, flags_of, set_of, cut_in, prices_of, priced_of, leaf_of, record_of}
+use Rattle.cert_format.specs.Bodies.{
+  only_if,
+  choose,
+  fixed_of,
+  one_in,
+  arc_of,
+  uncounted,
+  ascends,
+  side_arcs,
+  with_rest,
+  side_of,
+  two_sides,
+  right_side,
+  behind_left,
+  sides_of,
+  split_with,
+  split_in,
+  loads_in,
+  cut_with,
+  overfull_with,
+  far_with,
+  lone_number,
+  behind_number,
+  flags_of,
+  set_of,
+  cut_in,
+  prices_of,
+  priced_of,
+  leaf_of,
+  record_of,
+}
 use Rattle.plan_words.proofs.NumberWords.{then-some, map-some, behind_found, behind_takes, numbers_found, numbers_takes, each_takes, each_found, no-length}
 use Rattle.cert_format.proofs.BodyLaws.{AreSmall, only_true, chosen, fixed_takes, one_takes, one_again, uncounted_takes, uncounted_again, arc_takes, arc_again, arcs_small}
 
+-- where something is found under a test, the test holds
 pub when_some : {A : Type 0} (t : Bool) (o : Option A) (y : A) → cond t o None ≡ Some y → (t ≡ true) × (o ≡ Some y)
 when_some true o y e = (refl, e)
 when_some false o y e = absurd cc
@@ -45,11 +76,13 @@ ascends-again (a ∷ b ∷ arcs) h =
 
 -- ---- one side of a split
 
+-- arcs that can stand as one side of a split, and numbers that begin with the count and numbers of these arcs
 pub record IsSide (arcs : List ArcId) (ns rest : List ℕ) : Type 0 where
   pub side : IsWrittenSide arcs
   pub fields : AreArcs arcs
   pub numbers : ns ≡ counted (arc_numbers arcs) ++ rest
 
+-- a side of a split that is read can stand as one, and the numbers taken are its own
 pub side_takes : (ns : List ℕ) (x : List ArcId × List ℕ) → side_of ns ≡ Some x → IsSide x.0 ns x.1
 unfolding side_of
 side_takes [] x e = absurd cc
@@ -69,6 +102,7 @@ side_takes (m ∷ ns) x e =
       numbers = ap (λ xs. m ∷ xs) (sym (take-append-drop m ns) ∙ ap (λ xs. xs ++ drop m ns) all.1) ∙ ap (λ k. k ∷ (arc_numbers arcs ++ drop m ns)) (sym long);
     })
 
+-- the numbers of arcs that can stand as a side of a split are read as these arcs, and the rest is left
 pub side_again : (arcs : List ArcId) (rest : List ℕ) → IsWrittenSide arcs → AreArcs arcs → side_of (counted (arc_numbers arcs) ++ rest) ≡ Some (arcs, rest)
 unfolding side_of
 side_again arcs rest s h =
@@ -86,6 +120,7 @@ side_again arcs rest s h =
 
 -- ---- a split
 
+-- arcs that can stand as the two sides of a split, and the numbers of both
 pub record AreSides (left right : List ArcId) (ns : List ℕ) : Type 0 where
   pub left_side : IsWrittenSide left
   pub right_side : IsWrittenSide right
@@ -159,6 +194,7 @@ next-takes at (n ∷ ns) rest e =
     let (test, is) = cond_some (n == at) ns rest e in
     ap (λ k. k ∷ ns) (eqb-true n at test) ∙ ap (λ xs. at ∷ xs) is
 
+-- where a set is read from numbers, it has an answer for each node, and the numbers are its nodes
 pub flags_takes : (at left : ℕ) (ns : List ℕ) (fs : List Bool) → flags_of at left ns ≡ Some fs → (length fs ≡ left) × (ns ≡ members at fs)
 unfolding flags_of members
 flags_takes at zero ns fs e =
@@ -186,6 +222,7 @@ next-again : (at : ℕ) (rest : List ℕ) → behind_number at (at ∷ rest) ≡
 unfolding behind_number
 next-again at rest = only_true (at == at) rest (eq-eqb at at refl)
 
+-- the numbers of the nodes in a set are read as this set
 pub flags_again : (at : ℕ) (fs : List Bool) → flags_of at (length fs) (members at fs) ≡ Some fs
 unfolding flags_of members
 flags_again at [] = refl
@@ -196,6 +233,7 @@ flags_again at (false ∷ fs) =
     ap (λ o. choose o (λ rest. option_map (λ flags. true ∷ flags) (flags_of (suc at) (length fs) rest)) (option_map (λ flags. false ∷ flags) (flags_of (suc at) (length fs) (members (suc at) fs)))) (later-none at (suc at) fs (omega arith))
     ∙ ap (option_map (λ flags. false ∷ flags)) (flags_again (suc at) fs)
 
+-- no more nodes are in a set than it has answers
 pub members_few : (at : ℕ) (fs : List Bool) → length (members at fs) ≤ length fs
 unfolding members
 members_few at [] = omega arith
@@ -336,6 +374,7 @@ from_cut nodes links body = choose (behind (codes "CUT") body) (λ rest. numbers
 abbrev from_overfull : ℕ → ℕ → List ℕ → Option Evidence
 from_overfull nodes links body = choose (behind (codes "OVERFULL") body) (λ rest. option_map overfull_with (lone_number rest)) (from_cut nodes links body)
 
+-- a leaf that is read fits and its numbers fit their fields, and the line is its own
 pub leaf_takes : (nodes links : ℕ) (body : List ℕ) (e : Evidence) → leaf_of nodes links body ≡ Some e → IsLeafLine nodes links e body
 unfolding leaf_of
 leaf_takes nodes links body e h =
@@ -362,6 +401,7 @@ from_leaf nodes links body = option_map (λ evidence. Leaf evidence) (leaf_of no
 abbrev from_loads : ℕ → ℕ → List ℕ → Option TreeNode
 from_loads nodes links body = choose (behind (codes "LOADS") body) (λ rest. numbers_of rest >>= loads_in) (from_leaf nodes links body)
 
+-- a record that is read fits and its numbers fit their fields, and the line is its own
 pub record_takes : (nodes links : ℕ) (body : List ℕ) (node : TreeNode) → record_of nodes links body ≡ Some node → IsRecordLine nodes links node body
 unfolding record_of record_line
 record_takes nodes links body node h =
@@ -390,6 +430,7 @@ lone-again : (n : ℕ) → n < 2 ^ 32 → lone_number (numerals (n ∷ [])) ≡ 
 unfolding lone_number
 lone-again n small = ap (λ o. o >>= one_in 0 (2 ^ 32 - 1)) (numbers_found (n ∷ []) (omega arith, tt)) ∙ one_again 0 (2 ^ 32 - 1) n (omega arith) (omega arith)
 
+-- the numbers of a leaf that is closed by a cut are below 2^128
 pub cut_small : (nodes d : ℕ) (fs : List Bool) → nodes ≤ MAX_NODES → d < 2 ^ 32 → length fs ≡ nodes → AreSmall (d ∷ counted (members 0 fs))
 cut_small nodes d fs small fits long = (omega (arith, fits), set_small nodes fs small long)
 
@@ -401,6 +442,7 @@ cut-again nodes d fs small fits long =
     ∙ ap (λ t. cond t (option_map (cut_with d) (set_of nodes (counted (members 0 fs)))) None) (lt-ltb d (2 ^ 32) fits)
     ∙ ap (option_map (cut_with d)) (set_again nodes fs long)
 
+-- the line of a leaf that fits, with numbers that fit their fields, is read as this leaf
 pub leaf_again : (nodes links : ℕ) (e : Evidence) → nodes ≤ MAX_NODES → FitsEvidence nodes links e → HasLeafFields e → leaf_of nodes links (leaf_line e) ≡ Some e
 unfolding leaf_of priced_of fixed_of behind leaf_line
 leaf_again nodes links (Bound ps) small fits fields = ap (option_map (λ prices. Bound prices)) (prices-again links ps fits fields)
@@ -433,10 +475,12 @@ no-split (Far demand) = refl
 no-split (Crowd ps) = refl
 no-split (Open ps) = refl
 
+-- numbers below 2^128 followed by such numbers are all below 2^128
 pub small_append : (xs ys : List ℕ) → AreSmall xs → AreSmall ys → AreSmall (xs ++ ys)
 small_append [] ys h k = k
 small_append (x ∷ xs) ys h k = (h.0, small_append xs ys h.1 k)
 
+-- the count and the arc numbers of one side of a split are below 2^128
 pub side_small : (arcs : List ArcId) → IsWrittenSide arcs → AreArcs arcs → AreSmall (counted (arc_numbers arcs))
 side_small arcs s h = (omega (arith, s.few, length-map arcs (λ (a : ArcId). a.0)), arcs_small arcs h)
 
@@ -450,6 +494,7 @@ loads-again q c small low =
     ap (λ o. o >>= loads_in) (numbers_found (q ∷ c ∷ []) (omega (arith, small), (omega (arith, low), tt)))
     ∙ only_true (nat_lt q (2 ^ 32) && nat_lt c (2 ^ 64)) (Loads q c) (and_from (nat_lt q (2 ^ 32)) (nat_lt c (2 ^ 64)) (lt-ltb q (2 ^ 32) small) (lt-ltb c (2 ^ 64) low))
 
+-- the line of a record that fits, with numbers that fit their fields, is read as this record
 pub record_again : (nodes links : ℕ) (node : TreeNode) → nodes ≤ MAX_NODES → FitsRecord nodes links node → HasRecordFields node → record_of nodes links (record_line node) ≡ Some node
 unfolding record_of record_line split_in
 record_again nodes links (Split demand at left right) small fits fields =

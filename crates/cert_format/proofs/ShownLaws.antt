@@ -128,6 +128,7 @@ pub record IsLineOf (form : Form) (lists : List (List ℕ)) (named nodes entries
   pub names : Names form lists named node
   pub line : body ≡ record_line (shown form lists node)
 
+-- a record that is read in a text of a version fits and names its price list in order, and the line is its own
 pub record_in_takes : (form : Form) (lists : List (List ℕ)) (named nodes entries : ℕ) (body : List ℕ) (node : TreeNode) → AreGood form entries lists → record_in form lists named nodes entries body ≡ Some node → IsLineOf form lists named nodes entries node body
 unfolding record_in resolved
 record_in_takes form lists named nodes entries body node good e =
@@ -174,6 +175,7 @@ shown-well First lists named nodes entries node good fits fields names = record 
 shown-well Second lists named nodes entries node good fits fields names = (let w = numbered-well lists named nodes entries node good.0 fits fields names in record { fits = w.fits; fields = w.fields; is_read = w.is_read })
 shown-well Third lists named nodes entries node good fits fields names = (let w = numbered-well lists named nodes entries node good.0 fits fields names in record { fits = w.fits; fields = w.fields; is_read = w.is_read })
 
+-- the line in which a version shows a record that fits and names its price list in order is read as it
 pub record_in_again : (form : Form) (lists : List (List ℕ)) (named nodes entries : ℕ) (node : TreeNode) → nodes ≤ MAX_NODES → AreGood form entries lists → FitsRecord nodes entries node → HasRecordFields node → IsTrue (has_line form node) → Names form lists named node
     → record_in form lists named nodes entries (record_line (shown form lists node)) ≡ Some node
 unfolding record_in resolved
@@ -183,6 +185,7 @@ record_in_again form lists named nodes entries node few good fits fields has nam
     ∙ ap (λ t. cond t (meant form lists named (shown form lists node)) None) (shown-line form lists node ∙ has)
     ∙ w.is_read
 
+-- records that fit and name price lists in order fit as their lines show them
 pub shown_all : (form : Form) (lists : List (List ℕ)) (named nodes entries : ℕ) (ns : List TreeNode) → AreGood form entries lists → AllByRecursion (λ node. FitsRecord nodes entries node × HasRecordFields node) ns → AreNamed form lists named ns
     → AllByRecursion (λ node. FitsRecord nodes (width form entries) (shown form lists node) × HasRecordFields (shown form lists node)) ns
 unfolding AreNamed

@@ -30,7 +30,43 @@ use Rattle.cert_format.specs.Lists.{lists_of, numbered, with_number, AreNew}
 use Rattle.cert_format.specs.Drafts.{AreStated}
 use Rattle.cert_format.specs.Written.{numbered_lines}
 use Rattle.plan_words.specs.Words.{numerals, row}
-use Rattle.cert_format.specs.Grammar.{header_line, both_word, both_text, count_line, status_line, number_line, cost_line, signed_text, arc_numbers, counted, path_line, modules_line, members, leaf_line, record_line, design_lines, bound_lines, cut_numbers, cut_line, cut_lines, price_line, list_lines, price_lines, head_lines, front_lines, end_line, plan_text, written_text, AreArcs, HasCutFields, HasLeafFields, HasRecordFields, HasDesignFields, IsBoundField, HasFields}
+use Rattle.cert_format.specs.Grammar.{
+  header_line,
+  both_word,
+  both_text,
+  count_line,
+  status_line,
+  number_line,
+  cost_line,
+  signed_text,
+  arc_numbers,
+  counted,
+  path_line,
+  modules_line,
+  members,
+  leaf_line,
+  record_line,
+  design_lines,
+  bound_lines,
+  cut_numbers,
+  cut_line,
+  cut_lines,
+  price_line,
+  list_lines,
+  price_lines,
+  head_lines,
+  front_lines,
+  end_line,
+  plan_text,
+  written_text,
+  AreArcs,
+  HasCutFields,
+  HasLeafFields,
+  HasRecordFields,
+  HasDesignFields,
+  IsBoundField,
+  HasFields,
+}
 use Rattle.cert_format.proofs.VersionLaws.{not_first}
 use Rattle.cert_format.proofs.BodyLaws.{AreSmall}
 use Rattle.plan_words.proofs.Digits.{grains_scaled}
@@ -381,5 +417,6 @@ numbered-within Third plan other s f =
     let each = shown_all Third lists 0 plan.nodes (numbers_in plan) plan.tree (r.listed.0, r.listed.2) (fit-records plan s f) r.named in
     omega (arith, text-bytes (all-lines Third lists plan), lines-most Third lists plan s f r.listed each)
 
+-- the text that is written of a plan has no more bytes than the limit
 pub text_within : (plan : Plan) → IsSpellable plan → HasFields plan → length (written_text plan) ≤ MAX_PLAN_BYTES
 text_within plan s f = numbered-within (written_form plan.cuts plan.tree) plan (not_first (has_thirds plan.cuts plan.tree)) s f

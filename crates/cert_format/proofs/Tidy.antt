@@ -47,6 +47,7 @@ pub record Stuck {A : Type 0} (r : Reader A) (ls bad : List Line) : Type 0 where
   pub begun : Holds r (front ++ more) value
   pub alone : Local r front bad
 
+-- a reader that reads its lines whatever follows, stops at the first that cannot stand, and can read some lines
 pub record Tidy {A : Type 0} (r : Reader A) : Type 0 where
   pub takes : (ls : List Line) (x : A) (rest : List Line) → r ls ≡ read_one x rest → Taken r ls x rest
   pub stops : (ls bad : List Line) → r ls ≡ Err bad → Stuck r ls bad
@@ -57,11 +58,13 @@ pub record Tidy {A : Type 0} (r : Reader A) : Type 0 where
 abbrev stopped_at : {A : Type 0} → List Line → Result (A × List Line) (List Line)
 stopped_at ls = Err ls
 
+-- readings that both stop and are equal stop at the same lines
 pub err-same : (A : Type 0) (a b : List Line) → stopped_at {A = A} a ≡ stopped_at {A = A} b → a ≡ b
 err-same A a b e = cc
 
 -- ---- nothing, and one line
 
+-- the reader that reads nothing is tidy
 pub tidy_done : {A : Type 0} (v : A) → Tidy (done v)
 tidy_done {A} v = record {
   takes = λ ls x rest e. (let p = done_parts v x ls rest e in record { front = []; parts = p.1; holds = subst (λ y. Holds (done v) [] y) p.0 (record { again = λ others. done_is v others }) });
@@ -89,6 +92,7 @@ one-stops {A} f (whole b ∷ ls) bad e = by (f b) refl e
     by (Some y) h e = absurd cc
     by None h e = (let same : whole b ∷ ls ≡ bad = err-same A (whole b ∷ ls) bad e in (same, subst (Local (one f) []) same (refused-at f b h)))
 
+-- the reader of one line is tidy, where it can read some line
 pub tidy_one : {A : Type 0} (f : List ℕ → Option A) (body : List ℕ) (v : A) → f body ≡ Some v → Tidy (one f)
 tidy_one {A} f body v good = record {
   takes = λ ls x rest e. (let (b, line, read) = one_line f ls x rest e in record { front = whole b ∷ []; parts = line; holds = record { again = λ others. one_again f b x others read } });
@@ -107,6 +111,7 @@ stop-first : {A X : Type 0} (r : Reader A) (s : A → Reader X) (ls bad : List L
 unfolding bind
 stop-first r s ls bad e = ap (λ t. t >>= λ p. s p.0 p.1) e
 
+-- where two readers in turn stop, the first one stops, or the second one stops behind what the first one read
 pub bind_stops : {A X : Type 0} (r : Reader A) (s : A → Reader X) (ls bad : List Line) → bind r s ls ≡ stopped_at bad → (r ls ≡ stopped_at bad) ⊎ ((x : A) × (us : List Line) × (r ls ≡ read_one x us) × (s x us ≡ stopped_at bad))
 unfolding bind
 bind_stops {A} {X} r s ls bad e = by (r ls) refl e
@@ -115,15 +120,18 @@ bind_stops {A} {X} r s ls bad e = by (r ls) refl e
     by (Ok p) h e = inr (p.0, p.1, h, e)
     by (Err us) h e = (let same : us ≡ bad = err-same X us bad e in inl (h ∙ ap (λ us. Err us) same))
 
+-- where the second of two readers stops whatever follows, so do both behind what the first one reads
 pub local_after : {A X : Type 0} (r : Reader A) (s : A → Reader X) (front : List Line) (x : A) (later bad : List Line) → Holds r front x → Local (s x) later bad → Local (bind r s) (front ++ later) bad
 local_after r s front x later [] h alone = and_then r s (front ++ later) x later (stopped_at []) (h.again later) alone
 local_after r s front x later (l ∷ us) h alone = λ others.
     ap (bind r s) (append_assoc front later (l ∷ others)) ∙ and_then r s (front ++ (later ++ (l ∷ others))) x (later ++ (l ∷ others)) (stopped_at (l ∷ others)) (h.again (later ++ (l ∷ others))) (alone others)
 
+-- where the first of two readers stops whatever follows, so do both
 pub local_before : {A X : Type 0} (r : Reader A) (s : A → Reader X) (front bad : List Line) → Local r front bad → Local (bind r s) front bad
 local_before r s front [] alone = stop-first r s front [] alone
 local_before r s front (l ∷ us) alone = λ others. stop-first r s (front ++ (l ∷ others)) (l ∷ others) (alone others)
 
+-- two tidy readers, one after the other, are tidy
 pub tidy_bind : {A X : Type 0} (r : Reader A) (s : A → Reader X) → Tidy r → ((x : A) → Tidy (s x)) → Tidy (bind r s)
 tidy_bind {A} {X} r s first second = record {
   takes = λ ls z rest e. takes ls z rest e;
@@ -177,6 +185,7 @@ tidy_bind {A} {X} r s first second = record {
 
 -- ---- the readers of a plan
 
+-- the reader of so many lines of a kind is tidy, where some line is of this kind
 pub tidy_many : {A : Type 0} (f : List ℕ → Option A) (body : List ℕ) (v : A) → f body ≡ Some v → (n : ℕ) → Tidy (many n f)
 unfolding many
 tidy_many f body v good zero = tidy_done []
@@ -192,6 +201,7 @@ routed-by Third known named nodes entries = refl
 routed : (g : Ground) (named : ℕ) → record_on g named (codes "ROUTED") ≡ Some (Leaf Routed)
 routed g named = routed-by g.form g.lists named g.nodes g.entries
 
+-- the reader of records is tidy
 pub tidy_records : (g : Ground) (named left trees : ℕ) → Tidy (records g named left trees)
 unfolding records
 tidy_records g named zero trees = tidy_done []
@@ -211,6 +221,7 @@ no-nodes form = record { sizes = record { nodes = omega arith; links = omega ari
     by Second = tt
     by Third = tt
 
+-- the reader of the first five lines is tidy
 pub tidy_head : Tidy head
 unfolding head
 tidy_head =
@@ -244,6 +255,7 @@ tidy_bound Optimal = tidy_done None
 tidy_bound Infeasible = tidy_done None
 tidy_bound Undecided = tidy_one bound_of (bound_line None) None (bound_again None tt)
 
+-- the reader of a tree is tidy
 pub tidy_tree : (g : Ground) → Tidy (tree g)
 unfolding tree
 tidy_tree g =
@@ -265,6 +277,7 @@ tidy_cuts Third nodes =
     tidy_bind (one (number_row (codes "CUTS") 0 MAX_CUTS)) (λ count. many count (load_cut_row nodes)) (tidy_number (codes "CUTS") 0 MAX_CUTS (omega arith) (omega arith)) λ count.
     tidy_many (load_cut_row nodes) (cut_line (empty_cut nodes)) (empty_cut nodes) (empty_again nodes) count
 
+-- the reader of all lines before the price lists is tidy
 pub tidy_opening : Tidy opening
 unfolding opening
 tidy_opening =
@@ -303,6 +316,7 @@ stuck-later entries n before ls bad list us h s =
       alone = local_after (one (list_row entries before)) (λ list. lists entries n (before ++ list ∷ [])) (whole (price_line list) ∷ []) list (map whole (map price_line s.more)) bad holds s.alone;
     }
 
+-- where the reader of price lists stops, the lists before can stand, and the line at the stop cannot
 pub lists_stop : (entries n : ℕ) (before : List (List ℕ)) (ls bad : List Line) → lists entries n before ls ≡ Err bad → ListsStuck entries n before ls bad
 unfolding lists
 lists_stop entries zero before ls bad e = absurd (let both : read_one before ls ≡ Err bad = sym (done_is before ls) ∙ e in cc)

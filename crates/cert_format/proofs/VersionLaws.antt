@@ -24,6 +24,7 @@ pub not_first : (some : Bool) → cond some Third Second ≡ First → ⊥
 not_first true e = cc
 not_first false e = cc
 
+-- the third version has a line for each record
 pub lines_of_third : (nodes : List TreeNode) → HasLines Third nodes
 lines_of_third [] = tt
 lines_of_third (node ∷ nodes) = (refl, lines_of_third nodes)
@@ -32,6 +33,7 @@ no-cuts : (cuts : List LoadCut) → has_cuts cuts ≡ false → cuts ≡ []
 no-cuts [] e = refl
 no-cuts (cut ∷ cuts) e = absurd (true≢false e)
 
+-- where no record is a load split, the second version has a line for each
 pub lines_without_loads : (nodes : List TreeNode) → has_loads nodes ≡ false → HasLines Second nodes
 lines_without_loads [] e = tt
 lines_without_loads (node ∷ nodes) e = (let p = neither (is_loads node) (has_loads nodes) e in (ap not p.0, lines_without_loads nodes p.1))
@@ -53,6 +55,7 @@ without_thirds cuts nodes e = (let p = neither (has_cuts cuts) (has_loads nodes)
 no-thirds : (cuts : List LoadCut) (nodes : List TreeNode) → cuts ≡ [] → HasLines Second nodes → has_thirds cuts nodes ≡ false
 no-thirds cuts nodes none h = ap (λ cs. has_cuts cs || has_loads nodes) none ∙ none-in-second nodes h
 
+-- a text is of the third version exactly where the plan has a cut or a load split
 pub third_exactly : (form : Form) (cuts : List LoadCut) (nodes : List TreeNode) → TellsCuts form cuts → HasLines form nodes → IsTrue (is_asked form cuts nodes) → (form ≡ Third) ↔ IsTrue (has_thirds cuts nodes)
 third_exactly First cuts nodes none h asked = (λ e. absurd cc, λ t. absurd (true≢false (sym t ∙ no-thirds cuts nodes none (second-by-first nodes h))))
 third_exactly Second cuts nodes none h asked = (λ e. absurd cc, λ t. absurd (true≢false (sym t ∙ no-thirds cuts nodes none h)))

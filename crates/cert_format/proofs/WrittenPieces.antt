@@ -21,19 +21,23 @@ numerals-append : (ns ms : List ℕ) → numerals (ns ++ ms) ≡ numerals ns ++ 
 numerals-append [] ms = refl
 numerals-append (n ∷ ns) ms = ap (λ bs. 32 ∷ bs) (ap (λ bs. decimal n ++ bs) (numerals-append ns ms) ∙ sym (append_assoc (decimal n) (numerals ns) (numerals ms)))
 
+-- the first numbers, with the next one appended behind them, are the first numbers and this one
 pub numerals_more : (old : List ℕ) (ns : List ℕ) (i d : ℕ) → i < length ns → (old ++ numerals (take i ns)) ++ (32 ∷ decimal (get_or ns i d)) ≡ old ++ numerals (take (i + 1) ns)
 numerals_more old ns i d lt =
     append_assoc old (numerals (take i ns)) (32 ∷ decimal (get_or ns i d))
     ∙ ap (λ bs. old ++ bs) (ap (λ bs. numerals (take i ns) ++ (32 ∷ bs)) (sym (append-nil (decimal (get_or ns i d)))) ∙ sym (numerals-append (take i ns) (get_or ns i d ∷ [])) ∙ ap numerals (sym (take_more ns i d lt)))
 
+-- a word, numbers and a line end, appended one after the other, are the whole line
 pub row_pieces : (old word : List ℕ) (ns : List ℕ) → ((old ++ word) ++ numerals ns) ++ 10 ∷ [] ≡ old ++ line_text (whole (row word ns))
 row_pieces old word ns = simp append_assoc
 
+-- a number appended behind a count and numbers joins these numbers
 pub items_more : (old : List ℕ) (n : ℕ) (ns : List ℕ) (x : ℕ) → (old ++ (n ∷ ns)) ++ x ∷ [] ≡ old ++ (n ∷ (ns ++ x ∷ []))
 items_more old n ns x = append_assoc old (n ∷ ns) (x ∷ [])
 
 -- ---- members
 
+-- a node that is in the set is the next of its nodes, and those behind it follow
 pub members_in : (front : List ℕ) (flags : List Bool) (i : ℕ) (d : Bool) → i < length flags → get_or flags i d ≡ true → front ++ members i (drop i flags) ≡ (front ++ i ∷ []) ++ members (i + 1) (drop (i + 1) flags)
 unfolding members
 members_in front flags i d lt e =
@@ -42,6 +46,7 @@ members_in front flags i d lt e =
     ∙ ap (λ k. front ++ (i ∷ members k (drop (i + 1) flags))) next
     ∙ sym (append_assoc front (i ∷ []) (members (i + 1) (drop (i + 1) flags)))
 
+-- a node that is not in the set adds nothing to its nodes
 pub members_out : (front : List ℕ) (flags : List Bool) (i : ℕ) (d : Bool) → i < length flags → get_or flags i d ≡ false → front ++ members i (drop i flags) ≡ front ++ members (i + 1) (drop (i + 1) flags)
 unfolding members
 members_out front flags i d lt e =
@@ -49,15 +54,18 @@ members_out front flags i d lt e =
     ap (λ fs. front ++ members i fs) (drop_more flags i d lt ∙ ap (λ f. f ∷ drop (i + 1) flags) e)
     ∙ ap (λ k. front ++ members k (drop (i + 1) flags)) next
 
+-- behind the last node nothing is added to the nodes of the set
 pub members_end : (front : List ℕ) (flags : List Bool) (i : ℕ) → length flags ≤ i → front ++ members i (drop i flags) ≡ front
 unfolding members
 members_end front flags i ge = ap (λ fs. front ++ members i fs) (drop_all i flags ge) ∙ append-nil front
 
 -- ---- lines
 
+-- the bytes of lines and further lines are those of the lines and then those of the further ones
 pub lines-append : (xs ys : List (List ℕ)) → lines_text (xs ++ ys) ≡ lines_text xs ++ lines_text ys
 lines-append xs ys = ap text_of (map-append whole xs ys) ∙ flat_map-append line_text (map whole xs) (map whole ys)
 
+-- the lines of the first items, and then the line of the next one, are those of the first items with this one
 pub lines_more : {A : Type 0} (print : A → List ℕ) (old : List ℕ) (xs : List A) (i : ℕ) (d : A) → i < length xs → (old ++ lines_text (map print (take i xs))) ++ line_text (whole (print (get_or xs i d))) ≡ old ++ lines_text (map print (take (i + 1) xs))
 lines_more print old xs i d lt =
     append_assoc old (lines_text (map print (take i xs))) (line_text (whole (print (get_or xs i d))))
@@ -65,6 +73,7 @@ lines_more print old xs i d lt =
     ∙ sym (lines-append (map print (take i xs)) (print (get_or xs i d) ∷ []))
     ∙ ap lines_text (sym (ap (map print) (take_more xs i d lt) ∙ map-append print (take i xs) (get_or xs i d ∷ []))))
 
+-- the line of a cost and those of paths and counts, appended one after the other, are those of the design
 pub design_pieces : (old : List ℕ) (cost : ℕ) (d : Design) → ((old ++ line_text (whole (cost_line (Some cost)))) ++ lines_text (map path_line d.paths)) ++ lines_text (map modules_line d.counts) ≡ old ++ lines_text (design_lines (Some (cost, d)))
 unfolding design_lines
 design_pieces old cost d =
@@ -76,9 +85,11 @@ design_pieces old cost d =
 regroup-head : (o a b c d e : List ℕ) → ((((o ++ a) ++ b) ++ c) ++ d) ++ e ≡ o ++ (a ++ (b ++ (c ++ (d ++ (e ++ [])))))
 regroup-head o a b c d e = simp (append_assoc, append-nil)
 
+-- a word, numbers, and other bytes with a line end, appended one after the other, are the whole line
 pub size_pieces : (old word tail : List ℕ) (ns : List ℕ) → ((old ++ word) ++ numerals ns) ++ line_text (whole tail) ≡ old ++ line_text (whole (row word ns ++ tail))
 size_pieces old word tail ns = simp append_assoc
 
+-- the first five lines, appended one after the other, are those of the plan
 pub head_pieces : (form : Form) (old : List ℕ) (plan : Plan) → ((((old ++ line_text (whole (header_line form))) ++ line_text (whole (size_line form plan.nodes plan.links plan.demands plan.both))) ++ line_text (whole (status_line plan.status)))
     ++ line_text (whole (row (codes "BUDGET") (plan.budget ∷ [])))) ++ line_text (whole (row (codes "EXAMINED") (plan.examined ∷ []))) ≡ old ++ lines_text (head_lines form plan)
 unfolding head_lines
@@ -96,6 +107,7 @@ joined : {A : Type 0} (P : A → Type 0) (xs : List A) (x : A) → AllByRecursio
 joined P [] x all px = (px, tt)
 joined P (y ∷ xs) x all px = (all.0, joined P xs x all.1 px)
 
+-- the lines of the first price lists, and then that of the next one, are those of the first lists with it
 pub lists_more : (old : List ℕ) (lists : List (List ℕ)) (n : ℕ) (list : List ℕ) → Some list ≡ slice_get lists n → (old ++ lines_text (map price_line (take n lists))) ++ line_text (whole (price_line list)) ≡ old ++ lines_text (map price_line (take (n + 1) lists))
 lists_more old lists n list e =
     append_assoc old (lines_text (map price_line (take n lists))) (line_text (whole (price_line list)))
@@ -103,9 +115,11 @@ lists_more old lists n list e =
     ∙ sym (lines-append (map price_line (take n lists)) (price_line list ∷ []))
     ∙ ap lines_text (sym (ap (map price_line) (take-next lists n list e) ∙ map-append price_line (take n lists) (list ∷ []))))
 
+-- what holds of the first lists and of the next one holds of the first lists with this one
 pub fields_listed : (P : List ℕ → Type 0) (lists : List (List ℕ)) (n : ℕ) (list : List ℕ) → Some list ≡ slice_get lists n → AllByRecursion P (take n lists) → P list → AllByRecursion P (take (n + 1) lists)
 fields_listed P lists n list e all p = subst (AllByRecursion P) (sym (take-next lists n list e)) (joined P (take n lists) list all p)
 
+-- where no list has this number, the first lists, so many, are all
 pub taken_all : (lists : List (List ℕ)) (n : ℕ) → None ≡ slice_get lists n → take n lists ≡ lists
 taken_all [] n e = by n
   where
@@ -115,14 +129,17 @@ taken_all [] n e = by n
 taken_all (x ∷ lists) zero e = absurd cc
 taken_all (x ∷ lists) (suc n) e = ap (λ ls. x ∷ ls) (taken_all lists n e)
 
+-- where no list has this number, what holds of the first lists, so many, holds of all
 pub fields_all : (P : List ℕ → Type 0) (lists : List (List ℕ)) (n : ℕ) → None ≡ slice_get lists n → AllByRecursion P (take n lists) → AllByRecursion P lists
 fields_all P lists n e all = subst (AllByRecursion P) (taken_all lists n e) all
 
+-- where no list is left, the line with their count and the lines so far are those of all price lists
 pub lists_all : (old : List ℕ) (lists : List (List ℕ)) (n : ℕ) → None ≡ slice_get lists n → (old ++ line_text (whole (row (codes "PRICES") (length lists ∷ [])))) ++ lines_text (map price_line (take n lists)) ≡ old ++ lines_text (list_lines (length lists) lists)
 lists_all old lists n e =
     ap (λ ls. (old ++ line_text (whole (row (codes "PRICES") (length lists ∷ [])))) ++ lines_text (map price_line ls)) (taken_all lists n e)
     ∙ append_assoc old (line_text (whole (row (codes "PRICES") (length lists ∷ [])))) (lines_text (map price_line lists))
 
+-- the lines of price lists, of the record count and of the records, appended in turn, are those of the tree
 pub tree_pieces : (old : List ℕ) (nodes : List TreeNode) (lists : List (List ℕ)) (count : ℕ) → lists ≡ lists_of nodes → count ≡ length nodes
     → ((old ++ lines_text (list_lines (length lists) lists)) ++ line_text (whole (row (codes "TREE") (count ∷ [])))) ++ lines_text (numbered_lines lists nodes) ≡ old ++ lines_text (written_tree nodes)
 tree_pieces old nodes lists count same is =
@@ -161,6 +178,7 @@ numbered-pieces First plan other = absurd (other refl)
 numbered-pieces Second plan other = joined-pieces Second plan (list_lines (length (lists_of plan.tree)) (lists_of plan.tree)) (row (codes "TREE") (length plan.tree ∷ []) ∷ numbered_lines (lists_of plan.tree) plan.tree)
 numbered-pieces Third plan other = joined-pieces Third plan (list_lines (length (lists_of plan.tree)) (lists_of plan.tree)) (row (codes "TREE") (length plan.tree ∷ []) ∷ numbered_lines (lists_of plan.tree) plan.tree)
 
+-- the parts of a plan, appended one after the other, are the text that is written of the plan
 pub plan_pieces : (form : Form) (plan : Plan) → form ≡ written_form plan.cuts plan.tree
     → ((((([] ++ lines_text (head_lines form plan)) ++ lines_text (design_lines plan.design)) ++ lines_text (bound_lines plan.status plan.bound)) ++ lines_text (cut_lines form plan.cuts)) ++ lines_text (written_tree plan.tree)) ++ line_text (whole (codes "END")) ≡ written_text plan
 plan_pieces form plan is = numbered-pieces form plan (λ first. not_first (has_thirds plan.cuts plan.tree) (sym is ∙ first)) ∙ ap (λ f. plan_text f plan) is

@@ -39,6 +39,7 @@ link-most p d e inst good within =
     let modules = modules-most p d e good within in
     omega arith
 
+-- a good design of an instance costs less than 2^115 cost grains
 pub good-cost : (p : Parts) (d : Design) → IsInstance p → IsGoodDesign p d → cost_of p d < 2 ^ 115
 good-cost p d inst good =
     let sum = sum-most (link_cost p d) (34 * 10 ^ 30) (length p.links) (λ e within. link-most p d e inst good within) in

@@ -26,6 +26,7 @@ there-most p loads e inst within most =
     let few = places-few p inst in
     most (if is_two_way p.orient then 2 * e else e) (omega (arith, place, few))
 
+-- where each place has at most the total load, so has the way from target to source of a link
 pub back-most : (p : Parts) (loads : List ℕ) (e : ℕ) → IsInstance p → e < length p.links → ((q : ℕ) → q < MAX_PLACES → slice_index loads q ≤ total_load p) → back_of p (slice_index loads) e ≤ total_load p
 back-most p loads e inst within most = by_cases (is_two_way p.orient)
   where
@@ -33,9 +34,11 @@ back-most p loads e inst within most = by_cases (is_two_way p.orient)
     by_cases true = most (2 * e + 1) (omega (arith, within, inst.link_count))
     by_cases false = omega arith
 
+-- where no link is counted yet, the step costs add up to 0
 pub costed_none : (p : Parts) (loads : List ℕ) → AreCosted p loads 0 0
 costed_none p loads = record { has = HasSum-none (λ e x. IsStepCost p e (there_of p (slice_index loads) e) (back_of p (slice_index loads) e) x) (λ e x. x); small = omega arith }
 
+-- the step cost of the next link, no more than a link costs at most, adds to those of the links before it
 pub costed_next : (p : Parts) (loads : List ℕ) (n total cost : ℕ) → AreCosted p loads n total → IsStepCost p n (there_of p (slice_index loads) n) (back_of p (slice_index loads) n) cost → cost ≤ most_of_link → AreCosted p loads (n + 1) (total + cost)
 costed_next p loads n total cost costed is small =
     rw add-one (record {
@@ -43,5 +46,6 @@ costed_next p loads n total cost costed is small =
       small = omega (arith, costed.small);
     })
 
+-- the step costs of all links add up to what the loads cost
 pub costed_all : (p : Parts) (loads : List ℕ) (total : ℕ) → AreCosted p loads (length p.links) total → IsCostOfLoads p loads total
 costed_all p loads total costed = record { step_costs = costed.has.terms; are_costs = costed.has.are_terms; is_sum = costed.has.is_sum }

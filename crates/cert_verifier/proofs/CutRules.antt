@@ -21,6 +21,7 @@ all_new p cuts (suc n) none i below =
       | inr before ↦ all_new p cuts n both.0 i before
     ]
 
+-- few enough cuts that break no rule are a list of cuts of the instance
 pub cuts_found_none : (p : Parts) (cuts : List Cut) → length cuts ≤ MAX_CUTS → CutsFind p cuts (length cuts) None → IsCutList p cuts
 cuts_found_none p cuts few none =
     record {
@@ -34,9 +35,11 @@ none_before : (p : Parts) (cuts : List Cut) (n : ℕ) → ((i : ℕ) → i < n �
 none_before p cuts zero all = refl
 none_before p cuts (suc n) all = inr (none_before p cuts n (λ i below. all i (omega arith)), inl (all n (omega arith), refl))
 
+-- a list of cuts of the instance breaks no rule
 pub cuts_find_none : (p : Parts) (cuts : List Cut) → IsCutList p cuts → CutsFind p cuts (length cuts) None
 cuts_find_none p cuts is = none_before p cuts (length cuts) (λ i within. record { is_cut = is.are_cuts i within; is_new = λ j less. is.different j i less within })
 
+-- of the first cuts there is at most one first broken rule
 pub cuts_find_one : (p : Parts) (cuts : List Cut) (n : ℕ) → FindsOne (CutsFind p cuts n)
 cuts_find_one p cuts zero a b x y = x ∙ sym y
 cuts_find_one p cuts (suc n) a b x y = then_by-one (CutsFind p cuts n) _ (cuts_find_one p cuts n) (unless-one _ _) a b x y
@@ -54,5 +57,6 @@ stays_first p cuts fault m (suc n) le found =
       | inr before ↦ inl (refl, stays_first p cuts fault m n (omega arith) found)
     ]
 
+-- the first cut that is none of the instance, or is the same as an earlier one, is told of all the cuts
 pub cuts_fault : (p : Parts) (cuts : List Cut) (n : ℕ) → n < length cuts → CutsFind p cuts n None → (IsNewCut p cuts n → ⊥) → CutsFind p cuts (length cuts) (Some (Cuts n))
 cuts_fault p cuts n within none broken = stays_first p cuts (Cuts n) (suc n) (length cuts) (omega arith) (inr (none, inr (broken, refl)))

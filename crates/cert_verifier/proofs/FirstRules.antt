@@ -18,6 +18,7 @@ first-fails H fault further broken = inl (refl, inr (broken, refl))
 pub first-holds : {F : Type 0} (H : Type 0) (fault : F) (further : Option F → Type 0) (found : Option F) → H → further found → (unless H fault then_by further) found
 first-holds H fault further found h more = inr (inl (h, refl), more)
 
+-- how a check goes through a chain of rules: each rule holds, or is told
 pub ruleset first_rules = (unless-holds, unless-fails, first-fails, first-holds)
 
 -- no rule is broken: each holds

@@ -106,7 +106,17 @@ pub routed_too_long : (p : Parts) (cuts : List LoadCut) (cost : Option ℕ) (g :
     → IsSomeAnd cost (λ c. c ≤ total) → (KeepsLimits p d → ⊥) → LeafFinds p cuts cost g index Routed (Some (Leaf index 5))
 unfolding LeafFinds
 routed_too_long p cuts cost g index d loads total only are_loads is enough long =
-    inr (inl (only_paths p g.forbidden d only, refl), inr (inl ((d, only), refl), inr (inl (only_carry p g.forbidden d loads total only are_loads is, refl), inr (inl (routed_enough p cost g.forbidden d loads total only are_loads is enough, refl), inr ((λ closed. long (routed_limits p cuts cost g d only closed)), refl)))))
+    inr (
+      inl (only_paths p g.forbidden d only, refl),
+      inr (
+        inl ((d, only), refl),
+        inr (
+          inl (only_carry p g.forbidden d loads total only are_loads is, refl),
+          inr
+              (inl (routed_enough p cost g.forbidden d loads total only are_loads is enough, refl), inr ((λ closed. long (routed_limits p cuts cost g d only closed)), refl)),
+        ),
+      ),
+    )
 
 -- what is told of a leaf with only paths that the links carry
 pub routed_decided : (p : Parts) (cuts : List LoadCut) (cost : Option ℕ) (g : Region) (index : ℕ) (d : Design) (loads : List ℕ) (total : ℕ) (enough within : Bool) (found : Option Rejected) → AreOnlyPaths p g.forbidden d → AreLoadsOf p d loads
@@ -177,6 +187,7 @@ unfolding LeafFinds
 cut_way_out p cuts cost g index id reached within source target way =
     inr (inl (within, refl), inr (inl (source, refl), inr (inl (target, refl), inr ((λ closed. way (λ a. leads_nowhere (is_arc p a) (g.forbidden id.0 a) (holds reached (tail_of p a)) (holds reached (head_of p a)) (closed.closed a))), refl))))
 
+-- a leaf whose set has its demand's source, not its target, and no permitted way out, breaks no rule
 pub cut_closed : (p : Parts) (cuts : List LoadCut) (cost : Option ℕ) (g : Region) (index : ℕ) (id : DemandId) (reached : List Bool) → id.0 < length p.demands → IsTrue (holds reached (demand_at p id.0).source)
     → holds reached (demand_at p id.0).target ≡ false → IsNoWayOut p g.forbidden id reached → LeafFinds p cuts cost g index (Cut id reached) None
 cut_closed p cuts cost g index id reached within source target none =
@@ -218,7 +229,17 @@ pub crowd_too_small : (p : Parts) (cuts : List LoadCut) (cost : Option ℕ) (g :
     → (room_price p g.ranges prices < total → ⊥) → LeafFinds p cuts cost g index (Crowd prices) (Some (Leaf index 4))
 unfolding LeafFinds
 crowd_too_small p cuts cost g index prices total within free is small =
-    inr (inl (within, refl), inr (inl (free, refl), inr (inl (paths_of_prices p g.forbidden prices is.least_prices is.are_least, refl), inr ((λ closed. small (subst (λ (t : ℕ). room_price p g.ranges prices < t) (price_total-one p g.forbidden prices closed.least_prices is.least_prices closed.are_least is.are_least ∙ sym is.is_total) closed.crowded)), refl))))
+    inr (
+      inl (within, refl),
+      inr (
+        inl (free, refl),
+        inr (
+          inl (paths_of_prices p g.forbidden prices is.least_prices is.are_least, refl),
+          inr
+              ((λ closed. small (subst (λ (t : ℕ). room_price p g.ranges prices < t) (price_total-one p g.forbidden prices closed.least_prices is.least_prices closed.are_least is.are_least ∙ sym is.is_total) closed.crowded)), refl),
+        ),
+      ),
+    )
 
 crowd_closes : (p : Parts) (g : Region) (prices : List ℕ) (total : ℕ) → AreWithinLimit p prices → AreFreeOnUseful p g.ranges prices → IsPriceTotal p g.forbidden prices total → room_price p g.ranges prices < total → ClosedByCrowd p g prices
 crowd_closes p g prices total within free is more =
@@ -241,6 +262,7 @@ pub open_unlawful : (p : Parts) (cuts : List LoadCut) (cost : Option ℕ) (g : R
 unfolding LeafFinds
 open_unlawful p cuts cost g index numbers broken = inr (broken, refl)
 
+-- an open leaf with prices and rates as they have to be breaks no rule
 pub open_lawful : (p : Parts) (cuts : List LoadCut) (cost : Option ℕ) (g : Region) (index : ℕ) (numbers : List ℕ) → AreLawfulNumbers p cuts numbers → LeafFinds p cuts cost g index (Open numbers) None
 open_lawful p cuts cost g index numbers lawful = leaf_finds_none p cuts cost g index (Open numbers) lawful
 
@@ -251,6 +273,8 @@ open_unbounded p cuts g numbers (Ok None) none = λ b is. none (paths_of_prices 
 open_unbounded p cuts g numbers (Ok (Some b)) none = none
 open_unbounded p cuts g numbers (Err e) none = none
 
+-- what is told of a leaf that is to be closed by a cut, rule by rule
 pub ruleset cut_findings = (cut_no_demand, cut_without_source, cut_with_target, cut_way_out, cut_closed)
 
+-- what is told of an open leaf
 pub ruleset open_findings = (open_unlawful, open_lawful)

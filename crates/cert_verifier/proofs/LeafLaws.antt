@@ -68,6 +68,7 @@ has_limit : (hops : Option ℕ) (Q : ℕ → Type 0) → IsSomeAnd hops Q → Is
 has_limit None Q h = absurd h
 has_limit (Some limit) Q h = refl
 
+-- a leaf that has its evidence breaks no rule
 pub leaf_finds_none : (p : Parts) (cuts : List LoadCut) (cost : Option ℕ) (g : Region) (index : ℕ) (evidence : Evidence) → HasRatedEvidence p cuts cost g evidence → LeafFinds p cuts cost g index evidence None
 unfolding LeafFinds
 leaf_finds_none p cuts cost g index (Bound prices) h = bound_rules p cuts cost g index prices h
@@ -80,6 +81,7 @@ leaf_finds_none p cuts cost g index (Crowd prices) h =
     inr (inl (h.within_limit, refl), inr (inl (h.free, refl), inr (inl (least_prices-paths p g.forbidden prices _ h.are_least, refl), inl (h, refl))))
 leaf_finds_none p cuts cost g index (Open prices) h = inl (h, refl)
 
+-- of a leaf there is at most one first broken rule
 pub leaf_finds_one : (p : Parts) (cuts : List LoadCut) (cost : Option ℕ) (g : Region) (index : ℕ) (evidence : Evidence) → FindsOne (LeafFinds p cuts cost g index evidence)
 unfolding LeafFinds
 leaf_finds_one p cuts cost g index (Bound prices) = then_by-one _ _ (unless-one _ _) (then_by-one _ _ (unless-one _ _) (unless-one _ _))

@@ -11,6 +11,7 @@ use Rattle.plan_base.proofs.PlaceSums.{there-same, back-same}
 use Rattle.arc_restrict.specs.Restrictions.{Forbidden}
 use Rattle.proof_tree.specs.Evidence.{AreOnlyPaths}
 
+-- two designs of the only paths put the same load on each place
 pub only_loads : (p : Parts) (r : Forbidden) (one other : Design) (q : ℕ) → AreOnlyPaths p r one → AreOnlyPaths p r other → load_at p one q ≡ load_at p other q
 unfolding load_from
 only_loads p r one other q first second =
@@ -21,6 +22,7 @@ only_loads p r one other q first second =
 pub only_there : (p : Parts) (r : Forbidden) (one other : Design) (e : ℕ) → e < length p.links → AreOnlyPaths p r one → AreOnlyPaths p r other → there_of p (load_at p one) e ≡ there_of p (load_at p other) e
 only_there p r one other e within first second = there-same p (load_at p one) (load_at p other) e within (λ q place. only_loads p r one other q first second)
 
+-- two designs of the only paths put the same load on the way from target to source of each link
 pub only_back : (p : Parts) (r : Forbidden) (one other : Design) (e : ℕ) → e < length p.links → AreOnlyPaths p r one → AreOnlyPaths p r other → back_of p (load_at p one) e ≡ back_of p (load_at p other) e
 only_back p r one other e within first second = back-same p (load_at p one) (load_at p other) e within (λ q place. only_loads p r one other q first second)
 

@@ -10,18 +10,22 @@ use Rattle.cert_verifier.specs.declared.rejected.Rejected.TheVariants.{Size}
 use Rattle.cert_verifier.specs.RecordRules.{TreeFinds}
 use Rattle.cert_verifier.specs.PlanRules.{DesignFinds, CutsFind, CountsFind, BoundFinds, PlanFinds}
 
+-- where the sizes are not those of the instance, this is told of the plan
 pub plan-size : (p : Parts) (plan : Plan) → (HasSizes p plan → ⊥) → PlanFinds p plan (Some Size)
 unfolding PlanFinds
 plan-size p plan broken = inl (refl, inr (broken, refl))
 
+-- where the sizes are right, what is wrong with the design or its cost is told of the plan
 pub plan-design : (p : Parts) (plan : Plan) (fault : Rejected) → HasSizes p plan → DesignFinds p plan.design (Some fault) → PlanFinds p plan (Some fault)
 unfolding PlanFinds
 plan-design p plan fault sizes found = inr (inl (sizes, refl), inl (refl, found))
 
+-- where the sizes and the design are right, what is wrong with the cuts is told of the plan
 pub plan-cuts : (p : Parts) (plan : Plan) (fault : Rejected) → HasSizes p plan → DesignFinds p plan.design None → CutsFind p plan.cuts (length plan.cuts) (Some fault) → PlanFinds p plan (Some fault)
 unfolding PlanFinds
 plan-cuts p plan fault sizes design found = inr (inl (sizes, refl), inr (design, inl (refl, found)))
 
+-- where all before the tree is right, what is wrong with a record is told of the plan
 pub plan-tree : (p : Parts) (plan : Plan) (fault : Rejected) → HasSizes p plan → DesignFinds p plan.design None → CutsFind p plan.cuts (length plan.cuts) None → TreeFinds p plan plan.tree (Some fault) → PlanFinds p plan (Some fault)
 unfolding PlanFinds
 plan-tree p plan fault sizes design cuts found = inr (inl (sizes, refl), inr (design, inr (cuts, inl (refl, found))))
@@ -33,10 +37,12 @@ pub record IsSoundTree (p : Parts) (plan : Plan) : Type 0 where
   pub cuts : CutsFind p plan.cuts (length plan.cuts) None
   pub tree : TreeFinds p plan plan.tree None
 
+-- where all up to the tree is right, what is wrong with an open leaf, the count or the budget is told of the plan
 pub plan-counts : (p : Parts) (plan : Plan) (fault : Rejected) → IsSoundTree p plan → CountsFind plan (Some fault) → PlanFinds p plan (Some fault)
 unfolding PlanFinds
 plan-counts p plan fault h found = inr (inl (h.sizes, refl), inr (h.design, inr (h.cuts, inr (h.tree, inl (refl, found)))))
 
+-- where all before the bound is right, what is found of the bound is found of the plan
 pub plan-bound : (p : Parts) (plan : Plan) (found : Option Rejected) → IsSoundTree p plan → CountsFind plan None → BoundFinds p plan plan.status found → PlanFinds p plan found
 unfolding PlanFinds
 plan-bound p plan found h counts bound = inr (inl (h.sizes, refl), inr (h.design, inr (h.cuts, inr (h.tree, inr (counts, bound)))))

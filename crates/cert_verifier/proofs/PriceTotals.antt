@@ -67,9 +67,11 @@ pub record ArePriced (p : Parts) (r : Forbidden) (prices : List ℕ) (n total : 
   pub has : HasSum (λ k x. IsLeastPrice p r prices k x) (λ k x. (demand_at p k).load * x) n total
   pub small : total ≤ loads_to p n * most_of_grain p
 
+-- where no demand is counted yet, the loads times least prices add up to 0
 pub priced_none : (p : Parts) (r : Forbidden) (prices : List ℕ) → ArePriced p r prices 0 0
 priced_none p r prices = record { has = HasSum-none (λ k x. IsLeastPrice p r prices k x) (λ k x. (demand_at p k).load * x); small = omega arith }
 
+-- the load of the next demand times its least price adds to those of the demands before it
 pub priced_next : (p : Parts) (r : Forbidden) (prices : List ℕ) (n total price : ℕ) → n < length p.demands → ArePriced p r prices n total → IsLeastPrice p r prices n price
     → price * total_load p ≤ 511 * MAX_PRICED_LOAD → ArePriced p r prices (n + 1) (total + (demand_at p n).load * price)
 priced_next p r prices n total price within priced is small =
@@ -80,8 +82,10 @@ priced_next p r prices n total price within priced is small =
       small = omega (arith, here, priced.small);
     })
 
+-- the loads of the first demands times their least prices add up to at most 511 times MAX_PRICED_LOAD
 pub priced-within : (p : Parts) (r : Forbidden) (prices : List ℕ) (n total : ℕ) → n ≤ length p.demands → ArePriced p r prices n total → total ≤ 511 * MAX_PRICED_LOAD
 priced-within p r prices n total within priced = omega (arith, priced.small, whole-le p n within)
 
+-- the loads of all demands times their least prices add up to the price total
 pub priced_all : (p : Parts) (r : Forbidden) (prices : List ℕ) (total : ℕ) → ArePriced p r prices (length p.demands) total → IsPriceTotal p r prices total
 priced_all p r prices total priced = record { least_prices = priced.has.terms; are_least = priced.has.are_terms; is_total = priced.has.is_sum }

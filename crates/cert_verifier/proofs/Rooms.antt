@@ -23,5 +23,6 @@ sum_below-rises f m (suc n) h = elim (either_way m n h) [
 abbrev pub room_price_to : Parts → List LoadRange → List ℕ → ℕ → ℕ
 room_price_to p ranges prices n = sum_below (λ q. slice_index prices q * room_at p ranges q) n
 
+-- what the first places and the next one come to is no more than what all places come to
 pub first-le-room_price : (p : Parts) (ranges : List LoadRange) (prices : List ℕ) (n : ℕ) → n < places p → room_price_to p ranges prices n + slice_index prices n * room_at p ranges n ≤ room_price p ranges prices
 first-le-room_price p ranges prices n within = sum_below-rises (λ q. slice_index prices q * room_at p ranges q) (suc n) (places p) within

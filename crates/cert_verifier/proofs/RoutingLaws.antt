@@ -35,6 +35,7 @@ need_is p d loads e within are_loads =
     ap (λ (x : ℕ). max x (back_of p (slice_index loads) e)) (there_is p d loads e within are_loads)
     ∙ ap (λ (y : ℕ). max (there_of p (load_at p d) e) y) (back_is p d loads e within are_loads)
 
+-- where a design has the only paths, each demand has a permitted path
 pub only_paths : (p : Parts) (r : Forbidden) (d : Design) → AreOnlyPaths p r d → HavePaths p r
 only_paths p r d only k below = (path_at d k, (only k below).permitted)
 
@@ -42,11 +43,13 @@ only_paths p r d only k below = (path_at d k, (only k below).permitted)
 pub not_only_paths : (p : Parts) (r : Forbidden) → HasSecond p r → HaveOnlyPaths p r → ⊥
 not_only_paths p r more have = more.second (path_at have.0 more.demand) (have.1 more.demand more.within)
 
+-- where the loads of the only paths have a cost, each link can carry what it needs for these paths
 pub only_carry : (p : Parts) (r : Forbidden) (d : Design) (loads : List ℕ) (total : ℕ) → AreOnlyPaths p r d → AreLoadsOf p d loads → IsCostOfLoads p loads total → CanCarryAll p r
 only_carry p r d loads total only are_loads is other only_other e below =
     let cost = is.are_costs e below in
     (cost.is_least.counts, subst (λ (load : ℕ). Carries p e load cost.is_least.counts) (need_is p d loads e below are_loads ∙ only_need p r d other e below only only_other) cost.is_least.carries)
 
+-- where a link cannot carry its load of the only paths, not each link can carry what it needs
 pub only_overfull : (p : Parts) (r : Forbidden) (d : Design) (loads : List ℕ) → AreOnlyPaths p r d → AreLoadsOf p d loads → HasOverfull p loads → CanCarryAll p r → ⊥
 only_overfull p r d loads only are_loads over all =
     let can = all d only over.link over.within in
@@ -65,6 +68,7 @@ step_cost-unique p e load back a b ha hb = omega (arith, ha.is_sum, hb.is_sum, l
 step_cost-moves : (p : Parts) (e load back other other_back cost : ℕ) → load ≡ other → back ≡ other_back → IsStepCost p e load back cost → IsStepCost p e other other_back cost
 step_cost-moves p e load back other other_back cost there here is = subst (λ (x : ℕ). IsStepCost p e x other_back cost) there (subst (λ (y : ℕ). IsStepCost p e load y cost) here is)
 
+-- where the loads of the only paths cost at least so much, the only paths do
 pub routing_enough : (p : Parts) (r : Forbidden) (d : Design) (loads : List ℕ) (total cost : ℕ) → AreOnlyPaths p r d → AreLoadsOf p d loads → IsCostOfLoads p loads total → cost ≤ total → CostEnough p r cost
 routing_enough p r d loads total cost only are_loads is enough =
     record {
@@ -75,6 +79,7 @@ routing_enough p r d loads total cost only are_loads is enough =
       enough = omega (arith, enough, is.is_sum);
     }
 
+-- where the only paths cost at least so much, so do their loads
 pub routing_cost : (p : Parts) (r : Forbidden) (d : Design) (loads : List ℕ) (total cost : ℕ) → AreOnlyPaths p r d → AreLoadsOf p d loads → IsCostOfLoads p loads total → CostEnough p r cost → cost ≤ total
 routing_cost p r d loads total cost only are_loads is closed =
     let same = sum_below-same closed.step_costs is.step_costs (length p.links) (λ e below.
@@ -109,6 +114,7 @@ only_in_range p g one other e within first second h = record {
   back = subst (λ (x : ℕ). IsIn (range_back p g.ranges e) x) (only_back p g.forbidden one other e within first second) h.back;
 }
 
+-- a link that cannot carry its load of the only paths, or has a load outside its range, closes the region
 pub overfull_closes : (p : Parts) (g : Region) (d : Design) (loads : List ℕ) (link : LinkId) → AreOnlyPaths p g.forbidden d → AreLoadsOf p d loads → link.0 < length p.links → IsOverfull p g.ranges loads link.0 → ClosedByOverfull p g link
 overfull_closes p g d loads link only are_loads within over =
     record {

@@ -12,6 +12,7 @@ then_by-none (inr both) = both
 abbrev pub FindsOne : {F : Type 0} → (Option F → Type 0) → Type 0
 FindsOne {F} finds = (a b : Option F) → finds a → finds b → a ≡ b
 
+-- a rule finds at most one thing
 pub unless-one : {F : Type 0} (H : Type 0) (fault : F) → FindsOne (unless H fault)
 unless-one H fault a b (inl x) (inl y) = x.1 ∙ sym y.1
 unless-one H fault a b (inl x) (inr y) = absurd (y.0 x.0)
@@ -22,6 +23,7 @@ some_none : {F : Type 0} (a : Option F) → IsSome a → a ≡ None → ⊥
 some_none None some is = let bad : false ≡ true = some in cc
 some_none (Some x) some is = cc
 
+-- where rules find at most one thing, and so do the further ones, they do one after the other
 pub then_by-one : {F : Type 0} (first further : Option F → Type 0) → FindsOne first → FindsOne further → FindsOne (first then_by further)
 then_by-one first further one other a b (inl x) (inl y) = one a b x.1 y.1
 then_by-one first further one other a b (inl x) (inr y) = absurd (some_none a x.0 (one a None x.1 y.0))

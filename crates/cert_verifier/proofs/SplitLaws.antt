@@ -15,6 +15,7 @@ use Rattle.cert_verifier.specs.SplitRules.{SplitFinds, Exist, HaveArcs, Leave, A
 use Rattle.cert_verifier.proofs.FirstRules.{unless-none}
 use Rattle.cert_verifier.proofs.RuleLaws.{then_by-none, FindsOne, unless-one, then_by-one}
 
+-- a split that breaks no rule is one of the region
 pub split_found_none : (p : Parts) (r : Forbidden) (index : ℕ) (id : DemandId) (at : NodeId) (left right : List ArcId) → SplitFinds p r index id at left right None → IsSplit p r id at left right
 unfolding SplitFinds
 split_found_none p r index id at left right h =
@@ -35,6 +36,7 @@ split_found_none p r index id at left right h =
       disjoint = apart;
     }
 
+-- a split of the region breaks no rule
 pub split_finds_none : (p : Parts) (r : Forbidden) (index : ℕ) (id : DemandId) (at : NodeId) (left right : List ArcId) → IsSplit p r id at left right → SplitFinds p r index id at left right None
 unfolding SplitFinds
 split_finds_none p r index id at left right h =
@@ -53,11 +55,13 @@ split_finds_none p r index id at left right h =
       ),
     )
 
+-- of a split there is at most one first broken rule
 pub split_finds_one : (p : Parts) (r : Forbidden) (index : ℕ) (id : DemandId) (at : NodeId) (left right : List ArcId) → FindsOne (SplitFinds p r index id at left right)
 unfolding SplitFinds
 split_finds_one p r index id at left right =
     then_by-one _ _ (unless-one _ _) (then_by-one _ _ (unless-one _ _) (then_by-one _ _ (unless-one _ _) (then_by-one _ _ (unless-one _ _) (unless-one _ _))))
 
+-- a load split that breaks no rule is one of the region
 pub loads_found_none : (p : Parts) (ranges : List LoadRange) (index place load : ℕ) → LoadsFind p ranges index place load None → IsLoadSplit p ranges place load
 unfolding LoadsFind
 loads_found_none p ranges index place load h =
@@ -66,10 +70,12 @@ loads_found_none p ranges index place load h =
     let sides : HasBothSides (range_at ranges place) load = unless-none _ _ both.1 in
     record { is_place = exists; some_left = sides.some_left; some_right = sides.some_right }
 
+-- a load split of the region breaks no rule
 pub loads_find_none : (p : Parts) (ranges : List LoadRange) (index place load : ℕ) → IsLoadSplit p ranges place load → LoadsFind p ranges index place load None
 unfolding LoadsFind
 loads_find_none p ranges index place load h = inr (inl (h.is_place, refl), inl (record { some_left = h.some_left; some_right = h.some_right }, refl))
 
+-- of a load split there is at most one first broken rule
 pub loads_find_one : (p : Parts) (ranges : List LoadRange) (index place load : ℕ) → FindsOne (LoadsFind p ranges index place load)
 unfolding LoadsFind
 loads_find_one p ranges index place load = then_by-one _ _ (unless-one _ _) (unless-one _ _)

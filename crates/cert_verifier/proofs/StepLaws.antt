@@ -37,6 +37,7 @@ pub record IsSoFar (p : Parts) (plan : Plan) (index : ℕ) (turns : List Turn) (
 none_met : (p : Parts) (cuts : List Cut) → IsLeastBoundIn p cuts [] None
 none_met p cuts b is = absurd (let below : is.0 < 0 = is.2 in omega arith)
 
+-- before the first record no rule is broken, the whole region is left, and no leaf was met
 pub so_far-start : (p : Parts) (plan : Plan) (turns : List Turn) (g : Region) (least : Option ℤ) → turns ≡ [] → g ≡ whole_region p → least ≡ None → IsTrue (are_trees 1 plan.tree) → IsSoFar p plan 0 turns g least
 so_far-start p plan turns g least at_root empty none whole = record {
   gs = whole_region p ∷ [];

@@ -57,6 +57,7 @@ pub record AreSound (p : Parts) (plan : Plan) (gs : List Region) (nodes : List T
   pub valid : AreRatedTrees p plan.cuts (stated_cost plan) gs nodes
   pub kinds : list_any (is_wrong_kind plan) nodes ≡ false
 
+-- records that break no rule are valid trees, and of kinds that the plan may have
 pub records_found_none : (p : Parts) (plan : Plan) (nodes : List TreeNode) (gs : List Region) (index : ℕ) → IsTrue (are_trees (length gs) nodes) → RecordsFind p plan gs index nodes None → AreSound p plan gs nodes
 records_found_none p plan [] [] index whole h = record { valid = tt; kinds = refl }
 records_found_none p plan (node ∷ nodes) [] index whole h = absurd (let bad : false ≡ true = whole in cc)
@@ -67,6 +68,7 @@ records_found_none p plan (node ∷ nodes) (g ∷ gs) index whole h =
     let rest = records_found_none p plan nodes (children_at g node ++ gs) (suc index) (after-whole g node gs nodes whole) both.1 in
     record { valid = (here.valid, rest.valid); kinds = or-both_false _ _ here.kind rest.kinds }
 
+-- valid trees of kinds that the plan may have break no rule
 pub records_find_none : (p : Parts) (plan : Plan) (nodes : List TreeNode) (gs : List Region) (index : ℕ) → AreRatedTrees p plan.cuts (stated_cost plan) gs nodes → list_any (is_wrong_kind plan) nodes ≡ false → RecordsFind p plan gs index nodes None
 records_find_none p plan [] [] index valid kinds = refl
 records_find_none p plan (node ∷ nodes) [] index valid kinds = absurd valid
@@ -80,6 +82,7 @@ record_finds_one p plan g index (Split id at left right) = split_finds_one p g.f
 record_finds_one p plan g index (Loads place load) = loads_find_one p g.ranges index place load
 record_finds_one p plan g index (Leaf evidence) = then_by-one _ _ (unless-one _ _) (leaf_finds_one p plan.cuts (stated_cost plan) g index evidence)
 
+-- of records there is at most one first broken rule
 pub records_find_one : (p : Parts) (plan : Plan) (nodes : List TreeNode) (gs : List Region) (index : ℕ) → FindsOne (RecordsFind p plan gs index nodes)
 records_find_one p plan nodes [] index a b x y = x ∙ sym y
 records_find_one p plan [] (g ∷ gs) index a b x y = x ∙ sym y

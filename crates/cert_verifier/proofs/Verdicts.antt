@@ -27,18 +27,22 @@ is_memory (Kind index) = inr (λ e. cc)
 is_memory Size = inr (λ e. cc)
 is_memory (Budget examined budget) = inr (λ e. cc)
 
+-- a plan that the check accepts is valid
 pub answer-valid : {T : Type 0} (p : Parts) (plan : Plan) (answer : Result T Rejected) → IsSpellable plan → Tells (PlanFinds p plan) (result_err answer) → IfOk answer (λ _. IsValidPlan p plan)
 answer-valid p plan (Ok x) spelled h = none_is_valid p plan spelled (h (λ e. cc))
 answer-valid p plan (Err fault) spelled h = tt
 
+-- the claim of a plan that the check accepts is so
 pub answer-claim : {T : Type 0} (p : Parts) (plan : Plan) (answer : Result T Rejected) → IsSpellable plan → Tells (PlanFinds p plan) (result_err answer) → IfOk answer (λ _. HasItsClaim p plan)
 answer-claim p plan (Ok x) spelled h = valid_plan-claim p plan (none_is_valid p plan spelled (h (λ e. cc)))
 answer-claim p plan (Err fault) spelled h = tt
 
+-- a fault that the check tells is the first broken rule of the plan, or want of memory
 pub answer-fault : {T : Type 0} (p : Parts) (plan : Plan) (answer : Result T Rejected) → Tells (PlanFinds p plan) (result_err answer) → IfErr answer (IsRejection p plan)
 answer-fault p plan (Ok x) h = tt
 answer-fault p plan (Err fault) h = λ other. h (λ e. other cc)
 
+-- of a valid plan the check tells no fault but want of memory
 pub answer-accepted : {T : Type 0} (p : Parts) (plan : Plan) (answer : Result T Rejected) → Tells (PlanFinds p plan) (result_err answer) → IsValidPlan p plan → IfErr answer (λ fault. fault ≡ OutOfMemory)
 answer-accepted p plan (Ok x) h valid = tt
 answer-accepted p plan (Err fault) h valid = elim (is_memory fault) [

@@ -38,6 +38,7 @@ pub record AreWithin (p : Parts) (id : DemandId) (left right : List ArcId) : Typ
 side_within : (p : Parts) (r : Forbidden) (id : DemandId) (at : NodeId) (arcs : List ArcId) → IsSide p r id at arcs → All (λ a. a.0 < 2 * length p.links) arcs
 side_within p r id at arcs side = All-weaker (λ a. IsTrue (is_arc p a)) (λ a. a.0 < 2 * length p.links) (arc_within p) arcs side.are_arcs
 
+-- the demand and the arcs of a split of a region have numbers within those of the instance
 pub split-within : (p : Parts) (r : Forbidden) (id : DemandId) (at : NodeId) (left right : List ArcId) → IsSplit p r id at left right → AreWithin p id left right
 split-within p r id at left right h = record { demand = h.demand; left_within = side_within p r id at left h.left_side; right_within = side_within p r id at right h.right_side }
 
@@ -74,6 +75,7 @@ place-ranges p nodes (turn ∷ turns) g gs h =
     subst (λ (x : Region). AreRanges p x.ranges) (sym h.child)
     (child-ranges p h.parent h.split turn.range turn.is_right h.left h.right h.splits h.children (place-ranges p nodes turns h.parent h.more h.above))
 
+-- where the walk stands, each place has a range with a load
 pub stands-ranges : (p : Parts) (nodes : List TreeNode) (turns : List Turn) (g : Region) → StandsAt p nodes turns g → AreRanges p g.ranges
 stands-ranges p nodes turns g stands = place-ranges p nodes turns g stands.rest stands.is_place
 
@@ -182,6 +184,7 @@ entered p nodes index turns turns_after g g_after left right gs node had found s
 abbrev region : Forbidden → List LoadRange → Region
 region r ranges = record { forbidden = r; ranges = ranges }
 
+-- where marks and ranges are those of a region, the region that they make is this one
 pub region-is : (g : Region) (marks : Marks) (ranges : List LoadRange) → forbidden_by marks ≡ g.forbidden → ranges ≡ g.ranges → region_by marks ranges ≡ g
 region-is g marks ranges one other = ap₂ region one other
 

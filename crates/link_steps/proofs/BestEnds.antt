@@ -126,9 +126,11 @@ IsRestOf-all ends next =
 
 -- As the last ends are dropped.
 module _ (old ends : List End) (next : End) (corners : AreCorners old) (farther : (i : ℕ) → i < length old → (end_in old i).load < next.load) (dearer : (i : ℕ) → i < length old → (end_in old i).cost < next.cost) (rest : IsRestOf old next ends) where
+  -- the next end has a greater load than each end that is left
   pub rest-farther : (i : ℕ) → i < length ends → (end_in ends i).load < next.load
   rest-farther i below = rw (rest.front i below) (farther i (omega (arith, rest.within, below)))
 
+  -- the next end costs more than each end that is left
   pub rest-dearer : (i : ℕ) → i < length ends → (end_in ends i).cost < next.cost
   rest-dearer i below = rw (rest.front i below) (dearer i (omega (arith, rest.within, below)))
 
@@ -197,9 +199,11 @@ module _ (old ends : List End) (next : End) (corners : AreCorners old) (farther 
     from-at : from ≡ turn (end_in ends last) next
     from-at = from_is ∙ ap (λ (e : End). turn e next) item-at
 
+    -- the slope of the next end, where that of the last end, as it is read, is less
     pub IsFrom-item : again.from < from → IsFrom ends next from
     IsFrom-item less = IsFrom-last last from is from-at (subst (λ (e : End). e.from < from) again-at less)
 
+    -- the last end, as it is read, is dropped where the slope from it to the next end is at most its own
     pub IsRestOf-drop_item : 0 < last → from ≤ again.from → IsRestOf old next (take last ends)
     IsRestOf-drop_item positive flat = IsRestOf-drop last is positive (subst (λ (k : ℕ). k ≤ (end_in ends last).from) from-at (subst (λ (e : End). from ≤ e.from) again-at flat))
 
@@ -207,17 +211,20 @@ module _ (old ends : List End) (next : End) (corners : AreCorners old) (farther 
 module _ (steps : List Step) (top n : ℕ) (ends : List End) (next : End)
     (in_order : AreInOrder steps) (low : (i : ℕ) → i + 1 < length steps → (step_at steps i).reach < top) (within : n < length steps)
     (best : AreBestEnds steps top n ends) (next_cost : next.cost ≡ (step_at steps n).cost) (next_load : next.load ≡ min (step_at steps n).reach top) where
+  -- the end of the next step has a greater load than each best end of the steps before it
   pub end-farther : (i : ℕ) → i < length ends → (end_in ends i).load < next.load
   end-farther i below =
       let each = best.each i below in
       let earlier = each.within in
       omega (arith, next_load, each.load, low each.place (omega arith), in_order.rising each.place n earlier within)
 
+  -- the end of the next step costs more than each best end of the steps before it
   pub end-dearer : (i : ℕ) → i < length ends → (end_in ends i).cost < next.cost
   end-dearer i below =
       let each = best.each i below in
       omega (arith, next_cost, each.cost, in_order.dearer each.place n each.within within)
 
+  -- where there are not too many steps, the end of the next step costs little
   pub end-cheap : length steps ≤ MAX_STEPS → next.cost ≤ MAX_STEPS * MODULE_COST_BOUND
   end-cheap few = omega (arith, next_cost, in_order.cheap n within, within, few)
 
@@ -286,6 +293,7 @@ module _ (steps : List Step) (top n : ℕ) (ends : List End) (next : End)
               ];
         }
 
+-- before the first step, an empty list has the best ends
 pub AreBestEnds-none : (steps : List Step) (top : ℕ) → AreBestEnds steps top 0 []
 AreBestEnds-none steps top =
     record {

@@ -18,6 +18,7 @@ Beats-not_worse l steps (Some x) None m no_worse beats = λ j within past. absur
 Beats-not_worse l steps None (Some y) m no_worse beats = absurd no_worse
 Beats-not_worse l steps (Some x) (Some y) m no_worse beats = λ j within past. IsNoWorse-trans x y _ no_worse (beats j within past)
 
+-- a step that may be missing is no worse than itself
 pub IsNotWorse-same : (best : Option Step) → IsNotWorse best best
 IsNotWorse-same None = tt
 IsNotWorse-same (Some step) = record { cost = omega arith; reach = λ cheap. omega arith }

@@ -63,9 +63,11 @@ module _ (l : Link) (top : ℕ) (found : List ChoiceStep) (are : AreChoiceSteps 
   pub first-cost : (found_at found 0).cost ≡ 0
   first-cost = omega (arith, (are.least 0 0 (omega arith) first).least None tt (omega arith))
 
+  -- the first step reaches at least as far as what is pre-installed
   pub first-pre : l.pre ≤ (found_at found 0).reach
   first-pre = (are.choice 0 some).farthest None tt (omega arith)
 
+  -- each step costs at most as many times the module cost bound as there are steps before it
   pub cheap : ((m : ℕ) → m < length l.modules → (module_at l m).cost < MODULE_COST_BOUND) → (i : ℕ) → i < length found → (found_at found i).cost ≤ i * MODULE_COST_BOUND
   cheap modules zero within = omega (arith, first-cost)
   cheap modules (suc i) within =
@@ -103,6 +105,7 @@ module _ (l : Link) (top : ℕ) (found : List ChoiceStep) (are : AreChoiceSteps 
       ] in
       omega (arith, (are.none ((found_at found (length found - 1)).reach + 1) (omega arith)).0 nowhere has.pick has.is_pick, has.picked.reach)
 
+  -- each step past the pre-installed capacity, as it is kept, is of one module
   pub has-one : (i : ℕ) → i < length found → l.pre < (found_at found i).reach → IsOfOne l (kept_step (found_at found i))
   has-one i within past = of-one l (found_at found i).choice (found_at found i) refl (are.choice i within) past
 

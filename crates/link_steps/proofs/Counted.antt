@@ -40,6 +40,7 @@ step-load total l steps (suc i) are within =
       });
     }
 
+-- the costs of the steps are least module costs of loads up to the total load, in rising order
 pub AreCostsWithin-steps : {law : CountLaw} (total : ℕ) (l : Link) (steps : List Step) → AreSteps law total l steps → AreCostsWithin law total l (costs_of steps)
 AreCostsWithin-steps total l steps are =
     let long = length-costs_of steps in
@@ -48,6 +49,7 @@ AreCostsWithin-steps total l steps are =
       each = λ i within. rw (costs_of-at steps i (omega arith)) (step-load total l steps i are (omega arith));
     }
 
+-- where there are more steps than a number, the least module costs take more values than so many
 pub HasMoreSteps-steps : {law : CountLaw} (total : ℕ) (l : Link) (steps : List Step) (number : ℕ) → AreSteps law total l steps → number < length steps → HasMoreSteps law total l number
 HasMoreSteps-steps total l steps number are more =
     record { costs = costs_of steps; are_costs = AreCostsWithin-steps total l steps are; more = omega (arith, length-costs_of steps) }
@@ -59,6 +61,7 @@ carried-reached total l steps load counts are within carries =
     first_reaching steps load (length steps - 1) are.are_steps.in_order.rising (omega arith)
     (elim (either_way load (last_of steps).reach) [ inl reached ↦ reached | inr past ↦ absurd (none-carries total l steps load are within past counts carries) ])
 
+-- the least module costs take as many values as there are steps
 pub HasSteps-steps : {law : CountLaw} (total : ℕ) (l : Link) (steps : List Step) → AreAllSteps law total l steps → HasSteps law total l (length steps)
 HasSteps-steps total l steps are =
     record {
@@ -76,6 +79,7 @@ HasSteps-steps total l steps are =
       count = length-costs_of steps;
     }
 
+-- where all steps of a link are found, its least module costs take at most as many values as it may have steps
 pub HasAtMostSteps-steps : {law : CountLaw} (total : ℕ) (l : Link) (steps : List Step) → AreAllSteps law total l steps → HasAtMostSteps law total l MAX_STEPS
 HasAtMostSteps-steps total l steps are = record { number = length steps; has_steps = HasSteps-steps total l steps are; within = are.within }
 
@@ -110,6 +114,7 @@ place-le some all rising all_rising places (suc i) within found =
           ]
     ]
 
+-- the least module costs do not take both at most so many values and more than so many
 pub few-not-many : (law : CountLaw) (l : Link) (total number : ℕ) → HasAtMostSteps law total l number → HasMoreSteps law total l number → ⊥
 few-not-many law l total number few many =
     let steps = few.has_steps in

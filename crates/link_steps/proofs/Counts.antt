@@ -42,6 +42,7 @@ free-attained l m load free =
       attained = omega arith;
     }
 
+-- some counts carry a load as far as a first step reaches, at its cost
 pub first-attained : (total : ℕ) (l : Link) (step : Step) → IsFirstStep total l step → Attains Any l step.reach step.cost
 first-attained total l step first =
     elim (either_way step.reach l.pre) [

@@ -62,9 +62,11 @@ IsCommonDivisor-last a b none = record {
 
 -- Numbers of a list, one after the other.
 
+-- before the first number of a list, the divisor is 0
 pub IsDivisorBefore-none : (number : ℕ → ℕ) → IsDivisorBefore number 0 0
 IsDivisorBefore-none number = record { each = λ i below. absurd (omega arith); greatest = λ other times all. rw (let none : 0 * times ≡ 0 = omega arith in none) (multiple-zero other) }
 
+-- the common divisor of the divisor so far and the next number is the divisor of one number more
 pub IsDivisorBefore-next : (number : ℕ → ℕ) (n before divisor : ℕ) → IsDivisorBefore number n before → IsCommonDivisor before (number n) divisor → IsDivisorBefore number (n + 1) divisor
 IsDivisorBefore-next number n before divisor old is = record {
   each = λ i below. elim (before_or_last i n below) [ inl earlier ↦ multiple-trans divisor before (number i) is.first (old.each i earlier) | inr new ↦ rw new is.second ];
@@ -77,6 +79,7 @@ pub record DividesTo (l : Link) (count number divisor : ℕ) : Type 0 where
   pub modules : (m : ℕ) → m < count → IsMultiple divisor (module_at l m).cost
   pub greatest : (other : ℕ) → IsMultiple other number → ((m : ℕ) → m < count → IsMultiple other (module_at l m).cost) → IsMultiple other divisor
 
+-- before the first module, the divisor is the number itself
 pub DividesTo-none : (l : Link) (number : ℕ) → DividesTo l 0 number number
 DividesTo-none l number = record { old = multiple-self number; modules = λ m below. absurd (omega arith); greatest = λ other of_old all. of_old }
 
@@ -85,6 +88,7 @@ greatest-once a b divisor other is of_a of_b =
     let once = is.greatest other 1 (multiple-times other a 1 of_a) (multiple-times other b 1 of_b) in
     rw (let same : divisor * 1 ≡ divisor = omega arith in same) at once
 
+-- with one module more, the divisor is the common divisor of the one so far and the module's cost
 pub DividesTo-next : (l : Link) (n number before cost divisor : ℕ) → cost ≡ (module_at l n).cost → DividesTo l n number before → IsCommonDivisor before cost divisor → DividesTo l (n + 1) number divisor
 DividesTo-next l n number before cost divisor cost_is old is = record {
   old = multiple-trans divisor before number is.first old.old;
@@ -92,6 +96,7 @@ DividesTo-next l n number before cost divisor cost_is old is = record {
   greatest = λ other of_old all. greatest-once before cost divisor other is (old.greatest other of_old (λ m below. all m (omega arith))) (rw cost_is (all n (omega arith)));
 }
 
+-- at the end of the modules, the divisor is that of the number and of the costs of all of them
 pub DividesTo-all : (l : Link) (n number divisor : ℕ) → n ≡ length l.modules → DividesTo l n number divisor → DividesWith l number divisor
 DividesTo-all l n number divisor is all = record {
   old = all.old;
@@ -99,9 +104,11 @@ DividesTo-all l n number divisor is all = record {
   greatest = λ other of_old each. all.greatest other of_old (λ m below. each m (omega (arith, is, below)));
 }
 
+-- before the first link, the divisor of the module costs is 0
 pub IsModuleDivisor-none : (p : Parts) → IsModuleDivisor p 0 0
 IsModuleDivisor-none p = record { divides = λ e m below. absurd (omega arith); greatest = λ other all. multiple-zero other }
 
+-- with one link more, the divisor is that of the one so far and of the costs of the link's modules
 pub IsModuleDivisor-next : (p : Parts) (n before divisor : ℕ) (l : Link) → l ≡ link_at p n → IsModuleDivisor p n before → DividesWith l before divisor → IsModuleDivisor p (n + 1) divisor
 IsModuleDivisor-next p n before divisor l l_is old with_l =
     let is : DividesWith (link_at p n) before divisor = subst (λ (x : Link). DividesWith x before divisor) l_is with_l in
@@ -124,6 +131,7 @@ product-multiple divisor routing load r l of_product (i, is) (j, js) =
     let whole : r * l * (i * j) ≡ routing * load = rw (← is, ← js) (omega arith) in
     rw whole at (multiple-times divisor (r * l) (i * j) of_product)
 
+-- the unit is 1 or the common divisor of that of module costs and that of routing costs times that of loads
 pub IsUnit-made : (p : Parts) (modules routing load divisor : ℕ) → IsModuleDivisor p (length p.links) modules → IsDivisorBefore (λ e. (link_at p e).routing) (length p.links) routing → IsDivisorBefore (λ k. (demand_at p k).load) (length p.demands) load
     → IsCommonDivisor modules (routing * load) divisor → IsUnit p (max divisor 1)
 IsUnit-made p modules routing load divisor of_modules of_routing of_load is = record {
@@ -141,4 +149,5 @@ IsUnit-made p modules routing load divisor of_modules of_routing of_load is = re
   is_unit = refl;
 }
 
+-- the divisor of the module costs, as the modules of a link and the links are gone through
 pub ruleset module_divisors = (DividesTo-none, DividesTo-next, DividesTo-all, IsModuleDivisor-none, IsModuleDivisor-next)

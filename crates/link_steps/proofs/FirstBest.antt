@@ -22,6 +22,7 @@ use Rattle.link_steps.proofs.NetValues.{value-price, loads-price}
 
 -- As candidates are looked at.
 
+-- link values with the same value and the same loads are the same
 pub same-parts : (v w : ℤ) (load back other other_back : ℕ) → v ≡ w → load ≡ other → back ≡ other_back → ◌≡◌ {A = LinkValue} (record { value = v; load = load; back = back }) (record { value = w; load = other; back = other_back })
 same-parts v w load back other other_back value_is load_is back_is = rw (value_is, load_is, back_is) refl
 
@@ -30,6 +31,7 @@ pub value-same : (price back_price cost r load back routing one other first seco
     → (pos (1000 * (routing * (one + other) + cost)) -ℤ pos (price * first + back_price * second)) ≡ value_at price back_price load back (r * (load + back) + cost)
 value-same price back_price cost r load back routing one other first second r_is one_is other_is first_is second_is = rw (r_is, one_is, other_is, first_is, second_is) refl
 
+-- the candidate of one step is the first of the least candidates of that step alone
 pub IsFirstBest-first : (l : Link) (ranges : LinkRanges) (price back_price : ℕ) (steps : List Step) (from : ℕ) (best : LinkValue) → best ≡ candidate l ranges price back_price (step_at steps from)
     → IsFirstBest l ranges price back_price steps from (from + 1) best
 IsFirstBest-first l ranges price back_price steps from best is =
@@ -105,9 +107,11 @@ best-load l price range reach some reached = by_cases (nat_lt (1000 * l.routing)
 
 -- Small numbers.
 
+-- where loads in a range cost little, a load up to its most costs little by routing
 pub routing-small : (l : Link) (price : ℕ) (range : LoadRange) (load : ℕ) → IsSmall l price range → load ≤ range.most → l.routing * load ≤ MAX_ROUTING_COST
 routing-small l price range load small few = omega (arith, small.routing, mul-le-mul_left l.routing few)
 
+-- where loads in a range cost little, a load up to its most costs little by its price
 pub priced-small : (l : Link) (price : ℕ) (range : LoadRange) (load : ℕ) → IsSmall l price range → load ≤ range.most → price * load ≤ MAX_PRICED_LOAD
 priced-small l price range load small few = omega (arith, small.priced, mul-le-mul_left price few)
 
@@ -125,8 +129,15 @@ IsFirstBest-level l ranges price back_price steps from to best level back_level 
       below = some;
       is = refl;
       least = λ i enough below.
-          rw (load_up_to-level l price ranges.there (step_at steps from).reach level, load_up_to-level l back_price ranges.back (step_at steps from).reach back_level, load_up_to-level l price ranges.there (step_at steps i).reach level, load_up_to-level l back_price ranges.back (step_at steps i).reach back_level)
-          (net-no_more l.routing ranges.there.least ranges.back.least ranges.there.least ranges.back.least (price * ranges.there.least) (back_price * ranges.back.least) (price * ranges.there.least) (back_price * ranges.back.least) (step_at steps i).cost (step_at steps from).cost (omega arith) (omega arith) (cost-le-later steps from i in_order enough (omega (arith, below, within))));
+          rw (
+            load_up_to-level l price ranges.there (step_at steps from).reach level,
+            load_up_to-level l back_price ranges.back (step_at steps from).reach back_level,
+            load_up_to-level l price ranges.there (step_at steps i).reach level,
+            load_up_to-level l back_price ranges.back (step_at steps i).reach back_level,
+          )
+          (net-no_more l.routing ranges.there.least ranges.back.least ranges.there.least ranges.back.least
+          (price * ranges.there.least) (back_price * ranges.back.least) (price * ranges.there.least) (back_price * ranges.back.least)
+          (step_at steps i).cost (step_at steps from).cost (omega arith) (omega arith) (cost-le-later steps from i in_order enough (omega (arith, below, within))));
       first = λ i enough before. absurd (omega arith);
     })
 
@@ -143,7 +154,8 @@ IsFirstBest-least : (p : Parts) (e : ℕ) (ranges : LinkRanges) (price back_pric
     → IsFirstBest (link_at p e) ranges price back_price steps from to best → IsFirstLeast (link_at p e) ranges (λ x. price * x) (λ x. back_price * x) steps from to best
 IsFirstBest-least p e ranges price back_price steps from to best in_ranges met is =
     let l = link_at p e in
-    let up_to : (i : ℕ) → from ≤ i → i < to → IsBestUpTo l ranges (λ x. price * x) (λ x. back_price * x) (step_at steps i) (candidate l ranges price back_price (step_at steps i)) = λ i enough below. candidate-best l ranges price back_price (step_at steps i) in_ranges.there.some in_ranges.other.some (met.reached i enough below) in
+    let up_to : (i : ℕ) → from ≤ i → i < to → IsBestUpTo l ranges (λ x. price * x) (λ x. back_price * x) (step_at steps i) (candidate l ranges price back_price (step_at steps i)) =
+    λ i enough below. candidate-best l ranges price back_price (step_at steps i) in_ranges.there.some in_ranges.other.some (met.reached i enough below) in
     record {
       place = is.place;
       enough = is.enough;
@@ -168,6 +180,8 @@ IsFirstBest-value p e ranges price back_price steps from to best are in_ranges m
       loads = loads-price p e ranges price back_price (λ x. price * x) (λ x. back_price * x) (λ x. refl) (λ x. refl) best.value best.load best.back found.loads;
     }
 
+-- the first of the least candidates, as the steps are looked at: the first one, one that stays, and one that is taken
 pub ruleset first_bests = (IsFirstBest-first, IsFirstBest-kept, IsFirstBest-taken)
 
+-- loads up to the most of a range whose loads cost little cost little, by routing and by price
 pub ruleset small_loads = (routing-small, priced-small)

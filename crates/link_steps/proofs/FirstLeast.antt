@@ -30,6 +30,7 @@ gap cheap dear x y le more =
     let product : cheap * (y - x) ≤ dear * (y - x) = mul-le-mul_right (y - x) le in
     subst (λ (n : ℕ). cheap * n + dear * x ≤ cheap * x + dear * n) is (omega (arith, product))
 
+-- strictly more of what is strictly dearer, in place of what is cheaper, makes strictly more
 pub strict-gap : (cheap dear x y : ℕ) → cheap < dear → x < y → cheap * y + dear * x < cheap * x + dear * y
 strict-gap cheap dear x y lt more =
     let is : x + (y - x) ≡ y = omega arith in
@@ -55,15 +56,18 @@ net-less r x y best_x best_y worth_x worth_y best_worth_x best_worth_y cost best
     crosswise : (c w o v : ℕ) → c + v < o + w → (pos c -ℤ pos w) <ℤ (pos o -ℤ pos v)
     crosswise c w o v h = omega (arith, ints)
 
+-- a whole number that is at most a second one is at most whatever the second one is at most
 pub le-trans : (v w x : ℤ) → v ≤ℤ w → w ≤ℤ x → v ≤ℤ x
 le-trans v w x one two = omega (arith, ints)
 
 not-less : (v x : ℤ) → v <ℤ x → x ≡ v → ⊥
 not-less v x less same = omega (arith, ints)
 
+-- a whole number below a second one is at most whatever the second one is at most
 pub under : (v w x : ℤ) → v <ℤ w → w ≤ℤ x → v ≤ℤ x
 under v w x lt le = omega (arith, ints)
 
+-- a whole number below a second one is below whatever the second one is at most
 pub below-old : (v w x : ℤ) → v <ℤ w → w ≤ℤ x → v <ℤ x
 below-old v w x lt le = omega (arith, ints)
 
@@ -89,6 +93,7 @@ module _ (l : Link) (ranges : LinkRanges) (there_worth back_worth : ℕ → ℕ)
       (net-no_more l.routing x y found.load found.back (there_worth x) (back_worth y) (there_worth found.load) (back_worth found.back) (step_at steps n).cost (step_at steps n).cost
       (is.there.no_more x reached.in_range (let here = rw same at reached.reached in omega (arith, here))) (is.other.no_more y reached.back_in_range (let here = rw same at reached.reached in omega (arith, here))) (omega arith))
 
+  -- what is best up to one step is the first least of that step alone
   pub IsFirstLeast-first : (from : ℕ) (best : LinkValue) → IsBestUpTo l ranges there_worth back_worth (step_at steps from) best → IsFirstLeast l ranges there_worth back_worth steps from (from + 1) best
   IsFirstLeast-first from best is = record {
     place = from;
@@ -174,6 +179,7 @@ pub record AreFound (steps : List Step) (ranges : LinkRanges) (from last : ℕ) 
   pub final : IsFirstReaching steps (max ranges.there.most ranges.back.most) last
   pub in_order : from < last + 1
 
+-- two searches find the first steps that reach the larger least load and the larger most load, in order
 pub AreFound-searches : (p : Parts) (e : ℕ) (ranges : LinkRanges) (steps : List Step) (from last : ℕ) → AreAllSteps p.law (total_load p) (link_at p e) steps → AreLinkRanges p e ranges
     → ((j : ℕ) → j < from → (step_at steps j).reach < max ranges.there.least ranges.back.least) → (from < length steps → max ranges.there.least ranges.back.least ≤ (step_at steps from).reach)
     → ((j : ℕ) → j < last → (step_at steps j).reach < max ranges.there.most ranges.back.most) → (last < length steps → max ranges.there.most ranges.back.most ≤ (step_at steps last).reach)
@@ -199,6 +205,7 @@ pub record IsBestNetValue (p : Parts) (e : ℕ) (ranges : LinkRanges) (there_wor
 module _ (p : Parts) (e : ℕ) (ranges : LinkRanges) (there_worth back_worth : ℕ → ℕ) (steps : List Step) (from to : ℕ) (best : LinkValue)
     (are : AreAllSteps p.law (total_load p) (link_at p e) steps) (in_ranges : AreLinkRanges p e ranges) (met : AreMet steps ranges from to)
     (found : IsFirstLeast (link_at p e) ranges there_worth back_worth steps from to best) where
+  -- the routing cost of the link for each load grain
   abbrev pub r : ℕ
   r = (link_at p e).routing
 
@@ -340,6 +347,7 @@ module _ (p : Parts) (e : ℕ) (ranges : LinkRanges) (there_worth back_worth : �
     pub in_order : from ≤ last
     pub reached : (i : ℕ) → from ≤ i → i < last + 1 → max ranges.there.least ranges.back.least ≤ (step_at steps i).reach
 
+  -- two searches find the first steps that reach the larger least load and the larger of the best loads, in order
   pub AreFoundTo-searches : (from last : ℕ) → ((j : ℕ) → j < from → (step_at steps j).reach < max ranges.there.least ranges.back.least) → (from < length steps → max ranges.there.least ranges.back.least ≤ (step_at steps from).reach)
       → ((j : ℕ) → j < last → (step_at steps j).reach < max load back) → (last < length steps → max load back ≤ (step_at steps last).reach) → AreFoundTo from last
   AreFoundTo-searches from last before here last_before last_here =

@@ -51,6 +51,7 @@ behind_within total l steps best are grown no_free beats (suc n) counts below sa
           record { cost = omega (arith, no_worse.cost); reach = λ cheap. omega (arith, no_worse.reach (omega (arith, cheap))) })
     ]
 
+-- counts that go past the last step cost at least the best next step, and with no more cost reach no farther
 pub next-behind : (total : ℕ) (l : Link) (steps : List Step) (best : Step) (counts : List ℕ) → AreSteps Any total l steps → AreGrown total l steps → HasNoFree l → ((m : ℕ) → m < length l.modules → Beats l steps (Some best) m)
     → length counts ≡ length l.modules → (last_of steps).reach < capacity_with l counts → IsBehind l best counts
 next-behind total l steps best counts are grown no_free beats same past =
@@ -60,6 +61,7 @@ next-behind total l steps best counts are grown no_free beats same past =
 abbrev pub push : List Step → Step → List Step
 push steps best = steps ++ best ∷ []
 
+-- one more step makes the list of steps longer by one
 pub length-push : (steps : List Step) (best : Step) → length (push steps best) ≡ length steps + 1
 length-push steps best = length-append steps (best ∷ [])
 
@@ -69,6 +71,7 @@ old-push steps best i within = get_or_append_left steps (best ∷ []) no_step i 
 new-push : (steps : List Step) (best : Step) (i : ℕ) → i ≡ length steps → step_at (push steps best) i ≡ best
 new-push steps best i is = ap (step_at (push steps best)) is ∙ get_or-append_seam steps best [] no_step
 
+-- the step that was added is the last one
 pub last-push : (steps : List Step) (best : Step) → last_of (push steps best) ≡ best
 last-push steps best = new-push steps best (length (push steps best) - 1) (omega (arith, length-push steps best))
 
@@ -186,6 +189,7 @@ module _ (total : ℕ) (l : Link) (steps : List Step) (best : Step)
         ];
   }
 
+  -- steps that may go on may still go on after the best next step is added
   pub AreOpenSteps-push : ((m : ℕ) → m < length l.modules → (module_at l m).cost < MODULE_COST_BOUND) → AreOpenSteps total l (push steps best)
   AreOpenSteps-push cheap_modules =
       record {
@@ -246,6 +250,7 @@ AreStarts-push l steps best starts next_step h =
           rw (last-push steps best, old_j) (omega (arith, h.passed m below j before)));
     }
 
+-- places that are all 0 are right for the modules
 pub AreStarts-none : (l : Link) (steps : List Step) → AreStarts l steps (none_of_each l)
 AreStarts-none l steps =
     let long : length (none_of_each l) ≡ length l.modules = length-replicate (length l.modules) 0 in

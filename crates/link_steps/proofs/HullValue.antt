@@ -89,12 +89,15 @@ above-zero : (n : ℕ) → pos 0 ≤ℤ (pos n -ℤ pos 0)
 above-zero n = omega (arith, ints)
 
 module _ (p : Parts) (e : ℕ) (price back_price : ℕ) (steps : List Step) (are : AreAllSteps p.law (total_load p) (link_at p e) steps) (one_way : is_two_way p.orient ≡ false → back_price ≡ 0) where
+  -- what is left of the price above the routing costs
   abbrev pub slope : ℕ
   slope = price - 1000 * (link_at p e).routing
 
+  -- what is left of the price of the place back above the routing costs
   abbrev pub back_slope : ℕ
   back_slope = back_price - 1000 * (link_at p e).routing
 
+  -- the whole load at a step: as far as it reaches, but at most the top load
   abbrev pub whole : ℕ → ℕ
   whole i = min (step_at steps i).reach (top_load p (link_at p e))
 
@@ -146,10 +149,12 @@ module _ (p : Parts) (e : ℕ) (price back_price : ℕ) (steps : List Step) (are
         enough = omega arith;
         below = is_best.is_end_of.within;
         is = same-parts _ _ load back _ _ (ends-value place best cost_is load_is) there_is back_is;
-        least = λ i enough below. subst (λ (v : ℤ). (pos (1000 * best.cost) -ℤ pos ((slope + back_slope) * best.load)) ≤ℤ v) (sym (candidate-value i)) (difference-le (1000 * best.cost) ((slope + back_slope) * best.load) (1000 * (step_at steps i).cost) ((slope + back_slope) * whole i) (is_best.outdoes i below).no_more);
+        least = λ i enough below. subst (λ (v : ℤ). (pos (1000 * best.cost) -ℤ pos ((slope + back_slope) * best.load)) ≤ℤ v) (sym (candidate-value i))
+            (difference-le (1000 * best.cost) ((slope + back_slope) * best.load) (1000 * (step_at steps i).cost) ((slope + back_slope) * whole i) (is_best.outdoes i below).no_more);
         first = λ i enough before.
             (let nearer : whole i < best.load = omega (arith, load_is, below-top p (link_at p e) steps place i are.are_steps before is_best.is_end_of.within, are.are_steps.in_order.rising i place before is_best.is_end_of.within) in
-            subst (λ (v : ℤ). (pos (1000 * best.cost) -ℤ pos ((slope + back_slope) * best.load)) <ℤ v) (sym (candidate-value i)) (difference-lt (1000 * best.cost) ((slope + back_slope) * best.load) (1000 * (step_at steps i).cost) ((slope + back_slope) * whole i) ((is_best.outdoes i (omega (arith, before, is_best.is_end_of.within))).less nearer)));
+            subst (λ (v : ℤ). (pos (1000 * best.cost) -ℤ pos ((slope + back_slope) * best.load)) <ℤ v) (sym (candidate-value i))
+            (difference-lt (1000 * best.cost) ((slope + back_slope) * best.load) (1000 * (step_at steps i).cost) ((slope + back_slope) * whole i) ((is_best.outdoes i (omega (arith, before, is_best.is_end_of.within))).less nearer)));
       })
 
   -- where no price is above the routing costs, carrying nothing is best
@@ -157,7 +162,8 @@ module _ (p : Parts) (e : ℕ) (price back_price : ℕ) (steps : List Step) (are
   nothing-value level =
       let there_is = (there-at 0).level (omega (arith, level)) in
       let back_is = (back-at 0).level (omega (arith, level)) in
-      let value : (i : ℕ) → (candidate (link_at p e) (whole_link p e) price back_price (step_at steps i)).value ≡ (pos (1000 * (step_at steps i).cost) -ℤ pos 0) = λ i. (let none : (slope + back_slope) * whole i ≡ 0 = rw level (omega arith) in candidate-value i ∙ ap (λ (n : ℕ). pos (1000 * (step_at steps i).cost) -ℤ pos n) none) in
+      let value : (i : ℕ) → (candidate (link_at p e) (whole_link p e) price back_price (step_at steps i)).value ≡ (pos (1000 * (step_at steps i).cost) -ℤ pos 0) =
+      λ i. (let none : (slope + back_slope) * whole i ≡ 0 = rw level (omega arith) in candidate-value i ∙ ap (λ (n : ℕ). pos (1000 * (step_at steps i).cost) -ℤ pos n) none) in
       IsFirstBest-value p e (whole_link p e) price back_price steps 0 (length steps) _ are whole-in_ranges whole-met
       (record {
         place = 0;
@@ -179,6 +185,7 @@ module _ (p : Parts) (e : ℕ) (ranges : LinkRanges) (price back_price : ℕ) (i
     attained = give.attained;
   }
 
+  -- the best value of whole ranges is best in smaller ranges too, where they have its loads
   pub best-within : (best : LinkValue) → IsIn ranges.there best.load → IsIn ranges.back best.back → IsBestValue p e (whole_link p e) price back_price best → IsBestValue p e ranges price back_price best
   best-within best there back is =
       let give : GiveValue p e ranges price back_price best.value best.load best.back = record { in_range = there; back_in_range = back; cost = is.loads.give.cost; is_cost = is.loads.give.is_cost; attained = is.loads.give.attained } in

@@ -33,6 +33,7 @@ none-at l m within = get_or-replicate {A = ℕ} (length l.modules) m 0 0 within
 length-none : (l : Link) → length (none_of_each l) ≡ length l.modules
 length-none l = length-replicate (length l.modules) 0
 
+-- at the place that is begun with, nothing is counted yet
 pub IsMadeSoFar-none : (l : Link) (steps : List Step) (place : ℕ) → IsMadeSoFar l steps place place (none_of_each l)
 IsMadeSoFar-none l steps place =
     record {
@@ -47,6 +48,7 @@ IsMadeSoFar-none l steps place =
 item-at : (counts : List ℕ) (m item : ℕ) → m < length counts → item ≡ get_or counts m item → item ≡ slice_index counts m
 item-at counts m item within is = is ∙ get_or_default counts m item 0 within
 
+-- the count of the module that the step here adds is at most the number of places gone back so far
 pub IsMadeSoFar-item : (l : Link) (steps : List Step) (place here item : ℕ) (counts : List ℕ) → AddsOne l steps here (step_at steps here) → IsMadeSoFar l steps place here counts
     → item ≡ get_or counts (step_at steps here).added item → item + here ≤ place
 IsMadeSoFar-item l steps place here item counts adds so_far is =

@@ -12,6 +12,7 @@ use Rattle.link_steps.specs.WorthValues.{net_value, GiveNetValue, IsLeastNetValu
 pub worth-none : (price x : ℕ) → worth price [] x ≡ price * x
 worth-none price x = omega arith
 
+-- where the list of rates has length 0, a load is worth its price
 pub worth-empty : (price : ℕ) (rated : List Rated) → length rated ≡ 0 → (x : ℕ) → worth price rated x ≡ price * x
 worth-empty price [] none x = worth-none price x
 worth-empty price (r ∷ rated) none x = absurd (omega arith)
@@ -38,6 +39,7 @@ module _ (p : Parts) (e : ℕ) (ranges : LinkRanges) (price back_price : ℕ) (t
     attained = value-same x y give.cost ∙ give.attained;
   }
 
+  -- where loads are worth their prices, the least net value is the link value
   pub value-price : (value : ℤ) → IsLeastNetValue p e ranges there_worth back_worth value → IsLinkValue p e ranges price back_price value
   value-price value is = record {
     load = is.load;
@@ -46,6 +48,7 @@ module _ (p : Parts) (e : ℕ) (ranges : LinkRanges) (price back_price : ℕ) (t
     least = λ x y c in_x in_y is_cost. subst (λ (v : ℤ). value ≤ℤ v) (value-same x y c) (is.least x y c in_x in_y is_cost);
   }
 
+  -- where loads are worth their prices, the link value is the least net value
   pub value-net : (value : ℤ) → IsLinkValue p e ranges price back_price value → IsLeastNetValue p e ranges there_worth back_worth value
   value-net value is = record {
     load = is.load;
@@ -54,6 +57,7 @@ module _ (p : Parts) (e : ℕ) (ranges : LinkRanges) (price back_price : ℕ) (t
     least = λ x y c in_x in_y is_cost. subst (λ (v : ℤ). value ≤ℤ v) (sym (value-same x y c)) (is.least x y c in_x in_y is_cost);
   }
 
+  -- where loads are worth their prices, the first loads of a net value are its first loads at the prices
   pub loads-price : (value : ℤ) (load back : ℕ) → AreFirstNetLoads p e ranges there_worth back_worth value load back → AreFirstLoads p e ranges price back_price value load back
   loads-price value load back are = record {
     give = give-price value load back are.give;
@@ -61,6 +65,7 @@ module _ (p : Parts) (e : ℕ) (ranges : LinkRanges) (price back_price : ℕ) (t
     each = λ x y other same. are.each x y (give-net value x y other) same;
   }
 
+  -- where loads are worth their prices, the first loads at the prices are the first loads of the net value
   pub loads-net : (value : ℤ) (load back : ℕ) → AreFirstLoads p e ranges price back_price value load back → AreFirstNetLoads p e ranges there_worth back_worth value load back
   loads-net value load back are = record {
     give = give-net value load back are.give;

@@ -40,9 +40,11 @@ abbrev pub counts_with : Link → Option ℕ → List ℕ
 counts_with l None = none_of_each l
 counts_with l (Some m) = set (none_of_each l) m 1
 
+-- there are as many choices as modules
 pub length-choices : (modules : List Module) → length (choices_of modules) ≡ length modules
 length-choices modules = length-map modules choice_of
 
+-- the choice of a number is the module of that number as a choice
 pub choices_of-at : (l : Link) (m : ℕ) → m < length l.modules → choice_at (choices_of l.modules) m ≡ choice_of (module_at l m)
 choices_of-at l m within = get_or-map choice_of l.modules m no_module (record { capacity = 0; cost = 0 }) within
 
@@ -57,6 +59,7 @@ pub record AreOfOne (l : Link) (m : ℕ) (counts : List ℕ) : Type 0 where
 pub sum-zeros : (n : ℕ) → sum_by (λ c. c) (replicate n 0) ≡ 0
 sum-zeros n = sum_by-replicate (λ (c : ℕ). c) n 0 ∙ mul-zero n
 
+-- one of a module and none of the others are the counts of that module
 pub AreOfOne-counts : (l : Link) (m : ℕ) → m < length l.modules → AreOfOne l m (set (none_of_each l) m 1)
 AreOfOne-counts l m within =
     let long : length (none_of_each l) ≡ length l.modules = length-replicate (length l.modules) 0 in
@@ -78,6 +81,7 @@ pub record ArePicked (l : Link) (pick : Option ℕ) (counts : List ℕ) : Type 0
   pub reach : capacity_with l counts ≡ reach_with l.pre (choices_of l.modules) pick
   pub cost : module_cost_with l counts ≡ cost_with (choices_of l.modules) pick
 
+-- the counts of a pick add to at most one, and have its reach and its cost
 pub ArePicked-counts : (l : Link) (pick : Option ℕ) → IsPick (choices_of l.modules) pick → ArePicked l pick (counts_with l pick)
 ArePicked-counts l None is =
     record {
@@ -111,5 +115,6 @@ by-kind l counts long (inl none) = has-pick l counts None tt (none ∙ ap (λ (n
 by-kind l counts long (inr (m, within, one)) =
     has-pick l counts (Some m) (omega (arith, within, long, length-choices l.modules)) (one ∙ ap (λ (n : ℕ). set (replicate {A = ℕ} n 0) m 1) long)
 
+-- counts that add to at most one have the reach and the cost of some pick
 pub HasPick-counts : (l : Link) (counts : List ℕ) → length counts ≡ length l.modules → sum_by (λ n. n) counts ≤ 1 → HasPick l counts
 HasPick-counts l counts long lawful = by-kind l counts long (none_or_one counts lawful)

@@ -94,6 +94,7 @@ IsLeastUnitPrice-unit p l steps unit are is_unit least =
           rw cost.is (omega (arith, at_end, smaller)));
     }
 
+-- what the least unit, or the lack of one, gives is the start price of a link's places
 pub IsStartPrice-unit : (p : Parts) (l : Link) (steps : List Step) (least : Option ℕ) → AreAllSteps p.law (total_load p) l steps → IsLeastUnit (share p) steps (top_load p l) (length steps) least
     → IsStartPrice p l (start_of p l least)
 IsStartPrice-unit p l steps None are h =
@@ -179,12 +180,14 @@ AreEndsOf-some p l ends are =
     let ahead = are.are_best.ahead 0 0 are.are_all.are_steps.in_order.some in
     omega (arith, ahead.within)
 
+-- each best end of a link costs little
 pub AreEndsOf-cheap : (p : Parts) (l : Link) (ends : List End) (i : ℕ) → AreEndsOf p l ends → i < length ends → (end_in ends i).cost ≤ MAX_STEPS * MODULE_COST_BOUND
 AreEndsOf-cheap p l ends i are within =
     let each = are.are_best.each i within in
     let cost_is : (end_in ends i).cost ≡ (step_at are.steps each.place).cost = each.cost in
     omega (arith, cost_is, are.are_all.are_steps.in_order.cheap each.place each.within, each.within, are.are_all.within)
 
+-- no best end of a link has more than the top load
 pub AreEndsOf-low : (p : Parts) (l : Link) (ends : List End) (i : ℕ) → AreEndsOf p l ends → i < length ends → (end_in ends i).load ≤ top_load p l
 AreEndsOf-low p l ends i are within =
     let each = are.are_best.each i within in

@@ -33,6 +33,7 @@ taken f rated (suc n) within =
 all : (f : Rated → ℕ) (rated : List Rated) → sum_by f rated ≡ sum_below (λ i. f (rated_at rated i)) (length rated)
 all f rated = rw (take_all (length rated) rated (omega arith)) at (taken f rated (length rated) (omega arith))
 
+-- a load is worth its price and what all its counted grains are worth
 pub worth-sum : (price : ℕ) (rated : List Rated) (load : ℕ) → worth price rated load ≡ price * load + counted_worth rated load
 worth-sum price rated load = omega (arith, all (λ r. r.rate * part r.batch load) rated)
 
@@ -64,6 +65,7 @@ same-part rated i load most x tallies within le same = omega (arith, same, part-
 CountFewer-more : (rated : List Rated) (n load most : ℕ) → CountFewer rated n load most → CountFewer rated (n + 1) load most
 CountFewer-more rated n load most fewer = record { place = fewer.place; within = omega (arith, fewer.within); positive = fewer.positive; fewer = fewer.fewer }
 
+-- before the first rate, the least load of the range is the counted load
 pub IsCountedLoad-none : (rated : List Rated) (least most : ℕ) → least ≤ most → IsCountedLoad rated least most 0 least
 IsCountedLoad-none rated least most some = record { enough = omega arith; few = some; same = λ i below. absurd (omega arith); less = λ x enough below. absurd (omega arith) }
 

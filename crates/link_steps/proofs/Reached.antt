@@ -26,6 +26,7 @@ reach-le steps i j rising le within =
       | inr lt ↦ omega (arith, rising i j lt within)
     ]
 
+-- where a step reaches a load, there is a first step that does
 pub first_reaching : (steps : List Step) (load k : ℕ) → AreRising steps → k < length steps → load ≤ (step_at steps k).reach → (i : ℕ) × IsFirstReaching steps load i
 first_reaching steps load zero rising within here = (0, record { within = within; here = here; before = λ j below. absurd (omega arith) })
 first_reaching steps load (suc k) rising within here =

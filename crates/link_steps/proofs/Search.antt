@@ -7,6 +7,7 @@ use Rattle.link_steps.proofs.Least.{IsLeastOf}
 pub record IsSearched {A : Type 0} (P : A → Type 0) (measure : A → ℕ) : Type 0 where
   pub outcome : ((a : A) × IsLeastOf P measure a) ⊎ ((a : A) → P a → ⊥)
 
+-- where there is nothing of a kind, the search for a least one is done
 pub searched-none : {A : Type 0} (P : A → Type 0) (measure : A → ℕ) → ((a : A) → P a → ⊥) → IsSearched P measure
 searched-none P measure none = record { outcome = inr none }
 

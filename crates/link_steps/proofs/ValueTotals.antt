@@ -30,7 +30,8 @@ either_way : (x y : ℕ) → (x ≤ y) ⊎ (y < x)
 either_way x y = grind arith
 
 -- the value of one link more
-has_next : (p : Parts) (ranges : List LoadRange) (prices : List ℕ) (place : ℕ) (total value : ℤ) → HasValueTotal p ranges prices place total → IsLinkValue p place (ranges_of_link p ranges place) (there_of p (slice_index prices) place) (back_of p (slice_index prices) place) value → HasValueTotal p ranges prices (suc place) (total +ℤ value)
+has_next : (p : Parts) (ranges : List LoadRange) (prices : List ℕ) (place : ℕ) (total value : ℤ) → HasValueTotal p ranges prices place total
+    → IsLinkValue p place (ranges_of_link p ranges place) (there_of p (slice_index prices) place) (back_of p (slice_index prices) place) value → HasValueTotal p ranges prices (suc place) (total +ℤ value)
 has_next p ranges prices place total value has is =
     record {
       values = with_value has.values place value;
@@ -48,6 +49,7 @@ down count total value before here = omega (arith, ints)
 up : (count : ℕ) (total value : ℤ) → total ≤ℤ pos (count * MAX_PRICED_LOAD) → value ≤ℤ pos MAX_PRICED_LOAD → (total +ℤ value) ≤ℤ pos (suc count * MAX_PRICED_LOAD)
 up count total value before here = omega (arith, ints)
 
+-- the sum with the value of the next link is the value total of one link more
 pub total_next : (p : Parts) (ranges : List LoadRange) (prices : List ℕ) (place : ℕ) (total value : ℤ) → IsValueTotal p ranges prices place total
     → IsLinkValue p place (ranges_of_link p ranges place) (there_of p (slice_index prices) place) (back_of p (slice_index prices) place) value
     → value ≤ℤ pos MAX_PRICED_LOAD → (pos 0 -ℤ pos (2 * MAX_PRICED_LOAD)) ≤ℤ value → IsValueTotal p ranges prices (place + 1) (total +ℤ value)
@@ -58,6 +60,7 @@ total_next p ranges prices place total value before is not_above bounded =
       bounded = down place total value before.bounded bounded;
     })
 
+-- the value total of no links is 0
 pub total_none : (p : Parts) (ranges : List LoadRange) (prices : List ℕ) → IsValueTotal p ranges prices 0 (pos 0)
 total_none p ranges prices =
     record {

@@ -14,10 +14,12 @@ fold_push : (p : Parts) (prices : List ℕ) (best : List ArcId) (paths : List (L
 fold_push p prices best [] path = refl
 fold_push p prices best (other ∷ paths) path = fold_push p prices (cheaper p prices best other) paths path
 
+-- a column alone is the least one
 pub least_column-one : (p : Parts) (prices : List ℕ) (path : List ArcId) → least_column p prices (path ∷ []) ≡ path
 unfolding least_column
 least_column-one p prices path = refl
 
+-- with one column more, the least one is the cheaper of the least one so far and the new one
 pub least_column-push : (p : Parts) (prices : List ℕ) (paths : List (List ArcId)) (path : List ArcId) → 0 < length paths → least_column p prices (paths ++ path ∷ []) ≡ cheaper p prices (least_column p prices paths) path
 unfolding least_column
 least_column-push p prices [] path some = absurd (omega arith)
@@ -80,6 +82,7 @@ first_least-fold p prices (path ∷ rest) done best h =
     subst (λ (xs : List (List ArcId)). IsFirstLeast p prices xs (fold (cheaper p prices) (cheaper p prices best path) rest)) (append_assoc done (path ∷ []) rest)
     (first_least-fold p prices rest (done ++ path ∷ []) (cheaper p prices best path) (first_least-push p prices done best path h))
 
+-- the least column of some is the first of those that cost least
 pub first_least : (p : Parts) (prices : List ℕ) (paths : List (List ArcId)) → 0 < length paths → IsFirstLeast p prices paths (least_column p prices paths)
 unfolding least_column
 first_least p prices [] some = absurd (omega arith)

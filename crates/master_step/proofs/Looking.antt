@@ -91,6 +91,7 @@ pub least-column : (p : Parts) (source : Source) (prices : List ℕ) (k : ℕ) (
 least-column p source prices k least h =
     h.is_path ∙ ap (λ (xs : List (List ArcId)). least_column p prices (filter (is_allowed source k) xs)) (take_all (length (all_of source k)) (all_of source k) (omega arith))
 
+-- the price of the least of all columns of a demand is that of its least column
 pub least-price : (p : Parts) (source : Source) (prices : List ℕ) (k : ℕ) (least : Least) → IsLeastAt p prices (is_allowed source k) (all_of source k) (length (all_of source k)) least
     → least.price ≡ least_price p prices (allowed_of source k)
 least-price p source prices k least h =

@@ -21,6 +21,7 @@ module _ (p : Parts) (cuts : List Cut) (ranges : List LoadRange) (choices : Choi
       max_below-same (λ q. apart (slice_index rows.column_loads.items q) (slice_index rows.value_loads.items q)) (λ q. apart (column_load p choices numbers q) (slice_index rows.value_loads.items q)) (places p)
       (λ q below. ap (λ (x : ℕ). apart x (slice_index rows.value_loads.items q)) (loads.columns q below))
 
+  -- prices moved by the loads of the rows, with the widest gap times a power of 2 as divisor, make the trial of that power
   pub moved-trial : (greatest widest divisor j : ℕ) (trial : List ℕ) → greatest ≡ greatest_price p numbers → widest ≡ widest_gap p (slice_index rows.column_loads.items) (slice_index rows.value_loads.items) → 0 < widest → divisor ≡ widest * 2 ^ j
       → AreMoved p cuts numbers greatest divisor rows trial → IsTrial p cuts ranges choices numbers j trial
   moved-trial greatest widest divisor j trial is_greatest is_widest some is_divisor h =
@@ -55,12 +56,14 @@ loads-same p cuts ranges choices numbers rows other columns values h = record {
   values = subst (λ (v : Vec ℕ Global). AreValueLoads p cuts ranges numbers (slice_index v.items)) (sym values) h.values;
 }
 
+-- rows with the same loads as rows of which no load is above the total load have none above it either
 pub low-same : (p : Parts) (rows other : Rows) → other.column_loads ≡ rows.column_loads → other.value_loads ≡ rows.value_loads → AreLow p rows → AreLow p other
 low-same p rows other columns values h = record {
   columns = subst (λ (v : Vec ℕ Global). (q : ℕ) → q < places p → slice_index v.items q ≤ total_load p) (sym columns) h.columns;
   values = subst (λ (v : Vec ℕ Global). (q : ℕ) → q < places p → slice_index v.items q ≤ total_load p) (sym values) h.values;
 }
 
+-- rows with the same loads, and so many numbers of a trial, have room where the other rows have
 pub room-same : (count : ℕ) (rows other : Rows) → other.column_loads ≡ rows.column_loads → other.value_loads ≡ rows.value_loads → length other.trial ≡ count → HasRoom count rows → HasRoom count other
 room-same count rows other columns values trial h = record {
   columns = subst (λ (v : Vec ℕ Global). length v.items ≡ MAX_PLACES) (sym columns) h.columns;
@@ -75,12 +78,14 @@ doubled-fits widest j narrow few =
     let product : widest * 2 ^ j ≤ MAX_TOTAL_LOAD * 2 ^ 24 = mul-le-mul narrow power in
     omega (arith, product)
 
+-- a widest gap above 0, doubled some times, is above 0
 pub positive-times : (widest j : ℕ) → 0 < widest → 0 < widest * 2 ^ j
 positive-times widest j some =
     let power : 1 ≤ 2 ^ j = one-le-pow j 2 (omega arith) in
     let product : 1 * 1 ≤ widest * 2 ^ j = mul-le-mul {n₁ = 1} {m₁ = 1} {n₂ = widest} {m₂ = 2 ^ j} (omega arith) power in
     omega (arith, product)
 
+-- a gap doubled so many times, and then doubled again, is the gap doubled one time more
 pub doubled : (widest j : ℕ) → widest * 2 ^ j * 2 ≡ widest * 2 ^ (j + 1)
 doubled widest j =
     let power : 2 ^ (j + 1) ≡ 2 ^ j * 2 = rw add-one (pow-suc 2 j) in

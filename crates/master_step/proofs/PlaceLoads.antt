@@ -26,6 +26,7 @@ put-le p choices prices q k = by (uses_place p q (least_column p prices (choices
     by true = omega arith
     by false = omega arith
 
+-- what the least columns of the first demands put on a place is at most the total load
 pub puts-le : (p : Parts) (choices : Choices) (prices : List ℕ) (q n : ℕ) → n ≤ length p.demands → sum_below (put p choices prices q) n ≤ total_load p
 puts-le p choices prices q n within =
     omega (arith, sum_below-le (put p choices prices q) (λ k. (demand_at p k).load) n (λ k below. put-le p choices prices q k), loads-le p n within)

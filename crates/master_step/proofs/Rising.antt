@@ -28,6 +28,7 @@ trial-numbers p cuts ranges choices numbers j trial are h =
     })
 
 module _ (p : Parts) (cuts : List Cut) (ranges : List LoadRange) (choices : Choices) (numbers : List ℕ) (are : AreNumbers p cuts numbers) (ascent : Ascent) (fit : AreNumbers p cuts ascent.prices) (valued : IsRestrictedValue p cuts ranges choices ascent.prices ascent.new) where
+  -- where the step raises the value, the better of the step and an ascent raises it at least as much
   pub raised-best : (old : ℤ) (trial : List ℕ) (new : ℤ) → IsRaise p cuts ranges choices numbers old trial new → IsBestStepOf p cuts ranges choices numbers (raised_or trial old new ascent)
   raised-best old trial new raise = by (int_lt new ascent.new) refl
     where
@@ -50,6 +51,7 @@ module _ (p : Parts) (cuts : List Cut) (ranges : List LoadRange) (choices : Choi
         not_worse = λ other value is. same-le value new (one other value is);
       }
 
+  -- where no trial has a greater value, an ascent of greater value is a rise, and else the numbers are stalled
   pub same-best : (value : ℤ) → IsStalled p cuts ranges choices numbers value → IsBestStepOf p cuts ranges choices numbers (same_or value ascent)
   same-best value stalled = by (int_lt value ascent.new) refl
     where

@@ -37,6 +37,7 @@ price_of-le p prices limit (a ∷ arcs) all =
 few_arcs : (p : Parts) (k : ℕ) (arcs : List ArcId) → IsInstance p → k < length p.demands → IsSimplePath p (demand_at p k) arcs → length arcs ≤ MAX_PATH_LINKS
 few_arcs p k arcs inst within simple = omega (arith, length-IsSimplePath p (demand_at p k) arcs inst (inst.demands k no_demand within).source simple, inst.nodes)
 
+-- the price of a simple path is at most that of as many arcs as a path may have, each at the limit
 pub path-le : (p : Parts) (k : ℕ) (prices : List ℕ) (arcs : List ArcId) → IsInstance p → k < length p.demands → AreWithinLimit p prices → IsSimplePath p (demand_at p k) arcs → price_of p prices arcs ≤ MAX_PATH_LINKS * price_limit p
 path-le p k prices arcs inst within all simple =
     omega (arith, price_of-le p prices (price_limit p) arcs all, mul-le-mul_right (price_limit p) (few_arcs p k arcs inst within simple))

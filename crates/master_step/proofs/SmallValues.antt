@@ -15,6 +15,7 @@ use Rattle.master_step.specs.Choosing.{all_of, is_allowed, allowed_of, IsSource}
 use Rattle.master_step.proofs.LeastColumns.{first_least}
 use Rattle.master_step.proofs.SmallPrices.{path-le}
 
+-- the price of a demand's least column is at most that of as many arcs as a path may have, each at the limit
 pub small_price : (p : Parts) (source : Source) (prices : List ℕ) (k : ℕ) → IsInstance p → AreWithinLimit p prices → IsSource p source → HasColumns p (allowed_of source) → k < length p.demands
     → least_price p prices (allowed_of source k) ≤ MAX_PATH_LINKS * price_limit p
 small_price p source prices k inst within is has below =

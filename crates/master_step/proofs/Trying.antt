@@ -17,21 +17,26 @@ use Rattle.master_step.proofs.Uniqueness.{value-unique, trial-unique}
 either_way : (x y : ℕ) → (x ≤ y) ⊎ (y < x)
 either_way x y = grind arith
 
+-- where the test of two whole numbers says less, the first one is less
 pub int_lt-true : (v w : ℤ) → int_lt v w ≡ true → v <ℤ w
 int_lt-true v w h = grind (arith, ints)
 
+-- where the test of two whole numbers does not say less, the second one is at most the first
 pub int_lt-false : (v w : ℤ) → int_lt v w ≡ false → w ≤ℤ v
 int_lt-false v w h = grind (arith, ints)
 
 le-lt : (u v w : ℤ) → u ≤ℤ v → v <ℤ w → u <ℤ w
 le-lt u v w h k = omega (arith, ints)
 
+-- a whole number below a second one is below whatever the second one is below
 pub lt-lt : (u v w : ℤ) → u <ℤ v → v <ℤ w → u <ℤ w
 lt-lt u v w h k = omega (arith, ints)
 
+-- a whole number below another one is at most it
 pub lt-le : (u v : ℤ) → u <ℤ v → u ≤ℤ v
 lt-le u v h = omega (arith, ints)
 
+-- a whole number is at most one that is the same
 pub same-le : (u v : ℤ) → u ≡ v → u ≤ℤ v
 same-le u v h = omega (arith, ints)
 
@@ -53,6 +58,7 @@ module _ (p : Parts) (cuts : List Cut) (ranges : List LoadRange) (choices : Choi
   abbrev this : Best
   this = record { divisor = widest * 2 ^ n; value = value }
 
+  -- with one trial more, the best is the better of the best so far and this trial
   pub tried-next : (best : Option Best) → AreTried p cuts ranges choices numbers old widest n best → AreTried p cuts ranges choices numbers old widest (n + 1) (better_of old best this)
   tried-next None h = by (int_lt old value) refl
     where

@@ -28,6 +28,7 @@ net_value-unique p e ranges there back v w hv hw =
     (subst (λ (x : ℤ). v ≤ℤ x) hw.give.attained (hv.least hw.load hw.back hw.give.cost hw.give.in_range hw.give.back_in_range hw.give.is_cost))
     (subst (λ (x : ℤ). w ≤ℤ x) hv.give.attained (hw.least hv.load hv.back hv.give.cost hv.give.in_range hv.give.back_in_range hv.give.is_cost))
 
+-- numbers have at most one restricted value
 pub value-unique : (p : Parts) (cuts : List Cut) (ranges : List LoadRange) (choices : Choices) (numbers : List ℕ) (v w : ℤ) → IsRestrictedValue p cuts ranges choices numbers v → IsRestrictedValue p cuts ranges choices numbers w → v ≡ w
 value-unique p cuts ranges choices numbers v w hv hw =
     hv.is_sum
@@ -56,11 +57,13 @@ loads-unique p cuts ranges numbers e load back other other_back h k =
 pub place-unique : (p : Parts) (cuts : List Cut) (ranges : List LoadRange) (numbers : List ℕ) (loads others : ℕ → ℕ) → AreValueLoads p cuts ranges numbers loads → AreValueLoads p cuts ranges numbers others → (q : ℕ) → q < places p → loads q ≡ others q
 place-unique p cuts ranges numbers loads others h k q within = places-same p loads others q within (λ e below. loads-unique p cuts ranges numbers e _ _ _ _ (h e below) (k e below))
 
+-- the greatest of the same numbers is the same
 pub max_below-same : (f g : ℕ → ℕ) (n : ℕ) → ((i : ℕ) → i < n → f i ≡ g i) → max_below f n ≡ max_below g n
 max_below-same f g zero h = refl
 max_below-same f g (suc n) h =
     ap (λ (x : ℕ). max x (f n)) (max_below-same f g n (λ i below. h i (omega arith))) ∙ ap (λ (x : ℕ). max (max_below g n) x) (h n (omega arith))
 
+-- given numbers have at most one trial for each power of 2
 pub trial-unique : (p : Parts) (cuts : List Cut) (ranges : List LoadRange) (choices : Choices) (numbers : List ℕ) (j : ℕ) (trial other : List ℕ) → IsTrial p cuts ranges choices numbers j trial → IsTrial p cuts ranges choices numbers j other → trial ≡ other
 trial-unique p cuts ranges choices numbers j trial other h k =
     let loads : (q : ℕ) → q < places p → h.loads q ≡ k.loads q = place-unique p cuts ranges numbers h.loads k.loads h.are_loads k.are_loads in
@@ -97,21 +100,25 @@ same_place p cuts ranges choices numbers old other_old trial other new other_new
   ]
 ]
 
+-- two raises of the same numbers have the same trial
 pub raise-trial : (p : Parts) (cuts : List Cut) (ranges : List LoadRange) (choices : Choices) (numbers : List ℕ) (old other_old : ℤ) (trial other : List ℕ) (new other_new : ℤ) → IsRaise p cuts ranges choices numbers old trial new → IsRaise p cuts ranges choices numbers other_old other other_new
     → trial ≡ other
 raise-trial p cuts ranges choices numbers old other_old trial other new other_new h k =
     trial-unique p cuts ranges choices numbers h.j trial other h.is_trial
     (subst (λ (j : ℕ). IsTrial p cuts ranges choices numbers j other) (sym (same_place p cuts ranges choices numbers old other_old trial other new other_new h k)) k.is_trial)
 
+-- two raises of the same numbers have the same new value
 pub raise-value : (p : Parts) (cuts : List Cut) (ranges : List LoadRange) (choices : Choices) (numbers : List ℕ) (old other_old : ℤ) (trial other : List ℕ) (new other_new : ℤ) → IsRaise p cuts ranges choices numbers old trial new → IsRaise p cuts ranges choices numbers other_old other other_new
     → new ≡ other_new
 raise-value p cuts ranges choices numbers old other_old trial other new other_new h k =
     value-unique p cuts ranges choices other new other_new
     (subst (λ (xs : List ℕ). IsRestrictedValue p cuts ranges choices xs new) (raise-trial p cuts ranges choices numbers old other_old trial other new other_new h k) h.is_new) k.is_new
 
+-- numbers have at most one gain
 pub gain-unique : (p : Parts) (cuts : List Cut) (ranges : List LoadRange) (choices : Choices) (numbers : List ℕ) (old other_old new other_new : ℤ) → IsGain p cuts ranges choices numbers old new → IsGain p cuts ranges choices numbers other_old other_new → new ≡ other_new
 gain-unique p cuts ranges choices numbers old other_old new other_new h k = raise-value p cuts ranges choices numbers old other_old h.trial k.trial new other_new h.is_raise k.is_raise
 
+-- numbers that have a gain are not stalled
 pub gain-not_stalled : (p : Parts) (cuts : List Cut) (ranges : List LoadRange) (choices : Choices) (numbers : List ℕ) (old other_old new : ℤ) → IsGain p cuts ranges choices numbers old new → IsStalled p cuts ranges choices numbers other_old → ⊥
 gain-not_stalled p cuts ranges choices numbers old other_old new h k =
     let raise = h.is_raise in

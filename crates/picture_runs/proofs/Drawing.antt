@@ -34,6 +34,7 @@ same_bytes xs ys = (bytes_eq-Decides xs ys).0
 
 -- ---- texts
 
+-- what is drawn of the instance and the plan that the read texts spell is drawn of these texts
 pub drawn_texts : (name : Option Name) (names : Texts) (shelf : Told) (begun : ℕ) (net : NetworkFile) (parts : Parts) (plan : Plan) (status : Status) (bytes : List ℕ)
     → HoldsOfTexts shelf names begun (λ texts. IsProblem texts net parts (Some plan)) → IsDrawnSo net parts plan name status bytes
     → HoldsOfTexts shelf names begun (λ texts. IsDrawn name texts status bytes)

@@ -42,12 +42,15 @@ use Rattle.plan_assembly.proofs.PlanRecords.{records_sum, none_counted, some_cou
 
 -- What a tree is made from
 
+-- the records of a sound state's tree are one whole tree
 pub tree-whole : (s : State) → IsSound s → are_trees 1 (tree_of s) ≡ true
 tree-whole s h = valid-whole s.problem s.cuts (cutoff_of s) (whole s.problem ∷ []) (tree_of s) (tree_of-valid s h)
 
+-- a sound state has a node
 pub tree-some : (s : State) → IsSound s → 0 < length s.nodes
 tree-some s h = slice_get_within s.nodes 0 h.family.root h.family.is_root
 
+-- a sound state whose budget is not above the greatest one has fewer than 2^32 nodes
 pub tree-few : (s : State) → IsSound s → s.budget ≤ MAX_BUDGET → length s.nodes < 2 ^ 32
 tree-few s h small = let most = IsSound-nodes s h in omega arith
 
@@ -90,11 +93,13 @@ open_count-rest s h = let all = all_nodes s.nodes in let e = h.counts.examined i
 below-true : (a : ℕ) → 0 < a → nat_lt 0 a ≡ true
 below-true a some = grind arith
 
+-- where fewer nodes are examined than there are, the plan's status is undecided
 pub status-undecided : (s : State) → IsSound s → s.examined < length s.nodes → Undecided ≡ status_of s
 status-undecided s h less =
     let rest = open_count-rest s h in
     sym (ap (λ (b : Bool). status_by b s.incumbent) (below-true (open_count s) (omega arith)))
 
+-- where all nodes are examined, the plan's status is the one without open leaves
 pub status-closed : (s : State) → IsSound s → length s.nodes ≤ s.examined → status_by false s.incumbent ≡ status_of s
 status-closed s h all =
     let rest = open_count-rest s h in
@@ -210,6 +215,7 @@ module _ (s : State) (plan : Plan) (h : IsReachable s) (is : IsPlanOf s plan) wh
         within_budget = within;
       }
 
+  -- the plan of a state that is done is valid
   pub plan_valid : is_done s ≡ true → IsValidPlan s.problem plan
   plan_valid done = record {
     sizes = record { nodes = is.nodes; links = is.links; demands = is.demands; both = is.both };
@@ -220,5 +226,6 @@ module _ (s : State) (plan : Plan) (h : IsReachable s) (is : IsPlanOf s plan) wh
     status = has_status done;
   }
 
+  -- each split in a state's plan parts two paths of its demand, or two steps of its link
   pub plan_parts : PartsPaths s.problem plan.tree
   plan_parts = subst (PartsPaths s.problem) (sym is.tree) (tree_of-parts s sound)

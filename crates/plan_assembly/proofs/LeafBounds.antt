@@ -247,6 +247,7 @@ module _ (p : Parts) (r : Forbidden) (prices : List ℕ) (round : RoundState) (n
     further = λ k beyond. put-other k (λ e. absurd (omega arith)) ∙ before.further k (omega arith);
   }
 
+  -- when the length of the next demand is put, one demand more has its least price
   pub priced-next : (put : Bool) (new : RoundState) → (IsFalse put ↔ HasLength round.lengths number) → (IsTrue put → new ≡ with_length round number price)
       → ArePricedBefore p r prices new (number + 1)
   priced-next true new known is = subst (λ (x : RoundState). ArePricedBefore p r prices x (number + 1)) (sym (is refl)) priced-more
@@ -274,6 +275,7 @@ least-short p r prices k price lawful within below least =
     let is = least.attained in
     omega arith
 
+-- the lengths of the demands priced so far are at most the price limit times the most links of a path
 pub priced-short : (p : Parts) (r : Forbidden) (prices : List ℕ) (round : RoundState) (number : ℕ) → IsInstance p → AreWithinLimit p prices → ArePricedBefore p r prices round number → AreShort p round.lengths
 priced-short p r prices round number lawful within before k d there = by_length (get_or round.lengths k d) refl
   where
@@ -288,6 +290,7 @@ priced-short p r prices round number lawful within before k d there = by_length 
 pub priced-all : (p : Parts) (r : Forbidden) (prices : List ℕ) (round : RoundState) (number : ℕ) → length p.demands ≤ number → ArePricedBefore p r prices round number → left_in round.lengths ≡ 0
 priced-all p r prices round number all before = left-none round.lengths (λ k below. before.full k (let c = before.count in omega arith))
 
+-- when all demands are priced, the bound found of the round is the bound of the region at its prices
 pub priced-bound : (p : Parts) (cuts : List Cut) (g : Region) (prices : List ℕ) (round : RoundState) (number : ℕ) (found : Option ℤ) → length p.demands ≤ number → ArePricedBefore p g.forbidden prices round number
     → ((found ≡ None) ↔ (0 < left_in round.lengths)) → IfSome found (IsRoundBound p cuts g.ranges round.prices round.lengths) → IsBoundOrNone p cuts g prices found
 priced-bound p cuts g prices round number None all before none bound =
@@ -297,9 +300,11 @@ priced-bound p cuts g prices round number None all before none bound =
 priced-bound p cuts g prices round number (Some bound) all before none is =
     round_bound-bound p cuts g prices round.lengths bound (λ k price below at. before.least k price at) (subst (λ (ps : List ℕ). IsRoundBound p cuts g.ranges ps round.lengths bound) before.prices_are is)
 
+-- where a demand has no permitted path, the region has no bound
 pub unpriced-bound : (p : Parts) (cuts : List Cut) (g : Region) (prices : List ℕ) (k : ℕ) → k < length p.demands → HasNoPath p g.forbidden k → IsBoundOrNone p cuts g prices None
 unpriced-bound p cuts g prices k within none = λ bound is. let least = is.are_least k within in none least.path least.permitted
 
+-- how the least limit of a state begins at its cost and goes on node by node
 pub ruleset least_limits = (least-first, least-next)
 
 -- Costs
@@ -353,6 +358,7 @@ read-ground f o x ground mapped is = sym mapped ∙ ap (option_map f) is
 
 -- what is read of a node and its ground
 module _ (s : State) (h : IsReachable s) (grounds : List (Option Kept)) (has : HasGrounds s.problem s.nodes grounds) (n : ℕ) (within : n < length s.nodes) where
+  -- each node has a place among the kept regions
   pub ground-within : n < length grounds
   ground-within = subst (λ (m : ℕ). n < m) (sym has.count) within
 
@@ -364,19 +370,24 @@ module _ (s : State) (h : IsReachable s) (grounds : List (Option Kept)) (has : H
       node_there : slice_get s.nodes n ≡ Some node
       node_there = slice_get-get_or s.nodes n node within ∙ ap (λ (x : Node). Some x) (sym read_node)
 
+      -- the first prices of a node that is read are lawful prices and rates
       pub read-first : AreNumbers s.problem s.cuts node.first_prices
       read-first = first-prices s n node h node_there
 
       module _ (kept : Kept) (there : ground ≡ Some kept) where
+        -- the kept ranges of a node that is read give each place a load, and none above its link's top load
         pub read-ranges : AreRanges s.problem kept.ranges
         read-ranges = leaf-ranges s h grounds has n node node_there ground ground_there kept there
 
+        -- the recorded bound of an open leaf that is read is its bound at its kept prices
         pub read-recorded : (bound : ℤ) → bound_in (Some node) ≡ Some bound → IsLeafBoundOrNone s n (Some bound)
         read-recorded = leaf-recorded s h grounds has n node node_there ground ground_there kept there
 
+        -- where no bound is recorded, what the first prices give, bound or none, is so of the leaf
         pub read-priced : (found : Option ℤ) → bound_in (Some node) ≡ None → IsBoundOrNone s.problem s.cuts (region_in kept) node.first_prices found → IsLeafBoundOrNone s n found
         read-priced = leaf-priced s h grounds has n node node_there ground ground_there kept there
 
+-- what follows from what a result says of its value may be said of it instead
 pub if_ok-more : {X E : Type 0} (P Q : X → Type 0) (result : Result X E) → ((x : X) → P x → Q x) → IfOk result P → IfOk result Q
 if_ok-more P Q (Ok x) more is = more x is
 if_ok-more P Q (Err e) more is = tt

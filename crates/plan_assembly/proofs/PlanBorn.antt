@@ -138,6 +138,7 @@ parent-before nodes h m k found = by (slice_get nodes m) refl found.1
     by None e is = cc
     by (Some node) e is = by_fate node node.fate (h m node e) is
 
+-- a number without a node is not below the count of nodes
 pub beyond : (xs : List Node) (k : ℕ) → slice_get xs k ≡ None → length xs ≤ k
 beyond [] k none = omega arith
 beyond (x ∷ xs) zero none = cc
@@ -222,6 +223,7 @@ module _ (nodes : List Node) (i : ℕ) (node : Node) (d : Division) (one other :
       all : length after ≡ length nodes + 2
       all = length-append (set nodes i (divided_by d node)) (one ∷ other ∷ []) ∙ ap (λ (n : ℕ). n + 2) size
 
+  -- when a node is divided, each node but the root is still one child of one node
   pub AreBorn-divided : AreBorn after
   AreBorn-divided = record {
     apart = λ m e at. elim (same_or_other m i) [

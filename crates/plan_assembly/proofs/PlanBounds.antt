@@ -25,6 +25,7 @@ use Rattle.plan_assembly.proofs.PlanLeaves.{IsLeafOf, leaf-node, node-leaf}
 use Rattle.plan_assembly.proofs.PlanOpening.{kept-above, cost-above}
 pub use Rattle.plan_assembly.proofs.PlanFits.{plan_spellable}
 
+-- the cost of the design that a plan states is the cost of the incumbent
 pub cost-stated : (held : Option Incumbent) → option_map (λ (design : ℕ × Design). design.0) (stated_design held) ≡ option_map (λ (x : Incumbent). x.cost) held
 cost-stated None = refl
 cost-stated (Some held) = refl
@@ -55,6 +56,7 @@ module _ (s : State) (h : IsReachable s) (plan : Plan) (cuts : plan.cuts ≡ s.c
   open-bound bound leaf of (evidence.Far demand) same is = absurd is
   open-bound bound leaf of (evidence.Crowd prices) same is = absurd is
 
+  -- what the plan may state as bound is the held cost or the bound of an open leaf of the state
   pub candidate-limit : (bound : ℤ) → IsCandidate s.problem plan bound → IsLimitBelow s (length s.nodes) bound
   candidate-limit bound candidate = elim candidate [
     | inl cost ↦ inl (subst (λ (o : Option ℕ). IsSomeAnd o (λ c. pos c ≡ bound)) cost-is cost)
@@ -89,6 +91,7 @@ module _ (s : State) (h : IsReachable s) (plan : Plan) (cuts : plan.cuts ≡ s.c
   HasBoundOf-stated : IsStatedBound s plan.status plan.bound → HasBoundOf s.problem plan plan.status
   HasBoundOf-stated stated = by_status plan.status stated
 
+-- a bound that is stated by the state's status and its limits is the one that its plan has to state
 pub stated_bound-of : (s : State) (plan : Plan) → IsReachable s → plan.cuts ≡ s.cuts → plan.tree ≡ tree_of s → plan.design ≡ stated_design s.incumbent → IsStatedBound s plan.status plan.bound
     → HasBoundOf s.problem plan plan.status
 stated_bound-of s plan h cuts tree design stated = HasBoundOf-stated s h plan cuts tree design stated
@@ -113,6 +116,7 @@ stated-above s h plan cuts tree design opening bound is_opening Undecided has is
     subst (λ (o : Option ℤ). MatchOption o ((b : ℤ) → IsCandidate s.problem plan b → ⊥) (λ b. IsLeastCandidate s.problem plan b)) is has in
     limit-above s h opening bound is_opening (candidate-limit s h plan cuts tree design bound least.is_candidate)
 
+-- the bound of a state's plan is at least the bound of the root at the start prices
 pub plan_opening : (s : State) (plan : Plan) → IsReachable s → IsPlanOf s plan → HasOpeningBound s.problem plan
 plan_opening s plan h is opening bound is_opening stated =
     stated-above s h plan is.cuts is.tree is.design opening bound is_opening plan.status is.bound stated

@@ -179,6 +179,7 @@ cuts-fit p cuts are = record {
   each = λ i d within. subst (λ (cut : LoadCut). length cut.nodes ≡ p.nodes) (sym (get_or_default cuts i d no_cut within)) (are.are_cuts i within).count;
 }
 
+-- the plan of a state with a budget that is not 0 and not too great can be spelled
 pub plan_spellable : (s : State) (plan : Plan) → IsReachable s → 0 < s.budget → s.budget ≤ MAX_BUDGET → IsPlanOf s plan → IsSpellable plan
 plan_spellable s plan reachable some most is =
     let h = IsReachable-sound s reachable in

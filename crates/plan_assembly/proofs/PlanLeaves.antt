@@ -108,6 +108,7 @@ module _ (s : State) (h : IsSound s) where
           ∙ (ap (leaves_at (on_left ∷ on_right ∷ gs)) (append_assoc recs_left recs_right rest)
           ∙ (of_left ∙ (ap (λ (ls : List LeafAt). leaves_by p s.nodes nums_left ++ ls) of_right ∙ (both ∙ none))))
 
+  -- the leaves of a state's tree are those of its nodes in preorder
   pub leaves_of-tree : leaves_of p (tree_of s) ≡ leaves_by p s.nodes (preorder_of s.nodes)
   leaves_of-tree =
       let root = h.family.root in

@@ -102,15 +102,18 @@ module _ (nodes : List Node) (written before ns after : List ℕ) (n : ℕ) (nod
   held : slice_get nodes n ≡ Some node
   held = slice_get-get_or nodes n node parts.1 ∙ ap (λ (x : Node). Some x) (sym read)
 
+  -- the last number that waits is the number of a node
   pub written-within : n < length nodes
   written-within = parts.1
 
+  -- when the last number that waits is written, its children wait, and the whole is still the preorder
   pub written-next : IsWriting nodes (written ++ (n ∷ [])) after
   written-next = subst (IsWriting nodes (written ++ (n ∷ []))) (sym awaited) (record {
     within = within-with_children nodes ns n node node.fate (h n node held) parts.0;
     whole = append_assoc written (n ∷ []) _ ∙ ap (λ (rest : List ℕ). written ++ rest) (sym (waiting_for-last nodes h ns n node held)) ∙ still.whole;
   })
 
+  -- when the last number that waits is written, fewer numbers are still to come
   pub written-falls : length (waiting_for nodes after) < length (waiting_for nodes before)
   written-falls =
       subst₂ (λ (xs ys : List ℕ). length (waiting_for nodes xs) < length (waiting_for nodes ys)) (sym awaited) (sym popped)

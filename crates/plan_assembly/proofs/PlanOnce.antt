@@ -18,13 +18,16 @@ use Rattle.plan_assembly.proofs.PlanBorn.{division_by, division_in, division_at,
 
 -- Counts
 
+-- 0 plus a number is the number
 pub zero_plus : (x : ℕ) → 0 + x ≡ x
 zero_plus x = omega arith
 
+-- a number at the front of a list is in it once more
 pub times_in-same : (k : ℕ) (ns : List ℕ) → times_in k (k ∷ ns) ≡ 1 + times_in k ns
 times_in-same k ns =
     sum_by-cons (λ m. cond (k == m) 1 0) k ns ∙ ap (λ (b : Bool). cond b 1 0 + times_in k ns) (eq-eqb k k refl)
 
+-- another number at the front of a list does not change how often a number is in it
 pub times_in-other : (k n : ℕ) (ns : List ℕ) → k ≢ n → times_in k (n ∷ ns) ≡ times_in k ns
 times_in-other k n ns ne =
     sum_by-cons (λ m. cond (k == m) 1 0) n ns ∙ ap (λ (b : Bool). cond b 1 0 + times_in k ns) (ne_eqb k n ne) ∙ zero_plus (times_in k ns)

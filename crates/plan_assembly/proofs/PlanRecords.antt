@@ -114,6 +114,7 @@ records_sum s f g h same =
 
 -- Whether one is among them
 
+-- where no entry of a list is counted, none passes the test
 pub none_counted : {X : Type 0} (test : X → Bool) (xs : List X) → count_by test xs ≡ 0 → list_any test xs ≡ false
 none_counted test [] none = refl
 none_counted test (x ∷ xs) none = by (λ rest. none_counted test xs rest) (test x) refl
@@ -125,6 +126,7 @@ none_counted test (x ∷ xs) none = by (λ rest. none_counted test xs rest) (tes
     by below true e = let here : ◌≡◌ {A = ℕ} (cond (test x) 1 0) 1 = ap (λ (b : Bool). cond b 1 0) e in let f = first in absurd (omega arith)
     by below false e = let f = first in below (omega arith)
 
+-- where an entry of a list is counted, one passes the test
 pub some_counted : {X : Type 0} (test : X → Bool) (xs : List X) → 0 < count_by test xs → list_any test xs ≡ true
 some_counted test [] some = absurd (omega arith)
 some_counted test (x ∷ xs) some = by (λ rest. some_counted test xs rest) (test x) refl
@@ -167,6 +169,7 @@ module _ (nodes : List Node) (order : List ℕ) (i : ℕ) (loose : List (Option 
   is_node : number < length nodes
   is_node = are.within i 0 within
 
+  -- the next number of the order is a place of the loose records
   pub number-within : number < length loose
   number-within = let e = h.count in let x = is_node in omega arith
 
@@ -181,6 +184,7 @@ module _ (nodes : List Node) (order : List ℕ) (i : ℕ) (loose : List (Option 
       let all = are.once number is_node in
       omega arith
 
+  -- the record of the next number of the order is still there
   pub still_there : slice_get loose number ≡ Some (Some (record_at nodes number))
   still_there = h.left number is_node fresh
 
@@ -191,6 +195,7 @@ module _ (nodes : List Node) (order : List ℕ) (i : ℕ) (loose : List (Option 
       let both : ◌≡◌ {A = Option (Option TreeNode)} (Some place) (Some (Some (record_at nodes number))) = sym held ∙ still_there in
       cc
 
+  -- when the next record is taken out and put behind the others, one more number is picked
   pub IsPicking-next : (after : List (Option TreeNode)) (picked : List TreeNode) → after ≡ set loose number None → picked ≡ records ++ (record_at nodes number ∷ []) → IsPicking nodes order (i + 1) after picked
   IsPicking-next after picked after_is picked_is = record {
     count = ap (λ (xs : List (Option TreeNode)). length xs) after_is ∙ length-set loose number None ∙ h.count;

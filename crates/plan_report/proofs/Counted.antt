@@ -11,6 +11,7 @@ next n =
     sym (map-id (range_with_len 0 (n + 1))) ∙ map-range_with_len_more (λ (i : ℕ). i) 0 n n (zero-add n)
     ∙ ap (λ ns. ns ++ n ∷ []) (map-id (range_with_len 0 n))
 
+-- with the text of the next number, a loop over numbers has written the texts of one number more
 pub counted_more : (f : ℕ → List ℕ) (n : ℕ) (text old new : List ℕ) → old ≡ text ++ flat_map f (range_with_len 0 n) → new ≡ old ++ f n → new ≡ text ++ flat_map f (range_with_len 0 (n + 1))
 counted_more f n text old new is_old is_new =
     is_new ∙ ap (λ bytes. bytes ++ f n) is_old ∙ flat_map_more f text (range_with_len 0 n) n

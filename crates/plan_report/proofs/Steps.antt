@@ -10,6 +10,7 @@ use Rattle.plan_base.specs.Arcs.{link_at}
 use Rattle.link_steps.specs.Costs.{HasSteps}
 use Rattle.plan_report.specs.Lines.{HaveSteps}
 
+-- before any link is counted, there are no steps
 pub no_steps : (p : Parts) → HaveSteps p 0 0
 no_steps p = record { steps = []; one_each = refl; each = λ e within. absurd (omega arith); together = refl }
 

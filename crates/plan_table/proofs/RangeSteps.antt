@@ -64,6 +64,7 @@ pub record IsReady (p : Parts) (ranges : List LoadRange) (node : TreeNode) : Typ
   pub count : length ranges ≡ places p
   pub is_divisible : IsDivisible ranges node
 
+-- the next record of a valid tree has a range for each place, and loads above where it splits one
 pub ready : (net : NetworkFile) (p : Parts) (cuts : List Cut) (cost : Option ℕ) (i : ℕ) (pending : List (List LoadRange)) (ranges : List LoadRange) (node : TreeNode) (nodes : List TreeNode) (text all : List ℕ)
     → IsLeft net p cuts cost i (pending ++ ranges ∷ []) (node ∷ nodes) text all → IsReady p ranges node
 ready net p cuts cost i pending ranges node nodes text all h =
@@ -97,6 +98,7 @@ have-both : (p : Parts) (gs hs : List Region) → HaveRanges p gs → HaveRanges
 have-both p [] hs one other = other
 have-both p (g ∷ gs) hs one other = (one.0, have-both p gs hs one.1 other)
 
+-- once a record's lines are written and its children's ranges are pending, the records behind it are left
 pub one_on : (net : NetworkFile) (p : Parts) (cuts : List Cut) (cost : Option ℕ) (i : ℕ) (pending after : List (List LoadRange)) (ranges : List LoadRange) (node : TreeNode) (nodes : List TreeNode) (text new all : List ℕ)
     → IsLeft net p cuts cost i (pending ++ ranges ∷ []) (node ∷ nodes) text all → new ≡ text ++ leaf_ranges net p i ranges node → after ≡ pending ++ children_last ranges node
     → IsLeft net p cuts cost (i + 1) after nodes new all
@@ -120,6 +122,7 @@ one_on net p cuts cost i pending after ranges node nodes text new all h is_new i
 whole-ranges : (p : Parts) → AreRanges p (whole_ranges p) → HaveRanges p (whole p ∷ [])
 whole-ranges p are = (are, tt)
 
+-- before the first record, the whole tree is left, and the whole ranges of the instance are pending
 pub at_root : (net : NetworkFile) (p : Parts) (cuts : List Cut) (cost : Option ℕ) (nodes : List TreeNode) (pending : List (List LoadRange)) (ranges : List LoadRange) (text : List ℕ)
     → IsRatedTree p cuts cost nodes → AreRanges p ranges → ranges ≡ whole_ranges p → pending ≡ ranges ∷ [] → IsLeft net p cuts cost 0 pending nodes text (text ++ tree_ranges net p 0 (whole p ∷ []) nodes)
 at_root net p cuts cost nodes pending ranges text valid are is is_pending = record {
@@ -139,6 +142,7 @@ none_pending net p cuts cost i pending nodes text all h none = by h.regions (h.a
     by [] are lines = sym (append-nil text) ∙ lines
     by (g ∷ gs) are lines = absurd cc
 
+-- where no records are left, all lines are written
 pub no_records : (net : NetworkFile) (p : Parts) (cuts : List Cut) (cost : Option ℕ) (i : ℕ) (pending : List (List LoadRange)) (nodes : List TreeNode) (text all : List ℕ) → IsLeft net p cuts cost i pending (drop i nodes) text all → length nodes ≤ i → text ≡ all
 unfolding tree_ranges
 no_records net p cuts cost i pending nodes text all h ended = by h.regions (ap (λ (ns : List TreeNode). text ++ tree_ranges net p i h.regions ns) (sym (drop_all i nodes ended)) ∙ h.lines)

@@ -41,7 +41,8 @@ need_small p d e there back most inst is_there is_back is_most =
 no-more : (v : ℤ) → v ≤ℤ v
 no-more v = omega (arith, ints)
 
-undecided : (p : Parts) (plan : Plan) (unit cost : ℕ) (d : Design) → IsUnit p unit → IsStatedDesign p cost d → plan.design ≡ Some (cost, d) → (bound : Option ℤ) → MatchOption bound ((b : ℤ) → IsCandidate p plan b → ⊥) (λ b. IsLeastCandidate p plan b) → IfSome (option_map (raised unit) bound) (λ b. b ≤ℤ pos cost)
+undecided : (p : Parts) (plan : Plan) (unit cost : ℕ) (d : Design) → IsUnit p unit → IsStatedDesign p cost d → plan.design ≡ Some (cost, d) → (bound : Option ℤ)
+    → MatchOption bound ((b : ℤ) → IsCandidate p plan b → ⊥) (λ b. IsLeastCandidate p plan b) → IfSome (option_map (raised unit) bound) (λ b. b ≤ℤ pos cost)
 undecided p plan unit cost d is_unit stated same None none = tt
 undecided p plan unit cost d is_unit stated same (Some b) is =
     let own : IsSomeAnd (stated_cost plan) (λ c. pos c ≡ pos cost) = rw same refl in

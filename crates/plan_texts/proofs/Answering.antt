@@ -19,16 +19,23 @@ use Rattle.plan_texts.specs.Stops.{IsReadStop, TookMore}
 use Rattle.plan_texts.specs.Answers.{IsCheck, IsVerdict, IsReport, IsChecked, IsVerified, IsReported, IsRewritten, IsUpgraded, IsWhole, IsWritten, whole, cut}
 
 -- what holds of what the texts spell holds of a problem of the texts
-pub of_problem : (names : Texts) (shelf : Told) (begun : ℕ) (net : NetworkFile) (parts : Parts) (plan : Option Plan) (Holds : NetworkFile → Parts → Option Plan → Type 0) → HoldsOfTexts shelf names begun (λ texts. IsProblem texts net parts plan) → Holds net parts plan → HoldsOfTexts shelf names begun (λ texts. HoldsOfProblem texts Holds)
+pub of_problem : (names : Texts) (shelf : Told) (begun : ℕ) (net : NetworkFile) (parts : Parts) (plan : Option Plan) (Holds : NetworkFile → Parts → Option Plan → Type 0)
+    → HoldsOfTexts shelf names begun (λ texts. IsProblem texts net parts plan) → Holds net parts plan → HoldsOfTexts shelf names begun (λ texts. HoldsOfProblem texts Holds)
 of_problem names shelf begun net parts plan Holds h holds = record { texts = h.texts; read = h.read; holds = record { net = net; parts = parts; plan = plan; problem = h.holds; holds = holds } }
 
-pub checked_texts : (names : Texts) (shelf : Told) (begun : ℕ) (net : NetworkFile) (parts : Parts) (status : Status) (bytes : List ℕ) → HoldsOfTexts shelf names begun (λ texts. IsProblem texts net parts None) → IsCheck parts status bytes → HoldsOfTexts shelf names begun (λ texts. IsChecked texts status bytes)
+-- the check of an instance that texts spell is the check of these texts
+pub checked_texts : (names : Texts) (shelf : Told) (begun : ℕ) (net : NetworkFile) (parts : Parts) (status : Status) (bytes : List ℕ)
+    → HoldsOfTexts shelf names begun (λ texts. IsProblem texts net parts None) → IsCheck parts status bytes → HoldsOfTexts shelf names begun (λ texts. IsChecked texts status bytes)
 checked_texts names shelf begun net parts status bytes h is = of_problem names shelf begun net parts None (λ net parts plan. IsCheck parts status bytes) h is
 
-pub verified_texts : (names : Texts) (shelf : Told) (begun : ℕ) (net : NetworkFile) (parts : Parts) (plan : Plan) (status : Status) (bytes : List ℕ) → HoldsOfTexts shelf names begun (λ texts. IsProblem texts net parts (Some plan)) → IsVerdict parts plan status bytes → HoldsOfTexts shelf names begun (λ texts. IsVerified texts status bytes)
+-- the verdict on an instance and a plan that texts spell is the verdict on these texts
+pub verified_texts : (names : Texts) (shelf : Told) (begun : ℕ) (net : NetworkFile) (parts : Parts) (plan : Plan) (status : Status) (bytes : List ℕ)
+    → HoldsOfTexts shelf names begun (λ texts. IsProblem texts net parts (Some plan)) → IsVerdict parts plan status bytes → HoldsOfTexts shelf names begun (λ texts. IsVerified texts status bytes)
 verified_texts names shelf begun net parts plan status bytes h is = record { texts = h.texts; read = h.read; holds = record { net = net; parts = parts; plan = Some plan; problem = h.holds; holds = is } }
 
-pub reported_texts : (names : Texts) (shelf : Told) (begun : ℕ) (net : NetworkFile) (parts : Parts) (plan : Plan) (status : Status) (bytes : List ℕ) → HoldsOfTexts shelf names begun (λ texts. IsProblem texts net parts (Some plan)) → IsReport net parts plan status bytes → HoldsOfTexts shelf names begun (λ texts. IsReported texts status bytes)
+-- the report on an instance and a plan that texts spell is the report on these texts
+pub reported_texts : (names : Texts) (shelf : Told) (begun : ℕ) (net : NetworkFile) (parts : Parts) (plan : Plan) (status : Status) (bytes : List ℕ)
+    → HoldsOfTexts shelf names begun (λ texts. IsProblem texts net parts (Some plan)) → IsReport net parts plan status bytes → HoldsOfTexts shelf names begun (λ texts. IsReported texts status bytes)
 reported_texts names shelf begun net parts plan status bytes h is = record { texts = h.texts; read = h.read; holds = record { net = net; parts = parts; plan = Some plan; problem = h.holds; holds = is } }
 
 -- what is written of a plan is what is written of the text that spells it
@@ -41,9 +48,11 @@ read_from names shelf begun net parts plan h = record { model = h.holds.reads.op
 
 -- ---- what is written of an answer
 
+-- where the whole text of an answer or refusal was appended, it is written with its own status
 pub written_whole : (found : Result Answer Stop) (before now : Option (List ℕ)) (status : Status) (text : List ℕ) → IsWhole found status text → Appends before now text → IsWritten found before now status
 written_whole found before now status text is appends = whole text is appends
 
+-- where only a front of an answer's or refusal's text was appended, it is written with the status of a write fault
 pub written_cut : (found : Result Answer Stop) (before now : Option (List ℕ)) (status : Status) (text : List ℕ) (written : ℕ) → IsWhole found status text → written < length text → Appends before now (take written text) → IsWritten found before now WriteFault
 written_cut found before now status text written is short appends = cut status text written is short appends refl
 

@@ -49,13 +49,18 @@ unread names file name shelf number before now stops.OutOfMemory begun few named
 abbrev these : Option Name → Option Name → Option Name → Texts
 these network model plan = record { network = network; model = model; plan = plan }
 
+-- a command whose network text, the first begun, does not come in stops for that cause
 pub network_unread : (network : Name) (model plan : Option Name) (shelf : Told) (before now : ℕ) (stop : Stop) → Begun 1 before now → IsUnread shelf network files.Network stop → Stops (record { network = Some network; model = model; plan = plan }) shelf before now stop
 network_unread network model plan shelf before now stop begun why = unread (these (Some network) model plan) files.Network network shelf 1 before now stop begun (omega arith) refl refl why
 
-pub model-unread : (network : Option Name) (model : Name) (plan : Option Name) (shelf : Told) (before now : ℕ) (stop : Stop) → Begun (count_of network + 1) before now → WasRead shelf files.Network network → IsUnread shelf model files.Model stop → Stops (record { network = network; model = Some model; plan = plan }) shelf before now stop
+-- a command whose model text, begun once a named network was read, does not come in stops for that cause
+pub model-unread : (network : Option Name) (model : Name) (plan : Option Name) (shelf : Told) (before now : ℕ) (stop : Stop) → Begun (count_of network + 1) before now
+    → WasRead shelf files.Network network → IsUnread shelf model files.Model stop → Stops (record { network = network; model = Some model; plan = plan }) shelf before now stop
 model-unread network model plan shelf before now stop begun first why = unread (these network (Some model) plan) files.Model model shelf (count_of network + 1) before now stop begun (omega arith) refl (refl, first) why
 
-pub plan-unread : (network model : Option Name) (plan : Name) (shelf : Told) (before now : ℕ) (stop : Stop) → Begun (count_of network + count_of model + 1) before now → WasRead shelf files.Network network → WasRead shelf files.Model model → IsUnread shelf plan files.Plan stop → Stops (record { network = network; model = model; plan = Some plan }) shelf before now stop
+-- a command whose plan text, begun once the other named texts were read, does not come in stops for that cause
+pub plan-unread : (network model : Option Name) (plan : Name) (shelf : Told) (before now : ℕ) (stop : Stop) → Begun (count_of network + count_of model + 1) before now
+    → WasRead shelf files.Network network → WasRead shelf files.Model model → IsUnread shelf plan files.Plan stop → Stops (record { network = network; model = model; plan = Some plan }) shelf before now stop
 plan-unread network model plan shelf before now stop begun first second why = unread (these network model (Some plan)) files.Plan plan shelf (count_of network + count_of model + 1) before now stop begun (omega arith) refl (refl, first, second) why
 
 -- a plan by itself does not come in
@@ -85,6 +90,7 @@ read-stop : (names : Texts) (shelf : Told) (number : ℕ) (texts : Texts) (stop 
 read-stop names shelf number texts (stops.Refused fault) read is = refusal names shelf number texts fault read is
 read-stop names shelf number texts stops.OutOfMemory read is = omega (arith, read.all)
 
+-- where all named texts were read, a command stops for the cause for which they are refused
 pub texts_stop : (names : Texts) (shelf : Told) (number before now : ℕ) (texts : Texts) (stop : Stop) → AreRead shelf names number texts → Begun number before now → IsTextStop texts stop → Stops names shelf before now stop
 texts_stop names shelf number before now texts stop read begun is = record { begun = number; rises = begun; few = omega (arith, read.all); is = read-stop names shelf number texts stop read is }
 
@@ -92,8 +98,10 @@ texts_stop names shelf number before now texts stop read begun is = record { beg
 pub memory_after_one : (plan : List ℕ) (shelf : Told) (before now : ℕ) → Begun 1 before now → Stops (alone plan) shelf before now stops.OutOfMemory
 memory_after_one plan shelf before now begun = record { begun = 1; rises = begun; few = omega arith; is = omega arith }
 
+-- a command that has begun its network and its model may stop for want of memory
 pub memory_after_two : (network model : List ℕ) (shelf : Told) (before now : ℕ) → Begun 2 before now → Stops (two network model) shelf before now stops.OutOfMemory
 memory_after_two network model shelf before now begun = record { begun = 2; rises = begun; few = omega arith; is = omega arith }
 
+-- a command that has begun its network, its model and its plan may stop for want of memory
 pub memory_after_three : (network model plan : List ℕ) (shelf : Told) (before now : ℕ) → Begun 3 before now → Stops (three network model plan) shelf before now stops.OutOfMemory
 memory_after_three network model plan shelf before now begun = record { begun = 3; rises = begun; few = omega arith; is = omega arith }

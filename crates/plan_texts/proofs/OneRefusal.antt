@@ -33,7 +33,31 @@ use Rattle.plan_report.specs.declared.run_fault.RunFault.TheVariants as faults
 use Rattle.plan_texts.specs.declared.status.Status.{Status}
 use Rattle.plan_texts.specs.declared.status.Status.TheVariants.{Good, Rejected}
 use Rattle.plan_texts.specs.Texts.{Texts, nothing}
-use Rattle.plan_texts.specs.Refusals.{SpellsItsNetwork, SpellsItsModel, Reads, SpellsItsPlan, HasItsNetwork, HasItsModel, HasItsPlan, HasFewSteps, IsPlanFault, misplaced, ended, IsNetworkRefused, IsModelRefused, IsPlanRefused, IsMisfit, IsPastSteps, AreRefused, IsProblem, IsPlanAlone, AreGood, a_problem, a_plan, no_texts}
+use Rattle.plan_texts.specs.Refusals.{
+  SpellsItsNetwork,
+  SpellsItsModel,
+  Reads,
+  SpellsItsPlan,
+  HasItsNetwork,
+  HasItsModel,
+  HasItsPlan,
+  HasFewSteps,
+  IsPlanFault,
+  misplaced,
+  ended,
+  IsNetworkRefused,
+  IsModelRefused,
+  IsPlanRefused,
+  IsMisfit,
+  IsPastSteps,
+  AreRefused,
+  IsProblem,
+  IsPlanAlone,
+  AreGood,
+  a_problem,
+  a_plan,
+  no_texts,
+}
 use Rattle.plan_texts.specs.Answers.{IsRejection, IsVerdict, accepted, rejected, IsVerified}
 use Rattle.plan_texts.specs.OneAnswer.{Below}
 
@@ -86,6 +110,7 @@ cause-of texts (faults.Read file) is = absurd is
 
 -- ---- what a text that is there spells
 
+-- the network text, where there is one, spells one network at most
 pub one-network : Below → (text : Option (List ℕ)) (a b : NetworkFile) → SpellsItsNetwork text a → SpellsItsNetwork text b → a ≡ b
 one-network below None a b one two = absurd one
 one-network below (Some text) a b one two = below.one_network text a b one two
@@ -158,6 +183,7 @@ no-files below texts cause net parts misfit some reads =
     let is : IsCheckFault net reads.options cause = subst (λ (o : ModelFile). IsCheckFault net o cause) models (subst (λ (n : NetworkFile). IsCheckFault n misfit.options cause) nets misfit.is) in
     some (below.no_refusal net reads.options parts cause reads.stands reads.lawful is)
 
+-- texts stand for one instance at most
 pub same-parts : Below → (texts : Texts) (one_net other_net : NetworkFile) (a b : Parts) → Reads texts one_net a → Reads texts other_net b → a ≡ b
 same-parts below texts one_net other_net a b one other =
     let nets : one_net ≡ other_net = one-network below texts.network one_net other_net one.network_text other.network_text in
@@ -234,6 +260,7 @@ same-cause below texts a b (of_steps limit link past say) (of_plan rule at first
 same-cause below texts a b (of_steps limit at past say) (of_files of) = absurd (no-files below texts of.cause past.net past.parts of.misfit of.real past.reads)
 same-cause below texts a b (of_steps limit at past say) (of_steps bound place other told) = say ∙ same-steps below texts limit at bound place past other ∙ sym told
 
+-- texts are refused in one way at most
 pub one_refusal : Below → (texts : Texts) (a b : RunFault) → AreRefused texts a → AreRefused texts b → a ≡ b
 one_refusal below texts a b one other = same-cause below texts a b (cause-of texts a one) (cause-of texts b other)
 
@@ -269,13 +296,15 @@ not-good below texts fault cause (a_problem net parts plan problem) = not-proble
 not-good below texts fault cause (a_plan plan is) = not-alone below texts plan is (only-plan texts fault cause is.no_network is.no_model)
 not-good below texts fault cause (no_texts none) = not-nothing texts none (only-plan texts fault cause (ap (λ (t : Texts). t.network) none) (ap (λ (t : Texts). t.model) none))
 
+-- texts that are refused do not spell what a command works on
 pub refused_or_read : Below → (texts : Texts) (fault : RunFault) → AreRefused texts fault → AreGood texts → ⊥
 refused_or_read below texts fault refused good = not-good below texts fault (cause-of texts fault refused) good
 
 -- ---- one verdict
 
 -- a verdict on what the texts spell is one on their one instance and their one plan
-of-plan : Below → (texts : Texts) (one_net other_net : NetworkFile) (one other : Parts) (found : Option Plan) (plan : Plan) (status : Status) (bytes : List ℕ) → (text : Option (List ℕ)) → Reads texts one_net one → Reads texts other_net other → SpellsItsPlan text found → SpellsItsPlan text (Some plan) → IsSomeAnd found (λ made. IsVerdict one made status bytes) → IsVerdict other plan status bytes
+of-plan : Below → (texts : Texts) (one_net other_net : NetworkFile) (one other : Parts) (found : Option Plan) (plan : Plan) (status : Status) (bytes : List ℕ) → (text : Option (List ℕ))
+    → Reads texts one_net one → Reads texts other_net other → SpellsItsPlan text found → SpellsItsPlan text (Some plan) → IsSomeAnd found (λ made. IsVerdict one made status bytes) → IsVerdict other plan status bytes
 of-plan below texts one_net other_net one other found plan status bytes None reads again spelt its verdict = absurd its
 of-plan below texts one_net other_net one other None plan status bytes (Some text) reads again spelt its verdict = absurd verdict
 of-plan below texts one_net other_net one other (Some made) plan status bytes (Some text) reads again spelt its verdict =
@@ -283,9 +312,11 @@ of-plan below texts one_net other_net one other (Some made) plan status bytes (S
     let instances : one ≡ other = same-parts below texts one_net other_net one other reads again in
     subst (λ (q : Plan). IsVerdict other q status bytes) plans (subst (λ (p : Parts). IsVerdict p made status bytes) instances verdict)
 
+-- the verdict on texts is one on the instance and the plan that they spell
 pub verdict-of : Below → (texts : Texts) (net : NetworkFile) (parts : Parts) (plan : Plan) (status : Status) (bytes : List ℕ) → Reads texts net parts → SpellsItsPlan texts.plan (Some plan) → IsVerified texts status bytes → IsVerdict parts plan status bytes
 verdict-of below texts net parts plan status bytes reads its done = of-plan below texts done.net net done.parts parts done.plan plan status bytes texts.plan done.problem.reads reads done.problem.plan_text its done.holds
 
+-- a verdict on a valid plan has the good status
 pub good-if : (parts : Parts) (plan : Plan) (status : Status) (bytes : List ℕ) → IsVerdict parts plan status bytes → IsValidPlan parts plan → status ≡ Good
 good-if parts plan status bytes (accepted good is) valid = good
 good-if parts plan status bytes (rejected bad is) valid = absurd (is.invalid valid)
@@ -294,6 +325,7 @@ valid-if : (parts : Parts) (plan : Plan) (status : Status) (bytes : List ℕ) �
 valid-if parts plan status bytes (accepted good is) same = is.valid
 valid-if parts plan status bytes (rejected bad is) same = let no : ◌≡◌ {A = Status} Good Rejected = sym same ∙ bad in absurd cc
 
+-- the verdict on texts has the good status exactly where their plan is valid
 pub good_where_valid : Below → (texts : Texts) (net : NetworkFile) (parts : Parts) (plan : Plan) (status : Status) (bytes : List ℕ) → Reads texts net parts → SpellsItsPlan texts.plan (Some plan) → IsVerified texts status bytes → (status ≡ Good) ↔ IsValidPlan parts plan
 good_where_valid below texts net parts plan status bytes reads its done =
     let verdict : IsVerdict parts plan status bytes = verdict-of below texts net parts plan status bytes reads its done in
@@ -317,5 +349,6 @@ verdicts-of below texts net parts None status other bytes more problem verdict d
 verdicts-of below texts net parts (Some plan) status other bytes more problem verdict done =
     same-verdict below parts plan status other bytes more verdict (verdict-of below texts net parts plan other more problem.reads problem.plan_text done)
 
+-- two verdicts on the same texts have the same status and the same line
 pub one_verdict : Below → (texts : Texts) (status other : Status) (bytes more : List ℕ) → IsVerified texts status bytes → IsVerified texts other more → (status ≡ other) × (bytes ≡ more)
 one_verdict below texts status other bytes more one two = verdicts-of below texts one.net one.parts one.plan status other bytes more one.problem one.holds two

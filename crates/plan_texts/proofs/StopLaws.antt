@@ -31,6 +31,7 @@ use Rattle.plan_texts.specs.Texts.{Texts, alone, two, three}
 use Rattle.plan_texts.specs.Refusals.{SpellsItsNetwork, SpellsItsModel, Reads, HasItsPlan, SpellsItsPlan, HasFewSteps, IsProblem, IsPlanAlone, misplaced, ended}
 use Rattle.plan_texts.specs.Stops.{stop_of_text, stop_of_plan, stop_of_check, stop_of_steps, IsTextStop, IsNetworkStop, IsModelStop, IsPlanTextStop, IsFileStop, IsProblemStop}
 
+-- the stop that a fault of a network text leads to is a refusal of that text, or want of memory
 pub network_stop : (text : List ℕ) (fault : TextFault) → IsNetworkFault text fault → IsNetworkStop text (stop_of_text files.Network fault)
 network_stop text OutOfMemory is = tt
 network_stop text Header is = (Header, refl, is, λ same. cc)
@@ -42,6 +43,7 @@ network_stop text (Ended at) is = (Ended at, refl, is, λ same. cc)
 network_stop text (LongId at) is = (LongId at, refl, is, λ same. cc)
 network_stop text (Control at) is = (Control at, refl, is, λ same. cc)
 
+-- the stop that a fault of a model text leads to is a refusal of that text, or want of memory
 pub model_stop : (text : List ℕ) (fault : TextFault) → IsModelFault text fault → IsModelStop text (stop_of_text files.Model fault)
 model_stop text OutOfMemory is = tt
 model_stop text Header is = (Header, refl, is, λ same. cc)
@@ -53,6 +55,7 @@ model_stop text (Ended at) is = (Ended at, refl, is, λ same. cc)
 model_stop text (LongId at) is = (LongId at, refl, is, λ same. cc)
 model_stop text (Control at) is = (Control at, refl, is, λ same. cc)
 
+-- the stop that a fault of a plan text leads to is a refusal of that text, or want of memory
 pub plan_stop : (text : List ℕ) (fault : PlanFault) → IsPlanTextFault text fault → IsPlanTextStop text (stop_of_plan fault)
 plan_stop text (plan_faults.Line at) is = (1, at, refl, misplaced refl is)
 plan_stop text (plan_faults.Ended at) is = (2, at, refl, ended refl is)
@@ -101,41 +104,52 @@ refused texts net options stop first second plan (inl (fault, is, can, holds)) =
 refused texts net options stop first second plan (inr (parts, stands, lawful, (fault, is, holds))) =
     rw is (steps-refused texts net parts fault record { options = options; network_text = first; model_text = second; stands = stands; lawful = lawful } plan holds)
 
+-- where no problem comes of two files, the network and model texts that spell them are refused for that cause
 pub problem_refused : (network model : List ℕ) (net : NetworkFile) (options : ModelFile) (stop : Stop) → SpellsNetwork network net → SpellsModel model options → IsProblemStop net options stop → IsTextStop (two network model) stop
 problem_refused network model net options stop first second is = refused (two network model) net options stop first second tt is
 
+-- where no problem comes of two files, their texts, with one that spells a plan, are refused for that cause
 pub planned_refused : (network model text : List ℕ) (net : NetworkFile) (options : ModelFile) (plan : Plan) (stop : Stop) → SpellsNetwork network net → SpellsModel model options → SpellsPlan text plan → IsProblemStop net options stop → IsTextStop (three network model text) stop
 planned_refused network model text net options plan stop first second spelt is = refused (three network model text) net options stop first second (plan, spelt) is
 
 -- ---- what texts spell
 
-problem : (texts : Texts) (net : NetworkFile) (options : ModelFile) (parts : Parts) (plan : Option Plan) → SpellsItsNetwork texts.network net → SpellsItsModel texts.model options → SpellsItsPlan texts.plan plan → ReadsAs net options parts → IsInstance parts → HasFewSteps parts → IsProblem texts net parts plan
+problem : (texts : Texts) (net : NetworkFile) (options : ModelFile) (parts : Parts) (plan : Option Plan) → SpellsItsNetwork texts.network net
+    → SpellsItsModel texts.model options → SpellsItsPlan texts.plan plan → ReadsAs net options parts → IsInstance parts → HasFewSteps parts → IsProblem texts net parts plan
 problem texts net options parts plan first second spelt stands lawful few = record {
   reads = record { options = options; network_text = first; model_text = second; stands = stands; lawful = lawful };
   plan_text = spelt;
   few_steps = few;
 }
 
+-- texts of a network and a model that stand for an instance with few steps spell it as a problem without a plan
 pub problem_spelt : (network model : List ℕ) (net : NetworkFile) (options : ModelFile) (parts : Parts) → SpellsNetwork network net → SpellsModel model options → ReadsAs net options parts → IsInstance parts → HasFewSteps parts → IsProblem (two network model) net parts None
 problem_spelt network model net options parts first second stands lawful few = problem (two network model) net options parts None first second tt stands lawful few
 
-pub planned_spelt : (network model text : List ℕ) (net : NetworkFile) (options : ModelFile) (parts : Parts) (plan : Plan) → SpellsNetwork network net → SpellsModel model options → SpellsPlan text plan → ReadsAs net options parts → IsInstance parts → HasFewSteps parts → IsProblem (three network model text) net parts (Some plan)
+-- texts of a network and a model that stand for an instance with few steps, and of a plan, spell a problem
+pub planned_spelt : (network model text : List ℕ) (net : NetworkFile) (options : ModelFile) (parts : Parts) (plan : Plan) → SpellsNetwork network net
+    → SpellsModel model options → SpellsPlan text plan → ReadsAs net options parts → IsInstance parts → HasFewSteps parts → IsProblem (three network model text) net parts (Some plan)
 planned_spelt network model text net options parts plan first second spelt stands lawful few = problem (three network model text) net options parts (Some plan) first second spelt stands lawful few
 
 -- ---- why a problem is not made
 
+-- where two files stand for no instance, no problem comes of them for that cause
 pub instance_stops : (net : NetworkFile) (options : ModelFile) (stop : Stop) → IsFileStop net options stop → IsProblemStop net options stop
 instance_stops net options stop is = inl is
 
+-- where no step table is made of the instance of two files, no problem comes of them for that cause
 pub steps_stop : (net : NetworkFile) (options : ModelFile) (parts : Parts) (fault : StepFault) → ReadsAs net options parts → IsInstance parts → IsFaultOf parts fault → IsProblemStop net options (stop_of_steps fault)
 steps_stop net options parts fault stands lawful is = inr (parts, stands, lawful, (fault, refl, is))
 
 -- ---- the same, of results
 
+-- where no problem comes of two files, a result fails by a refusal of their texts, or want of memory
 pub problem_end : {T : Type 0} (network model : List ℕ) (net : NetworkFile) (options : ModelFile) (result : Result T Stop) → SpellsNetwork network net → SpellsModel model options → IfErr result (IsProblemStop net options) → IfErr result (IsTextStop (two network model))
 problem_end network model net options (Ok x) first second h = tt
 problem_end network model net options (Err stop) first second h = problem_refused network model net options stop first second h
 
-pub planned_end : {T : Type 0} (network model text : List ℕ) (net : NetworkFile) (options : ModelFile) (plan : Plan) (result : Result T Stop) → SpellsNetwork network net → SpellsModel model options → SpellsPlan text plan → IfErr result (IsProblemStop net options) → IfErr result (IsTextStop (three network model text))
+-- where no problem comes of two files, a result fails by a refusal of their texts and a plan's, or want of memory
+pub planned_end : {T : Type 0} (network model text : List ℕ) (net : NetworkFile) (options : ModelFile) (plan : Plan) (result : Result T Stop) → SpellsNetwork network net
+    → SpellsModel model options → SpellsPlan text plan → IfErr result (IsProblemStop net options) → IfErr result (IsTextStop (three network model text))
 planned_end network model text net options plan (Ok x) first second spelt h = tt
 planned_end network model text net options plan (Err stop) first second spelt h = planned_refused network model text net options plan stop first second spelt h

@@ -50,6 +50,7 @@ keeps-columns s t u leads is p n e b = record {
   budget = ap (λ (x : State). x.budget) is ∙ b;
 }
 
+-- a gathering, however it is answered, changes no node, no budget and no count of examined nodes
 pub gathered-keeps : (s t : State) (id : BranchId) (version : ℕ) (answer : Result Gather AllocError) → GatherStep s id version answer t → KeepsNodes s t
 gathered-keeps s t id version answer e = by answer e (LeadsTo-one s t (Gathering id version) (to_gathering answer) e)
   where
@@ -68,6 +69,7 @@ module _ (s t : State) (id : BranchId) (version : ℕ) (reachable : IsReachable 
   pub told-taken : (answer : Gather) → GatherStep s id version (Ok answer) t → ((brief : Brief) → answer ≡ gather.Taken brief → ⊥) → ⊥
   told-taken answer e refused = let w = gather-goes s t id version h.node h.round answer h.is_complete e in refused w.0 w.1
 
+  -- once a gathering is taken, the round is gathered, and the brief is what a master step is told of it
   pub told-briefed : (answer : Gather) (brief : Brief) → answer ≡ gather.Taken brief → GatherStep s id version (Ok answer) t → IsBriefed t id version brief
   told-briefed answer brief is step =
       let e : GatherStep s id version (Ok (gather.Taken brief)) t = subst (λ (a : Gather). GatherStep s id version (Ok a) t) is step in
@@ -81,9 +83,11 @@ module _ (s t : State) (id : BranchId) (version : ℕ) (reachable : IsReachable 
 -- What the brief is for
 
 module _ (t : State) (id : BranchId) (version : ℕ) (brief : Brief) (sound : IsSound t) (b : IsBriefed t id version brief) where
+  -- the brief of a gathered round has lawful prices and rates, ranges, and simple paths for each demand
   pub briefed-fits : IsBriefFor t.problem t.cuts brief.prices brief.ranges brief.columns
   briefed-fits = brief-fits t id version b.node b.round brief sound b.is_gathered.complete_round b.is_brief
 
+  -- the brief of a gathered round has a column for each demand
   pub briefed-columns : HasColumns t.problem (columns_at brief.columns)
   briefed-columns k below =
       subst (λ (paths : List _). 0 < length paths) (sym (b.is_brief.columns k below)) (gathered-columns t id version b.node b.round sound b.is_gathered k below)
@@ -93,12 +97,14 @@ module _ (t : State) (id : BranchId) (version : ℕ) (brief : Brief) (sound : Is
   briefed-enough : brief.has_enough ≡ true → has_enough t b.node ≡ true
   briefed-enough h = sym b.is_brief.has_enough ∙ h
 
+  -- where no prices follow from the brief, the node has had enough versions, or no master step gains
   pub briefed-no_more : IsNext t.problem t.cuts brief None → (has_enough t b.node ≡ true) ⊎ HasStalled t.problem t.cuts (ranges_of t.problem b.node) (columns_for t b.node) b.round.prices
   briefed-no_more h = elim h [
     | inl enough ↦ inl (briefed-enough enough)
     | inr stalled ↦ inr (same-stalled t id b.node b.round brief stalled.0 b.is_brief stalled.1)
   ]
 
+  -- prices that follow from the brief are a better step than those of the node's round, or its crowd step
   pub briefed-gains : (prices : List ℕ) → IsNext t.problem t.cuts brief (Some prices) → IsBetterStep t b.node b.round prices ⊎ IsCrowdStep t b.node b.round prices
   briefed-gains prices h = elim h [
     | inl raised ↦ inl (rise-better t id b.node b.round brief raised.old prices raised.new b.is_brief raised.is_rise)
@@ -156,6 +162,7 @@ advancing-complete s t id version advance keeps = record {
   };
 }
 
+-- events that keep the nodes, and further events that keep them, together keep them
 pub keeps-trans : (s r t : State) → KeepsNodes s r → KeepsNodes r t → KeepsNodes s t
 keeps-trans s r t a b = record {
   leads = LeadsTo-trans s r t a.leads b.leads;
@@ -177,17 +184,21 @@ module _ (s t u : State) (id : BranchId) (version : ℕ) (reachable : IsReachabl
     are_numbers = next-numbers t.problem t.cuts brief prices (briefed-fits t id version brief sound b) h;
   }
 
+  -- once prices that follow from the brief are published, the leaf is open still, with fewer steps left
   pub advanced-published : (prices : List ℕ) (answer : Publish) → IsNext t.problem t.cuts brief (Some prices) → PublishStep t id version prices answer u → IsCloser s u id
   advanced-published prices answer h e =
       let w = publish-goes t u id version prices b.node b.round answer (may-follow prices h) (briefed-gains t id version brief sound b prices h) e in
       published-closer s t id version advance keeps u prices w.0 w.1 reachable w.3
 
+  -- once the node is settled as no prices follow, the leaf is open still, with fewer steps left
   pub advanced-settled : (answer : Settle) → IsNext t.problem t.cuts brief None → SettleStep t id version answer u → IsCloser s u id
   advanced-settled answer h e =
       settled-closer s t id version advance keeps u reachable (settle-goes t u id version b.node b.round answer b.is_gathered (briefed-no_more t id version brief sound b h) e)
 
+  -- events lead from the state before the master task to the one after its publishing
   pub published-leads : (prices : List ℕ) (answer : Publish) → PublishStep t id version prices answer u → LeadsTo s u
   published-leads prices answer e = LeadsTo-trans s t u keeps.leads (LeadsTo-one t u (Publishing id version prices) (to_publishing answer) e)
 
+  -- events lead from the state before the master task to the one after its settling
   pub settled-leads_on : (answer : Settle) → SettleStep t id version answer u → LeadsTo s u
   settled-leads_on answer e = LeadsTo-trans s t u keeps.leads (LeadsTo-one t u (Settling id version) (to_settling answer) e)

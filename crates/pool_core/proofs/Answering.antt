@@ -26,6 +26,7 @@ use Rattle.pool_machine.proofs.Frames.{same_or_other, one_at}
 use Rattle.pool_machine.proofs.Runs.{IsReachable-step}
 use Rattle.pool_reading.proofs.Answering.{first_gap-none}
 
+-- while the budget is not spent, fewer nodes are examined than it allows
 pub is_spent-false : (s : State) → is_spent s ≡ false → s.examined < s.budget
 is_spent-false s h = grind (arith, nat_tests)
 
@@ -51,6 +52,7 @@ pub record IsCurrent (s : State) (id : BranchId) (version : ℕ) : Type 0 where
   pub not_spent : s.examined < s.budget
   pub has_version : HasVersion s id version
 
+-- where a call is neither spent nor stale, the budget is not spent, and the node has a round of the version
 pub stale_fault-none : {F : Type 0} (spent : ℕ → F) (stale : Option ℕ → F) (s : State) (id : BranchId) (version : ℕ) → stale_fault spent stale s id version ≡ None → IsCurrent s id version
 stale_fault-none spent stale s id version h =
     let both = or_else-none (when (is_spent s) (spent s.examined)) (when (not (is_version (version_in (round_of s id)) version)) (stale (version_in (round_of s id)))) h in
@@ -60,6 +62,7 @@ stale_fault-none spent stale s id version h =
       has_version = record { node = v.0; round = v.1; is_node = v.2; is_round = v.3; is_version = v.4 };
     }
 
+-- what a function maps to nothing is nothing
 pub option_map-none : {A B : Type 0} (f : A → B) (o : Option A) → option_map f o ≡ None → o ≡ None
 option_map-none f None h = refl
 option_map-none f (Some x) h = absurd (cc)
@@ -152,6 +155,7 @@ HasPlaces-set s places id old new is same h = record {
   prices = h.prices;
 }
 
+-- a settling keeps the pool, with the same slots
 pub settle-IsPool : (s t : State) (places : List Slot) (id : BranchId) (version : ℕ) → IsPool s places → Settles s id version t → IsPool t places
 settle-IsPool s t places id version h e = record {
   some_budget = subst (λ (x : State). 0 < x.budget) (sym e.becomes) h.some_budget;
@@ -173,5 +177,6 @@ settles-written s id version item new h read written =
       becomes = ap (with_node s id) (written ∙ ap (λ (x : Node). let y : Node = record x { settled = true } in y) same);
     }
 
+-- the number of a node that may be settled is below the count of nodes
 pub to_settle-within : (s : State) (id : BranchId) (version : ℕ) → IsToSettle s id version → id.0 < length s.nodes
 to_settle-within s id version h = slice_get_within s.nodes id.0 h.node h.is_gathered.complete_round.is_node

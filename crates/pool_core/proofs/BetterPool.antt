@@ -15,14 +15,17 @@ use Rattle.pool_machine.proofs.Runs.{IsReachable-step}
 abbrev pub holding : State → ℕ → Design → State
 holding s cost design = record s { incumbent = Some (record { cost = cost; design = design }) }
 
+-- to hold a good design that is cheaper than the incumbent is the event
 pub takes_better : (s : State) (design : Design) (cost : ℕ) → IsGoodDesign s.problem design → cost_of s.problem design ≡ cost → is_cheaper s.incumbent cost ≡ true
     → TakesBetter s design cost (holding s cost design)
 takes_better s design cost good is cheaper = record { good = good; is_cost = is; cheaper = cheaper; becomes = refl }
 
+-- the slots fit the state as before when another design is held
 pub HasPlaces-holding : (s : State) (places : List Slot) (cost : ℕ) (design : Design) → HasPlaces s places → HasPlaces (holding s cost design) places
 HasPlaces-holding s places cost design h =
     record { count = h.count; total = h.total; taken = h.taken; free = h.free; slot_is = h.slot_is; demands = h.demands; prices = h.prices }
 
+-- the pool stays one when a better design is taken
 pub IsPool-holding : (s : State) (places : List Slot) (cost : ℕ) (design : Design) → IsPool s places → TakesBetter s design cost (holding s cost design)
     → IsPool (holding s cost design) places
 IsPool-holding s places cost design h takes = record {

@@ -35,9 +35,11 @@ module _ (s : State) (table : CutProblem) (grounds : List (Option Kept)) (places
     cuts = refl;
   }
 
+  -- the slot of the closed node's round is below the count of slots
   pub place-within : (round : Round) → old.round ≡ Some round → round.slot < length places
   place-within round had = round-within s after id.0 old (closed_by found old) [] has_ended (IsReachable-sound s h.pool.reachable) places h.pool.has_places round had
 
+  -- the pool stays one when a node is closed, its region let go and its slot given back, if that state is reachable
   pub closed-kept : IsReachable after → IsKeptPool after table (set grounds id.0 None) (given_back places old.round)
   closed-kept reachable = record {
     pool = record {
@@ -60,22 +62,26 @@ module _ (s : State) (table : CutProblem) (grounds : List (Option Kept)) (places
       let same : item ≡ leaf.node = read ∙ get_or_from_slice_get s.nodes id.0 leaf.node item leaf.is_node in
       leaf.is_node ∙ ap (λ (x : Node). Some x) (sym same)
 
+  -- the round of the node that is read, if it has one, has a slot below the count of slots
   pub close-place : (round : Option Round) → round ≡ item.round → IfSome round (λ r. r.slot < length places)
   close-place None is = tt
   close-place (Some round) is = place-within s table grounds places id item (evidence_for item why) h is_item round (sym is)
 
+  -- the number of the open leaf that is closed is below the count of kept regions
   pub close-ground : id.0 < length grounds
   close-ground = subst (λ (n : ℕ). id.0 < n) (sym h.has_grounds.count) (slice_get_within s.nodes id.0 item is_item)
 
   is_closed : closed_at s id why (slice_get s.nodes id.0) ≡ examined_with s id (closed_by (evidence_for item why) item)
   is_closed = ap (closed_at s id why) is_item
 
+  -- the read node written back closed, with one more node examined, is the state in which it is closed
   pub close-state : (new : Node) (examined : ℕ) → new ≡ closed_by (evidence_for item why) item → examined ≡ suc s.examined
       → record s { nodes = set s.nodes id.0 new; examined = examined } ≡ closed_at s id why (slice_get s.nodes id.0)
   close-state new examined written more =
       let make : Node → ℕ → State = λ x n. record s { nodes = set s.nodes id.0 x; examined = n } in
       ap₂ make written more ∙ sym is_closed
 
+  -- the pool stays one when the read node is written back closed, its region let go and its slot given back
   pub close-kept : (new : Node) (examined : ℕ) (left : Option Kept) (back : List Slot) → new ≡ closed_by (evidence_for item why) item → examined ≡ suc s.examined
       → left ≡ None → back ≡ given_back places item.round → IsReachable (closed_at s id why (slice_get s.nodes id.0))
       → IsKeptPool (record s { nodes = set s.nodes id.0 new; examined = examined }) table (set grounds id.0 left) back

@@ -37,6 +37,7 @@ open-in : (o : Option Node) → is_open_state (state_in o) ≡ true → (node : 
 open-in None h = absurd (let bad : false ≡ true = h in cc)
 open-in (Some node) h = (node, refl, open-undone node.fate node.round h)
 
+-- a number in an open state names a node that is neither closed nor divided
 pub open_state-leaf : (s : State) (id : BranchId) → is_open_state (state_of s id) ≡ true → IsOpenLeaf s id
 open_state-leaf s id h = let w = open-in (slice_get s.nodes id.0) h in record { node = w.0; is_node = w.1; undone = w.2 }
 
@@ -52,6 +53,7 @@ pub record MayClose (s : State) (id : BranchId) : Type 0 where
 closable-at : (unit : ℕ) (cost : Option ℕ) (o : Option Node) (node : Node) → o ≡ Some node → closable_in unit cost o ≡ true → is_closable unit cost node ≡ true
 closable-at unit cost o node is h = subst (λ (x : Option Node). closable_in unit cost x ≡ true) is h
 
+-- where no fault is found, the budget is not spent, and the node is an open leaf that is closable
 pub close_fault-none : (s : State) (id : BranchId) → close_fault s id ≡ None → MayClose s id
 unfolding close_fault
 close_fault-none s id h =
@@ -116,6 +118,7 @@ closes s id may = record {
   becomes = refl;
 }
 
+-- the state with the node closed by its crowd proof, or else by its best prices, is reachable
 pub closes-reachable : (s : State) (id : BranchId) → IsReachable s → (may : MayClose s id) → IsReachable (examined_with s id (closed_by (proof_of may.node.crowd (kept_prices may.node)) may.node))
 closes-reachable s id h may = IsReachable-step s (examined_with s id (closed_by (proof_of may.node.crowd (kept_prices may.node)) may.node)) (Closing_of id) (to_closing closing.Closed) h (closes s id may)
 
@@ -125,12 +128,15 @@ closable-reason unit cost (Some prices) best h = refl
 closable-reason unit cost None None h = absurd (let bad : false ≡ true = h in cc)
 closable-reason unit cost None (Some best) h = refl
 
+-- a node that may be closed has a crowd proof or a recorded bound
 pub has_reason : (s : State) (id : BranchId) → MayClose s id → IfSome (slice_get s.nodes id.0) (λ x. HasReason x reason.Recorded)
 has_reason s id may =
     subst (λ (o : Option Node). IfSome o (λ x. HasReason x reason.Recorded)) (sym may.is_node) (closable-reason s.unit (cutoff_of s) may.node.crowd may.node.best may.closable)
 
+-- the state with the node closed by what is recorded of it is reachable
 pub closed-reachable : (s : State) (id : BranchId) → IsReachable s → MayClose s id → IsReachable (closed_at s id reason.Recorded (slice_get s.nodes id.0))
 closed-reachable s id h may = subst (λ (o : Option Node). IsReachable (closed_at s id reason.Recorded o)) (sym may.is_node) (closes-reachable s id h may)
 
+-- the state with the node closed by what is recorded of it is that of a closing that is answered as closed
 pub closed-step : (s : State) (id : BranchId) → MayClose s id → (t : State) → t ≡ closed_at s id reason.Recorded (slice_get s.nodes id.0) → CloseStep s id closing.Closed t
 closed-step s id may t is = subst (Closes s id) (sym (is ∙ ap (closed_at s id reason.Recorded) may.is_node)) (closes s id may)

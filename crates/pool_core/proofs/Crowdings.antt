@@ -27,6 +27,7 @@ module _ (s : State) (id : BranchId) (read : Round) (old prices : List ℕ) (p :
       let now : old ≡ round.prices = is_old ∙ ap (λ (r : Round). r.prices) (same-round s id read x round is is_node is_round) in
       subst (λ (q : Parts). AreCrowdPrices q old prices) (sym is_p) (subst (λ (ps : List ℕ). AreCrowdPrices s.problem ps prices) (sym now) h)
 
+  -- prices that are no crowd prices of the round that is read are not crowding
   pub not_crowding : (AreCrowdPrices p old prices → ⊥) → ForRound s id (λ x round. IsTrue false ↔ IsCrowding s x round prices)
   not_crowding not_so x round is_node is_round = (
     λ bad. absurd (let e : false ≡ true = bad in cc),
@@ -45,6 +46,7 @@ module _ (s : State) (id : BranchId) (read : Round) (old prices : List ℕ) (p :
         λ crowding. absurd (gain-not_stalled s.problem s.cuts (ranges_of s.problem x) (columns_for s x) round.prices had.0 crowding.stalled.0 new had.1 crowding.stalled.1),
       )
 
+  -- crowd prices of the round are crowding just where no gain of a step is found
   pub crowding-told : (told : Bool) (gain : Option ℤ) → is_some gain ≡ not told → AreCrowdPrices p old prices → IfSome gain (λ new. ForRound s id (λ x round. HasGain s.problem s.cuts (ranges_of s.problem x) (columns_for s x) round.prices new))
       → IfNone gain (ForRound s id (λ x round. HasStalled s.problem s.cuts (ranges_of s.problem x) (columns_for s x) round.prices)) → ForRound s id (λ x round. IsTrue told ↔ IsCrowding s x round prices)
   crowding-told told gain same crowd some none =
@@ -59,6 +61,7 @@ module _ (s : State) (id : BranchId) (read : Round) (old prices : List ℕ) (p :
 -- The mark
 
 module _ (s : State) (x : Node) (round : Round) (prices : List ℕ) where
+  -- the mark that follows is set where crowd prices were tried before or are tried now
   pub mark-of : (tried crowding : Bool) → tried ≡ x.crowd_tried → (IsTrue crowding ↔ IsCrowding s x round prices) → IsMark s x round prices (tried || crowding)
   mark-of true true is told = record { set = λ c. refl; kept = λ not_so. absurd (not_so (told.0 refl)) }
   mark-of true false is told = record { set = λ c. refl; kept = λ not_so. is }
@@ -77,12 +80,14 @@ value-at s id read prices old is is_prices valued x round is_node is_round =
 module _ (s : State) (id : BranchId) (prices : List ℕ) (old new : ℤ) (tried crowding : Bool) (is_tried : ForRound s id (λ x round. tried ≡ x.crowd_tried))
     (is_old : ForRound s id (λ x round. IsRestrictedValue s.problem s.cuts (ranges_of s.problem x) (columns_for s x) round.prices old)) (is_new : ForRound s id (λ x round. IsRestrictedValue s.problem s.cuts (ranges_of s.problem x) (columns_for s x) prices new))
     (told : ForRound s id (λ x round. IsTrue crowding ↔ IsCrowding s x round prices)) where
+  -- prices of a greater restricted value may replace those of the round, with the mark that follows
   pub greater-follows : (mark : Bool) → int_lt old new ≡ true → mark ≡ (tried || crowding) → ForRound s id (λ x round. MayReplace s x round prices mark)
   greater-follows mark more is x round is_node is_round = record {
     gains = inl (record { before = old; after = new; is_before = is_old x round is_node is_round; is_after = is_new x round is_node is_round; greater = int_lt-true old new more });
     is_mark = subst (IsMark s x round prices) (sym is) (mark-of s x round prices tried crowding (is_tried x round is_node is_round) (told x round is_node is_round));
   }
 
+  -- crowd prices of a stalled round, where none were tried, may replace its prices and set the mark
   pub crowd-follows : tried ≡ false → crowding ≡ true → ForRound s id (λ x round. MayReplace s x round prices true)
   crowd-follows not_tried so x round is_node is_round =
       let c : IsCrowding s x round prices = (told x round is_node is_round).0 so in
@@ -99,23 +104,28 @@ module _ (s : State) (id : BranchId) (prices : List ℕ) (old new : ℤ) (tried 
     no_crowd_step = not_so x round is_node is_round;
   }
 
+  -- prices of no greater restricted value gain nothing where crowd prices were tried before
   pub tried-no_gain : int_lt old new ≡ false → tried ≡ true → ForRound s id (λ x round. HasNoGain s x round prices old new)
   tried-no_gain less so = no_gain-by less (λ x round is_node is_round. tried-no_step s x round prices (sym (is_tried x round is_node is_round) ∙ so))
 
+  -- prices of no greater restricted value gain nothing where they are not crowding
   pub none-no_gain : int_lt old new ≡ false → crowding ≡ false → ForRound s id (λ x round. HasNoGain s x round prices old new)
   none-no_gain less none = no_gain-by less (λ x round is_node is_round step. let bad : false ≡ true = sym none ∙ (told x round is_node is_round).1 step.crowding in cc)
 
 -- The event
 
+-- a node for which prices may follow has a gathered round
 pub following-gathered : (s : State) (id : BranchId) (seen : ℕ) (prices : List ℕ) → HasFollowing s id seen prices → IsGatheredAt s id
 following-gathered s id seen prices h = record { version = seen; node = h.node; round = h.round; is_gathered = h.may.is_gathered }
 
+-- prices that may follow and may replace those of the round may be published for the node, with the same mark
 pub to-publish : (s : State) (id : BranchId) (seen : ℕ) (prices : List ℕ) (mark : Bool) → HasFollowing s id seen prices → ForRound s id (λ x round. MayReplace s x round prices mark) → IsToPublish s id seen prices mark
 to-publish s id seen prices mark h may =
     let is = h.may.is_gathered.complete_round in
     let w = may h.node h.round is.is_node is.is_round in
     record { node = h.node; round = h.round; may = h.may; gains = w.gains; is_mark = w.is_mark }
 
+-- where the prices gain nothing and the state stays, the answer that nothing is gained is the event
 pub no-gain : (s t : State) (id : BranchId) (seen : ℕ) (prices : List ℕ) (before after : ℤ) → HasFollowing s id seen prices → ForRound s id (λ x round. HasNoGain s x round prices before after) → t ≡ s
     → IsNoGain s id seen prices before after t
 no-gain s t id seen prices before after h not_so same =

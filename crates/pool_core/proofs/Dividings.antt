@@ -97,6 +97,7 @@ module _ (s : State) (table : CutProblem) (grounds : List (Option Kept)) (places
       idle (suc zero) m is = let same : child_of div.node (right_limit d.by) ≡ m = cc in ap (λ (x : Node). x.round) (sym same)
       idle (suc (suc j)) m is = let bad : ◌≡◌ {A = Option Node} None (Some m) = is in absurd (cc)
 
+  -- the round of the node that is divided, if it has one, has a slot below the count of slots
   pub divided-place : (round : Option Round) → round ≡ div.node.round → IfSome round (λ r. r.slot < length places)
   divided-place None is = tt
   divided-place (Some round) is = round-within s after id.0 div.node new more has_ended (IsReachable-sound s h.pool.reachable) places h.pool.has_places round (sym is)
@@ -121,9 +122,11 @@ module _ (s : State) (table : CutProblem) (grounds : List (Option Kept)) (places
     node-within : id.0 < length s.nodes
     node-within = slice_get_within s.nodes id.0 div.node is_node
 
+    -- the divided node's number is below the count of kept regions with those of its children behind
     pub ground-within : id.0 < length (grounds ++ below)
     ground-within = let a = node-within in let same = h.has_grounds.count in let long = length-append grounds below in omega arith
 
+    -- the divided node's number is below the count of nodes with its children behind
     pub item-within : id.0 < length (s.nodes ++ children)
     item-within = let a = node-within in let long = length-append s.nodes children in omega arith
 
@@ -138,12 +141,15 @@ module _ (s : State) (table : CutProblem) (grounds : List (Option Kept)) (places
         subst (HasGrounds s.problem after.nodes) (sym split) both
 
     module _ (item : Node) (read : item ≡ get_or (s.nodes ++ children) id.0 item) where
+      -- what is read at the number, with the children behind the nodes, is the node that is to be divided
       pub is_item : item ≡ div.node
       is_item = read ∙ (get_or_append_left s.nodes children item id.0 node-within ∙ get_or_from_slice_get s.nodes id.0 div.node item is_node)
 
+      -- the node that is read for a division is neither closed nor divided
       pub item-undone : item.fate ≡ Undone
       item-undone = ap (λ (x : Node). x.fate) is_item ∙ div.ready.open_node.undone
 
+      -- the round of the node that is read for a division, if it has one, has a slot below the count of slots
       pub item-place : (round : Option Round) → round ≡ item.round → IfSome round (λ r. r.slot < length places)
       item-place round is = divided-place round (is ∙ ap (λ (x : Node). x.round) is_item)
 
@@ -155,10 +161,12 @@ module _ (s : State) (table : CutProblem) (grounds : List (Option Kept)) (places
           let make : List Node → ℕ → State = λ xs n. record s { nodes = xs; examined = n } in
           ap₂ make nodes more_by_one
 
+      -- the read node written back divided, its children behind, and one more node examined, is the event
       pub divided-step : (written : Node) (examined : ℕ) → written ≡ divided_by d item → examined ≡ suc s.examined
           → Divides s id d.left_child d.right_child (record s { nodes = set (s.nodes ++ children) id.0 written; examined = examined })
       divided-step written examined wrote more_by_one = subst (Divides s id d.left_child d.right_child) (sym (is_after written examined wrote more_by_one)) divides
 
+      -- the pool stays one when the read node is written back divided, its region let go and its slot given back
       pub divided-kept : (written : Node) (examined : ℕ) (left : Option Kept) (back : List Slot) → written ≡ divided_by d item → examined ≡ suc s.examined → left ≡ None
           → back ≡ given_back places item.round
           → IsKeptPool (record s { nodes = set (s.nodes ++ children) id.0 written; examined = examined }) table (set (grounds ++ below) id.0 left) back
@@ -174,6 +182,7 @@ module _ (s : State) (table : CutProblem) (grounds : List (Option Kept)) (places
           (subst (λ (o : Option Kept). IsKeptPool after table (set (grounds ++ below) id.0 o) back) (sym none)
           (subst (λ (xs : List Slot). IsKeptPool after table (set (grounds ++ below) id.0 None) xs) (sym give_back) kept))
 
+  -- where a node may be divided, fewer than 4096 nodes are examined
   pub examined-small : s.examined < 4096
   examined-small = let spent = div.ready.open_node.not_spent in let budget = h.pool.budget in omega arith
 
@@ -195,9 +204,11 @@ by-limits p g (divider.Arcs d) total are parts = (
 )
 by-limits p g (divider.Load d) total are parts = let sides = load-sides p g d total are parts.0.is_split in (sides.left, sides.right)
 
+-- a node that has a division may be examined
 pub division-ready : (s : State) (id : BranchId) (d : Division) → IsDivisionAt s id d → IsReadyAt s id
 division-ready s id d h = record { node = h.node; ready = h.ready }
 
+-- what a division limits in its left and in its right child are limits of the instance
 pub division-limits : (s : State) (id : BranchId) (d : Division) → IsSound s → IsDivisionAt s id d → IsLimitOf s.problem (left_limit d.by) × IsLimitOf s.problem (right_limit d.by)
 division-limits s id d sound h =
     let is = h.ready.open_node in

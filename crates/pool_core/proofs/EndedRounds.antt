@@ -102,6 +102,7 @@ module _ (s t : State) (id : ℕ) (old new : Node) (more : List Node) (e : HasEn
     has_slot : HasSlot round.slot old
     has_slot = subst (λ (o : Option Round). IsSomeAnd o (λ r. r.slot ≡ round.slot)) (sym had) refl
 
+    -- the slot of the round that ends is below the count of slots
     pub slot-within : round.slot < length slots
     slot-within = let w = is_sound.slot in let c = h.count in omega arith
 
@@ -167,6 +168,7 @@ module _ (s t : State) (id : ℕ) (old new : Node) (more : List Node) (e : HasEn
       by_cases None none = HasPlaces-idle slots none h
       by_cases (Some round) had = HasPlaces-active slots round had h
 
+  -- where the node that loses its round had one, the slot of it is below the count of slots
   pub round-within : (slots : List Slot) → HasPlaces s slots → (round : Round) → old.round ≡ Some round → round.slot < length slots
   round-within slots h round had = slot-within slots round had h
 

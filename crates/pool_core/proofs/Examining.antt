@@ -36,6 +36,7 @@ pub record MayExamine (s : State) (id : BranchId) : Type 0 where
   pub open_node : IsExamined s id node
   pub rest : (if has_cut (slice_get s.nodes id.0) then None else ready_fault s (slice_get s.nodes id.0)) ≡ None
 
+-- where no refusal is found, the budget is not spent, and the node is an open leaf that may be examined
 pub examine_refusal-none : (s : State) (id : BranchId) → examine_refusal s id ≡ None → MayExamine s id
 unfolding examine_refusal
 examine_refusal-none s id h =
@@ -79,9 +80,11 @@ module _ (s : State) (id : BranchId) (may : MayExamine s id) (cut : has_cut (sli
   held : (held : HeldCut) × (may.node.cut ≡ Some held)
   held = cut-there may.node.cut (cut-at (slice_get s.nodes id.0) may.node true may.open_node.is_node cut)
 
+  -- a node that holds a cut has what a closing by its cut needs
   pub cut-reason : IfSome (slice_get s.nodes id.0) (λ x. HasReason x reason.HeldCut)
   cut-reason = subst (λ (o : Option Node). IfSome o (λ x. HasReason x reason.HeldCut)) (sym may.open_node.is_node) (cut-at (slice_get s.nodes id.0) may.node true may.open_node.is_node cut)
 
+  -- to close the node by the cut that it holds is the event
   pub cut-closes : ClosesByCut s id (closed_at s id reason.HeldCut (slice_get s.nodes id.0))
   cut-closes = record {
     node = may.node;
@@ -91,6 +94,7 @@ module _ (s : State) (id : BranchId) (may : MayExamine s id) (cut : has_cut (sli
     becomes = ap (closed_at s id reason.HeldCut) may.open_node.is_node ∙ ap (λ (o : Option HeldCut). examined_with s id (closed_by (cut_proof o) may.node)) held.1;
   }
 
+  -- the state with the node closed by the cut that it holds is reachable
   pub cut-reachable : IsReachable s → IsReachable (closed_at s id reason.HeldCut (slice_get s.nodes id.0))
   cut-reachable h = IsReachable-step s (closed_at s id reason.HeldCut (slice_get s.nodes id.0)) (Examining id) (to_examining (Ok examined.Cut)) h cut-closes
 
@@ -118,16 +122,19 @@ ready-node s id node open_node none h =
       settled = settled-cases node.settled node.completed (when-none _ _ two.1);
     }
 
+-- a node without a cut that may be examined is priced, not closable, and settled or out of versions
 pub ready-at : (s : State) (id : BranchId) → MayExamine s id → has_cut (slice_get s.nodes id.0) ≡ false → IsReadyAt s id
 ready-at s id may none =
     let no_cut = cut-none may.node.cut (cut-at (slice_get s.nodes id.0) may.node false may.open_node.is_node none) in
     let rest : ready_fault s (slice_get s.nodes id.0) ≡ None = subst (λ (b : Bool). (if b then None else ready_fault s (slice_get s.nodes id.0)) ≡ None) none may.rest in
     record { node = may.node; ready = ready-node s id may.node may.open_node no_cut (subst (λ (o : Option Node). ready_fault s o ≡ None) may.open_node.is_node rest) }
 
+-- to close the node that is there for shown evidence is to close it by this evidence
 pub shown-closed : (s : State) (id : BranchId) (node : Node) (found : Evidence) → slice_get s.nodes id.0 ≡ Some node
     → closed_at s id (reason.Shown found) (slice_get s.nodes id.0) ≡ examined_with s id (closed_by found node)
 shown-closed s id node found is = ap (closed_at s id (reason.Shown found)) is
 
+-- a node that is open to an examination is in an open state
 pub open-at : (s : State) (id : BranchId) (node : Node) → IsExamined s id node → is_open_state (state_of s id) ≡ true
 open-at s id node h = subst (λ (o : Option Node). is_open_state (state_in o) ≡ true) (sym h.is_node) (undone-open node.fate node.round h.undone)
   where

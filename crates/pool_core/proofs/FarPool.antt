@@ -16,12 +16,15 @@ use Rattle.pool_reading.specs.Examining.{IsFarAt}
 use Rattle.pool_core.proofs.Examining.{open-at, shown-closed}
 
 module _ (s : State) (id : BranchId) (demand : DemandId) (at : IsFarAt s id demand) where
+  -- a node that may be examined and has a far demand is in an open state
   pub far-open : is_open_state (state_of s id) ≡ true
   far-open = open-at s id at.node at.ready.open_node
 
+  -- the budget is not spent where a node with a far demand may be examined
   pub far-not_spent : s.examined < s.budget
   far-not_spent = at.ready.open_node.not_spent
 
+  -- to close the node by its first far demand is the event
   pub far-closes : ClosesFar s id demand (closed_at s id (reason.Shown (evidence.Far demand)) (slice_get s.nodes id.0))
   far-closes = record {
     node = at.node;
@@ -30,5 +33,6 @@ module _ (s : State) (id : BranchId) (demand : DemandId) (at : IsFarAt s id dema
     becomes = shown-closed s id at.node (evidence.Far demand) at.ready.open_node.is_node;
   }
 
+  -- the state with the node closed by its first far demand is reachable
   pub far-reachable : IsReachable s → IsReachable (closed_at s id (reason.Shown (evidence.Far demand)) (slice_get s.nodes id.0))
   far-reachable h = IsReachable-step s (closed_at s id (reason.Shown (evidence.Far demand)) (slice_get s.nodes id.0)) (Examining id) (to_examining (Ok (examined.Far demand))) h far-closes

@@ -32,6 +32,7 @@ use Rattle.pool_core.proofs.TaskLaws.{has-some}
 use Rattle.pool_reading.proofs.Reading.{sound-round}
 use Rattle.pool_reading.proofs.Valuing.{same-round}
 
+-- where no fault is found, the node has a complete round of the version
 pub gather_fault-none : (s : State) (id : BranchId) (version : ℕ) → gather_fault s id version ≡ None → IsCompleteAt s id version
 unfolding gather_fault
 gather_fault-none s id version h =
@@ -57,6 +58,7 @@ never brief false true x y o h = let e : Some (gather.Stale y) ≡ Some (gather.
 never brief false false x y (Some k) h = let e : Some (gather.Incomplete k) ≡ Some (gather.Taken brief) = h in let same : gather.Incomplete k ≡ gather.Taken brief = cc in cc
 never brief false false x y None h = let bad : ◌≡◌ {A = Option Gather} None (Some (gather.Taken brief)) = h in cc
 
+-- a fault is a refusal
 pub gather_fault-refusal : (s : State) (id : BranchId) (version : ℕ) (refusal : Gather) → gather_fault s id version ≡ Some refusal → GatherStep s id version (Ok refusal) s
 unfolding gather_fault
 gather_fault-refusal s id version (gather.Spent x) h = (h, refl)
@@ -65,6 +67,7 @@ gather_fault-refusal s id version (gather.Incomplete x) h = (h, refl)
 gather_fault-refusal s id version (gather.Taken brief) h =
     absurd (never brief (is_spent s) (not (is_version (version_in (round_of s id)) version)) s.examined (version_in (round_of s id)) (first_gap (round_of s id)) h)
 
+-- the round of a node whose round of the version is complete
 abbrev pub complete-round : (s : State) (id : BranchId) (version : ℕ) → IsCompleteAt s id version → HasRound s id
 complete-round s id version h = record { node = h.node; round = h.round; is_node = h.is_complete.is_node; is_round = h.is_complete.is_round }
 
@@ -76,6 +79,7 @@ module _ (s : State) (id : BranchId) (version : ℕ) (h : IsCompleteAt s id vers
   count : length found ≡ length s.problem.demands
   count = ap length is_found ∙ (sound-round s id sound (complete-round s id version h)).count
 
+  -- where the paths of the first demands are added, the state is that of a gathering that wanted memory
   pub front-added : (columns : Columns) → IsFrontAdded s.columns found columns → GathersFront s id version (with_columns s columns)
   front-added columns f = record {
     node = h.node;
@@ -86,9 +90,11 @@ module _ (s : State) (id : BranchId) (version : ℕ) (h : IsCompleteAt s id vers
     becomes = ap (with_columns s) (f.becomes ∙ ap (λ (xs : List (Option Found)). gathered s.columns xs f.front) is_found);
   }
 
+  -- to add the paths of all demands is to add those of the first ones, as many as there are
   pub all-added : (columns : Columns) → columns ≡ gathered s.columns found (length found) → IsFrontAdded s.columns found columns
   all-added columns is = record { front = length found; within = omega arith; becomes = is }
 
+  -- the columns with all paths that are read are those with the paths of the node's round for each demand
   pub all-gathered : (columns : Columns) → columns ≡ gathered s.columns found (length found) → columns ≡ gathered s.columns h.round.found (length s.problem.demands)
   all-gathered columns is = is ∙ ap (gathered s.columns found) count ∙ ap (λ (xs : List (Option Found)). gathered s.columns xs (length s.problem.demands)) is_found
 
@@ -109,6 +115,7 @@ front-of (Err e) old new found all front = front refl
 pub complete-found : (s : State) (id : BranchId) (version : ℕ) (h : IsCompleteAt s id version) (read : Round) → Some read ≡ round_of s id → read.found ≡ h.round.found
 complete-found s id version h read is = ap (λ (r : Round). r.found) (same-round s id read h.node h.round is h.is_complete.is_node h.is_complete.is_round)
 
+-- the pool stays one when the paths of the first demands of a round became columns
 pub gathered-kept : (s : State) (id : BranchId) (version : ℕ) (columns : Columns) (wanting : AllocError) (table : CutProblem) (grounds : List (Option Kept)) (places : List Slot) → GathersFront s id version (with_columns s columns)
     → IsKeptPool s table grounds places → IsKeptPool (with_columns s columns) table grounds places
 gathered-kept s id version columns wanting table grounds places front h =
@@ -139,11 +146,14 @@ module _ (s t : State) (id : BranchId) (version : ℕ) (h : IsCompleteAt s id ve
   there : slice_get t.nodes id.0 ≡ Some h.node
   there = ap (λ (u : State). slice_get u.nodes id.0) becomes ∙ h.is_complete.is_node
 
+  -- the node has a round still after the paths of its round became columns
   pub added-some : IsSome (round_of t id)
   added-some = has-some t id (record { node = h.node; round = h.round; is_node = there; is_round = h.is_complete.is_round })
 
+  -- all paths of the round added are those of the first demands, as many as there are
   pub added-front : GathersFront s id version t
   added-front = record { node = h.node; round = h.round; complete_round = h.is_complete; front = length s.problem.demands; within = omega arith; becomes = becomes }
 
+  -- where all paths of the round are added and the brief tells of the new columns, this is the gathering
   pub added-gathers : (brief : Brief) → ForRound t id (λ x round. IsBriefOf t id x round brief) → Gathers s id version brief t
   added-gathers brief briefed = record { node = h.node; round = h.round; complete_round = h.is_complete; becomes = becomes; is_brief = briefed h.node h.round there h.is_complete.is_round }

@@ -13,6 +13,7 @@ use Rattle.pool_nodes.specs.Grounds.{Kept, ranges_in, HasGrounds}
 use Rattle.pool_reading.proofs.Reading.{HasKept, read-kept, kept-some, kept-ranges}
 
 module _ (s : State) (id : BranchId) (grounds : List (Option Kept)) (keeps : HasGrounds s.problem s.nodes grounds) (node : Node) (is : slice_get s.nodes id.0 ≡ Some node) (undone : node.fate ≡ Undone) where
+  -- the number of an open leaf is below the count of kept regions
   pub leaf-within : id.0 < length grounds
   leaf-within = let count = keeps.count in let below = slice_get_within s.nodes id.0 node is in omega arith
 
@@ -20,6 +21,7 @@ module _ (s : State) (id : BranchId) (grounds : List (Option Kept)) (keeps : Has
     kept : HasKept s.problem node item
     kept = read-kept s id grounds node item keeps is undone read
 
+    -- what shows the kept ranges of loads of an open leaf is there
     pub leaf-some : IsSome o
     leaf-some = kept-some s.problem node item kept o f (λ (k : Kept). k.ranges) shown
 

@@ -25,6 +25,7 @@ use Rattle.pool_core.specs.Roots.{HasFreeRoot}
 use Rattle.pool_machine.proofs.Lists.{slice_get-append_left, slice_get-append_right}
 use Rattle.pool_machine.proofs.Frames.{one_at}
 
+-- the empty list is a list of no free slots, each with room for so many demands and prices
 pub free_places-none : (demands prices : ℕ) → AreFreePlaces 0 demands prices []
 free_places-none demands prices = record { length_is = refl; each = λ slot below. absurd (omega arith) }
 
@@ -48,6 +49,7 @@ free_places-next count demands width slots place h slot found prices =
       ];
     }
 
+-- rules for lists of free slots: the empty list, and one slot more
 pub ruleset free_places = (free_places-none, free_places-next)
 
 -- where each place is free, all are counted
@@ -67,6 +69,7 @@ module _ (s : State) (prices : List ℕ) (nodes : s.nodes ≡ root_with prices �
       at_root zero node is has = let same : root_with prices ≡ node = cc in subst (λ (x : Node). IsSomeAnd x.round (λ r. r.slot ≡ slot)) (sym same) has
       at_root (suc n) node is has = let bad : ◌≡◌ {A = Option Node} None (Some node) = is in absurd (cc)
 
+  -- where all slots are free, they fit a state that has the root alone, which waits
   pub opening-slots : (slots : List Slot) → AreFreePlaces MAX_ROUNDS (length s.problem.demands) (places s.problem + length s.cuts) slots → HasPlaces s slots
   opening-slots slots h =
       let free : (k : ℕ) (o : Slot) → slice_get slots k ≡ Some o → (place : Round) × (o ≡ Free place) × (place.slot ≡ k) × (length place.found ≡ length s.problem.demands) × (length place.prices ≡ places s.problem + length s.cuts)
@@ -91,6 +94,7 @@ module _ (s : State) (prices : List ℕ) (nodes : s.nodes ≡ root_with prices �
         prices = λ k place is. ap (λ (r : Round). length r.prices) (sym (same k place is)) ∙ (free k (Free place) is).4;
       }
 
+  -- the kept whole region is that of the root, where the root is the only node
   pub opening-grounds : (kept : Kept) → IsKeptRegion s.problem (whole s.problem) kept → HasGrounds s.problem s.nodes (Some kept ∷ [])
   opening-grounds kept is_whole = subst (λ (xs : List Node). HasGrounds s.problem xs (Some kept ∷ [])) (sym nodes) (record {
     count = refl;
@@ -119,9 +123,11 @@ opening_with p cuts unit budget prices = record {
 }
 
 module _ (p : Parts) (cuts : List Cut) (unit budget : ℕ) (prices : List ℕ) (lawful : IsInstance p) (are_cuts : IsCutList p cuts) (is_unit : IsUnit p unit) (start : AreStartNumbers p cuts prices) (numbers : AreNumbers p cuts prices) where
+  -- the state before any event, of a lawful instance with its cuts, unit and start prices, is an opening state
   pub opening-state : IsOpeningState p cuts budget (opening_with p cuts unit budget prices)
   opening-state = record { lawful = lawful; are_cuts = are_cuts; unit = unit; is_unit = is_unit; prices = prices; are_start = start; are_numbers = numbers; is_state = refl }
 
+  -- the opening state is a pool where all slots are free and the root keeps the whole region
   pub opening-kept : (table : CutProblem) (kept : Kept) (slots : List Slot) → 0 < budget → budget ≤ MAX_BUDGET → table.problem ≡ p → table.cuts ≡ cuts
       → AreFreePlaces MAX_ROUNDS (length p.demands) (places p + length cuts) slots → IsKeptRegion p (whole p) kept
       → IsKeptPool (opening_with p cuts unit budget prices) table (Some kept ∷ []) slots
@@ -147,6 +153,7 @@ module _ (p : Parts) (cuts : List Cut) (unit budget : ℕ) (prices : List ℕ) (
       (subst (λ (xs : List Node). IsKeptPool (record (opening_with p cuts unit budget prices) { nodes = xs }) table grounds slots) (sym is_nodes)
       (subst (λ (xs : List (Option Kept)). IsKeptPool (opening_with p cuts unit budget prices) table xs slots) (sym root.is_ground) kept))
 
+  -- a state of the same cuts, with the waiting root alone and no columns, is an opening state
   pub opening-state-at : (held : List Cut) (nodes : List Node) (columns : Columns) → held ≡ cuts → nodes ≡ root_with prices ∷ [] → columns ≡ no_columns p
       → IsOpeningState p cuts budget (record (opening_with p cuts unit budget prices) { cuts = held; nodes = nodes; columns = columns })
   opening-state-at held nodes columns same is is_columns =

@@ -78,6 +78,7 @@ pub record MayOffer (s : State) (offer : Offer) : Type 0 where
   pub round : Round
   pub fits : FitsRound s offer node round
 
+-- where no fault is found, the offer fits the round of its node
 pub offer_fault-none : (s : State) (offer : Offer) → IsSound s → offer_fault s offer ≡ None → MayOffer s offer
 unfolding offer_fault
 offer_fault-none s offer sound h =
@@ -220,15 +221,19 @@ module _ (s : State) (offer : Offer) (may : MayOffer s offer) (item : Node) (rea
   item-is : item ≡ may.node
   item-is = read ∙ get_or_from_slice_get s.nodes offer.node.0 may.node item may.fits.is_node
 
+  -- the node that is read has the limits of the node that the offer is for
   pub put-limits : item.limits ≡ may.node.limits
   put-limits = ap (λ (x : Node). x.limits) item-is
 
+  -- the node that an offer fits is neither closed nor divided
   pub offer-undone : IsSound s → may.node.fate ≡ Undone
   offer-undone sound = (round_at s offer.node.0 may.node may.round sound may.fits.is_node may.fits.is_round).0
 
+  -- the number of the node that an offer fits is below the count of nodes
   pub offer-within : offer.node.0 < length s.nodes
   offer-within = slice_get_within s.nodes offer.node.0 may.node may.fits.is_node
 
+  -- the node that is read for an offer is a sound one
   pub put-sound : IsSound s → IsSoundNode s.problem s.cuts item
   put-sound sound = subst (IsSoundNode s.problem s.cuts) (sym item-is) (node_at s offer.node.0 may.node sound may.fits.is_node)
 
@@ -239,6 +244,7 @@ module _ (s : State) (offer : Offer) (may : MayOffer s offer) (item : Node) (rea
     cut-is : new ≡ record may.node { cut = Some (record { demand = offer.demand; reached = reached }) }
     cut-is = written ∙ ap (λ (x : Node). let y : Node = record x { cut = Some (record { demand = offer.demand; reached = reached }) } in y) item-is
 
+    -- the read node written back with the offered set as its cut is the event
     pub takes-cut : TakesCut s offer (with_node s offer.node new)
     takes-cut = record {
       node = may.node;
@@ -249,6 +255,7 @@ module _ (s : State) (offer : Offer) (may : MayOffer s offer) (item : Node) (rea
       becomes = ap (with_node s offer.node) cut-is;
     }
 
+    -- the pool stays one when the node takes the offered set as its cut
     pub cut-kept : (table : CutProblem) (grounds : List (Option Kept)) (places : List Slot) → IsKeptPool s table grounds places → IsKeptPool (with_node s offer.node new) table grounds places
     cut-kept table grounds places h = record {
       pool = record {
@@ -266,6 +273,7 @@ module _ (s : State) (offer : Offer) (may : MayOffer s offer) (item : Node) (rea
   -- A path
 
   module _ (found : Found) (potentials : List ℕ) (is_path : offer.found ≡ priced.Path found.path found.price potentials) where
+    -- the read node's round has no path for the demand yet, and the offered one is least under its prices
     pub put-round : IsSomeAnd item.round (λ round. (slice_get round.found offer.demand.0 ≡ Some None)
         × IsLeastPath s.problem round.prices offer.demand.0 (restriction_of item) found.path found.price)
     put-round =
@@ -293,6 +301,7 @@ module _ (s : State) (offer : Offer) (may : MayOffer s offer) (item : Node) (rea
       abbrev after : State
       after = record s { nodes = set s.nodes offer.node.0 new; accepted = count }
 
+      -- the read node written back with the path in its round, and one more path accepted, is the event
       pub accepts : Accepts s offer left after
       accepts = record {
         node = may.node;
@@ -307,6 +316,7 @@ module _ (s : State) (offer : Offer) (may : MayOffer s offer) (item : Node) (rea
         becomes = ap (λ (n : ℕ). let t : State = record s { nodes = set s.nodes offer.node.0 new; accepted = n } in t) risen;
       }
 
+      -- the pool stays one when the node's round takes the offered path
       pub accepted-kept : (table : CutProblem) (grounds : List (Option Kept)) (places : List Slot) → IsKeptPool s table grounds places → IsKeptPool after table grounds places
       accepted-kept table grounds places h = record {
         pool = record {

@@ -20,6 +20,7 @@ use Rattle.pool_core.proofs.Publishable.{publish_fault-refusal}
 
 -- Openings
 
+-- an opening that is foretold to succeed is answered with the foretold slot and version, and not otherwise
 pub only-opening : (s : State) (id : BranchId) (opened : Opened) → IsOpenAnswer s id (Ok opened) → IsOnlyOpening s id opened
 only-opening s id opened is (Ok other) new step =
     let slot : other.slot ≡ opened.slot = slot-one s other.slot opened.slot step.slot is.1 in
@@ -55,6 +56,7 @@ module _ (s : State) (id : BranchId) (seen : ℕ) (prices : List ℕ) (next : Fo
       let versions : version ≡ next.version = step.version_is ∙ sym will.version_is in
       λ i. publish.Published (slots i) (versions i)
 
+  -- prices that would be published are answered with the foretold slot and version, and not otherwise
   pub only-publishing : IsOnlyPublishing s id seen prices (publish.Published next.slot next.version)
   only-publishing (publish.Published slot version) new step = published-same slot version new step
   only-publishing (publish.NoGain before after) new step = absurd (gains-not_no_gain s id seen prices new will.node will.round before after will.may will.gains step)
@@ -78,6 +80,7 @@ following-of s id seen prices next allowed to slot_is version_is =
 abbrev IsNoSuccess : Publish → Type 0
 IsNoSuccess answer = IfPublished answer (λ slot version. ⊥)
 
+-- a fault that refuses a publishing is no success
 pub fault-no_success : (s : State) (id : BranchId) (seen : ℕ) (prices : List ℕ) (refusal : Publish) → publish_fault s id seen prices ≡ Some refusal → IsNoSuccess refusal
 fault-no_success s id seen prices (publish.Published slot version) is =
     let step : Publishes s id seen prices slot version s = publish_fault-refusal s id seen prices (publish.Published slot version) is in
@@ -94,6 +97,7 @@ fault-no_success s id seen prices (publish.OverPrice x) is = tt
 fault-no_success s id seen prices publish.Unlawful is = tt
 fault-no_success s id seen prices (publish.Ungathered x) is = tt
 
+-- what is said of a success holds of an answer that is none
 pub no_success-if : (answer : Publish) (Holds : ℕ → ℕ → Type 0) → IsNoSuccess answer → IfPublished answer Holds
 no_success-if (publish.Published slot version) Holds none = absurd none
 no_success-if (publish.NoGain before after) Holds none = tt
@@ -107,6 +111,7 @@ no_success-if (publish.OverPrice x) Holds none = tt
 no_success-if publish.Unlawful Holds none = tt
 no_success-if (publish.Ungathered x) Holds none = tt
 
+-- an answer that is no success and leaves the state as it was is one that is foretold of the publishing
 pub refusal-answer : (s : State) (id : BranchId) (seen : ℕ) (prices : List ℕ) (answer : Publish) → IsNoSuccess answer → PublishStep s id seen prices answer s → IsPublishAnswer s id seen prices answer
 refusal-answer s id seen prices (publish.Published slot version) none is = absurd none
 refusal-answer s id seen prices (publish.NoGain before after) none is = is

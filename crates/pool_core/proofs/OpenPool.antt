@@ -53,6 +53,7 @@ waits-in : (o : Option Node) → is_waiting (state_in o) ≡ true → (node : No
 waits-in None h = absurd (let bad : false ≡ true = h in cc)
 waits-in (Some node) h = let w = waits-by node.fate node.round h in (node, refl, w.0, w.1)
 
+-- where no fault is found, the budget is not spent, the node waits, and fewer rounds are active than may be
 pub open_fault-none : (s : State) (id : BranchId) → open_fault s id ≡ None → MayOpen s id
 unfolding open_fault
 open_fault-none s id h =
@@ -76,6 +77,7 @@ module _ (s : State) (places : List Slot) (id : BranchId) (slot : ℕ) (h : IsPo
   slot_is : first.place.slot ≡ slot
   slot_is = h.has_places.slot_is slot first.place first.is_free
 
+  -- the first free slot is below the greatest count of active rounds
   pub slot-within : slot < MAX_ROUNDS
   slot-within = let w = slice_get_within places slot (Free first.place) first.is_free in let c = h.has_places.count in omega arith
 
@@ -106,6 +108,7 @@ module _ (s : State) (places : List Slot) (id : BranchId) (slot : ℕ) (h : IsPo
   prices-fit : length may.node.first_prices ≡ length first.place.prices
   prices-fit = at_node.first_prices.count ∙ sym (h.has_places.prices slot first.place first.is_free)
 
+  -- the next version of a pool is at most 139282
   pub version-small : s.next_version ≤ 139282
   version-small = IsSound-next_version s (IsReachable-sound s h.reachable) h.budget
 
@@ -122,6 +125,7 @@ module _ (s : State) (places : List Slot) (id : BranchId) (slot : ℕ) (h : IsPo
     place_is : place ≡ first.place
     place_is = let same : Free place ≡ Free first.place = sym is ∙ (at_place ∙ get_or_from_slice_get places slot (Free first.place) read first.is_free) in cc
 
+    -- the read node has as many first prices as the free slot has room for
     pub place-fits : length item.first_prices ≡ length place.prices
     place-fits = ap (λ (x : Node). length x.first_prices) item_is ∙ (prices-fit ∙ sym (ap (λ (r : Round). length r.prices) place_is))
 
@@ -131,9 +135,11 @@ module _ (s : State) (places : List Slot) (id : BranchId) (slot : ℕ) (h : IsPo
           let make : Node → Round → Node = λ x r. record x { round = Some r } in
           begun ∙ (ap₂ (λ (x : Node) (r : Round). make x (begun_round r x.first_prices)) item_is place_is ∙ ap (make may.node) is_empty)
 
+      -- the node has the same limits once its round has begun
       pub begun-limits : mid.limits ≡ may.node.limits
       begun-limits = ap (λ (x : Node). x.limits) mid_is
 
+      -- the node whose round has begun is an open leaf with a sound round, which may become complete
       pub begun-ready : MayComplete s.problem s.cuts mid
       begun-ready = subst (MayComplete s.problem s.cuts) (sym mid_is) (record {
         undone = may.undone;
@@ -143,6 +149,7 @@ module _ (s : State) (places : List Slot) (id : BranchId) (slot : ℕ) (h : IsPo
         is_sound = empty-sound;
       })
 
+      -- what the begun node becomes with its round is what the waiting node becomes with an empty round
       pub begun-takes : (new : Node) → IfSome mid.round (λ r. TakesRound s.problem s.cuts mid r new) → TakesRound s.problem s.cuts may.node empty new
       begun-takes new takes = TakesRound-from s.problem s.cuts may.node mid new empty mid_is takes
 
@@ -152,6 +159,7 @@ module _ (s : State) (places : List Slot) (id : BranchId) (slot : ℕ) (h : IsPo
     abbrev next : State
     next = record s { nodes = set s.nodes id.0 after; next_version = version }
 
+    -- the state in which the node has taken the empty round, and one more version is counted, is the event
     pub opens : Opens s id (record { slot = slot; version = s.next_version }) next
     opens = record {
       not_spent = may.not_spent;
@@ -230,6 +238,7 @@ module _ (s : State) (places : List Slot) (id : BranchId) (slot : ℕ) (h : IsPo
       has_places = has_places;
     }
 
+    -- the pool stays one when the node has taken its round and the slot names the node
     pub opened-kept : (table : CutProblem) (grounds : List (Option Kept)) (item : Node) (left : Slot) → item ≡ get_or s.nodes id.0 item → left ≡ Of id → IsKeptPool s table grounds places
         → IsKeptPool next table grounds (set places slot left)
     opened-kept table grounds item left at_item none kept =
@@ -243,5 +252,6 @@ module _ (s : State) (places : List Slot) (id : BranchId) (slot : ℕ) (h : IsPo
               (TakesRound-fate s.problem s.cuts may.node empty after takes ∙ ap (λ (x : Node). x.fate) (sym same)) kept.has_grounds;
         }
 
+-- where a node may be opened, some slot is free
 pub some_free : (s : State) (places : List Slot) (id : BranchId) → IsPool s places → MayOpen s id → 0 < count_by is_free places
 some_free s places id h may = let t = h.has_places.total in let r = may.room in omega arith

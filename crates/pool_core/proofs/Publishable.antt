@@ -33,6 +33,7 @@ pub record HasFollowing (s : State) (id : BranchId) (seen : ℕ) (prices : List 
 not_reached : (limit count : ℕ) → nat_le limit count ≡ false → count < limit
 not_reached limit count h = grind (arith, nat_tests)
 
+-- where no fault is found, the prices may follow those of the node's gathered round
 pub publish_fault-none : (s : State) (id : BranchId) (seen : ℕ) (prices : List ℕ) → publish_fault s id seen prices ≡ None → HasFollowing s id seen prices
 unfolding publish_fault
 publish_fault-none s id seen prices h =

@@ -42,6 +42,7 @@ to_publish-round s id seen prices mark to =
     let is = to.may.is_gathered.complete_round in
     record { node = to.node; round = to.round; is_node = is.is_node; is_round = is.is_round }
 
+-- a node for which prices may be published has a round
 pub to_publish-some : (s : State) (id : BranchId) (seen : ℕ) (prices : List ℕ) (mark : Bool) → IsToPublish s id seen prices mark → IsSome (round_of s id)
 to_publish-some s id seen prices mark to = has-some s id (to_publish-round s id seen prices mark to)
 
@@ -52,6 +53,7 @@ to_publish-slot s id seen prices mark to read slot is is_slot =
     let rounds : read ≡ to.round = cc in
     is_slot ∙ ap (λ (r : Round). r.slot) rounds
 
+-- the slot of the round whose prices are replaced is below the greatest count of active rounds
 pub to_publish-below : (s : State) (id : BranchId) (seen : ℕ) (prices : List ℕ) (mark : Bool) (to : IsToPublish s id seen prices mark) → IsSound s → to.round.slot < MAX_ROUNDS
 to_publish-below s id seen prices mark to sound = (sound-round s id sound (to_publish-round s id seen prices mark to)).slot
 
@@ -65,6 +67,7 @@ module _ (s : State) (places : List Slot) (id : BranchId) (seen : ℕ) (prices :
   at_node : IsSoundNode s.problem s.cuts to.node
   at_node = node_at s id.0 to.node (IsReachable-sound s h.reachable) is_node
 
+  -- the node for which prices may be published is neither closed nor divided
   pub renew-undone : to.node.fate ≡ Undone
   renew-undone = (rw is_round at (at_node.round)).0
 
@@ -85,9 +88,11 @@ module _ (s : State) (places : List Slot) (id : BranchId) (seen : ℕ) (prices :
     least = λ j found is. absurd (none_found (length s.problem.demands) j found is);
   }
 
+  -- the number of the node for which prices may be published is below the count of nodes
   pub renew-within : id.0 < length s.nodes
   renew-within = slice_get_within s.nodes id.0 to.node is_node
 
+  -- the next version of a pool in which prices may be published is at most 139282
   pub renew-small : s.next_version ≤ 139282
   renew-small = IsSound-next_version s (IsReachable-sound s h.reachable) h.budget
 
@@ -97,6 +102,7 @@ module _ (s : State) (places : List Slot) (id : BranchId) (seen : ℕ) (prices :
     item_is : item ≡ to.node
     item_is = at_item ∙ get_or_from_slice_get s.nodes id.0 to.node item is_node
 
+    -- the read node has a round, with as many prices as are to be published
     pub renew-fits : IsSomeAnd item.round (λ round. length prices ≡ length round.prices)
     renew-fits =
         subst (λ (x : Node). IsSomeAnd x.round (λ round. length prices ≡ length round.prices)) (sym item_is)
@@ -115,9 +121,11 @@ module _ (s : State) (places : List Slot) (id : BranchId) (seen : ℕ) (prices :
           let none : ℕ → Round = λ n. record { slot = to.round.slot; version = s.next_version; prices = prices; found = replicate n None } in
           at ∙ ap (λ (n : ℕ). make to.node (none n)) had-sound.count
 
+      -- the node has the same limits once its round has begun anew
       pub renewed-limits : mid.limits ≡ to.node.limits
       renewed-limits = ap (λ (x : Node). x.limits) mid_is
 
+      -- the node whose round has begun anew is an open leaf with a sound round, which may become complete
       pub renewed-ready : MayComplete s.problem s.cuts mid
       renewed-ready = subst (MayComplete s.problem s.cuts) (sym mid_is) (record {
         undone = renew-undone;
@@ -127,6 +135,7 @@ module _ (s : State) (places : List Slot) (id : BranchId) (seen : ℕ) (prices :
         is_sound = empty-sound;
       })
 
+      -- what the renewed node becomes with its round is what the marked node becomes with the emptied round
       pub renewed-takes : (new : Node) → IfSome mid.round (λ r. TakesRound s.problem s.cuts mid r new) → TakesRound s.problem s.cuts marked empty new
       renewed-takes new takes = TakesRound-from s.problem s.cuts marked mid new empty mid_is takes
 
@@ -136,6 +145,7 @@ module _ (s : State) (places : List Slot) (id : BranchId) (seen : ℕ) (prices :
     abbrev next : State
     next = record s { nodes = set s.nodes id.0 after; next_version = version }
 
+    -- the state in which the marked node has taken the emptied round, and one more version is counted, is the event
     pub publishes : (slot : ℕ) → slot ≡ to.round.slot → Publishes s id seen prices slot s.next_version next
     publishes slot slot_is = record {
       node = to.node;
@@ -156,6 +166,7 @@ module _ (s : State) (places : List Slot) (id : BranchId) (seen : ℕ) (prices :
         let p = HasPlaces-slot s id to.node after to.round empty is_node is_round (TakesRound-round s.problem s.cuts marked empty after takes) refl places s.accepted h.has_places in
         record { count = p.count; total = p.total; taken = p.taken; free = p.free; slot_is = p.slot_is; demands = p.demands; prices = p.prices }
 
+    -- the pool stays one, with the same slots, when the prices are published
     pub renewed-kept : (table : CutProblem) (grounds : List (Option Kept)) (item : Node) → item ≡ get_or s.nodes id.0 item → IsKeptPool s table grounds places → IsKeptPool next table grounds places
     renewed-kept table grounds item at_item kept =
         let same : item ≡ to.node = at_item ∙ get_or_from_slice_get s.nodes id.0 to.node item is_node in

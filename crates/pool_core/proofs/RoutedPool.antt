@@ -29,15 +29,19 @@ use Rattle.pool_machine.proofs.Frames.{one_at}
 use Rattle.pool_machine.proofs.Runs.{IsReachable-step}
 
 module _ (s : State) (id : BranchId) (paths : List (List ArcId)) (at : HasOnlyPaths s id paths) where
+  -- the only paths at a node are a simple path for each demand
   pub paths-are : ArePaths s.problem paths
   paths-are = are-paths s.problem (region_of s.problem at.node) paths at.only
 
+  -- a node that may be examined and leaves each demand one path is in an open state
   pub paths-open : is_open_state (state_of s id) ≡ true
   paths-open = open-at s id at.node at.ready.open_node
 
+  -- the budget is not spent where a node that leaves each demand one path may be examined
   pub paths-not_spent : s.examined < s.budget
   paths-not_spent = at.ready.open_node.not_spent
 
+  -- to close the node by a link that its only paths overfill, or load outside a range, is the event
   pub overfull-closes : (link : LinkId) → IsOverfullAt s id link
       → ClosesOverfull s id (closed_at s id (reason.Shown (evidence.Overfull link)) (slice_get s.nodes id.0))
   overfull-closes link over = record {
@@ -49,6 +53,7 @@ module _ (s : State) (id : BranchId) (paths : List (List ArcId)) (at : HasOnlyPa
     becomes = shown-closed s id at.node (evidence.Overfull link) at.ready.open_node.is_node;
   }
 
+  -- the state with the node closed by a link that its only paths overfill is reachable
   pub overfull-reachable : (link : LinkId) → IsOverfullAt s id link → IsReachable s
       → IsReachable (closed_at s id (reason.Shown (evidence.Overfull link)) (slice_get s.nodes id.0))
   overfull-reachable link over h =
@@ -56,12 +61,15 @@ module _ (s : State) (id : BranchId) (paths : List (List ArcId)) (at : HasOnlyPa
 
   -- what is found of the paths
 
+  -- where the only paths put a load outside the range of a place, its link closes the node
   pub outside-found : (link : LinkId) → HasOutside s.problem (ranges_of s.problem at.node) paths link.0 → IsOverfullAt s id link
   outside-found link out = record { node = at.node; is_node = at.ready.open_node.is_node; overfull = outside-closed s.problem (region_of s.problem at.node) paths at.only link out }
 
+  -- the first link that the only paths overfill closes the node
   pub overfull-found : (link : LinkId) → IsFirstOverfull s.problem paths link.0 → IsOverfullAt s id link
   overfull-found link first = record { node = at.node; is_node = at.ready.open_node.is_node; overfull = overfull-closed s.problem (region_of s.problem at.node) paths at.only link first }
 
+  -- where each link can carry the only paths and each place has a load in its range, the node carries them
   pub carried-found : CarryLoads s.problem paths (length s.problem.links) → AreInside s.problem (ranges_of s.problem at.node) paths (places s.problem) → AreCarriedAt s id paths
   carried-found carry inside = record { node = at.node; is_node = at.ready.open_node.is_node; carry = carry; inside = inside }
 
@@ -75,12 +83,15 @@ module _ (s : State) (id : BranchId) (paths : List (List ArcId)) (at : HasOnlyPa
     held : t ≡ with_cheaper s cost design
     held = better-holds s t cost design answer step (completion-routed s.problem (region_of s.problem at.node) paths at.only at.none_far cost design done counts).good (sym done.is_cost)
 
+    -- once the design of the only paths is handed in, the node is still in an open state
     pub routed-open : is_open_state (state_of t id) ≡ true
     routed-open = subst (λ (x : State). is_open_state (state_of x id) ≡ true) (sym held) paths-open
 
+    -- once the design of the only paths is handed in, the budget is still not spent
     pub routed-not_spent : t.examined < t.budget
     routed-not_spent = subst (λ (x : State). x.examined < x.budget) (sym held) paths-not_spent
 
+    -- to close the node as routed, once the design of its only paths is handed in, is the event
     pub routed-closes : ClosesRouted s id (closed_at t id (reason.Shown evidence.Routed) (slice_get t.nodes id.0))
     routed-closes = record {
       node = at.node;
@@ -94,6 +105,7 @@ module _ (s : State) (id : BranchId) (paths : List (List ArcId)) (at : HasOnlyPa
           ∙ ap (closed_at (with_cheaper s cost design) id (reason.Shown evidence.Routed)) at.ready.open_node.is_node;
     }
 
+    -- the state with the node closed as routed, and the cheaper design held, is reachable
     pub routed-reachable : IsReachable s → IsReachable (closed_at t id (reason.Shown evidence.Routed) (slice_get t.nodes id.0))
     routed-reachable h =
         IsReachable-step s (closed_at t id (reason.Shown evidence.Routed) (slice_get t.nodes id.0)) (Examining id) (to_examining (Ok examined.Routed)) h routed-closes

@@ -53,12 +53,14 @@ inside-in_range p ranges paths d e within same inside = loads-in_range p d (reco
 })
 
 module _ (p : Parts) (g : Region) (paths : List (List ArcId)) (only : AreOnlyOnes p g.forbidden paths) where
+  -- the only paths in a region are a simple path for each demand
   pub are-paths : ArePaths p paths
   are-paths = record { count = only.count; simple = λ k within. (only.only k within).permitted.simple }
 
   only-of : (d : Design) → d.paths ≡ paths → AreOnlyPaths p g.forbidden d
   only-of d same k within = subst (λ (xs : List (List ArcId)). IsOnlyPath p g.forbidden k (slice_index_or xs k [])) (sym same) (only.only k within)
 
+  -- the first link that the only paths overfill is evidence that closes the region
   pub overfull-closed : (link : LinkId) → IsFirstOverfull p paths link.0 → ClosedByOverfull p g link
   overfull-closed link first = record { routing = with_paths paths; only = only-of (with_paths paths) refl; is_link = first.within; overfull = inl first.overfull }
 
@@ -71,6 +73,7 @@ module _ (p : Parts) (g : Region) (paths : List (List ArcId)) (only : AreOnlyOne
     overfull = inr (λ in_range. out.outside (in_range-place p g.ranges (with_paths paths) out.place (subst (AreInRange p g.ranges (with_paths paths)) out.is_link in_range)));
   }
 
+  -- where no demand is far, the completion of the only paths with least counts is a design that routes them at least cost
   pub completion-routed : NoneFar p g.forbidden → (cost : ℕ) (d : Design) → IsCompletion p paths cost d
       → ((e : ℕ) → e < length p.links → AreLeastCounts p e (need p d e) (counts_at d e)) → IsRouted p g.forbidden cost d
   completion-routed near cost d done counts = record {

@@ -14,9 +14,11 @@ use Rattle.pool_core.specs.Valuing.{HasNoMore, IsToSettle}
 use Rattle.pool_core.proofs.Answering.{HasGathered}
 use Rattle.pool_reading.proofs.Valuing.{same-round}
 
+-- a node with a gathered round of this version has a gathered round
 pub to-gathered : (s : State) (id : BranchId) (version : ℕ) → HasGathered s id version → IsGatheredAt s id
 to-gathered s id version g = record { version = version; node = g.node; round = g.round; is_gathered = g.is_gathered }
 
+-- a node with a gathered round may be settled where it has had enough versions, or no step gains
 pub to-settle : (s : State) (id : BranchId) (version : ℕ) → HasGathered s id version → ForRound s id (HasNoMore s) → IsToSettle s id version
 to-settle s id version g more =
     let is = g.is_gathered.complete_round in
@@ -40,6 +42,7 @@ gains-from s t id read prices old new same is is_prices valued gains x round is_
     let same_value : had.0 ≡ old = value-unique s.problem s.cuts (ranges_of s.problem x) (columns_for s x) round.prices had.0 old had.1.is_raise.is_old value in
     subst (λ (v : ℤ). IsGain s.problem s.cuts (ranges_of s.problem x) (columns_for s x) round.prices v new) same_value had.1
 
+-- where a step gains, more versions may follow and the state stays, the answer that it improves is the event
 pub improvable : (s t : State) (id : BranchId) (version : ℕ) (old new : ℤ) → HasGathered s id version → ForRound s id (λ x round. (has_enough s x ≡ false) × IsGain s.problem s.cuts (ranges_of s.problem x) (columns_for s x) round.prices old new)
     → t ≡ s → IsImprovable s id version old new t
 improvable s t id version old new g both same =

@@ -84,9 +84,11 @@ examined-one s t id (examined.Far demand) e = ap (λ (x : State). x.examined) e.
 examined-one s t id examined.Overfull e = ap (λ (x : State). x.examined) e.becomes ∙ sym (add-one s.examined)
 examined-one s t id examined.Routed e = ap (λ (x : State). x.examined) e.becomes ∙ sym (add-one s.examined)
 
+-- an examination, however it is answered, is an event that leads from the one state to the other
 pub examined-leads : (s t : State) (id : BranchId) (answer : Result Examined ExamineFault) → ExamineStep s id answer t → LeadsTo s t
 examined-leads s t id answer e = LeadsTo-one s t (Examining id) (to_examining answer) e
 
+-- where no refusal is found, an examination fails only for want of memory
 pub never-refused : (s t : State) (id : BranchId) (fault : ExamineFault) → examine_refusal s id ≡ None → ExamineStep s id (Err fault) t → fault ≡ examine_fault.OutOfMemory
 never-refused s t id examine_fault.OutOfMemory none e = refl
 never-refused s t id (examine_fault.Spent x) none e = absurd (let bad : ◌≡◌ {A = Option ExamineFault} None (Some (examine_fault.Spent x)) = sym none ∙ e.0 in cc)
@@ -95,6 +97,7 @@ never-refused s t id examine_fault.Unpriced none e = absurd (let bad : ◌≡◌
 never-refused s t id (examine_fault.Closable x y) none e = absurd (let bad : ◌≡◌ {A = Option ExamineFault} None (Some (examine_fault.Closable x y)) = sym none ∙ e.0 in cc)
 never-refused s t id (examine_fault.Unsettled x) none e = absurd (let bad : ◌≡◌ {A = Option ExamineFault} None (Some (examine_fault.Unsettled x)) = sym none ∙ e.0 in cc)
 
+-- a closing, however it is answered, is an event that leads from the one state to the other
 pub closed-leads : (s t : State) (id : BranchId) (answer : Closing) → CloseStep s id answer t → LeadsTo s t
 closed-leads s t id answer e = LeadsTo-one s t (Closing_of id) (to_closing answer) e
 
@@ -199,6 +202,7 @@ pub opened-on : (s t : State) (id : BranchId) (answer : Result Opened RoundFault
 opened-on s t id (Ok opened) h none e = opened-closer s t id opened h e
 opened-on s t id (Err fault) h none e = absurd (let bad : ◌≡◌ {A = Option RoundFault} None (Some fault) = sym none ∙ e.0 in cc)
 
+-- an opening, however it is answered, is an event that leads from the one state to the other
 pub opened-leads : (s t : State) (id : BranchId) (answer : Result Opened RoundFault) → OpenStep s id answer t → LeadsTo s t
 opened-leads s t id answer e = LeadsTo-one s t (Opening id) (to_opening answer) e
 
@@ -208,9 +212,11 @@ module _ (s : State) (id : BranchId) (version : ℕ) (k : DemandId) (gap : IsGap
   abbrev gap-round : HasRound s id
   gap-round = record { node = gap.1.node; round = gap.1.round; is_node = gap.1.active.is_node; is_round = gap.1.active.is_round }
 
+  -- a node with a demand that is to be priced has a round
   pub gap-some : IsSome (round_of s id)
   gap-some = ap is_some (round_of-has s id gap-round)
 
+  -- the number of a demand that is to be priced is below the count of demands
   pub gap-within : IsReachable s → k.0 < length s.problem.demands
   gap-within h =
       let below = slice_get_within gap.1.round.found k.0 None gap.1.not_priced in
@@ -299,11 +305,13 @@ priced-on s t id version k found answer h gap fits e =
     let offer : Offer = record { node = id; version = version; demand = k; found = found } in
     offered-on s t offer answer h (none-offer_fault s offer h gap fits) e
 
+-- an offer, however it is answered, is an event that leads from the one state to the other
 pub offered-leads : (s t : State) (offer : Offer) (answer : Offered) → OfferStep s offer answer t → LeadsTo s t
 offered-leads s t offer answer e = LeadsTo-one s t (Offering offer) (to_offering answer) e
 
 -- Designs and settlings
 
+-- a state that stays keeps its nodes and counts
 pub keeps-same : (s : State) → KeepsNodes s s
 keeps-same s = record { leads = LeadsTo-stays s s refl; problem = refl; nodes = refl; examined = refl; budget = refl }
 
@@ -318,6 +326,7 @@ better-keeps s t design (Ok (better.Taken cost)) leads e = record {
 better-keeps s t design (Ok (better.NotLess cost held)) leads e = subst (KeepsNodes s) (sym e.unchanged) (keeps-same s)
 better-keeps s t design (Err fault) leads e = subst (KeepsNodes s) (sym e.1) (keeps-same s)
 
+-- a design that is handed in, however it is answered, changes no node, no budget and no examined count
 pub bettered-keeps : (s t : State) (design : Design) (answer : Result Better DesignFault) → BetterStep s design answer t → KeepsNodes s t
 bettered-keeps s t design answer e = better-keeps s t design answer (LeadsTo-one s t (Bettering design) (to_bettering answer) e) e
 
@@ -374,10 +383,12 @@ module _ (s t : State) (id : BranchId) (version : ℕ) (advance : IsToAdvance s 
       record {
         examined = ap (λ (x : State). x.examined) e.becomes ∙ keeps.examined;
         next = next-active u id e.after round at undone has;
-        fewer = fewer-versions _ _ (versions_left e.node.completed (left_of e.round)) (versions_left e.after.completed (left_of round)) (length s.problem.demands + 3) (left_of e.round + cut_left e.node.cut + unsettled_left e.node.settled) (left_of round + cut_left e.after.cut + unsettled_left e.after.settled)
+        fewer = fewer-versions _ _ (versions_left e.node.completed (left_of e.round)) (versions_left e.after.completed (left_of round)) (length s.problem.demands + 3)
+            (left_of e.round + cut_left e.node.cut + unsettled_left e.node.settled) (left_of round + cut_left e.after.cut + unsettled_left e.after.settled)
             old_steps new_steps (omega arith) (omega arith);
       }
 
+  -- a node that a master step is due for has a round in which each demand is priced
   pub advance-complete : IsSomeAnd (round_of s id) (λ round. left_of round ≡ 0)
   advance-complete =
       let h : HasRound s id = record { node = advance.node; round = advance.round; is_node = advance.active.is_node; is_round = advance.active.is_round } in

@@ -10,6 +10,7 @@ use Rattle.pool_core.proofs.TaskLaws.{has-some}
 use Rattle.pool_reading.proofs.Reading.{sound-round, has-within, read-round, shown-value}
 use Rattle.pool_reading.proofs.Valuing.{gathered-round, same-round}
 
+-- a node with a gathered round has a round
 pub gathered-some : (s : State) (id : BranchId) → IsGatheredAt s id → IsSome (round_of s id)
 gathered-some s id h = has-some s id (gathered-round s id h)
 
@@ -27,10 +28,12 @@ if_some {X = X} o x P is h = subst (λ (q : Option X). IfSome q P) is h
 pub if_none : {X : Type 0} (o : Option X) (P : Type 0) → o ≡ None → IfNone o P → P
 if_none {X = X} o P is h = subst (λ (q : Option X). IfNone q P) is h
 
+-- where no value is there, what follows from what is said holds too
 pub none_then : {X : Type 0} (o : Option X) (P Q : Type 0) → (P → Q) → IfNone o P → IfNone o Q
 none_then None P Q f h = f h
 none_then (Some x) P Q f h = tt
 
+-- of a value that is there, what follows from what is said of it holds too
 pub some_then : {X : Type 0} (o : Option X) (P Q : X → Type 0) → ((x : X) → P x → Q x) → IfSome o P → IfSome o Q
 some_then None P Q f h = tt
 some_then (Some x) P Q f h = f x h
@@ -48,6 +51,7 @@ read-prices f s id item o x prices at read shown is same =
     let there = read-round s.nodes id.0 item (has-within s id (gathered-round s id at)) read in
     gathered-prices s id at (f x) prices (shown-value f o x item.round shown is ∙ sym there) same
 
+-- the prices that are read of a gathered round are lawful prices and rates of the instance and its cuts
 pub read-price_list : (s t : State) (id : BranchId) (read : Round) (prices : List ℕ) → IsSound s → IsGatheredAt s id → t ≡ s → Some read ≡ round_of t id → prices ≡ read.prices → AreNumbers t.problem t.cuts prices
 read-price_list s t id read prices sound at same is is_prices =
     let now : prices ≡ at.round.prices = gathered-prices s id at read prices (is ∙ ap (λ (u : State). round_of u id) same) is_prices in

@@ -49,6 +49,7 @@ module _ (p : Parts) (cuts : List LoadCut) (old : Option ℕ) (cost : ℕ) (belo
   IsSoundFate-cheaper g (ClosedBy found) h = (h.0, HasEvidence-cheaper g found h.1, h.2)
   IsSoundFate-cheaper g (DividedBy d) h = h
 
+  -- a node's sound fate stays sound against a cost that is no greater, or where there was no cost
   pub HasSoundFate-cheaper : (node : Node) → HasSoundFate p cuts old node → HasSoundFate p cuts (Some cost) node
   HasSoundFate-cheaper node h = IsSoundFate-cheaper (region_of p node) node.fate h
 
@@ -93,11 +94,13 @@ cheaper_of-held p (Some held) cost design h stated = by_cases (nat_lt cost held.
     by_cases false more = let l = ltb-false cost held.cost more in rw more (record { stated = h; below = omega arith; within = omega arith })
 
 module _ (s : State) (h : IsSound s) where
+  -- a state stays sound when a good design that is cheaper becomes the incumbent
   pub TakesBetter-sound : (design : Design) (cost : ℕ) (t : State) → TakesBetter s design cost t → IsSound t
   TakesBetter-sound design cost t e =
       subst IsSound (sym e.becomes)
       (cheaper-sound s (record { cost = cost; design = design }) h (record { good = e.good; cost_is = e.is_cost }) (is_cheaper-below s.incumbent cost e.cheaper))
 
+  -- a state stays sound when a node is closed whose demands have one path each, with loads in range
   pub ClosesRouted-sound : (id : BranchId) (t : State) → ClosesRouted s id t → IsSound t
   ClosesRouted-sound id t e =
       let node = e.node in

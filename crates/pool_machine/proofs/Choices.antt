@@ -15,6 +15,7 @@ use Rattle.pool_machine.proofs.Frames.{same_or_other}
 
 -- Sums
 
+-- where no term is greater, the sum is not
 pub sum_below-le : (f g : ℕ → ℕ) (n : ℕ) → ((i : ℕ) → i < n → f i ≤ g i) → sum_below f n ≤ sum_below g n
 sum_below-le f g zero h = omega arith
 sum_below-le f g (suc n) h =
@@ -22,6 +23,7 @@ sum_below-le f g (suc n) h =
     let here = h n (omega arith) in
     omega arith
 
+-- where no term is greater and one is less, the sum is less
 pub sum_below-less : (f g : ℕ → ℕ) (n i : ℕ) → i < n → ((j : ℕ) → j < n → f j ≤ g j) → f i < g i → sum_below f n < sum_below g n
 sum_below-less f g zero i within h less = absurd (omega arith)
 sum_below-less f g (suc n) i within h less = elim (same_or_other i n) [
@@ -125,6 +127,7 @@ choices_at-less p r id node arcs h =
     let some = sum_below-at (way_by p after id.0 node) (2 * length p.links) h.kept.0 (arc-within p h.kept h.kept_leaves.arc) in
     rw off (omega arith)
 
+-- a side of a split that takes a free arc and leaves one leaves fewer choices over all demands and nodes
 pub choices_of-less : (p : Parts) (r : Forbidden) (id : DemandId) (node : ℕ) (arcs : List ArcId) → TakesAWay p r id node arcs → choices_of p (with_forbidden r id arcs) < choices_of p r
 choices_of-less p r id node arcs h =
     let after = with_forbidden r id arcs in

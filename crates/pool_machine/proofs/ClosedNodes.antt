@@ -27,6 +27,7 @@ IsSomeAnd-weaker : {X : Type 0} (P Q : X → Type 0) → ((x : X) → P x → Q 
 IsSomeAnd-weaker P Q f None h = h
 IsSomeAnd-weaker P Q f (Some x) h = f x h
 
+-- a state stays sound when an open node is closed by evidence that holds at its region
 pub closed-sound : (s : State) (id : BranchId) (node : Node) (found : Evidence) → IsSound s → IsExamined s id node
     → is_open (Leaf found) ≡ false → HasRatedEvidence s.problem s.cuts (cutoff_of s) (region_of s.problem node) found → FitsEvidence s.problem.nodes (places s.problem + length s.cuts) found
     → IsSound (examined_with s id (closed_by found node))
@@ -69,19 +70,23 @@ ClosesBy-evidence p cuts unit cost node found is_unit k (by_bound best none is e
     )
 
 module _ (s : State) (id : BranchId) (h : IsSound s) where
+  -- a state stays sound when an open leaf is closed by its crowd proof or its bound
   pub Closes-sound : (t : State) → Closes s id t → IsSound t
   Closes-sound t e =
       let has = ClosesBy-evidence s.problem s.cuts s.unit (cutoff_of s) e.node e.found h.unit (node_at s id.0 e.node h e.is_node) e.closes_by in
       subst IsSound (sym e.becomes) (closed-sound s id e.node e.found h (record { not_spent = e.not_spent; is_node = e.is_node; undone = e.undone }) has.0 has.1 has.2)
 
+  -- a state stays sound when a node is closed by the cut that it holds
   pub ClosesByCut-sound : (t : State) → ClosesByCut s id t → IsSound t
   ClosesByCut-sound t e =
       let k = node_at s id.0 e.node h e.open_node.is_node in
       let cut = rw e.is_cut at (k.cut) in
       subst IsSound (sym e.becomes) (closed-sound s id e.node (evidence.Cut e.cut.demand e.cut.reached) h e.open_node refl cut.0 cut.1)
 
+  -- a state stays sound when a node is closed by a demand without a path that keeps its limit
   pub ClosesFar-sound : (t : State) (demand : DemandId) → ClosesFar s id demand t → IsSound t
   ClosesFar-sound t demand e = subst IsSound (sym e.becomes) (closed-sound s id e.node (evidence.Far demand) h e.ready.open_node refl e.far.closed tt)
 
+  -- a state stays sound when a node is closed by a link that its only paths overfill or load out of range
   pub ClosesOverfull-sound : (t : State) → ClosesOverfull s id t → IsSound t
   ClosesOverfull-sound t e = subst IsSound (sym e.becomes) (closed-sound s id e.node (evidence.Overfull e.link) h e.ready.open_node refl e.overfull tt)

@@ -25,6 +25,7 @@ use Rattle.pool_machine.proofs.Replacing.{replaced, CountsRise, CountsRise-sound
 use Rattle.pool_machine.proofs.Splitting.{IsOpenEnough-left, IsOpenEnough-right, choices-left, choices-right, PartsAt-parts}
 use Rattle.pool_machine.proofs.Points.{points-up_to, points-above}
 
+-- the prices that a node gives to its children are lawful numbers for the places and the cuts
 pub kept_by-sound : (p : Parts) (cuts : List Cut) (node : Node) (best : Option Best) → AreNumbers p cuts node.first_prices
     → IfSome best (λ b. IsSoundBest p cuts (region_of p node) node.first_prices node.completed b) → AreNumbers p cuts (kept_by best node.first_prices)
 kept_by-sound p cuts node None first h = first
@@ -197,6 +198,7 @@ not-deepest p ends node more shallow = lower (depth_below p ends (region_of p (c
     lower : (a l d : ℕ) → a + suc l ≤ d → suc l ≤ d
     lower a l d within = omega arith
 
+-- a state stays sound when a node is divided and its two children wait at the end of the list
 pub Divides-sound : (s : State) (id left_child right_child : BranchId) (t : State) → IsSound s → Divides s id left_child right_child t → IsSound t
 Divides-sound s id left_child right_child t h e =
     let p = s.problem in

@@ -83,6 +83,7 @@ ends-below p e (suc n) h = by (end-or_none p e n (omega arith)) (ends-below p e 
     by (inl end) before = (before.0 ++ (n ∷ []), ends-push p e n before.0 end before.1)
     by (inr none) before = (before.0, ends-skip p e n before.0 none before.1)
 
+-- each instance has a branching depth
 pub some-depth : (p : Parts) → (depth : ℕ) × IsBranchingDepth p depth
 some-depth p =
     let lists = λ (e : ℕ). ends-below p e (top_load p (link_at p e)) (omega arith) in
@@ -124,6 +125,7 @@ module _ (p : Parts) (e top : ℕ) where
       ext_get_or 0 xs ys (omega (arith, no-longer xs ys h k, no-longer ys xs k h))
       (λ i within. (let one = place-le xs ys h k i within in let other = place-le ys xs k h i one.0 in omega (arith, one.1, other.1)))
 
+-- an instance has no two branching depths
 pub depth-unique : (p : Parts) (depth other : ℕ) → IsBranchingDepth p depth → IsBranchingDepth p other → depth ≡ other
 depth-unique p depth other h k =
     h.is_depth

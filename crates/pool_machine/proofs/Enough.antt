@@ -14,6 +14,7 @@ one_of Undone = refl
 one_of (ClosedBy found) = refl
 one_of (DividedBy d) = refl
 
+-- the examined nodes and the open leaves are together all nodes
 pub all_nodes : (nodes : List Node) → sum_by examined_in nodes + sum_by (λ node. open_by node.fate) nodes ≡ length nodes
 all_nodes [] = refl
 all_nodes (node ∷ nodes) =
@@ -48,6 +49,7 @@ leaves_weigh depth (node ∷ nodes) =
     sums : (w ws d ds x y n : ℕ) → w ≡ x + ws → d ≡ y + ds → 1 ≤ x + y → n ≤ ws + ds → suc n ≤ w + d
     sums w ws d ds x y n a b c e = omega arith
 
+-- a spent budget of at least 2^(depth + 1) - 1, at the branching depth, leaves no leaf open
 pub budget-enough : (s : State) (depth : ℕ) → IsSound s → IsBranchingDepth s.problem depth → 2 ^ (depth + 1) - 1 ≤ s.budget → s.examined ≡ s.budget → open_count s ≡ 0
 budget-enough s depth h is enough spent =
     let all = all_nodes s.nodes in

@@ -8,6 +8,7 @@ use Rattle.pool_machine.specs.State.{Limit, left_limit, right_limit, Fate, Undon
 use Rattle.pool_machine.specs.Family.{badge_of, badge_at, AreApart, IsChild, HasChild, HasChildrenBy, IsFamily}
 use Rattle.pool_machine.proofs.Lists.{slice_get-set_same, slice_get-set_other, slice_get-set_cases}
 
+-- two numbers are equal, or not
 pub same_or_other : (i j : ℕ) → (i ≡ j) ⊎ (i ≢ j)
 same_or_other i j = grind arith
 
@@ -17,6 +18,7 @@ one_at xs i x y a b = cc
 
 -- Slots and versions
 
+-- rounds stay apart in nodes none of whose numbers has a slot and version that it had not before
 pub AreApart-fewer : (next : ℕ) (old new : List Node) → ((n : ℕ) (b : ℕ × ℕ) → badge_at new n ≡ Some b → badge_at old n ≡ Some b) → AreApart next old → AreApart next new
 AreApart-fewer next old new from h = record {
   slots = λ m n slot a b x y. h.slots m n slot a b (from m _ x) (from n _ y);
@@ -24,12 +26,15 @@ AreApart-fewer next old new from h = record {
   below_next = λ n slot version x. h.below_next n slot version (from n _ x);
 }
 
+-- a change of one node leaves the slot and the version of each other node
 pub badge_at-set_other : (nodes : List Node) (i n : ℕ) (node : Node) → n ≢ i → badge_at (set nodes i node) n ≡ badge_at nodes n
 badge_at-set_other nodes i n node ne = ap (λ (o : Option Node). option_and_then (λ x. badge_of x.round) o) (slice_get-set_other nodes i n node ne)
 
+-- where a node is replaced, its number has the slot and the version of the new node's round
 pub badge_at-set_same : (nodes : List Node) (i : ℕ) (old new : Node) → slice_get nodes i ≡ Some old → badge_at (set nodes i new) i ≡ badge_of new.round
 badge_at-set_same nodes i old new is = ap (λ (o : Option Node). option_and_then (λ x. badge_of x.round) o) (slice_get-set_same nodes i old new is)
 
+-- the slot and the version at a number are those of the round of the node that is there
 pub badge_at-at : (nodes : List Node) (i : ℕ) (node : Node) → slice_get nodes i ≡ Some node → badge_at nodes i ≡ badge_of node.round
 badge_at-at nodes i node is = ap (λ (o : Option Node). option_and_then (λ x. badge_of x.round) o) is
 
@@ -92,13 +97,16 @@ AreApart-new next slot nodes i old new is now free h = record {
 
 -- The tree
 
+-- the node keeps its limits and its first prices
 pub record SameBase (old new : Node) : Type 0 where
   pub limits : new.limits ≡ old.limits
   pub first_prices : new.first_prices ≡ old.first_prices
 
+-- a child stays one when it keeps its limits and its first prices
 pub IsChild-same : (parent : Node) (limit : Limit) (old new : Node) → SameBase old new → IsChild parent limit old → IsChild parent limit new
 IsChild-same parent limit old new base h = record { limits = base.limits ∙ h.limits; first_prices = base.first_prices ∙ h.first_prices }
 
+-- a parent keeps a child when a node is replaced that keeps its limits and its first prices
 pub HasChild-set : (nodes : List Node) (i : ℕ) (old new : Node) → slice_get nodes i ≡ Some old → SameBase old new
     → (n : ℕ) (parent : Node) (number : ℕ) (limit : Limit) → HasChild nodes n parent number limit → HasChild (set nodes i new) n parent number limit
 HasChild-set nodes i old new is base n parent number limit h = elim (same_or_other number i) [
@@ -110,6 +118,7 @@ HasChild-set nodes i old new is base n parent number limit h = elim (same_or_oth
       (h.0, new, subst (λ (k : ℕ). slice_get (set nodes i new) k ≡ Some new) (sym e) (slice_get-set_same nodes i old new is), IsChild-same parent limit old new base child)
 ]
 
+-- a parent keeps its children when a node is replaced that keeps its limits and its first prices
 pub HasChildrenBy-set : (nodes : List Node) (i : ℕ) (old new : Node) → slice_get nodes i ≡ Some old → SameBase old new
     → (n : ℕ) (parent : Node) (fate : Fate) → HasChildrenBy nodes n parent fate → HasChildrenBy (set nodes i new) n parent fate
 HasChildrenBy-set nodes i old new is base n parent Undone h = h
@@ -150,5 +159,6 @@ IsFamily-set p cuts nodes i old new is base own h =
       ];
     }
 
+-- an open leaf needs no children
 pub no_children : (nodes : List Node) (n : ℕ) (parent : Node) (fate : Fate) → fate ≡ Undone → HasChildrenBy nodes n parent fate
 no_children nodes n parent fate undone = subst (HasChildrenBy nodes n parent) (sym undone) tt

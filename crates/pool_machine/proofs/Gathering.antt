@@ -22,6 +22,7 @@ found_at (o ∷ found) (suc k) one is = found_at found k one is
 abbrev ArePathsFound : Parts → List (Option Found) → Type 0
 ArePathsFound p found = (k : ℕ) (one : Found) → slice_get found k ≡ Some (Some one) → IsSimplePath p (demand_at p k) one.path
 
+-- columns stay different simple paths, and not too many, when the paths of some first demands are added
 pub AreColumns-gathered : (p : Parts) (columns : Columns) (found : List (Option Found)) (n : ℕ) → AreColumns p columns → ArePathsFound p found → n ≤ length p.demands → AreColumns p (gathered columns found n)
 AreColumns-gathered p columns found zero h simple within = h
 AreColumns-gathered p columns found (suc n) h simple within =
@@ -62,10 +63,12 @@ front-sound s id version node round n h is within =
     columns-sound s (gathered s.columns round.found n) h
     (AreColumns-gathered s.problem s.columns round.found n h.columns (round-paths_found s id node round h is.is_node is.is_round) within)
 
+-- a state stays sound when all paths of a complete round become columns
 pub Gathers-sound : (s t : State) (id : BranchId) (version : ℕ) (brief : Brief) → IsSound s → Gathers s id version brief t → IsSound t
 Gathers-sound s t id version brief h e =
     subst IsSound (sym e.becomes) (front-sound s id version e.node e.round (length s.problem.demands) h e.complete_round (omega arith))
 
+-- a state stays sound when memory was wanting and the paths of some first demands became columns
 pub GathersFront-sound : (s t : State) (id : BranchId) (version : ℕ) → IsSound s → GathersFront s id version t → IsSound t
 GathersFront-sound s t id version h e =
     subst IsSound (sym e.becomes) (front-sound s id version e.node e.round e.front h e.complete_round e.within)

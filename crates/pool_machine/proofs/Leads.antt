@@ -11,12 +11,15 @@ Run-append : (s t u : State) (xs ys : List Entry) → Run s xs t → Run t ys u 
 Run-append s t u [] ys run more = subst (λ (x : State). Run x ys u) run more
 Run-append s t u (x ∷ xs) ys run more = (run.0, run.1, Run-append run.0 t u xs ys run.2 more)
 
+-- a state leads to itself by no event
 pub LeadsTo-stays : (s t : State) → t ≡ s → LeadsTo s t
 LeadsTo-stays s t e = ([], e)
 
+-- where events lead to a state and from it to a third, they lead to the third
 pub LeadsTo-trans : (s t u : State) → LeadsTo s t → LeadsTo t u → LeadsTo s u
 LeadsTo-trans s t u h k = (h.0 ++ k.0, Run-append s t u h.0 k.0 h.1 k.1)
 
+-- one event leads to the state after it
 pub LeadsTo-one : (s t : State) (event : Event) (answer : Answer) → Step s event answer t → LeadsTo s t
 LeadsTo-one s t event answer step =
     let entry : Entry = record { event = event; answer = answer } in
@@ -35,6 +38,7 @@ Run-base s t (entry ∷ entries) run =
     let rest = Run-base run.0 t entries run.2 in
     record { problem = rest.problem ∙ one.problem; cuts = rest.cuts ∙ one.cuts; budget = rest.budget ∙ one.budget }
 
+-- where events lead, the instance, the cuts and the budget are the same
 pub LeadsTo-base : (s t : State) → LeadsTo s t → KeepsBase s t
 LeadsTo-base s t h = Run-base s t h.0 h.1
 
@@ -42,6 +46,7 @@ Run-reachable : (s t : State) (entries : List Entry) → IsReachable s → Run s
 Run-reachable s t [] h run = subst IsReachable (sym run) h
 Run-reachable s t (entry ∷ entries) h run = Run-reachable run.0 t entries (IsReachable-step s run.0 entry.event entry.answer h run.1) run.2
 
+-- where events lead to from a state that can be reached can be reached too
 pub LeadsTo-reachable : (s t : State) → IsReachable s → LeadsTo s t → IsReachable t
 LeadsTo-reachable s t h leads = Run-reachable s t leads.0 h leads.1
 

@@ -35,6 +35,7 @@ use Rattle.pool_machine.proofs.OneAnswer.{no_more-not_improves, gains-not_no_gai
 
 -- Gatherings
 
+-- at a complete round of the version, a gathering that does not want memory is taken and tells a brief
 pub gather-goes : (s t : State) (id : BranchId) (version : ℕ) (node : Node) (round : Round) (answer : Gather) → IsCompleteRound s id version node round → GatherStep s id version (Ok answer) t
     → (brief : Brief) × (answer ≡ gather.Taken brief) × Gathers s id version brief t
 gather-goes s t id version node round answer is step = by answer step
@@ -76,6 +77,7 @@ brief-fits s id version node round brief h is b =
 
 -- Settlings
 
+-- at a gathered round that is stalled, or of a node with enough versions, a settling settles the node
 pub settle-goes : (s t : State) (id : BranchId) (version : ℕ) (node : Node) (round : Round) (answer : Settle) → IsGathered s id version node round
     → (has_enough s node ≡ true) ⊎ HasStalled s.problem s.cuts (ranges_of s.problem node) (columns_for s node) round.prices → SettleStep s id version answer t → Settles s id version t
 settle-goes s t id version node round answer is more step = by answer step
@@ -116,6 +118,7 @@ rise-better s id node round brief old prices new b h =
       greater = h.greater;
     }
 
+-- prices that may follow and are better, or are the crowd step, are published with a slot and a version
 pub publish-goes : (s t : State) (id : BranchId) (seen : ℕ) (prices : List ℕ) (node : Node) (round : Round) (answer : Publish) → MayFollow s id seen prices node round
     → IsBetterStep s node round prices ⊎ IsCrowdStep s node round prices → PublishStep s id seen prices answer t
     → (slot : ℕ) × (version : ℕ) × (answer ≡ publish.Published slot version) × Publishes s id seen prices slot version t

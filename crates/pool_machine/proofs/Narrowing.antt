@@ -25,9 +25,11 @@ pub record IsWithin (inner outer : LoadRange) : Type 0 where
 abbrev pub AreWithin : List LoadRange → List LoadRange → Type 0
 AreWithin inner outer = (q : ℕ) → IsWithin (range_at inner q) (range_at outer q)
 
+-- each range lies within itself
 pub IsWithin-self : (range : LoadRange) → IsWithin range range
 IsWithin-self range = record { least = omega arith; most = omega arith }
 
+-- a load of a range is one of each range around it
 pub IsIn-outer : (inner outer : LoadRange) (load : ℕ) → IsWithin inner outer → IsIn inner load → IsIn outer load
 IsIn-outer inner outer load h is = record { enough = omega (arith, h.least, is.enough); few = omega (arith, h.most, is.few) }
 
@@ -36,9 +38,11 @@ pub with_range-within : (ranges : List LoadRange) (place : ℕ) (range : LoadRan
 with_range-within ranges place range inside within q =
     with_range-fits (λ n r. IsWithin r (range_at ranges n)) ranges place range q inside within (IsWithin-self (range_at ranges q))
 
+-- a range that is made to end at a load below its most lies within the old one
 pub ends_at-within : (range : LoadRange) (load : ℕ) → load < range.most → IsWithin (ends_at range load) range
 ends_at-within range load below = record { least = omega arith; most = omega (arith, below) }
 
+-- a range that is made to begin behind a load that is not below its least lies within the old one
 pub begins_at-within : (range : LoadRange) (load : ℕ) → range.least ≤ load → IsWithin (begins_at range (load + 1)) range
 begins_at-within range load above = record { least = omega (arith, above); most = omega arith }
 
@@ -46,6 +50,7 @@ begins_at-within range load above = record { least = omega (arith, above); most 
 pub there-within : (p : Parts) (inner outer : List LoadRange) (e : ℕ) → AreWithin inner outer → IsWithin (range_there p inner e) (range_there p outer e)
 there-within p inner outer e h = h (if is_two_way p.orient then 2 * e else e)
 
+-- where ranges lie within others, so do those of the way back of a link
 pub back-within : (p : Parts) (inner outer : List LoadRange) (e : ℕ) → AreWithin inner outer → IsWithin (range_back p inner e) (range_back p outer e)
 back-within p inner outer e h = by_cases (is_two_way p.orient)
   where
@@ -84,6 +89,7 @@ pub left-inside : (p : Parts) (g : Region) (by : Divider) → IsSoundDivider p g
 left-inside p g (divider.Arcs d) h = with_arcs-inside p g d.demand d.left
 left-inside p g (divider.Load d) h = up_to-inside p g d.place d.load h.is_split
 
+-- the right child of a sound split permits no more paths and no more loads than its parent
 pub right-inside : (p : Parts) (g : Region) (by : Divider) → IsSoundDivider p g by → IsInside p (narrowed g (right_limit by)) g
 right-inside p g (divider.Arcs d) h = with_arcs-inside p g d.demand d.right
 right-inside p g (divider.Load d) h = above-inside p g d.place d.load h.is_split

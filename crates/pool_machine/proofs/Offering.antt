@@ -26,6 +26,7 @@ left_of-with_found : (round : Round) (k : ℕ) (found : Found) → slice_get rou
 left_of-with_found round k found is =
     let e : left_of (with_found round k found) + 1 ≡ left_of round + 0 = sum_by-set_at gap_of round.found k None (Some found) is in omega arith
 
+-- a round stays sound when a least permitted path of a demand is put into it
 pub with_found-sound : (p : Parts) (cuts : List Cut) (r : Forbidden) (round : Round) (k : ℕ) (found : Found) → IsSoundRound p cuts r round → IsLeastPath p round.prices k r found.path found.price → IsSoundRound p cuts r (with_found round k found)
 with_found-sound p cuts r round k found h least = record {
   slot = h.slot;
@@ -48,6 +49,7 @@ versions_of-active node round undone is left = rw (undone, is) (in_round node.co
     in_round completed (suc left) h = refl
 
 module _ (s : State) (offer : Offer) (h : IsSound s) where
+  -- a state stays sound when a node keeps an offered set of nodes as its cut
   pub TakesCut-sound : (t : State) → TakesCut s offer t → IsSound t
   TakesCut-sound t e =
       let node = e.node in
@@ -81,6 +83,7 @@ module _ (s : State) (offer : Offer) (h : IsSound s) where
       (AreApart-set s.next_version s.nodes offer.node.0 node new fits.is_node (inl refl) h.apart)
       (record { examined_is = refl; within_budget = h.counts.within_budget; versions = omega arith; accepted_within = omega arith }))
 
+  -- a state stays sound when an offered path goes into the round of its node
   pub Accepts-sound : (left : ℕ) (t : State) → Accepts s offer left t → IsSound t
   Accepts-sound left t e =
       let node = e.node in

@@ -45,6 +45,7 @@ one_by {A} fault Succeeds free one a b x y = elim x [
 either_way : (x y : ℕ) → (x ≤ y) ⊎ (y < x)
 either_way x y = grind arith
 
+-- there is at most one lowest free slot
 pub slot-one : (s : State) (a b : ℕ) → IsLowestFreeSlot s a → IsLowestFreeSlot s b → a ≡ b
 slot-one s a b x y = elim (either_way a b) [
   | inr more ↦ absurd (y.free (x.lowest b more))
@@ -74,6 +75,7 @@ open-unrefused s t id opened e =
 abbrev opened_as : ℕ → ℕ → Opened
 opened_as slot version = record { slot = slot; version = version }
 
+-- an opening of one node at one state has one answer
 pub opening-one : (s t u : State) (id : BranchId) (a b : Result Opened RoundFault) → OpenStep s id a t → OpenStep s id b u → a ≡ b
 opening-one s t u id (Ok a) (Ok b) x y =
     let slot = slot-one s a.slot b.slot x.slot y.slot in
@@ -121,6 +123,7 @@ module _ (s : State) (id : BranchId) (version : ℕ) where
   settle-free (settle.Improves before after) x = settle-unrefused s id version x.1.node x.1.round x.1.is_gathered
   settle-free a x = absurd x
 
+  -- where a node has had enough versions or its round is stalled, no settling answers that a step gains
   pub no_more-not_improves : (u : State) (node : Node) (round : Round) (before after : ℤ) → IsGathered s id version node round
       → (has_enough s node ≡ true) ⊎ HasStalled s.problem s.cuts (ranges_of s.problem node) (columns_for s node) round.prices → IsImprovable s id version before after u → ⊥
   no_more-not_improves u node round before after is no_more y =
@@ -152,6 +155,7 @@ module _ (s : State) (id : BranchId) (version : ℕ) where
   settle-both (settle.Improves v g) b x y = absurd y
   settle-both a b x y = absurd x
 
+-- a settling of one version at one state has one answer
 pub settling-one : (s t u : State) (id : BranchId) (version : ℕ) (a b : Settle) → SettleStep s id version a t → SettleStep s id version b u → a ≡ b
 settling-one s t u id version a b x y =
     one_by (settle_fault s id version) (SettleSucceeds s id version) (settle-free s id version) (settle-both s id version) a b (settle-cases s id version t a x) (settle-cases s id version u b y)
@@ -204,6 +208,7 @@ module _ (s : State) (id : BranchId) (seen : ℕ) (prices : List ℕ) where
       let after : g ≡ h = value-unique s.problem s.cuts (ranges_of s.problem x.node) (columns_for s x.node) prices g h x.is_after new in
       ap (λ (z : ℤ). publish.NoGain z g) before ∙ ap (λ (z : ℤ). publish.NoGain w z) after
 
+  -- where the prices are better or the crowd step, no publishing answers that they gain nothing
   pub gains-not_no_gain : (u : State) (node : Node) (round : Round) (v g : ℤ) → MayFollow s id seen prices node round
       → IsBetterStep s node round prices ⊎ IsCrowdStep s node round prices → IsNoGain s id seen prices v g u → ⊥
   gains-not_no_gain u node round v g may gains y =
@@ -229,6 +234,7 @@ module _ (s : State) (id : BranchId) (seen : ℕ) (prices : List ℕ) where
   publish-both (publish.NoGain v g) b x y = absurd y
   publish-both a b x y = absurd x
 
+-- a publishing of the same prices at one state has one answer
 pub publishing-one : (s t u : State) (id : BranchId) (seen : ℕ) (prices : List ℕ) (a b : Publish) → PublishStep s id seen prices a t → PublishStep s id seen prices b u → a ≡ b
 publishing-one s t u id seen prices a b x y =
     one_by (publish_fault s id seen prices) (PublishSucceeds s id seen prices) (publish-free s id seen prices) (publish-both s id seen prices) a b (publish-cases s id seen prices t a x) (publish-cases s id seen prices u b y)

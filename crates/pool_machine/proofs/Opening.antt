@@ -15,6 +15,7 @@ use Rattle.pool_machine.proofs.Frames.{AreApart-new, no_children}
 use Rattle.pool_machine.proofs.Taking.{HasTaken, TakesRound-sound}
 use Rattle.pool_machine.proofs.Replacing.{replaced-sound, undone_fate, node_at}
 
+-- a round in which no demand is priced has no path at any place
 pub none_found : (n k : ℕ) (found : Found) → slice_get (replicate n None) k ≡ Some (Some found) → ⊥
 none_found zero k found is = cc
 none_found (suc n) zero found is = cc
@@ -33,6 +34,7 @@ taken_by None slot version is = let bad : ◌≡◌ {A = Option (ℕ × ℕ)} No
 taken_by (Some node) slot version is = (node, refl, badge_of-slot node.round slot version is)
 
 module _ (s : State) (id : BranchId) (h : IsSound s) where
+  -- a state stays sound when a node that waits gets a round of its first prices
   pub Opens-sound : (opened : Opened) (t : State) → Opens s id opened t → IsSound t
   Opens-sound opened t e =
       let node = e.node in

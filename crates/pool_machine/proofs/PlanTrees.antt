@@ -82,8 +82,10 @@ module _ (s : State) (h : IsSound s) where
       let at_root : Sound (whole s.problem ∷ []) (tree_of s ++ []) = subst (λ (g : Region). Sound (g ∷ []) (tree_of s ++ [])) root all in
       subst (λ (x : List TreeNode). Sound (whole s.problem ∷ []) x) (append-nil (tree_of s)) at_root
 
+  -- the tree of a sound state is one whole tree, and the evidence of each leaf holds
   pub tree_of-valid : IsRatedTree s.problem s.cuts (cutoff_of s) (tree_of s)
   tree_of-valid = tree_of-sound.0
 
+  -- each split in the tree of a sound state parts two paths of its demand, or two steps of its link
   pub tree_of-parts : PartsPaths s.problem (tree_of s)
   tree_of-parts = tree_of-sound.1

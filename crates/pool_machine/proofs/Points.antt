@@ -91,12 +91,14 @@ module _ (p : Parts) (ends : ℕ → List ℕ) (ranges : List LoadRange) (d : Lo
       (λ q below. points_in-le (ends (link_of_place p q)) (range_at (with_range ranges d.place range) q) (range_at ranges q) (with_range-within ranges d.place range inside within q))
       (subst (λ (r : LoadRange). points_in (ends e) r < points_in (ends e) (range_at ranges d.place)) (sym (get_or-set_same ranges d.place range no_range inside)) fewer)
 
+-- the left child of a split of loads has fewer loads at which ranges may be divided
 pub points-up_to : (p : Parts) (ends : ℕ → List ℕ) (g : Region) (d : LoadSplit) → AreAllEnds p ends → AreRanges p g.ranges → PartsSteps p g.ranges d
     → points_of p ends (up_to g d.place d.load).ranges < points_of p ends g.ranges
 points-up_to p ends g d are_ends are parts =
     let range = range_at g.ranges d.place in
     points-less p ends g.ranges d are_ends are parts (ends_at range d.load) (ends_at-within range d.load parts.is_split.some_right) (point-past (ends_at range d.load) d.load (omega arith))
 
+-- the right child of a split of loads has fewer loads at which ranges may be divided
 pub points-above : (p : Parts) (ends : ℕ → List ℕ) (g : Region) (d : LoadSplit) → AreAllEnds p ends → AreRanges p g.ranges → PartsSteps p g.ranges d
     → points_of p ends (above g d.place d.load).ranges < points_of p ends g.ranges
 points-above p ends g d are_ends are parts =

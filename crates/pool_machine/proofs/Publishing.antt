@@ -15,6 +15,7 @@ use Rattle.pool_machine.proofs.Taking.{HasTaken, TakesRound-sound}
 use Rattle.pool_machine.proofs.Opening.{none_found}
 use Rattle.pool_machine.proofs.Replacing.{replaced-sound, undone_fate, node_at}
 
+-- a state stays sound when further prices are published and the emptied round gets the next version
 pub Publishes-sound : (s t : State) (id : BranchId) (seen : ℕ) (prices : List ℕ) (slot version : ℕ) → IsSound s → Publishes s id seen prices slot version t → IsSound t
 Publishes-sound s t id seen prices slot version h e =
     let node = e.node in

@@ -24,6 +24,7 @@ pub record CountsRise (s : State) (old new : Node) (examined next accepted : ℕ
   pub versions : next + versions_of old ≤ s.next_version + versions_of new
   pub accepted_within : accepted + left_in new + length s.problem.demands * s.next_version ≤ s.accepted + left_in old + length s.problem.demands * next
 
+-- counts still fit the tree when a node is replaced and they rise by no more than it gains
 pub CountsRise-sound : (s : State) (i : ℕ) (old new : Node) (examined next accepted : ℕ) → slice_get s.nodes i ≡ Some old
     → CountsRise s old new examined next accepted → AreSoundCounts s → AreSoundCounts (replaced s i new examined next accepted)
 CountsRise-sound s i old new examined next accepted is rise h =
@@ -37,6 +38,7 @@ CountsRise-sound s i old new examined next accepted is rise h =
       accepted = (let a = h.accepted in let b = rise.accepted_within in omega arith);
     }
 
+-- the number of nodes is still 1 and twice the divided ones when a replaced node is divided as it was before
 pub same_size : (s : State) (i : ℕ) (old new : Node) → slice_get s.nodes i ≡ Some old → divided_in new ≡ divided_in old
     → length s.nodes ≡ 1 + 2 * sum_by divided_in s.nodes → length (set s.nodes i new) ≡ 1 + 2 * sum_by divided_in (set s.nodes i new)
 same_size s i old new is undivided h =
@@ -58,6 +60,7 @@ same_weights depth nodes i old new is undivided limits h =
     sums : (a b x y : ℕ) → a + x ≡ b + y → y ≡ x → a ≡ b
     sums a b x y e f = omega arith
 
+-- a state stays sound when a node is replaced by a sound one with the same base and the counts rise with it
 pub replaced-sound : (s : State) (i : ℕ) (old new : Node) (examined next accepted : ℕ) → slice_get s.nodes i ≡ Some old → IsSound s
     → SameBase old new → HasChildrenBy (set s.nodes i new) i new new.fate
     → IsSoundNode s.problem s.cuts new → HasSoundFate s.problem s.cuts (cutoff_of s) new → divided_in new ≡ divided_in old
@@ -79,12 +82,15 @@ replaced-sound s i old new examined next accepted is h base children node fate u
   weights = λ ends are. same_weights (depth_below s.problem ends (whole s.problem)) s.nodes i old new is undivided base.limits (h.weights ends are);
 }
 
+-- a node that is neither closed nor divided has a sound fate
 pub undone_fate : (p : Parts) (cuts : List Cut) (cost : Option ℕ) (node : Node) → node.fate ≡ Undone → HasSoundFate p cuts cost node
 undone_fate p cuts cost node undone = subst (IsSoundFate p cuts cost (region_of p node)) (sym undone) tt
 
+-- each node of a sound state is sound
 pub node_at : (s : State) (i : ℕ) (node : Node) → IsSound s → slice_get s.nodes i ≡ Some node → IsSoundNode s.problem s.cuts node
 node_at s i node h is = All-at (IsSoundNode s.problem s.cuts) s.nodes i node h.nodes is
 
+-- a node has had at most one version more than were complete
 pub versions_of-le : (node : Node) → versions_of node ≤ suc node.completed
 versions_of-le node = by_cases node.fate node.round
   where

@@ -36,7 +36,35 @@ use Rattle.pool_machine.specs.Settling.{SettleStep}
 use Rattle.pool_machine.specs.Closing.{CloseStep}
 use Rattle.pool_machine.specs.Examining.{ExamineStep}
 use Rattle.pool_machine.specs.Bettering.{BetterStep}
-use Rattle.pool_machine.specs.Machine.{Event, Opening, Offering, Gathering, Publishing, Settling, Closing_of, Examining, Bettering, Answer, to_opening, to_offering, to_gathering, to_publishing, to_settling, to_closing, to_examining, to_bettering, Step, Entry, accepted_in, versions_made_by, IsCounted, Run, root_with, IsOpeningState, IsReachable}
+use Rattle.pool_machine.specs.Machine.{
+  Event,
+  Opening,
+  Offering,
+  Gathering,
+  Publishing,
+  Settling,
+  Closing_of,
+  Examining,
+  Bettering,
+  Answer,
+  to_opening,
+  to_offering,
+  to_gathering,
+  to_publishing,
+  to_settling,
+  to_closing,
+  to_examining,
+  to_bettering,
+  Step,
+  Entry,
+  accepted_in,
+  versions_made_by,
+  IsCounted,
+  Run,
+  root_with,
+  IsOpeningState,
+  IsReachable,
+}
 use Rattle.pool_machine.specs.Nodes.{IsSoundNode, HasSoundFate}
 use Rattle.pool_machine.specs.Family.{badge_at, HasChildrenBy}
 use Rattle.pool_machine.specs.Counts.{IsShallow, weight_in}
@@ -126,6 +154,7 @@ module _ where
   BetterStep-sound s t design (Ok (better.NotLess cost held)) h e = unchanged-sound s t h e.unchanged
   BetterStep-sound s t design (Err fault) h e = unchanged-sound s t h e.1
 
+  -- each event leads from a sound state to a sound state
   pub Step-sound : (s t : State) (event : Event) (answer : Answer) → IsSound s → Step s event answer t → IsSound t
   Step-sound s t (Opening id) (to_opening answer) h e = OpenStep-sound s t id answer h e
   Step-sound s t (Offering offer) (to_offering answer) h e = OfferStep-sound s t offer answer h e
@@ -137,6 +166,7 @@ module _ where
   Step-sound s t (Bettering design) (to_bettering answer) h e = BetterStep-sound s t design answer h e
   Step-sound s t event answer h e = absurd e
 
+  -- the events of a run lead from a sound state to a sound state
   pub Run-sound : (s t : State) (entries : List Entry) → IsSound s → Run s entries t → IsSound t
   Run-sound s t [] h run = unchanged-sound s t h run
   Run-sound s t (entry ∷ entries) h run = Run-sound run.0 t entries (Step-sound s run.0 entry.event entry.answer h run.1) run.2
@@ -158,6 +188,7 @@ goes_to s answer t u e p c b a v none none' =
 refused : (s : State) (answer : Answer) (t : State) → t ≡ s → accepted_in answer ≡ 0 → versions_made_by answer ≡ 0 → GoesTo s answer t
 refused s answer t e a v = goes_to s answer t s e refl refl refl refl refl a v
 
+-- each event keeps the instance, the cuts and the budget, and the counts rise by what its answer says
 pub Step-goes : (s t : State) (event : Event) (answer : Answer) → Step s event answer t → GoesTo s answer t
 Step-goes s t (Opening id) (to_opening answer) e = by answer e
   where
@@ -249,6 +280,7 @@ opening-at p q cuts same_cuts budget same_budget s problem cuts_are budget_is h 
     subst (λ (x : Parts). IsOpeningState x same_cuts same_budget s) (sym problem)
     (subst (λ (x : List Cut). IsOpeningState p x same_budget s) (sym cuts_are) (subst (λ (b : ℕ). IsOpeningState p cuts b s) (sym budget_is) h))
 
+-- what an event leads to from a state that can be reached can be reached too
 pub IsReachable-step : (s t : State) (event : Event) (answer : Answer) → IsReachable s → Step s event answer t → IsReachable t
 IsReachable-step s t event answer h step =
     let same = Step-goes s t event answer step in
@@ -269,6 +301,7 @@ root_weight depth root limits undone =
     sums : (a x y : ℕ) → a ≡ x + 0 → x ≡ y → a ≡ y
     sums a x y e f = omega arith
 
+-- the counts after a run are those before it and what its answers add
 pub Run-counted : (s t : State) (entries : List Entry) → Run s entries t → IsCounted s entries t
 Run-counted s t [] run = subst (IsCounted s []) (sym run) (record { accepted = omega arith; next_version = omega arith })
 Run-counted s t (entry ∷ entries) run =
@@ -287,6 +320,7 @@ only : (root : Node) → root.fate ≡ Undone → (n : ℕ) (node : Node) → sl
 only root undone zero node is = let same : root ≡ node = cc in no_children (root ∷ []) zero node node.fate (subst (λ (k : Node). k.fate ≡ Undone) same undone)
 only root undone (suc n) node is = let bad : ◌≡◌ {A = Option Node} None (Some node) = is in absurd (cc)
 
+-- the opening state of an instance, its cuts and a budget is sound
 pub IsOpeningState-sound : (p : Parts) (cuts : List Cut) (budget : ℕ) (s : State) → IsOpeningState p cuts budget s → IsSound s
 IsOpeningState-sound p cuts budget s e =
     let root : Node = root_with e.prices in
@@ -332,5 +366,6 @@ IsOpeningState-sound p cuts budget s e =
       weights = λ ends are. root_weight (depth_below p ends (whole p)) root refl refl;
     })
 
+-- each state that events lead to from an opening state is sound
 pub IsReachable-sound : (s : State) → IsReachable s → IsSound s
 IsReachable-sound s h = Run-sound h.opening s h.entries (IsOpeningState-sound s.problem s.cuts s.budget h.opening h.is_opening) h.run

@@ -23,9 +23,11 @@ use Rattle.master_step.proofs.Uniqueness.{max_below-same}
 abbrev pub AreSame : Parts → Choices → Choices → Type 0
 AreSame p one other = (k : ℕ) → k < length p.demands → one k ≡ other k
 
+-- two choices that name the same columns do so the other way round
 pub same-back : (p : Parts) (one other : Choices) → AreSame p one other → AreSame p other one
 same-back p one other same = λ k below. sym (same k below)
 
+-- a restricted value over columns is one over each choice that names the same columns
 pub value-same : (p : Parts) (cuts : List Cut) (ranges : List LoadRange) (one other : Choices) (prices : List ℕ) (value : ℤ) → AreSame p one other → IsRestrictedValue p cuts ranges one prices value → IsRestrictedValue p cuts ranges other prices value
 value-same p cuts ranges one other prices value same h = record {
   has_columns = λ k below. subst (λ (paths : List (List ArcId)). 0 < length paths) (same k below) (h.has_columns k below);
@@ -61,6 +63,7 @@ trial-same p cuts ranges one other prices j trial same h =
       rates = h.rates;
     }
 
+-- where no trial gains over columns, none gains over a choice that names the same ones
 pub stalled-same : (p : Parts) (cuts : List Cut) (ranges : List LoadRange) (one other : Choices) (prices : List ℕ) (old : ℤ) → AreSame p one other → IsStalled p cuts ranges one prices old → IsStalled p cuts ranges other prices old
 stalled-same p cuts ranges one other prices old same h =
     let back = same-back p one other same in

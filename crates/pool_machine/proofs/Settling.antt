@@ -9,6 +9,7 @@ use Rattle.pool_machine.proofs.Lists.{All-at}
 use Rattle.pool_machine.proofs.Replacing.{replaced-sound}
 use Rattle.pool_machine.proofs.Frames.{AreApart-set, no_children}
 
+-- a state stays sound when a node gets the mark that no further version follows
 pub Settles-sound : (s t : State) (id : BranchId) (version : ℕ) → IsSound s → Settles s id version t → IsSound t
 Settles-sound s t id version h e =
     let node = e.node in

@@ -13,6 +13,7 @@ divided-le Undone = omega arith
 divided-le (ClosedBy found) = omega arith
 divided-le (DividedBy d) = omega arith
 
+-- a sound state has at most one node more than twice its budget
 pub IsSound-nodes : (s : State) → IsSound s → length s.nodes ≤ 1 + 2 * s.budget
 IsSound-nodes s h =
     let less = sum_by-le-sum_by divided_in examined_in s.nodes (λ node. divided-le node.fate) in
@@ -21,6 +22,7 @@ IsSound-nodes s h =
     let b = h.counts.within_budget in
     omega arith
 
+-- with a budget of at most 4096, the next version is at most 139282
 pub IsSound-next_version : (s : State) → IsSound s → s.budget ≤ 4096 → s.next_version ≤ 139282
 IsSound-next_version s h small =
     let most = sum_by-le versions_of 17 s.nodes (All-weaker (IsSoundNode s.problem s.cuts) (λ node. versions_of node ≤ 17) (λ node k. let a = versions_of-le node in let b = k.version_count in omega arith) s.nodes h.nodes) in
@@ -28,6 +30,7 @@ IsSound-next_version s h small =
     let v = h.counts.versions in
     omega arith
 
+-- with a budget of at most 4096, the count of accepted paths stays below 2 to the 64
 pub IsSound-accepted : (s : State) → IsSound s → s.budget ≤ 4096 → s.accepted < 2 ^ 64
 IsSound-accepted s h small =
     let v = IsSound-next_version s h small in

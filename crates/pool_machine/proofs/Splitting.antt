@@ -119,15 +119,19 @@ module _ (p : Parts) (r : Forbidden) (d : ArcSplit) (parts : PartsAt p r d) wher
   right_side : IsSideOf p r d.demand d.at.0 d.right
   right_side = let s = parts.is_split in side_of d.right d.left s.right_side s.left_side (s.disjoint 0 no_arc s.left_side.some)
 
+  -- a split of arcs that parts two paths leaves its left child fewer choices
   pub choices-left : choices_of p (with_forbidden r d.demand d.left) < choices_of p r
   choices-left = choices_of-less p r d.demand d.at.0 d.left (takes_of d.left parts.is_split.left_side left_side)
 
+  -- a split of arcs that parts two paths leaves its right child fewer choices
   pub choices-right : choices_of p (with_forbidden r d.demand d.right) < choices_of p r
   choices-right = choices_of-less p r d.demand d.at.0 d.right (takes_of d.right parts.is_split.right_side right_side)
 
+  -- the left child leaves each demand an arc at each node that has arcs, and all arcs at its target
   pub IsOpenEnough-left : IsOpenEnough p r → IsOpenEnough p (with_forbidden r d.demand d.left)
   IsOpenEnough-left = IsOpenEnough-side p r d.demand d.at.0 d.left left_side
 
+  -- the right child leaves each demand an arc at each node that has arcs, and all arcs at its target
   pub IsOpenEnough-right : IsOpenEnough p r → IsOpenEnough p (with_forbidden r d.demand d.right)
   IsOpenEnough-right = IsOpenEnough-side p r d.demand d.at.0 d.right right_side
 
@@ -135,5 +139,6 @@ module _ (p : Parts) (r : Forbidden) (d : ArcSplit) (parts : PartsAt p r d) wher
   path_with arcs path place is within among =
       (path, is, (place, arc_at path place, within, get_or_default path place (arc_at path place) no_arc within, among))
 
+  -- a split of arcs where two paths part has a permitted path of the demand through each side
   pub PartsAt-parts : PartsTwoPaths p r d.demand d.left d.right
   PartsAt-parts = (path_with d.left parts.first parts.place parts.first_path parts.in_first parts.on_left, path_with d.right parts.second parts.place parts.second_path parts.in_second parts.on_right)

@@ -136,5 +136,6 @@ module _ (p : Parts) (cuts : List Cut) (old : Node) (round : Round) (undone : ol
         versions = versions-undone old.completed old.fate round (suc old.completed) undone (versions_in_round-some old.completed (left_of round) left);
       })
 
+  -- an open sound node with room that takes a sound round is sound, and keeps its base, its fate and its cut
   pub TakesRound-sound : (new : Node) → TakesRound p cuts old round new → HasTaken p cuts old round new
   TakesRound-sound new takes = elim takes [ inl e ↦ Completes-sound new e | inr e ↦ GoesOn-sound new e ]

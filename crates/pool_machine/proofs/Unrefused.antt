@@ -29,6 +29,7 @@ unspent s h = grind (arith, nat_tests)
 not_reached : (limit count : ℕ) → count < limit → nat_le limit count ≡ false
 not_reached limit count h = grind (arith, nat_tests)
 
+-- the round of a state at a number is that of the node that is there
 pub round_of-at : (s : State) (id : BranchId) (node : Node) (round : Round) → slice_get s.nodes id.0 ≡ Some node → node.round ≡ Some round → round_of s id ≡ Some round
 round_of-at s id node round is_node is_round = ap (option_and_then (λ (x : Node). x.round)) is_node ∙ is_round
 
@@ -45,6 +46,7 @@ gap-not_complete (None ∷ found) none zero is = one-not_zero (gap_of None) (par
 gap-not_complete (Some one ∷ found) none zero is = let bad : ◌≡◌ {A = Option (Option Found)} (Some (Some one)) (Some None) = is in cc
 gap-not_complete (o ∷ found) none (suc k) is = gap-not_complete found (parts-zero (gap_of o) (sum_by gap_of found) _ (sum_by-cons gap_of o found) none).1 k is
 
+-- a complete round has no demand that is not priced
 pub complete-no_gap : (round : Round) → left_of round ≡ 0 → first_in gap_at round.found ≡ None
 complete-no_gap round complete = none-first_in gap_at round.found by
   where
@@ -53,6 +55,7 @@ complete-no_gap round complete = none-first_in gap_at round.found by
     by k (Some one) is = refl
 
 module _ (s : State) (id : BranchId) (version : ℕ) (node : Node) (round : Round) where
+  -- at a complete round of the version, a call is refused neither as spent nor as stale
   pub stale-unrefused : {F : Type 0} (spent : ℕ → F) (stale : Option ℕ → F) → IsCompleteRound s id version node round → stale_fault spent stale s id version ≡ None
   stale-unrefused spent stale h =
       let at : round_of s id ≡ Some round = round_of-at s id node round h.is_node h.is_round in
@@ -62,6 +65,7 @@ module _ (s : State) (id : BranchId) (version : ℕ) (node : Node) (round : Roun
   no_gap : IsCompleteRound s id version node round → first_gap (round_of s id) ≡ None
   no_gap h = ap first_gap (round_of-at s id node round h.is_node h.is_round) ∙ complete-no_gap round h.complete
 
+  -- at a complete round of the version, no gathering is refused
   pub gather-unrefused : IsCompleteRound s id version node round → gather_fault s id version ≡ None
   unfolding gather_fault
   gather-unrefused h = none-or_else _ _ (stale-unrefused gather.Spent gather.Stale h) (ap (λ (o : Option DemandId). option_map gather.Incomplete o) (no_gap h))
@@ -71,6 +75,7 @@ module _ (s : State) (id : BranchId) (version : ℕ) (node : Node) (round : Roun
       let is = h.complete_round in
       ap (first_ungathered s.columns) (round_of-at s id node round is.is_node is.is_round) ∙ h.gathered_all
 
+  -- at a gathered round, no settling is refused before prices are valued
   pub settle-unrefused : IsGathered s id version node round → settle_fault s id version ≡ None
   unfolding settle_fault
   settle-unrefused h =
@@ -78,6 +83,7 @@ module _ (s : State) (id : BranchId) (version : ℕ) (node : Node) (round : Roun
       (none-or_else _ _ (ap (λ (o : Option DemandId). option_map settle.Incomplete o) (no_gap h.complete_round))
       (ap (λ (o : Option DemandId). option_map settle.Ungathered o) (none_ungathered h)))
 
+  -- where the prices may follow the round, no publishing is refused before prices are valued
   pub publish-unrefused : (prices : List ℕ) → MayFollow s id version prices node round → publish_fault s id version prices ≡ None
   unfolding publish_fault
   publish-unrefused prices h =

@@ -33,34 +33,42 @@ use Rattle.pool_machine.proofs.Offering.{with_found-sound}
 
 -- The lengths of a place
 
+-- a place has as many lengths as the list of what was found has entries
 pub kept_count : (lengths : RoundState) (found : List (Option Found)) (n : ℕ) → IsKeptRound lengths found → length found ≡ n → length lengths.lengths ≡ n
 kept_count lengths found n kept is = ap length kept.same ∙ (length-map_price found ∙ is)
 
+-- where no found path's price is above the greatest that a path may have, no length of the place is
 pub kept_short : (p : Parts) (lengths : RoundState) (found : List (Option Found)) → IsKeptRound lengths found → AreShort p (map price_in found) → AreShort p lengths.lengths
 kept_short p lengths found kept short = subst (AreShort p) (sym kept.same) short
 
+-- a bound from the lengths of a place is one from the prices of the found paths
 pub kept_bound : (p : Parts) (cuts : List Cut) (ranges : List LoadRange) (lengths : RoundState) (found : List (Option Found)) (bound : Option ℤ) → IsKeptRound lengths found
     → IfSome bound (IsRoundBound p cuts ranges lengths.prices lengths.lengths) → IfSome bound (IsRoundBound p cuts ranges lengths.prices (map price_in found))
 kept_bound p cuts ranges lengths found bound kept is = subst (λ (ls : List (Option ℕ)). IfSome bound (IsRoundBound p cuts ranges lengths.prices ls)) kept.same is
 
+-- what tells whether the lengths of a place crowd the links tells it of the prices of the found paths
 pub kept_crowd : (p : Parts) (ranges : List LoadRange) (lengths : RoundState) (found : List (Option Found)) (crowded : Bool) → IsKeptRound lengths found
     → IsTrue crowded ↔ IsRoundCrowd p ranges lengths.prices lengths.lengths → IsTrue crowded ↔ IsRoundCrowd p ranges lengths.prices (map price_in found)
 kept_crowd p ranges lengths found crowded kept is = subst (λ (ls : List (Option ℕ)). IsTrue crowded ↔ IsRoundCrowd p ranges lengths.prices ls) kept.same is
 
+-- what the lengths of a place tell of its round: the demands left, its size, its bound and its crowd
 pub ruleset bounded_rounds = (left_of_kept, kept_count, kept_short, kept_bound, kept_crowd)
 
 -- The better bound
 
+-- where no bound is recorded or a lower one, the better of the two is the new bound with its prices
 pub better_taken : (best : Option ℤ) (room : List ℕ) (bound : ℤ) (prices : List ℕ) → is_below best bound ≡ true
     → Some (record { bound = bound; prices = prices }) ≡ Some (better_of (best_in best room) bound prices)
 better_taken None room bound prices less = refl
 better_taken (Some held) room bound prices less = rw less refl
 
+-- where the recorded bound is not below the new one, the better of the two is the recorded one
 pub better_kept : (best : Option ℤ) (room : List ℕ) (bound : ℤ) (prices : List ℕ) → is_below best bound ≡ false
     → best_in best room ≡ Some (better_of (best_in best room) bound prices)
 better_kept None room bound prices more = absurd (let bad : true ≡ false = more in cc)
 better_kept (Some held) room bound prices more = rw more refl
 
+-- which is the better of the recorded bound and a new one
 pub ruleset better_bounds = (better_taken, better_kept)
 
 -- A sound round
@@ -90,6 +98,7 @@ module _ (p : Parts) (cuts : List Cut) (r : Forbidden) (round : Round) (inst : I
   found-least k found below is =
       h.least k found (slice_get-get_or round.found k None (let c = h.count in omega arith) ∙ ap (λ (o : Option Found). Some o) is)
 
+  -- each length of a sound round is at most the price limit times the most links of a path
   pub lengths-short : AreShort p (lengths_of round)
   lengths-short k d within =
       let size = length-map_price round.found in
@@ -102,6 +111,7 @@ module _ (p : Parts) (cuts : List Cut) (r : Forbidden) (round : Round) (inst : I
       by_cases below None is = tt
       by_cases below (Some found) is = path-short k found.path found.price below (found-least k found below is)
 
+  -- each length of a sound round is the least price of its demand
   pub lengths-least : AreLeastLengths p r round.prices (lengths_of round)
   lengths-least k price below is = by_cases (get_or round.found k None) refl (sym (at-map round.found k) ∙ is)
     where
@@ -135,6 +145,7 @@ module _ (p : Parts) (cuts : List Cut) (old : Node) (round : Round) (is : old.ro
           | inr w ↦ inr ((λ closed. w.0 (closed-round_crowd p g round.prices (lengths_of round) all.complete least closed)), w.1)
         ]
 
+    -- a node with a complete round takes it when its bound, its crowd proof and one more version are recorded
     pub completes : (bound : ℤ) (crowd : Option (List ℕ)) (new : Node) → left_of round ≡ 0 → IsRoundBound p cuts (ranges_of p old) round.prices (lengths_of round) bound
         → TakesCrowd p (ranges_of p old) round old.crowd crowd
         → new ≡ record old { best = Some (better_of old.best bound round.prices); completed = suc old.completed; crowd = crowd } → TakesRound p cuts old round new
@@ -149,9 +160,11 @@ module _ (p : Parts) (cuts : List Cut) (old : Node) (round : Round) (is : old.ro
 
 -- The rooms
 
+-- a node keeps its rooms when its best prices are replaced by as many others
 pub rooms-kept : (first best new : List ℕ) (fate : Fate) (crowd : Option (List ℕ)) → HasRooms first best fate crowd → length new ≡ length best → HasRooms first new fate crowd
 rooms-kept first best new fate crowd h same = record { for_best = same ∙ h.for_best; for_crowd = h.for_crowd }
 
+-- a node keeps its rooms when its best prices are replaced and its crowd proof filled, by as many others
 pub rooms-filled : (first best new prices : List ℕ) (fate : Fate) (crowd filled : Option (List ℕ)) → HasRooms first best fate crowd → length new ≡ length best
     → filled ≡ Some prices → length prices ≡ length first → HasRooms first new fate filled
 rooms-filled first best new prices fate crowd filled h same is fits = record {
@@ -161,6 +174,7 @@ rooms-filled first best new prices fate crowd filled h same is fits = record {
 
 -- A call that completes a version
 
+-- where a bound is missing only while demands are left, a bound that is there leaves no demand
 pub none-left : (bound : ℤ) (left : ℕ) → (Some bound ≡ None) ↔ (0 < left) → left ≡ 0
 none-left bound zero h = refl
 none-left bound (suc left) h = absurd (let bad : Some bound ≡ None = h.1 (omega arith) in cc)
@@ -169,12 +183,15 @@ module _ (p : Parts) (cuts : List Cut) (old : Node) (round : Round) (is : old.ro
   ready-sound : IsSoundRound p cuts (restriction_of old) round
   ready-sound = subst (λ (o : Option Round). IfSome o (λ r. IsSoundRound p cuts (restriction_of old) r)) is ready.is_sound
 
+  -- each length of the round of a node that may complete is at most the price limit times a path's most links
   pub ready-short : AreShort p (lengths_of round)
   ready-short = lengths-short p cuts (restriction_of old) round inst ready-sound
 
+  -- the prices of the round of a node that may complete are as many as its first prices
   pub ready-fits : (prices : List ℕ) → prices ≡ round.prices → length prices ≡ length old.first_prices
   ready-fits prices same = ap length same ∙ (ready-sound.prices.count ∙ sym ready.price_count)
 
+  -- a node that may complete takes its complete round with the better bound and the crowd proof it shows
   pub completed-with : (ranges : List LoadRange) (bound : ℤ) (prices : List ℕ) (best : Option Best) (crowd : Option (List ℕ)) → ranges ≡ ranges_of p old → prices ≡ round.prices → left_of round ≡ 0
       → IsRoundBound p cuts ranges round.prices (lengths_of round) bound → best ≡ Some (better_of old.best bound prices) → TakesCrowd p ranges round old.crowd crowd
       → TakesRound p cuts old round (record old { best = best; completed = old.completed + 1; crowd = crowd })
@@ -192,12 +209,15 @@ TakesRound-now p cuts old now round new same is takes =
 
 -- What a node that takes a round keeps
 
+-- a node that has taken a round has this round
 pub TakesRound-round : (p : Parts) (cuts : List Cut) (old : Node) (round : Round) (new : Node) → TakesRound p cuts old round new → new.round ≡ Some round
 TakesRound-round p cuts old round new takes = elim takes [ inl e ↦ ap (λ (x : Node). x.round) e.becomes | inr e ↦ ap (λ (x : Node). x.round) e.becomes ]
 
+-- a node that takes a round keeps its limits
 pub TakesRound-limits : (p : Parts) (cuts : List Cut) (old : Node) (round : Round) (new : Node) → TakesRound p cuts old round new → new.limits ≡ old.limits
 TakesRound-limits p cuts old round new takes = elim takes [ inl e ↦ ap (λ (x : Node). x.limits) e.becomes | inr e ↦ ap (λ (x : Node). x.limits) e.becomes ]
 
+-- a node that takes a round keeps its fate
 pub TakesRound-fate : (p : Parts) (cuts : List Cut) (old : Node) (round : Round) (new : Node) → TakesRound p cuts old round new → new.fate ≡ old.fate
 TakesRound-fate p cuts old round new takes = elim takes [ inl e ↦ ap (λ (x : Node). x.fate) e.becomes | inr e ↦ ap (λ (x : Node). x.fate) e.becomes ]
 
@@ -241,6 +261,7 @@ module _ (p : Parts) (cuts : List Cut) (old : Node) (demand : ℕ) (found : Foun
             is_sound = with_found-sound p cuts (restriction_of old) round demand found facts.1 may.1;
           })
 
+  -- where a node takes the round with a path put into it, the node before the path takes that round
   pub put-takes : (mid new : Node) → IfSome old.round (λ r. mid ≡ record old { round = Some (with_found r demand found) })
       → IfSome mid.round (λ r. TakesRound p cuts mid r new) → IfSome old.round (λ r. TakesRound p cuts old (with_found r demand found) new)
   put-takes mid new is takes = by_cases old.round is

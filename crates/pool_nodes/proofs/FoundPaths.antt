@@ -19,6 +19,7 @@ paths-more paths all new found i x within read e before =
     let split : (paths ++ paths_of (x ∷ [])) ++ paths_of (drop (suc i) found) ≡ all = rw append_assoc last in
     rw add-one (ap (λ (ps : List (List ArcId)). ps ++ paths_of (drop (suc i) found)) e ∙ split)
 
+-- when no entry of the round is still to come, the paths so far are all its paths
 pub paths-all : (paths all : List (List ArcId)) (found : List (Option Found)) (i : ℕ) → length found ≤ i → paths ++ paths_of (drop i found) ≡ all → paths ≡ all
 paths-all paths all found i past before =
     let none : drop i found ≡ [] = drop_of_length-le found {i = i} past in

@@ -9,20 +9,24 @@ use Rattle.pool_machine.specs.declared.tree.Found.{Found}
 use Rattle.pool_machine.specs.Gathering.{with_path_of, gathered, ungathered_at}
 use Rattle.pool_nodes.specs.Rounds.{is_ungathered}
 
+-- where the path of a demand is found and none of its columns, the demand is named as ungathered
 pub ungathered-some : (columns : Columns) (k : ℕ) (o : Option Found) (id : DemandId) → id ≡ demand_id k → is_ungathered columns k o ≡ true → ungathered_at columns k o ≡ Some id
 ungathered-some columns k None id same h = absurd (let bad : false ≡ true = h in cc)
 ungathered-some columns k (Some one) id same h = rw h (ap (λ (x : DemandId). Some x) (sym same))
 
+-- where no path is found, or it is a column of the demand, no demand is named as ungathered
 pub ungathered-none : (columns : Columns) (k : ℕ) (o : Option Found) → is_ungathered columns k o ≡ false → ungathered_at columns k o ≡ None
 ungathered-none columns k None h = refl
 ungathered-none columns k (Some one) h = rw h refl
 
+-- which demand a place of a round names as one whose path is none of its columns
 pub ruleset ungathered_paths = (ungathered-some, ungathered-none)
 
 with_path-length : (columns : Columns) (k : ℕ) (o : Option Found) → length (with_path_of columns k o) ≡ length columns
 with_path-length columns k None = refl
 with_path-length columns k (Some one) = length-set columns k (column_added (columns_at columns k) one.path)
 
+-- the columns have as many lists after a gathering as before it
 pub gathered-length : (columns : Columns) (found : List (Option Found)) (n : ℕ) → length (gathered columns found n) ≡ length columns
 gathered-length columns found zero = refl
 gathered-length columns found (suc n) = with_path-length (gathered columns found n) n (slice_index_or found n None) ∙ gathered-length columns found n

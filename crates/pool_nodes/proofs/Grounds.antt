@@ -8,6 +8,7 @@ use Rattle.pool_machine.specs.State.{Node, region_by, region_of}
 use Rattle.pool_nodes.specs.Grounds.{Kept, IsGroundOf, HasGrounds}
 use Rattle.pool_machine.proofs.Lists.{slice_get-set_cases}
 
+-- the kept regions stay right when one node changes and keeps its limits and its fate
 pub HasGrounds-set : (p : Parts) (nodes : List Node) (grounds : List (Option Kept)) (n : ℕ) (item new : Node) → n < length nodes → item ≡ get_or nodes n item
     → new.limits ≡ item.limits → new.fate ≡ item.fate → HasGrounds p nodes grounds → HasGrounds p (set nodes n new) grounds
 HasGrounds-set p nodes grounds n item new within read limits fate h = record {

@@ -22,10 +22,12 @@ left-map [] = refl
 left-map (None ∷ found) = omega (arith, sum_by-cons length_gap None (map price_in found), sum_by-cons gap_of None found, left-map found)
 left-map (Some x ∷ found) = omega (arith, sum_by-cons length_gap (Some x.price) (map price_in found), sum_by-cons gap_of (Some x) found, left-map found)
 
+-- there are as many lengths as entries of what was found
 pub length-map_price : (found : List (Option Found)) → length (map price_in found) ≡ length found
 length-map_price [] = refl
 length-map_price (x ∷ found) = ap suc (length-map_price found)
 
+-- the length of a demand is the price of its path, if one was found
 pub at-map : (found : List (Option Found)) (k : ℕ) → length_at (map price_in found) k ≡ price_in (get_or found k None)
 at-map [] k = refl
 at-map (x ∷ found) zero = refl
@@ -40,6 +42,7 @@ map-put [] k x = refl
 map-put (y ∷ found) zero x = refl
 map-put (y ∷ found) (suc k) x = ap (λ (xs : List (Option ℕ)). price_in y ∷ xs) (map-put found k x)
 
+-- as many demands are left in the lengths of a place as have no path found
 pub left_of_kept : (lengths : RoundState) (found : List (Option Found)) → IsKeptRound lengths found → left_in lengths.lengths ≡ sum_by gap_of found
 left_of_kept lengths found kept = ap left_in kept.same ∙ left-map found
 
@@ -78,11 +81,13 @@ pub first_gap_kept : (lengths : RoundState) (found : List (Option Found)) (first
 first_gap_kept lengths found None kept some none = sym (first_gap-none found (subst (λ (xs : List (Option ℕ)). left_in xs ≡ 0) kept.same (none.0 refl)))
 first_gap_kept lengths found (Some k) kept some none = sym (first_gap-some found k (subst (λ (xs : List (Option ℕ)). IsFirstLeft xs k.0) kept.same some))
 
+-- lengths that are restarted are those of a round in which nothing is found
 pub kept_restarted : (lengths : RoundState) (found : List (Option Found)) (node : BranchId) (version : ℕ) (prices : List ℕ) → IsKeptRound lengths found
     → IsKeptRound (restarted lengths node version prices) (replicate (length found) None)
 kept_restarted lengths found node version prices kept =
     record { begun = refl; same = ap (λ (n : ℕ). replicate n None) (ap length kept.same ∙ length-map_price found) ∙ map-none (length found) }
 
+-- when the price of a path is put as length, the lengths are those of the round with the path
 pub kept_put : (lengths : RoundState) (found : List (Option Found)) (k : ℕ) (x : Found) → IsKeptRound lengths found
     → IsKeptRound (with_length lengths k x.price) (set found k (Some x))
 kept_put lengths found k x kept = record { begun = kept.begun; same = ap (λ (xs : List (Option ℕ)). set xs k (Some x.price)) kept.same ∙ map-put found k x }
@@ -99,4 +104,5 @@ kept_new lengths found node version prices count none none_found =
     subst (λ (xs : List (Option Found)). IsKeptRound (restarted lengths node version prices) xs) (sym none_found)
     (record { begun = refl; same = ap (λ (n : ℕ). replicate n None) (ap length none ∙ length-replicate count None) ∙ map-none count })
 
+-- how the lengths of a place go with what was found: gaps, restarts, and paths that are put
 pub ruleset kept_rounds = (left_of_kept, first_gap_kept, kept_restarted, kept_put, unpriced_kept)

@@ -83,6 +83,7 @@ node-made s id at last given item child is_item made same = record {
   is_child = made ∙ ap₂ (λ (x : Node) (l : Limit). child_of x l) is_item same;
 }
 
+-- a node made below with one limit more, and the region made for it, are the child with that limit and its region
 pub child-made : (s : State) (id : BranchId) (last : Limit) (child : Node) (ground : Option Kept) → HasGroundBelow s id last ground → IsNodeBelow s id last child → IsChildAt s id last child ground
 child-made s id last child ground g n = record {
   node = g.node;
@@ -93,6 +94,7 @@ child-made s id last child ground g n = record {
   below = g.below;
 }
 
+-- a node that leaves a demand two paths may be examined
 abbrev pub two-ready : (s : State) (id : BranchId) (demand : DemandId) (first second : List ArcId) → HasTwoPaths s id demand first second → IsReadyAt s id
 two-ready s id demand first second h = record { node = h.node; ready = h.ready }
 
@@ -110,6 +112,7 @@ two-choice p r k first second two = record {
 
 -- A division is made of what parts the region, and the numbers that come next
 
+-- what parts the region of a node with two paths, with the next two numbers for children, is a division there
 pub division-made : (s : State) (id : BranchId) (demand : DemandId) (first second : List ArcId) (two : HasTwoPaths s id demand first second) (d : Division) → PartsBy s.problem (region_of s.problem two.node) d.by
     → d.left_child.0 ≡ length s.nodes → d.right_child.0 ≡ suc (length s.nodes) → IsDivisionAt s id d
 division-made s id demand first second two d parts left right = record {
@@ -137,6 +140,7 @@ step-ends p e load end ends = (
   λ is. eq-eqb end load (let most = ends.greatest load is (omega arith) in let below = ends.below in omega arith),
 )
 
+-- where no step of the link ends up to the load, none ends at it
 pub no_step-ends : (p : Parts) (e load : ℕ) → EndsNoStep p e 0 (load + 1) → IsTrue false ↔ IsStepEnd p e load
 no_step-ends p e load none = ((λ bad. absurd (let wrong : false ≡ true = bad in cc)), λ is. absurd (none load (omega arith) (omega arith) is))
 
@@ -149,6 +153,7 @@ sides-split p ranges q load range told place same h =
       λ is. here.1 (is.some_left, is.some_right),
     )
 
+-- a number that is no place of the instance has no split of its loads
 pub no_place-split : (p : Parts) (ranges : List LoadRange) (q load : ℕ) → (IsTrue false ↔ (q < places p)) → IsTrue false ↔ IsLoadSplit p ranges q load
 no_place-split p ranges q load told = ((λ bad. absurd (let wrong : false ≡ true = bad in cc)), λ is. told.1 is.is_place)
 
@@ -156,6 +161,7 @@ no_place-split p ranges q load told = ((λ bad. absurd (let wrong : false ≡ tr
 pub end-parts : (p : Parts) (ranges : List LoadRange) (d : LoadSplit) (told : Bool) → IsLoadSplit p ranges d.place d.load → (IsTrue told ↔ IsStepEnd p (link_of_place p d.place) d.load) → IsTrue told ↔ PartsSteps p ranges d
 end-parts p ranges d told split h = ((λ so. record { is_split = split; is_end = h.0 so }), λ parts. h.1 parts.is_end)
 
+-- what is no split of a place's loads parts no two steps
 pub no_split-parts : (p : Parts) (ranges : List LoadRange) (d : LoadSplit) → (IsTrue false ↔ IsLoadSplit p ranges d.place d.load) → IsTrue false ↔ PartsSteps p ranges d
 no_split-parts p ranges d told = ((λ bad. absurd (let wrong : false ≡ true = bad in cc)), λ parts. told.1 parts.is_split)
 

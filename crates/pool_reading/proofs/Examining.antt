@@ -60,6 +60,7 @@ never-empty p cuts node k set sound some empty =
     let least = b.is_bound.are_least k empty.is_demand in
     cut_off-none p (restriction_of node) k set empty.cut_off least.path least.permitted
 
+-- what the node's own restriction is found to leave is what the node leaves, and each demand has a path
 pub determined-at : (s : State) (id : BranchId) (found : Determined) (r : Forbidden) → IsReachable s → (at : IsNearAt s id) → r ≡ restriction_of at.node
     → IsDetermined s.problem r found → IsDeterminedAt s id found
 determined-at s id (determined.Empty demand set) r reachable at same h =
@@ -68,14 +69,17 @@ determined-at s id (determined.Empty demand set) r reachable at same h =
 determined-at s id (determined.Two demand first second) r reachable at same h = record { node = at.node; ready = at.ready; none_far = at.none_far; two = rw same at h }
 determined-at s id (determined.One paths) r reachable at same h = record { node = at.node; ready = at.ready; none_far = at.none_far; only = rw same at h }
 
+-- a node at which no demand is far may be examined
 abbrev pub near-ready : (s : State) (id : BranchId) → IsNearAt s id → IsReadyAt s id
 near-ready s id at = record { node = at.node; ready = at.ready }
 
 -- The ground of a node that may be examined
 module _ (s : State) (table : CutProblem) (grounds : List (Option Kept)) (places : List Slot) (h : IsKeptPool s table grounds places) (id : BranchId) (at : IsReadyAt s id) where
+  -- a node that may be examined has a number below the count of nodes
   pub ready-node-within : id.0 < length s.nodes
   ready-node-within = slice_get_within s.nodes id.0 at.node at.ready.open_node.is_node
 
+  -- a node that may be examined has a place among the kept regions
   pub ready-ground-within : id.0 < length grounds
   ready-ground-within = subst (λ (n : ℕ). id.0 < n) (sym h.has_grounds.count) (slice_get_within s.nodes id.0 at.node at.ready.open_node.is_node)
 
@@ -87,9 +91,11 @@ module _ (s : State) (table : CutProblem) (grounds : List (Option Kept)) (places
   pub ready-ranges : AreRanges s.problem (ranges_of s.problem at.node)
   ready-ranges = (node_at s id.0 at.node (IsReachable-sound s h.pool.reachable) at.ready.open_node.is_node).ranges
 
+  -- what is read at the number of a node that may be examined is the node
   pub ready-item : (item : Node) → item ≡ get_or s.nodes id.0 item → item ≡ at.node
   ready-item item read = read ∙ get_or_from_slice_get s.nodes id.0 at.node item at.ready.open_node.is_node
 
+-- where a search answers what the node's own restriction leaves, it answers what the node leaves
 pub determined-ok : {E : Type 0} (s : State) (id : BranchId) (result : Result Determined E) (r : Forbidden) → IsReachable s → (at : IsNearAt s id) → r ≡ restriction_of at.node
     → IfOk result (IsDetermined s.problem r) → IfOk result (IsDeterminedAt s id)
 determined-ok s id (Ok found) r reachable at same h = determined-at s id found r reachable at same h

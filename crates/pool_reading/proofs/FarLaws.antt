@@ -18,10 +18,12 @@ module _ (s : State) (id : BranchId) (r : Forbidden) (at : IsReadyAt s id) (same
   near-at None near = record { node = at.node; ready = at.ready; none_far = rw same at near }
   near-at (Some demand) near = tt
 
+  -- a demand that is found to be the first far one under the node's restriction is so at the node
   pub far-ok : {E : Type 0} (result : Result (Option DemandId) E) → IfOk result (λ found. IfSome found (IsFirstFar s.problem r)) → IfOk result (λ found. IfSome found (IsFarAt s id))
   far-ok (Ok found) far = far-at found far
   far-ok (Err fault) far = tt
 
+  -- where none is found to be far under the node's restriction, no demand is far at the node
   pub near-ok : {E : Type 0} (result : Result (Option DemandId) E) → IfOk result (λ found. IfNone found (NoneFar s.problem r)) → IfOk result (λ found. IfNone found (IsNearAt s id))
   near-ok (Ok found) near = near-at found near
   near-ok (Err fault) near = tt

@@ -15,6 +15,7 @@ use Rattle.pool_machine.proofs.Runs.{IsReachable-sound}
 use Rattle.pool_reading.proofs.TaskLaws.{HasRound, has-round, round_of-has}
 use Rattle.pool_reading.proofs.Reading.{round-prices}
 
+-- what has no fault under the prices of the node's round and its restriction is not refused as unfit
 pub fits-unfit : (s : State) (id : BranchId) (h : HasRound s id) (k : ℕ) (found : Priced) → priced_fault s.problem h.round.prices k (restriction_of h.node) found ≡ None
     → unfit_in s.problem (slice_get s.nodes id.0) k found ≡ None
 fits-unfit s id h k found none =
@@ -35,6 +36,7 @@ priced-fits s id k found p prices r round h same_p is same_prices same_r none =
     (subst (λ (ps : List ℕ). priced_fault p ps k (restriction_of h.node) found ≡ None) same_here
     (subst (λ (x : Forbidden). priced_fault p prices k x found ≡ None) same_r none)))
 
+-- prices read of a node's round have one for each place at least, and none above the limit
 pub prices-fit : (s : State) (id : BranchId) (p : Parts) (prices : List ℕ) (round : Round) → IsReachable s → IsSome (round_of s id) → p ≡ s.problem → Some round ≡ round_of s id → prices ≡ round.prices
     → ArePrices p prices
 prices-fit s id p prices round reachable some same_p is same_prices =

@@ -21,12 +21,14 @@ use Rattle.pool_reading.proofs.Valuing.{read-node, same-round}
 
 -- Lists of columns that a restriction permits
 
+-- for the first 0 demands the lists of permitted columns are none
 pub no_lists : (r : Forbidden) (columns : Columns) → ArePermittedLists 0 r columns []
 no_lists r columns = record { count_is = refl; each = λ k below. absurd (omega arith) }
 
 below-or-last : (k n : ℕ) → k < n + 1 → (k < n) ⊎ (k ≡ n)
 below-or-last k n h = grind arith
 
+-- with the permitted columns of the next demand behind them, the lists are those of one demand more
 pub next_list : (n : ℕ) (r : Forbidden) (columns lists : Columns) (one : List (List ArcId)) → ArePermittedLists n r columns lists → one ≡ permitted_at r columns n → ArePermittedLists (n + 1) r columns (lists ++ (one ∷ []))
 next_list n r columns lists one h is =
     let size = h.count_is in
@@ -53,6 +55,7 @@ lists-for s id h p rows lists is_p is_rows are x round is_node is_round =
 
 -- The brief
 
+-- what is read field by field of a node and its round is the brief of a master step
 pub briefs : (s t : State) (id : BranchId) (read : Round) (item : Node) (brief : Brief) → s ≡ t → Some read ≡ round_of t id → item ≡ get_or s.nodes id.0 item
     → brief.node ≡ id → brief.version ≡ read.version → brief.prices ≡ read.prices
     → IfSome (slice_get t.nodes id.0) (λ x. brief.ranges ≡ ranges_of t.problem x)

@@ -18,8 +18,10 @@ none-more s place before here n within = elim (last_or n place (omega arith)) [
     last_or : (a b : ℕ) → a ≤ b → (a ≡ b) ⊎ (a < b)
     last_or a b h = grind arith
 
+-- in a state that is not done, some node is next
 pub never-none : (s : State) → IsReachable s → is_done s ≡ false → ((n : ℕ) → n < length s.nodes → is_next s (branch_id n) ≡ false) → ⊥
 never-none s h not_done none = let bad : true ≡ false = sym (none_next-done s (IsReachable-sound s h) none) ∙ not_done in cc
 
+-- a state that can be reached and is not done has budget left
 pub reachable-unspent : (s : State) → IsReachable s → is_done s ≡ false → s.examined < s.budget
 reachable-unspent s h not_done = not_done-unspent s (IsReachable-sound s h) not_done

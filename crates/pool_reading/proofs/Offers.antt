@@ -33,10 +33,12 @@ open_by : (fate : Fate) (round : Option Round) → fate ≡ Undone → is_open_s
 open_by fate None undone = rw undone refl
 open_by fate (Some round) undone = rw undone refl
 
+-- a node with a round is an open leaf
 pub open_at : (s : State) (id : BranchId) (node : Node) (round : Round) → IsSound s → slice_get s.nodes id.0 ≡ Some node → node.round ≡ Some round → is_open_state (state_of s id) ≡ true
 open_at s id node round h at is =
     ap (λ (o : Option Node). is_open_state (state_in o)) at ∙ open_by node.fate node.round (round_at s id.0 node round h at is).0
 
+-- the prices of a node's round have one for each place at least, and none above the limit
 pub prices_at : (s : State) (id : BranchId) (node : Node) (round : Round) → IsSound s → slice_get s.nodes id.0 ≡ Some node → node.round ≡ Some round → ArePrices s.problem round.prices
 prices_at s id node round h at is = numbers-prices s.problem s.cuts round.prices (round_at s id.0 node round h at is).1.prices
 
@@ -45,9 +47,11 @@ node_in None round is = absurd (let bad : ◌≡◌ {A = Option Round} None (Som
 node_in (Some node) round is = (node, refl, is)
 
 module _ (s : State) (id : BranchId) (round : Round) (is : round_of s id ≡ Some round) where
+  -- where a round is read of a number, the node there is an open leaf
   pub unfit-open : IsReachable s → is_open_state (state_of s id) ≡ true
   unfit-open h = let n = node_in (slice_get s.nodes id.0) round is in open_at s id n.0 round (IsReachable-sound s h) n.1 n.2
 
+  -- prices that are read of a round have one for each place at least, and none above the limit
   pub unfit-prices : (p : Parts) (prices : List ℕ) → IsReachable s → p ≡ s.problem → prices ≡ round.prices → ArePrices p prices
   unfit-prices p prices h same same_prices =
       let n = node_in (slice_get s.nodes id.0) round is in

@@ -37,6 +37,7 @@ published-here s slot id item None is taken none = absurd (none (subst (HasSlot 
 published-here s slot id item (Some published) is taken shown = published-at s slot id item published item.round refl is shown
 
 module _ (s : State) (places : List Slot) (h : IsPool s places) (slot : ℕ) where
+  -- the node that a slot names has a round with this slot
   pub held-by : (id : BranchId) → holder_in (slice_get places slot) ≡ Some id → IsTakenBy s slot id.0
   held-by id is = by (slice_get places slot) refl is
     where
@@ -47,6 +48,7 @@ module _ (s : State) (places : List Slot) (h : IsPool s places) (slot : ℕ) whe
           let same : other ≡ id = (let both : Some other ≡ Some id = e in cc) in
           h.has_places.taken slot id (at ∙ ap (λ (x : BranchId). Some (Of x)) same)
 
+  -- the node that a slot names has a number below the count of nodes
   pub holder-within : (id : BranchId) → holder_in (slice_get places slot) ≡ Some id → id.0 < length s.nodes
   holder-within id is = let t = held-by id is in slice_get_within s.nodes id.0 t.0 t.1
 

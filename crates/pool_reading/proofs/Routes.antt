@@ -29,6 +29,7 @@ paths_of-length [] h = refl
 paths_of-length (None ∷ found) h = absurd (let e : 1 ≡ 0 = (gaps-none 1 (sum_by gap_of found) _ (sum_by-cons gap_of None found) h).0 in omega arith)
 paths_of-length (Some one ∷ found) h = ap suc (paths_of-length found (gaps-none 0 (sum_by gap_of found) _ (sum_by-cons gap_of (Some one) found) h).1)
 
+-- in a complete round each demand has a path, and it stands at the demand's place among the paths
 pub paths_of-at : (found : List (Option Found)) (k : ℕ) → sum_by gap_of found ≡ 0 → k < length found
     → (one : Found) × (slice_get found k ≡ Some (Some one)) × (slice_get (paths_of found) k ≡ Some one.path)
 paths_of-at [] k h within = absurd (omega arith)
@@ -54,6 +55,7 @@ node-paths s id round reachable is complete =
     let same : h.round ≡ round = (let e : Some h.round ≡ Some round = sym (round_of-has s id h) ∙ is in cc) in
     round-paths s.problem s.cuts (restriction_of h.node) round (subst (IsSoundRound s.problem s.cuts (restriction_of h.node)) same (sound-round s id sound h)) complete
 
+-- the paths told of a complete round are one simple path for each demand
 pub complete-paths : (s : State) (id : BranchId) (round : Round) (paths : List (List ArcId)) → IsReachable s → IsSomeAnd (round_of s id) (λ r. left_of r ≡ 0)
     → Some round ≡ round_of s id → paths ≡ paths_of round.found → ArePaths s.problem paths
 complete-paths s id round paths h complete is e =

@@ -39,18 +39,22 @@ use Rattle.pool_machine.proofs.Replacing.{node_at}
 
 -- Tests
 
+-- a budget that is above the count of examined nodes is not spent
 pub spent-false : (s : State) → s.examined < s.budget → is_spent s ≡ false
 spent-false s h = grind (arith, nat_tests)
 
+-- the test for less is true of a number that is less
 pub lt-test : (a b : ℕ) → a < b → nat_lt a b ≡ true
 lt-test a b h = grind (arith, nat_tests)
 
+-- a number of which the test for less is true is less
 pub test-lt : (a b : ℕ) → nat_lt a b ≡ true → a < b
 test-lt a b h = grind (arith, nat_tests)
 
 le-test : (a b : ℕ) → b < a → nat_le a b ≡ false
 le-test a b h = grind (arith, nat_tests)
 
+-- the test for 0 is false of a number above 0
 pub eq-zero-test : (a : ℕ) → 0 < a → (a == 0) ≡ false
 eq-zero-test a h = grind (arith, nat_tests)
 
@@ -85,6 +89,7 @@ first-false false b h = refl
 below : (e b : ℕ) → (e == b) ≡ false → e ≤ b → e < b
 below e b h le = grind (arith, nat_tests)
 
+-- a sound state that is not done has budget left
 pub not_done-unspent : (s : State) → IsSound s → is_done s ≡ false → s.examined < s.budget
 not_done-unspent s h not_done = below s.examined s.budget (first-false (s.examined == s.budget) (open_count s == 0) not_done) h.counts.within_budget
 
@@ -111,6 +116,7 @@ not_next-closed Undone (Some r) h = absurd (let bad : true ≡ false = h in cc)
 not_next-closed (ClosedBy found) round h = omega arith
 not_next-closed (DividedBy d) round h = omega arith
 
+-- the number as the name of a node
 abbrev pub branch_id : ℕ → BranchId
 branch_id n = record { 0 = n }
 
@@ -139,6 +145,7 @@ pub record MayEnter (s : State) (id : BranchId) : Type 0 where
   pub waits : state_of s id ≡ state.Waiting
   pub room : active_count s < MAX_ROUNDS
 
+-- with budget left, an opening of a node that waits while a slot is free is not refused
 pub none-open_fault : (s : State) (id : BranchId) → s.examined < s.budget → MayEnter s id → open_fault s id ≡ None
 unfolding open_fault
 none-open_fault s id unspent may =
@@ -163,9 +170,11 @@ has-round_in : (o : Option Node) → IsSome (option_and_then (λ (node : Node). 
 has-round_in None some = absurd (let bad : false ≡ true = some in cc)
 has-round_in (Some node) some = let w = has-round_by node node.round refl some in (node, w.0, refl, w.1)
 
+-- where a round is read of a number, there is a node with a round
 pub has-round : (s : State) (id : BranchId) → IsSome (round_of s id) → HasRound s id
 has-round s id some = let w = has-round_in (slice_get s.nodes id.0) some in record { node = w.0; round = w.1; is_node = w.2; is_round = w.3 }
 
+-- the round read of a node with a round is this one
 pub round_of-has : (s : State) (id : BranchId) (h : HasRound s id) → round_of s id ≡ Some h.round
 round_of-has s id h = ap (option_and_then (λ (node : Node). node.round)) h.is_node ∙ h.is_round
 
@@ -179,12 +188,15 @@ active-some_in : (o : Option Node) → state_in o ≡ state.Active → is_some (
 active-some_in None h = absurd (let bad : state.Unknown ≡ state.Active = h in cc)
 active-some_in (Some node) h = active-some_by node.fate node.round h
 
+-- an active node has a round
 pub active-some : (s : State) (id : BranchId) → state_of s id ≡ state.Active → IsSome (round_of s id)
 active-some s id h = active-some_in (slice_get s.nodes id.0) h
 
+-- in a sound state, a node with a round is neither closed nor divided
 pub has-undone : (s : State) (id : BranchId) → IsSound s → (h : HasRound s id) → h.node.fate ≡ Undone
 has-undone s id sound h = round-undone s.problem s.cuts h.node h.round (node_at s id.0 h.node sound h.is_node) h.is_round
 
+-- in a sound state, a node with a round is an open leaf
 pub has-open : (s : State) (id : BranchId) → IsSound s → HasRound s id → is_open_state (state_of s id) ≡ true
 has-open s id sound h =
     ap (λ (o : Option Node). is_open_state (state_in o)) h.is_node
@@ -268,14 +280,17 @@ pub record HasReadRound (s : State) (id : BranchId) (round : Round) : Type 0 whe
   pub is_node : slice_get s.nodes id.0 ≡ Some node
   pub is_round : node.round ≡ Some round
 
+-- the round that is read of a number is the round of the node there
 pub has-read : (s : State) (id : BranchId) (round : Round) → Some round ≡ round_of s id → HasReadRound s id round
 has-read s id round is =
     let h = has-round s id (ap is_some (sym is)) in
     record { node = h.node; is_node = h.is_node; is_round = h.is_round ∙ sym (round_of-has s id h) ∙ sym is }
 
+-- the node whose round was read, with that round
 abbrev pub with_read : (s : State) (id : BranchId) (round : Round) → HasReadRound s id round → HasRound s id
 with_read s id round h = record { node = h.node; round = round; is_node = h.is_node; is_round = h.is_round }
 
+-- with budget left and no cut, the first demand that the read round has not priced is one to price
 pub to-price : (s : State) (id : BranchId) (round : Round) (slot version : ℕ) (k : DemandId) → s.examined < s.budget → Some round ≡ round_of s id → has_cut (slice_get s.nodes id.0) ≡ false
     → slot ≡ round.slot → version ≡ round.version → first_in gap_at round.found ≡ Some k → IsToPrice s id slot version k
 to-price s id round slot version k unspent is cut same_slot same_version gap =
@@ -297,6 +312,7 @@ not-false_of : (a : Bool) → not a ≡ true → a ≡ false
 not-false_of true h = absurd (let bad : false ≡ true = h in cc)
 not-false_of false h = refl
 
+-- with budget left, a complete version of a node that is not closable and may go on is one to advance
 pub to-advance : (s : State) (id : BranchId) (round : Round) (version : ℕ) → s.examined < s.budget → Some round ≡ round_of s id → closable_in s.unit (cutoff_of s) (slice_get s.nodes id.0) ≡ false
     → version ≡ round.version → first_in gap_at round.found ≡ None → may_go_on_in (slice_get s.nodes id.0) ≡ true → IsToAdvance s id version
 to-advance s id round version unspent is not_closable same_version no_gap goes_on =
@@ -313,6 +329,7 @@ to-advance s id round version unspent is not_closable same_version no_gap goes_o
       not_closable = sym (ap (closable_in s.unit (cutoff_of s)) h.is_node) ∙ not_closable;
     }
 
+-- with budget left, a node with a complete round, no cut, not closable and not to go on may be examined
 pub to-examine : (s : State) (id : BranchId) (round : Round) → IsSound s → s.examined < s.budget → Some round ≡ round_of s id → has_cut (slice_get s.nodes id.0) ≡ false
     → closable_in s.unit (cutoff_of s) (slice_get s.nodes id.0) ≡ false → first_in gap_at round.found ≡ None → may_go_on_in (slice_get s.nodes id.0) ≡ false → examine_refusal s id ≡ None
 to-examine s id round sound unspent is cut not_closable no_gap goes_on =

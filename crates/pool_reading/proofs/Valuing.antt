@@ -49,6 +49,7 @@ round-lists s id round sound is =
     read-some None r e = absurd (let bad : ◌≡◌ {A = Option Round} None (Some r) = e in cc)
     read-some (Some x) r e = refl
 
+-- a round that is read has at most as many entries as there may be demands
 pub round-few : (s : State) (id : BranchId) (round : Round) → IsSound s → Some round ≡ round_of s id → length round.found ≤ MAX_DEMANDS
 round-few s id round sound is =
     let most = round-lists s id round sound is in
@@ -59,15 +60,19 @@ round-few s id round sound is =
 -- What a valuing asks for, and what it tells, where the instance and the restriction are those of the pool
 
 module _ (s : State) (id : BranchId) (sound : IsSound s) (at : IsGatheredAt s id) (p : Parts) (rows : Rows) (is_p : p ≡ s.problem) (is_rows : forbids rows ≡ restriction_of at.node) where
+  -- numbers as they have to be for the pool's instance and cuts are so for those that are read
   pub ask-numbers : (cuts : List Cut) (numbers : List ℕ) → cuts ≡ s.cuts → AreNumbers s.problem s.cuts numbers → AreNumbers p cuts numbers
   ask-numbers cuts numbers is_cuts h = subst (λ (q : Parts). AreNumbers q cuts numbers) (sym is_p) (subst (λ (xs : List Cut). AreNumbers s.problem xs numbers) (sym is_cuts) h)
 
+  -- the columns of the pool are columns of the instance that is read
   pub ask-columns : AreColumns p s.columns
   ask-columns = subst (λ (q : Parts). AreColumns q s.columns) (sym is_p) sound.columns
 
+  -- the restriction that is read leaves each demand a column
   pub ask-permitted : HasColumns p (permitted_at (forbids rows) s.columns)
   ask-permitted = subst (λ (q : Parts). HasColumns q (permitted_at (forbids rows) s.columns)) (sym is_p) (rows-columns s id (forbids rows) sound at is_rows)
 
+  -- the ranges that are read give each place a load, and none above its link's top load
   pub ask-ranges : (ranges : List LoadRange) → ranges ≡ ranges_of s.problem at.node → AreRanges p ranges
   ask-ranges ranges same =
       let is = at.is_gathered.complete_round in

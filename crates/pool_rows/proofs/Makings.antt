@@ -12,6 +12,7 @@ use Rattle.block_deques.proofs.Places.{map-pointwise}
 pub stay_one_making : (ds es : List Deck) → map deck_id es ≡ map deck_id ds → AreOneMaking ds → AreOneMaking es
 stay_one_making ds es same making = subst IsMaking (sym same) making
 
+-- two decks that come back as the same decks in the same order are still all decks of one making
 pub two_stay : (a b c d : Deck) → deck_id c ≡ deck_id a → deck_id d ≡ deck_id b → AreOneMaking (a ∷ b ∷ []) → AreOneMaking (c ∷ d ∷ [])
 two_stay a b c d p q making = subst (λ (z : DeckId × DeckId). IsMaking (z.0 ∷ z.1 ∷ [])) (λ i. (sym p i, sym q i)) making
 

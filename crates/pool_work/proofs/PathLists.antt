@@ -13,9 +13,11 @@ pub record AreFirstPaths (p : Parts) (count : ℕ) (paths : List (List ArcId)) :
   pub count_is : length paths ≡ count
   pub simple : (k : ℕ) → k < count → IsSimplePath p (demand_at p k) (slice_index_or paths k [])
 
+-- the empty list has the paths of the first demands, as no demand is counted
 pub no_paths : (p : Parts) → AreFirstPaths p 0 []
 no_paths p = record { count_is = refl; simple = λ k within. absurd (omega arith) }
 
+-- a simple path of the next demand behind the paths of the first demands makes those of one demand more
 pub one_path : (p : Parts) (count : ℕ) (paths more : List (List ArcId)) (path : List ArcId) → AreFirstPaths p count paths
     → IsSimplePath p (demand_at p count) path → more ≡ paths ++ path ∷ [] → AreFirstPaths p (count + 1) more
 one_path p count paths more path old simple is = subst (AreFirstPaths p (count + 1)) (sym is) (record {
@@ -33,5 +35,6 @@ one_path p count paths more path old simple is = subst (AreFirstPaths p (count +
     last_or_before : (k : ℕ) → k < count + 1 → (k ≡ count) ⊎ (k < count)
     last_or_before k within = grind arith
 
+-- paths of the first demands, as many as the instance has, are a simple path for each demand
 pub all_paths : (p : Parts) (paths : List (List ArcId)) → AreFirstPaths p (length p.demands) paths → ArePaths p paths
 all_paths p paths h = record { count = h.count_is; simple = h.simple }

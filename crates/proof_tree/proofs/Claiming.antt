@@ -32,6 +32,7 @@ pub record IsFeasibleIn (p : Parts) (g : Region) (d : Design) : Type 0 where
   pub feasible : IsFeasible p d
   pub lies : LiesWithin p d g
 
+-- the path of each demand of a design that lies in a restriction is permitted
 pub permitted_path : (p : Parts) (r : Forbidden) (d : Design) → IsDesign p d → LiesIn p d r → (k : ℕ) → k < length p.demands → IsPermittedPath p r k (path_at d k)
 permitted_path p r d design lies k below = record { simple = design.paths k below; permitted = lies k below }
 
@@ -65,6 +66,7 @@ step_cost-le p d routing e cost design feasible within same is_cost =
     let routed : (link_at p e).routing * carried p d e ≡ (link_at p e).routing * carried p routing e = ap (λ x. (link_at p e).routing * x) loads in
     omega arith
 
+-- where the only paths cost at least so much, so does each feasible design in the region
 pub routing-le : (p : Parts) (g : Region) (cost : ℕ) (d : Design) → CostEnough p g.forbidden cost → IsFeasibleIn p g d → cost ≤ cost_of p d
 routing-le p g cost d closed h =
     let each = sum_below-le closed.step_costs (link_cost p d) (length p.links) (λ e within.
@@ -79,6 +81,7 @@ in_range-same p ranges d routing e same in_range = record {
   back = subst (IsIn (range_back p ranges e)) same.back in_range.back;
 }
 
+-- no feasible design lies in a region that an overfull link closes
 pub overfull-none : (p : Parts) (g : Region) (link : LinkId) (d : Design) → ClosedByOverfull p g link → IsFeasibleIn p g d → ⊥
 overfull-none p g link d closed h =
     let same = only_paths-loads p g.forbidden closed.routing d link.0 closed.is_link closed.only h.design h.lies.paths in
@@ -94,6 +97,7 @@ stays p r id reached arcs closed simple permitted (suc i) within =
     closed.closed (arc_at arcs i) (simple.are_arcs i (omega arith)) (permitted i no_arc (omega arith))
     (ap (λ n. slice_index_or reached n false) (simple.goes_on i (omega arith)) ∙ stays p r id reached arcs closed simple permitted i (omega arith))
 
+-- no feasible design lies in a region where no permitted arc of a demand leaves a set with its source and not its target
 pub cut-none : (p : Parts) (g : Region) (id : DemandId) (reached : List Bool) (d : Design) → ClosedByCut p g.forbidden id reached → IsFeasibleIn p g d → ⊥
 cut-none p g id reached d closed h =
     let simple = h.design.paths id.0 closed.demand in
@@ -111,6 +115,7 @@ far-none p g id d closed h = by_limit (demand_at p id.0).hops closed.far (h.feas
         let longer = far (path_at d id.0) (permitted_path p g.forbidden d h.design h.lies.paths id.0 closed.demand) in
         omega arith
 
+-- no feasible design lies in a region where loads at least prices exceed the prices of all that places may carry
 pub crowd-none : (p : Parts) (g : Region) (prices : List ℕ) (d : Design) → ClosedByCrowd p g prices → IsFeasibleIn p g d → ⊥
 crowd-none p g prices d closed h =
     let priced = price_total-le p g.forbidden prices closed.least_prices d closed.are_least h.design h.lies.paths in
@@ -135,6 +140,7 @@ crowd-none p g prices d closed h =
 abbrev pub IsCostOfSome : Parts → Option ℕ → Type 0
 IsCostOfSome p cost = IfSome cost (λ c. (stated : Design) × (cost_of p stated ≡ c))
 
+-- an option that has nothing in it is none
 pub none_of : {X : Type 0} (o : Option X) → IsNone o → o ≡ None
 none_of None h = refl
 none_of (Some x) h = absurd (let bad : true ≡ false = h in cc)

@@ -81,9 +81,11 @@ in_one_child p r id node left right d split design lies = by_cases (list_any (is
     by_cases true false x y = inr (lies_in-with_forbidden p r id right d lies y)
     by_cases true true x y = absurd (meets_one_side p r id node left right d split design (Meets-list_any left (path_at d id.0) x) (Meets-list_any right (path_at d id.0) y))
 
+-- what holds of the first item holds of some item
 pub Any-here : {X : Type 0} (P : X → Type 0) (x : X) (xs : List X) → P x → Any P (x ∷ xs)
 Any-here P x xs h = (0, x, omega arith, refl, h)
 
+-- what holds of some item behind the first one holds of some item
 pub Any-there : {X : Type 0} (P : X → Type 0) (x : X) (xs : List X) → Any P xs → Any P (x ∷ xs)
 Any-there P x xs h = (suc h.0, h.1, (let below = h.2 in omega arith), h.3, h.4)
 

@@ -94,7 +94,8 @@ arc-crosses p nodes a exists = by_orient p.orient exists
     second false y h = absurd (let bad : false ≡ true = h in cc)
 
     by_orient : (o : Orient) → (nat_lt (link_of a) (length p.links) && (a.0 % 2 == 0 || goes_back o)) ≡ true
-        → leaves_by (is_shared o) (holds nodes (tail_of p (arc_of_number (if is_two_way o then (if is_two_way o then a.0 else link_of a) else 2 * (if is_two_way o then a.0 else link_of a))))) (holds nodes (head_of p (arc_of_number (if is_two_way o then (if is_two_way o then a.0 else link_of a) else 2 * (if is_two_way o then a.0 else link_of a))))) ≡ false
+        → leaves_by (is_shared o) (holds nodes (tail_of p (arc_of_number (if is_two_way o then (if is_two_way o then a.0 else link_of a) else 2 * (if is_two_way o then a.0 else link_of a)))))
+        (holds nodes (head_of p (arc_of_number (if is_two_way o then (if is_two_way o then a.0 else link_of a) else 2 * (if is_two_way o then a.0 else link_of a))))) ≡ false
         → leaves_by (is_shared o) (holds nodes (tail_of p a)) (holds nodes (head_of p a)) ≡ false
     by_orient Bidirected exists h = along false a.0 refl h
     by_orient Directed exists h = along false (2 * (a.0 / 2)) (not_odd a.0 (second _ _ exists)) h

@@ -10,6 +10,7 @@ use Rattle.plan_base.specs.Arcs.{demand_at, no_demand}
 use Rattle.proof_tree.specs.declared.cuts.Cut.{Cut}
 use Rattle.proof_tree.specs.Cuts.{demand_crosses}
 
+-- cuts with the same nodes, the same period, the same first grains and the same way to count are the same
 pub same_cuts : (a b : Cut) → a.nodes ≡ b.nodes → a.period ≡ b.period → a.first ≡ b.first → a.counts_installed ≡ b.counts_installed → a ≡ b
 same_cuts a b nodes period first counts =
     ap (λ (x : List Bool). record { nodes = x; period = a.period; first = a.first; counts_installed = a.counts_installed }) nodes

@@ -107,6 +107,7 @@ one_cut = record { few = lit≤ tt; are_cuts = are_cuts; different = λ i j less
     are_cuts zero below = record { count = refl; some = (0, true, lit< tt, refl, refl); not_all = (1, false, lit< tt, refl, refl); is_tally = record { some = lit≤ tt; within = lit≤ tt }; small = lit≤ tt }
     are_cuts (suc i) below = absurd (omega arith)
 
+-- the plan with one leaf that a cut closes is valid
 pub cut_plan-valid : IsValidPlan one_link cut_plan
 cut_plan-valid = record {
   sizes = record { nodes = refl; links = refl; demands = refl; both = refl };
@@ -137,6 +138,7 @@ nothing = record { reaches = omega (arith, ints); least = λ other h. omega (ari
 plain_bound : IsBoundAt one_link [] (whole one_link) cut_numbers (pos 0)
 plain_bound = record { least_prices = λ k. 0; values = λ e. pos 0; are_least = least_price; are_values = plain_value; rounded = nothing }
 
+-- the same plan without the cut is not valid
 pub cut_plan-refused : IsValidPlan one_link without_cut → ⊥
 cut_plan-refused valid =
     let closed : ClosedByRatedBound one_link [] (whole one_link) cut_numbers 10_000_000_000_000 = valid.tree.0 in

@@ -72,6 +72,7 @@ evidence-without p cost g (Far id) h = h
 evidence-without p cost g (Crowd prices) h = h
 evidence-without p cost g (Open numbers) h = lawful-without p numbers h
 
+-- what is evidence of a leaf without cuts is evidence at prices alone
 pub evidence-plain : (p : Parts) (cost : Option ℕ) (g : Region) (evidence : Evidence) → HasRatedEvidence p [] cost g evidence → HasEvidence p cost g evidence
 evidence-plain p None g (Bound numbers) h = h
 evidence-plain p (Some c) g (Bound numbers) h = bound-closed_so p g numbers c h
@@ -102,6 +103,7 @@ trees-plain p cost (g ∷ gs) (Loads place load ∷ records) h = (h.0, trees-pla
 pub tree-without : (p : Parts) (cost : Option ℕ) (records : List TreeNode) → IsValidTree p cost records → IsRatedTree p [] cost records
 tree-without p cost records h = trees-without p cost (whole p ∷ []) records h
 
+-- a tree that is valid without cuts is valid at prices alone
 pub tree-plain : (p : Parts) (cost : Option ℕ) (records : List TreeNode) → IsRatedTree p [] cost records → IsValidTree p cost records
 tree-plain p cost records h = trees-plain p cost (whole p ∷ []) records h
 

@@ -30,9 +30,11 @@ longer-past : (p : Parts) (r : Forbidden) (k limit : ℕ) (fewest : Option ℕ) 
 longer-past p r k limit None none all = tt
 longer-past p r k limit (Some n) is all = omega (arith, all is.path is.permitted, is.attained)
 
+-- a demand with a limit is far where it has no path, or the fewest arcs of its paths are more than the limit
 pub past-far : (p : Parts) (r : Forbidden) (k limit : ℕ) (fewest : Option ℕ) → (demand_at p k).hops ≡ Some limit → AreFewest p r k fewest → IsPast fewest limit → IsFar p r k
 past-far p r k limit fewest hops is past = subst (λ (h : Option ℕ). IsSomeAnd h (AreLonger p r k)) (sym hops) (past-longer p r k limit fewest is past)
 
+-- where a demand with a limit is far it has no path, or the fewest arcs of its paths are more than the limit
 pub far-past : (p : Parts) (r : Forbidden) (k limit : ℕ) (fewest : Option ℕ) → (demand_at p k).hops ≡ Some limit → AreFewest p r k fewest → IsFar p r k → IsPast fewest limit
 far-past p r k limit fewest hops is far = longer-past p r k limit fewest is (subst (λ (h : Option ℕ). IsSomeAnd h (AreLonger p r k)) hops far)
 

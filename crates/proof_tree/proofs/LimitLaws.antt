@@ -16,6 +16,7 @@ some_arc : (limit : ℕ) (arcs : List ArcId) → IsPermittedPath (limited_triang
 some_arc limit [] h = absurd (let bad : 0 ≡ 2 = h.simple.ends_at_target in omega arith)
 some_arc limit (a ∷ rest) h = omega arith
 
+-- where the path of the demand may have no arc, the plan with one leaf that the limit closes is valid
 pub far-valid : IsValidPlan (limited_triangle 0) far_plan
 far-valid = record {
   sizes = record { nodes = refl; links = refl; demands = refl; both = refl };
@@ -34,6 +35,7 @@ one_arc = record {
   permitted = λ i d within. refl;
 }
 
+-- where the path of the demand may have one arc, the same plan is not valid
 pub one_arc-refused : IsValidPlan (limited_triangle 1) far_plan → ⊥
 one_arc-refused valid =
     let closed : ClosedByFar (limited_triangle 1) none_forbidden first_demand = valid.tree.0 in

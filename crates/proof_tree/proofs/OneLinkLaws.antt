@@ -30,10 +30,12 @@ use Rattle.proof_tree.proofs.TriangleLaws.{first_demand, same_arc, nothing_free,
 use Rattle.proof_tree.proofs.OpeningLaws.{count_of, worth_step, start_price}
 use Rattle.proof_tree.proofs.CutlessPlans.{tree-without, no_cuts}
 
+-- the design with two modules is feasible and in shape
 pub two_modules-good : IsGoodDesign one_link two_modules
 unfolding design_fault demand_path_fault path_fault step_fault counts_fault carries_fault load_from
 two_modules-good = IsGoodDesign-design_fault one_link two_modules refl
 
+-- the design with two modules costs 10
 pub two_modules-cost : cost_of one_link two_modules ≡ 10_000_000_000_000
 unfolding load_from
 two_modules-cost = refl
@@ -78,9 +80,11 @@ one_path (a ∷ rest) h =
     let first : (a ∷ rest) ≡ (arc 0 ∷ rest) = ap (λ (x : ArcId). x ∷ rest) (same_arc a 0 (leaving_a a.0 (h.are_arcs 0 (omega arith)) (h.goes_on 0 (omega arith)))) in
     first ∙ ends rest (subst (IsSimplePath one_link six) first h)
 
+-- the path over the link is permitted to the first demand
 pub permitted : IsPermittedPath one_link none_forbidden 0 (arc 0 ∷ [])
 permitted = record { simple = simple; permitted = λ i d within. refl }
 
+-- the path over the link is permitted to the second demand
 pub also_permitted : IsPermittedPath one_link none_forbidden 1 (arc 0 ∷ [])
 also_permitted = record { simple = simple; permitted = λ i d within. refl }
 
@@ -113,6 +117,7 @@ start_bound = record {
     are_values zero below = nothing_left one_link 0 500_000_000 _ (nothing_free 0 1 5_000_000_000_000) (from_nothing 12_000_000) (from_nothing 0) (λ x y c within is. worth_step 0 1 5_000_000_000_000 500_000_000 x y c refl is)
     are_values (suc e) below = absurd (omega arith)
 
+-- the opening bound of the instance with one link is 6
 pub one_link-opening : IsOpeningBound one_link (pos 6_000_000_000_000)
 one_link-opening = record { prices = 500_000_000 ∷ []; are_start = record { count = refl; each = start }; is_bound = start_bound }
   where
@@ -120,6 +125,7 @@ one_link-opening = record { prices = 500_000_000 ∷ []; are_start = record { co
     start zero below = start_price 2 _ _ 0 1 5_000_000_000_000 500_000_000 refl (lit≤ tt) (lit≤ tt)
     start (suc q) below = absurd (omega arith)
 
+-- the plan with one leaf, whose bound is above the cost less the unit, is valid
 pub unit_plan-valid : IsValidPlan one_link unit_plan
 unit_plan-valid = record {
   sizes = record { nodes = refl; links = refl; demands = refl; both = refl };
@@ -206,6 +212,7 @@ high_bound = record {
     }
     are_values (suc e) below = absurd (omega arith)
 
+-- the plan that splits the loads of the link at 10 is valid
 pub loads_plan-valid : IsValidPlan one_link (loads_plan 10_000_000)
 loads_plan-valid = record {
   sizes = record { nodes = refl; links = refl; demands = refl; both = refl };

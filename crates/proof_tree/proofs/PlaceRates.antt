@@ -25,6 +25,7 @@ rated-All P p cuts rates q (suc n) each =
     more true list here all is = All-push P list here all is
     more false list here all is = all
 
+-- a place may have its price with the rates of the cuts that it crosses
 pub place_rates-lawful : (p : Parts) (cuts : List Cut) (prices rates : List ℕ) (q : ℕ) → AreCuts p cuts → AreRatedPrices p cuts prices rates → q < places p → ArePlaceRates p (link_of_place p q) (slice_index prices q) (rated_on p cuts rates q)
 place_rates-lawful p cuts prices rates q are lawful below = record {
   tallies = λ i within. rated-All (λ (r : Rated). IsTally r.batch.period r.batch.first) p cuts rates q (length cuts) (λ n few. (let is : IsCut p (cut_at cuts n) = are n few in is.is_tally)) i no_rated within;
@@ -44,6 +45,7 @@ link-there p e = by_cases (is_two_way p.orient)
     by_cases true = omega arith
     by_cases false = refl
 
+-- each place of a link may have its price with the rates of the cuts that it crosses
 pub link_rates-lawful : (p : Parts) (e : ℕ) (cuts : List Cut) (prices rates : List ℕ) → AreCuts p cuts → AreRatedPrices p cuts prices rates → e < length p.links → HasLinkRates p e cuts prices rates
 link_rates-lawful p e cuts prices rates are lawful within = record {
   there = subst (λ (n : ℕ). ArePlaceRates p n (there_of p (slice_index prices) e) (rated_there p cuts rates e)) (link-there p e) (place_rates-lawful p cuts prices rates (if is_two_way p.orient then 2 * e else e) are lawful (there-within p e within));
@@ -62,6 +64,7 @@ link_rates-lawful p e cuts prices rates are lawful within = record {
 
 -- The rates that a place crosses, cut by cut.
 
+-- with one cut more, the rates on a place have that cut's rate more where the place crosses it
 pub rate_total-next : (p : Parts) (cuts : List Cut) (rates : List ℕ) (q n : ℕ) → rate_total (rated_before p cuts rates q (n + 1)) ≡ rate_total (rated_before p cuts rates q n) + (if place_crosses p (cut_at cuts n).nodes q then slice_index rates n else 0)
 rate_total-next p cuts rates q n =
     let same : n + 1 ≡ suc n = omega arith in
@@ -72,5 +75,6 @@ rate_total-next p cuts rates q n =
     more true list here = sum_by_push (λ (r : Rated). r.rate) list here
     more false list here = omega arith
 
+-- the price limit alone is at most what it may come to with the total load
 pub limit-small : (p : Parts) → price_limit p ≤ MAX_PRICED_LOAD
 limit-small p = div-le_self MAX_PRICED_LOAD (max (total_load p) 1)

@@ -70,6 +70,7 @@ AreRanges-up_to p g place load split are =
     let had = are.each place split.is_place in
     AreRanges-with p g.ranges place (ends_at (range_at g.ranges place) load) are split.is_place (record { some = split.some_left; carried = omega (arith, had.carried, split.some_right) })
 
+-- where a place's loads are split, the child with the greater loads has ranges
 pub AreRanges-above : (p : Parts) (g : Region) (place load : ℕ) → IsLoadSplit p g.ranges place load → AreRanges p g.ranges → AreRanges p (above g place load).ranges
 AreRanges-above p g place load split are =
     let had = are.each place split.is_place in
@@ -96,6 +97,7 @@ not_in_both p d g place load split left right =
 
 -- Loads of a feasible design.
 
+-- the counts of a feasible design carry what each link needs
 pub Carries-feasible : (p : Parts) (d : Design) (e : ℕ) → IsDesign p d → IsFeasible p d → e < length p.links → Carries p e (need p d e) (counts_at d e)
 Carries-feasible p d e design feasible within = record { count = design.counts e within; lawful = design.lawful e within; enough = feasible.carried e within }
 

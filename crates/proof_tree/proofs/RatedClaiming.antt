@@ -77,7 +77,8 @@ rated_leaf-All p cuts cost records d P h all = subst P h.same (all h.place h.lea
 rated_leaf-fails : (p : Parts) (cuts : List LoadCut) (cost : Option ℕ) (records : List TreeNode) (d : Design) (test : TreeNode → Bool) → (h : IsRatedLeafOf p cuts cost records d) → list_any test records ≡ false → test (Leaf h.leaf.evidence) ≡ false
 rated_leaf-fails p cuts cost records d test h none = rated_leaf-All p cuts cost records d (λ leaf. test (Leaf leaf.evidence) ≡ false) h (leaves-fail test (whole p ∷ []) records none)
 
-optimal_claim : (p : Parts) (cuts : List LoadCut) (design : Option (ℕ × Design)) (records : List TreeNode) → AreCuts p cuts → IsRatedTree p cuts (option_map (λ x. x.0) design) records → IfSome design (λ x. IsStatedDesign p x.0 x.1) → IsSome design → list_any is_open records ≡ false → IsSomeAnd design (λ x. IsOptimal p x.1)
+optimal_claim : (p : Parts) (cuts : List LoadCut) (design : Option (ℕ × Design)) (records : List TreeNode) → AreCuts p cuts → IsRatedTree p cuts (option_map (λ x. x.0) design) records
+    → IfSome design (λ x. IsStatedDesign p x.0 x.1) → IsSome design → list_any is_open records ≡ false → IsSomeAnd design (λ x. IsOptimal p x.1)
 optimal_claim p cuts None records are valid stated some shut = absurd (let bad : false ≡ true = some in cc)
 optimal_claim p cuts (Some x) records are valid stated some shut = record {
   design = stated.good.design;
@@ -114,7 +115,8 @@ candidate-not_absent p plan d are stated valid design feasible none =
         let ranges = rated_leaf-All p plan.cuts (stated_cost plan) plan.tree d (λ leaf. AreRanges p leaf.region.ranges) h (rated_leaves-ranges p plan.cuts (stated_cost plan) plan.tree valid) in
         rated_bound-not_absent p plan.cuts h.leaf.region numbers (rates_in p numbers) are ranges
         (λ k below. (path_at d k, permitted_path p h.leaf.region.forbidden d h.feasible.design h.feasible.lies.paths k below))
-        (λ bound is_bound. none bound (inr (h.place, h.leaf, h.within, h.same, subst (λ (evidence : Evidence). IsOpenBound p plan.cuts h.leaf.region evidence bound) (sym is) is_bound)) (rated_bound-le-cost p plan.cuts h.leaf.region numbers (rates_in p numbers) bound d are is_bound design feasible h.feasible.lies))
+        (λ bound is_bound. none bound (inr (h.place, h.leaf, h.within, h.same, subst (λ (evidence : Evidence). IsOpenBound p plan.cuts h.leaf.region evidence bound) (sym is) is_bound))
+        (rated_bound-le-cost p plan.cuts h.leaf.region numbers (rates_in p numbers) bound d are is_bound design feasible h.feasible.lies))
     by_evidence (Bound numbers) h is = when_closed h (ap (λ (evidence : Evidence). is_open (Leaf evidence)) is)
     by_evidence Routed h is = when_closed h (ap (λ (evidence : Evidence). is_open (Leaf evidence)) is)
     by_evidence (Overfull link) h is = when_closed h (ap (λ (evidence : Evidence). is_open (Leaf evidence)) is)
@@ -122,7 +124,8 @@ candidate-not_absent p plan d are stated valid design feasible none =
     by_evidence (Far id) h is = when_closed h (ap (λ (evidence : Evidence). is_open (Leaf evidence)) is)
     by_evidence (Crowd prices) h is = when_closed h (ap (λ (evidence : Evidence). is_open (Leaf evidence)) is)
 
-undecided_claim : (p : Parts) (plan : Plan) → AreCuts p plan.cuts → IsCostOfSome p (stated_cost plan) → IsRatedTree p plan.cuts (stated_cost plan) plan.tree → (bound : Option ℤ) → MatchOption bound ((candidate : ℤ) → IsCandidate p plan candidate → ⊥) (λ candidate. IsLeastCandidate p plan candidate) → MatchOption bound (HasNoDesign p) (λ candidate. IsUndercutByNone p candidate)
+undecided_claim : (p : Parts) (plan : Plan) → AreCuts p plan.cuts → IsCostOfSome p (stated_cost plan) → IsRatedTree p plan.cuts (stated_cost plan) plan.tree → (bound : Option ℤ)
+    → MatchOption bound ((candidate : ℤ) → IsCandidate p plan candidate → ⊥) (λ candidate. IsLeastCandidate p plan candidate) → MatchOption bound (HasNoDesign p) (λ candidate. IsUndercutByNone p candidate)
 undecided_claim p plan are stated valid None none = λ d design feasible. candidate-not_absent p plan d are stated valid design feasible (λ candidate is_candidate le. none candidate is_candidate)
 undecided_claim p plan are stated valid (Some bound) least = λ d design feasible.
     by_lt_z (pos (cost_of p d)) bound

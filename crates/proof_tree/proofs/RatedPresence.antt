@@ -93,6 +93,7 @@ back-rises p cuts prices rates e are x y le = by_cases (is_two_way p.orient)
     by_cases true = worth-rise p cuts prices rates (2 * e + 1) x y are le
     by_cases false = omega arith
 
+-- where each range has a load and each demand a permitted path, a bound at prices and rates is not absent
 pub rated_bound-not_absent : (p : Parts) (cuts : List Cut) (g : Region) (prices rates : List ℕ) → AreCuts p cuts → AreRanges p g.ranges → ((k : ℕ) → k < length p.demands → (arcs : List ArcId) × IsPermittedPath p g.forbidden k arcs) → ((bound : ℤ) → IsRatedBound p cuts g prices rates bound → ⊥) → ⊥
 rated_bound-not_absent p cuts g prices rates cut are paths none =
     all_not_absent (λ k price. IsLeastPrice p g.forbidden prices k price) 0 (length p.demands)

@@ -30,6 +30,7 @@ down count total value before here = omega (arith, ints)
 up : (count : ℕ) (total value : ℤ) → total ≤ℤ pos (count * MAX_PRICED_LOAD) → value ≤ℤ pos MAX_PRICED_LOAD → (total +ℤ value) ≤ℤ pos (suc count * MAX_PRICED_LOAD)
 up count total value before here = omega (arith, ints)
 
+-- at prices and rates, the values of no links have the sum 0
 pub rated_total-none : (p : Parts) (cuts : List Cut) (ranges : List LoadRange) (prices rates : List ℕ) → IsRatedTotal p cuts ranges prices rates 0 (pos 0)
 rated_total-none p cuts ranges prices rates = record {
   values = λ e. pos 0;

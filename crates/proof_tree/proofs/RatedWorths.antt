@@ -92,6 +92,7 @@ counted-rise p cut q x y is le = by_cases (place_crosses p cut.nodes q)
     by_cases true = rise
     by_cases false = omega arith
 
+-- more load on a place is worth at least as much
 pub worth-rise : (p : Parts) (cuts : List Cut) (prices rates : List ℕ) (q x y : ℕ) → AreCuts p cuts → x ≤ y → place_worth p cuts prices rates q x ≤ place_worth p cuts prices rates q y
 worth-rise p cuts prices rates q x y are le =
     let n = length cuts in

@@ -153,6 +153,7 @@ start_price source target = record {
         let unit = le-div 1_250_000_000 (1000 * c) other positive (omega (arith, dear, few)) in
         omega (arith, unit)
 
+-- the opening bound of the ring is 5
 pub ring-opening : IsOpeningBound ring (pos 5_000_000_000_000)
 ring-opening = record {
   prices = start_prices;
@@ -238,11 +239,13 @@ rated_least_price k below = record { path = arc (2 * k) ∷ []; permitted = perm
 ten : IsThousandthUp (pos 10_000_000_000_000_000) (pos 10_000_000_000_000)
 ten = record { reaches = omega (arith, ints); least = λ other h. omega (arith, ints) }
 
+-- with the cuts of the single nodes at their rates, the bound of the ring is 10
 pub ring-bound : IsRatedBound ring ring_cuts (whole ring) ring_prices ring_rates (pos 10_000_000_000_000)
 ring-bound = record { least_prices = λ k. 0; values = λ e. pos 0; are_least = rated_least_price; are_values = rated_value; rounded = ten }
 
 -- The prices and the cuts are as they have to be.
 
+-- each place of the ring may have its price with the rates of the cuts
 pub ring-lawful : AreRatedPrices ring ring_cuts ring_prices ring_rates
 ring-lawful = record { prices_within = four 0 (lit≤ tt); rates_within = four 1_250_000_000 (lit≤ tt); each = λ q below. record { within_limit = limit q below; cover_routing = cover q below } }
   where
@@ -267,6 +270,7 @@ ring-lawful = record { prices_within = four 0 (lit≤ tt); rates_within = four 1
     cover (suc (suc (suc zero))) below positive = lit≤ tt
     cover (suc (suc (suc (suc q)))) below positive = absurd (omega arith)
 
+-- the cuts of the single nodes are cuts of the ring, not too many, and no two the same
 pub ring-cuts : IsCutList ring ring_cuts
 ring-cuts = record { few = lit≤ tt; are_cuts = are_cuts; different = different }
   where

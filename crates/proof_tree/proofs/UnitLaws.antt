@@ -50,6 +50,7 @@ multiple-rest of n rest whole part =
 pub unit-positive : (p : Parts) (unit : ℕ) → IsUnit p unit → 0 < unit
 unit-positive p unit is = omega (arith, is.is_unit)
 
+-- the unit divides the cost of each module, and each routing cost times each load
 pub unit-divides : (p : Parts) (unit : ℕ) → IsUnit p unit → DividesCosts p unit
 unit-divides p unit is = by_divisor is.divisor is.is_greatest.divides is.is_unit
   where

@@ -13,12 +13,14 @@ undirected-crosses (suc zero) below = refl
 undirected-crosses (suc (suc zero)) below = refl
 undirected-crosses (suc (suc (suc q))) below = absurd (omega arith)
 
+-- of the places of the directed triangle, only that of bc crosses the set of b
 pub directed-crosses : (q : ℕ) → q < 3 → place_crosses (oriented Directed) only_b q ≡ (q == 1)
 directed-crosses zero below = refl
 directed-crosses (suc zero) below = refl
 directed-crosses (suc (suc zero)) below = refl
 directed-crosses (suc (suc (suc q))) below = absurd (omega arith)
 
+-- where each direction of a link has a place, the way back over ab and the way there over bc cross the set of b
 pub bidirected-crosses : (q : ℕ) → q < 6 → place_crosses (oriented Bidirected) only_b q ≡ (q == 1 || q == 2)
 bidirected-crosses zero below = refl
 bidirected-crosses (suc zero) below = refl
@@ -28,6 +30,7 @@ bidirected-crosses (suc (suc (suc (suc zero)))) below = refl
 bidirected-crosses (suc (suc (suc (suc (suc zero))))) below = refl
 bidirected-crosses (suc (suc (suc (suc (suc (suc q)))))) below = absurd (omega arith)
 
+-- the set of a is a cut of the two parallel links, whether or not what is installed is left out
 pub around_a-cut : (counts_installed : Bool) → IsCut parallel (around_a counts_installed)
 around_a-cut counts_installed = record { count = refl; some = (0, true, lit< tt, refl, refl); not_all = (1, false, lit< tt, refl, refl); is_tally = record { some = lit≤ tt; within = lit≤ tt }; small = lit≤ tt }
 

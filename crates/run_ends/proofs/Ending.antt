@@ -125,6 +125,7 @@ module _ (usage_line : List ℕ) (Done : Texts → Status → List ℕ → Type 
     -- ---- what was found and written
 
     module _ (begins_before begins_now : ℕ) (found : Result Answer Stop) (h : IsFound usage_line Done names shelf counts begins_before begins_now found) where
+      -- what was found, once it is written or fails to be, is a run of the named texts, of which its status says so
       pub run_says : (before now : Option (List ℕ)) (status : Status) → IsWritten found before now status → IsTextRun usage_line Done names shelf counts begins_before begins_now before now status
       run_says before now status (whole text is appends) = record {
         begun = h.begun;

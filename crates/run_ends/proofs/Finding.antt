@@ -20,6 +20,7 @@ shown-stop : (counts : Counts) (stop : Stop) → (IsReadStop stop → Rose count
 shown-stop counts (stops.Refused fault) rose more = shown counts fault rose more
 shown-stop counts stops.OutOfMemory rose more = tt
 
+-- no text is begun between a count of begins and the same count
 pub nothing-begun : (before : ℕ) → Begun 0 before before
 nothing-begun before = record { exact = λ room. omega arith; later = omega arith; few = omega arith }
 

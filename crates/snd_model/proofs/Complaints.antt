@@ -97,5 +97,6 @@ plain-turns zero s ts = tt
 plain-turns (suc n) s [] = tt
 plain-turns (suc n) s (t ∷ ts) = plain-turn (turns key_turn pair n) (plain-turns n) s t ts (key_head s t.is) (plain-key s t.is)
 
+-- where the reading of pairs stops, its complaint is about no number and no long name
 pub plain_pairs : (ts : List Placed) (c : Complaint) (rest : List Placed) → pairs ts ≡ Err (c, rest) → IsPlain c
 plain_pairs ts c rest e = subst (λ (r : Result (Draft × List Placed) Stopped). IsPlainStop r) e (plain-turns _ no_settings ts)

@@ -14,6 +14,7 @@ use Rattle.snd_model.specs.declared.values.HopModel.TheVariants as hops
 use Rattle.snd_model.specs.declared.values.SurvivabilityModel.TheVariants as survivals
 use Rattle.snd_model.specs.Table.{key_word, key_of, spelling, key_named, setting_named}
 
+-- the word of a key names that key
 pub key-found : (k : Key) → key_named (key_word k) ≡ Some k
 key-found keys.Demand = refl
 key-found keys.Link = refl
@@ -24,6 +25,7 @@ key-found keys.Path = refl
 key-found keys.Hop = refl
 key-found keys.Survivability = refl
 
+-- the spelling of a value names that value in the row of its key
 pub setting-found : (s : Setting) → setting_named (key_of s) (spelling s) ≡ Some s
 setting-found (Demand demands.Undirected) = refl
 setting-found (Demand demands.Directed) = refl
@@ -60,6 +62,7 @@ some_setting keys.Path = Path paths.All
 some_setting keys.Hop = Hop hops.No
 some_setting keys.Survivability = Survivability survivals.No
 
+-- the setting that is chosen for a key has that key
 pub some-key : (k : Key) → key_of (some_setting k) ≡ k
 some-key keys.Demand = refl
 some-key keys.Link = refl

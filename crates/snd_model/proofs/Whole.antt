@@ -36,6 +36,7 @@ use Rattle.snd_model.specs.Grammar.{no_settings, settings_of, and_setting, has_s
 use Rattle.snd_model.specs.Reading.{equals, value, key_turn, pair, pairs}
 use Rattle.snd_model.proofs.Tabled.{key-found, setting-found, some_setting, some-key}
 
+-- this token at place 0
 abbrev pub sample : Lexeme → Placed
 sample l = record { at = 0; is = l }
 
@@ -63,6 +64,7 @@ live_value k =
     let s = some_setting k in
     live_token (λ t. value_test k t.is) (sample (word (spelling s))) s (subst (λ (key : Key). value_test key (word (spelling s)) ≡ Ok s) (some-key k) (good_value s)) (λ t e. rw e refl) (λ t e. value-end k t.is e)
 
+-- a pair behind its key is read lawfully and never past the end of the text
 pub live_pair : (d : Draft) (k : Key) → Live (PairForm d k) (pair d k)
 unfolding pair
 live_pair d k = live_bind _ _ _ _ live_equals (λ _. live_bind _ _ _ _ (live_value k) (λ s. live_done (and_setting d s)))
@@ -140,6 +142,7 @@ from-demand None b c e f g h i = with-one _ keys.Demand refl (from-link demands.
 finishes : (d : Draft) → Finishes d
 finishes d = from-demand d.demand d.link d.capacity d.fixed_charge d.routing d.path d.hop d.survivability
 
+-- the pairs of a model, up to the end of the text, are read lawfully
 pub lawful_pairs : Lawful PairsForm pairs
 lawful_pairs = lawful_items key_turn pair PairForm (λ d k. (live_pair d k).law) finishes no_settings
 
@@ -177,11 +180,13 @@ only-more d t k e = by t.is e
     by equals_sign e = tt
     by the_end e = by-complete (is_complete d) e
 
+-- tokens in the form of pairs have the end of the text as their last one, and nowhere before
 pub pairs_end : (l : List Placed) (d : Draft) → PairsForm l d → EndsLast l
 pairs_end l d f = items_end_last key_turn PairForm (λ s k m x g. (live_pair s k).no_end m x g) only-end only-more f.0 no_settings l d f.1
 
 -- ---- where a text may end, each key has a value
 
+-- where a token ends the list of pairs, each key has a value
 pub head-complete : (d : Draft) (t : Placed) → key_turn d t ≡ Ok None → is_complete d ≡ true
 head-complete d t e = by (is_complete d) refl (ap (key_head d) (sym (only-end d t e)) ∙ e)
   where
@@ -194,13 +199,16 @@ unfolding AreItems
 items-complete zero s x l (t, a, e, b) = ap is_complete b ∙ head-complete s t a
 items-complete (suc n) s x l (t, k, front, next, rest, a, f, r, e) = items-complete n next x rest r
 
+-- where tokens have the form of pairs, each key has a value
 pub pairs_complete : (l : List Placed) (d : Draft) → PairsForm l d → is_complete d ≡ true
 pairs_complete l d f = items-complete f.0 no_settings d l f.1
 
+-- settings with a value for each key are those of a model
 pub file-of : (d : Draft) → is_complete d ≡ true → (file : ModelFile) × (d ≡ settings_of file)
 file-of d c = by d.demand d.link d.capacity d.fixed_charge d.routing d.path d.hop d.survivability c
   where
-    by : (a : Option DemandModel) (b : Option LinkModel) (c : Option CapacityModel) (e : Option FixedChargeModel) (f : Option RoutingModel) (g : Option PathModel) (h : Option HopModel) (i : Option SurvivabilityModel) → is_complete (draft a b c e f g h i) ≡ true → (file : ModelFile) × (draft a b c e f g h i ≡ settings_of file)
+    by : (a : Option DemandModel) (b : Option LinkModel) (c : Option CapacityModel) (e : Option FixedChargeModel) (f : Option RoutingModel) (g : Option PathModel) (h : Option HopModel) (i : Option SurvivabilityModel)
+        → is_complete (draft a b c e f g h i) ≡ true → (file : ModelFile) × (draft a b c e f g h i ≡ settings_of file)
     by (Some a) (Some b) (Some c) (Some e) (Some f) (Some g) (Some h) (Some i) given = (record { demand = a; link = b; capacity = c; fixed_charge = e; routing = f; path = g; hop = h; survivability = i }, refl)
     by None b c e f g h i given = absurd cc
     by (Some a) None c e f g h i given = absurd cc

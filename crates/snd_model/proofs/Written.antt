@@ -171,8 +171,10 @@ lines-read base text file ts last is e =
     line-read base text (and_setting (and_setting (and_setting no_settings (Demand file.demand)) (Link file.link)) (Capacity file.capacity)) (settings_of file) (FixedCharge file.fixed_charge) us3 _ (last ∷ []) e3 refl (λ us4 e4.
     line-read base text (and_setting (and_setting (and_setting (and_setting no_settings (Demand file.demand)) (Link file.link)) (Capacity file.capacity)) (FixedCharge file.fixed_charge)) (settings_of file) (Routing file.routing) us4 _ (last ∷ []) e4 refl (λ us5 e5.
     line-read base text (and_setting (and_setting (and_setting (and_setting (and_setting no_settings (Demand file.demand)) (Link file.link)) (Capacity file.capacity)) (FixedCharge file.fixed_charge)) (Routing file.routing)) (settings_of file) (Path file.path) us5 _ (last ∷ []) e5 refl (λ us6 e6.
-    line-read base text (and_setting (and_setting (and_setting (and_setting (and_setting (and_setting no_settings (Demand file.demand)) (Link file.link)) (Capacity file.capacity)) (FixedCharge file.fixed_charge)) (Routing file.routing)) (Path file.path)) (settings_of file) (Hop file.hop) us6 _ (last ∷ []) e6 refl (λ us7 e7.
-    line-read base text (and_setting (and_setting (and_setting (and_setting (and_setting (and_setting (and_setting no_settings (Demand file.demand)) (Link file.link)) (Capacity file.capacity)) (FixedCharge file.fixed_charge)) (Routing file.routing)) (Path file.path)) (Hop file.hop)) (settings_of file) (Survivability file.survivability) us7 _ (last ∷ []) e7 refl (λ us8 e8.
+    line-read base text (and_setting (and_setting (and_setting (and_setting (and_setting (and_setting no_settings (Demand file.demand)) (Link file.link)) (Capacity file.capacity))
+    (FixedCharge file.fixed_charge)) (Routing file.routing)) (Path file.path)) (settings_of file) (Hop file.hop) us6 _ (last ∷ []) e6 refl (λ us7 e7.
+    line-read base text (and_setting (and_setting (and_setting (and_setting (and_setting (and_setting (and_setting no_settings (Demand file.demand)) (Link file.link)) (Capacity file.capacity))
+    (FixedCharge file.fixed_charge)) (Routing file.routing)) (Path file.path)) (Hop file.hop)) (settings_of file) (Survivability file.survivability) us7 _ (last ∷ []) e7 refl (λ us8 e8.
     no-tokens base text (settings_of file) us8 (last ∷ []) e8 (end-only (settings_of file) last is refl)))))))))
 
 -- ---- the whole text
@@ -180,6 +182,7 @@ lines-read base text file ts last is e =
 header-of : (file : ModelFile) → HasHeader model_header (model_text file) (10 ∷ lines_text file all_keys)
 header-of file = record { blanks = []; whole = refl; are_blank = tt; line_ends = refl }
 
+-- the canonical text of a model spells it
 pub written : (file : ModelFile) → SpellsModel (model_text file) file
 written file =
     let rest = 10 ∷ lines_text file all_keys in
@@ -200,8 +203,10 @@ lines-short : (file : ModelFile) (ks : List Key) → length (lines_text file ks)
 lines-short file [] = omega arith
 lines-short file (k ∷ ks) = omega (arith, length-append (line (setting_of file k)) (lines_text file ks), line-short (setting_of file k), lines-short file ks)
 
+-- the canonical text of a model is no longer than a text may be
 pub written-short : (file : ModelFile) → length (model_text file) ≤ MAX_TEXT_BYTES
 written-short file = omega (arith, length-append model_header (10 ∷ lines_text file all_keys), lines-short file all_keys)
 
+-- each model is spelt by a text that is not too long
 pub readable : (file : ModelFile) → IsReadable file
 readable file = record { text = model_text file; short = written-short file; spells = written file }

@@ -80,6 +80,7 @@ has-few text ts h =
 pub few_nodes : (text : List ℕ) (d : Draft) → SpellsDraft text d → length (names_of d.nodes) ≤ length text + 1
 few_nodes text d h = omega (arith, sections-within h.form.0 no_sections d h.ts h.form.1, has-few text h.ts h.tokens)
 
+-- sections that are read from a text of at most the greatest length have fewer than 2^32 nodes
 pub few_told : (text : List ℕ) (result : Result Draft TextFault) → length text ≤ MAX_TEXT_BYTES → IfOk result (SpellsDraft text) → IfOk result (λ d. length (names_of d.nodes) < 2 ^ 32)
 few_told text (Ok d) short h = omega (arith, short, few_nodes text d h)
 few_told text (Err f) short h = tt

@@ -19,6 +19,7 @@ use Rattle.snd_network.specs.declared.limits.TheConstants.{MAX_NAME_BYTES}
 use Rattle.snd_reader.specs.Names.{is_among}
 use Rattle.snd_network.specs.Tests.{end_by, end_at, named, list_head, node_named, node_head, module_begun, module_head, is_sign, sized, checked_coordinate, kept, coordinate_test, limited, hops_test, section_named, has_section, once, section_begun, section_head}
 
+-- where the end of a link or demand is wanted, only the end of the text is told as ended too soon
 pub end-end : (at : ℕ) (l : Lexeme) → end_at at l ≡ Err Ended → l ≡ the_end
 end-end at (word bytes) e = absurd (by (nat_lt MAX_NAME_BYTES (length bytes)) e)
   where
@@ -30,6 +31,7 @@ end-end at close_bracket e = absurd cc
 end-end at equals_sign e = absurd cc
 end-end at the_end e = refl
 
+-- where an item of a list or its Close is wanted, only the end of the text is told as ended too soon
 pub list-end : (names : List (List ℕ)) (l : Lexeme) → list_head names l ≡ Err Ended → l ≡ the_end
 list-end names (word bytes) e = absurd (by (nat_lt MAX_NAME_BYTES (length bytes)) (is_among names bytes) e)
   where
@@ -46,6 +48,7 @@ list-end names the_end e = refl
 abbrev opened : Bool → Result (Option NodeItem) Complaint
 opened b = if b then Ok (Some node_items.Place) else Err (Unexpected wants.Name)
 
+-- where a node, its place or a Close is wanted, only the end of the text is told as ended too soon
 pub node-end : (s : NodeList) (l : Lexeme) → node_head s l ≡ Err Ended → l ≡ the_end
 node-end s (word bytes) e = absurd (by (nat_lt MAX_NAME_BYTES (length bytes)) (is_among s.names bytes) e)
   where
@@ -62,6 +65,7 @@ node-end s close_bracket e = absurd cc
 node-end s equals_sign e = absurd cc
 node-end s the_end e = refl
 
+-- where a module or a Close is wanted, only the end of the text is told as ended too soon
 pub module-end : (l : Lexeme) → module_head l ≡ Err Ended → l ≡ the_end
 module-end (word bytes) e = absurd (by (decimal_of bytes 6) e)
   where
@@ -87,6 +91,7 @@ kept-end (byte ∷ bytes) e = by (is_sign byte) e
     by true e = sized-end 1 (byte ∷ bytes) (decimal_of bytes 6) e
     by false e = sized-end 0 (byte ∷ bytes) (decimal_of (byte ∷ bytes) 6) e
 
+-- where a coordinate is wanted, only the end of the text is told as ended too soon
 pub coordinate-end : (l : Lexeme) → coordinate_test l ≡ Err Ended → l ≡ the_end
 coordinate-end (word bytes) e = absurd (kept-end bytes e)
 coordinate-end open_bracket e = absurd cc
@@ -94,6 +99,7 @@ coordinate-end close_bracket e = absurd cc
 coordinate-end equals_sign e = absurd cc
 coordinate-end the_end e = refl
 
+-- where a hop limit is wanted, only the end of the text is told as ended too soon
 pub hops-end : (l : Lexeme) → hops_test l ≡ Err Ended → l ≡ the_end
 hops-end (word bytes) e = absurd (by (pointwise nat_eq bytes (codes "UNLIMITED")) (decimal_of bytes 0) e)
   where
@@ -106,6 +112,7 @@ hops-end close_bracket e = absurd cc
 hops-end equals_sign e = absurd cc
 hops-end the_end e = refl
 
+-- where a section is wanted, only the end of the text is told as ended too soon
 pub section-end : (d : Draft) (l : Lexeme) → section_head d l ≡ Err Ended → l ≡ the_end
 section-end d (word bytes) e = absurd (by-section (section_named bytes) e)
   where

@@ -29,9 +29,11 @@ known names e n h = by (number_of names e.name) h
     by (Some x) h = refl
     by None h = absurd cc
 
+-- an end that is a node is passed over in the search for the first unknown end
 pub first_known : (names : List (List ℕ)) (e : End) (es : List End) (n : NodeId) → IsNode names e n → first_unknown names (e ∷ es) ≡ first_unknown names es
 first_known names e es n h = rw (known names e n h) refl
 
+-- the ends of links that have their nodes are passed over in the search for the first unknown end
 pub links_known : (names : List (List ℕ)) (ls : List (Named LinkDraft)) (rs : List LinkRecord) → AreAllOf (IsLinkOf names) ls rs → (more : List End) → first_unknown names (link_ends ls ++ more) ≡ first_unknown names more
 links_known names [] [] h more = refl
 links_known names [] (r ∷ rs) h more = absurd h
@@ -41,6 +43,7 @@ links_known names (l ∷ ls) (r ∷ rs) h more =
     ∙ first_known names l.part.target (link_ends ls ++ more) r.target h.0.target
     ∙ links_known names ls rs h.1 more
 
+-- the ends of demands that have their nodes are passed over in the search for the first unknown end
 pub demands_known : (names : List (List ℕ)) (ds : List (Named DemandDraft)) (rs : List DemandRecord) → AreAllOf (IsDemandOf names) ds rs → (more : List End) → first_unknown names (demand_ends ds ++ more) ≡ first_unknown names more
 demands_known names [] [] h more = refl
 demands_known names [] (r ∷ rs) h more = absurd h
@@ -123,6 +126,7 @@ one_file_of d a b h k =
 
 -- ---- lists that are looked up one by one
 
+-- lists that agree one by one in order still do with one agreeing pair more at their ends
 pub all-push : {A B : Type 0} (Is : A → B → Type 0) (xs : List A) (ys : List B) (x : A) (y : B) → AreAllOf Is xs ys → Is x y → AreAllOf Is (xs ++ x ∷ []) (ys ++ y ∷ [])
 all-push Is [] [] x y h k = (k, tt)
 all-push Is [] (z ∷ ys) x y h k = absurd h
@@ -182,6 +186,7 @@ source_unknown names e more (Twice at) u = absurd u
 source_unknown names e more (Ended at) u = absurd u
 source_unknown names e more (LongId at) u = absurd u
 
+-- a fault of looking up some ends is also one with an end in front that is a node
 pub target_unknown : (names : List (List ℕ)) (e : End) (es : List End) (n : NodeId) (f : TextFault) → IsNode names e n → IsUnknown names es f → IsUnknown names (e ∷ es) f
 target_unknown names e es n (Unknown at) h u = first_known names e es n h ∙ u
 target_unknown names e es n OutOfMemory h u = tt
@@ -205,6 +210,7 @@ more_unknown names es more (Twice at) u = absurd u
 more_unknown names es more (Ended at) u = absurd u
 more_unknown names es more (LongId at) u = absurd u
 
+-- a fault of looking up some ends is also one with the ends of links in front that have their nodes
 pub behind_links : (names : List (List ℕ)) (ls : List (Named LinkDraft)) (rs : List LinkRecord) (more : List End) (f : TextFault) → AreAllOf (IsLinkOf names) ls rs → IsUnknown names more f → IsUnknown names (link_ends ls ++ more) f
 behind_links names ls rs more (Unknown at) h u = links_known names ls rs h more ∙ u
 behind_links names ls rs more OutOfMemory h u = tt
@@ -247,8 +253,12 @@ demands_unknown d nodes links demands ls rs ds f n l k e i h u =
 pub all_taken : {A : Type 0} (whole taken left : List A) → whole ≡ taken ++ left → length left ≡ 0 → whole ≡ taken
 all_taken {A} whole taken left e n = e ∙ ap (λ (xs : List A). taken ++ xs) (nil_from_length left n) ∙ append-nil taken
 
-pub link_unknown : (names : List (List ℕ)) (whole links rest : List (Named LinkDraft)) (rs : List LinkRecord) (one : Named LinkDraft) (f : TextFault) → whole ≡ links ++ one ∷ rest → AreAllOf (IsLinkOf names) links rs → IsUnknown names (one.part.source ∷ one.part.target ∷ []) f → IsUnknown names (link_ends whole) f
+-- a fault of looking up a link's ends is one of all links, where those before it have their nodes
+pub link_unknown : (names : List (List ℕ)) (whole links rest : List (Named LinkDraft)) (rs : List LinkRecord) (one : Named LinkDraft) (f : TextFault)
+    → whole ≡ links ++ one ∷ rest → AreAllOf (IsLinkOf names) links rs → IsUnknown names (one.part.source ∷ one.part.target ∷ []) f → IsUnknown names (link_ends whole) f
 link_unknown names whole links rest rs one f e h u = subst (λ (rows : List (Named LinkDraft)). IsUnknown names (link_ends rows) f) (sym e) (link-unknown names links rest rs one f h u)
 
-pub demand_unknown : (names : List (List ℕ)) (whole demands rest : List (Named DemandDraft)) (rs : List DemandRecord) (one : Named DemandDraft) (f : TextFault) → whole ≡ demands ++ one ∷ rest → AreAllOf (IsDemandOf names) demands rs → IsUnknown names (one.part.source ∷ one.part.target ∷ []) f → IsUnknown names (demand_ends whole) f
+-- a fault of looking up a demand's ends is one of all demands, where those before it have their nodes
+pub demand_unknown : (names : List (List ℕ)) (whole demands rest : List (Named DemandDraft)) (rs : List DemandRecord) (one : Named DemandDraft) (f : TextFault)
+    → whole ≡ demands ++ one ∷ rest → AreAllOf (IsDemandOf names) demands rs → IsUnknown names (one.part.source ∷ one.part.target ∷ []) f → IsUnknown names (demand_ends whole) f
 demand_unknown names whole demands rest rs one f e h u = subst (λ (rows : List (Named DemandDraft)). IsUnknown names (demand_ends rows) f) (sym e) (demand-unknown names demands rest rs one f h u)

@@ -51,7 +51,37 @@ use Rattle.snd_network.specs.declared.limits.TheConstants.{MAX_NAME_BYTES}
 use Rattle.snd_reader.specs.Names.{is_among, number_of}
 use Rattle.snd_network.specs.Names.{checked_name}
 use Rattle.snd_network.specs.Tests.{named, list_head, node_named, node_head, module_begun, module_head, checked_coordinate, kept, coordinate_test, limited, hops_test, section_head}
-use Rattle.snd_network.specs.Grammar.{IsOpen, IsClose, IsNumber, IsEnd, IsCoordinate, IsHopLimit, no_nodes, last_node, with_last, and_named, all_nodes, NodeForm, NodesForm, ModuleForm, ModulesForm, LinkForm, DemandForm, no_rows, and_row, ItemForm, ListForm, no_sections, and_nodes, and_links, and_demands, and_meta, and_paths, SectionForm, NetworkForm}
+use Rattle.snd_network.specs.Grammar.{
+  IsOpen,
+  IsClose,
+  IsNumber,
+  IsEnd,
+  IsCoordinate,
+  IsHopLimit,
+  no_nodes,
+  last_node,
+  with_last,
+  and_named,
+  all_nodes,
+  NodeForm,
+  NodesForm,
+  ModuleForm,
+  ModulesForm,
+  LinkForm,
+  DemandForm,
+  no_rows,
+  and_row,
+  ItemForm,
+  ListForm,
+  no_sections,
+  and_nodes,
+  and_links,
+  and_demands,
+  and_meta,
+  and_paths,
+  SectionForm,
+  NetworkForm,
+}
 use Rattle.snd_network.specs.Ends.{node_id, IsNode, IsLinkOf, IsDemandOf, AreAllOf, IsFileOf, names_of, rows_of}
 use Rattle.snd_network.specs.Spelling.{network_header, SpellsNetwork}
 use Rattle.snd_reader.specs.Texts.{HasTokens}

@@ -9,6 +9,7 @@ use Rattle.snd_network.specs.declared.draft.Table.{Table}
 use Rattle.snd_network.specs.declared.draft.Draft.{Draft}
 use Rattle.snd_network.specs.Ends.{IsLinkOf, IsDemandOf, AreAllOf, IsFileOf, names_of, rows_of}
 
+-- the nodes of the sections, and their links and demands with the numbers found, make the file of the sections
 pub file_found : (d : Draft) (nodes : Table NodeRecord) (links : Table (Named LinkDraft)) (demands : Table (Named DemandDraft)) (file : NetworkFile) (ls : List (Named LinkDraft)) (ds : List (Named DemandDraft))
     → d.nodes ≡ Some nodes → d.links ≡ Some links → d.demands ≡ Some demands → file.nodes ≡ nodes.rows → ls ≡ links.rows → ds ≡ demands.rows
     → AreAllOf (IsLinkOf nodes.names) ls file.links → AreAllOf (IsDemandOf nodes.names) ds file.demands → IsFileOf d file

@@ -40,6 +40,7 @@ name-new names close_bracket name e = absurd cc
 name-new names equals_sign name e = absurd cc
 name-new names the_end name e = absurd cc
 
+-- a name with which an item of a list begins is none of the names before it
 pub fresh_name : {T : Type 0} (s : Table (Named T)) (ts us : List Placed) (name : List ℕ) → token (list_turn s) ts ≡ Ok (Some name, us) → is_among s.names name ≡ false
 fresh_name s ts us name e = let g = taken_good (list_turn s) ts us (Some name) e in name-new s.names g.0.is name g.1
 
@@ -59,6 +60,7 @@ item-new s close_bracket (node_items.Name name) e = absurd cc
 item-new s equals_sign (node_items.Name name) e = absurd cc
 item-new s the_end (node_items.Name name) e = absurd cc
 
+-- a name that is read in the nodes is none of the names before it
 pub fresh_item : (s : NodeList) (ts us : List Placed) (item : NodeItem) → token (node_turn s) ts ≡ Ok (Some item, us) → IsNewItem s.names item
 fresh_item s ts us item e = let g = taken_good (node_turn s) ts us (Some item) e in item-new s g.0.is item g.1
 
@@ -66,6 +68,7 @@ fresh_item s ts us item e = let g = taken_good (node_turn s) ts us (Some item) e
 abbrev at-end : Bool → Result (Option Section) Complaint
 at-end b = if b then Ok None else Err Ended
 
+-- where the list of sections ends, the nodes, the links and the demands are there
 pub complete_end : (d : Draft) (ts us : List Placed) → token (section_turn d) ts ≡ Ok (None, us) → is_complete d ≡ true
 complete_end d ts us e =
     let g = taken_good (section_turn d) ts us None e in

@@ -16,6 +16,7 @@ step (Err e) f g h same = refl
 abbrev link_with : End × End → ℕ × ℕ × ℕ × ℕ → List (ℕ × ℕ) → LinkDraft
 link_with x n m = record { source = x.0; target = x.1; pre = n.0; pre_cost = n.1; routing = n.2; setup = n.3; modules = m }
 
+-- to read the ends, the four numbers and the modules one after the other is to read the link
 pub link_in_parts : (ts : List Placed) → (ends ts >>= λ x. (link_numbers x.1 >>= λ n. (modules n.1 >>= λ m. Ok (link_with x.0 n.0 m.0, m.1)))) ≡ link ts
 unfolding ends link_numbers link
 link_in_parts ts =
@@ -33,6 +34,7 @@ link_in_parts ts =
 abbrev demand_with : End × End → ℕ × ℕ × Option ℕ → DemandDraft
 demand_with x n = record { source = x.0; target = x.1; unit = n.0; value = n.1; hops = n.2 }
 
+-- to read the ends and then the numbers is to read the demand
 pub demand_in_parts : (ts : List Placed) → (ends ts >>= λ x. (demand_numbers x.1 >>= λ n. Ok (demand_with x.0 n.0, n.1))) ≡ demand ts
 unfolding ends demand_numbers demand
 demand_in_parts ts =

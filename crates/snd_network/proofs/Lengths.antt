@@ -38,6 +38,7 @@ told-end at place complaints.Twice e = absurd cc
 told-end at place complaints.LongId e = absurd cc
 told-end at place complaints.Ended e = (refl, cc)
 
+-- the fault that a text ends too soon has the length of the text as its place
 pub ended_at : (text : List ℕ) (at : ℕ) → IsFault text (Ended at) → at ≡ length text
 ended_at text at b =
     let told = told-end at b.bad.at b.complaint b.is in

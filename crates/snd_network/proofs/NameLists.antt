@@ -11,6 +11,7 @@ use Rattle.snd_network.specs.WellFormed.{AreDifferent}
 
 -- ---- equal names
 
+-- two names have the same bytes
 abbrev pub same_name : List ℕ → List ℕ → Bool
 same_name a b = pointwise nat_eq a b
 
@@ -18,9 +19,11 @@ is-false : (b : Bool) → (b ≡ true → ⊥) → b ≡ false
 is-false true h = absurd (h refl)
 is-false false h = refl
 
+-- names that differ are not found the same
 pub other_name : (a b : List ℕ) → a ≢ b → same_name a b ≡ false
 other_name a b h = is-false (same_name a b) (λ e. h ((bytes_decides a b).0 e))
 
+-- a name is found the same as itself
 pub own_name : (a : List ℕ) → same_name a a ≡ true
 own_name a = (bytes_decides a a).1 refl
 
@@ -71,6 +74,7 @@ place-own (x ∷ names) (suc i) h within =
     defaults (y ∷ xs) zero l = refl
     defaults (y ∷ xs) (suc k) l = defaults xs k (omega arith)
 
+-- where names differ, the number of each is its place among them
 pub own_number : (names : List (List ℕ)) (i : ℕ) → AreDifferent names → i < length names → number_of names (get_or names i []) ≡ Some i
 own_number names i h within = rw (place-own names i h within, lt-ltb i (length names) within) refl
 

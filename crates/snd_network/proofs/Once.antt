@@ -21,6 +21,7 @@ one-draft : (text : List ℕ) (d e : Draft) → SpellsDraft text d → SpellsDra
 one-draft text d e h k =
     one_value NetworkForm network lawful_network k.ts d e (subst (λ (ts : List Placed). NetworkForm ts d) (texts.same_tokens dialects.Network network_header text h.ts k.ts h.tokens k.tokens) h.form) k.form
 
+-- a text spells one network at most
 pub one_file : (text : List ℕ) (a b : NetworkFile) → SpellsNetwork text a → SpellsNetwork text b → a ≡ b
 one_file text a b h k =
     let d : h.draft ≡ k.draft = one-draft text h.draft k.draft h.spelt k.spelt in
@@ -36,9 +37,11 @@ no-unknown text file at h u =
     let bad : None ≡ Some at = sym none ∙ u.first in
     cc
 
+-- a text that spells a network has no fault but want of memory
 pub no_fault : (text : List ℕ) (file : NetworkFile) (f : TextFault) → SpellsNetwork text file → IsFault text f → f ≡ OutOfMemory
 no_fault text file f h k = texts.no_fault dialects.Network network_header text NetworkForm network HasUnknown (read text h.draft h.spelt) (λ at u. no-unknown text file at h u) f k
 
+-- the reader's answer to a text that spells a network is that network or want of memory
 pub only_file : (text : List ℕ) (result : Result NetworkFile TextFault) → IfOk result (SpellsNetwork text) → IfErr result (IsFault text) → (file : NetworkFile) → SpellsNetwork text file → OnlyFile result file
 only_file text (Ok found) h k file s = one_file text found file h s
 only_file text (Err f) h k file s = no_fault text file f s k
@@ -51,9 +54,11 @@ one-unknown text a b h k =
     let same : Some a ≡ Some b = sym h.first ∙ ap (λ (d : Draft). first_unknown (names_of d.nodes) (all_ends d)) d ∙ k.first in
     cc
 
+-- two faults of a text are the same, unless one of them is want of memory
 pub one_fault : (text : List ℕ) (f g : TextFault) → IsFault text f → IsFault text g → AreOneFault f g
 one_fault text f g h k = texts.one_fault dialects.Network network_header text NetworkForm network HasUnknown (one-unknown text) (λ at u. read text u.draft u.spelt) f g h k
 
+-- the reader's answer to a text with a fault other than want of memory is that fault or want of memory
 pub only_fault : (text : List ℕ) (result : Result NetworkFile TextFault) → IfOk result (SpellsNetwork text) → IfErr result (IsFault text) → (f : TextFault) → IsFault text f → OnlyFault result f
 only_fault text (Ok found) h k f s = no_fault text found f h s
 only_fault text (Err g) h k f s = one_fault text g f k s

@@ -9,6 +9,7 @@ use Rattle.snd_network.specs.declared.draft.Section.TheVariants.{Nodes, Links, D
 use Rattle.snd_network.specs.Reading.{opening, section}
 use Rattle.snd_reader.proofs.Faults.{through}
 
+-- a fault in reading the opening bracket of a section is a fault in reading the section
 pub section_opens : (d : Draft) (k : Section) (ts : List Placed) (f : TextFault) → Fails f (opening ts) → Fails f (section d k ts)
 unfolding section
 section_opens d Nodes ts f b = through f (opening ts) _ b

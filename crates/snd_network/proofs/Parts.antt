@@ -27,9 +27,11 @@ zero_word = word (48 ∷ [])
 
 -- ---- single tokens
 
+-- an opening bracket is read lawfully and never past the end of the text
 pub live_opening : Live IsOpen opening
 live_opening = live_token (λ t. open_test t.is) (sample open_bracket) tt refl (λ t e. rw e refl) (λ t e. open-end t.is e)
 
+-- a closing bracket is read lawfully and never past the end of the text
 pub live_closing : Live IsClose closing
 live_closing = live_token (λ t. close_test t.is) (sample close_bracket) tt refl (λ t e. rw e refl) (λ t e. close-end t.is e)
 
@@ -70,6 +72,7 @@ live_place s =
     live_bind _ _ _ _ live_closing (λ _.
     live_done (with_last s (Some (x, y))))))
 
+-- an item of the nodes is read lawfully and never past the end of the text
 pub live_node : (s : NodeList) (i : NodeItem) → Live (NodeForm s i) (node_item s i)
 unfolding node_item
 live_node s (node_items.Name bytes) = live_done (and_named s bytes)
@@ -78,11 +81,13 @@ live_node s node_items.Place = live_place s
 live_node_items : Live (Items (λ (s : NodeList) (t : Placed). node_head s t.is) NodeForm no_nodes) node_list
 live_node_items = live_items node_turn node_item NodeForm live_node (finish_by node_turn NodeForm (sample close_bracket) (λ s. refl)) (λ s t e. rw e refl) (λ s t e. node-end s t.is e) no_nodes
 
+-- the nodes up to their Close are read lawfully and never past the end of the text
 pub live_nodes : Live NodesForm nodes
 live_nodes = live_bind _ _ _ _ live_node_items (λ s. live_done (all_nodes s))
 
 -- ---- links
 
+-- a module behind its capacity is read lawfully and never past the end of the text
 pub live_module : (modules : List (ℕ × ℕ)) (capacity : ℕ) → Live (ModuleForm modules capacity) (module_item modules capacity)
 unfolding module_item
 live_module modules capacity = live_bind (IsNumber 6) (λ cost. IsNothing (modules ++ (capacity, cost) ∷ [])) (number 6) (λ cost. done (modules ++ (capacity, cost) ∷ [])) live_grains (λ cost. live_done (modules ++ (capacity, cost) ∷ []))
@@ -90,6 +95,7 @@ live_module modules capacity = live_bind (IsNumber 6) (λ cost. IsNothing (modul
 live_modules : Live ModulesForm modules
 live_modules = live_items module_turn module_item ModuleForm live_module (finish_by module_turn ModuleForm (sample close_bracket) (λ s. refl)) (λ s t e. rw e refl) (λ s t e. module-end t.is e) []
 
+-- a link behind its name is read lawfully and never past the end of the text
 pub live_link : Live LinkForm link
 unfolding link
 live_link =
@@ -107,6 +113,7 @@ live_link =
 
 -- ---- demands
 
+-- a demand behind its name is read lawfully and never past the end of the text
 pub live_demand : Live DemandForm demand
 unfolding demand
 live_demand =
@@ -121,9 +128,11 @@ live_demand =
 
 -- ---- lists of named things
 
+-- an item behind its name is read lawfully and never past the end of the text, where its part is
 pub live_item : {T : Type 0} (F : List Placed → T → Type 0) (part : Reader T) → Live F part → (s : Table (Named T)) (name : List ℕ) → Live (ItemForm F s name) (list_item part s name)
 unfolding list_item
 live_item F part live s name = live_bind F (λ x. IsNothing (and_row s name x)) part (λ x. done (and_row s name x)) live (λ x. live_done (and_row s name x))
 
+-- named items up to a Close are read lawfully and never past the end of the text, where their parts are
 pub live_list : {T : Type 0} (F : List Placed → T → Type 0) (part : Reader T) → Live F part → Live (ListForm F) (list_of part)
 live_list F part live = live_items list_turn (list_item part) (ItemForm F) (live_item F part live) (finish_by list_turn (ItemForm F) (sample close_bracket) (λ s. refl)) (λ s t e. rw e refl) (λ s t e. list-end s.names t.is e) no_rows

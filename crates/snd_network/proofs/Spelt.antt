@@ -101,8 +101,28 @@ module _ (numbers : AreNumbers) where
     end-writable id within = (good_name nodes id.0 good within).word
 
     link-writable : (l : LinkRecord) → IsGoodLink (length nodes) l → AreWritable dialects.Network (link_tokens nodes l)
-    link-writable l h =
-        (h.name.word, (tt, (end-writable l.source h.source, (end-writable l.target h.target, (tt, (grains-writable l.pre h.pre, (grains-writable l.pre_cost h.pre_cost, (grains-writable l.routing h.routing, (grains-writable l.setup h.setup, (tt, writable-append (module_tokens l.modules) (close_bracket ∷ []) (modules-writable l.modules h.modules) (tt, tt)))))))))))
+    link-writable l h = (
+      h.name.word,
+      (
+        tt,
+        (
+          end-writable l.source h.source,
+          (
+            end-writable l.target h.target,
+            (
+              tt,
+              (
+                grains-writable l.pre h.pre,
+                (
+                  grains-writable l.pre_cost h.pre_cost,
+                  (grains-writable l.routing h.routing, (grains-writable l.setup h.setup, (tt, writable-append (module_tokens l.modules) (close_bracket ∷ []) (modules-writable l.modules h.modules) (tt, tt)))),
+                ),
+              ),
+            ),
+          ),
+        ),
+      ),
+    )
 
     demand-writable : (d : DemandRecord) → IsGoodDemand (length nodes) d → AreWritable dialects.Network (demand_tokens nodes d)
     demand-writable d h =
@@ -130,6 +150,7 @@ module _ (numbers : AreNumbers) where
       (glue dialects.Network nodes (links ++ demands) [] (section_tokens (codes "NODES") node_ls) (section_tokens (codes "LINKS") link_ls ++ section_tokens (codes "DEMANDS") demand_ls) c
       (glue dialects.Network links demands [] (section_tokens (codes "LINKS") link_ls) (section_tokens (codes "DEMANDS") demand_ls) b a))
 
+  -- the canonical text of a well-formed network spells that network
   pub spelt : (file : NetworkFile) → IsWellFormed file → SpellsNetwork (network_text file) file
   unfolding network_text
   spelt file h =

@@ -34,15 +34,19 @@ IsReadBack = (value scale : ℕ) → scale ≤ 12 → value < 10 ^ (12 + scale) 
 
 -- ---- single tokens
 
+-- an opening bracket has the form of one wherever it stands
 pub reads_open : Reads IsOpen (λ _. Unit {0}) (open_bracket ∷ [])
 reads_open = reads_placed (λ t. open_test t.is) (λ _. Unit {0}) open_bracket (λ t e. record { value = tt; is = ap open_test e; good = tt })
 
+-- a closing bracket has the form of one wherever it stands
 pub reads_close : Reads IsClose (λ _. Unit {0}) (close_bracket ∷ [])
 reads_close = reads_placed (λ t. close_test t.is) (λ _. Unit {0}) close_bracket (λ t e. record { value = tt; is = ap close_test e; good = tt })
 
+-- a word that is a good coordinate stands for itself as a coordinate
 pub reads_coordinate : (bytes : List ℕ) → IsCoordinateWord bytes → Reads IsCoordinate (λ x. x ≡ bytes) (word bytes ∷ [])
 reads_coordinate bytes h = reads_token coordinate_test (word bytes) bytes (ap (kept bytes) h.number)
 
+-- a name of at most 64 bytes passes the check of its length
 pub short_name : (bytes : List ℕ) → length bytes ≤ MAX_NAME_BYTES → checked_length bytes ≡ Ok tt
 short_name bytes h = rw (le-ltb MAX_NAME_BYTES (length bytes) h) refl
 
@@ -53,6 +57,7 @@ node_of nodes id apart within = own_number (node_names nodes) id.0 apart (let sa
 abbrev name_at : List NodeRecord → NodeId → List ℕ
 name_at nodes id = get_or (node_names nodes) id.0 []
 
+-- the name of each of good nodes is a word of at most 64 bytes
 pub good_name : (nodes : List NodeRecord) (i : ℕ) → All IsGoodNode nodes → i < length nodes → IsName (get_or (node_names nodes) i [])
 good_name [] i h within = absurd (omega arith)
 good_name (n ∷ nodes) zero h within = (All-head IsGoodNode n nodes h).name
@@ -61,9 +66,11 @@ good_name (n ∷ nodes) (suc i) h within = good_name nodes i (All-tail IsGoodNod
 -- ---- parts of a network of these nodes
 
 module _ (back : IsReadBack) where
+  -- the canonical decimal of a number of millionths stands for that number
   pub reads_grains : (n : ℕ) → IsGrains n → Reads (IsNumber 6) (λ x. x ≡ n) (grains n ∷ [])
   reads_grains n h = reads_token (number_test 6) (grains n) n (ap numbered (back n 6 (omega arith) h))
 
+  -- the decimal digits of a whole number below 10^12 are read back as it
   pub whole_is_read : (n : ℕ) → IsWhole n → decimal_of (decimal n) 0 ≡ Ok n
   unfolding grains_text
   whole_is_read n h =
@@ -71,6 +78,7 @@ module _ (back : IsReadBack) where
       let same : grains_text n 0 ≡ decimal n = append-nil (decimal (n / 10 ^ 0)) ∙ ap decimal one in
       ap (λ (bytes : List ℕ). decimal_of bytes 0) (sym same) ∙ back n 0 (omega arith) h
 
+  -- the decimal digits of a whole number below 10^12 stand for that number
   pub reads_whole : (n : ℕ) → IsWhole n → Reads (IsNumber 0) (λ x. x ≡ n) (whole n ∷ [])
   reads_whole n h = reads_token (number_test 0) (whole n) n (ap numbered (whole_is_read n h))
 
@@ -86,6 +94,7 @@ module _ (back : IsReadBack) where
       let differs : decimal n ≢ codes "UNLIMITED" = λ e. unlimited-none n (ap (λ (bytes : List ℕ). decimal_of bytes 0) (sym e) ∙ whole_is_read n h) in
       rw (other_name (decimal n) (codes "UNLIMITED") differs) (ap (λ (answer : Result ℕ _). limited (numbered answer)) (whole_is_read n h))
 
+  -- the token that is written of a hop limit, or of none, stands for it
   pub reads_hops : (limit : Option ℕ) → IsLimit limit → Reads IsHopLimit (λ x. x ≡ limit) (limit_token limit ∷ [])
   reads_hops limit h = reads_token hops_test (limit_token limit) limit (hops limit h)
 
@@ -103,10 +112,12 @@ module _ (back : IsReadBack) where
       (reads_last (IsNumber 6) (λ cost. before ++ (m.0, cost) ∷ []) (λ x. x ≡ m.1) (λ x. x ≡ before ++ (m.0, m.1) ∷ []) (grains m.1 ∷ []) (reads_grains m.1 here.1) (λ cost same. ap (λ (c : ℕ). before ++ (m.0, c) ∷ []) same))
       (λ next same. modules-read all next more (All-tail IsModule m more good) (ap (λ (ms : List (ℕ × ℕ)). ms ++ more) same ∙ append_assoc before ((m.0, m.1) ∷ []) more ∙ both))
 
+  -- the tokens of modules, and the Close behind them, stand for these modules
   pub reads_modules : (modules : List (ℕ × ℕ)) → All IsModule modules → Reads ModulesForm (λ x. x ≡ modules) (module_tokens modules ++ close_bracket ∷ [])
   reads_modules modules good = modules-read modules [] modules good refl
 
   module _ (nodes : List NodeRecord) (good : All IsGoodNode nodes) (apart : AreDifferent (node_names nodes)) where
+    -- the name of a node stands for an end that is this node
     pub reads_end_name : (id : NodeId) → id.0 < length nodes → Reads IsEnd (λ e. IsNode (node_names nodes) e id) (end_token nodes id ∷ [])
     reads_end_name id within =
         let short = short_name (name_at nodes id) (good_name nodes id.0 good within).short in

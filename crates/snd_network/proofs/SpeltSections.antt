@@ -34,6 +34,7 @@ use Rattle.snd_network.proofs.NameLists.{is_new}
 use Rattle.snd_reader.proofs.Standing.{Reads, reads_then, reads_last, reads_nothing, reads_end, reads_item}
 use Rattle.snd_network.proofs.SpeltRecords.{IsReadBack, reads_open, reads_close, reads_coordinate, reads_link, reads_demand}
 
+-- a name of at most 64 bytes that is none of those before it passes the check of names
 pub new_name : (names : List (List ℕ)) (bytes : List ℕ) → length bytes ≤ MAX_NAME_BYTES → is_among names bytes ≡ false → checked_name names bytes ≡ Ok tt
 new_name names bytes short fresh = rw (le-ltb MAX_NAME_BYTES (length bytes) short, fresh) refl
 
@@ -121,6 +122,7 @@ pub record IsNodeTable (nodes : List NodeRecord) (t : Table NodeRecord) : Type 0
   pub names : t.names ≡ node_names nodes
   pub rows : t.rows ≡ nodes
 
+-- the tokens of good nodes with different names, and the Close behind them, stand for these nodes
 pub reads_nodes : (nodes : List NodeRecord) → All IsGoodNode nodes → AreDifferent (node_names nodes) → Reads NodesForm (IsNodeTable nodes) (flat_map node_tokens nodes ++ close_bracket ∷ [])
 reads_nodes nodes good apart =
     reads_last _ _ _ _ _ (nodes-read nodes [] nodes no_nodes refl good apart (record { names = refl; rows = refl })) (λ s state. record { names = state.names; rows = state.rows })
@@ -164,6 +166,7 @@ module _ {T X : Type 0} (F : List Placed → T → Type 0) (name : X → List �
       (reads_last F (λ (part : T). and_row s (name x) part) (λ (part : T). Is (record { name = name x; part = part }) x) (IsTable name Is (before ++ x ∷ [])) (tokens x) (reads x here) (λ part is. pushed before s x part so_far is))
       (λ next state. items-read all (before ++ x ∷ []) more next (append_assoc before (x ∷ []) more ∙ e) (All-tail Good x more good) apart state))
 
+  -- the tokens of good items with different names, and the Close behind them, stand for these items
   pub reads_list : (items : List X) → All Good items → AreDifferent (map name items) → Reads (ListForm F) (IsTable name Is items) (flat_map item-tokens items ++ close_bracket ∷ [])
   reads_list items good apart = items-read items [] items no_rows refl good apart (record { names = refl; rows = tt })
 
@@ -245,6 +248,7 @@ module _ (back : IsReadBack) (file : NetworkFile) (good : IsWellFormed file) whe
       (reads_then _ _ _ _ _ _ reads_open (λ _ _. reads_last _ _ _ _ _ (reads_nodes file.nodes good.nodes good.apart_nodes) (λ nodes are. record { nodes = nodes; are_nodes = are; is = refl })))
       later
 
+  -- the tokens of a well-formed network, and the end of the text, stand for sections of which it is the file
   pub reads_network : Reads NetworkForm (λ d. IsFileOf d file) (network_tokens file ++ the_end ∷ [])
   reads_network =
       let demands = section_tokens (codes "DEMANDS") (flat_map (demand_tokens file.nodes) file.demands) in

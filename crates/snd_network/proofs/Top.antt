@@ -45,10 +45,12 @@ unknown_told text d (Err f) h k = unknown_fault text d f h k
 
 -- ---- the answer of the reader of sections
 
+-- the sections that the reader answers are spelt by the text
 pub draft_spelt : (text : List ℕ) (ts after : List Placed) → HasTokens dialects.Network network_header text ts → (result : Result Draft TextFault) → Gives (λ (d : Draft). (d, after)) result (network ts) → IfOk result (SpellsDraft text)
 draft_spelt text ts after h (Ok d) g = record { ts = ts; tokens = h; form = texts.reaches_end dialects.Network network_header NetworkForm network lawful_network network_ends text ts d after h g }
 draft_spelt text ts after h (Err f) g = tt
 
+-- the fault that the reader of sections answers is a fault of the text
 pub draft_told : (text : List ℕ) (ts after : List Placed) → HasTokens dialects.Network network_header text ts → (result : Result Draft TextFault) → Gives (λ (d : Draft). (d, after)) result (network ts) → IfErr result (IsFault text)
 draft_told text ts after h (Ok d) g = tt
 draft_told text ts after h (Err f) g = texts.bad_fault dialects.Network network_header NetworkForm network lawful_network network_ends HasUnknown text ts f h g

@@ -31,6 +31,7 @@ live_links = live_list LinkForm link live_link
 live_demands : Live (ListForm DemandForm) (list_of demand)
 live_demands = live_list DemandForm demand live_demand
 
+-- a section behind its name is read lawfully and never past the end of the text
 pub live_section : (d : Draft) (k : Section) → Live (SectionForm d k) (section d k)
 unfolding section
 live_section d Nodes = live_bind _ _ _ _ live_opening (λ _. live_bind _ _ _ _ live_nodes (λ x. live_done (and_nodes d x)))
@@ -83,11 +84,13 @@ with-nodes None l d a b =
 finishes : (d : Draft) → Finishes d
 finishes d = with-nodes d.nodes d.links d.demands d.has_meta d.has_paths
 
+-- the sections of a network, up to the end of the text, are read lawfully
 pub lawful_network : Lawful NetworkForm network
 lawful_network = lawful_items section_turn section SectionForm (λ d k. (live_section d k).law) finishes no_sections
 
 -- ---- nothing is read behind the end of the text
 
+-- between sections, no token but the end of the text ends their list
 pub only-end : (d : Draft) (t : Placed) → section_turn d t ≡ Ok None → t.is ≡ the_end
 only-end d t e = by t.is e
   where
@@ -120,6 +123,7 @@ only-more d t k e = by t.is e
     by equals_sign e = tt
     by the_end e = by-complete (is_complete d) e
 
+-- tokens in the form of a network have the end of the text as their last one, and nowhere before
 pub network_ends : (l : List Placed) (d : Draft) → NetworkForm l d → EndsLast l
 network_ends l d f = items_end_last section_turn SectionForm (λ s h l x g. (live_section s h).no_end l x g) only-end only-more f.0 no_sections l d f.1
 

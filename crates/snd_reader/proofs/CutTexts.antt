@@ -69,6 +69,7 @@ module _ (d : Dialect) where
         ∙ ap (λ (t : List Lexeme). ls ++ t) y.these;
   }
 
+  -- a blank is cut into no tokens
   pub blank_cut : (byte : ℕ) (after : List ℕ) → is_blank byte ≡ true → IsCutInto (byte ∷ []) [] after
   blank_cut byte after h = record { pieces = blank byte ∷ []; cut = (h, tt); whole = refl; these = refl }
 
@@ -82,6 +83,7 @@ module _ (d : Dialect) where
   IsWritable readers.equals_sign = d ≡ Model
   IsWritable readers.the_end = ⊥
 
+  -- the bytes of a token that may stand in a text are cut into that token, where no word goes on behind them
   pub token_cut : (l : Lexeme) (after : List ℕ) → IsWritable l → EndsRun (is_word d) after → IsCutInto (lexeme_text l) (l ∷ []) after
   token_cut (readers.word bytes) after h e = record {
     pieces = word bytes ∷ [];
@@ -94,6 +96,7 @@ module _ (d : Dialect) where
   token_cut readers.equals_sign after h e = record { pieces = equals_sign ∷ []; cut = (h, tt); whole = refl; these = refl }
   token_cut readers.the_end after h e = absurd h
 
+  -- tokens of which each may stand in a text
   abbrev pub AreWritable : List Lexeme → Type 0
   AreWritable ls = AllByRecursion IsWritable ls
 
@@ -101,6 +104,7 @@ module _ (d : Dialect) where
   spaced-ends [] after e = e
   spaced-ends (l ∷ ls) after e = refl
 
+  -- tokens written with a space in front of each are cut into these tokens, where no word goes on behind them
   pub spaced_cut : (ls : List Lexeme) (after : List ℕ) → AreWritable ls → EndsRun (is_word d) after → IsCutInto (spaced ls) ls after
   spaced_cut [] after h e = record { pieces = []; cut = tt; whole = refl; these = refl }
   spaced_cut (l ∷ ls) after h e =
@@ -112,12 +116,14 @@ module _ (d : Dialect) where
   with_lexemes : (text after : List ℕ) (ls ms : List Lexeme) → ls ≡ ms → IsCutInto text ls after → IsCutInto text ms after
   with_lexemes text after ls ms e h = subst (λ (t : List Lexeme). IsCutInto text t after) e h
 
+  -- the line of tokens that may stand in a text is cut into these tokens
   pub line_cut : (ls : List Lexeme) (after : List ℕ) → AreWritable ls → IsCutInto (line_of ls) ls after
   line_cut ls after h =
       glue (32 ∷ []) (spaced ls ++ 10 ∷ []) after [] ls (blank_cut 32 ((spaced ls ++ 10 ∷ []) ++ after) refl)
       (with_lexemes (spaced ls ++ 10 ∷ []) after (ls ++ []) ls (append-nil ls)
       (glue (spaced ls) (10 ∷ []) after ls [] (spaced_cut ls (10 ∷ after) h refl) (blank_cut 10 after refl)))
 
+  -- the lines of records whose tokens may stand in a text are cut into these tokens in order
   pub lines_cut : {X : Type 0} (tokens : X → List Lexeme) (xs : List X) (after : List ℕ) → AllByRecursion (λ x. AreWritable (tokens x)) xs → IsCutInto (flat_map (λ x. line_of (tokens x)) xs) (flat_map tokens xs) after
   lines_cut tokens [] after h = record { pieces = []; cut = tt; whole = refl; these = refl }
   lines_cut tokens (x ∷ xs) after h =
@@ -130,6 +136,7 @@ module _ (d : Dialect) where
   opening-cut : (after : List ℕ) → IsCutInto (32 ∷ 40 ∷ 10 ∷ []) (readers.open_bracket ∷ []) after
   opening-cut after = record { pieces = blank 32 ∷ open_bracket ∷ blank 10 ∷ []; cut = (refl, (tt, (refl, tt))); whole = refl; these = refl }
 
+  -- the text of a section whose lines are cut into tokens is cut into its name, an Open, these and a Close
   pub section_cut : (name lines after : List ℕ) (ls : List Lexeme) → IsWordOf d name → IsCutInto lines ls (41 ∷ 10 ∷ after) → IsCutInto (section_text name lines) (section_tokens name ls) after
   section_cut name lines after ls w h =
       glue name (32 ∷ 40 ∷ 10 ∷ (lines ++ 41 ∷ 10 ∷ [])) after (readers.word name ∷ []) (readers.open_bracket ∷ (ls ++ readers.close_bracket ∷ []))
@@ -139,16 +146,19 @@ module _ (d : Dialect) where
 
   -- ---- the tokens of a text
 
+  -- the whole text is cut into tokens, and without their places they are these
   pub record HasLexemes (text : List ℕ) (ls : List Lexeme) : Type 0 where
     pub tokens : List Token
     pub cut : Lexes d text tokens
     pub these : lexemes (map (with_bytes text) tokens) ≡ ls
 
+  -- where a text is cut into these tokens with no bytes behind it, they are the tokens of the whole text
   pub has_lexemes : (text : List ℕ) (ls : List Lexeme) → IsCutInto text ls [] → HasLexemes text ls
   has_lexemes text ls h =
       let found = shown_is_cut d text (shown h.pieces) (record { pieces = h.pieces; cut = h.cut; whole = h.whole; these = refl }) in
       record { tokens = found.0; cut = found.1; these = ap lexemes found.2 ∙ h.these }
 
+  -- the tokens of a text with their places, and its end behind them, are these and an end
   pub placed_seen : (base : ℕ) (text : List ℕ) (ls : List Lexeme) (h : HasLexemes text ls) → AreSeen (placed base text h.tokens) (ls ++ the_end ∷ [])
   placed_seen base text ls h =
       let last : Placed = record { at = base + length text; is = the_end } in

@@ -13,6 +13,7 @@ use Rattle.snd_reader.proofs.Lawful.{stopped_at, err-parts, apart}
 pub record EndsAtEnd {A : Type 0} (r : Reader A) : Type 0 where
   pub at_end : (ts : List Placed) (t : Placed) (rest : List Placed) → r ts ≡ stopped_at Ended (t ∷ rest) → t.is ≡ the_end
 
+-- a stop where no token is left is not a stop at a token
 pub not-there : (A : Type 0) (t : Placed) (rest : List Placed) → stopped_at {A = A} Ended [] ≡ stopped_at Ended (t ∷ rest) → ⊥
 not-there A t rest e = let none : [] ≡ t ∷ rest = (err-parts A Ended Ended [] (t ∷ rest) e).1 in cc
 
@@ -24,9 +25,11 @@ here A c u t us rest e only =
     let same : u ≡ t = cc in
     subst (λ (v : Placed). v.is ≡ the_end) same (only p.0)
 
+-- a reader that reads nothing never tells that the text ends
 pub ends_done : {A : Type 0} (v : A) → EndsAtEnd (done v)
 ends_done v = record { at_end = λ ts t rest e. absurd (apart (sym e)) }
 
+-- a reader of one token tells that the text ends at its end alone, where its test does
 pub ends_token : {A : Type 0} (test : Placed → Result A Complaint) → ((t : Placed) → test t ≡ Err Ended → t.is ≡ the_end) → EndsAtEnd (token test)
 ends_token {A} test only = record { at_end = λ ts t rest e. by ts t rest e }
   where
@@ -42,6 +45,7 @@ ends_token {A} test only = record { at_end = λ ts t rest e. by ts t rest e }
 same-stop : (A X : Type 0) (y : Stopped) (t : Placed) (rest : List Placed) → stopped_at {A = X} y.0 y.1 ≡ stopped_at Ended (t ∷ rest) → stopped_at {A = A} y.0 y.1 ≡ stopped_at Ended (t ∷ rest)
 same-stop A X y t rest e = let p = err-parts X y.0 Ended y.1 (t ∷ rest) e in rw (p.0, p.1) refl
 
+-- two readers one after the other tell that the text ends at its end alone, where each of them does
 pub ends_bind : {A X : Type 0} (r : Reader A) (s : A → Reader X) → EndsAtEnd r → ((x : A) → EndsAtEnd (s x)) → EndsAtEnd (bind r s)
 ends_bind {A} {X} r s first after = record { at_end = λ ts t rest e. by ts t rest (r ts) refl e }
   where
@@ -67,11 +71,13 @@ module _ {S H : Type 0} (head : S → Placed → Result (Option H) Complaint) (b
   turns-end (suc n) s [] t rest e = absurd (not-there S t rest e)
   turns-end (suc n) s (u ∷ us) t rest e = turn-end n s u t us rest (head s u) (λ next vs k. turns-end n next vs t rest k) refl e
 
+  -- a reader of items tells that the text ends at its end alone, where the tests and readers of items do
   pub ends_items : (s : S) → EndsAtEnd (items head body s)
   ends_items s = record { at_end = λ ts t rest e. turns-end (suc (length ts)) s ts t rest e }
 
 -- ---- single tokens
 
+-- where an opening bracket is wanted, only the end of the text is told as ended too soon
 pub open-end : (l : Lexeme) → open_test l ≡ Err Ended → l ≡ the_end
 open-end (word bytes) e = absurd cc
 open-end open_bracket e = absurd cc
@@ -79,6 +85,7 @@ open-end close_bracket e = absurd cc
 open-end equals_sign e = absurd cc
 open-end the_end e = refl
 
+-- where a closing bracket is wanted, only the end of the text is told as ended too soon
 pub close-end : (l : Lexeme) → close_test l ≡ Err Ended → l ≡ the_end
 close-end (word bytes) e = absurd cc
 close-end open_bracket e = absurd cc
@@ -86,10 +93,12 @@ close-end close_bracket e = absurd cc
 close-end equals_sign e = absurd cc
 close-end the_end e = refl
 
+-- what is wrong with the number that a word spells is never that the text ends
 pub numbered-end : (o : Result ℕ NumberFault) → numbered o ≡ Err Ended → ⊥
 numbered-end (Ok n) e = cc
 numbered-end (Err f) e = cc
 
+-- where a number is wanted, only the end of the text is told as ended too soon
 pub number-end : (scale : ℕ) (l : Lexeme) → number_test scale l ≡ Err Ended → l ≡ the_end
 number-end scale (word bytes) e = absurd (numbered-end (decimal_of bytes scale) e)
 number-end scale open_bracket e = absurd cc
@@ -97,6 +106,7 @@ number-end scale close_bracket e = absurd cc
 number-end scale equals_sign e = absurd cc
 number-end scale the_end e = refl
 
+-- where an equals sign is wanted, only the end of the text is told as ended too soon
 pub equals-end : (l : Lexeme) → equals_test l ≡ Err Ended → l ≡ the_end
 equals-end (word bytes) e = absurd cc
 equals-end open_bracket e = absurd cc

@@ -50,6 +50,7 @@ past-is : (line : List ℕ) → line ≡ front is_line_blank line ++ past line
 past-is line = front-behind is_line_blank line ∙ ap (λ (bs : List ℕ). front is_line_blank line ++ bs)
     (sym (ap (drop (length (front is_line_blank line))) (front-behind is_line_blank line) ∙ drop_at (front is_line_blank line) (behind is_line_blank line) (length (front is_line_blank line)) refl))
 
+-- a text has its header line where it begins with the header and only blanks follow on that line
 pub has_header : (header text line : List ℕ) → text ≡ header ++ line → ends_line (past line) ≡ true → HasHeader header text (past line)
 has_header header text line e k = record {
   blanks = front is_line_blank line;
@@ -68,11 +69,13 @@ only_past header text line rest e h =
     let run : front is_line_blank line ≡ h.blanks = ap (front is_line_blank) is ∙ front-all h.blanks rest h.are_blank h.line_ends in
     ap (λ (n : List ℕ). drop (length n) line) run ∙ ap (drop (length h.blanks)) is ∙ drop_at h.blanks rest (length h.blanks) refl
 
+-- a text that begins with the header has no header line where more than blanks follows on that line
 pub not_ended : (header text line : List ℕ) → text ≡ header ++ line → ends_line (past line) ≡ false → (rest : List ℕ) → HasHeader header text rest → ⊥
 not_ended header text line e k rest h =
     let bad : false ≡ true = sym k ∙ ap ends_line (only_past header text line rest e h) ∙ h.line_ends in
     absurd cc
 
+-- a text that does not begin with the header has no header line
 pub no_front : (header text : List ℕ) → ((rest : List ℕ) → text ≡ header ++ rest → ⊥) → (rest : List ℕ) → HasHeader header text rest → ⊥
 no_front header text lost rest h = lost (h.blanks ++ rest) h.whole
 

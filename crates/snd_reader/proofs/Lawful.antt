@@ -25,6 +25,7 @@ pub record Taken {A : Type 0} (F : List Placed → A → Type 0) (ts : List Plac
   pub whole : ts ≡ front ++ rest
   pub form : F front x
 
+-- the reader reads exactly what has the form, and stops only where the tokens before the stop begin some value
 pub record Lawful {A : Type 0} (F : List Placed → A → Type 0) (r : Reader A) : Type 0 where
   pub takes : (ts : List Placed) (x : A) (rest : List Placed) → r ts ≡ Ok (x, rest) → Taken F ts x rest
   pub again : (front : List Placed) (x : A) (rest : List Placed) → F front x → r (front ++ rest) ≡ Ok (x, rest)
@@ -32,24 +33,29 @@ pub record Lawful {A : Type 0} (F : List Placed → A → Type 0) (r : Reader A)
 
 -- ---- parts of answers
 
+-- the answer that a value is read, with these tokens behind it
 abbrev pub read_as : {A : Type 0} → A → List Placed → Result (A × List Placed) Stopped
 read_as x rest = Ok (x, rest)
 
+-- the answer that reading stops with a complaint, with these tokens left
 abbrev pub stopped_at : {A : Type 0} → Complaint → List Placed → Result (A × List Placed) Stopped
 stopped_at c rest = Err (c, rest)
 
 same-ok : {A : Type 0} (p q : A × List Placed) → read_as p.0 p.1 ≡ read_as q.0 q.1 → p ≡ q
 same-ok p q e = cc
 
+-- answers with values that are equal have equal values and equal tokens behind them
 pub ok-parts : {A : Type 0} (x y : A) (a b : List Placed) → read_as x a ≡ read_as y b → (x ≡ y) × (a ≡ b)
 ok-parts {A} x y a b e = let s = same-ok (x, a) (y, b) e in (ap (λ (p : A × List Placed). p.0) s, ap (λ (p : A × List Placed). p.1) s)
 
 same-err : {A : Type 0} (p q : Complaint × List Placed) → stopped_at {A = A} p.0 p.1 ≡ stopped_at {A = A} q.0 q.1 → p ≡ q
 same-err p q e = cc
 
+-- answers with complaints that are equal have equal complaints and equal tokens left
 pub err-parts : (A : Type 0) (c d : Complaint) (a b : List Placed) → stopped_at {A = A} c a ≡ stopped_at {A = A} d b → (c ≡ d) × (a ≡ b)
 err-parts A c d a b e = let s = same-err {A = A} (c, a) (d, b) e in (ap (λ (p : Complaint × List Placed). p.0) s, ap (λ (p : Complaint × List Placed). p.1) s)
 
+-- an answer with an error is none with a value
 pub apart : {X Y : Type 0} {x : X} {y : Y} → Err y ≡ Ok x → ⊥
 apart e = cc
 
@@ -63,6 +69,7 @@ not_begun F r law front c t after alone (more, x, f) =
     let same : front ++ (t ∷ more) ≡ ((front ++ t ∷ []) ++ more) ++ [] = sym (append_assoc front (t ∷ []) more) ∙ sym (append-nil ((front ++ t ∷ []) ++ more)) in
     apart (sym (alone more) ∙ ap r same ∙ g)
 
+-- the token at which a lawful reader stops is the first bad token
 pub first_bad : {A : Type 0} (F : List Placed → A → Type 0) (r : Reader A) → Lawful F r → (ts : List Placed) (c : Complaint) (t : Placed) (after : List Placed) → r ts ≡ Err (c, t ∷ after) → IsFirstBad F ts t
 first_bad F r law ts c t after e =
     let k = law.stops ts c (t ∷ after) e in
@@ -74,6 +81,7 @@ one_value F r law ts x y f g = (ok-parts x y [] [] (sym (law.again ts x [] f) �
 
 -- ---- nothing, and one token
 
+-- to read nothing is lawful
 pub lawful_done : {A : Type 0} (v : A) → Lawful (IsNothing v) (done v)
 lawful_done v = record {
   takes = λ ts x rest e. (let p = ok-parts v x ts rest e in record { front = []; whole = p.1; form = (refl, sym p.0) });
@@ -81,6 +89,7 @@ lawful_done v = record {
   stops = λ ts c rest e. absurd cc;
 }
 
+-- to read one token is lawful, where its test finds some token good
 pub lawful_token : {A : Type 0} (test : Placed → Result A Complaint) (some : Placed) (value : A) → test some ≡ Ok value → Lawful (IsToken test) (token test)
 lawful_token {A} test some value good = record {
   takes = λ ts x rest e. takes ts x rest e;
@@ -126,9 +135,11 @@ lawful_token {A} test some value good = record {
 
 -- ---- one after the other
 
+-- where the first reader gives a value, both readers in order answer what the second answers behind it
 pub and-then : {A X : Type 0} (r : Reader A) (s : A → Reader X) (ts : List Placed) (x : A) (us : List Placed) (o : Result (X × List Placed) Stopped) → r ts ≡ Ok (x, us) → s x us ≡ o → bind r s ts ≡ o
 and-then r s ts x us o e f = rw e f
 
+-- two lawful readers one after the other are lawful, where the second form can follow each value of the first
 pub lawful_bind : {A X : Type 0} (F : List Placed → A → Type 0) (G : A → List Placed → X → Type 0) (r : Reader A) (s : A → Reader X)
     → Lawful F r → ((x : A) → Lawful (G x) (s x)) → ((y : A) → (l : List Placed) × (z : X) × G y l z) → Lawful (Then F G) (bind r s)
 lawful_bind {A} {X} F G r s first second some = record {

@@ -22,16 +22,19 @@ IsMore the_end = ⊥
 abbrev pub HasNoEnd : List Placed → Type 0
 HasNoEnd ts = AllByRecursion (λ t. IsMore t.is) ts
 
+-- where the end of a text is in neither of two lists of tokens, it is not in both together
 pub no_end_append : (a b : List Placed) → HasNoEnd a → HasNoEnd b → HasNoEnd (a ++ b)
 no_end_append [] b h k = k
 no_end_append (t ∷ a) b h k = (h.0, no_end_append a b h.1 k)
 
+-- a lawful reader whose form has a value and holds no end of a text, and that tells of the end at the end alone
 pub record Live {A : Type 0} (F : List Placed → A → Type 0) (r : Reader A) : Type 0 where
   pub law : Lawful F r
   pub some : (l : List Placed) × (z : A) × F l z
   pub no_end : (l : List Placed) (z : A) → F l z → HasNoEnd l
   pub at_end : EndsAtEnd r
 
+-- two live readers one after the other are live
 pub live_bind : {A X : Type 0} (F : List Placed → A → Type 0) (G : A → List Placed → X → Type 0) (r : Reader A) (s : A → Reader X)
     → Live F r → ((x : A) → Live (G x) (s x)) → Live (Then F G) (bind r s)
 live_bind {A} {X} F G r s first after = record {
@@ -44,6 +47,7 @@ live_bind {A} {X} F G r s first after = record {
     no_end : (l : List Placed) (z : X) → Then F G l z → HasNoEnd l
     no_end l z (a, x, b, f, g, e) = subst HasNoEnd (sym e) (no_end_append a b (first.no_end a x f) ((after x).no_end b z g))
 
+-- to read nothing is live
 pub live_done : {A : Type 0} (v : A) → Live (IsNothing v) (done v)
 live_done v = record { law = lawful_done v; some = ([], v, (refl, refl)); no_end = λ l z f. subst HasNoEnd (sym f.0) tt; at_end = ends_done v }
 
@@ -58,6 +62,7 @@ more_by {A} test ends t x e = by t.is refl
     by equals_sign is = rw is tt
     by the_end is = absurd (apart (sym (ends t is) ∙ e))
 
+-- to read one token is live, where its test finds some token good and tells of the end at the end alone
 pub live_token : {A : Type 0} (test : Placed → Result A Complaint) (some : Placed) (value : A) → test some ≡ Ok value → ((t : Placed) → t.is ≡ the_end → test t ≡ Err Ended) → ((t : Placed) → test t ≡ Err Ended → t.is ≡ the_end) → Live (IsToken test) (token test)
 live_token {A} test some value good ends only = record { law = lawful_token test some value good; some = (some ∷ [], value, (some, refl, good)); no_end = λ l z f. no_end l z f; at_end = ends_token test only }
   where
@@ -73,6 +78,7 @@ module _ {S H : Type 0} (head : S → Placed → Result (Option H) Complaint) (b
   items_no_end (suc n) s l x (t, h, front, next, rest, a, f, r, e) =
       subst HasNoEnd (sym e) (more_by (head s) (ends s) t (Some h) a, no_end_append front rest ((live s h).no_end front next f) (items_no_end n next rest x r))
 
+  -- to read a list of items is live, where each item is live and the list can always be finished
   pub live_items : (s : S) → Live (Items head F s) (items head body s)
   live_items s = record {
     law = lawful_items head body F (λ u h. (live u h).law) finish s;
@@ -94,6 +100,7 @@ pub record EndsLast (l : List Placed) : Type 0 where
 module _ {S H : Type 0} (head : S → Placed → Result (Option H) Complaint) (F : S → H → List Placed → S → Type 0)
     (no_end : (s : S) (h : H) (l : List Placed) (x : S) → F s h l x → HasNoEnd l)
     (at_end : (s : S) (t : Placed) → head s t ≡ Ok None → t.is ≡ the_end) (at_more : (s : S) (t : Placed) (h : H) → head s t ≡ Ok (Some h) → IsMore t.is) where
+  -- a list that only the end of a text ends has this end as its last token, and nowhere before
   pub items_end_last : (n : ℕ) (s : S) (l : List Placed) (x : S) → AreItems head F n s l x → EndsLast l
   unfolding AreItems
   items_end_last zero s l x (t, a, e, b) = record { front = []; last = t; is_end = at_end s t a; before = tt; whole = e }
@@ -111,6 +118,7 @@ not-nil : (a more : List Placed) (e : Placed) → a ++ (e ∷ more) ≡ [] → �
 not-nil [] more e h = cc
 not-nil (t ∷ a) more e h = cc
 
+-- where the end of a text can only be the last of the tokens, nothing stands behind such an end among them
 pub aligned : (a front more : List Placed) (e last : Placed) → e.is ≡ the_end → HasNoEnd front → a ++ (e ∷ more) ≡ front ++ last ∷ [] → more ≡ []
 aligned [] [] more e last is h k = cc
 aligned [] (t ∷ front) more e last is h k =

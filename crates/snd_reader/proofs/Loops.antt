@@ -16,6 +16,7 @@ module _ {S H : Type 0} (head : S → Placed → Result (Option H) Complaint) (b
     pub enough : length ts < left
     pub same : turns head body left s ts ≡ whole
 
+  -- before the first turn of a loop, what is left to read gives the whole
   pub begin : (s : S) (ts : List Placed) → IsAfter (items head body s ts) s ts
   begin s ts = record { left = suc (length ts); enough = omega arith; same = refl }
 
@@ -79,6 +80,7 @@ module _ {S H : Type 0} (head : S → Placed → Result (Option H) Complaint) (b
 
 -- ---- what is left is shorter
 
+-- where a token is read, fewer tokens are left
 pub token_shorter : {A : Type 0} (test : Placed → Result A Complaint) (x : A) (ts us : List Placed) → token test ts ≡ Ok (x, us) → length us < length ts
 token_shorter test x [] us e = absurd cc
 token_shorter {A} test x (t ∷ ts) us e = by (test t) e
@@ -87,5 +89,6 @@ token_shorter {A} test x (t ∷ ts) us e = by (test t) e
     by (Ok y) e = let p = ok-parts y x ts us e in omega (arith, ap length p.1)
     by (Err c) e = absurd cc
 
+-- what a lawful reader leaves is no longer than what it began with
 pub not_longer : {A : Type 0} (F : List Placed → A → Type 0) (r : Reader A) → Lawful F r → (x : A) (ts us : List Placed) → r ts ≡ Ok (x, us) → length us ≤ length ts
 not_longer F r law x ts us e = let k = law.takes ts x us e in omega (arith, ap length k.whole, length-append k.front us)

@@ -24,10 +24,12 @@ module _ {S H : Type 0} (head : S → Placed → Result (Option H) Complaint) (b
   abbrev turns_of : S → ℕ → Reader S
   turns_of s m = turns head body m s
 
+  -- an item and the rest of a list of items make a list of items
   pub one-more : (n : ℕ) (s next x : S) (t : Placed) (h : H) (front rest l : List Placed) → head s t ≡ Ok (Some h) → F s h front next → AreItems head F n next rest x → l ≡ t ∷ (front ++ rest) → Items head F s l x
   unfolding AreItems
   one-more n s next x t h front rest l a f r e = (suc n, (t, h, front, next, rest, a, f, r, e))
 
+  -- a token that ends a list is a list without items
   pub nothing-more : (s : S) (t : Placed) (l : List Placed) (x : S) → head s t ≡ Ok None → l ≡ t ∷ [] → x ≡ s → Items head F s l x
   unfolding AreItems
   nothing-more s t l x a e b = (zero, (t, a, e, b))
@@ -171,6 +173,7 @@ module _ {S H : Type 0} (head : S → Placed → Result (Option H) Complaint) (b
   local s front c [] alone = alone (suc (length front)) (omega arith)
   local s front c (t ∷ ts) alone = λ others. alone (suc (length (front ++ (t ∷ others)))) others (omega (arith, length-append front (t ∷ others)))
 
+  -- to read a list of items is lawful, where each item is lawful and the list can always be finished
   pub lawful_items : (s : S) → Lawful (Items head F s) (items head body s)
   lawful_items s = record {
     takes = λ ts x rest r. takes (suc (length ts)) s ts x rest r;

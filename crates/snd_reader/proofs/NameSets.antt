@@ -5,6 +5,7 @@ use Rattle.std.specs.List.{list_any, position_or_len}
 use Rattle.std.proofs.lemmas.List.{map-append, length-map}
 use Rattle.indexmap.specs.IndexSet.{insert_key}
 
+-- a test holds for some of the views exactly where it holds for the view of some item
 pub any_viewed : {X Y : Type 0} (view : X → Y) (p : Y → Bool) (xs : List X) → list_any p (map view xs) ≡ list_any (λ x. p (view x)) xs
 any_viewed view p [] = refl
 any_viewed view p (x ∷ xs) = rw (any_viewed view p xs) refl
@@ -17,6 +18,7 @@ place_viewed view p (x ∷ xs) = ap (λ (n : ℕ). cond (not (p (view x))) (1 + 
 abbrev found : ℕ → ℕ → Option ℕ
 found n count = cond (nat_lt n count) (Some n) None
 
+-- the first view that passes a test has the place of the first item whose view passes it
 pub position_viewed : {X Y : Type 0} (view : X → Y) (p : Y → Bool) (xs : List X) → position p (map view xs) ≡ position (λ x. p (view x)) xs
 position_viewed view p xs =
     ap (λ (n : ℕ). found n (length (map view xs))) (place_viewed view p xs) ∙ ap (found (position_or_len (λ x. p (view x)) xs)) (length-map xs view)

@@ -44,6 +44,7 @@ pub record IsReadWhole {B : Type 0} (d : Dialect) (line : List ℕ) (r : Reader 
   pub reads : r ts ≡ Ok (value, [])
 
 module _ (d : Dialect) (line text : List ℕ) where
+  -- a text has one list of tokens at most
   pub same_tokens : (ts us : List Placed) → HasTokens d line text ts → HasTokens d line text us → ts ≡ us
   same_tokens ts us h k =
       let rest : h.rest ≡ k.rest = one_rest line text h.rest k.rest h.header k.header in

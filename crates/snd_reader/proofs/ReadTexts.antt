@@ -56,6 +56,7 @@ module _ (d : Dialect) (line : List ℕ) where
         whole = h.these;
       }
 
+  -- the end among the tokens of a text stands as many bytes behind the header line as follow that line
   pub end_place : (text : List ℕ) (ts : List Placed) (h : HasTokens d line text ts) → (has-end text ts h).last.at ≡ length text - length h.rest + length h.rest
   unfolding has-end
   end_place text ts h = refl

@@ -12,6 +12,7 @@ use Rattle.snd_reader.specs.Brackets.{IsBalanced, IsSkipped, depth_at, skip_by, 
 use Rattle.snd_reader.specs.declared.brackets.Depth.{Depth}
 use Rattle.snd_reader.specs.declared.brackets.Depth.TheVariants.{Closed, Deep, Over}
 
+-- tokens with balanced brackets, and the Close behind them, as a form, where so many brackets are open
 abbrev pub Balanced : ℕ → List Placed → Unit {0} → Type 0
 Balanced depth l x = IsBalanced depth l
 
@@ -51,6 +52,7 @@ unfolding closer
 begun zero = (closer ∷ [], tt, refl)
 begun (suc depth) = let b = begun depth in (closer ∷ b.0, tt, b.2)
 
+-- to skip tokens comes to what their first token says of the brackets
 pub turn-ok : (depth : ℕ) (t : Placed) (ts : List Placed) (u : Depth) (o : Result (Unit {0} × List Placed) Stopped) → depth_at depth t.is ≡ u → skip_by (λ d. skip d ts) t ts u ≡ o → skip depth (t ∷ ts) ≡ o
 unfolding skip
 turn-ok depth t ts u o e h = rw e h
@@ -104,6 +106,7 @@ stops [] depth c rest r =
     record { front = []; whole = p.1; begun = begun depth; alone = subst (λ (us : List Placed). Local (skip depth) [] c us) p.1 alone }
 stops (t ∷ ts) depth c rest r = stops-by depth t ts c rest (depth_at depth t.is) (λ d q. stops ts d c rest q) refl r
 
+-- to skip tokens with balanced brackets is lawful, however many brackets are open
 pub lawful_skip : (depth : ℕ) → Lawful (Balanced depth) (skip depth)
 lawful_skip depth = record {
   takes = λ ts x rest r. takes ts depth x rest r;
@@ -144,5 +147,6 @@ skip-end (u ∷ us) depth t rest e = by (depth_at depth u.is) (λ d k. skip-end 
 ends_skip : EndsAtEnd (skip 0)
 ends_skip = record { at_end = λ ts t rest e. skip-end ts 0 t rest e }
 
+-- tokens with balanced brackets are skipped lawfully and never past the end of the text
 pub live_skip : Live IsSkipped (skip 0)
 live_skip = record { at_end = ends_skip; law = lawful_skip 0; some = (let b = begun 0 in (b.0, tt, b.2)); no_end = λ l z f. balanced-no-end l 0 f }

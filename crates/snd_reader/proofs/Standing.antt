@@ -33,6 +33,7 @@ split (t ∷ ts) (l ∷ ls) ms h =
     let s = split ts ls ms h.1 in
     record { front = t ∷ s.front; rest = s.rest; whole = ap (λ (us : List Placed). t ∷ us) s.whole; first = (h.0, s.first); second = s.second }
 
+-- where tokens stand for a value and others for what may follow it, both in order stand for both
 pub reads_then : {A B : Type 0} (F : List Placed → A → Type 0) (G : A → List Placed → B → Type 0) (P : A → Type 0) (Q : B → Type 0) (ls ms : List Lexeme)
     → Reads F P ls → ((x : A) → P x → Reads (G x) Q ms) → Reads (Then F G) Q (ls ++ ms)
 reads_then F G P Q ls ms r s = record {
@@ -56,6 +57,7 @@ none : {A : Type 0} (v : A) (P : A → Type 0) (ts : List Placed) → P v → Ar
 none v P [] p h = record { value = v; form = (refl, refl); good = p }
 none v P (t ∷ ts) p h = absurd h
 
+-- no tokens stand for a value that is read from nothing, where the value is good
 pub reads_nothing : {A : Type 0} (v : A) (P : A → Type 0) → P v → Reads (IsNothing v) P []
 reads_nothing v P p = record { found = λ ts h. none v P ts p h }
 
@@ -72,9 +74,11 @@ one test P l [] r h = absurd h
 one test P l (t ∷ []) r h = (let j = r t h.0 in record { value = j.value; form = (t, refl, j.is); good = j.good })
 one test P l (t ∷ u ∷ ts) r h = absurd h.1
 
+-- a token that the test finds good, wherever it stands, stands for what the test gives
 pub reads_placed : {A : Type 0} (test : Placed → Result A Complaint) (P : A → Type 0) (l : Lexeme) → ((t : Placed) → t.is ≡ l → Judged (test t) P) → Reads (IsToken test) P (l ∷ [])
 reads_placed test P l r = record { found = λ ts h. one test P l ts r h }
 
+-- a token stands for what its test gives, where the test asks for no place
 pub reads_token : {A : Type 0} (test : Lexeme → Result A Complaint) (l : Lexeme) (x : A) → test l ≡ Ok x → Reads (IsToken (λ t. test t.is)) (λ y. y ≡ x) (l ∷ [])
 reads_token test l x h = reads_placed (λ t. test t.is) (λ y. y ≡ x) l (λ t e. record { value = x; is = ap test e ∙ h; good = refl })
 

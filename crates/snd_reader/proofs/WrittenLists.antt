@@ -8,6 +8,7 @@ use Rattle.snd_reader.specs.Writing.{lexeme_text, spaced}
 next : {X : Type 0} (xs : List X) (i : ℕ) (x : X) → i < length xs → x ≡ get_or xs i x → take i xs ++ x ∷ [] ≡ take (i + 1) xs
 next xs i x within is_x = ap (λ y. take i xs ++ y ∷ []) is_x ∙ sym (take_more xs i x within)
 
+-- with the text of the next item, a loop over items has written the texts of one item more
 pub lines_more : {X : Type 0} (f : X → List ℕ) (xs : List X) (i : ℕ) (x : X) (text old new : List ℕ) → i < length xs → x ≡ get_or xs i x → old ≡ text ++ flat_map f (take i xs) → new ≡ old ++ f x → new ≡ text ++ flat_map f (take (i + 1) xs)
 lines_more f xs i x text old new within is_x is_old is_new =
     is_new ∙ ap (λ bytes. bytes ++ f x) is_old ∙ flat_map_more f text (take i xs) x ∙ ap (λ ys. text ++ flat_map f ys) (next xs i x within is_x)
@@ -16,6 +17,7 @@ lines_more f xs i x text old new within is_x is_old is_new =
 pub lines_more_or : {X : Type 0} (f : X → List ℕ) (xs : List X) (i : ℕ) (d : X) (text old new : List ℕ) → i < length xs → old ≡ text ++ flat_map f (take i xs) → new ≡ old ++ f (get_or xs i d) → new ≡ text ++ flat_map f (take (i + 1) xs)
 lines_more_or f xs i d text old new within is_old is_new = lines_more f xs i (get_or xs i d) text old new within (get_or_default xs i d (get_or xs i d) within) is_old is_new
 
+-- two lists of tokens together are written, with spaces, as the one and then the other
 pub spaced_append : (ts us : List Lexeme) → spaced (ts ++ us) ≡ spaced ts ++ spaced us
 spaced_append [] us = refl
 spaced_append (t ∷ ts) us = ap (λ bytes. 32 ∷ bytes) (ap (λ bytes. lexeme_text t ++ bytes) (spaced_append ts us) ∙ sym (append_assoc (lexeme_text t) (spaced ts) (spaced us)))
@@ -31,6 +33,7 @@ bracketed ts text opened filled new is_opened is_filled is_new =
     ∙ append_assoc (text ++ 32 ∷ 40 ∷ []) (spaced ts) (32 ∷ 41 ∷ []) ∙ append_assoc text (32 ∷ 40 ∷ []) (spaced ts ++ 32 ∷ 41 ∷ [])
     ∙ ap (λ bytes. text ++ 32 ∷ 40 ∷ bytes) (sym (spaced_append ts (close_bracket ∷ [])))
 
+-- with the tokens of the next item, a loop over items has written the tokens of one item more
 pub tokens_more : {X : Type 0} (f : X → List Lexeme) (xs : List X) (i : ℕ) (x : X) (text old new : List ℕ) → i < length xs → x ≡ get_or xs i x → old ≡ text ++ spaced (flat_map f (take i xs)) → new ≡ old ++ spaced (f x) → new ≡ text ++ spaced (flat_map f (take (i + 1) xs))
 tokens_more f xs i x text old new within is_x is_old is_new =
     lines_more (λ y. spaced (f y)) xs i x text old new within is_x (is_old ∙ ap (λ bytes. text ++ bytes) (spaced_all f (take i xs))) is_new

@@ -15,6 +15,7 @@ loop-place-preserved c =
     let ensures = c.in_ok-value.ensures in
     let before = c.loop-place.invariant in
     let fits : SFits w128 value = search rules in
-    let sum_fits = next-fits c.loop-place.place (to_z w128 c.loop-place.total-bits) value (omega (arith, c.loop-place-test.true, c.loop-place.auto.place-end, c.links-place-end.ensures.value, c.links-place-end.ensures.lawful.link_count)) before.not_above before.bounded ensures.not_above ensures.bounded in
+    let sum_fits = next-fits c.loop-place.place (to_z w128 c.loop-place.total-bits) value
+    (omega (arith, c.loop-place-test.true, c.loop-place.auto.place-end, c.links-place-end.ensures.value, c.links-place-end.ensures.lawful.link_count)) before.not_above before.bounded ensures.not_above ensures.bounded in
     rw (to_z-of_z w128 value fits, to_z-of_z w128 (to_z w128 c.loop-place.total-bits +ℤ value) sum_fits)
     (rated_total-next c.args.inst.now c.args.cuts.now c.args.ranges.now c.args.prices.now c.args.rates.now c.loop-place.place (to_z w128 c.loop-place.total-bits) value before ensures.value ensures.not_above ensures.bounded)

@@ -17,7 +17,8 @@ returns-in_default c =
     record { gives = closes list_turn (list_item demand) (list_of demand c.args.cursor.now) c.demands.table c.demands.cursor c.next_name.new.cursor c.demands.invariant (rw c.in_default.is at c.in_ok-name.ensures.gives) }
 
 pub demands-smaller : goal.demands-smaller
-demands-smaller c = turn_shorter list_turn (list_item demand) (ItemForm DemandForm) (live_item DemandForm demand live_demand) c.demands.table c.demand_item.new.table c.in-Some.name c.demands.cursor c.next_name.new.cursor c.demand_item.new.cursor (rw c.in-Some.is at c.in_ok-name.ensures.gives) c.in_ok-demand_item.ensures.gives
+demands-smaller c = turn_shorter list_turn (list_item demand) (ItemForm DemandForm) (live_item DemandForm demand live_demand) c.demands.table c.demand_item.new.table
+    c.in-Some.name c.demands.cursor c.next_name.new.cursor c.demand_item.new.cursor (rw c.in-Some.is at c.in_ok-name.ensures.gives) c.in_ok-demand_item.ensures.gives
 
 pub demands-preserved : goal.demands-preserved
 demands-preserved c =

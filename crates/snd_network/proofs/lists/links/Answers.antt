@@ -17,7 +17,8 @@ returns-in_default c =
     record { gives = closes list_turn (list_item link) (list_of link c.args.cursor.now) c.links.table c.links.cursor c.next_name.new.cursor c.links.invariant (rw c.in_default.is at c.in_ok-name.ensures.gives) }
 
 pub links-smaller : goal.links-smaller
-links-smaller c = turn_shorter list_turn (list_item link) (ItemForm LinkForm) (live_item LinkForm link live_link) c.links.table c.link_item.new.table c.in-Some.name c.links.cursor c.next_name.new.cursor c.link_item.new.cursor (rw c.in-Some.is at c.in_ok-name.ensures.gives) c.in_ok-link_item.ensures.gives
+links-smaller c = turn_shorter list_turn (list_item link) (ItemForm LinkForm) (live_item LinkForm link live_link) c.links.table c.link_item.new.table
+    c.in-Some.name c.links.cursor c.next_name.new.cursor c.link_item.new.cursor (rw c.in-Some.is at c.in_ok-name.ensures.gives) c.in_ok-link_item.ensures.gives
 
 pub links-preserved : goal.links-preserved
 links-preserved c =

@@ -18,7 +18,8 @@ returns-in_default c =
     record { gives = closes module_turn module_item (modules c.args.cursor.now) c.pairs.modules.items c.pairs.cursor c.next_capacity.new.cursor c.pairs.invariant (rw c.in_default.is at c.in_ok-capacity.ensures.gives) ∙ ap (λ ms. Ok (ms, c.next_capacity.new.cursor)) (sym c.from_vec.ensures) }
 
 pub pairs-smaller : goal.pairs-smaller
-pairs-smaller c = turn_shorter module_turn module_item ModuleForm live_module c.pairs.modules.items c.module_item.new.modules.items c.in-Some.capacity c.pairs.cursor c.next_capacity.new.cursor c.module_item.new.cursor (rw c.in-Some.is at c.in_ok-capacity.ensures.gives) c.in_ok-module_item.ensures.gives
+pairs-smaller c = turn_shorter module_turn module_item ModuleForm live_module c.pairs.modules.items c.module_item.new.modules.items
+    c.in-Some.capacity c.pairs.cursor c.next_capacity.new.cursor c.module_item.new.cursor (rw c.in-Some.is at c.in_ok-capacity.ensures.gives) c.in_ok-module_item.ensures.gives
 
 pub pairs-preserved : goal.pairs-preserved
 pairs-preserved c =

@@ -24,7 +24,8 @@ returns-in-Some-clause-no_success c = fault-no_success c.args.self.now c.args.no
 
 pub mark_after-requires-clause-gathered : goal.mark_after-requires-clause-gathered
 mark_after-requires-clause-gathered c =
-    following-gathered c.args.self.now c.args.node c.args.seen c.args.prices.now (publish_fault-none c.args.self.now c.args.node c.args.seen c.args.prices.now (sym (c.publish_refusal.ensures ∙ ap (λ (s : State). publish_fault s c.args.node c.args.seen c.args.prices.now) c.view.ensures) ∙ c.in_default.is))
+    following-gathered c.args.self.now c.args.node c.args.seen c.args.prices.now
+    (publish_fault-none c.args.self.now c.args.node c.args.seen c.args.prices.now (sym (c.publish_refusal.ensures ∙ ap (λ (s : State). publish_fault s c.args.node c.args.seen c.args.prices.now) c.view.ensures) ∙ c.in_default.is))
 
 pub mark_after-requires-clause-prices : goal.mark_after-requires-clause-prices
 mark_after-requires-clause-prices c =
@@ -63,7 +64,8 @@ returns-clause-count c =
 
 pub returns-in-Err-clause-refused : goal.returns-in-Err-clause-refused
 returns-in-Err-clause-refused c =
-    let h : HasFollowing c.args.self.now c.args.node c.args.seen c.args.prices.now = publish_fault-none c.args.self.now c.args.node c.args.seen c.args.prices.now (sym (c.publish_refusal.ensures ∙ ap (λ (s : State). publish_fault s c.args.node c.args.seen c.args.prices.now) c.view.ensures) ∙ c.in_default.is) in
+    let h : HasFollowing c.args.self.now c.args.node c.args.seen c.args.prices.now = publish_fault-none c.args.self.now c.args.node c.args.seen c.args.prices.now
+    (sym (c.publish_refusal.ensures ∙ ap (λ (s : State). publish_fault s c.args.node c.args.seen c.args.prices.now) c.view.ensures) ∙ c.in_default.is) in
     let old_fits : SFits w128 c.in-Err.old = search rules in
     let new_fits : SFits w128 c.in-Err.new = search rules in
     rw (to_z-of_z w128 c.in-Err.old old_fits, to_z-of_z w128 c.in-Err.new new_fits)

@@ -48,7 +48,10 @@ returns-then-is_less-clause-follows c =
     let new_fits : SFits w128 c.value-new.result = search rules in
     greater-follows c.args.self.now c.args.node c.args.prices.now c.value-old.result c.value-new.result c.crowd_tried-tried.result c.is_crowding-crowding.result
     (λ x round is_node is_round. c.crowd_tried-tried.ensures ∙ ap (λ (n : Node). n.crowd_tried) (read-node (the_view c.self.inside) c.args.self.now c.args.node c.index.result.now x c.self.view_is c.index.ensures is_node))
-    (value-at c.args.self.now c.args.node c.round_at.result.now c.prices.result.now c.value-old.result (c.round_at.ensures ∙ ap (λ (s : State). round_of s c.args.node) c.view-view.ensures) c.prices.ensures (subst (λ (s : State). ForRound s c.args.node (λ x round. IsRestrictedValue s.problem s.cuts (ranges_of s.problem x) (columns_for s x) c.prices.result.now c.value-old.result)) c.view-view.ensures c.value-old.ensures)) (subst (λ (s : State). ForRound s c.args.node (λ x round. IsRestrictedValue s.problem s.cuts (ranges_of s.problem x) (columns_for s x) c.args.prices.now c.value-new.result)) c.view-view.ensures c.value-new.ensures) c.is_crowding-crowding.ensures.value
+    (value-at c.args.self.now c.args.node c.round_at.result.now c.prices.result.now c.value-old.result
+    (c.round_at.ensures ∙ ap (λ (s : State). round_of s c.args.node) c.view-view.ensures) c.prices.ensures
+    (subst (λ (s : State). ForRound s c.args.node (λ x round. IsRestrictedValue s.problem s.cuts (ranges_of s.problem x) (columns_for s x) c.prices.result.now c.value-old.result)) c.view-view.ensures c.value-old.ensures))
+    (subst (λ (s : State). ForRound s c.args.node (λ x round. IsRestrictedValue s.problem s.cuts (ranges_of s.problem x) (columns_for s x) c.args.prices.now c.value-new.result)) c.view-view.ensures c.value-new.ensures) c.is_crowding-crowding.ensures.value
     c.either.result (rw (to_z-of_z w128 c.value-old.result old_fits, to_z-of_z w128 c.value-new.result new_fits) at (sym c.if-is_less.ensures)) c.either.ensures
 
 pub returns-then-tried-clause-no_gain : goal.returns-then-tried-clause-no_gain
@@ -58,14 +61,20 @@ returns-then-tried-clause-no_gain c =
     rw (to_z-of_z w128 c.value-old.result old_fits, to_z-of_z w128 c.value-new.result new_fits)
     (tried-no_gain c.args.self.now c.args.node c.args.prices.now c.value-old.result c.value-new.result c.crowd_tried-tried.result c.is_crowding-crowding.result
     (λ x round is_node is_round. c.crowd_tried-tried.ensures ∙ ap (λ (n : Node). n.crowd_tried) (read-node (the_view c.self.inside) c.args.self.now c.args.node c.index.result.now x c.self.view_is c.index.ensures is_node))
-    (value-at c.args.self.now c.args.node c.round_at.result.now c.prices.result.now c.value-old.result (c.round_at.ensures ∙ ap (λ (s : State). round_of s c.args.node) c.view-view.ensures) c.prices.ensures (subst (λ (s : State). ForRound s c.args.node (λ x round. IsRestrictedValue s.problem s.cuts (ranges_of s.problem x) (columns_for s x) c.prices.result.now c.value-old.result)) c.view-view.ensures c.value-old.ensures)) (subst (λ (s : State). ForRound s c.args.node (λ x round. IsRestrictedValue s.problem s.cuts (ranges_of s.problem x) (columns_for s x) c.args.prices.now c.value-new.result)) c.view-view.ensures c.value-new.ensures) c.is_crowding-crowding.ensures.value
+    (value-at c.args.self.now c.args.node c.round_at.result.now c.prices.result.now c.value-old.result
+    (c.round_at.ensures ∙ ap (λ (s : State). round_of s c.args.node) c.view-view.ensures) c.prices.ensures
+    (subst (λ (s : State). ForRound s c.args.node (λ x round. IsRestrictedValue s.problem s.cuts (ranges_of s.problem x) (columns_for s x) c.prices.result.now c.value-old.result)) c.view-view.ensures c.value-old.ensures))
+    (subst (λ (s : State). ForRound s c.args.node (λ x round. IsRestrictedValue s.problem s.cuts (ranges_of s.problem x) (columns_for s x) c.args.prices.now c.value-new.result)) c.view-view.ensures c.value-new.ensures) c.is_crowding-crowding.ensures.value
     (rw (to_z-of_z w128 c.value-old.result old_fits, to_z-of_z w128 c.value-new.result new_fits) at (sym c.if-is_less.ensures)) c.if-tried.true)
 
 pub returns-then-crowding-clause-follows : goal.returns-then-crowding-clause-follows
 returns-then-crowding-clause-follows c =
     crowd-follows c.args.self.now c.args.node c.args.prices.now c.value-old.result c.value-new.result c.crowd_tried-tried.result c.is_crowding-crowding.result
     (λ x round is_node is_round. c.crowd_tried-tried.ensures ∙ ap (λ (n : Node). n.crowd_tried) (read-node (the_view c.self.inside) c.args.self.now c.args.node c.index.result.now x c.self.view_is c.index.ensures is_node))
-    (value-at c.args.self.now c.args.node c.round_at.result.now c.prices.result.now c.value-old.result (c.round_at.ensures ∙ ap (λ (s : State). round_of s c.args.node) c.view-view.ensures) c.prices.ensures (subst (λ (s : State). ForRound s c.args.node (λ x round. IsRestrictedValue s.problem s.cuts (ranges_of s.problem x) (columns_for s x) c.prices.result.now c.value-old.result)) c.view-view.ensures c.value-old.ensures)) (subst (λ (s : State). ForRound s c.args.node (λ x round. IsRestrictedValue s.problem s.cuts (ranges_of s.problem x) (columns_for s x) c.args.prices.now c.value-new.result)) c.view-view.ensures c.value-new.ensures) c.is_crowding-crowding.ensures.value
+    (value-at c.args.self.now c.args.node c.round_at.result.now c.prices.result.now c.value-old.result
+    (c.round_at.ensures ∙ ap (λ (s : State). round_of s c.args.node) c.view-view.ensures) c.prices.ensures
+    (subst (λ (s : State). ForRound s c.args.node (λ x round. IsRestrictedValue s.problem s.cuts (ranges_of s.problem x) (columns_for s x) c.prices.result.now c.value-old.result)) c.view-view.ensures c.value-old.ensures))
+    (subst (λ (s : State). ForRound s c.args.node (λ x round. IsRestrictedValue s.problem s.cuts (ranges_of s.problem x) (columns_for s x) c.args.prices.now c.value-new.result)) c.view-view.ensures c.value-new.ensures) c.is_crowding-crowding.ensures.value
     c.if-tried.false c.if-crowding.true
 
 pub returns-clause-no_gain : goal.returns-clause-no_gain
@@ -75,5 +84,8 @@ returns-clause-no_gain c =
     rw (to_z-of_z w128 c.value-old.result old_fits, to_z-of_z w128 c.value-new.result new_fits)
     (none-no_gain c.args.self.now c.args.node c.args.prices.now c.value-old.result c.value-new.result c.crowd_tried-tried.result c.is_crowding-crowding.result
     (λ x round is_node is_round. c.crowd_tried-tried.ensures ∙ ap (λ (n : Node). n.crowd_tried) (read-node (the_view c.self.inside) c.args.self.now c.args.node c.index.result.now x c.self.view_is c.index.ensures is_node))
-    (value-at c.args.self.now c.args.node c.round_at.result.now c.prices.result.now c.value-old.result (c.round_at.ensures ∙ ap (λ (s : State). round_of s c.args.node) c.view-view.ensures) c.prices.ensures (subst (λ (s : State). ForRound s c.args.node (λ x round. IsRestrictedValue s.problem s.cuts (ranges_of s.problem x) (columns_for s x) c.prices.result.now c.value-old.result)) c.view-view.ensures c.value-old.ensures)) (subst (λ (s : State). ForRound s c.args.node (λ x round. IsRestrictedValue s.problem s.cuts (ranges_of s.problem x) (columns_for s x) c.args.prices.now c.value-new.result)) c.view-view.ensures c.value-new.ensures) c.is_crowding-crowding.ensures.value
+    (value-at c.args.self.now c.args.node c.round_at.result.now c.prices.result.now c.value-old.result
+    (c.round_at.ensures ∙ ap (λ (s : State). round_of s c.args.node) c.view-view.ensures) c.prices.ensures
+    (subst (λ (s : State). ForRound s c.args.node (λ x round. IsRestrictedValue s.problem s.cuts (ranges_of s.problem x) (columns_for s x) c.prices.result.now c.value-old.result)) c.view-view.ensures c.value-old.ensures))
+    (subst (λ (s : State). ForRound s c.args.node (λ x round. IsRestrictedValue s.problem s.cuts (ranges_of s.problem x) (columns_for s x) c.args.prices.now c.value-new.result)) c.view-view.ensures c.value-new.ensures) c.is_crowding-crowding.ensures.value
     (rw (to_z-of_z w128 c.value-old.result old_fits, to_z-of_z w128 c.value-new.result new_fits) at (sym c.if-is_less.ensures)) c.if-crowding.false)

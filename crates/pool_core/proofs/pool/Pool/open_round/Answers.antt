@@ -16,7 +16,8 @@ use Rattle.pool_core.proofs.pool.Pool.open_round.Goals as goal
 
 pub first_free-slot-requires : goal.first_free-slot-requires
 first_free-slot-requires c =
-    let may : MayOpen (the_view c.self.inside) c.args.node = open_fault-none (the_view c.self.inside) c.args.node (subst (λ (s : State). open_fault s c.args.node ≡ None) (sym c.self.view_is) (sym (c.open_refusal.ensures ∙ ap (λ (s : State). open_fault s c.args.node) c.view.ensures) ∙ c.in_default.is)) in
+    let may : MayOpen (the_view c.self.inside) c.args.node = open_fault-none (the_view c.self.inside) c.args.node
+    (subst (λ (s : State). open_fault s c.args.node ≡ None) (sym c.self.view_is) (sym (c.open_refusal.ensures ∙ ap (λ (s : State). open_fault s c.args.node) c.view.ensures) ∙ c.in_default.is)) in
     rw c.as_slice.ensures.value (some_free (the_view c.self.inside) c.self.inside.places.items c.args.node c.self.invariant.kept.pool may)
 
 pub index_mut-free-requires : goal.index_mut-free-requires
@@ -27,59 +28,73 @@ index_mut-free-requires c =
 
 pub unreachable-requires : goal.unreachable-requires
 unreachable-requires c =
-    let may : MayOpen (the_view c.self.inside) c.args.node = open_fault-none (the_view c.self.inside) c.args.node (subst (λ (s : State). open_fault s c.args.node ≡ None) (sym c.self.view_is) (sym (c.open_refusal.ensures ∙ ap (λ (s : State). open_fault s c.args.node) c.view.ensures) ∙ c.in_default.is)) in
+    let may : MayOpen (the_view c.self.inside) c.args.node = open_fault-none (the_view c.self.inside) c.args.node
+    (subst (λ (s : State). open_fault s c.args.node ≡ None) (sym c.self.view_is) (sym (c.open_refusal.ensures ∙ ap (λ (s : State). open_fault s c.args.node) c.view.ensures) ∙ c.in_default.is)) in
     let first : IsFirstFree c.self.inside.places.items c.first_free-slot.result = subst (λ (xs : List Slot). IsFirstFree xs c.first_free-slot.result) c.as_slice.ensures.value c.first_free-slot.ensures in
     read-free (the_view c.self.inside) c.self.inside.places.items c.args.node c.first_free-slot.result c.self.invariant.kept.pool may first c.index_mut-free.result.now c.index_mut-free.ensures.value
     (λ place is. c.in_default-replace.not-Free place (c.replace.ensures.value ∙ is))
 
 pub index_mut-opened-requires : goal.index_mut-opened-requires
 index_mut-opened-requires c =
-    let may : MayOpen (the_view c.self.inside) c.args.node = open_fault-none (the_view c.self.inside) c.args.node (subst (λ (s : State). open_fault s c.args.node ≡ None) (sym c.self.view_is) (sym (c.open_refusal.ensures ∙ ap (λ (s : State). open_fault s c.args.node) c.view.ensures) ∙ c.in_default.is)) in
+    let may : MayOpen (the_view c.self.inside) c.args.node = open_fault-none (the_view c.self.inside) c.args.node
+    (subst (λ (s : State). open_fault s c.args.node ≡ None) (sym c.self.view_is) (sym (c.open_refusal.ensures ∙ ap (λ (s : State). open_fault s c.args.node) c.view.ensures) ∙ c.in_default.is)) in
     let within : c.args.node.0 < length c.self.inside.nodes.items = slice_get_within c.self.inside.nodes.items c.args.node.0 may.node may.is_node in
     search rules
 
 pub begin-requires : goal.begin-requires
 begin-requires c =
-    let may : MayOpen (the_view c.self.inside) c.args.node = open_fault-none (the_view c.self.inside) c.args.node (subst (λ (s : State). open_fault s c.args.node ≡ None) (sym c.self.view_is) (sym (c.open_refusal.ensures ∙ ap (λ (s : State). open_fault s c.args.node) c.view.ensures) ∙ c.in_default.is)) in
+    let may : MayOpen (the_view c.self.inside) c.args.node = open_fault-none (the_view c.self.inside) c.args.node
+    (subst (λ (s : State). open_fault s c.args.node ≡ None) (sym c.self.view_is) (sym (c.open_refusal.ensures ∙ ap (λ (s : State). open_fault s c.args.node) c.view.ensures) ∙ c.in_default.is)) in
     let first : IsFirstFree c.self.inside.places.items c.first_free-slot.result = subst (λ (xs : List Slot). IsFirstFree xs c.first_free-slot.result) c.as_slice.ensures.value c.first_free-slot.ensures in
-    place-fits (the_view c.self.inside) c.self.inside.places.items c.args.node c.first_free-slot.result c.self.invariant.kept.pool may first c.index_mut-opened.result.now c.in-Free.place c.index_mut-free.result.now c.index_mut-opened.ensures.value c.index_mut-free.ensures.value (sym c.replace.ensures.value ∙ c.in-Free.is)
+    place-fits (the_view c.self.inside) c.self.inside.places.items c.args.node c.first_free-slot.result c.self.invariant.kept.pool may first
+    c.index_mut-opened.result.now c.in-Free.place c.index_mut-free.result.now c.index_mut-opened.ensures.value c.index_mut-free.ensures.value (sym c.replace.ensures.value ∙ c.in-Free.is)
 
 pub index-requires : goal.index-requires
 index-requires c =
-    let may : MayOpen (the_view c.self.inside) c.args.node = open_fault-none (the_view c.self.inside) c.args.node (subst (λ (s : State). open_fault s c.args.node ≡ None) (sym c.self.view_is) (sym (c.open_refusal.ensures ∙ ap (λ (s : State). open_fault s c.args.node) c.view.ensures) ∙ c.in_default.is)) in
+    let may : MayOpen (the_view c.self.inside) c.args.node = open_fault-none (the_view c.self.inside) c.args.node
+    (subst (λ (s : State). open_fault s c.args.node ≡ None) (sym c.self.view_is) (sym (c.open_refusal.ensures ∙ ap (λ (s : State). open_fault s c.args.node) c.view.ensures) ∙ c.in_default.is)) in
     let within : c.args.node.0 < length c.self.inside.grounds.items = leaf-within (the_view c.self.inside) c.args.node c.self.inside.grounds.items c.self.invariant.kept.has_grounds may.node may.is_node may.undone in
     search rules
 
 pub unwrap-ranges-requires : goal.unwrap-ranges-requires
 unwrap-ranges-requires c =
-    let may : MayOpen (the_view c.self.inside) c.args.node = open_fault-none (the_view c.self.inside) c.args.node (subst (λ (s : State). open_fault s c.args.node ≡ None) (sym c.self.view_is) (sym (c.open_refusal.ensures ∙ ap (λ (s : State). open_fault s c.args.node) c.view.ensures) ∙ c.in_default.is)) in
+    let may : MayOpen (the_view c.self.inside) c.args.node = open_fault-none (the_view c.self.inside) c.args.node
+    (subst (λ (s : State). open_fault s c.args.node ≡ None) (sym c.self.view_is) (sym (c.open_refusal.ensures ∙ ap (λ (s : State). open_fault s c.args.node) c.view.ensures) ∙ c.in_default.is)) in
     leaf-some (the_view c.self.inside) c.args.node c.self.inside.grounds.items c.self.invariant.kept.has_grounds may.node may.is_node may.undone _ c.index.result.now c.index.ensures c.ranges-2.result c.ranges-2.ensures
 
 pub complete-requires-clause-ranges : goal.complete-requires-clause-ranges
 complete-requires-clause-ranges c =
-    let may : MayOpen (the_view c.self.inside) c.args.node = open_fault-none (the_view c.self.inside) c.args.node (subst (λ (s : State). open_fault s c.args.node ≡ None) (sym c.self.view_is) (sym (c.open_refusal.ensures ∙ ap (λ (s : State). open_fault s c.args.node) c.view.ensures) ∙ c.in_default.is)) in
+    let may : MayOpen (the_view c.self.inside) c.args.node = open_fault-none (the_view c.self.inside) c.args.node
+    (subst (λ (s : State). open_fault s c.args.node ≡ None) (sym c.self.view_is) (sym (c.open_refusal.ensures ∙ ap (λ (s : State). open_fault s c.args.node) c.view.ensures) ∙ c.in_default.is)) in
     let first : IsFirstFree c.self.inside.places.items c.first_free-slot.result = subst (λ (xs : List Slot). IsFirstFree xs c.first_free-slot.result) c.as_slice.ensures.value c.first_free-slot.ensures in
     leaf-ranges (the_view c.self.inside) c.args.node c.self.inside.grounds.items c.self.invariant.kept.has_grounds may.node may.is_node may.undone _ c.index.result.now c.index.ensures c.ranges-2.result c.ranges-2.ensures c.unwrap-ranges.result
     c.deref.result.now c.deref-3.result.now c.begin.new.self c.unwrap-ranges.ensures c.deref.ensures c.deref-3.ensures
-    (begun-limits (the_view c.self.inside) c.self.inside.places.items c.args.node c.first_free-slot.result c.self.invariant.kept.pool may first c.index_mut-opened.result.now c.in-Free.place c.index_mut-free.result.now c.index_mut-opened.ensures.value c.index_mut-free.ensures.value (sym c.replace.ensures.value ∙ c.in-Free.is) c.begin.new.self c.begin.ensures)
+    (begun-limits (the_view c.self.inside) c.self.inside.places.items c.args.node c.first_free-slot.result c.self.invariant.kept.pool may first
+    c.index_mut-opened.result.now c.in-Free.place c.index_mut-free.result.now c.index_mut-opened.ensures.value c.index_mut-free.ensures.value
+    (sym c.replace.ensures.value ∙ c.in-Free.is) c.begin.new.self c.begin.ensures)
 
 pub complete-requires-clause-ready : goal.complete-requires-clause-ready
 complete-requires-clause-ready c =
-    let may : MayOpen (the_view c.self.inside) c.args.node = open_fault-none (the_view c.self.inside) c.args.node (subst (λ (s : State). open_fault s c.args.node ≡ None) (sym c.self.view_is) (sym (c.open_refusal.ensures ∙ ap (λ (s : State). open_fault s c.args.node) c.view.ensures) ∙ c.in_default.is)) in
+    let may : MayOpen (the_view c.self.inside) c.args.node = open_fault-none (the_view c.self.inside) c.args.node
+    (subst (λ (s : State). open_fault s c.args.node ≡ None) (sym c.self.view_is) (sym (c.open_refusal.ensures ∙ ap (λ (s : State). open_fault s c.args.node) c.view.ensures) ∙ c.in_default.is)) in
     let first : IsFirstFree c.self.inside.places.items c.first_free-slot.result = subst (λ (xs : List Slot). IsFirstFree xs c.first_free-slot.result) c.as_slice.ensures.value c.first_free-slot.ensures in
     as_read (λ p cuts. MayComplete p cuts c.begin.new.self) _ _ _ _ c.deref.ensures c.deref-2.ensures
-    (begun-ready (the_view c.self.inside) c.self.inside.places.items c.args.node c.first_free-slot.result c.self.invariant.kept.pool may first c.index_mut-opened.result.now c.in-Free.place c.index_mut-free.result.now c.index_mut-opened.ensures.value c.index_mut-free.ensures.value (sym c.replace.ensures.value ∙ c.in-Free.is) c.begin.new.self c.begin.ensures)
+    (begun-ready (the_view c.self.inside) c.self.inside.places.items c.args.node c.first_free-slot.result c.self.invariant.kept.pool may first
+    c.index_mut-opened.result.now c.in-Free.place c.index_mut-free.result.now c.index_mut-opened.ensures.value c.index_mut-free.ensures.value
+    (sym c.replace.ensures.value ∙ c.in-Free.is) c.begin.new.self c.begin.ensures)
 
 pub overflow_add-self : goal.overflow_add-self
 overflow_add-self c =
-    let may : MayOpen (the_view c.self.inside) c.args.node = open_fault-none (the_view c.self.inside) c.args.node (subst (λ (s : State). open_fault s c.args.node ≡ None) (sym c.self.view_is) (sym (c.open_refusal.ensures ∙ ap (λ (s : State). open_fault s c.args.node) c.view.ensures) ∙ c.in_default.is)) in
+    let may : MayOpen (the_view c.self.inside) c.args.node = open_fault-none (the_view c.self.inside) c.args.node
+    (subst (λ (s : State). open_fault s c.args.node ≡ None) (sym c.self.view_is) (sym (c.open_refusal.ensures ∙ ap (λ (s : State). open_fault s c.args.node) c.view.ensures) ∙ c.in_default.is)) in
     let first : IsFirstFree c.self.inside.places.items c.first_free-slot.result = subst (λ (xs : List Slot). IsFirstFree xs c.first_free-slot.result) c.as_slice.ensures.value c.first_free-slot.ensures in
     let small : c.self.inside.next_version ≤ 139282 = version-small (the_view c.self.inside) c.self.inside.places.items c.args.node c.first_free-slot.result c.self.invariant.kept.pool may first in
     search rules
 
 pub overflow_cast-result : goal.overflow_cast-result
 overflow_cast-result c =
-    let may : MayOpen (the_view c.self.inside) c.args.node = open_fault-none (the_view c.self.inside) c.args.node (subst (λ (s : State). open_fault s c.args.node ≡ None) (sym c.self.view_is) (sym (c.open_refusal.ensures ∙ ap (λ (s : State). open_fault s c.args.node) c.view.ensures) ∙ c.in_default.is)) in
+    let may : MayOpen (the_view c.self.inside) c.args.node = open_fault-none (the_view c.self.inside) c.args.node
+    (subst (λ (s : State). open_fault s c.args.node ≡ None) (sym c.self.view_is) (sym (c.open_refusal.ensures ∙ ap (λ (s : State). open_fault s c.args.node) c.view.ensures) ∙ c.in_default.is)) in
     let first : IsFirstFree c.self.inside.places.items c.first_free-slot.result = subst (λ (xs : List Slot). IsFirstFree xs c.first_free-slot.result) c.as_slice.ensures.value c.first_free-slot.ensures in
     let small : c.first_free-slot.result < 64 = slot-within (the_view c.self.inside) c.self.inside.places.items c.args.node c.first_free-slot.result c.self.invariant.kept.pool may first in
     search rules
@@ -87,9 +102,12 @@ overflow_cast-result c =
 pub invariant_of-self : goal.invariant_of-self
 invariant_of-self c = record {
   kept = (
-      let may : MayOpen (the_view c.self.inside) c.args.node = open_fault-none (the_view c.self.inside) c.args.node (subst (λ (s : State). open_fault s c.args.node ≡ None) (sym c.self.view_is) (sym (c.open_refusal.ensures ∙ ap (λ (s : State). open_fault s c.args.node) c.view.ensures) ∙ c.in_default.is)) in
+      let may : MayOpen (the_view c.self.inside) c.args.node = open_fault-none (the_view c.self.inside) c.args.node
+      (subst (λ (s : State). open_fault s c.args.node ≡ None) (sym c.self.view_is) (sym (c.open_refusal.ensures ∙ ap (λ (s : State). open_fault s c.args.node) c.view.ensures) ∙ c.in_default.is)) in
       let first : IsFirstFree c.self.inside.places.items c.first_free-slot.result = subst (λ (xs : List Slot). IsFirstFree xs c.first_free-slot.result) c.as_slice.ensures.value c.first_free-slot.ensures in
-      let takes = begun-takes (the_view c.self.inside) c.self.inside.places.items c.args.node c.first_free-slot.result c.self.invariant.kept.pool may first c.index_mut-opened.result.now c.in-Free.place c.index_mut-free.result.now c.index_mut-opened.ensures.value c.index_mut-free.ensures.value (sym c.replace.ensures.value ∙ c.in-Free.is) c.begin.new.self c.begin.ensures c.complete.new.self
+      let takes = begun-takes (the_view c.self.inside) c.self.inside.places.items c.args.node c.first_free-slot.result c.self.invariant.kept.pool may first
+      c.index_mut-opened.result.now c.in-Free.place c.index_mut-free.result.now c.index_mut-opened.ensures.value c.index_mut-free.ensures.value
+      (sym c.replace.ensures.value ∙ c.in-Free.is) c.begin.new.self c.begin.ensures c.complete.new.self
       (as_kept (λ p cuts. IfSome c.begin.new.self.round (λ r. TakesRound p cuts c.begin.new.self r c.complete.new.self)) _ _ _ _ c.deref.ensures c.deref-2.ensures c.complete.ensures) in
       opened-kept (the_view c.self.inside) c.self.inside.places.items c.args.node c.first_free-slot.result c.self.invariant.kept.pool may first c.complete.new.self takes (c.self.inside.next_version + 1) (add-one c.self.inside.next_version) _ c.self.inside.grounds.items
       c.index_mut-opened.result.now c.replace.new.dest c.index_mut-opened.ensures.value c.replace.ensures.after c.self.invariant.kept
@@ -99,11 +117,15 @@ invariant_of-self c = record {
 
 pub returns : goal.returns
 returns c =
-    let may : MayOpen (the_view c.self.inside) c.args.node = open_fault-none (the_view c.self.inside) c.args.node (subst (λ (s : State). open_fault s c.args.node ≡ None) (sym c.self.view_is) (sym (c.open_refusal.ensures ∙ ap (λ (s : State). open_fault s c.args.node) c.view.ensures) ∙ c.in_default.is)) in
+    let may : MayOpen (the_view c.self.inside) c.args.node = open_fault-none (the_view c.self.inside) c.args.node
+    (subst (λ (s : State). open_fault s c.args.node ≡ None) (sym c.self.view_is) (sym (c.open_refusal.ensures ∙ ap (λ (s : State). open_fault s c.args.node) c.view.ensures) ∙ c.in_default.is)) in
     let first : IsFirstFree c.self.inside.places.items c.first_free-slot.result = subst (λ (xs : List Slot). IsFirstFree xs c.first_free-slot.result) c.as_slice.ensures.value c.first_free-slot.ensures in
-    let takes = begun-takes (the_view c.self.inside) c.self.inside.places.items c.args.node c.first_free-slot.result c.self.invariant.kept.pool may first c.index_mut-opened.result.now c.in-Free.place c.index_mut-free.result.now c.index_mut-opened.ensures.value c.index_mut-free.ensures.value (sym c.replace.ensures.value ∙ c.in-Free.is) c.begin.new.self c.begin.ensures c.complete.new.self
+    let takes = begun-takes (the_view c.self.inside) c.self.inside.places.items c.args.node c.first_free-slot.result c.self.invariant.kept.pool may first
+    c.index_mut-opened.result.now c.in-Free.place c.index_mut-free.result.now c.index_mut-opened.ensures.value c.index_mut-free.ensures.value
+    (sym c.replace.ensures.value ∙ c.in-Free.is) c.begin.new.self c.begin.ensures c.complete.new.self
     (as_kept (λ p cuts. IfSome c.begin.new.self.round (λ r. TakesRound p cuts c.begin.new.self r c.complete.new.self)) _ _ _ _ c.deref.ensures c.deref-2.ensures c.complete.ensures) in
     record {
-      event = subst (λ (s : State). Opens s c.args.node (record { slot = c.first_free-slot.result; version = c.self.inside.next_version }) (record (the_view c.self.inside) { nodes = (with_node (the_view c.self.inside) c.args.node c.complete.new.self).nodes; next_version = c.self.inside.next_version + 1 })) c.self.view_is
+      event = subst (λ (s : State). Opens s c.args.node (record { slot = c.first_free-slot.result; version = c.self.inside.next_version })
+          (record (the_view c.self.inside) { nodes = (with_node (the_view c.self.inside) c.args.node c.complete.new.self).nodes; next_version = c.self.inside.next_version + 1 })) c.self.view_is
           (opens (the_view c.self.inside) c.self.inside.places.items c.args.node c.first_free-slot.result c.self.invariant.kept.pool may first c.complete.new.self takes (c.self.inside.next_version + 1) (add-one c.self.inside.next_version));
     }

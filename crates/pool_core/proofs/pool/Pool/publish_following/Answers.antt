@@ -78,7 +78,8 @@ invariant_of-self c =
     let takes = renewed-takes s c.self.inside.places.items c.args.node c.args.seen c.args.prices.now c.args.next.crowd_tried c.self.invariant.kept.pool to c.index_mut-renewed.result.now c.index_mut-renewed.ensures.value c.renew.new.self c.renew.ensures c.complete.new.self
     (as_kept (λ p cuts. IfSome c.renew.new.self.round (λ r. TakesRound p cuts c.renew.new.self r c.complete.new.self)) _ _ _ _ c.deref.ensures c.deref-2.ensures c.complete.ensures) in
     record {
-      kept = renewed-kept s c.self.inside.places.items c.args.node c.args.seen c.args.prices.now c.args.next.crowd_tried c.self.invariant.kept.pool to c.complete.new.self takes (c.self.inside.next_version + 1) (add-one c.self.inside.next_version) (arc_value c.self.inside.table) c.self.inside.grounds.items
+      kept = renewed-kept s c.self.inside.places.items c.args.node c.args.seen c.args.prices.now c.args.next.crowd_tried c.self.invariant.kept.pool to c.complete.new.self takes
+          (c.self.inside.next_version + 1) (add-one c.self.inside.next_version) (arc_value c.self.inside.table) c.self.inside.grounds.items
           c.index_mut-renewed.result.now c.index_mut-renewed.ensures.value c.self.invariant.kept;
       room_is = c.self.invariant.room_is;
     }
@@ -93,4 +94,5 @@ returns c =
     let event : Publishes s c.args.node c.args.seen c.args.prices.now c.args.next.slot c.args.next.version (record s { nodes = (with_node s c.args.node c.complete.new.self).nodes; next_version = c.self.inside.next_version + 1 }) =
     subst (λ (version : ℕ). Publishes s c.args.node c.args.seen c.args.prices.now c.args.next.slot version (record s { nodes = (with_node s c.args.node c.complete.new.self).nodes; next_version = c.self.inside.next_version + 1 })) (sym next.version_is)
     (publishes s c.self.inside.places.items c.args.node c.args.seen c.args.prices.now c.args.next.crowd_tried c.self.invariant.kept.pool to c.complete.new.self takes (c.self.inside.next_version + 1) (add-one c.self.inside.next_version) c.args.next.slot next.slot_is) in
-    subst (λ (x : State). Publishes x c.args.node c.args.seen c.args.prices.now c.args.next.slot c.args.next.version (record (the_view c.self.inside) { nodes = (with_node (the_view c.self.inside) c.args.node c.complete.new.self).nodes; next_version = c.self.inside.next_version + 1 })) c.self.view_is event
+    subst (λ (x : State). Publishes x c.args.node c.args.seen c.args.prices.now c.args.next.slot c.args.next.version
+    (record (the_view c.self.inside) { nodes = (with_node (the_view c.self.inside) c.args.node c.complete.new.self).nodes; next_version = c.self.inside.next_version + 1 })) c.self.view_is event

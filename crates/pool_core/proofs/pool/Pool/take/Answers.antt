@@ -93,7 +93,9 @@ overflow_add-self c =
     let may : MayOffer s c.args.offer = offer_fault-none s c.args.offer sound (subst (λ (s : State). offer_fault s c.args.offer ≡ None) (sym c.self.view_is) c.requires) in
     let takes = as_kept (λ p cuts. IfSome c.index_mut-priced.result.now.round (λ round. TakesRound p cuts c.index_mut-priced.result.now (with_found round c.args.offer.demand.0 (record { path = c.in-Path.path; price = c.in-Path.length })) c.put-left.new.self)) _ _ _ _
     c.deref.ensures c.deref-in-Path.ensures c.put-left.ensures.takes in
-    let small : c.self.inside.accepted + 1 < 2 ^ 64 = accepted-small s c.args.offer may c.index_mut-priced.result.now c.index_mut-priced.ensures.value (record { path = c.in-Path.path; price = c.in-Path.length }) _ c.in-Path.is c.put-left.result (c.self.inside.accepted + 1) c.put-left.new.self c.put-left.ensures.left takes (add-one c.self.inside.accepted) c.self.inside.places.items c.self.invariant.kept.pool in
+    let small : c.self.inside.accepted + 1 < 2 ^ 64 = accepted-small s c.args.offer may c.index_mut-priced.result.now c.index_mut-priced.ensures.value
+    (record { path = c.in-Path.path; price = c.in-Path.length }) _ c.in-Path.is c.put-left.result
+    (c.self.inside.accepted + 1) c.put-left.new.self c.put-left.ensures.left takes (add-one c.self.inside.accepted) c.self.inside.places.items c.self.invariant.kept.pool in
     search rules
 
 pub invariant_of-self-in-Path : goal.invariant_of-self-in-Path
@@ -104,7 +106,9 @@ invariant_of-self-in-Path c = record {
       let may : MayOffer s c.args.offer = offer_fault-none s c.args.offer sound (subst (λ (s : State). offer_fault s c.args.offer ≡ None) (sym c.self.view_is) c.requires) in
       let takes = as_kept (λ p cuts. IfSome c.index_mut-priced.result.now.round (λ round. TakesRound p cuts c.index_mut-priced.result.now (with_found round c.args.offer.demand.0 (record { path = c.in-Path.path; price = c.in-Path.length })) c.put-left.new.self)) _ _ _ _
       c.deref.ensures c.deref-in-Path.ensures c.put-left.ensures.takes in
-      accepted-kept s c.args.offer may c.index_mut-priced.result.now c.index_mut-priced.ensures.value (record { path = c.in-Path.path; price = c.in-Path.length }) _ c.in-Path.is c.put-left.result (c.self.inside.accepted + 1) c.put-left.new.self c.put-left.ensures.left takes (add-one c.self.inside.accepted) _ c.self.inside.grounds.items c.self.inside.places.items c.self.invariant.kept
+      accepted-kept s c.args.offer may c.index_mut-priced.result.now c.index_mut-priced.ensures.value
+      (record { path = c.in-Path.path; price = c.in-Path.length }) _ c.in-Path.is c.put-left.result
+      (c.self.inside.accepted + 1) c.put-left.new.self c.put-left.ensures.left takes (add-one c.self.inside.accepted) _ c.self.inside.grounds.items c.self.inside.places.items c.self.invariant.kept
       );
   room_is = c.self.invariant.room_is;
 }
@@ -118,5 +122,7 @@ returns-in-Path c =
     c.deref.ensures c.deref-in-Path.ensures c.put-left.ensures.takes in
     record {
       event = subst (λ (s : State). Accepts s c.args.offer c.put-left.result (record (the_view c.self.inside) { nodes = (with_node (the_view c.self.inside) c.args.offer.node c.put-left.new.self).nodes; accepted = c.self.inside.accepted + 1 })) c.self.view_is
-          (accepts s c.args.offer may c.index_mut-priced.result.now c.index_mut-priced.ensures.value (record { path = c.in-Path.path; price = c.in-Path.length }) _ c.in-Path.is c.put-left.result (c.self.inside.accepted + 1) c.put-left.new.self c.put-left.ensures.left takes (add-one c.self.inside.accepted));
+          (accepts s c.args.offer may c.index_mut-priced.result.now c.index_mut-priced.ensures.value
+          (record { path = c.in-Path.path; price = c.in-Path.length }) _ c.in-Path.is c.put-left.result
+          (c.self.inside.accepted + 1) c.put-left.new.self c.put-left.ensures.left takes (add-one c.self.inside.accepted));
     }

@@ -27,7 +27,8 @@ bounds-self-inside-node c =
 
 pub unreachable-requires : goal.unreachable-requires
 unreachable-requires c =
-    let g = ready-kept (shown c.self.inside) _ c.self.inside.grounds.now c.self.inside.places.now c.self.invariant c.args.node (subst (λ (s : State). IsReadyAt s c.args.node) (sym c.self.view_is) (two-ready c.args.self.now c.args.node c.args.demand c.args.first.now c.args.second.now c.requires)) c.index-self-node.result c.index-self-node.is in
+    let g = ready-kept (shown c.self.inside) _ c.self.inside.grounds.now c.self.inside.places.now c.self.invariant c.args.node
+    (subst (λ (s : State). IsReadyAt s c.args.node) (sym c.self.view_is) (two-ready c.args.self.now c.args.node c.args.demand c.args.first.now c.args.second.now c.requires)) c.index-self-node.result c.index-self-node.is in
     some-none c.rows.result (kept-some _ _ c.index-self-node.result g c.rows.result _ (λ (k : Kept). k.rows) (c.rows.ensures ∙ ap rows_in (sym c.index-self-node.is))) c.in_default.is
 
 pub divergence-requires : goal.divergence-requires
@@ -47,7 +48,8 @@ leaving-requires c =
 pub returns : goal.returns
 returns c =
     let at : IsReadyAt (shown c.self.inside) c.args.node = (subst (λ (s : State). IsReadyAt s c.args.node) (sym c.self.view_is) (two-ready c.args.self.now c.args.node c.args.demand c.args.first.now c.args.second.now c.requires)) in
-    let g = ready-kept (shown c.self.inside) _ c.self.inside.grounds.now c.self.inside.places.now c.self.invariant c.args.node (subst (λ (s : State). IsReadyAt s c.args.node) (sym c.self.view_is) (two-ready c.args.self.now c.args.node c.args.demand c.args.first.now c.args.second.now c.requires)) c.index-self-node.result c.index-self-node.is in
+    let g = ready-kept (shown c.self.inside) _ c.self.inside.grounds.now c.self.inside.places.now c.self.invariant c.args.node
+    (subst (λ (s : State). IsReadyAt s c.args.node) (sym c.self.view_is) (two-ready c.args.self.now c.args.node c.args.demand c.args.first.now c.args.second.now c.requires)) c.index-self-node.result c.index-self-node.is in
     let p = c.args.self.now.problem in
     let problem : c.self.inside.problem.now ≡ p = ap (λ (s : State). s.problem) c.self.view_is in
     let one = c.in-Some-divergence.one in

@@ -21,7 +21,8 @@ bounds-self-inside-node c =
 
 pub unreachable-requires : goal.unreachable-requires
 unreachable-requires c =
-    let g = ready-kept (shown c.self.inside) _ c.self.inside.grounds.now c.self.inside.places.now c.self.invariant c.args.node (subst (λ (s : State). IsReadyAt s c.args.node) (sym c.self.view_is) (two-ready c.args.self.now c.args.node c.args.demand c.args.first.now c.args.second.now c.requires)) c.index-self-node.result c.index-self-node.is in
+    let g = ready-kept (shown c.self.inside) _ c.self.inside.grounds.now c.self.inside.places.now c.self.invariant c.args.node
+    (subst (λ (s : State). IsReadyAt s c.args.node) (sym c.self.view_is) (two-ready c.args.self.now c.args.node c.args.demand c.args.first.now c.args.second.now c.requires)) c.index-self-node.result c.index-self-node.is in
     some-none c.ranges-2.result (kept-some _ _ c.index-self-node.result g c.ranges-2.result _ (λ (k : Kept). k.ranges) (c.ranges-2.ensures ∙ ap ranges_in (sym c.index-self-node.is))) c.in_default.is
 
 pub parts_steps-requires-clause-ranges : goal.parts_steps-requires-clause-ranges
