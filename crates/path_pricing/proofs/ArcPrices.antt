@@ -19,6 +19,7 @@ pub record ArePriced (arcs : ℕ) (weights : List (Option ℕ)) : Type 0 where
   pub count : length weights ≡ arcs
   pub small : All (λ w. unwrap_or w 0 ≤ MAX_WEIGHT) weights
 
+-- before the first arc, an empty list has the weights
 pub none_priced : (weights : List (Option ℕ)) → weights ≡ [] → ArePriced 0 weights
 none_priced weights is = subst (ArePriced 0) (sym is) (record { count = refl; small = All-nil IsSmall })
 

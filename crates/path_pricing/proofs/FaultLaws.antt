@@ -41,7 +41,8 @@ low-first_dearer p prices k r potentials none a is =
     low-dearer_fault p prices k r potentials a
     (first_fault-none (λ n. dearer_fault p prices k r potentials (arc_id n)) (2 * length p.links) none a.0 (arc-within p a (and-first _ _ is))) is
 
-length-shown : (p : Parts) (prices : List ℕ) (k : ℕ) (r : Forbidden) (path : List ArcId) (price : ℕ) (potentials : List ℕ) → walk_fault p (demand_at p k) (r k) path ≡ None → length potentials ≡ p.nodes → first_dearer p prices k r potentials ≡ None → length_fault p prices (demand_at p k) path price potentials ≡ None → IsShownPath p prices k r path price potentials
+length-shown : (p : Parts) (prices : List ℕ) (k : ℕ) (r : Forbidden) (path : List ArcId) (price : ℕ) (potentials : List ℕ) → walk_fault p (demand_at p k) (r k) path ≡ None
+    → length potentials ≡ p.nodes → first_dearer p prices k r potentials ≡ None → length_fault p prices (demand_at p k) path price potentials ≡ None → IsShownPath p prices k r path price potentials
 unfolding length_fault
 length-shown p prices k r path price potentials walk count rise h =
     let source = when (not (potential_at potentials (demand_at p k).source == 0)) WrongLength in
@@ -130,15 +131,19 @@ set_fault-shown p k r reached h =
     none-or_else _ _ (shape_fault-shown p k r reached h)
     (none-first_fault (λ n. leaving_fault p k r reached (arc_id n)) (2 * length p.links) (λ n below. leaving_fault-stays p k r reached (arc_id n) (h.closed (arc_id n))))
 
+-- what is found without a fault has with it what shows it
 pub IsShown-priced_fault : (p : Parts) (prices : List ℕ) (k : ℕ) (r : Forbidden) (found : Priced) → priced_fault p prices k r found ≡ None → IsShown p prices k r found
 IsShown-priced_fault p prices k r (Path path price potentials) h = path-shown p prices k r path price potentials h
 IsShown-priced_fault p prices k r (NoPath reached) h = set-shown p k r reached h
 
+-- what is found with what shows it has no fault
 pub priced_fault-IsShown : (p : Parts) (prices : List ℕ) (k : ℕ) (r : Forbidden) (found : Priced) → IsShown p prices k r found → priced_fault p prices k r found ≡ None
 priced_fault-IsShown p prices k r (Path path price potentials) h = path_fault-shown p prices k r path price potentials h
 priced_fault-IsShown p prices k r (NoPath reached) h = set_fault-shown p k r reached h
 
+-- what is found without a fault is so: a least path, or that there is no permitted path
 pub IsPriced-priced_fault : (p : Parts) (prices : List ℕ) (k : ℕ) (r : Forbidden) (found : Priced) → priced_fault p prices k r found ≡ None → IsPriced p prices k r found
 IsPriced-priced_fault p prices k r found h = IsPriced-IsShown p prices k r found (IsShown-priced_fault p prices k r found h)
 
+-- what has no fault is shown and is so, and what is shown has no fault
 pub ruleset fault_laws = (IsShown-priced_fault, priced_fault-IsShown, IsPriced-priced_fault)

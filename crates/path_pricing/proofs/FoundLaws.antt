@@ -37,7 +37,8 @@ IsPermittedPath-usable p prices k r arcs h = record {
 }
 
 -- its weight is its price
-pub price_of-usable : (p : Parts) (prices : List ℕ) (k : ℕ) (r : Forbidden) (arcs : List ArcId) → least.IsUsablePath p (weights_below p prices k r (2 * length p.links)) (demand_at p k).source (demand_at p k).target arcs → price_of p prices arcs ≡ least.weight_of (weights_below p prices k r (2 * length p.links)) arcs
+pub price_of-usable : (p : Parts) (prices : List ℕ) (k : ℕ) (r : Forbidden) (arcs : List ArcId)
+    → least.IsUsablePath p (weights_below p prices k r (2 * length p.links)) (demand_at p k).source (demand_at p k).target arcs → price_of p prices arcs ≡ least.weight_of (weights_below p prices k r (2 * length p.links)) arcs
 price_of-usable p prices k r arcs h =
     let ws = weights_below p prices k r (2 * length p.links) in
     sum_by-same (price_at p prices) (least.weight_at ws) arcs (λ i within. sym (weight_at-open p prices k r (arc_at arcs i) (open-IsUsable p prices k r (arc_at arcs i) (h.usable i within))))
@@ -53,6 +54,7 @@ ArePotentials-found p prices k r price potentials h = record {
       omega (arith, step, weight);
 }
 
+-- what a search finds at the prices of permitted arcs has with it what shows it
 pub IsShown-found : (p : Parts) (prices : List ℕ) (k : ℕ) (r : Forbidden) (found : Search) → least.IsFound p (weights_below p prices k r (2 * length p.links)) (demand_at p k).source (demand_at p k).target found → IsShown p prices k r (priced_of found)
 IsShown-found p prices k r (searched.Path path price potentials) h = record {
   permitted = IsPermittedPath-usable p prices k r path h.0.path;
@@ -70,18 +72,25 @@ IsShown-found p prices k r (searched.NoPath reached) h = record {
 pub found-weights : (p : Parts) (prices : List ℕ) (k : ℕ) (r : Forbidden) (ws : List (Option ℕ)) → ArePrices p prices → ws ≡ weights_below p prices k r (2 * length p.links) → least.AreWeights p ws
 found-weights p prices k r ws fits is = subst (least.AreWeights p) (sym is) (AreWeights-weights_below p prices k r fits)
 
-pub found-shown : (p : Parts) (prices : List ℕ) (k : ℕ) (r : Forbidden) (ws : List (Option ℕ)) (demand : Demand) (found : Search) (result : Priced) → ws ≡ weights_below p prices k r (2 * length p.links) → demand ≡ demand_at p k → least.IsFound p ws demand.source demand.target found → result ≡ priced_of found → IsShown p prices k r result
+-- what a search found, with weights and demand known by equations, has with it what shows it
+pub found-shown : (p : Parts) (prices : List ℕ) (k : ℕ) (r : Forbidden) (ws : List (Option ℕ)) (demand : Demand) (found : Search) (result : Priced)
+    → ws ≡ weights_below p prices k r (2 * length p.links) → demand ≡ demand_at p k → least.IsFound p ws demand.source demand.target found → result ≡ priced_of found → IsShown p prices k r result
 found-shown p prices k r ws demand found result ws_is demand_is h result_is =
     let one : least.IsFound p ws (demand_at p k).source (demand_at p k).target found = subst (λ (d : Demand). least.IsFound p ws d.source d.target found) demand_is h in
     let two : least.IsFound p (weights_below p prices k r (2 * length p.links)) (demand_at p k).source (demand_at p k).target found = subst (λ (w : List (Option ℕ)). least.IsFound p w (demand_at p k).source (demand_at p k).target found) ws_is one in
     subst (IsShown p prices k r) (sym result_is) (IsShown-found p prices k r found two)
 
-pub found-priced : (p : Parts) (prices : List ℕ) (k : ℕ) (r : Forbidden) (ws : List (Option ℕ)) (demand : Demand) (found : Search) (result : Priced) → ws ≡ weights_below p prices k r (2 * length p.links) → demand ≡ demand_at p k → least.IsFound p ws demand.source demand.target found → result ≡ priced_of found → IsPriced p prices k r result
+-- what a search found is so: a least path of the demand, or that there is no permitted path
+pub found-priced : (p : Parts) (prices : List ℕ) (k : ℕ) (r : Forbidden) (ws : List (Option ℕ)) (demand : Demand) (found : Search) (result : Priced)
+    → ws ≡ weights_below p prices k r (2 * length p.links) → demand ≡ demand_at p k → least.IsFound p ws demand.source demand.target found → result ≡ priced_of found → IsPriced p prices k r result
 found-priced p prices k r ws demand found result ws_is demand_is h result_is =
     IsPriced-IsShown p prices k r result (found-shown p prices k r ws demand found result ws_is demand_is h result_is)
 
-pub found-accepted : (p : Parts) (prices : List ℕ) (k : ℕ) (r : Forbidden) (ws : List (Option ℕ)) (demand : Demand) (found : Search) (result : Priced) → ws ≡ weights_below p prices k r (2 * length p.links) → demand ≡ demand_at p k → least.IsFound p ws demand.source demand.target found → result ≡ priced_of found → priced_fault p prices k r result ≡ None
+-- what a search found has no fault
+pub found-accepted : (p : Parts) (prices : List ℕ) (k : ℕ) (r : Forbidden) (ws : List (Option ℕ)) (demand : Demand) (found : Search) (result : Priced)
+    → ws ≡ weights_below p prices k r (2 * length p.links) → demand ≡ demand_at p k → least.IsFound p ws demand.source demand.target found → result ≡ priced_of found → priced_fault p prices k r result ≡ None
 found-accepted p prices k r ws demand found result ws_is demand_is h result_is =
     priced_fault-IsShown p prices k r result (found-shown p prices k r ws demand found result ws_is demand_is h result_is)
 
+-- what is found at weights that are prices is shown, is so and has no fault, of values known by equations
 pub ruleset found_laws = (found-weights, found-shown, found-priced, found-accepted)

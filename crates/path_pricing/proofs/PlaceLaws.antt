@@ -71,6 +71,7 @@ place-short p d f arcs i inst start within none =
     (none-first_fault (fault_at check arcs) i (λ j below.
     fault_at-get_or check arcs j no_arc (omega arith) ∙ step_fault-IsInPlace p d f arcs j (arc_at arcs j) (IsInPlace-before p d f arcs i within none j below)))
 
+-- arcs without a fault are a permitted path of the demand
 pub IsPermittedPath-walk_fault : (p : Parts) (k : ℕ) (r : Forbidden) (arcs : List ArcId) → walk_fault p (demand_at p k) (r k) arcs ≡ None → IsPermittedPath p r k arcs
 unfolding walk_fault path_fault
 IsPermittedPath-walk_fault p k r arcs h =
@@ -85,6 +86,7 @@ IsPermittedPath-walk_fault p k r arcs h =
       permitted = All-from_get_or (λ a. r k a ≡ false) arcs no_arc (λ i within. (at i within).allowed);
     }
 
+-- a permitted path of the demand has no fault
 pub walk_fault-IsPermittedPath : (p : Parts) (k : ℕ) (r : Forbidden) (arcs : List ArcId) → IsPermittedPath p r k arcs → walk_fault p (demand_at p k) (r k) arcs ≡ None
 unfolding walk_fault path_fault
 walk_fault-IsPermittedPath p k r arcs h =

@@ -20,4 +20,5 @@ price-small p prices a h within = h (place_of p a) 0 within
 pub price-next : (p : Parts) (prices : List ℕ) (arcs : List ArcId) (i : ℕ) (d : ArcId) → i < length arcs → price_of p prices (take (i + 1) arcs) ≡ price_of p prices (take i arcs) + price_at p prices (get_or arcs i d)
 price-next p prices arcs i d within = sum_by_more (λ (a : ArcId). slice_index prices (place_of p a)) arcs i d within
 
+-- the price of a path so far: each arc's place has a price, it is small, and it is added with the arc
 pub ruleset price_sums = (place-priced, price-small, price-next)

@@ -18,7 +18,8 @@ pub is_open-path : (p : Parts) (k : ℕ) (r : Forbidden) (arcs : List ArcId) (i 
 is_open-path p k r arcs i h within = rw (h.simple.are_arcs i within, h.permitted i no_arc within) refl
 
 -- along a permitted path potentials rise by at most the prices
-rises : (p : Parts) (prices : List ℕ) (k : ℕ) (r : Forbidden) (price : ℕ) (potentials : List ℕ) (arcs : List ArcId) → ArePotentials p prices k r price potentials → IsPermittedPath p r k arcs → (i : ℕ) → i ≤ length arcs → slice_index potentials (node_at p (demand_at p k).source arcs i) ≤ price_of p prices (take i arcs)
+rises : (p : Parts) (prices : List ℕ) (k : ℕ) (r : Forbidden) (price : ℕ) (potentials : List ℕ) (arcs : List ArcId) → ArePotentials p prices k r price potentials
+    → IsPermittedPath p r k arcs → (i : ℕ) → i ≤ length arcs → slice_index potentials (node_at p (demand_at p k).source arcs i) ≤ price_of p prices (take i arcs)
 rises p prices k r price potentials arcs h path zero within = omega (arith, h.at_source)
 rises p prices k r price potentials arcs h path (suc i) within =
     let a = arc_at arcs i in

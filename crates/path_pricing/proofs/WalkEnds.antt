@@ -32,7 +32,8 @@ unfolding walk_fault
 walk_fault-place p d f arcs e h = rw h refl
 
 -- a walk without a bad place has a fault exactly where it ends elsewhere
-pub walk_fault-end : (p : Parts) (d : Demand) (f : ArcId → Bool) (arcs : List ArcId) (i here : ℕ) → first_fault (fault_at (place_fault p d f arcs) arcs) i ≡ None → i ≡ length arcs → here ≡ node_at p d.source arcs i → when (not (here == d.target.0)) (NotPermitted (length arcs)) ≡ walk_fault p d f arcs
+pub walk_fault-end : (p : Parts) (d : Demand) (f : ArcId → Bool) (arcs : List ArcId) (i here : ℕ) → first_fault (fault_at (place_fault p d f arcs) arcs) i ≡ None
+    → i ≡ length arcs → here ≡ node_at p d.source arcs i → when (not (here == d.target.0)) (NotPermitted (length arcs)) ≡ walk_fault p d f arcs
 unfolding walk_fault
 walk_fault-end p d f arcs i here none end_ stands =
     let all : first_in (place_fault p d f arcs) arcs ≡ None = subst (λ (n : ℕ). first_fault (fault_at (place_fault p d f arcs) arcs) n ≡ None) end_ none in

@@ -27,13 +27,15 @@ place_fault-step_fault p d f arcs i here met a walk = by_cases (is_arc p a) refl
         rw (same, walk.stands) refl
 
 -- the walk stops here
-pub walk-stops : (p : Parts) (d : Demand) (f : ArcId → Bool) (arcs : List ArcId) (i here : ℕ) (met : Stamps) (x : ArcId) (e : Unfit) → IsWalk p d.source arcs i here met → i < length arcs → first_fault (fault_at (place_fault p d f arcs) arcs) i ≡ None → Some e ≡ step_fault p f met here i (get_or arcs i x) → first_in (place_fault p d f arcs) arcs ≡ Some e
+pub walk-stops : (p : Parts) (d : Demand) (f : ArcId → Bool) (arcs : List ArcId) (i here : ℕ) (met : Stamps) (x : ArcId) (e : Unfit) → IsWalk p d.source arcs i here met
+    → i < length arcs → first_fault (fault_at (place_fault p d f arcs) arcs) i ≡ None → Some e ≡ step_fault p f met here i (get_or arcs i x) → first_in (place_fault p d f arcs) arcs ≡ Some e
 walk-stops p d f arcs i here met x e walk within before here_is =
     first_fault-here (fault_at (place_fault p d f arcs) arcs) e i (length arcs) before
     (fault_at-get_or (place_fault p d f arcs) arcs i x within ∙ place_fault-step_fault p d f arcs i here met (get_or arcs i x) walk ∙ sym here_is) within
 
 -- the walk goes on
-pub walk-goes_on : (p : Parts) (d : Demand) (f : ArcId → Bool) (arcs : List ArcId) (i here : ℕ) (met : Stamps) (x : ArcId) → IsWalk p d.source arcs i here met → i < length arcs → first_fault (fault_at (place_fault p d f arcs) arcs) i ≡ None → None ≡ step_fault p f met here i (get_or arcs i x) → first_fault (fault_at (place_fault p d f arcs) arcs) (i + 1) ≡ None
+pub walk-goes_on : (p : Parts) (d : Demand) (f : ArcId → Bool) (arcs : List ArcId) (i here : ℕ) (met : Stamps) (x : ArcId) → IsWalk p d.source arcs i here met → i < length arcs
+    → first_fault (fault_at (place_fault p d f arcs) arcs) i ≡ None → None ≡ step_fault p f met here i (get_or arcs i x) → first_fault (fault_at (place_fault p d f arcs) arcs) (i + 1) ≡ None
 walk-goes_on p d f arcs i here met x walk within before none =
     first_fault-next (fault_at (place_fault p d f arcs) arcs) i before
     (fault_at-get_or (place_fault p d f arcs) arcs i x within ∙ place_fault-step_fault p d f arcs i here met (get_or arcs i x) walk ∙ sym none)

@@ -20,6 +20,7 @@ use Rattle.path_pricing.specs.Faults.{arc_id}
 use Rattle.path_pricing.specs.Weights.{open_price, weights_below}
 use Rattle.path_pricing.proofs.PlaceLaws.{arc-within}
 
+-- there are as many weights as arcs below the number
 pub length-weights_below : (p : Parts) (prices : List ℕ) (k : ℕ) (r : Forbidden) (n : ℕ) → length (weights_below p prices k r n) ≡ n
 length-weights_below p prices k r zero = refl
 length-weights_below p prices k r (suc n) =
@@ -60,6 +61,7 @@ price_small p prices k r a fits true is =
     rw is (omega (arith, small, limit))
 price_small p prices k r a fits false is = rw is (omega arith)
 
+-- the weights of all arcs are weights that a search may have
 pub AreWeights-weights_below : (p : Parts) (prices : List ℕ) (k : ℕ) (r : Forbidden) → ArePrices p prices → AreWeights p (weights_below p prices k r (2 * length p.links))
 AreWeights-weights_below p prices k r fits =
     let ws = weights_below p prices k r (2 * length p.links) in
@@ -76,12 +78,14 @@ unfolding open_price
 weights_below-open p prices k r a is =
     weights_below-at p prices k r (2 * length p.links) a.0 (arc-within p a (and-first _ _ is)) ∙ rw is refl
 
+-- a permitted arc is usable
 pub IsUsable-open : (p : Parts) (prices : List ℕ) (k : ℕ) (r : Forbidden) (a : ArcId) → is_open p r k a ≡ true → IsUsable p (weights_below p prices k r (2 * length p.links)) a
 IsUsable-open p prices k r a is = record {
   is_an_arc = and-first _ _ is;
   weighted = rw (weights_below-open p prices k r a is) refl;
 }
 
+-- a permitted arc weighs as much as its price
 pub weight_at-open : (p : Parts) (prices : List ℕ) (k : ℕ) (r : Forbidden) (a : ArcId) → is_open p r k a ≡ true → weight_at (weights_below p prices k r (2 * length p.links)) a ≡ price_at p prices a
 weight_at-open p prices k r a is = rw (weights_below-open p prices k r a is) refl
 

@@ -1,19 +1,20 @@
 //! Whether what is found for a demand shows what it says.
 
-ghost use Rattle.std.specs.Prelude.{◌≡◌, ◌↔◌, ◌<◌, ◌≤◌, ◌+◌, IsOk, IfOk, All, None, length, nat_lt};
+ghost use Rattle.std.specs.Prelude.{◌≡◌, ◌↔◌, ◌<◌, ◌≤◌, ◌+◌, ◌*◌, IsOk, IsTrue, IfOk, All, None, length, nat_lt};
 ghost use Rattle.std.specs.Result.{result_err};
 ghost use Rattle.plan_base.specs.Facts.{IsInstance};
+ghost use Rattle.plan_base.specs.First.{◌or_else◌};
 ghost use Rattle.plan_base.specs.Places.{places, place_of};
 ghost use Rattle.plan_base.specs.declared.limits.TheConstants.{MAX_NODES, MAX_PRICED_LOAD};
 ghost use Rattle.arc_restrict.specs.Rows.{forbids};
 ghost use Rattle.arc_restrict.specs.Prices.{price_of};
 ghost use Rattle.path_pricing.specs.Priced.{ArePrices, IsShown, IsPriced};
-ghost use Rattle.path_pricing.specs.Faults.{dearer_fault, first_dearer, length_fault, path_fault, shape_fault, leaving_fault, first_leaving, set_fault, priced_fault};
+ghost use Rattle.path_pricing.specs.Faults.{arc_id, dearer_fault, first_dearer, length_fault, path_fault, shape_fault, leaving_fault, first_leaving, set_fault, priced_fault};
 
 use crate::priced::{Priced, Unfit};
 use crate::query::Query;
 use arc_restrict::Restriction;
-use plan_base::{ArcId, Demand, DemandId, Instance, Prices};
+use plan_base::{ArcId, Demand, DemandId, Instance, LinkId, Prices};
 
 /// Whether the head's potential is above the tail's plus the price, also where that sum is past 128 bits.
 fn is_above(head: u128, tail: u128, price: u128) -> bool
@@ -46,15 +47,52 @@ impl Query<'_> {
         Ok(())
     }
 
+    /// Whether neither arc of a link rises by more than its price, whatever is forbidden.
+    #[tactic(auto, unfolding(crate::specs::Faults::dearer_fault))]
+    fn is_level(&self, potentials: &[u128], number: u32) -> bool
+        requires link { number < length self.now.inst.now.links }
+        requires prices { places self.now.inst.now ≤ length self.now.prices.now }
+        requires potentials { length potentials.now ≡ self.now.inst.now.nodes }
+        ensures there { IsTrue result → dearer_fault self.now.inst.now self.now.prices.now self.now.demand.0 (forbids self.now.restriction.now) potentials.now (arc_id (2 * number)) ≡ None }
+        ensures back { IsTrue result → dearer_fault self.now.inst.now self.now.prices.now self.now.demand.0 (forbids self.now.restriction.now) potentials.now (arc_id (2 * number + 1)) ≡ None }
+    {
+        self.inst.lawful();
+        let link = self.inst.link(LinkId(number));
+        let source = potentials[link.source.0 as usize];
+        let target = potentials[link.target.0 as usize];
+        let there = self.price_at(ArcId(2 * number));
+        let back = self.price_at(ArcId(2 * number + 1));
+        !is_above(target, source, there) && !is_above(source, target, back)
+    }
+
+    /// Whether each arc of a link is forbidden, or rises by at most its price. On most links neither rises by more: what is
+    /// forbidden is looked up for the others alone.
+    fn check_link(&self, potentials: &[u128], number: u32) -> Result<(), Unfit>
+        requires link { number < length self.now.inst.now.links }
+        requires prices { places self.now.inst.now ≤ length self.now.prices.now }
+        requires potentials { length potentials.now ≡ self.now.inst.now.nodes }
+        ensures { result_err result
+            ≡ (dearer_fault self.now.inst.now self.now.prices.now self.now.demand.0 (forbids self.now.restriction.now) potentials.now (arc_id (2 * number))
+            or_else dearer_fault self.now.inst.now self.now.prices.now self.now.demand.0 (forbids self.now.restriction.now) potentials.now (arc_id (2 * number + 1))) }
+    {
+        self.inst.lawful();
+        if self.is_level(potentials, number) {
+            return Ok(());
+        }
+        self.check_rise(potentials, ArcId(2 * number))?;
+        self.check_rise(potentials, ArcId(2 * number + 1))
+    }
+
     /// Whether each permitted arc rises by at most its price.
     fn check_rises(&self, potentials: &[u128]) -> Result<(), Unfit>
+        requires lawful { IsInstance self.now.inst.now }
         requires prices { places self.now.inst.now ≤ length self.now.prices.now }
         requires potentials { length potentials.now ≡ self.now.inst.now.nodes }
         ensures { result_err result
             ≡ first_dearer self.now.inst.now self.now.prices.now self.now.demand.0 (forbids self.now.restriction.now) potentials.now }
     {
-        for number in 0..2 * self.inst.links() {
-            self.check_rise(potentials, ArcId(number))?;
+        for number in 0..self.inst.links() {
+            self.check_link(potentials, number)?;
         }
         Ok(())
     }

@@ -10,7 +10,8 @@ check_walk-requires-clause-source c = c.demand-demand.ensures.lawful.source
 pub returns-in_err-check_walk : goal.returns-in_err-check_walk
 returns-in_err-check_walk c =
     let failed = err_from_is_err_and c.from_residual.result c.from_residual.ensures.1 in
-    rw (failed.1, failed.2) (path_fault-walk c.args.self.now.inst.now c.args.self.now.prices.now c.args.self.now.demand.0 (forbids c.args.self.now.restriction.now) c.args.arcs.now c.args.price c.args.potentials.now c.demand-demand.result.now c.in_err-check_walk.field-0.0 c.demand-demand.ensures.value c.in_err-check_walk.ensures)
+    rw (failed.1, failed.2) (path_fault-walk c.args.self.now.inst.now c.args.self.now.prices.now c.args.self.now.demand.0 (forbids c.args.self.now.restriction.now)
+    c.args.arcs.now c.args.price c.args.potentials.now c.demand-demand.result.now c.in_err-check_walk.field-0.0 c.demand-demand.ensures.value c.in_err-check_walk.ensures)
 
 pub check_length-requires-clause-short : goal.check_length-requires-clause-short
 check_length-requires-clause-short c =
@@ -27,9 +28,21 @@ pub returns-in_err-check_rises : goal.returns-in_err-check_rises
 returns-in_err-check_rises c =
     let failed = err_from_is_err_and c.from_residual-in_err-check_rises.result c.from_residual-in_err-check_rises.ensures.1 in
     let count : length c.args.potentials.now ≡ c.args.self.now.inst.now.nodes = omega arith in
-    rw (failed.1, failed.2, path_fault-rest c.args.self.now.inst.now c.args.self.now.prices.now c.args.self.now.demand.0 (forbids c.args.self.now.restriction.now) c.args.arcs.now c.args.price c.args.potentials.now c.demand-demand.result.now c.demand-demand.ensures.value c.in_ok-check_walk.ensures count, ← c.in_err-check_rises.ensures) refl
+    rw (
+      failed.1,
+      failed.2,
+      path_fault-rest c.args.self.now.inst.now c.args.self.now.prices.now c.args.self.now.demand.0 (forbids c.args.self.now.restriction.now)
+          c.args.arcs.now c.args.price c.args.potentials.now c.demand-demand.result.now c.demand-demand.ensures.value c.in_ok-check_walk.ensures count,
+      ← c.in_err-check_rises.ensures,
+    )
+    refl
 
 pub returns : goal.returns
 returns c =
     let count : length c.args.potentials.now ≡ c.args.self.now.inst.now.nodes = omega arith in
-    rw (path_fault-rest c.args.self.now.inst.now c.args.self.now.prices.now c.args.self.now.demand.0 (forbids c.args.self.now.restriction.now) c.args.arcs.now c.args.price c.args.potentials.now c.demand-demand.result.now c.demand-demand.ensures.value c.in_ok-check_walk.ensures count, ← c.in_ok-check_rises.ensures) c.check_length.ensures
+    rw (
+      path_fault-rest c.args.self.now.inst.now c.args.self.now.prices.now c.args.self.now.demand.0 (forbids c.args.self.now.restriction.now)
+          c.args.arcs.now c.args.price c.args.potentials.now c.demand-demand.result.now c.demand-demand.ensures.value c.in_ok-check_walk.ensures count,
+      ← c.in_ok-check_rises.ensures,
+    )
+    c.check_length.ensures

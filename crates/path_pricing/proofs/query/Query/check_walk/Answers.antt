@@ -40,7 +40,9 @@ loop-place-preserved c =
     let allowed = forbids c.args.self.now.restriction.now c.args.self.now.demand.0 in
     record {
       no_fault = walk-goes_on p c.args.demand.now allowed c.args.arcs.now c.loop-place.place c.loop-place.here.0 c.loop-place.met no_arc c.loop-place.invariant.walk (omega arith) c.loop-place.invariant.no_fault c.in_ok-here.ensures.fault;
-      walk = IsWalk-next p c.args.self.now.demand c.args.demand.now.source c.args.arcs.now c.loop-place.place c.loop-place.here.0 c.loop-place.met c.next_node.new.met no_arc c.in_ok-here.here c.requires.lawful c.loop-place.invariant.walk (omega arith) (walk_fault-none p c.args.self.now.demand allowed c.loop-place.met c.loop-place.here.0 c.loop-place.place _ c.in_ok-here.ensures.fault) c.in_ok-here.ensures.next c.in_ok-here.ensures.met;
+      walk = IsWalk-next p c.args.self.now.demand c.args.demand.now.source c.args.arcs.now c.loop-place.place c.loop-place.here.0 c.loop-place.met c.next_node.new.met no_arc
+          c.in_ok-here.here c.requires.lawful c.loop-place.invariant.walk (omega arith)
+          (walk_fault-none p c.args.self.now.demand allowed c.loop-place.met c.loop-place.here.0 c.loop-place.place _ c.in_ok-here.ensures.fault) c.in_ok-here.ensures.next c.in_ok-here.ensures.met;
     }
 
 pub returns-then-ne : goal.returns-then-ne
