@@ -23,3 +23,7 @@ pub const TRUSTED_ROUNDS: u32 = 3;
 
 /// Cuts are worth their time where they raise the bound by at least one in so many.
 pub const LEAST_GAIN: i128 = 256;
+
+/// Cuts are looked for where the cheapest modules of all links, one of each, cost at least one in so many of the bound that
+/// the search opens with.
+pub const LARGE_SHARE: u128 = 4;

@@ -5,7 +5,7 @@ ghost use Rattle.proof_tree.specs.Cuts.{IsCutList};
 
 use crate::bounding::bound_at;
 use crate::designs::laid_cost;
-use crate::limits::{MAX_ROUNDS, MAX_TRIED, SEEN_TURNS};
+use crate::limits::{LARGE_SHARE, MAX_ROUNDS, MAX_TRIED, SEEN_TURNS};
 use crate::lists::{copy_of, tested};
 use crate::rising::Aim;
 use crate::rounds::{Standing, go_rounds};
@@ -15,7 +15,7 @@ use column_pool::ColumnPool;
 use cut_search::CutSearch;
 use cut_table::{CutTable, SeenLoads};
 use link_steps::{Ranges, StepTable, cost_unit};
-use plan_base::{DemandId, Instance, Items, Path};
+use plan_base::{DemandId, Instance, Items, Link, LinkId, Path};
 use proof_tree::Cut;
 use std::alloc::{AllocError, Global};
 
@@ -77,7 +77,29 @@ fn aim_of(
     }
 }
 
-/// Where the rounds begin, and what they aim at. None where a demand has no path, or no design is laid.
+/// What the cheapest module of a link that has a capacity costs, in cost grains; 0 where no module has one.
+fn cheapest_module(link: &Link) -> u128 {
+    let mut cheapest: Option<u128> = None;
+    for module in link.modules.as_slice() {
+        if module.capacity > 0 {
+            let least = cheapest.unwrap_or(module.cost);
+            cheapest = Some(least.min(module.cost));
+        }
+    }
+    cheapest.unwrap_or(0)
+}
+
+/// Whether modules are so large beside all that is carried that cuts may be worth their time: a cut rounds capacities up to
+/// whole modules, and about one module a link is all that this can cost.
+fn are_modules_large(inst: &Instance, bound: i128) -> bool {
+    let mut total: u128 = 0;
+    for place in 0..inst.links() {
+        total = total.saturating_add(cheapest_module(inst.link(LinkId(place))));
+    }
+    total.saturating_mul(LARGE_SHARE) >= u128::try_from(bound).unwrap_or(0)
+}
+
+/// Where the rounds begin, and what they aim at. None where a demand has no path, no design is laid, or modules are small.
 fn opened(
     ground: Ground<'_>,
     table: &CutTable,
@@ -91,6 +113,9 @@ fn opened(
     let Some(bound) = bound_at(ground, table, ground.whole, &start, columns)? else {
         return Ok(None);
     };
+    if !are_modules_large(ground.inst, bound) {
+        return Ok(None);
+    }
     let Some(aim) = aim_of(ground, table, columns)? else {
         return Ok(None);
     };
