@@ -6,7 +6,7 @@ use Rattle.plan_base.specs.Designs.{cost_of, IsGoodDesign}
 use Rattle.plan_base.specs.Facts.{total_load}
 use Rattle.incumbent.specs.declared.cooling.TheConstants.{WORK, MOST_SEARCHES, LEAST_SEARCHES, SEARCHES_A_DEMAND}
 use Rattle.incumbent.specs.declared.ration.DesignSearch.{DesignSearch}
-use Rattle.incumbent.specs.declared.ration.TheConstants.{DUE, PARTS, MOST_SHARES, LATER_SHARES, MARGIN}
+use Rattle.incumbent.specs.declared.ration.TheConstants.{DUE, EARLIER, PARTS, MOST_SHARES, LATER_SHARES, MARGIN}
 
 -- how many steps one search may take, nodes by nodes and arcs
 abbrev pub search_work : Parts → ℕ
@@ -16,9 +16,13 @@ search_work p = p.nodes * p.nodes + 8 * length p.links
 abbrev pub search_limit : Parts → ℕ
 search_limit p = min (min (max (WORK / max (search_work p) 1) LEAST_SEARCHES) (SEARCHES_A_DEMAND * length p.demands)) MOST_SEARCHES
 
+-- how many nodes are examined when a search is due that one seat makes at so many: where there are several, half as many
+abbrev pub due_of : ℕ → ℕ → ℕ
+due_of seats due = if seats == 1 then due else due / EARLIER
+
 -- the search at this place among all of them is due once so many nodes are examined
-abbrev pub IsDue : ℕ → ℕ → Type 0
-IsDue place examined = IsSomeAnd (slice_get DUE place) (λ due. due ≤ examined)
+abbrev pub IsDue : ℕ → ℕ → ℕ → Type 0
+IsDue seats place examined = IsSomeAnd (slice_get DUE place) (λ due. due_of seats due ≤ examined)
 
 -- how many parts the first search of each of so many seats has: one seat makes it whole
 abbrev pub parts_of : ℕ → ℕ
@@ -43,7 +47,7 @@ pub record IsOpening (number count : ℕ) (s : DesignSearch) : Type 0 where
 
 -- a search was due and is made, and the next one has the place after it
 pub record HasSearched (old : DesignSearch) (examined : ℕ) (new : DesignSearch) : Type 0 where
-  pub was_due : IsDue old.place examined
+  pub was_due : IsDue old.seats old.place examined
   pub place : new.place ≡ next_place old.seat old.seats new.searches old.place
   pub searches : new.searches ≡ min (old.searches + 1) (2 ^ 32 - 1)
 

@@ -5,7 +5,7 @@ ghost use Rattle.plan_base.specs.Arcs.{demand_at};
 ghost use Rattle.plan_base.specs.Paths.{IsSimplePath};
 ghost use Rattle.plan_base.specs.Designs.{cost_of, IsDesign, KeepsLimits, IsGoodDesign};
 ghost use Rattle.completions.specs.Completions.{with_paths, ArePaths, HasOverfull};
-ghost use Rattle.incumbent.specs.Searches.{IsDue, IsOpening, IsCheaper, IsWorth, parts_of, shares_of, next_place, HasSearched, HasWaited};
+ghost use Rattle.incumbent.specs.Searches.{IsDue, IsOpening, IsCheaper, IsWorth, due_of, parts_of, shares_of, next_place, HasSearched, HasWaited};
 
 use crate::improving::improve_share;
 use crate::laying::lay_all;
@@ -18,6 +18,10 @@ use std::alloc::{AllocError, Global};
 
 /// How many nodes are examined when each search is due.
 const DUE: [u32; 7] = [0, 0, 4, 16, 64, 256, 1_024];
+
+/// Where several seats search, each search is due once so many times fewer nodes are examined: it takes as long as one
+/// worker's, and the others examine nodes meanwhile.
+const EARLIER: u32 = 2;
 
 /// How many seeds a seat has: one for each of its searches.
 const SEEDS: u32 = 7;
@@ -71,6 +75,13 @@ fn parts_of(seats: u32) -> u32
     ensures { result ≡ parts_of seats }
 {
     if seats == 1 { 1 } else { PARTS }
+}
+
+/// How many nodes are examined when a search is due, of which one seat makes it at so many.
+fn due_of(seats: u32, due: u32) -> u32
+    ensures { result ≡ due_of seats due }
+{
+    if seats == 1 { due } else { due / EARLIER }
 }
 
 /// The place of the search that a seat makes after one at this place, once it has made so many: all seats make their
@@ -280,12 +291,13 @@ impl DesignSearch {
     }
 
     /// Whether the next search of this seat is due once so many nodes are examined: each seat's first one at once, and
-    /// of those that are dealt out the first one at once too, the others at 4, 16, 64, 256 and 1,024 nodes.
+    /// of those that are dealt out the first one at once too, the others at 4, 16, 64, 256 and 1,024 nodes, where there
+    /// are several seats at half as many.
     pub fn is_due(&self, examined: u32) -> bool
-        ensures { IsTrue result ↔ IsDue self.now.place examined }
+        ensures { IsTrue result ↔ IsDue self.now.seats self.now.place examined }
     {
         match DUE.get(self.place as usize) {
-            Some(due) => examined >= *due,
+            Some(due) => examined >= due_of(self.seats, *due),
             None => false,
         }
     }

@@ -117,7 +117,7 @@ impl<N: Search> Bench<N> {
 
     /// Whether a search for a design is due for this worker.
     pub fn is_design_due(&mut self, told: &Told<N>) -> bool
-        ensures due { IsTrue result ↔ IsDue self.old.guide.designs.place (told.now.brief.node.0 / 2) }
+        ensures due { IsTrue result ↔ IsDue self.old.guide.designs.seats self.old.guide.designs.place (told.now.brief.node.0 / 2) }
         ensures ground { self.new.ground ≡ self.old.ground }
     {
         self.guide.designs().is_due(told.examined())
