@@ -1,6 +1,6 @@
 //! The cut table: a step table, a list of cuts, and for each place the cuts that it crosses.
 
-ghost use Rattle.std.specs.Prelude.{ℕ, false, ◌≡◌, ◌<◌, ◌≤◌, ◌-◌, ◌*◌, ◌+◌, ◌↔◌, ◌-ℤ◌, ◌≤ℤ◌, pos, length, slice_index, IfOk, IsTrue};
+ghost use Rattle.std.specs.Prelude.{ℕ, false, ◌≡◌, ◌<◌, ◌≤◌, ◌-◌, ◌*◌, ◌+◌, ◌↔◌, ◌-ℤ◌, ◌≤ℤ◌, pos, length, slice_index, IfOk, OnOk, IsTrue};
 ghost use Rattle.plan_base.specs.declared.limits.TheConstants.{MAX_PRICED_LOAD};
 ghost use Rattle.plan_base.specs.Facts.{price_limit};
 ghost use Rattle.plan_base.specs.Places.{is_two_way, places, there_of, back_of};
@@ -89,6 +89,25 @@ impl CutTable {
             rests,
             rows,
         })
+    }
+
+    /// Puts another list of cuts in the place of these, over the same steps.
+    ///
+    /// - Takes: cuts of the instance, as `new` wants them.
+    /// - Errors: want of memory alone; the table is then as it was.
+    /// - Rule: docs/DEFINITIONS.md, "Cuts".
+    /// - Time: for each cut linear in the demands and the places.
+    pub fn put_cuts(&mut self, alloc: Global, cuts: Items<Cut>) -> Result<(), AllocError>
+        requires { IsCutList self.old.problem cuts }
+        ensures problem { self.new.problem ≡ self.old.problem }
+        ensures cuts { OnOk result (self.new.cuts ≡ cuts) }
+    {
+        let rests = rests_of(alloc, &self.inst, cuts.as_slice())?;
+        let rows = crossing_rows(alloc, &self.inst, cuts.as_slice(), &rests)?;
+        self.cuts = cuts;
+        self.rests = rests;
+        self.rows = rows;
+        Ok(())
     }
 
     /// The step table of the instance.
