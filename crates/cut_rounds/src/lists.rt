@@ -46,18 +46,18 @@ pub(crate) fn tested(alloc: Global, inst: &Instance, cuts: Vec<Cut>) -> Items<Cu
     }
 }
 
-/// The table of another list of cuts, over the same steps.
-pub(crate) fn table_of(
+/// Puts another list of cuts in the place of the table's.
+pub(crate) fn put_list(
     alloc: Global,
     inst: &Instance,
-    table: CutTable,
+    table: &mut CutTable,
     cuts: Vec<Cut>,
-) -> Result<CutTable, AllocError>
-    requires { table.problem ≡ inst.now }
-    ensures { IfOk result (λ table. table.problem ≡ inst.now) }
+) -> Result<(), AllocError>
+    requires { table.old.problem ≡ inst.now }
+    ensures { table.new.problem ≡ table.old.problem }
 {
     let cuts = tested(alloc, inst, cuts);
-    CutTable::new(alloc, inst, table.into_steps(), cuts)
+    table.put_cuts(alloc, cuts)
 }
 
 /// The number behind the places of an instance, 0 where there is none.

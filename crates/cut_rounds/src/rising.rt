@@ -115,6 +115,36 @@ fn passed(
     })
 }
 
+/// The ascent that a brief tells of, or a pass from the numbers that are held where it is better, and what its averages come
+/// to; the loads that it sees are noted. None as `rise`.
+fn rise_by(
+    ground: Ground<'_>,
+    table: &CutTable,
+    brief: &Brief,
+    held: &Prices,
+    aim: Aim,
+    seen: &mut SeenLoads,
+) -> Result<Option<Risen>, AllocError>
+    requires { table.now.problem ≡ ground.inst.now }
+    ensures { IfOk result (λ risen. IfSome risen (λ found. HaveSizes ground.entry.inst.now found.averages)) }
+{
+    let (alloc, inst) = (ground.alloc, ground.inst);
+    if !brief.fits(inst, table) || !table.are_numbers(held) {
+        return Ok(None);
+    }
+    if !have_columns(inst, brief.columns.as_slice()) {
+        return Ok(None);
+    }
+    seen.clear();
+    let found = averaged_seen(alloc, inst, table, brief, aim.goal(), seen)?;
+    let (numbers, value) = passed(alloc, inst, table, brief, &found.prices, held)?;
+    Ok(Some(Risen {
+        numbers,
+        value,
+        averages: found.averages,
+    }))
+}
+
 /// The ascent from these numbers under ranges, or a pass from those that are held where it is better, and what its averages
 /// come to; the loads that it sees are noted. None where the numbers are not as they have to be, or a demand has no column.
 pub(crate) fn rise(
@@ -131,21 +161,6 @@ pub(crate) fn rise(
     requires count { length columns.now ≡ length ground.inst.now.demands }
     ensures { IfOk result (λ risen. IfSome risen (λ found. HaveSizes ground.entry.inst.now found.averages)) }
 {
-    let alloc = ground.alloc;
-    let inst = ground.inst;
     let brief = brief_of(ground, columns, ranges, numbers, aim)?;
-    if !brief.fits(inst, table) || !table.are_numbers(held) {
-        return Ok(None);
-    }
-    if !have_columns(inst, brief.columns.as_slice()) {
-        return Ok(None);
-    }
-    seen.clear();
-    let found = averaged_seen(alloc, inst, table, &brief, aim.goal(), seen)?;
-    let (numbers, value) = passed(alloc, inst, table, &brief, &found.prices, held)?;
-    Ok(Some(Risen {
-        numbers,
-        value,
-        averages: found.averages,
-    }))
+    rise_by(ground, table, &brief, held, aim, seen)
 }

@@ -1,18 +1,19 @@
 //! Rounds at the whole region: prices and rates rise, and cuts are found that the loads seen violate.
 
-ghost use Rattle.std.specs.Prelude.{◌≡◌, length, IfOk, OnOk};
+ghost use Rattle.std.specs.Prelude.{◌≡◌, length, OnOk};
 ghost use Rattle.proof_tree.specs.Cuts.{IsCutList};
 ghost use Rattle.cut_table.specs.Numbers.{AreNumbers};
 
 use crate::bounding::bound_at;
 use crate::limits::{FOUND_IN_ROUND, IDLE_ROUNDS, LEAST_GAIN, TRUSTED_ROUNDS};
-use crate::lists::{is_marked, marked, marked_numbers, rate_at, table_of, tested, widened};
+use crate::lists::{is_marked, marked, marked_numbers, put_list, rate_at, tested, widened};
 use crate::rising::{Aim, Risen, rise};
 use crate::seeker::Ground;
 use column_pool::ColumnPool;
 use cut_table::{CutTable, SeenLoads};
 use plan_base::Prices;
-use std::alloc::AllocError;
+use proof_tree::Cut;
+use std::alloc::{AllocError, Global};
 
 /// Where the rounds stand.
 #[derive(Drop)]
@@ -45,6 +46,34 @@ fn lowered(ground: Ground<'_>, table: &CutTable, numbers: &Prices) -> Result<Pri
         lower.put(place, price.max(bounds.least));
     }
     Ok(lower)
+}
+
+/// The prices and the rates of the marked cuts, with a rate of 0 for each cut that they have none for.
+fn renewed(
+    ground: Ground<'_>,
+    numbers: &Prices,
+    marks: &[bool],
+    count: u32,
+) -> Result<Prices, AllocError> {
+    let kept = marked_numbers(ground.alloc, ground.inst, numbers, marks)?;
+    widened(ground.alloc, ground.inst, &kept, count)
+}
+
+/// For how many rounds each marked cut has had no rate, and 0 for each cut that is new.
+fn renewed_idle(
+    alloc: Global,
+    idle: &[u32],
+    marks: &[bool],
+    count: u32,
+) -> Result<Vec<u32>, AllocError> {
+    let mut kept = Vec::new(alloc);
+    for (number, rounds) in idle.iter().enumerate() {
+        if is_marked(marks, number) {
+            kept.push(*rounds)?;
+        }
+    }
+    kept.resize(count as usize, 0)?;
+    Ok(kept)
 }
 
 impl Standing {
@@ -107,22 +136,49 @@ impl Standing {
         Ok(marks)
     }
 
+    /// Marks the cuts that have a rate where the bound is greatest, or none where they raise it by little.
+    fn last_marks(&self, ground: Ground<'_>, count: u32) -> Result<Vec<bool>, AllocError> {
+        let is_worthwhile = self.is_worthwhile(self.bound);
+        let mut marks = Vec::new(ground.alloc);
+        for number in 0..count as usize {
+            marks.push(is_worthwhile && rate_at(ground.inst, &self.best, number) > 0)?;
+        }
+        Ok(marks)
+    }
+
     /// Lets go of what is known of the cuts that are not marked, and makes room for as many as there are now.
     fn renew(&mut self, ground: Ground<'_>, marks: &[bool], count: u32) -> Result<(), AllocError> {
-        let numbers = marked_numbers(ground.alloc, ground.inst, &self.numbers, marks)?;
-        self.numbers = widened(ground.alloc, ground.inst, &numbers, count)?;
-        let best = marked_numbers(ground.alloc, ground.inst, &self.best, marks)?;
-        self.best = widened(ground.alloc, ground.inst, &best, count)?;
-        let mut idle = Vec::new(ground.alloc);
-        for (number, rounds) in self.idle.iter().enumerate() {
-            if is_marked(marks, number) {
-                idle.push(*rounds)?;
-            }
-        }
-        idle.resize(count as usize, 0)?;
-        self.idle = idle;
+        self.numbers = renewed(ground, &self.numbers, marks, count)?;
+        self.best = renewed(ground, &self.best, marks, count)?;
+        self.idle = renewed_idle(ground.alloc, &self.idle, marks, count)?;
         Ok(())
     }
+}
+
+/// An ascent from lower prices than those that are held.
+fn rise_from_lower(
+    ground: Ground<'_>,
+    table: &CutTable,
+    aim: Aim,
+    columns: &ColumnPool,
+    seen: &mut SeenLoads,
+    held: &Prices,
+) -> Result<Option<Risen>, AllocError>
+    requires table { table.now.problem ≡ ground.inst.now }
+    requires count { length columns.now ≡ length ground.inst.now.demands }
+    requires held { AreNumbers ground.inst.now table.now.cuts held.now }
+{
+    let start = lowered(ground, table, held)?;
+    rise(
+        ground,
+        table,
+        columns,
+        ground.whole,
+        &start,
+        held,
+        aim,
+        seen,
+    )
 }
 
 /// One round: the bound at the numbers, and an ascent from lower prices. False where the rounds are to end.
@@ -148,18 +204,7 @@ fn go_round(
     if !table.are_numbers(&standing.numbers) {
         return Ok(false);
     }
-    let held = &standing.numbers;
-    let start = lowered(ground, table, held)?;
-    match rise(
-        ground,
-        table,
-        columns,
-        ground.whole,
-        &start,
-        held,
-        aim,
-        seen,
-    )? {
+    match rise_from_lower(ground, table, aim, columns, seen, &standing.numbers)? {
         Some(
             Risen {
                 numbers,
@@ -174,72 +219,75 @@ fn go_round(
     }
 }
 
-/// The table of the cuts that stay, and of those that the loads seen violate.
-fn next_table(
+/// The cuts of the table that are marked, and those that the loads seen violate.
+fn next_cuts(
     ground: Ground<'_>,
-    table: CutTable,
+    table: &CutTable,
     seen: &SeenLoads,
-    standing: &mut Standing,
-) -> Result<CutTable, AllocError>
-    requires table { table.problem ≡ ground.inst.now }
-    ensures { IfOk result (λ table. table.problem ≡ ground.entry.inst.now) }
-{
-    let marks = standing.marks(ground, table.count())?;
-    let stay = marked(ground.alloc, table.cuts(), &marks)?;
+    marks: &[bool],
+) -> Result<Vec<Cut>, AllocError> {
+    let stay = marked(ground.alloc, table.cuts(), marks)?;
     let mut cuts = tested(ground.alloc, ground.inst, stay).into_vec();
     ground
         .search
         .extend(ground.alloc, ground.inst, seen, FOUND_IN_ROUND, &mut cuts)?;
-    let table = table_of(ground.alloc, ground.inst, table, cuts)?;
-    standing.renew(ground, &marks, table.count())?;
-    Ok(table)
+    Ok(cuts)
 }
 
-/// The table of the cuts that have a rate where the bound is greatest, or of none where they raise it by little.
-fn last_table(
+/// Leaves the table the cuts that stay, and puts those in that the loads seen violate.
+fn renew_table(
     ground: Ground<'_>,
-    table: CutTable,
+    table: &mut CutTable,
+    seen: &SeenLoads,
     standing: &mut Standing,
-) -> Result<CutTable, AllocError>
-    requires table { table.problem ≡ ground.inst.now }
-    ensures { IfOk result (λ table. table.problem ≡ ground.entry.inst.now) }
+) -> Result<(), AllocError>
+    requires { table.old.problem ≡ ground.inst.now }
+    ensures { table.new.problem ≡ table.old.problem }
 {
-    let is_worthwhile = standing.is_worthwhile(standing.bound);
-    let mut marks = Vec::new(ground.alloc);
-    for number in 0..table.count() {
-        let is_used = rate_at(ground.inst, &standing.best, number as usize) > 0;
-        marks.push(is_worthwhile && is_used)?;
-    }
-    let stay = marked(ground.alloc, table.cuts(), &marks)?;
-    let table = table_of(ground.alloc, ground.inst, table, stay)?;
-    standing.renew(ground, &marks, table.count())?;
-    Ok(table)
+    let marks = standing.marks(ground, table.count())?;
+    let cuts = next_cuts(ground, table, seen, &marks)?;
+    put_list(ground.alloc, ground.inst, table, cuts)?;
+    standing.renew(ground, &marks, table.count())
 }
 
-/// Goes so many rounds, and gives the table of the cuts that have a rate where the bound is greatest.
+/// Leaves the table the cuts that have a rate where the bound is greatest, or none where they raise it by little.
+fn narrow_table(
+    ground: Ground<'_>,
+    table: &mut CutTable,
+    standing: &mut Standing,
+) -> Result<(), AllocError>
+    requires { table.old.problem ≡ ground.inst.now }
+    ensures { table.new.problem ≡ table.old.problem }
+{
+    let marks = standing.last_marks(ground, table.count())?;
+    let stay = marked(ground.alloc, table.cuts(), &marks)?;
+    put_list(ground.alloc, ground.inst, table, stay)?;
+    standing.renew(ground, &marks, table.count())
+}
+
+/// Goes so many rounds, and leaves the table the cuts that have a rate where the bound is greatest.
 pub(crate) fn go_rounds(
     ground: Ground<'_>,
-    table: CutTable,
+    table: &mut CutTable,
     most: u32,
     aim: Aim,
     columns: &mut ColumnPool,
     seen: &mut SeenLoads,
     standing: &mut Standing,
-) -> Result<CutTable, AllocError>
-    requires table { table.problem ≡ ground.inst.now }
+) -> Result<(), AllocError>
+    requires table { table.old.problem ≡ ground.inst.now }
     requires count { length columns.old ≡ length ground.inst.now.demands }
-    ensures table { IfOk result (λ table. table.problem ≡ ground.entry.inst.now) }
+    ensures table { table.new.problem ≡ table.old.problem }
     ensures count { OnOk result (length columns.new ≡ length ground.entry.inst.now.demands) }
 {
-    let mut table = table;
     for _round in 0..most {
-        if !go_round(ground, &table, aim, columns, seen, standing)? {
-            return last_table(ground, table, standing);
+        if !go_round(ground, table, aim, columns, seen, standing)? {
+            return narrow_table(ground, table, standing);
         }
-        table = next_table(ground, table, seen, standing)?;
+        renew_table(ground, table, seen, standing)?;
     }
-    if let Some(bound) = bound_at(ground, &table, ground.whole, &standing.numbers, columns)? {
+    if let Some(bound) = bound_at(ground, table, ground.whole, &standing.numbers, columns)? {
         standing.take(bound)?;
     }
-    last_table(ground, table, standing)
+    narrow_table(ground, table, standing)
 }

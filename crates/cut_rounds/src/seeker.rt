@@ -122,39 +122,85 @@ fn opened(
     Ok(Some((Standing::at(ground, start, bound)?, aim)))
 }
 
-/// The table with the cuts that rounds and the short search behind them find.
-fn found_from(
+/// Puts the cuts in the table that rounds and the short search behind them find, with room for the loads that they see.
+fn find_from(
     ground: Ground<'_>,
-    table: CutTable,
+    table: &mut CutTable,
     budget: u32,
     aim: Aim,
     columns: &mut ColumnPool,
+    seen: &mut SeenLoads,
     standing: &mut Standing,
-) -> Result<CutTable, AllocError>
-    requires table { table.problem ≡ ground.inst.now }
+) -> Result<(), AllocError>
+    requires table { table.old.problem ≡ ground.inst.now }
     requires count { length columns.old ≡ length ground.inst.now.demands }
-    ensures { IfOk result (λ table. table.problem ≡ ground.entry.inst.now) }
+    ensures { table.new.problem ≡ table.old.problem }
 {
     let (rounds, tried) = effort_of(budget);
-    let mut seen = SeenLoads::new(ground.alloc, ground.inst, SEEN_TURNS)?;
-    let table = go_rounds(ground, table, rounds, aim, columns, &mut seen, standing)?;
+    go_rounds(ground, table, rounds, aim, columns, seen, standing)?;
     if table.count() == 0 {
-        return Ok(table);
+        return Ok(());
     }
-    let nodes = first_nodes(ground, standing.best.copy()?)?;
-    try_nodes(ground, table, tried, aim, columns, &mut seen, nodes)
+    let mut nodes = first_nodes(ground, standing.best.copy()?)?;
+    try_nodes(ground, table, tried, aim, columns, seen, &mut nodes)
 }
 
-/// The table with the cuts that are found.
-fn sought(ground: Ground<'_>, table: CutTable, budget: u32) -> Result<CutTable, AllocError>
-    requires table { table.problem ≡ ground.inst.now }
-    ensures { IfOk result (λ table. table.problem ≡ ground.entry.inst.now) }
+/// Puts the cuts in the table that are found with these columns, where the search for cuts may begin.
+fn seek_with(
+    ground: Ground<'_>,
+    table: &mut CutTable,
+    budget: u32,
+    columns: &mut ColumnPool,
+) -> Result<(), AllocError>
+    requires table { table.old.problem ≡ ground.inst.now }
+    requires count { length columns.old ≡ length ground.inst.now.demands }
+    ensures { table.new.problem ≡ table.old.problem }
+{
+    let Some((mut standing, aim)) = opened(ground, table, columns)? else {
+        return Ok(());
+    };
+    let mut seen = SeenLoads::new(ground.alloc, ground.inst, SEEN_TURNS)?;
+    find_from(
+        ground,
+        table,
+        budget,
+        aim,
+        columns,
+        &mut seen,
+        &mut standing,
+    )
+}
+
+/// Puts the cuts in the table that are found.
+fn seek(ground: Ground<'_>, table: &mut CutTable, budget: u32) -> Result<(), AllocError>
+    requires { table.old.problem ≡ ground.inst.now }
+    ensures { table.new.problem ≡ table.old.problem }
 {
     let mut columns = ColumnPool::new(ground.alloc, ground.inst)?;
-    let Some((mut standing, aim)) = opened(ground, &table, &mut columns)? else {
-        return Ok(table);
+    seek_with(ground, table, budget, &mut columns)
+}
+
+/// Puts the cuts in a table that are found for the instance.
+fn put_found(
+    alloc: Global,
+    inst: &Instance,
+    table: &mut CutTable,
+    budget: u32,
+) -> Result<(), AllocError>
+    requires { table.old.problem ≡ inst.now }
+    ensures { table.new.problem ≡ table.old.problem }
+{
+    let none = Restriction::none(alloc, inst)?;
+    let whole = Ranges::whole(alloc, inst)?;
+    let search = CutSearch::new(alloc, inst, table.steps())?;
+    let ground = Ground {
+        alloc,
+        inst,
+        search: &search,
+        none: &none,
+        whole: &whole,
     };
-    found_from(ground, table, budget, aim, &mut columns, &mut standing)
+    seek(ground, table, budget)
 }
 
 /// Cuts for a search, and the step table again.
@@ -176,18 +222,8 @@ pub fn found_cuts(
     ensures steps { IfOk result (λ found. found.0 ≡ inst.now) }
     ensures cuts { IfOk result (λ found. IsCutList inst.now found.1) }
 {
-    let none = Restriction::none(alloc, inst)?;
-    let whole = Ranges::whole(alloc, inst)?;
-    let search = CutSearch::new(alloc, inst, &steps)?;
-    let table = CutTable::new(alloc, inst, steps, tested(alloc, inst, Vec::new(alloc)))?;
-    let ground = Ground {
-        alloc,
-        inst,
-        search: &search,
-        none: &none,
-        whole: &whole,
-    };
-    let table = sought(ground, table, budget)?;
+    let mut table = CutTable::new(alloc, inst, steps, tested(alloc, inst, Vec::new(alloc)))?;
+    put_found(alloc, inst, &mut table, budget)?;
     let cuts = Items::from_vec(copy_of(alloc, table.cuts())?);
     Ok((table.into_steps(), cuts))
 }

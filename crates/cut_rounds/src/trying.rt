@@ -1,12 +1,13 @@
 //! The short search behind the rounds: places are divided at loads, and each node finds cuts for those below it.
 
-ghost use Rattle.std.specs.Prelude.{◌≡◌, ◌<◌, length, IfOk, OnOk};
+ghost use Rattle.std.specs.Prelude.{◌≡◌, ◌<◌, length, OnOk};
+ghost use Rattle.master_step.specs.Ascents.{HaveSizes};
 
 use crate::bounding::bound_at;
 use crate::limits::FOUND_AT_NODE;
-use crate::lists::{copy_of, is_marked, marked, rate_at, table_of, widened};
+use crate::lists::{copy_of, is_marked, marked, put_list, rate_at, widened};
 use crate::nodes::{Node, next_of};
-use crate::rising::{Aim, rise};
+use crate::rising::{Aim, Risen, rise};
 use crate::seeker::Ground;
 use branch_tree::LoadSplit;
 use column_pool::ColumnPool;
@@ -48,6 +49,68 @@ pub(crate) fn first_nodes(ground: Ground<'_>, numbers: Prices) -> Result<Vec<Nod
     Ok(nodes)
 }
 
+/// What an ascent at a node leaves: its numbers, their bound, and where the node is divided. None where there is no bound.
+fn examined_at(
+    ground: Ground<'_>,
+    table: &CutTable,
+    columns: &mut ColumnPool,
+    node: &Node,
+    risen: Risen,
+) -> Result<Option<Examined>, AllocError>
+    requires table { table.now.problem ≡ ground.inst.now }
+    requires count { length columns.old ≡ length ground.inst.now.demands }
+    requires sizes { HaveSizes ground.inst.now risen.averages }
+    ensures { OnOk result (length columns.new ≡ length ground.entry.inst.now.demands) }
+{
+    let Some(bound) = bound_at(ground, table, &node.ranges, &risen.numbers, columns)? else {
+        return Ok(None);
+    };
+    if !node.ranges.fits(ground.inst) {
+        return Ok(None);
+    }
+    Ok(Some(Examined {
+        split: load_split(ground.inst, table.steps(), &node.ranges, &risen.averages),
+        numbers: risen.numbers,
+        bound,
+    }))
+}
+
+/// The bound of a node at these numbers, and what an ascent from them leaves. None where there is no bound.
+fn examine_from(
+    ground: Ground<'_>,
+    table: &CutTable,
+    aim: Aim,
+    columns: &mut ColumnPool,
+    seen: &mut SeenLoads,
+    node: &Node,
+    first: &Prices,
+) -> Result<Option<(i128, Examined)>, AllocError>
+    requires table { table.now.problem ≡ ground.inst.now }
+    requires count { length columns.old ≡ length ground.inst.now.demands }
+    ensures { OnOk result (length columns.new ≡ length ground.entry.inst.now.demands) }
+{
+    let Some(bound) = bound_at(ground, table, &node.ranges, first, columns)? else {
+        return Ok(None);
+    };
+    let Some(risen) = rise(
+        ground,
+        table,
+        columns,
+        &node.ranges,
+        first,
+        first,
+        aim,
+        seen,
+    )?
+    else {
+        return Ok(None);
+    };
+    match examined_at(ground, table, columns, node, risen)? {
+        Some(found) => Ok(Some((bound, found))),
+        None => Ok(None),
+    }
+}
+
 /// The greater of the bounds at a node's numbers and at those of an ascent, and where the node is divided. None where there
 /// is no bound.
 fn examine(
@@ -63,40 +126,16 @@ fn examine(
     ensures { OnOk result (length columns.new ≡ length ground.entry.inst.now.demands) }
 {
     let first = widened(ground.alloc, ground.inst, &node.numbers, table.count())?;
-    let Some(bound) = bound_at(ground, table, &node.ranges, &first, columns)? else {
+    let Some((bound, risen)) = examine_from(ground, table, aim, columns, seen, node, &first)? else {
         return Ok(None);
     };
-    let Some(risen) = rise(
-        ground,
-        table,
-        columns,
-        &node.ranges,
-        &first,
-        &first,
-        aim,
-        seen,
-    )?
-    else {
-        return Ok(None);
-    };
-    let Some(further) = bound_at(ground, table, &node.ranges, &risen.numbers, columns)? else {
-        return Ok(None);
-    };
-    if !node.ranges.fits(ground.inst) {
-        return Ok(None);
-    }
-    let split = load_split(ground.inst, table.steps(), &node.ranges, &risen.averages);
-    Ok(Some(if further > bound {
-        Examined {
-            numbers: risen.numbers,
-            bound: further,
-            split,
-        }
+    Ok(Some(if risen.bound > bound {
+        risen
     } else {
         Examined {
             numbers: first,
             bound,
-            split,
+            split: risen.split,
         }
     }))
 }
@@ -158,111 +197,124 @@ fn mark_used(
     Ok(())
 }
 
-/// The table with the cuts besides that the loads seen violate.
-fn wider_table(
-    ground: Ground<'_>,
-    table: CutTable,
-    seen: &SeenLoads,
-) -> Result<CutTable, AllocError>
-    requires table { table.problem ≡ ground.inst.now }
-    ensures { IfOk result (λ table. table.problem ≡ ground.entry.inst.now) }
+/// Puts the cuts besides in the table that the loads seen violate.
+fn widen_table(ground: Ground<'_>, table: &mut CutTable, seen: &SeenLoads) -> Result<(), AllocError>
+    requires { table.old.problem ≡ ground.inst.now }
+    ensures { table.new.problem ≡ table.old.problem }
 {
     let mut cuts = copy_of(ground.alloc, table.cuts())?;
     let found = ground
         .search
         .extend(ground.alloc, ground.inst, seen, FOUND_AT_NODE, &mut cuts)?;
     if found == 0 {
-        return Ok(table);
+        return Ok(());
     }
-    table_of(ground.alloc, ground.inst, table, cuts)
+    put_list(ground.alloc, ground.inst, table, cuts)
 }
 
-/// The table of the cuts before a number, and of those that had a rate.
-fn used_table(
+/// Leaves the table the cuts before a number, and those that had a rate.
+fn keep_used(
     ground: Ground<'_>,
-    table: CutTable,
+    table: &mut CutTable,
     before: u32,
     used: &[bool],
-) -> Result<CutTable, AllocError>
-    requires table { table.problem ≡ ground.inst.now }
-    ensures { IfOk result (λ table. table.problem ≡ ground.entry.inst.now) }
+) -> Result<(), AllocError>
+    requires { table.old.problem ≡ ground.inst.now }
+    ensures { table.new.problem ≡ table.old.problem }
 {
     let mut marks = Vec::new(ground.alloc);
     for number in 0..table.count() {
         marks.push(number < before || is_marked(used, number as usize))?;
     }
     let stay = marked(ground.alloc, table.cuts(), &marks)?;
-    table_of(ground.alloc, ground.inst, table, stay)
+    put_list(ground.alloc, ground.inst, table, stay)
 }
 
-/// Puts the children of an examined node in, and gives the table with the cuts besides that its loads violate, where a cheaper
-/// design may be left there.
+/// Puts the children of an examined node in, and the cuts besides in the table that its loads violate, where a cheaper design
+/// may be left there.
 fn put_examined(
     ground: Ground<'_>,
-    table: CutTable,
+    table: &mut CutTable,
     aim: Aim,
     seen: &SeenLoads,
     node: &Node,
     found: &Examined,
     nodes: &mut Vec<Node>,
-) -> Result<CutTable, AllocError>
-    requires { table.problem ≡ ground.inst.now }
-    ensures { IfOk result (λ table. table.problem ≡ ground.entry.inst.now) }
+) -> Result<(), AllocError>
+    requires { table.old.problem ≡ ground.inst.now }
+    ensures { table.new.problem ≡ table.old.problem }
 {
     if found.bound >= aim.bound() {
-        return Ok(table);
+        return Ok(());
     }
     if let Some(split) = found.split {
         put_children(ground, node, found, split, nodes)?;
     }
-    wider_table(ground, table, seen)
+    widen_table(ground, table, seen)
 }
 
-/// Examines the node of least bound, where one is left, marks the cuts that have a rate there, and gives the table with those
-/// besides that it finds.
+/// Examines a node, marks the cuts that have a rate there, and puts those besides in the table that it finds.
+fn try_node(
+    ground: Ground<'_>,
+    table: &mut CutTable,
+    aim: Aim,
+    columns: &mut ColumnPool,
+    seen: &mut SeenLoads,
+    node: &Node,
+    nodes: &mut Vec<Node>,
+    used: &mut Vec<bool>,
+) -> Result<(), AllocError>
+    requires table { table.old.problem ≡ ground.inst.now }
+    requires count { length columns.old ≡ length ground.inst.now.demands }
+    ensures table { table.new.problem ≡ table.old.problem }
+    ensures count { OnOk result (length columns.new ≡ length ground.entry.inst.now.demands) }
+{
+    let Some(found) = examine(ground, table, aim, columns, seen, node)? else {
+        return Ok(());
+    };
+    mark_used(ground, table, &found.numbers, used)?;
+    put_examined(ground, table, aim, seen, node, &found, nodes)
+}
+
+/// Tries the node of least bound, where one is left.
 fn try_next(
     ground: Ground<'_>,
-    table: CutTable,
+    table: &mut CutTable,
     aim: Aim,
     columns: &mut ColumnPool,
     seen: &mut SeenLoads,
     nodes: &mut Vec<Node>,
     used: &mut Vec<bool>,
-) -> Result<CutTable, AllocError>
-    requires table { table.problem ≡ ground.inst.now }
+) -> Result<(), AllocError>
+    requires table { table.old.problem ≡ ground.inst.now }
     requires count { length columns.old ≡ length ground.inst.now.demands }
-    ensures table { IfOk result (λ table. table.problem ≡ ground.entry.inst.now) }
+    ensures table { table.new.problem ≡ table.old.problem }
     ensures count { OnOk result (length columns.new ≡ length ground.entry.inst.now.demands) }
 {
-    let Some(node) = taken(nodes) else {
-        return Ok(table);
-    };
-    let Some(found) = examine(ground, &table, aim, columns, seen, &node)? else {
-        return Ok(table);
-    };
-    mark_used(ground, &table, &found.numbers, used)?;
-    put_examined(ground, table, aim, seen, &node, &found, nodes)
+    match taken(nodes) {
+        Some(node) => try_node(ground, table, aim, columns, seen, &node, nodes, used),
+        None => Ok(()),
+    }
 }
 
-/// Examines so many nodes, the one of least bound first, and gives the table with the cuts besides that had a rate at one.
+/// Examines so many nodes, the one of least bound first, and puts the cuts besides in the table that had a rate at one.
 pub(crate) fn try_nodes(
     ground: Ground<'_>,
-    table: CutTable,
+    table: &mut CutTable,
     most: u32,
     aim: Aim,
     columns: &mut ColumnPool,
     seen: &mut SeenLoads,
-    mut nodes: Vec<Node>,
-) -> Result<CutTable, AllocError>
-    requires table { table.problem ≡ ground.inst.now }
+    nodes: &mut Vec<Node>,
+) -> Result<(), AllocError>
+    requires table { table.old.problem ≡ ground.inst.now }
     requires count { length columns.old ≡ length ground.inst.now.demands }
-    ensures { IfOk result (λ table. table.problem ≡ ground.entry.inst.now) }
+    ensures { table.new.problem ≡ table.old.problem }
 {
     let before = table.count();
-    let mut table = table;
     let mut used = Vec::new(ground.alloc);
     for _ in 0..most {
-        table = try_next(ground, table, aim, columns, seen, &mut nodes, &mut used)?;
+        try_next(ground, table, aim, columns, seen, nodes, &mut used)?;
     }
-    used_table(ground, table, before, &used)
+    keep_used(ground, table, before, &used)
 }
