@@ -304,6 +304,15 @@ struct Negotiation {
     scout: Scout,
 }
 
+/// The routing of copies of these paths, of which none is laid.
+fn empty_routing(alloc: Global, inst: &Instance, paths: &Items<Path>) -> Result<Routing, AllocError>
+    requires { ArePaths inst.now paths.now }
+    ensures { IfOk result (IsRouting inst.now) }
+{
+    let copies = roomy_copies(alloc, inst, paths.as_slice())?;
+    Routing::new(alloc, inst, copies)
+}
+
 impl Negotiation {
     /// The negotiation before its first round: none of these paths is laid.
     fn new(
@@ -316,14 +325,13 @@ impl Negotiation {
         requires paths { ArePaths inst.now paths.now }
         ensures { IfOk result (λ negotiation. IsRouting inst.now negotiation.routing) }
     {
-        let copies = roomy_copies(alloc, inst, paths.as_slice())?;
         Ok(Negotiation {
-            routing: Routing::new(alloc, inst, copies)?,
             tolls: first_tolls(alloc, inst, table)?,
             pressure: FIRST_PRESSURE,
             searches: 0,
             weights: Vec::with_capacity(alloc, inst.arcs() as usize)?,
             scout: Scout::new(alloc, inst)?,
+            routing: empty_routing(alloc, inst, paths)?,
         })
     }
 
@@ -410,6 +418,55 @@ impl Negotiation {
         self.pressure = self.pressure.saturating_add(self.pressure / 16);
         raise_all(inst, &self.routing.loads, &mut self.tolls)
     }
+
+    /// Goes rounds until all links are left with what they can carry; false where no round leaves them so.
+    fn settle(
+        &mut self,
+        inst: &Instance,
+        table: &StepTable,
+        order: &[(u128, u32)],
+    ) -> Result<bool, AllocError>
+        requires table { table.now ≡ inst.now }
+        requires order { All (λ key. key.1 < length inst.now.demands) order.now }
+        requires routing { IsRouting inst.now self.old.routing }
+        ensures routing { OnOk result (IsRouting inst.now self.new.routing) }
+    {
+        for round in 0..MOST_ROUNDS {
+            if !self.go_round(inst, table, order, round == 0)? {
+                return Ok(false);
+            }
+            if !self.raise(inst) {
+                return Ok(true);
+            }
+        }
+        Ok(false)
+    }
+
+    /// The paths, whether they are laid or not.
+    fn into_paths(self) -> Items<Path>
+        ensures { result ≡ self.routing.paths.items }
+    {
+        Items::from_vec(self.routing.paths)
+    }
+}
+
+/// Paths that are negotiated by rounds in this order. None as `negotiated`.
+fn negotiated_in_order(
+    alloc: Global,
+    inst: &Instance,
+    table: &StepTable,
+    paths: &Items<Path>,
+    order: &[(u128, u32)],
+) -> Result<Option<Items<Path>>, AllocError>
+    requires table { table.now ≡ inst.now }
+    requires paths { ArePaths inst.now paths.now }
+    requires order { All (λ key. key.1 < length inst.now.demands) order.now }
+    ensures { IfOk result (λ found. IfSome found (ArePaths inst.now)) }
+{
+    let mut negotiation = Negotiation::new(alloc, inst, table, paths)?;
+    let is_settled = negotiation.settle(inst, table, order)?;
+    let paths = negotiation.into_paths();
+    Ok(if is_settled { Some(paths) } else { None })
 }
 
 /// Paths that are negotiated: in each round demands are laid one by one on the paths that ask least, the largest loads
@@ -430,15 +487,6 @@ pub fn negotiated(
     requires paths { ArePaths inst.now paths.now }
     ensures paths { IfOk result (λ found. IfSome found (ArePaths inst.now)) }
 {
-    let mut negotiation = Negotiation::new(alloc, inst, table, paths)?;
     let order = largest_first(alloc, inst)?;
-    for round in 0..MOST_ROUNDS {
-        if !negotiation.go_round(inst, table, order.as_slice(), round == 0)? {
-            return Ok(None);
-        }
-        if !negotiation.raise(inst) {
-            return Ok(Some(Items::from_vec(negotiation.routing.paths)));
-        }
-    }
-    Ok(None)
+    negotiated_in_order(alloc, inst, table, paths, order.as_slice())
 }

@@ -1,5 +1,0 @@
-use Rattle.demand_routing.specs.Routings.{IsRouting}
-use Rattle.incumbent.proofs.negotiating.negotiated.Given as goal
-
-abbrev pub invariant-loop-round : goal.invariant-loop-round
-invariant-loop-round l = IsRouting l.inst l.negotiation.routing
