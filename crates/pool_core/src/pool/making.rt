@@ -1,8 +1,10 @@
 //! The pool before its first event.
 
-ghost use Rattle.std.specs.Prelude.{◌≡◌, ◌<◌, ◌≤◌, ◌^◌, ◌∷◌, [], length, IfOk};
+ghost use Rattle.std.specs.Prelude.{◌≡◌, ◌<◌, ◌≤◌, ◌+◌, ◌^◌, ◌∷◌, [], length, IfOk};
 ghost use Rattle.std.specs.Arc.{arc_value};
+ghost use Rattle.plan_base.specs.Places.{places};
 ghost use Rattle.proof_tree.specs.Cuts.{IsCutList};
+ghost use Rattle.column_pool.specs.Columns.{no_columns};
 ghost use Rattle.pool_machine.specs.declared.limits.TheConstants.{MAX_BUDGET, MAX_ROUNDS};
 ghost use Rattle.pool_machine.specs.Machine.{IsOpeningState, root_with};
 ghost use Rattle.pool_reading.specs.Views.{AreFreePlaces};
@@ -22,6 +24,18 @@ use pool_reading::{Claims, OpenLeaves};
 use proof_tree::Cut;
 use std::alloc::{AllocError, Global};
 use std::sync::Arc;
+
+/// What a pool has before its first event, beside its instance and the tables.
+#[derive(Drop)]
+struct Opening {
+    nodes: Vec<PoolNode>,
+    columns: ColumnPool,
+    room: Room,
+    grounds: Vec<Ground>,
+    places: Vec<Slot>,
+    claims: Claims,
+    leaves: OpenLeaves,
+}
 
 /// Free room for a round in each slot.
 ///
@@ -59,6 +73,58 @@ fn root_grounds(alloc: Global, inst: &Instance) -> Result<Vec<Ground>, AllocErro
     Ok(grounds)
 }
 
+/// The root alone, which waits with these prices, and free room for a round in each slot.
+fn root_and_places(
+    alloc: Global,
+    inst: &Instance,
+    prices: Prices,
+) -> Result<(Vec<PoolNode>, Vec<Slot>), AllocError>
+    requires few { length prices < 2 ^ 32 }
+    ensures root { IfOk result (λ both. both.0.items ≡ root_with prices ∷ []) }
+    ensures free { IfOk result (λ both. AreFreePlaces MAX_ROUNDS (length inst.now.demands) (length prices) both.1.items) }
+{
+    let places = free_places(alloc, inst, &prices)?;
+    let nodes = root_alone(alloc, prices)?;
+    Ok((nodes, places))
+}
+
+/// No worker has been given a task, and the root alone is an open leaf.
+fn first_claims(alloc: Global) -> Result<(Claims, OpenLeaves), AllocError> {
+    let claims = Claims::none(alloc)?;
+    let leaves = OpenLeaves::root(alloc)?;
+    Ok((claims, leaves))
+}
+
+/// What a pool has before its first event, whose root waits with these prices.
+fn opening_with(
+    alloc: Global,
+    inst: &Instance,
+    table: &CutTable,
+    prices: Prices,
+) -> Result<Opening, AllocError>
+    requires few { length prices < 2 ^ 32 }
+    ensures root { IfOk result (λ opening. opening.nodes.items ≡ root_with prices ∷ []) }
+    ensures columns { IfOk result (λ opening. opening.columns ≡ no_columns inst.now) }
+    ensures room { IfOk result (λ opening. opening.room ≡ places inst.now + length table.now.cuts) }
+    ensures grounds { IfOk result (λ opening. HasFreeRoot inst.now opening.grounds.items) }
+    ensures free { IfOk result (λ opening. AreFreePlaces MAX_ROUNDS (length inst.now.demands) (length prices) opening.places.items) }
+{
+    let (claims, leaves) = first_claims(alloc)?;
+    let room = Room::new(alloc, inst, table)?;
+    let grounds = root_grounds(alloc, inst)?;
+    let columns = ColumnPool::new(alloc, inst)?;
+    let (nodes, places) = root_and_places(alloc, inst, prices)?;
+    Ok(Opening {
+        nodes,
+        columns,
+        room,
+        grounds,
+        places,
+        claims,
+        leaves,
+    })
+}
+
 impl Pool {
     /// A pool whose root waits with the start prices, and with rates of 0. All places of rounds are taken here, and the
     /// room in which steps are tried.
@@ -83,32 +149,26 @@ impl Pool {
         let _places = inst.places();
         let cut_table = CutTable::new(alloc, &*inst, steps, cuts)?;
         let prices = cut_table.start_numbers(alloc)?;
-        let places = free_places(alloc, &*inst, &prices)?;
-        let nodes = root_alone(alloc, prices)?;
-        let grounds = root_grounds(alloc, &*inst)?;
-        let unit = cost_unit(&*inst);
-        let columns = ColumnPool::new(alloc, &*inst)?;
-        let room = Room::new(alloc, &*inst, &cut_table)?;
         let table = Arc::new(alloc, cut_table)?;
-        let claims = Claims::none(alloc)?;
-        let leaves = OpenLeaves::root(alloc)?;
+        let opening = opening_with(alloc, &*inst, &*table, prices)?;
+        let unit = cost_unit(&*inst);
         Ok(Pool {
             alloc,
             problem: inst,
             table,
             unit,
-            nodes,
-            columns,
-            room,
-            grounds,
-            places,
+            nodes: opening.nodes,
+            columns: opening.columns,
+            room: opening.room,
+            grounds: opening.grounds,
+            places: opening.places,
             incumbent: None,
             examined: 0,
             budget,
             next_version: 1,
             accepted: 0,
-            claims,
-            leaves,
+            claims: opening.claims,
+            leaves: opening.leaves,
             known: KnownAbove::nothing(alloc),
         })
     }

@@ -16,8 +16,8 @@ use Rattle.pool_core.proofs.ReadTables.{of_equal}
 use Rattle.pool_core.proofs.Making.{opening-kept-at, opening-state-at}
 use Rattle.pool_core.proofs.pool.Pool.new.Goals as goal
 
-pub free_places-requires : goal.free_places-requires
-free_places-requires c =
+pub opening_with-requires : goal.opening_with-requires
+opening_with-requires c =
     let p = arc_value c.args.inst in
     let same : c.deref.result.now ≡ p = c.deref.ensures in
     let table : c.in_ok-cut_table.cut_table.problem ≡ p = ap (λ (t : CutProblem). t.problem) c.in_ok-cut_table.ensures ∙ c.deref-2.ensures in
@@ -41,17 +41,17 @@ invariant_of-result c =
     let are_cuts : IsCutList p table.cuts = subst (IsCutList p) cuts c.requires.cuts in
     let start : AreStartNumbers p table.cuts prices = of_equal (λ q xs. AreStartNumbers q xs prices) _ _ _ _ is_p (ap (λ (t : CutProblem). t.cuts) same) c.in_ok-prices.ensures.start in
     let numbers : AreNumbers p table.cuts prices = of_equal (λ q xs. AreNumbers q xs prices) _ _ _ _ is_p (ap (λ (t : CutProblem). t.cuts) same) c.in_ok-prices.ensures.numbers in
-    let columns : c.in_ok-columns.columns ≡ no_columns p = subst (λ (q : Parts). c.in_ok-columns.columns ≡ no_columns q) c.deref-6.ensures c.in_ok-columns.ensures in
+    let columns : c.in_ok-opening.opening.columns ≡ no_columns p = subst (λ (q : Parts). c.in_ok-opening.opening.columns ≡ no_columns q) c.deref-3.ensures c.in_ok-opening.ensures.columns in
     record {
       kept =
-          opening-kept-at p table.cuts c.cost_unit-unit.result c.args.budget prices lawful are_cuts is_unit start numbers table c.in_ok-nodes.nodes.items c.in_ok-columns.columns c.in_ok-grounds.grounds.items c.in_ok-places.places.items
+          opening-kept-at p table.cuts c.cost_unit-unit.result c.args.budget prices lawful are_cuts is_unit start numbers table c.in_ok-opening.opening.nodes.items c.in_ok-opening.opening.columns c.in_ok-opening.opening.grounds.items c.in_ok-opening.opening.places.items
           c.requires.some_budget c.requires.budget (ap (λ (t : CutProblem). t.problem) (sym same) ∙ is_p) refl
-          (subst (λ (n : ℕ). AreFreePlaces 64 (length p.demands) n c.in_ok-places.places.items) start.count
-          (subst (λ (q : Parts). AreFreePlaces 64 (length q.demands) (length prices) c.in_ok-places.places.items) c.deref-3.ensures c.in_ok-places.ensures))
-          (subst (λ (q : Parts). HasFreeRoot q c.in_ok-grounds.grounds.items) c.deref-4.ensures c.in_ok-grounds.ensures)
-          c.in_ok-nodes.ensures
+          (subst (λ (n : ℕ). AreFreePlaces 64 (length p.demands) n c.in_ok-opening.opening.places.items) start.count
+          (subst (λ (q : Parts). AreFreePlaces 64 (length q.demands) (length prices) c.in_ok-opening.opening.places.items) c.deref-3.ensures c.in_ok-opening.ensures.free))
+          (subst (λ (q : Parts). HasFreeRoot q c.in_ok-opening.opening.grounds.items) c.deref-3.ensures c.in_ok-opening.ensures.grounds)
+          c.in_ok-opening.ensures.root
           columns;
-      room_is = of_equal (λ q xs. c.in_ok-room.room ≡ places q + length xs) _ _ _ _ c.deref-7.ensures (ap (λ (t : CutProblem). t.cuts) same) c.in_ok-room.ensures;
+      room_is = of_equal (λ q xs. c.in_ok-opening.opening.room ≡ places q + length xs) _ _ _ _ c.deref-3.ensures (ap (λ (t : CutProblem). t.cuts) c.deref-4.ensures) c.in_ok-opening.ensures.room;
     }
 
 pub returns : goal.returns
@@ -64,9 +64,9 @@ returns c =
     let is_cuts : c.in_ok-cut_table.cut_table.cuts ≡ c.args.cuts = ap (λ (t : CutProblem). t.cuts) c.in_ok-cut_table.ensures in
     let start : AreStartNumbers p c.args.cuts prices = of_equal (λ q xs. AreStartNumbers q xs prices) _ _ _ _ is_p is_cuts c.in_ok-prices.ensures.start in
     let numbers : AreNumbers p c.args.cuts prices = of_equal (λ q xs. AreNumbers q xs prices) _ _ _ _ is_p is_cuts c.in_ok-prices.ensures.numbers in
-    let columns : c.in_ok-columns.columns ≡ no_columns p = subst (λ (q : Parts). c.in_ok-columns.columns ≡ no_columns q) c.deref-6.ensures c.in_ok-columns.ensures in
+    let columns : c.in_ok-opening.opening.columns ≡ no_columns p = subst (λ (q : Parts). c.in_ok-opening.opening.columns ≡ no_columns q) c.deref-3.ensures c.in_ok-opening.ensures.columns in
     let held : (arc_value c.in_ok-table.table).cuts ≡ c.args.cuts = ap (λ (t : CutProblem). t.cuts) (c.in_ok-table.ensures.ok ∙ c.in_ok-cut_table.ensures) in
     record {
       opening = opening-state-at p c.args.cuts c.cost_unit-unit.result c.args.budget prices lawful c.requires.cuts is_unit start numbers (arc_value c.in_ok-table.table).cuts
-          c.in_ok-nodes.nodes.items c.in_ok-columns.columns held c.in_ok-nodes.ensures columns;
+          c.in_ok-opening.opening.nodes.items c.in_ok-opening.opening.columns held c.in_ok-opening.ensures.root columns;
     }
