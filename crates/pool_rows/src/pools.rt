@@ -17,6 +17,17 @@ use pool_core::Pool;
 use row_networks::{Network, network_of};
 use std::alloc::Global;
 
+/// Puts the pool of these words in the place of the one before.
+fn put_pool(
+    alloc: Global,
+    networks: &[Network],
+    pool: &mut Option<Pool>,
+    words: &str,
+) -> Option<()> {
+    *pool = Some(pool_of(alloc, networks, words)?);
+    Some(())
+}
+
 /// Makes the call of a row, and adds the answer.
 fn tell(alloc: Global, pool: &mut Pool, kind: &str, rest: &str, text: &mut String) -> Option<()> {
     match kind {
@@ -35,6 +46,23 @@ fn tell(alloc: Global, pool: &mut Pool, kind: &str, rest: &str, text: &mut Strin
     }
 }
 
+/// Adds the answer to a row of this kind: makes a pool, ends with its plan, or makes a call of it.
+fn tell_kind(
+    alloc: Global,
+    networks: &[Network],
+    pool: &mut Option<Pool>,
+    kind: &str,
+    rest: &str,
+    text: &mut String,
+) -> Option<()> {
+    match kind {
+        "made" => made::tell_networks(alloc, text),
+        "pool" => put_pool(alloc, networks, pool, rest),
+        "plan" => planning::tell_plan(alloc, pool.take()?, text),
+        _ => tell(alloc, pool.as_mut()?, kind, rest, text),
+    }
+}
+
 /// Keeps the network of a row, or adds the row and the answer to its call. None where the row is none, and where memory is
 /// wanting.
 fn tell_row(
@@ -49,23 +77,29 @@ fn tell_row(
         return networks.push(network_of(alloc, rest)?).ok();
     }
     write!(text, "{row}:").ok()?;
-    match kind {
-        "made" => made::tell_networks(alloc, text)?,
-        "pool" => *pool = Some(pool_of(alloc, networks.as_slice(), rest)?),
-        "plan" => planning::tell_plan(alloc, pool.take()?, text)?,
-        _ => tell(alloc, pool.as_mut()?, kind, rest, text)?,
-    }
+    tell_kind(alloc, networks.as_slice(), pool, kind, rest, text)?;
     text.push_str("\n").ok()
+}
+
+/// Adds each call of this file with its answer, beside the networks and the pool that rows before it gave.
+fn tell_each(
+    alloc: Global,
+    networks: &mut Vec<Network>,
+    pool: &mut Option<Pool>,
+    file: &str,
+    text: &mut String,
+) -> Option<()> {
+    for row in file.lines() {
+        if !row.is_empty() && !row.starts_with('#') {
+            tell_row(alloc, networks, pool, row, text)?;
+        }
+    }
+    Some(())
 }
 
 /// Adds each call of this file with its answer.
 pub(crate) fn tell_rows(alloc: Global, file: &str, text: &mut String) -> Option<()> {
     let mut networks = Vec::new(alloc);
     let mut pool = None;
-    for row in file.lines() {
-        if !row.is_empty() && !row.starts_with('#') {
-            tell_row(alloc, &mut networks, &mut pool, row, text)?;
-        }
-    }
-    Some(())
+    tell_each(alloc, &mut networks, &mut pool, file, text)
 }

@@ -23,8 +23,8 @@ pub(crate) fn pool_of(alloc: Global, networks: &[Network], words: &str) -> Optio
         return None;
     }
     let inst = find(networks, name)?.copy(alloc).ok()?;
-    let table = table_of(alloc, &inst)?;
-    let cuts = cuts_of(alloc, &inst, cuts)?;
     let inst = Arc::new(alloc, inst).ok()?;
+    let cuts = cuts_of(alloc, &*inst, cuts)?;
+    let table = table_of(alloc, &*inst)?;
     Pool::new(alloc, inst, table, budget, cuts).ok()
 }

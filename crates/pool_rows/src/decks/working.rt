@@ -38,6 +38,21 @@ fn last_seat<N: Naming, R: Wait + Drop>(
     seats.pop()
 }
 
+/// Lets the last seat of a hub work with a deck until nothing is left to do.
+fn work_by_last<N: Naming, R: Wait, W: Wait + Drop>(
+    rt: &R,
+    alloc: Global,
+    hub: &LinearHub<N, W>,
+    seats: Vec<LinearSeat<N, W>>,
+    deck: &mut Deck,
+) -> Option<()>
+    requires { All (λ s. s.pass.table_id ≡ hub.now.turns.table.shared.table_id) seats.items }
+    ensures { IsSameDeck deck.old deck.new }
+{
+    let mut seat = last_seat(hub, seats)?;
+    work_blocks(rt, alloc, hub, &mut seat, deck, &NoGate).ok()
+}
+
 /// Lets one seat of a hub work with a deck until nothing is left to do.
 fn work_with<N: Naming, R: Wait>(rt: &R, alloc: Global, pool: Pool, deck: &mut Deck) -> Option<()>
     requires opening { pool ≡ N.opening }
@@ -49,8 +64,24 @@ fn work_with<N: Naming, R: Wait>(rt: &R, alloc: Global, pool: Pool, deck: &mut D
     let Ok((hub, seats)) = LinearHub::<N, &R>::new(alloc, pool, 1, writer, readers) else {
         return None;
     };
-    let mut seat = last_seat(&hub, seats)?;
-    work_blocks(rt, alloc, &hub, &mut seat, deck, &NoGate).ok()
+    work_by_last(rt, alloc, &hub, seats, deck)
+}
+
+/// Works on a pool with the first of two decks, and adds whether it put at least two blocks, and what the other then steals.
+fn tell_work<R: Wait>(
+    rt: &R,
+    alloc: Global,
+    pool: Pool,
+    zero: &mut Deck,
+    one: &mut Deck,
+    text: &mut String,
+) -> Option<()>
+    ensures zero { IsSameDeck zero.old zero.new }
+    ensures one { IsSameDeck one.old one.new }
+{
+    work_with::<Brand, R>(rt, alloc, pool, zero)?;
+    write!(text, "worked: two blocks put {}\n", zero.puts() >= 2).ok()?;
+    tell_steal(rt, one, text)
 }
 
 /// Adds whether the worker put at least two blocks, what another deck then steals, and what is left.
@@ -59,9 +90,7 @@ pub(crate) fn tell_worked<R: Wait>(rt: &R, alloc: Global, text: &mut String) -> 
     let Ok(Some((mut zero, mut one))) = two_decks(alloc) else {
         return None;
     };
-    work_with::<Brand, R>(rt, alloc, pool, &mut zero)?;
-    write!(text, "worked: two blocks put {}\n", zero.puts() >= 2).ok()?;
-    tell_steal(rt, &mut one, text)?;
+    tell_work(rt, alloc, pool, &mut zero, &mut one, text)?;
     let left = gather_two(alloc, zero, one).ok()?;
     tell_left(left.as_slice(), text)
 }

@@ -73,6 +73,20 @@ fn tell_call<R: Wait + Drop>(
     text.push_str("\n").ok()
 }
 
+/// Makes the calls of rows one after the other.
+fn tell_calls<R: Wait + Drop>(
+    alloc: Global,
+    writer: &mut Writer<R>,
+    readers: &mut [BoardReader],
+    rows: &[&str],
+    text: &mut String,
+) -> Option<()> {
+    for row in rows {
+        tell_call(alloc, writer, readers, row, text)?;
+    }
+    Some(())
+}
+
 /// The writer and the readers of a new board, of three words: how many slots it has, how many readers, and how many prices
 /// an entry has.
 fn board_of<R: Wait + Drop>(
@@ -104,9 +118,7 @@ pub(crate) fn tell_dialogue<R: Wait>(
     text: &mut String,
 ) -> Option<()> {
     let (mut writer, mut readers) = board_of(rt, alloc, words)?;
-    for row in calls {
-        tell_call(alloc, &mut writer, readers.as_mut_slice(), row, text)?;
-    }
+    tell_calls(alloc, &mut writer, readers.as_mut_slice(), calls, text)?;
     let Writer {
         board,
         slots: _slots,

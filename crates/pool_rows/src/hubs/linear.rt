@@ -108,6 +108,22 @@ fn two_seats<N: Naming, R: Wait + Drop>(
     Some((first, second))
 }
 
+/// Makes the calls of rows by the two seats of a hub, and gives the seats back.
+fn told_by_two<N: Naming, R: Wait, W: Wait + Drop>(
+    common: &Common<R>,
+    hub: &LinearHub<N, W>,
+    seats: Vec<LinearSeat<N, W>>,
+    rows: &[&str],
+    text: &mut String,
+) -> Option<(LinearSeat<N, W>, LinearSeat<N, W>)>
+    requires { All (λ s. s.pass.table_id ≡ hub.now.turns.table.shared.table_id) seats.items }
+    ensures { IfSome result (λ two. (two.0.pass.table_id ≡ hub.now.turns.table.shared.table_id) × (two.1.pass.table_id ≡ hub.now.turns.table.shared.table_id)) }
+{
+    let (mut first, mut second) = two_seats(hub, seats)?;
+    tell_calls(common, hub, &mut first, &mut second, rows, text)?;
+    Some((first, second))
+}
+
 /// Ends a hub with its two seats, and adds what the plan of its pool claims.
 fn tell_end<N: Naming, R: Wait + Drop>(
     alloc: Global,
@@ -142,14 +158,13 @@ fn take_turns<N: Naming, R: Wait>(
     let Ok((hub, seats)) = LinearHub::<N, &R>::new(alloc, pool, 2, writer, readers) else {
         return None;
     };
-    let (mut first, mut second) = two_seats(&hub, seats)?;
     let common = Common {
         rt,
         alloc,
         demands,
         arcs,
     };
-    tell_calls(&common, &hub, &mut first, &mut second, rows, text)?;
+    let (first, second) = told_by_two(&common, &hub, seats, rows, text)?;
     tell_end(alloc, hub, first, second, text)
 }
 

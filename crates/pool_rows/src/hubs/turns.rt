@@ -86,9 +86,9 @@ fn take_turns<N: Naming, R: Wait>(
         demands,
         arcs,
     };
-    tell_calls(&common, &hub, seats.as_mut_slice(), rows, text)?;
+    let told = tell_calls(&common, &hub, seats.as_mut_slice(), rows, text);
     // A hub ends with all its seats.
-    if seats.len() != workers as usize {
+    if told.is_none() || seats.len() != workers as usize {
         return None;
     }
     tell_plan(hub.end(seats), text)

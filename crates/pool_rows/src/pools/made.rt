@@ -53,15 +53,21 @@ fn is_found(alloc: Global, pool: &mut Pool, inst: &Instance) -> Option<bool> {
     }
 }
 
+/// Whether the search of a new pool on an instance is decided. None where the twin tells otherwise, and where memory is
+/// wanting.
+fn is_decided_on(alloc: Global, pool: &mut Pool, inst: &Instance) -> Option<bool> {
+    let prices = pool.table().steps().start_prices(alloc).ok()?;
+    if first_bound(alloc, pool) != Some(root_bound(alloc, inst, prices.as_slice())?) {
+        return None;
+    }
+    is_found(alloc, pool, inst)
+}
+
 /// Whether the next network is decided. None where the twin tells otherwise, and where memory is wanting.
 fn next_is_decided(alloc: Global, draws: &mut Draws) -> Option<bool> {
     let inst = made_network(alloc, draws)?;
     let mut pool = pool_on(alloc, &inst)?;
-    let prices = pool.table().steps().start_prices(alloc).ok()?;
-    if first_bound(alloc, &mut pool) != Some(root_bound(alloc, &inst, prices.as_slice())?) {
-        return None;
-    }
-    is_found(alloc, &mut pool, &inst)
+    is_decided_on(alloc, &mut pool, &inst)
 }
 
 /// Adds how many made networks were decided, or the first of which the twin tells otherwise.

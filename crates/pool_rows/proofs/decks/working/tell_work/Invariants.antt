@@ -1,4 +1,4 @@
-use Rattle.pool_rows.proofs.decks.working.tell_worked.Given as goal
+use Rattle.pool_rows.proofs.decks.working.tell_work.Given as goal
 
 abbrev pub ghosts-work_with-N-Naming : goal.ghosts-work_with-N-Naming
 ghosts-work_with-N-Naming g a = record { opening = a.pool }
