@@ -9,7 +9,7 @@ use crate::office::Office;
 use crate::search::Search;
 use crate::told::Told;
 use leaf_work::{Next, keep_limits, next_step};
-use plan_base::{BranchId, DemandId, Items, Path};
+use plan_base::{BranchId, DemandId, Design, Items, Path};
 use pool_machine::{Better, ExamineFault, Gather, Offered, Opened, Publish, Task};
 use std::alloc::{AllocError, Global};
 use std::sync::Wait;
@@ -197,6 +197,45 @@ fn start_paths<N: Search, H: Office<N>, T: Wait>(
     }
 }
 
+/// The design that a search finds which begins with the least paths of a version.
+fn found_design<N: Search, H: Office<N>, T: Wait>(
+    rt: &T,
+    alloc: Global,
+    hub: &H,
+    seat: &mut H::Seat,
+    bench: &mut Bench<N>,
+    told: &Told<N>,
+) -> Result<Option<Design>, AllocError>
+    requires of { H.of hub.now seat.old }
+    ensures of { H.of hub.now seat.new }
+    ensures keeps { H.keeps seat.old seat.new }
+{
+    let paths = start_paths(rt, alloc, hub, seat, told)?;
+    bench.design(&**hub.instance(), hub.table().steps(), told, &paths)
+}
+
+/// Hands a design in, where the seat may make a further call.
+///
+/// - Gives: whether the design is taken.
+fn hand_in<N: Search, H: Office<N>, T: Wait>(
+    rt: &T,
+    hub: &H,
+    seat: &mut H::Seat,
+    design: Design,
+) -> bool
+    requires of { H.of hub.now seat.old }
+    ensures of { H.of hub.now seat.new }
+    ensures keeps { H.keeps seat.old seat.new }
+{
+    let Ok(()) = hub.may_call(seat) else {
+        return false;
+    };
+    match hub.better(rt, seat, design) {
+        Ok(Better::Taken { cost: _cost }) => true,
+        _ => false,
+    }
+}
+
 /// Searches for a design, where a complete version was worked on and one is due, and hands it in. A search that begins with
 /// a design begins with the cheapest one of all workers.
 ///
@@ -220,16 +259,9 @@ pub(crate) fn seek_design<N: Search, H: Office<N>, T: Wait>(
         return Ok(false);
     }
     learn_best(rt, hub, seat, bench)?;
-    let paths = start_paths(rt, alloc, hub, seat, told)?;
-    let Some(design) = bench.design(&**hub.instance(), hub.table().steps(), told, &paths)? else {
-        return Ok(false);
-    };
-    let Ok(()) = hub.may_call(seat) else {
-        return Ok(false);
-    };
-    match hub.better(rt, seat, design) {
-        Ok(Better::Taken { cost: _cost }) => Ok(true),
-        _ => Ok(false),
+    match found_design(rt, alloc, hub, seat, bench, told)? {
+        Some(design) => Ok(hand_in(rt, hub, seat, design)),
+        None => Ok(false),
     }
 }
 
@@ -255,6 +287,31 @@ fn open<N: Search, H: Office<N>, T: Wait>(
     }
 }
 
+/// Searches for a first design, where none is known to a version that a master step is told of.
+///
+/// - Gives: whether a design is taken.
+fn seek_first<N: Search, H: Office<N>, T: Wait>(
+    rt: &T,
+    alloc: Global,
+    hub: &H,
+    seat: &mut H::Seat,
+    bench: &mut Bench<N>,
+    told: &Option<Told<N>>,
+) -> Result<bool, AllocError>
+    requires of { H.of hub.now seat.old }
+    ensures of { H.of hub.now seat.new }
+    ensures keeps { H.keeps seat.old seat.new }
+{
+    let is_first = match told {
+        Some(told) => told.brief().incumbent.is_none(),
+        None => false,
+    };
+    if !is_first {
+        return Ok(false);
+    }
+    seek_design(rt, alloc, hub, seat, bench, told)
+}
+
 /// What a master step is told of a complete version. Where no design is known, one is searched for first, since what comes
 /// next depends on its cost.
 fn told_with_design<N: Search, H: Office<N>, T: Wait>(
@@ -271,14 +328,10 @@ fn told_with_design<N: Search, H: Office<N>, T: Wait>(
     ensures keeps { H.keeps seat.old seat.new }
 {
     let told = told_of(rt, hub, seat, node, version)?;
-    let is_first = match &told {
-        Some(told) => told.brief().incumbent.is_none(),
-        None => false,
-    };
-    if is_first && seek_design(rt, alloc, hub, seat, bench, &told)? {
-        return told_of(rt, hub, seat, node, version);
+    if !seek_first(rt, alloc, hub, seat, bench, &told)? {
+        return Ok(told);
     }
-    Ok(told)
+    told_of(rt, hub, seat, node, version)
 }
 
 /// Goes on with a complete version. A search for a design that is not the first one comes only after that, so that no other

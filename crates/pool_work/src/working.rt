@@ -1,6 +1,6 @@
 //! What a worker does until nothing is left: tasks alone, or blocks of demands and tasks.
 
-ghost use Rattle.std.specs.Prelude.{◌≡◌, true, OnOk, IfOk};
+ghost use Rattle.std.specs.Prelude.{◌≡◌, true, OnOk, IfOk, IfNone};
 ghost use Rattle.block_deques.specs.Decks.{IsSameDeck};
 
 use crate::bench::Bench;
@@ -13,6 +13,59 @@ use plan_io::Gate;
 use pool_machine::Task;
 use std::alloc::{AllocError, Global};
 use std::sync::Wait;
+
+/// Takes a task and does it, but for the search for a design that may follow. None where no task is left.
+fn take_task<N: Search, H: Office<N>, T: Wait, G: Gate>(
+    rt: &T,
+    alloc: Global,
+    hub: &H,
+    seat: &mut H::Seat,
+    bench: &mut Bench<N>,
+    gate: &G,
+    number: u32,
+    turn: u64,
+) -> Result<Option<Left<N>>, AllocError>
+    requires of { H.of hub.now seat.old }
+    requires free { H.free seat.old }
+    ensures of { H.of hub.now seat.new }
+    ensures keeps { H.keeps seat.old seat.new }
+    ensures done { IfOk result (λ left. IfNone left (H.ended hub.now seat.new)) }
+{
+    let (task, standing) = hub.standing_task(rt, seat, gate.asks());
+    if let Task::Done = task {
+        return Ok(None);
+    }
+    gate.pass(number, turn);
+    gate.stand(standing);
+    let left = do_task(rt, alloc, hub, seat, bench, task)?;
+    Ok(Some(left))
+}
+
+/// Takes a task and does all of it.
+///
+/// - Gives: whether no task is left.
+fn do_next<N: Search, H: Office<N>, T: Wait, G: Gate>(
+    rt: &T,
+    alloc: Global,
+    hub: &H,
+    seat: &mut H::Seat,
+    bench: &mut Bench<N>,
+    gate: &G,
+    number: u32,
+    turn: u64,
+) -> Result<bool, AllocError>
+    requires of { H.of hub.now seat.old }
+    requires free { H.free seat.old }
+    ensures of { H.of hub.now seat.new }
+    ensures keeps { H.keeps seat.old seat.new }
+    ensures done { IfOk result (λ done. done ≡ true → H.ended hub.now seat.new) }
+{
+    let Some(left) = take_task(rt, alloc, hub, seat, bench, gate, number, turn)? else {
+        return Ok(true);
+    };
+    let _taken = seek_design(rt, alloc, hub, seat, bench, &left.told)?;
+    Ok(false)
+}
 
 /// Does tasks on a bench until none is left.
 fn do_tasks<N: Search, H: Office<N>, T: Wait, G: Gate>(
@@ -34,15 +87,10 @@ fn do_tasks<N: Search, H: Office<N>, T: Wait, G: Gate>(
         let Ok(()) = hub.may_call(seat) else {
             return Ok(());
         };
-        let (task, standing) = hub.standing_task(rt, seat, gate.asks());
-        if let Task::Done = task {
+        if do_next(rt, alloc, hub, seat, bench, gate, number, turn)? {
             return Ok(());
         }
-        gate.pass(number, turn);
-        gate.stand(standing);
         turn = turn.saturating_add(1);
-        let left = do_task(rt, alloc, hub, seat, bench, task)?;
-        let _taken = seek_design(rt, alloc, hub, seat, bench, &left.told)?;
     }
     unreachable!()
 }
@@ -98,7 +146,7 @@ fn do_rest<N: Search, H: Office<N>, T: Wait>(
     seat: &mut H::Seat,
     deck: &mut Deck,
     bench: &mut Bench<N>,
-    left: Left<N>,
+    left: &Left<N>,
 ) -> Result<(), AllocError>
     requires of { H.of hub.now seat.old }
     ensures of { H.of hub.now seat.new }
@@ -140,14 +188,10 @@ fn take_turn<N: Search, H: Office<N>, T: Wait, G: Gate>(
         do_block(rt, hub, seat, deck, bench, block)?;
         return Ok(false);
     }
-    let (task, standing) = hub.standing_task(rt, seat, gate.asks());
-    if let Task::Done = task {
+    let Some(left) = take_task(rt, alloc, hub, seat, bench, gate, number, turn)? else {
         return Ok(true);
-    }
-    gate.pass(number, turn);
-    gate.stand(standing);
-    let left = do_task(rt, alloc, hub, seat, bench, task)?;
-    do_rest(rt, alloc, hub, seat, deck, bench, left)?;
+    };
+    do_rest(rt, alloc, hub, seat, deck, bench, &left)?;
     Ok(false)
 }
 
