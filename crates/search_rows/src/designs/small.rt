@@ -108,6 +108,22 @@ fn tell_better(
     write!(text, ", improved {better}, completed {again}\n").ok()
 }
 
+/// Adds what a design costs, in units, and what is found from it.
+fn tell_design(
+    alloc: Global,
+    inst: &Instance,
+    table: &StepTable,
+    cost: u128,
+    design: Design,
+    text: &mut String,
+) -> Option<()>
+    requires { table.now ≡ inst.now }
+{
+    check_design(inst, &design).ok()?;
+    write!(text, " {}", cost / UNIT).ok()?;
+    tell_better(alloc, inst, table, design, text)
+}
+
 /// Adds what the cheapest design with the paths costs, in units, and what is found from it, or which link cannot carry the
 /// paths.
 fn tell_completed(
@@ -124,11 +140,7 @@ fn tell_completed(
     let design = Design { paths, counts };
     let overfull = overfull_link(inst, table, &design);
     match (complete(alloc, inst, table, design.paths).ok()?, overfull) {
-        (Some((cost, design)), None) => {
-            check_design(inst, &design).ok()?;
-            write!(text, " {}", cost / UNIT).ok()?;
-            tell_better(alloc, inst, table, design, text)
-        }
+        (Some((cost, design)), None) => tell_design(alloc, inst, table, cost, design, text),
         (None, Some(link)) => write!(text, " link {} is overfull\n", link.0).ok(),
         _ => None,
     }

@@ -1,7 +1,10 @@
 //! The two links between a and b of docs/METHOD.md, "Master step", which that section works out by hand.
 
+ghost use Rattle.std.specs.Prelude.{◌≡◌};
+
 use super::cutless_table;
 use column_pool::Brief;
+use cut_table::CutTable;
 use link_steps::Ranges;
 use master_step::{Step, advance, best_step, crowd_prices};
 use plan_base::{
@@ -86,16 +89,29 @@ fn raises(step: &Step, wanted: &[u128], value: i128) -> bool {
     }
 }
 
-/// The step of a brief, or the better of it and an ascent. None where the brief does not fit, and where memory is wanting.
-fn step_of(alloc: Global, inst: &Instance, brief: &Brief, is_best: bool) -> Option<Step> {
-    let table = cutless_table(alloc, inst)?;
-    if !brief.fits(inst, &table) {
+/// The step of a brief with a table, or the better of it and an ascent. None as `step_of`.
+fn step_with(
+    alloc: Global,
+    inst: &Instance,
+    table: &CutTable,
+    brief: &Brief,
+    is_best: bool,
+) -> Option<Step>
+    requires { table.now.problem ≡ inst.now }
+{
+    if !brief.fits(inst, table) {
         return None;
     }
     if is_best {
-        return best_step(alloc, inst, &table, brief).ok();
+        return best_step(alloc, inst, table, brief).ok();
     }
-    advance(alloc, inst, &table, brief).ok()
+    advance(alloc, inst, table, brief).ok()
+}
+
+/// The step of a brief, or the better of it and an ascent. None where the brief does not fit, and where memory is wanting.
+fn step_of(alloc: Global, inst: &Instance, brief: &Brief, is_best: bool) -> Option<Step> {
+    let table = cutless_table(alloc, inst)?;
+    step_with(alloc, inst, &table, brief, is_best)
 }
 
 /// Whether the step, and the better of it and an ascent, are as worked out.
@@ -127,15 +143,20 @@ fn has_crowd(alloc: Global, modules: &[Module], wanted: &[u128]) -> Option<bool>
     Some(crowd.as_slice() == wanted)
 }
 
+/// Whether the steps of the two links without a module are as worked out.
+fn has_plain_steps(alloc: Global) -> Option<bool> {
+    let inst = two_links(alloc, &[])?;
+    has_steps(alloc, &inst)
+}
+
 /// Whether the two links come out as worked out, with no module and with one on the first. None where memory is wanting.
 pub(crate) fn are_as_worked_out(alloc: Global) -> Option<bool> {
     let module = Module {
         capacity: 1,
         cost: 1,
     };
-    let inst = two_links(alloc, &[])?;
     Some(
-        has_steps(alloc, &inst)?
+        has_plain_steps(alloc)?
             && has_crowd(alloc, &[], &[1_000_000_000, 3_000_000_000])?
             && has_crowd(alloc, &[module], &[0, 3_000_000_000])?,
     )
