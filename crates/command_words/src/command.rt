@@ -1,8 +1,8 @@
 //! What the words of a command line ask for.
 
-ghost use Rattle.std.specs.Prelude.{◌≡◌, ◌≤◌, ◌<◌, map, string_bytes, option_map, option_and_then, IfOk, IfSome};
-ghost use Rattle.given_words.specs.Given.{given_now};
-ghost use Rattle.command_words.specs.Words.{number_within, budget_of, workers_of, plan_of, sample_key, plan_said, check_said, of_plan_said, upgrade_said, key_said, of_sample_said, command_by, command_now, command_in, IsBudget, AreWorkers, IsSampleKey, IsInRange};
+ghost use Rattle.std.specs.Prelude.{[], ◌≡◌, ◌≤◌, ◌<◌, map, string_bytes, option_map, option_and_then, IfOk, IfSome};
+ghost use Rattle.given_words.specs.Given.{given_now, told};
+ghost use Rattle.command_words.specs.Words.{network_names, plan_names, alone_names, sample_names, plan_options, number_within, budget_of, workers_of, plan_of, sample_key, plan_said, check_said, of_plan_said, upgrade_said, key_said, of_sample_said, command_by, command_now, command_in, IsBudget, AreWorkers, IsSampleKey, IsInRange};
 
 use given_words::given_in;
 use instance_maker::limits::{MAX_DEMANDS, MAX_NODES, MAX_NUMBER, MIN_NODES};
@@ -248,6 +248,64 @@ fn of_sample_said<'a>(
     Some(Command::OfSample { work, key })
 }
 
+/// The command `plan` of the words behind it.
+fn plan_in(alloc: Global, rest: &[String]) -> Result<Option<Command<&str>>, AllocError>
+    ensures value { IfOk result (λ asked. option_map command_now asked
+        ≡ option_and_then plan_said (told network_names plan_options (map string_bytes rest.now))) }
+    ensures range { IfOk result (λ asked. IfSome asked (λ command. IsInRange (command_now command))) }
+{
+    let given = given_in(alloc, &["network", "model"], &["workers", "nodes"], rest)?;
+    Ok(plan_said(given))
+}
+
+/// The command `check` of the words behind it.
+fn check_in(alloc: Global, rest: &[String]) -> Result<Option<Command<&str>>, AllocError>
+    ensures value { IfOk result (λ asked. option_map command_now asked
+        ≡ option_and_then check_said (told network_names [] (map string_bytes rest.now))) }
+    ensures range { IfOk result (λ asked. IfSome asked (λ command. IsInRange (command_now command))) }
+{
+    let given = given_in(alloc, &["network", "model"], &[], rest)?;
+    Ok(check_said(given))
+}
+
+/// The command that does this with a plan, of the words behind it.
+fn of_plan_in(
+    alloc: Global,
+    work: PlanWork,
+    rest: &[String],
+) -> Result<Option<Command<&str>>, AllocError>
+    ensures value { IfOk result (λ asked. option_map command_now asked
+        ≡ option_and_then (of_plan_said work) (told plan_names [] (map string_bytes rest.now))) }
+    ensures range { IfOk result (λ asked. IfSome asked (λ command. IsInRange (command_now command))) }
+{
+    let given = given_in(alloc, &["network", "model", "plan"], &[], rest)?;
+    Ok(of_plan_said(work, given))
+}
+
+/// The command `upgrade` of the words behind it.
+fn upgrade_in(alloc: Global, rest: &[String]) -> Result<Option<Command<&str>>, AllocError>
+    ensures value { IfOk result (λ asked. option_map command_now asked
+        ≡ option_and_then upgrade_said (told alone_names [] (map string_bytes rest.now))) }
+    ensures range { IfOk result (λ asked. IfSome asked (λ command. IsInRange (command_now command))) }
+{
+    let given = given_in(alloc, &["plan"], &[], rest)?;
+    Ok(upgrade_said(given))
+}
+
+/// The command that does this with a sample, of the words behind it.
+fn of_sample_in(
+    alloc: Global,
+    work: SampleWork,
+    rest: &[String],
+) -> Result<Option<Command<&str>>, AllocError>
+    ensures value { IfOk result (λ asked. option_map command_now asked
+        ≡ option_and_then (of_sample_said work) (told sample_names [] (map string_bytes rest.now))) }
+    ensures range { IfOk result (λ asked. IfSome asked (λ command. IsInRange (command_now command))) }
+{
+    let given = given_in(alloc, &["number", "nodes", "demands"], &[], rest)?;
+    Ok(of_sample_said(work, given))
+}
+
 /// The command of a word and those behind it: for each command word its names, its options, and what they mean.
 fn command_by<'a>(
     alloc: Global,
@@ -258,30 +316,13 @@ fn command_by<'a>(
     ensures range { IfOk result (λ asked. IfSome asked (λ command. IsInRange (command_now command))) }
 {
     match word {
-        "plan" => Ok(plan_said(given_in(
-            alloc,
-            &["network", "model"],
-            &["workers", "nodes"],
-            rest,
-        )?)),
-        "check" => Ok(check_said(given_in(alloc, &["network", "model"], &[], rest)?)),
-        "verify" => Ok(of_plan_said(
-            PlanWork::Verify,
-            given_in(alloc, &["network", "model", "plan"], &[], rest)?,
-        )),
-        "report" => Ok(of_plan_said(
-            PlanWork::Report,
-            given_in(alloc, &["network", "model", "plan"], &[], rest)?,
-        )),
-        "upgrade" => Ok(upgrade_said(given_in(alloc, &["plan"], &[], rest)?)),
-        "sample" => Ok(of_sample_said(
-            SampleWork::Sample,
-            given_in(alloc, &["number", "nodes", "demands"], &[], rest)?,
-        )),
-        "trial" => Ok(of_sample_said(
-            SampleWork::Trial,
-            given_in(alloc, &["number", "nodes", "demands"], &[], rest)?,
-        )),
+        "plan" => plan_in(alloc, rest),
+        "check" => check_in(alloc, rest),
+        "verify" => of_plan_in(alloc, PlanWork::Verify, rest),
+        "report" => of_plan_in(alloc, PlanWork::Report, rest),
+        "upgrade" => upgrade_in(alloc, rest),
+        "sample" => of_sample_in(alloc, SampleWork::Sample, rest),
+        "trial" => of_sample_in(alloc, SampleWork::Trial, rest),
         _ => Ok(None),
     }
 }
