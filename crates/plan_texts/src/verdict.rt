@@ -9,7 +9,7 @@ ghost use Rattle.plan_texts.specs.Answers.{IsCheck, IsVerdict, IsReport, IsRewri
 ghost use Rattle.plan_texts.specs.Stops.{IsReadStop, TookMore, Stops};
 
 use crate::answer::Answer;
-use crate::problem::{Problem, read_planned, read_problem, spelt_alone};
+use crate::problem::{Planned, Problem, read_planned, read_problem, spelt_alone};
 use crate::status::Status;
 use crate::stop::Stop;
 use crate::texts::read_alone;
@@ -31,6 +31,14 @@ fn checked(alloc: Global, problem: &Problem) -> Result<Answer, AllocError>
     })
 }
 
+/// The same, of a problem that was read.
+fn checked_read(alloc: Global, problem: Problem) -> Result<Answer, AllocError>
+    requires { problem.table ≡ problem.inst }
+    ensures { IfOk result (λ answer. IsCheck problem.inst answer.status answer.text.items) }
+{
+    checked(alloc, &problem)
+}
+
 /// What is written of a plan of an instance.
 fn verdict(alloc: Global, problem: &Problem, plan: &Plan) -> Result<Answer, AllocError>
     requires table { problem.now.table ≡ problem.now.inst }
@@ -48,6 +56,15 @@ fn verdict(alloc: Global, problem: &Problem, plan: &Plan) -> Result<Answer, Allo
             text: verdict_line(alloc, plan, &Err(fault))?,
         }),
     }
+}
+
+/// The same, of a plan that was read.
+fn verdict_read(alloc: Global, planned: Planned) -> Result<Answer, AllocError>
+    requires table { planned.problem.table ≡ planned.problem.inst }
+    requires fits { IsSpellable planned.plan }
+    ensures { IfOk result (λ answer. IsVerdict planned.problem.inst planned.plan answer.status answer.text.items) }
+{
+    verdict(alloc, &planned.problem, &planned.plan)
 }
 
 /// What is written of a plan of an instance by the names of the network, once it is verified.
@@ -69,6 +86,16 @@ fn report_on(alloc: Global, problem: &Problem, plan: &Plan) -> Result<Answer, Al
             text: verdict_line(alloc, plan, &Err(fault))?,
         }),
     }
+}
+
+/// The same, of a plan that was read.
+fn report_read(alloc: Global, planned: Planned) -> Result<Answer, AllocError>
+    requires table { planned.problem.table ≡ planned.problem.inst }
+    requires read { IsReadFrom planned.problem.network planned.problem.inst }
+    requires fits { IsSpellable planned.plan }
+    ensures { IfOk result (λ answer. IsReport planned.problem.network planned.problem.inst planned.plan answer.status answer.text.items) }
+{
+    report_on(alloc, &planned.problem, &planned.plan)
 }
 
 /// What is written of a plan by itself.
@@ -108,7 +135,7 @@ pub fn check<S: Shelf>(
         Ok(problem) => problem,
         Err(stop) => return Err(stop),
     };
-    match checked(alloc, &problem) {
+    match checked_read(alloc, problem) {
         Ok(answer) => Ok(answer),
         Err(AllocError) => Err(Stop::OutOfMemory),
     }
@@ -141,7 +168,7 @@ pub fn verify_plan<S: Shelf>(
         Ok(planned) => planned,
         Err(stop) => return Err(stop),
     };
-    match verdict(alloc, &planned.problem, &planned.plan) {
+    match verdict_read(alloc, planned) {
         Ok(answer) => Ok(answer),
         Err(AllocError) => Err(Stop::OutOfMemory),
     }
@@ -175,7 +202,7 @@ pub fn report<S: Shelf>(
         Ok(planned) => planned,
         Err(stop) => return Err(stop),
     };
-    match report_on(alloc, &planned.problem, &planned.plan) {
+    match report_read(alloc, planned) {
         Ok(answer) => Ok(answer),
         Err(AllocError) => Err(Stop::OutOfMemory),
     }
