@@ -44,6 +44,16 @@ fn table(alloc: Global, problem: &Problem, plan: &Plan) -> Result<Answer, AllocE
     }
 }
 
+/// What is written of a plan that was read, once it is verified.
+fn table_of(alloc: Global, problem: Problem, plan: Plan) -> Result<Answer, AllocError>
+    requires table { problem.table ≡ problem.inst }
+    requires read { IsReadFrom problem.network problem.inst }
+    requires fits { IsSpellable plan }
+    ensures { IfOk result (λ answer. IsTable problem.network problem.inst plan answer.status answer.text.items) }
+{
+    table(alloc, &problem, &plan)
+}
+
 /// Reads a network text, a model text and a plan text, and tells the plan by tables, once it is verified.
 #[tactic(auto, using(plan_texts::proofs::Begins::memory_after_three, plan_texts::proofs::Answering::read_from, crate::proofs::Telling::tabled_texts))]
 fn table_plan<S: Shelf>(
@@ -66,7 +76,7 @@ fn table_plan<S: Shelf>(
         Ok(planned) => planned,
         Err(stop) => return Err(stop),
     };
-    match table(alloc, &planned.problem, &planned.plan) {
+    match table_of(alloc, planned.problem, planned.plan) {
         Ok(answer) => Ok(answer),
         Err(AllocError) => Err(Stop::OutOfMemory),
     }
