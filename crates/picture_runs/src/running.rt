@@ -116,6 +116,22 @@ fn draw(
     }
 }
 
+/// What is written of a plan that was read, once it is verified.
+fn draw_read(
+    alloc: Global,
+    problem: Problem,
+    plan: Plan,
+    name: Option<&str>,
+) -> Result<Answer, AllocError>
+    requires table { problem.table ≡ problem.inst }
+    requires read { IsReadFrom problem.network problem.inst }
+    requires fits { IsSpellable plan }
+    ensures { IfOk result (λ answer. IsDrawnSo problem.network problem.inst plan
+        (option_map (λ word. word.now) name.entry) answer.status answer.text.items) }
+{
+    draw(alloc, &problem, &plan, name)
+}
+
 /// Reads a network text, a model text and a plan text, and draws the plan, once it is verified.
 #[tactic(auto, using(plan_texts::proofs::Begins::memory_after_three, plan_texts::proofs::Answering::read_from, crate::proofs::Drawing::drawn_texts))]
 fn draw_plan<S: Shelf>(
@@ -139,7 +155,7 @@ fn draw_plan<S: Shelf>(
         Ok(planned) => planned,
         Err(stop) => return Err(stop),
     };
-    match draw(alloc, &planned.problem, &planned.plan, name) {
+    match draw_read(alloc, planned.problem, planned.plan, name) {
         Ok(answer) => Ok(answer),
         Err(AllocError) => Err(Stop::OutOfMemory),
     }
