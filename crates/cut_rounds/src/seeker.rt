@@ -206,8 +206,8 @@ fn put_found(
 /// Cuts for a search, and the step table again.
 ///
 /// - Takes: the instance and its step table; how many nodes the search may examine.
-/// - Gives: the step table, and cuts that a plan of the instance may have; none where the budget is small, or rates help
-///   nothing.
+/// - Gives: the step table, and cuts that a plan of the instance may have; none where the budget is small, where modules
+///   are small beside all that is carried, or where rates help nothing.
 /// - Errors: want of memory alone.
 /// - Rule: docs/METHOD.md, "Where cuts come from".
 /// - Time: that of at most 14 ascents of a search at the whole region, of as many rounds of `CutSearch::extend`, and of the

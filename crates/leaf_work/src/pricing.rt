@@ -8,7 +8,7 @@ ghost use Rattle.path_pricing.specs.Faults.{priced_fault};
 
 use crate::trees::Trees;
 use arc_restrict::{Restriction, price_along};
-use path_pricing::{Priced, check_priced, price};
+use path_pricing::{Priced, check_priced};
 use plan_base::{DemandId, Instance, Prices};
 use std::alloc::{AllocError, Global};
 use std::sync::Arc;
@@ -49,25 +49,6 @@ pub(crate) fn still_shown(
         }
     }
     Ok(None)
-}
-
-/// What a search for the demand alone finds.
-///
-/// - Errors: want of memory alone.
-pub(crate) fn searched(
-    alloc: Global,
-    inst: &Instance,
-    prices: &Prices,
-    demand: DemandId,
-    restriction: &Restriction,
-) -> Result<Arc<Priced>, AllocError>
-    requires prices { ArePrices inst.now prices.now }
-    requires demand { demand.0 < length inst.now.demands }
-    ensures least { IfOk result (λ found. IsPriced inst.now prices.now demand.0 (forbids restriction.now) (arc_value found)) }
-    ensures accepted { IfOk result (λ found. priced_fault inst.now prices.now demand.0 (forbids restriction.now) (arc_value found) ≡ None) }
-{
-    let found = price(alloc, inst, prices, demand, restriction)?;
-    Ok(Arc::new(alloc, found)?)
 }
 
 /// A least path of the demand, or a set that shows that it has none. What is known is taken where it still shows this, else

@@ -1,14 +1,13 @@
 //! The trees of least paths under the prices of one version, one for each source whose demands asked.
 
-ghost use Rattle.std.specs.Prelude.{◌≡◌, ◌<◌, None, length, IfOk, IfSome};
+ghost use Rattle.std.specs.Prelude.{◌≡◌, ◌<◌, None, length, IfOk};
 ghost use Rattle.std.specs.Arc.{arc_value};
 ghost use Rattle.arc_restrict.specs.Rows.{forbids};
 ghost use Rattle.path_pricing.specs.Priced.{ArePrices, IsPriced};
 ghost use Rattle.path_pricing.specs.Faults.{priced_fault};
 
-use crate::pricing::searched;
 use arc_restrict::Restriction;
-use path_pricing::{Priced, SourceTree};
+use path_pricing::{Priced, SourceTree, price};
 use plan_base::{DemandId, Instance, NodeId, Prices};
 use std::alloc::{AllocError, Global};
 use std::sync::Arc;
@@ -66,41 +65,13 @@ impl Trees {
         Ok(())
     }
 
-    /// The path to the demand's target in the tree of its source, where the demand may take it.
+    /// A least path of the demand, or a set that shows that it has none, by the tree of its source.
     ///
     /// - Takes: an instance, a version and its prices, a demand and a restriction. All demands that ask under one
     ///   version have the same prices.
-    /// - Gives: None where the tree has no such path; then the demand is searched alone.
     /// - Errors: want of memory alone.
-    /// - Time: that of one search where the demand is the first of its source under the version; else linear in nodes,
-    ///   links and the path's arcs.
-    fn grown_path(
-        &mut self,
-        inst: &Instance,
-        version: u64,
-        prices: &Prices,
-        demand: DemandId,
-        restriction: &Restriction,
-    ) -> Result<Option<Priced>, AllocError>
-        requires prices { ArePrices inst.now prices.now }
-        requires demand { demand.0 < length inst.now.demands }
-        ensures least { IfOk result (λ found. IfSome found (IsPriced inst.now prices.now demand.0 (forbids restriction.now))) }
-        ensures accepted { IfOk result (λ found. IfSome found (λ priced. priced_fault inst.now prices.now demand.0 (forbids restriction.now) priced ≡ None)) }
-    {
-        let source = inst.demand(demand).source;
-        self.turn_to(version);
-        self.grow(inst, prices, source)?;
-        match self.of(source) {
-            Some(tree) => tree.priced(self.alloc, inst, prices, demand, restriction),
-            None => Ok(None),
-        }
-    }
-
-    /// A least path of the demand, or a set that shows that it has none: the path in the tree of its source, where the
-    /// demand may take it, else what a search for the demand alone finds.
-    ///
-    /// - Takes: what `grown_path` takes.
-    /// - Errors: want of memory alone.
+    /// - Time: that of one search where the demand is the first of its source under the version, or may not take the
+    ///   tree's path; else linear in nodes, links and the path's arcs.
     pub(crate) fn find(
         &mut self,
         inst: &Instance,
@@ -114,9 +85,13 @@ impl Trees {
         ensures least { IfOk result (λ found. IsPriced inst.now prices.now demand.0 (forbids restriction.now) (arc_value found)) }
         ensures accepted { IfOk result (λ found. priced_fault inst.now prices.now demand.0 (forbids restriction.now) (arc_value found) ≡ None) }
     {
-        match self.grown_path(inst, version, prices, demand, restriction)? {
-            Some(found) => Ok(Arc::new(self.alloc, found)?),
-            None => searched(self.alloc, inst, prices, demand, restriction),
-        }
+        let source = inst.demand(demand).source;
+        self.turn_to(version);
+        self.grow(inst, prices, source)?;
+        let found = match self.of(source) {
+            Some(tree) => tree.priced(self.alloc, inst, prices, demand, restriction)?,
+            None => price(self.alloc, inst, prices, demand, restriction)?,
+        };
+        Ok(Arc::new(self.alloc, found)?)
     }
 }

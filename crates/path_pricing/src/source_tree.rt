@@ -1,6 +1,6 @@
 //! One tree of least paths for all demands of a source.
 
-ghost use Rattle.std.specs.Prelude.{◌≡◌, ◌<◌, length, IfOk, IfSome, None};
+ghost use Rattle.std.specs.Prelude.{◌≡◌, ◌<◌, length, IfOk, None};
 ghost use Rattle.arc_restrict.specs.Rows.{forbids};
 ghost use Rattle.least_path.specs.Paths.{AreWeights};
 ghost use Rattle.path_pricing.specs.Priced.{ArePrices, IsPriced};
@@ -8,6 +8,7 @@ ghost use Rattle.path_pricing.specs.Faults.{priced_fault};
 
 use crate::checking::check_priced;
 use crate::priced::Priced;
+use crate::pricing::price;
 use arc_restrict::Restriction;
 use least_path::Tree;
 use plan_base::{ArcId, DemandId, Instance, Items, NodeId, Prices};
@@ -89,15 +90,16 @@ impl SourceTree {
         }))
     }
 
-    /// The tree's path as what is found for a demand of its source, where the demand may take it and it shows that no
-    /// other is cheaper: forbidding arcs leaves the tree's potentials true.
+    /// A least path of a demand of the tree's source, or a set that shows that it has none: the tree's path, where the
+    /// demand may take it and it shows that no other is cheaper, else what `price` finds. Forbidding arcs leaves the
+    /// tree's potentials true.
     ///
     /// - Takes: what `price` takes.
-    /// - Gives: None where `check_priced` does not accept it, and where the target is not reached or an arc on the way
-    ///   to it is forbidden; then the demand is searched alone.
+    /// - Gives: what `check_priced` accepts.
     /// - Errors: want of memory alone.
     /// - Rule: docs/METHOD.md, "Least prices".
-    /// - Time: linear in nodes, links and the path's arcs.
+    /// - Time: linear in nodes, links and the path's arcs; where an arc on the tree's path is forbidden, or the target is
+    ///   not reached, that of `price` too.
     pub fn priced(
         &self,
         alloc: Global,
@@ -105,18 +107,17 @@ impl SourceTree {
         prices: &Prices,
         demand: DemandId,
         restriction: &Restriction,
-    ) -> Result<Option<Priced>, AllocError>
+    ) -> Result<Priced, AllocError>
         requires prices { ArePrices inst.now prices.now }
         requires demand { demand.0 < length inst.now.demands }
-        ensures least { IfOk result (λ found. IfSome found (IsPriced inst.now prices.now demand.0 (forbids restriction.now))) }
-        ensures accepted { IfOk result (λ found. IfSome found (λ priced. priced_fault inst.now prices.now demand.0 (forbids restriction.now) priced ≡ None)) }
+        ensures least { IfOk result (IsPriced inst.now prices.now demand.0 (forbids restriction.now)) }
+        ensures accepted { IfOk result (λ found. priced_fault inst.now prices.now demand.0 (forbids restriction.now) found ≡ None) }
     {
-        let Some(found) = self.permitted(alloc, inst, demand, restriction)? else {
-            return Ok(None);
-        };
-        if check_priced(inst, prices, demand, restriction, &found).is_ok() {
-            return Ok(Some(found));
+        if let Some(found) = self.permitted(alloc, inst, demand, restriction)? {
+            if check_priced(inst, prices, demand, restriction, &found).is_ok() {
+                return Ok(found);
+            }
         }
-        Ok(None)
+        price(alloc, inst, prices, demand, restriction)
     }
 }

@@ -51,7 +51,7 @@ fn least_agrees(asked: Asked<'_>, demand: DemandId, paths: &[Walk]) -> bool {
     true
 }
 
-/// The length of the way to the demand's target in the tree of its source, where the demand may take it.
+/// The length of what is found for the demand by the tree of its source.
 fn length_by_tree(asked: Asked<'_>, demand: DemandId) -> Option<u128>
     requires { demand.0 < length asked.inst.now.demands }
 {
@@ -62,13 +62,13 @@ fn length_by_tree(asked: Asked<'_>, demand: DemandId) -> Option<u128>
     let source = inst.demand(demand).source;
     let tree = SourceTree::grow(alloc, inst, prices, source).ok()?;
     match tree.priced(alloc, inst, prices, demand, asked.restriction) {
-        Ok(Some(found)) => length_of(&found),
-        _ => None,
+        Ok(found) => length_of(&found),
+        Err(_) => None,
     }
 }
 
-/// Whether the tree of the demand's source gives, where nothing is forbidden, the least price of the listed paths.
-fn free_tree_agrees(asked: Asked<'_>, demand: DemandId) -> bool
+/// Whether the tree of the demand's source gives the least price of the listed paths.
+fn tree_agrees(asked: Asked<'_>, demand: DemandId) -> bool
     requires { demand.0 < length asked.inst.now.demands }
 {
     match listed(asked, demand) {
@@ -77,15 +77,14 @@ fn free_tree_agrees(asked: Asked<'_>, demand: DemandId) -> bool
     }
 }
 
-/// Whether the least paths of a demand are as the list tells, and the tree of its source gives the same price or may miss it.
+/// Whether the least paths of a demand are as the list tells, and the tree of its source gives the same price.
 fn agrees_at(asked: Asked<'_>, demand: DemandId) -> bool
     requires { demand.0 < length asked.inst.now.demands }
 {
     let Ok(paths) = listed(asked, demand) else {
         return false;
     };
-    let by_tree = length_by_tree(asked, demand);
-    least_agrees(asked, demand, &paths) && (by_tree.is_none() || by_tree == least_of(&paths))
+    least_agrees(asked, demand, &paths) && length_by_tree(asked, demand) == least_of(&paths)
 }
 
 /// Whether least paths and those of trees are as the lists tell: of each demand, and of trees with nothing forbidden too.
@@ -95,7 +94,7 @@ fn least_agree(asked: Asked<'_>, free: &Restriction) -> bool {
         ..asked
     };
     for place in 0..asked.inst.demands() {
-        if !agrees_at(asked, DemandId(place)) || !free_tree_agrees(freely, DemandId(place)) {
+        if !agrees_at(asked, DemandId(place)) || !tree_agrees(freely, DemandId(place)) {
             return false;
         }
     }
