@@ -253,7 +253,14 @@ impl Pass {
         self.crossings.fill_share(place, price, &mut self.share)?;
         let is_rated = ends.is_rated(place, other_place(inst, place));
         if is_rated {
-            ends.fill_price_hull(inst, ranges, numbers.as_slice(), place, &mut self.hull)?;
+            ends.fill_hull(
+                inst,
+                ranges,
+                numbers.as_slice(),
+                place,
+                None,
+                &mut self.hull,
+            )?;
         }
         Ok(is_rated)
     }

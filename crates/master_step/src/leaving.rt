@@ -458,57 +458,37 @@ impl Ends {
         })
     }
 
-    /// Writes for each end of a place its load, and what is left there beside the price of the place less routing costs.
+    /// Writes for each end of a place an amount there, and what is left beside what is asked for it: what a batch counts,
+    /// beside the rate of its cut, which was weighed as 0; without a batch the load, beside the price of the place less
+    /// routing costs.
     ///
     /// - Errors: want of memory alone.
-    pub(crate) fn fill_price_hull(
+    pub(crate) fn fill_hull(
         &self,
         inst: &Instance,
         ranges: &Ranges,
         numbers: &[u128],
         place: u32,
+        batch: Option<Batch>,
         hull: &mut Hull,
     ) -> Result<(), AllocError>
         requires place { place < places inst.now }
         requires ranges { length ranges.now ≡ places inst.now }
     {
         let mut here = self.side(inst, ranges, numbers, place);
-        here.above = 0;
-        let other = self.other_side(inst, ranges, numbers, other_place(inst, place));
-        hull.clear();
-        for (number, end) in self.ends_at(place).iter().enumerate() {
-            hull.add(Point {
-                amount: end.load.min(here.range.most),
-                cost: left_at(number, *end, here, other),
-            })?;
+        if batch.is_none() {
+            here.above = 0;
         }
-        Ok(())
-    }
-
-    /// Writes for each end of a place what a batch counts there, and what is left beside the rate of its cut, which was
-    /// weighed as 0.
-    ///
-    /// - Errors: want of memory alone.
-    pub(crate) fn fill_rate_hull(
-        &self,
-        inst: &Instance,
-        ranges: &Ranges,
-        numbers: &[u128],
-        place: u32,
-        batch: Batch,
-        hull: &mut Hull,
-    ) -> Result<(), AllocError>
-        requires place { place < places inst.now }
-        requires ranges { length ranges.now ≡ places inst.now }
-    {
-        let here = self.side(inst, ranges, numbers, place);
         let other = self.other_side(inst, ranges, numbers, other_place(inst, place));
         hull.clear();
         for (number, end) in self.ends_at(place).iter().enumerate() {
-            hull.add(Point {
-                amount: counted(batch, end.load.min(here.range.most)),
-                cost: left_at(number, *end, here, other),
-            })?;
+            let load = end.load.min(here.range.most);
+            let amount = match batch {
+                Some(batch) => counted(batch, load),
+                None => load,
+            };
+            let cost = left_at(number, *end, here, other);
+            hull.add(Point { amount, cost })?;
         }
         Ok(())
     }

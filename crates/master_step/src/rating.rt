@@ -103,7 +103,7 @@ impl RateHulls {
             self.hulls.push(Hull::new(alloc))?;
         }
         if let Some(hull) = self.hulls.get_mut(self.count) {
-            ends.fill_rate_hull(inst, ranges, numbers.as_slice(), place, batch, hull)?;
+            ends.fill_hull(inst, ranges, numbers.as_slice(), place, Some(batch), hull)?;
             self.count = self.count.saturating_add(1);
         }
         Ok(())
