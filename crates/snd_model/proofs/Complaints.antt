@@ -9,9 +9,10 @@ use Rattle.snd_model.specs.declared.keys.Key.{Key}
 use Rattle.snd_model.specs.declared.setting.Setting.{Setting}
 use Rattle.snd_model.specs.declared.draft.Draft.{Draft}
 use Rattle.snd_model.specs.Table.{key_named, setting_named}
-use Rattle.snd_model.specs.Grammar.{has_setting, is_complete, once, key_begun, key_head, valued, value_test, no_settings}
+use Rattle.snd_model.specs.Grammar.{has_setting, is_complete, no_settings}
+use Rattle.snd_model.specs.Tests.{once, key_begun, key_head, valued, value_test}
 use Rattle.snd_model.specs.Reading.{equals, value, key_turn, pair, pairs}
-use Rattle.snd_model.proofs.Whole.{ending}
+use Rattle.snd_model.proofs.Agree.{ending}
 
 -- the complaint is one of those that model texts get
 abbrev pub IsPlain : Complaint → Type 0

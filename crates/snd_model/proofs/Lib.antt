@@ -1,4 +1,5 @@
 pub mod Tabled
+pub mod Agree
 pub mod Whole
 pub mod Complaints
 pub mod Once

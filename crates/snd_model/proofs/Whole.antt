@@ -1,15 +1,15 @@
 -- Model texts are read lawfully: pairs of different keys in any order, and then the end.
-use Rattle.std.proofs.Common.{◌≡◌, ℕ, zero, suc, Bool, true, false, List, [], ◌∷◌, ◌++◌, Option, Some, None, refl, sym, ap, subst, ◌∙◌}
-use Rattle.std.specs.Prelude.{Result, Ok, Err, if◌then◌else◌}
+use Rattle.std.proofs.Common.{◌≡◌, ℕ, zero, suc, true, false, List, [], ◌∷◌, ◌++◌, Option, Some, None, refl, sym, ap, subst, ◌∙◌}
+use Rattle.std.specs.Prelude.{Ok, Err}
 use Rattle.snd_reader.specs.Readers.{Lexeme, word, open_bracket, close_bracket, equals_sign, the_end, Placed}
 use Rattle.snd_reader.specs.Forms.{IsToken, AreItems, Items, IsFirstBad}
 use Rattle.snd_reader.specs.Tests.{equals_test}
-use Rattle.snd_reader.specs.declared.fault.Complaint.{Complaint}
 use Rattle.snd_reader.specs.declared.fault.Complaint.TheVariants.{Ended}
-use Rattle.snd_reader.proofs.Lawful.{Lawful}
+use Rattle.snd_reader.proofs.Lawful.{Says, Lawful}
 use Rattle.snd_reader.proofs.Endings.{equals-end}
 use Rattle.snd_reader.proofs.Live.{Live, live_bind, live_done, live_token, IsMore, EndsLast, items_end_last}
 use Rattle.snd_reader.proofs.Many.{lawful_items}
+use Rattle.snd_reader.proofs.SameForms.{lawful_as, live_such, same_items}
 use Rattle.snd_model.specs.declared.keys.Key.{Key}
 use Rattle.snd_model.specs.declared.keys.Key.TheVariants as keys
 use Rattle.snd_model.specs.declared.setting.Setting.{Setting}
@@ -31,10 +31,12 @@ use Rattle.snd_model.specs.declared.values.HopModel.TheVariants as hops
 use Rattle.snd_model.specs.declared.values.SurvivabilityModel.TheVariants as survivals
 use Rattle.snd_model.specs.declared.draft.Draft.{Draft}
 use Rattle.snd_model.specs.declared.file.ModelFile.{ModelFile}
-use Rattle.snd_model.specs.Table.{key_word, key_of, spelling, key_named, setting_named}
-use Rattle.snd_model.specs.Grammar.{no_settings, settings_of, and_setting, has_setting, is_complete, once, key_begun, key_head, valued, value_test, PairForm, PairsForm, ModelForm}
+use Rattle.snd_model.specs.Table.{key_word, key_of, spelling, setting_named}
+use Rattle.snd_model.specs.Grammar.{no_settings, settings_of, and_setting, has_setting, is_complete, IsEquals, IsValueWord, BeginsPair, PairForm, PairsForm, ModelForm}
+use Rattle.snd_model.specs.Tests.{valued, value_test}
 use Rattle.snd_model.specs.Reading.{equals, value, key_turn, pair, pairs}
-use Rattle.snd_model.proofs.Tabled.{key-found, setting-found, some_setting, some-key}
+use Rattle.snd_model.proofs.Agree.{equals_same, value_same, key_same}
+use Rattle.snd_model.proofs.Tabled.{setting-found, some_setting, some-key}
 
 -- this token at place 0
 abbrev pub sample : Lexeme → Placed
@@ -42,8 +44,8 @@ sample l = record { at = 0; is = l }
 
 -- ---- a pair
 
-live_equals : Live (IsToken (λ t. equals_test t.is)) equals
-live_equals = live_token (λ t. equals_test t.is) (sample equals_sign) tt refl (λ t e. rw e refl) (λ t e. equals-end t.is e)
+live_equals : Live IsEquals equals
+live_equals = live_such (λ t. equals_test t.is) (λ t _. t.is ≡ equals_sign) equals_same (live_token (λ t. equals_test t.is) (sample equals_sign) tt refl (λ t e. rw e refl) (λ t e. equals-end t.is e))
 
 good_value : (s : Setting) → value_test (key_of s) (word (spelling s)) ≡ Ok s
 good_value s = ap valued (setting-found s)
@@ -59,10 +61,11 @@ value-end k close_bracket e = absurd cc
 value-end k equals_sign e = absurd cc
 value-end k the_end e = refl
 
-live_value : (k : Key) → Live (IsToken (λ t. value_test k t.is)) (value k)
+live_value : (k : Key) → Live (IsToken (IsValueWord k)) (value k)
 live_value k =
     let s = some_setting k in
-    live_token (λ t. value_test k t.is) (sample (word (spelling s))) s (subst (λ (key : Key). value_test key (word (spelling s)) ≡ Ok s) (some-key k) (good_value s)) (λ t e. rw e refl) (λ t e. value-end k t.is e)
+    live_such (λ t. value_test k t.is) (IsValueWord k) (value_same k)
+    (live_token (λ t. value_test k t.is) (sample (word (spelling s))) s (subst (λ (key : Key). value_test key (word (spelling s)) ≡ Ok s) (some-key k) (good_value s)) (λ t e. rw e refl) (λ t e. value-end k t.is e))
 
 -- a pair behind its key is read lawfully and never past the end of the text
 pub live_pair : (d : Draft) (k : Key) → Live (PairForm d k) (pair d k)
@@ -71,30 +74,22 @@ live_pair d k = live_bind _ _ _ _ live_equals (λ _. live_bind _ _ _ _ (live_val
 
 -- the tokens of a new setting, and what comes behind it
 pub pair-first : (d x : Draft) (s : Setting) (p q r : Placed) (m : List Placed) → p.is ≡ word (key_word (key_of s)) → q.is ≡ equals_sign → r.is ≡ word (spelling s)
-    → has_setting d (key_of s) ≡ false → Items key_turn PairForm (and_setting d s) m x → Items key_turn PairForm d (p ∷ q ∷ r ∷ m) x
+    → has_setting d (key_of s) ≡ false → Items BeginsPair PairForm (and_setting d s) m x → Items BeginsPair PairForm d (p ∷ q ∷ r ∷ m) x
 unfolding AreItems
 pair-first d x s p q r m pe qe re new (n, i) =
-    let head : key_head d p.is ≡ Ok (Some (key_of s)) = ap (key_head d) pe ∙ ap (key_begun d) (key-found (key_of s)) ∙ ap (λ (b : Bool). once b (key_of s)) new in
-    let found : value_test (key_of s) r.is ≡ Ok s = ap (value_test (key_of s)) re ∙ good_value s in
     let form : PairForm d (key_of s) (q ∷ r ∷ []) (and_setting d s) =
-    (q ∷ [], tt, r ∷ [], (q, refl, ap equals_test qe), (r ∷ [], s, [], (r, refl, found), (refl, refl), refl), refl) in
-    (suc n, (p, key_of s, q ∷ r ∷ [], and_setting d s, m, head, form, i, refl))
-
--- what the end of a text stands for
-abbrev pub ending : Bool → Result (Option Key) Complaint
-ending b = if b then Ok None else Err Ended
+    (q ∷ [], tt, r ∷ [], (q, refl, qe), (r ∷ [], s, [], (r, refl, (spelling s, re, setting-found s)), (refl, refl), refl), refl) in
+    (suc n, (p, key_of s, q ∷ r ∷ [], and_setting d s, m, (pe, new), form, i, refl))
 
 -- behind the last setting the text ends
-pub end-only : (d : Draft) (t : Placed) → t.is ≡ the_end → is_complete d ≡ true → Items key_turn PairForm d (t ∷ []) d
+pub end-only : (d : Draft) (t : Placed) → t.is ≡ the_end → is_complete d ≡ true → Items BeginsPair PairForm d (t ∷ []) d
 unfolding AreItems
-end-only d t e c =
-    let head : key_head d t.is ≡ Ok None = ap (key_head d) e ∙ ap ending c in
-    (zero, (t, head, refl, refl))
+end-only d t e c = (zero, (t, (e, c), refl, refl))
 
 -- ---- a model can be finished
 
 abbrev Finishes : Draft → Type 0
-Finishes d = (l : List Placed) × (x : Draft) × Items key_turn PairForm d l x
+Finishes d = (l : List Placed) × (x : Draft) × Items BeginsPair PairForm d l x
 
 with-one : (d : Draft) (k : Key) → has_setting d (key_of (some_setting k)) ≡ false → Finishes (and_setting d (some_setting k)) → Finishes d
 with-one d k new (m, x, i) =
@@ -144,59 +139,21 @@ finishes d = from-demand d.demand d.link d.capacity d.fixed_charge d.routing d.p
 
 -- the pairs of a model, up to the end of the text, are read lawfully
 pub lawful_pairs : Lawful PairsForm pairs
-lawful_pairs = lawful_items key_turn pair PairForm (λ d k. (live_pair d k).law) finishes no_settings
+lawful_pairs =
+    lawful_as (Items (Says key_turn) PairForm no_settings) PairsForm pairs (same_items PairForm key_turn BeginsPair key_same no_settings)
+    (lawful_items key_turn pair PairForm (λ d k. (live_pair d k).law) (λ d. (let f = finishes d in (f.0, f.1, (same_items PairForm key_turn BeginsPair key_same d f.0 f.1).1 f.2))) no_settings)
 
 -- ---- nothing is read behind the end of the text
 
-by-once : (b : Bool) (k : Key) → once b k ≡ Ok None → ⊥
-by-once true k e = cc
-by-once false k e = cc
-
-by-key : (d : Draft) (o : Option Key) → key_begun d o ≡ Ok None → ⊥
-by-key d None e = cc
-by-key d (Some k) e = by-once (has_setting d k) k e
-
-only-end : (d : Draft) (t : Placed) → key_turn d t ≡ Ok None → t.is ≡ the_end
-only-end d t e = by t.is e
-  where
-    by : (l : Lexeme) → key_head d l ≡ Ok None → l ≡ the_end
-    by (word bytes) e = absurd (by-key d (key_named bytes) e)
-    by open_bracket e = absurd cc
-    by close_bracket e = absurd cc
-    by equals_sign e = absurd cc
-    by the_end e = refl
-
-only-more : (d : Draft) (t : Placed) (k : Key) → key_turn d t ≡ Ok (Some k) → IsMore t.is
-only-more d t k e = by t.is e
-  where
-    by-complete : (b : Bool) → ending b ≡ Ok (Some k) → ⊥
-    by-complete true e = cc
-    by-complete false e = cc
-
-    by : (l : Lexeme) → key_head d l ≡ Ok (Some k) → IsMore l
-    by (word bytes) e = tt
-    by open_bracket e = tt
-    by close_bracket e = tt
-    by equals_sign e = tt
-    by the_end e = by-complete (is_complete d) e
-
 -- tokens in the form of pairs have the end of the text as their last one, and nowhere before
 pub pairs_end : (l : List Placed) (d : Draft) → PairsForm l d → EndsLast l
-pairs_end l d f = items_end_last key_turn PairForm (λ s k m x g. (live_pair s k).no_end m x g) only-end only-more f.0 no_settings l d f.1
+pairs_end l d f = items_end_last BeginsPair PairForm (λ s k m x g. (live_pair s k).no_end m x g) (λ s t h. h.0) (λ s t k h. subst IsMore (sym h.0) tt) f.0 no_settings l d f.1
 
 -- ---- where a text may end, each key has a value
 
--- where a token ends the list of pairs, each key has a value
-pub head-complete : (d : Draft) (t : Placed) → key_turn d t ≡ Ok None → is_complete d ≡ true
-head-complete d t e = by (is_complete d) refl (ap (key_head d) (sym (only-end d t e)) ∙ e)
-  where
-    by : (b : Bool) → is_complete d ≡ b → ending b ≡ Ok None → is_complete d ≡ true
-    by true h e = h
-    by false h e = absurd cc
-
-items-complete : (n : ℕ) (s x : Draft) (l : List Placed) → AreItems key_turn PairForm n s l x → is_complete x ≡ true
+items-complete : (n : ℕ) (s x : Draft) (l : List Placed) → AreItems BeginsPair PairForm n s l x → is_complete x ≡ true
 unfolding AreItems
-items-complete zero s x l (t, a, e, b) = ap is_complete b ∙ head-complete s t a
+items-complete zero s x l (t, a, e, b) = ap is_complete b ∙ a.1
 items-complete (suc n) s x l (t, k, front, next, rest, a, f, r, e) = items-complete n next x rest r
 
 -- where tokens have the form of pairs, each key has a value

@@ -29,8 +29,7 @@ use Rattle.snd_model.specs.declared.values.SurvivabilityModel.TheVariants as sur
 use Rattle.snd_model.specs.declared.draft.Draft.{Draft}
 use Rattle.snd_model.specs.declared.file.ModelFile.{ModelFile}
 use Rattle.snd_model.specs.Table.{all_keys, key_word, key_of, spelling}
-use Rattle.snd_model.specs.Grammar.{setting_of, settings_of, no_settings, has_setting, and_setting, PairForm}
-use Rattle.snd_model.specs.Reading.{key_turn}
+use Rattle.snd_model.specs.Grammar.{setting_of, settings_of, no_settings, has_setting, and_setting, BeginsPair, PairForm}
 use Rattle.snd_model.specs.Spelling.{model_header, SpellsModel, IsReadable}
 use Rattle.snd_model.specs.Writing.{line, model_text}
 use Rattle.snd_model.proofs.Whole.{pair-first, end-only}
@@ -147,8 +146,8 @@ placed-as base text t kind bytes e = ap (λ (p : TokenKind × List ℕ). lexeme_
 -- a line is read
 line-read : (base : ℕ) (text : List ℕ) (d x : Draft) (s : Setting) (ts : List Token) (ls : Shape) (m : List Placed)
     → map (with_bytes text) ts ≡ line_shape s ls → has_setting d (key_of s) ≡ false
-    → ((us : List Token) → map (with_bytes text) us ≡ ls → Items key_turn PairForm (and_setting d s) (map (place base text) us ++ m) x)
-    → Items key_turn PairForm d (map (place base text) ts ++ m) x
+    → ((us : List Token) → map (with_bytes text) us ≡ ls → Items BeginsPair PairForm (and_setting d s) (map (place base text) us ++ m) x)
+    → Items BeginsPair PairForm d (map (place base text) ts ++ m) x
 line-read base text d x s [] ls m e new later = absurd cc
 line-read base text d x s (p ∷ []) ls m e new later = absurd cc
 line-read base text d x s (p ∷ q ∷ []) ls m e new later = absurd cc
@@ -159,11 +158,11 @@ line-read base text d x s (p ∷ q ∷ r ∷ us) ls m e new later =
     pair-first d x s (place base text p) (place base text q) (place base text r) (map (place base text) us ++ m)
     (placed-as base text p kinds.Word (key_word (key_of s)) a.0) (placed-as base text q kinds.Equals (61 ∷ []) b.0) (placed-as base text r kinds.Word (spelling s) c.0) new (later us c.1)
 
-no-tokens : (base : ℕ) (text : List ℕ) (d : Draft) (us : List Token) (m : List Placed) → map (with_bytes text) us ≡ [] → Items key_turn PairForm d m d → Items key_turn PairForm d (map (place base text) us ++ m) d
+no-tokens : (base : ℕ) (text : List ℕ) (d : Draft) (us : List Token) (m : List Placed) → map (with_bytes text) us ≡ [] → Items BeginsPair PairForm d m d → Items BeginsPair PairForm d (map (place base text) us ++ m) d
 no-tokens base text d [] m e h = h
 no-tokens base text d (u ∷ us) m e h = absurd cc
 
-lines-read : (base : ℕ) (text : List ℕ) (file : ModelFile) (ts : List Token) (last : Placed) → last.is ≡ the_end → map (with_bytes text) ts ≡ shown (lines_of file all_keys) → Items key_turn PairForm no_settings (map (place base text) ts ++ last ∷ []) (settings_of file)
+lines-read : (base : ℕ) (text : List ℕ) (file : ModelFile) (ts : List Token) (last : Placed) → last.is ≡ the_end → map (with_bytes text) ts ≡ shown (lines_of file all_keys) → Items BeginsPair PairForm no_settings (map (place base text) ts ++ last ∷ []) (settings_of file)
 lines-read base text file ts last is e =
     line-read base text (no_settings) (settings_of file) (Demand file.demand) ts _ (last ∷ []) e refl (λ us1 e1.
     line-read base text (and_setting no_settings (Demand file.demand)) (settings_of file) (Link file.link) us1 _ (last ∷ []) e1 refl (λ us2 e2.

@@ -1,19 +1,14 @@
 -- The grammar of model texts: which lists of tokens stand for which models.
-use Rattle.std.specs.Prelude.{Bool, true, false, ◌&&◌, is_some, if◌then◌else◌, List, Option, Some, None, Result, Ok, Err}
-use Rattle.snd_reader.specs.declared.fault.Wanted.{Wanted}
-use Rattle.snd_reader.specs.declared.fault.Wanted.TheVariants as wants
-use Rattle.snd_reader.specs.declared.fault.Complaint.{Complaint}
-use Rattle.snd_reader.specs.declared.fault.Complaint.TheVariants.{Unexpected, Twice, Ended}
-use Rattle.snd_reader.specs.Readers.{Lexeme, word, open_bracket, close_bracket, equals_sign, the_end, Placed}
+use Rattle.std.specs.Prelude.{◌≡◌, ℕ, Bool, true, false, ◌&&◌, is_some, List, Option, Some, None}
+use Rattle.snd_reader.specs.Readers.{word, equals_sign, the_end, Placed}
 use Rattle.snd_reader.specs.Forms.{Then, IsToken, IsNothing, Items}
-use Rattle.snd_reader.specs.Tests.{equals_test}
 use Rattle.snd_model.specs.declared.keys.Key.{Key}
 use Rattle.snd_model.specs.declared.keys.Key.TheVariants as keys
 use Rattle.snd_model.specs.declared.setting.Setting.{Setting}
 use Rattle.snd_model.specs.declared.setting.Setting.TheVariants.{Demand, Link, Capacity, FixedCharge, Routing, Path, Hop, Survivability}
 use Rattle.snd_model.specs.declared.draft.Draft.{Draft}
 use Rattle.snd_model.specs.declared.file.ModelFile.{ModelFile}
-use Rattle.snd_model.specs.Table.{key_named, setting_named}
+use Rattle.snd_model.specs.Table.{key_word, setting_named}
 
 -- ---- settings
 
@@ -73,50 +68,28 @@ is_complete d = is_some d.demand && is_some d.link && is_some d.capacity && is_s
 
 -- ---- single tokens
 
--- what is wanted in a key's place: a key, and behind the eighth pair nothing
-abbrev pub wanted_next : Draft → Wanted
-wanted_next d = if is_complete d then wants.Nothing else wants.Key
+-- an equals sign
+abbrev pub IsEquals : List Placed → Unit {0} → Type 0
+IsEquals = IsToken (λ t _. t.is ≡ equals_sign)
 
--- each key stands at most once
-abbrev pub once : Bool → Key → Result (Option Key) Complaint
-once true k = Err Twice
-once false k = Ok (Some k)
+-- a word that is a spelling of this value in the row of the key
+abbrev pub IsValueWord : Key → Placed → Setting → Type 0
+IsValueWord k t s = (bytes : List ℕ) × (t.is ≡ word bytes) × (setting_named k bytes ≡ Some s)
 
--- a word in a key's place
-abbrev pub key_begun : Draft → Option Key → Result (Option Key) Complaint
-key_begun d None = Err (Unexpected (wanted_next d))
-key_begun d (Some k) = once (has_setting d k) k
-
--- A pair begins with its key, and the text may end where each key has a value.
-abbrev pub key_head : Draft → Lexeme → Result (Option Key) Complaint
-key_head d (word bytes) = key_begun d (key_named bytes)
-key_head d open_bracket = Err (Unexpected (wanted_next d))
-key_head d close_bracket = Err (Unexpected (wanted_next d))
-key_head d equals_sign = Err (Unexpected (wanted_next d))
-key_head d the_end = if is_complete d then Ok None else Err Ended
-
--- a word in a value's place
-abbrev pub valued : Option Setting → Result Setting Complaint
-valued None = Err (Unexpected wants.Value)
-valued (Some s) = Ok s
-
--- a spelling of a value of this key
-abbrev pub value_test : Key → Lexeme → Result Setting Complaint
-value_test k (word bytes) = valued (setting_named k bytes)
-value_test k open_bracket = Err (Unexpected wants.Value)
-value_test k close_bracket = Err (Unexpected wants.Value)
-value_test k equals_sign = Err (Unexpected wants.Value)
-value_test k the_end = Err Ended
+-- the word of a key without a value begins a pair, and the text may end where each key has a value
+abbrev pub BeginsPair : Draft → Placed → Option Key → Type 0
+BeginsPair d t None = (t.is ≡ the_end) × (is_complete d ≡ true)
+BeginsPair d t (Some k) = (t.is ≡ word (key_word k)) × (has_setting d k ≡ false)
 
 -- ---- whole texts
 
 -- behind a key an equals sign and a value of this key
 abbrev pub PairForm : Draft → Key → List Placed → Draft → Type 0
-PairForm d k = Then (IsToken (λ t. equals_test t.is)) (λ _. Then (IsToken (λ t. value_test k t.is)) (λ s. IsNothing (and_setting d s)))
+PairForm d k = Then IsEquals (λ _. Then (IsToken (IsValueWord k)) (λ s. IsNothing (and_setting d s)))
 
 -- pairs of different keys, and the end of the text behind the eighth
 abbrev pub PairsForm : List Placed → Draft → Type 0
-PairsForm = Items (λ (d : Draft) (t : Placed). key_head d t.is) PairForm no_settings
+PairsForm = Items BeginsPair PairForm no_settings
 
 -- the tokens are pairs, one for each key, and then the text ends; they are the settings of the model
 abbrev pub ModelForm : List Placed → ModelFile → Type 0

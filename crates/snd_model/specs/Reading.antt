@@ -6,7 +6,8 @@ use Rattle.snd_reader.specs.Tests.{equals_test}
 use Rattle.snd_model.specs.declared.keys.Key.{Key}
 use Rattle.snd_model.specs.declared.setting.Setting.{Setting}
 use Rattle.snd_model.specs.declared.draft.Draft.{Draft}
-use Rattle.snd_model.specs.Grammar.{no_settings, and_setting, key_head, value_test}
+use Rattle.snd_model.specs.Grammar.{no_settings, and_setting}
+use Rattle.snd_model.specs.Tests.{key_head, value_test}
 
 -- reads an equals sign
 abbrev pub equals : Reader (Unit {0})

@@ -2,7 +2,7 @@
 
 ghost use Rattle.std.specs.Prelude.{◌≡◌};
 ghost use Rattle.snd_reader.specs.Seen.{seen};
-ghost use Rattle.snd_model.specs.Grammar.{wanted_next, key_head, value_test};
+ghost use Rattle.snd_model.specs.Tests.{wanted_next, key_head, value_test};
 
 use crate::draft::Draft;
 use crate::keys::Key;

@@ -19,8 +19,7 @@ use Rattle.snd_network.specs.declared.draft.Table.{Table}
 use Rattle.snd_network.specs.declared.draft.Draft.{Draft}
 use Rattle.snd_network.specs.declared.draft.Section.{Section}
 use Rattle.snd_network.specs.declared.draft.Section.TheVariants.{Nodes, Links, Demands, Meta, Paths}
-use Rattle.snd_network.specs.Grammar.{no_nodes, NodeForm, NodesForm, SectionForm, no_sections}
-use Rattle.snd_network.specs.Reading.{node_turn, section_turn}
+use Rattle.snd_network.specs.Grammar.{no_nodes, BeginsNode, NodeForm, NodesForm, BeginsSection, SectionForm, no_sections}
 use Rattle.snd_network.specs.Ends.{names_of}
 use Rattle.snd_network.specs.Spelling.{network_header, SpellsDraft}
 use Rattle.snd_reader.specs.Texts.{HasTokens}
@@ -31,7 +30,7 @@ node-within : (s next : NodeList) (i : NodeItem) (front : List Placed) → NodeF
 node-within s next (node_items.Name bytes) front f = omega (arith, ap (λ (n : NodeList). length n.names) f.1, length-append s.names (bytes ∷ []))
 node-within s next node_items.Place front (a, x, b, f, (c, y, d, g, (h, z, k, m, n, o), p), q) = omega (arith, ap (λ (n : NodeList). length n.names) n.1)
 
-node-items-within : (n : ℕ) (s x : NodeList) (l : List Placed) → AreItems node_turn NodeForm n s l x → length x.names ≤ length s.names + length l
+node-items-within : (n : ℕ) (s x : NodeList) (l : List Placed) → AreItems BeginsNode NodeForm n s l x → length x.names ≤ length s.names + length l
 unfolding AreItems
 node-items-within zero s x l (t, a, e, b) = omega (arith, ap (λ (n : NodeList). length n.names) b)
 node-items-within (suc n) s x l (t, h, front, next, rest, a, f, r, e) =
@@ -49,7 +48,7 @@ section-within d next Demands front (a, x, b, f, (c, t, m, g, h, p), q) = omega 
 section-within d next Meta front (a, x, b, f, (c, t, m, g, h, p), q) = omega (arith, ap (λ (n : Draft). length (names_of n.nodes)) h.1)
 section-within d next Paths front (a, x, b, f, (c, t, m, g, h, p), q) = omega (arith, ap (λ (n : Draft). length (names_of n.nodes)) h.1)
 
-sections-within : (n : ℕ) (d x : Draft) (l : List Placed) → AreItems section_turn SectionForm n d l x → length (names_of x.nodes) ≤ length (names_of d.nodes) + length l
+sections-within : (n : ℕ) (d x : Draft) (l : List Placed) → AreItems BeginsSection SectionForm n d l x → length (names_of x.nodes) ≤ length (names_of d.nodes) + length l
 unfolding AreItems
 sections-within zero d x l (t, a, e, b) = omega (arith, ap (λ (n : Draft). length (names_of n.nodes)) b)
 sections-within (suc n) d x l (t, k, front, next, rest, a, f, r, e) =

@@ -1,10 +1,9 @@
 -- Each network that a text spells is well formed.
-use Rattle.std.proofs.Common.{◌≡◌, ◌≢◌, ℕ, zero, suc, ◌+◌, ◌-◌, ◌<◌, ◌≤◌, ◌^◌, Bool, true, false, nat_lt, nat_eq, List, [], ◌∷◌, ◌++◌, length, map, get_or, Option, Some, None, refl, sym, ap, subst, ◌∙◌, arith}
-use Rattle.std.specs.Prelude.{Result, Ok, Err, IfOk, is_some, codes, if◌then◌else◌}
+use Rattle.std.proofs.Common.{◌≡◌, ◌≢◌, ℕ, zero, suc, ◌+◌, ◌-◌, ◌<◌, ◌≤◌, true, false, nat_eq, List, [], ◌∷◌, ◌++◌, length, map, get_or, Option, Some, None, refl, sym, ap, subst, ◌∙◌, arith}
+use Rattle.std.specs.Prelude.{Result, Ok, Err, IfOk}
 use Rattle.std.specs.Option.{option_map}
 use Rattle.std.specs.List.{AllByRecursion}
 use Rattle.std.specs.Cmp.Lexicographic.{pointwise}
-use Rattle.std.proofs.lemmas.Bool.{ltb-false}
 use Rattle.std.proofs.lemmas.Bool.Decides.{Decides-eqb}
 use Rattle.std.proofs.lemmas.Slice.Eq.{slice_eq-Decides}
 use Rattle.std.proofs.lemmas.List.{map-append, length-map, length-append, append-nil}
@@ -13,9 +12,7 @@ use Rattle.snd_reader.proofs.Headers.{rest_within}
 use Rattle.std.proofs.lemmas.List.Quantifiers.{all_pairs_push, position-Some}
 use Rattle.plan_base.specs.declared.ids.NodeId.{NodeId}
 use Rattle.plan_base.proofs.Bools.{list_any-false_at}
-use Rattle.scaled_numbers.specs.declared.fault.NumberFault.{NumberFault}
-use Rattle.scaled_numbers.specs.Scanning.{decimal_of}
-use Rattle.scaled_numbers.proofs.Deciding.{reads}
+use Rattle.snd_network.proofs.Agree.{checked_same}
 use Rattle.snd_lexer.specs.declared.token.Dialect.TheVariants as dialects
 use Rattle.snd_lexer.specs.declared.token.Token.{Token}
 use Rattle.snd_lexer.specs.declared.token.TokenKind.{TokenKind}
@@ -24,13 +21,9 @@ use Rattle.snd_lexer.specs.Cutting as cutting
 use Rattle.snd_lexer.specs.Cutting.{Piece, piece_text, text_of, kind_of, is_word, IsPiece, AreCut, token_bytes, with_bytes, shown_by, shown}
 use Rattle.snd_lexer.specs.declared.limits.TheConstants.{MAX_TEXT_BYTES}
 use Rattle.snd_lexer.proofs.Shown.{lexes_shows}
-use Rattle.snd_reader.specs.declared.fault.Complaint.{Complaint}
-use Rattle.snd_reader.specs.declared.fault.Complaint.TheVariants.{Unexpected, Twice, LongId}
 use Rattle.snd_reader.specs.declared.fault.TextFault.{TextFault}
-use Rattle.snd_reader.specs.declared.fault.Wanted.TheVariants as wants
 use Rattle.snd_reader.specs.Readers.{Lexeme, word, open_bracket, close_bracket, equals_sign, the_end, Placed}
 use Rattle.snd_reader.specs.Forms.{Then, IsToken, IsNothing, AreItems, Items}
-use Rattle.snd_reader.specs.Tests.{number_test, numbered}
 use Rattle.snd_reader.specs.Tokens.{lexeme_of, place}
 use Rattle.snd_network.specs.declared.file.NodeRecord.{NodeRecord}
 use Rattle.snd_network.specs.declared.file.LinkRecord.{LinkRecord}
@@ -47,30 +40,37 @@ use Rattle.snd_network.specs.declared.draft.Table.{Table}
 use Rattle.snd_network.specs.declared.draft.Draft.{Draft}
 use Rattle.snd_network.specs.declared.draft.Section.{Section}
 use Rattle.snd_network.specs.declared.draft.Section.TheVariants.{Nodes, Links, Demands, Meta, Paths}
-use Rattle.snd_network.specs.declared.limits.TheConstants.{MAX_NAME_BYTES}
 use Rattle.snd_reader.specs.Names.{is_among, number_of}
-use Rattle.snd_network.specs.Names.{checked_name}
-use Rattle.snd_network.specs.Tests.{named, list_head, node_named, node_head, module_begun, module_head, checked_coordinate, kept, coordinate_test, limited, hops_test, section_head}
+use Rattle.snd_network.specs.Names.{IsNewName}
 use Rattle.snd_network.specs.Grammar.{
   IsOpen,
   IsClose,
+  IsNumeral,
   IsNumber,
-  IsEnd,
+  IsSignedWord,
   IsCoordinate,
+  IsLimitWord,
   IsHopLimit,
   no_nodes,
   last_node,
   with_last,
   and_named,
   all_nodes,
+  BeginsNode,
   NodeForm,
   NodesForm,
+  EndsForm,
+  BeginsModule,
   ModuleForm,
   ModulesForm,
+  CostsForm,
+  link_with,
   LinkForm,
+  demand_with,
   DemandForm,
   no_rows,
   and_row,
+  BeginsItem,
   ItemForm,
   ListForm,
   no_sections,
@@ -79,6 +79,7 @@ use Rattle.snd_network.specs.Grammar.{
   and_demands,
   and_meta,
   and_paths,
+  BeginsSection,
   SectionForm,
   NetworkForm,
 }
@@ -169,8 +170,8 @@ Anything x = Unit {0}
 yields-anything : {A : Type 0} (F : List Placed → A → Type 0) → Yields Anything F
 yields-anything F = record { gives = λ l x s f. tt }
 
-yields-token : {A : Type 0} (P : A → Type 0) (test : Placed → Result A Complaint) → ((t : Placed) (x : A) → IsSound t.is → test t ≡ Ok x → P x) → Yields P (IsToken test)
-yields-token P test h = record { gives = λ l x s f. h f.0 x (subst AreSound f.1 s).0 f.2 }
+yields-token : {A : Type 0} (P : A → Type 0) (Is : Placed → A → Type 0) → ((t : Placed) (x : A) → IsSound t.is → Is t x → P x) → Yields P (IsToken Is)
+yields-token P Is h = record { gives = λ l x s f. h f.0 x (subst AreSound f.1 s).0 f.2 }
 
 yields-nothing : {A : Type 0} (P : A → Type 0) (v : A) → P v → Yields P (IsNothing v)
 yields-nothing P v h = record { gives = λ l x s f. subst P (sym f.1) h }
@@ -182,9 +183,9 @@ yields-then P Q F G f g = record {
       (g h.1 (f.gives h.0 h.1 k.0 h.3)).gives h.2 z k.1 h.4);
 }
 
-module _ {S H : Type 0} (P : S → Type 0) (head : S → Placed → Result (Option H) Complaint) (F : S → H → List Placed → S → Type 0)
-    (step : (s : S) (t : Placed) (h : H) → P s → IsSound t.is → head s t ≡ Ok (Some h) → Yields P (F s h)) where
-  yields-so-many : (n : ℕ) (s : S) (l : List Placed) (x : S) → P s → AreSound l → AreItems head F n s l x → P x
+module _ {S H : Type 0} (P : S → Type 0) (Head : S → Placed → Option H → Type 0) (F : S → H → List Placed → S → Type 0)
+    (step : (s : S) (t : Placed) (h : H) → P s → IsSound t.is → Head s t (Some h) → Yields P (F s h)) where
+  yields-so-many : (n : ℕ) (s : S) (l : List Placed) (x : S) → P s → AreSound l → AreItems Head F n s l x → P x
   unfolding AreItems
   yields-so-many zero s l x p k (t, a, e, b) = subst P (sym b) p
   yields-so-many (suc n) s l x p k (t, h, front, next, rest, a, f, r, e) =
@@ -192,30 +193,16 @@ module _ {S H : Type 0} (P : S → Type 0) (head : S → Placed → Result (Opti
       let m = sound-apart front rest q.1 in
       yields-so-many n next rest x ((step s t h p q.0 a).gives front next m.0 f) m.1 r
 
-  yields-items : (s : S) → P s → Yields P (Items head F s)
+  yields-items : (s : S) → P s → Yields P (Items Head F s)
   yields-items s p = record { gives = λ l x k f. yields-so-many f.0 s l x p k f.1 }
 
 -- ---- single tokens
 
-small-number : (scale : ℕ) (bytes : List ℕ) (n : ℕ) → decimal_of bytes scale ≡ Ok n → n < 10 ^ (12 + scale)
-small-number scale bytes n e = ((reads bytes scale (decimal_of bytes scale) refl n).0 e).small
-
-number-within : (scale : ℕ) (l : Lexeme) (n : ℕ) → number_test scale l ≡ Ok n → n < 10 ^ (12 + scale)
-number-within scale (word bytes) n e = by (decimal_of bytes scale) refl e
-  where
-    by : (r : Result ℕ NumberFault) → decimal_of bytes scale ≡ r → numbered r ≡ Ok n → n < 10 ^ (12 + scale)
-    by (Ok m) d g = let same : m ≡ n = cc in small-number scale bytes n (d ∙ ap (λ (k : ℕ). Ok k) same)
-    by (Err f) d g = absurd cc
-number-within scale open_bracket n e = absurd cc
-number-within scale close_bracket n e = absurd cc
-number-within scale equals_sign n e = absurd cc
-number-within scale the_end n e = absurd cc
-
 yields-grains : Yields IsGrains (IsNumber 6)
-yields-grains = yields-token IsGrains (λ t. number_test 6 t.is) (λ t n s e. number-within 6 t.is n e)
+yields-grains = yields-token IsGrains (IsNumeral 6) (λ t n s h. h.2.small)
 
 yields-whole : Yields IsWhole (IsNumber 0)
-yields-whole = yields-token IsWhole (λ t. number_test 0 t.is) (λ t n s e. number-within 0 t.is n e)
+yields-whole = yields-token IsWhole (IsNumeral 0) (λ t n s h. h.2.small)
 
 yields-open : Yields Anything IsOpen
 yields-open = yields-anything IsOpen
@@ -223,85 +210,30 @@ yields-open = yields-anything IsOpen
 yields-close : Yields Anything IsClose
 yields-close = yields-anything IsClose
 
-yields-end : Yields Anything IsEnd
-yields-end = yields-anything IsEnd
+yields-ends : Yields Anything EndsForm
+yields-ends = yields-anything EndsForm
 
-coordinate-word : (l : Lexeme) (x : List ℕ) → IsSound l → coordinate_test l ≡ Ok x → IsCoordinateWord x
-coordinate-word (word bytes) x s e = by (checked_coordinate bytes) refl e
-  where
-    by : (r : Result (Unit {0}) Complaint) → checked_coordinate bytes ≡ r → kept bytes r ≡ Ok x → IsCoordinateWord x
-    by (Ok u) d g = let same : bytes ≡ x = cc in subst IsCoordinateWord same (record { word = s.word; short = s.short; number = d })
-    by (Err c) d g = absurd cc
-coordinate-word open_bracket x s e = absurd cc
-coordinate-word close_bracket x s e = absurd cc
-coordinate-word equals_sign x s e = absurd cc
-coordinate-word the_end x s e = absurd cc
+signed-word : (t : Placed) (x : List ℕ) → IsSound t.is → IsSignedWord t x → IsCoordinateWord x
+signed-word t x s h = let w : IsSoundWord x = subst IsSound h.0 s in record { word = w.word; short = w.short; number = (checked_same x).1 h.1 }
 
 yields-coordinate : Yields IsCoordinateWord IsCoordinate
-yields-coordinate = yields-token IsCoordinateWord (λ t. coordinate_test t.is) (λ t x s e. coordinate-word t.is x s e)
+yields-coordinate = yields-token IsCoordinateWord IsSignedWord signed-word
 
-limit-within : (l : Lexeme) (x : Option ℕ) → hops_test l ≡ Ok x → IsLimit x
-limit-within l None e = tt
-limit-within (word bytes) (Some n) e = by-word (pointwise nat_eq bytes (codes "UNLIMITED")) e
-  where
-    by : (r : Result ℕ Complaint) → number_test 0 (word bytes) ≡ r → limited r ≡ Ok (Some n) → IsWhole n
-    by (Ok m) d g = let same : m ≡ n = cc in number-within 0 (word bytes) n (d ∙ ap (λ (k : ℕ). Ok k) same)
-    by (Err c) d g = absurd cc
-
-    by-word : (b : Bool) → (if b then Ok None else limited (number_test 0 (word bytes))) ≡ Ok (Some n) → IsWhole n
-    by-word true g = absurd cc
-    by-word false g = by (number_test 0 (word bytes)) refl g
-limit-within open_bracket (Some n) e = absurd cc
-limit-within close_bracket (Some n) e = absurd cc
-limit-within equals_sign (Some n) e = absurd cc
-limit-within the_end (Some n) e = absurd cc
+limit-within : (t : Placed) (x : Option ℕ) → IsSound t.is → IsLimitWord t x → IsLimit x
+limit-within t None s h = tt
+limit-within t (Some n) s h = h.2.small
 
 yields-limit : Yields IsLimit IsHopLimit
-yields-limit = yields-token IsLimit (λ t. hops_test t.is) (λ t x s e. limit-within t.is x e)
+yields-limit = yields-token IsLimit IsLimitWord limit-within
 
 -- ---- names
 
-checked-parts : (names : List (List ℕ)) (bytes : List ℕ) (u : Unit {0}) → checked_name names bytes ≡ Ok u → (length bytes ≤ MAX_NAME_BYTES) × (is_among names bytes ≡ false)
-checked-parts names bytes u e = by (nat_lt MAX_NAME_BYTES (length bytes)) (is_among names bytes) refl refl e
-  where
-    by : (long old : Bool) → nat_lt MAX_NAME_BYTES (length bytes) ≡ long → is_among names bytes ≡ old → (if long then Err LongId else if old then Err Twice else Ok tt) ≡ Ok u
-        → (length bytes ≤ MAX_NAME_BYTES) × (is_among names bytes ≡ false)
-    by true old a b g = absurd cc
-    by false true a b g = absurd cc
-    by false false a b g = (ltb-false MAX_NAME_BYTES (length bytes) a, b)
-
 -- a name that is none of these
-abbrev IsNewName : List (List ℕ) → List ℕ → Type 0
-IsNewName names bytes = IsName bytes × (is_among names bytes ≡ false)
+abbrev IsFreshName : List (List ℕ) → List ℕ → Type 0
+IsFreshName names bytes = IsName bytes × (is_among names bytes ≡ false)
 
-new-name : (names : List (List ℕ)) (bytes : List ℕ) (u : Unit {0}) → IsSoundWord bytes → checked_name names bytes ≡ Ok u → IsNewName names bytes
-new-name names bytes u w e = let k = checked-parts names bytes u e in (record { word = w.word; short = k.0 }, k.1)
-
-list-name : (names : List (List ℕ)) (l : Lexeme) (name : List ℕ) → IsSound l → list_head names l ≡ Ok (Some name) → IsNewName names name
-list-name names (word bytes) name s e = by (checked_name names bytes) refl e
-  where
-    by : (r : Result (Unit {0}) Complaint) → checked_name names bytes ≡ r → named bytes r ≡ Ok (Some name) → IsNewName names name
-    by (Ok u) d g = let same : bytes ≡ name = cc in subst (IsNewName names) same (new-name names bytes u s d)
-    by (Err c) d g = absurd cc
-list-name names open_bracket name s e = absurd cc
-list-name names close_bracket name s e = absurd cc
-list-name names equals_sign name s e = absurd cc
-list-name names the_end name s e = absurd cc
-
-node-name : (s : NodeList) (l : Lexeme) (name : List ℕ) → IsSound l → node_head s l ≡ Ok (Some (node_items.Name name)) → IsNewName s.names name
-node-name s (word bytes) name w e = by (checked_name s.names bytes) refl e
-  where
-    by : (r : Result (Unit {0}) Complaint) → checked_name s.names bytes ≡ r → node_named bytes r ≡ Ok (Some (node_items.Name name)) → IsNewName s.names name
-    by (Ok u) d g = let same : bytes ≡ name = cc in subst (IsNewName s.names) same (new-name s.names bytes u w d)
-    by (Err c) d g = absurd cc
-node-name s open_bracket name w e = absurd (by (is_some s.pending) e)
-  where
-    by : (b : Bool) → (if b then Ok (Some node_items.Place) else Err (Unexpected wants.Name)) ≡ Ok (Some (node_items.Name name)) → ⊥
-    by true g = cc
-    by false g = cc
-node-name s close_bracket name w e = absurd cc
-node-name s equals_sign name w e = absurd cc
-node-name s the_end name w e = absurd cc
+fresh-name : (names : List (List ℕ)) (t : Placed) (name : List ℕ) → IsSound t.is → (t.is ≡ word name) × IsNewName names name → IsFreshName names name
+fresh-name names t name s h = let w : IsSoundWord name = subst IsSound h.0 s in (record { word = w.word; short = h.1.0 }, h.1.1)
 
 -- ---- rows with their names
 
@@ -354,38 +286,33 @@ record IsGoodLinkDraft (l : LinkDraft) : Type 0 where
   setup : IsGrains l.setup
   modules : AreModules l.modules
 
-capacity-within : (l : Lexeme) (n : ℕ) → module_head l ≡ Ok (Some n) → IsGrains n
-capacity-within (word bytes) n e = by (number_test 6 (word bytes)) refl e
-  where
-    by : (r : Result ℕ Complaint) → number_test 6 (word bytes) ≡ r → module_begun r ≡ Ok (Some n) → IsGrains n
-    by (Ok m) d g = let same : m ≡ n = cc in number-within 6 (word bytes) n (d ∙ ap (λ (k : ℕ). Ok k) same)
-    by (Err c) d g = absurd cc
-capacity-within open_bracket n e = absurd cc
-capacity-within close_bracket n e = absurd cc
-capacity-within equals_sign n e = absurd cc
-capacity-within the_end n e = absurd cc
-
-yields-module : (modules : List (ℕ × ℕ)) (t : Placed) (capacity : ℕ) → AreModules modules → IsSound t.is → module_head t.is ≡ Ok (Some capacity) → Yields AreModules (ModuleForm modules capacity)
+yields-module : (modules : List (ℕ × ℕ)) (t : Placed) (capacity : ℕ) → AreModules modules → IsSound t.is → BeginsModule modules t (Some capacity) → Yields AreModules (ModuleForm modules capacity)
 yields-module modules t capacity h s e =
     yields-then IsGrains AreModules (IsNumber 6) (λ cost. IsNothing (modules ++ (capacity, cost) ∷ [])) yields-grains
-    (λ cost c. yields-nothing AreModules (modules ++ (capacity, cost) ∷ []) (all-append IsModule modules ((capacity, cost) ∷ []) h ((capacity-within t.is capacity e, c), tt)))
+    (λ cost c. yields-nothing AreModules (modules ++ (capacity, cost) ∷ []) (all-append IsModule modules ((capacity, cost) ∷ []) h ((e.2.small, c), tt)))
 
 yields-modules : Yields AreModules ModulesForm
-yields-modules = yields-items AreModules (λ (_ : List (ℕ × ℕ)) (t : Placed). module_head t.is) ModuleForm yields-module [] tt
+yields-modules = yields-items AreModules BeginsModule ModuleForm yields-module [] tt
 
-yields-link : Yields IsGoodLinkDraft LinkForm
-yields-link =
-    yields-then _ _ _ _ yields-open (λ _ _.
-    yields-then _ _ _ _ yields-end (λ source _.
-    yields-then _ _ _ _ yields-end (λ target _.
-    yields-then _ _ _ _ yields-close (λ _ _.
+-- four numbers of millionths
+abbrev AreCosts : ℕ × ℕ × ℕ × ℕ → Type 0
+AreCosts n = IsGrains n.0 × IsGrains n.1 × IsGrains n.2 × IsGrains n.3
+
+yields-costs : Yields AreCosts CostsForm
+yields-costs =
     yields-then _ _ _ _ yields-grains (λ pre a.
     yields-then _ _ _ _ yields-grains (λ pre_cost b.
     yields-then _ _ _ _ yields-grains (λ routing c.
     yields-then _ _ _ _ yields-grains (λ setup d.
     yields-then _ _ _ _ yields-open (λ _ _.
+    yields-nothing AreCosts (pre, pre_cost, routing, setup) (a, b, c, d))))))
+
+yields-link : Yields IsGoodLinkDraft LinkForm
+yields-link =
+    yields-then _ _ _ _ yields-ends (λ x _.
+    yields-then _ _ _ _ yields-costs (λ n good.
     yields-then _ _ _ _ yields-modules (λ modules e.
-    yields-nothing IsGoodLinkDraft _ (record { pre = a; pre_cost = b; routing = c; setup = d; modules = e })))))))))))
+    yields-nothing IsGoodLinkDraft (link_with x n modules) (record { pre = good.0; pre_cost = good.1; routing = good.2; setup = good.3; modules = e }))))
 
 -- ---- demands
 
@@ -396,14 +323,11 @@ record IsGoodDemandDraft (d : DemandDraft) : Type 0 where
 
 yields-demand : Yields IsGoodDemandDraft DemandForm
 yields-demand =
-    yields-then _ _ _ _ yields-open (λ _ _.
-    yields-then _ _ _ _ yields-end (λ source _.
-    yields-then _ _ _ _ yields-end (λ target _.
-    yields-then _ _ _ _ yields-close (λ _ _.
+    yields-then _ _ _ _ yields-ends (λ x _.
     yields-then _ _ _ _ yields-whole (λ unit a.
     yields-then _ _ _ _ yields-grains (λ value b.
     yields-then _ _ _ _ yields-limit (λ hops c.
-    yields-nothing IsGoodDemandDraft _ (record { unit = a; value = b; hops = c }))))))))
+    yields-nothing IsGoodDemandDraft (demand_with x unit value hops) (record { unit = a; value = b; hops = c })))))
 
 -- ---- lists of named things
 
@@ -416,14 +340,14 @@ name_of r = r.name
 abbrev IsGoodTable : {T : Type 0} → (T → Type 0) → Table (Named T) → Type 0
 IsGoodTable Good s = AreRows name_of (IsGoodNamed Good) s.names s.rows
 
-yields-item : {T : Type 0} (Good : T → Type 0) (F : List Placed → T → Type 0) → Yields Good F → (s : Table (Named T)) (t : Placed) (name : List ℕ) → IsGoodTable Good s → IsSound t.is → list_head s.names t.is ≡ Ok (Some name) → Yields (IsGoodTable Good) (ItemForm F s name)
+yields-item : {T : Type 0} (Good : T → Type 0) (F : List Placed → T → Type 0) → Yields Good F → (s : Table (Named T)) (t : Placed) (name : List ℕ) → IsGoodTable Good s → IsSound t.is → BeginsItem s t (Some name) → Yields (IsGoodTable Good) (ItemForm F s name)
 yields-item {T} Good F f s t name h sound e =
-    let new = list-name s.names t.is name sound e in
+    let new = fresh-name s.names t name sound e in
     yields-then Good (IsGoodTable Good) F (λ part. IsNothing (and_row s name part)) f
     (λ part good. yields-nothing (IsGoodTable Good) (and_row s name part) (row-push name_of (IsGoodNamed Good) s.names s.rows (record { name = name; part = part }) h (new.0, good) new.1))
 
 yields-list : {T : Type 0} (Good : T → Type 0) (F : List Placed → T → Type 0) → Yields Good F → Yields (IsGoodTable Good) (ListForm F)
-yields-list {T} Good F f = yields-items (IsGoodTable Good) (λ (s : Table (Named T)) (t : Placed). list_head s.names t.is) (ItemForm F) (yields-item Good F f) no_rows (no-rows name_of (IsGoodNamed Good))
+yields-list {T} Good F f = yields-items (IsGoodTable Good) BeginsItem (ItemForm F) (yields-item Good F f) no_rows (no-rows name_of (IsGoodNamed Good))
 
 -- ---- nodes
 
@@ -452,9 +376,9 @@ placed-nodes s p good h =
       each = subst (AllByRecursion IsGoodNode) (sym (append-nil rows)) (all-append IsGoodNode s.rows (last_node s.pending p) k.0 (placed-good s.pending p good k.1));
     }
 
-yields-node : (s : NodeList) (t : Placed) (i : NodeItem) → AreNodes s → IsSound t.is → node_head s t.is ≡ Ok (Some i) → Yields AreNodes (NodeForm s i)
+yields-node : (s : NodeList) (t : Placed) (i : NodeItem) → AreNodes s → IsSound t.is → BeginsNode s t (Some i) → Yields AreNodes (NodeForm s i)
 yields-node s t (node_items.Name bytes) h sound e =
-    let new = node-name s t.is bytes sound e in
+    let new = fresh-name s.names t bytes sound e in
     yields-nothing AreNodes (and_named s bytes) (row-push node_name IsGoodNode s.names (s.rows ++ last_node s.pending None) (record { name = bytes; place = None }) h (record { name = new.0; place = tt }) new.1)
 yields-node s t node_items.Place h sound e =
     yields-then _ _ _ _ yields-coordinate (λ x a.
@@ -466,8 +390,8 @@ abbrev IsGoodNodeTable : Table NodeRecord → Type 0
 IsGoodNodeTable t = AreRows node_name IsGoodNode t.names t.rows
 
 yields-nodes : Yields IsGoodNodeTable NodesForm
-yields-nodes = yields-then AreNodes IsGoodNodeTable (Items (λ (s : NodeList) (t : Placed). node_head s t.is) NodeForm no_nodes) (λ s. IsNothing (all_nodes s))
-    (yields-items AreNodes (λ (s : NodeList) (t : Placed). node_head s t.is) NodeForm yields-node no_nodes (no-rows node_name IsGoodNode))
+yields-nodes = yields-then AreNodes IsGoodNodeTable (Items BeginsNode NodeForm no_nodes) (λ s. IsNothing (all_nodes s))
+    (yields-items AreNodes BeginsNode NodeForm yields-node no_nodes (no-rows node_name IsGoodNode))
     (λ s h. yields-nothing IsGoodNodeTable (all_nodes s) h)
 
 -- ---- sections
@@ -477,7 +401,7 @@ record IsGoodDraft (d : Draft) : Type 0 where
   links : AreRows name_of (IsGoodNamed IsGoodLinkDraft) (names_of d.links) (rows_of d.links)
   demands : AreRows name_of (IsGoodNamed IsGoodDemandDraft) (names_of d.demands) (rows_of d.demands)
 
-yields-section : (d : Draft) (t : Placed) (k : Section) → IsGoodDraft d → IsSound t.is → section_head d t.is ≡ Ok (Some k) → Yields IsGoodDraft (SectionForm d k)
+yields-section : (d : Draft) (t : Placed) (k : Section) → IsGoodDraft d → IsSound t.is → BeginsSection d t (Some k) → Yields IsGoodDraft (SectionForm d k)
 yields-section d t Nodes h sound e =
     yields-then _ _ _ _ yields-open (λ _ _. yields-then _ _ _ _ yields-nodes (λ x good. yields-nothing IsGoodDraft (and_nodes d x) (record { nodes = good; links = h.links; demands = h.demands })))
 yields-section d t Links h sound e =
@@ -490,7 +414,7 @@ yields-section d t Paths h sound e =
     yields-then _ _ _ _ yields-open (λ _ _. yields-then _ _ _ _ (yields-anything IsSkipped) (λ _ _. yields-nothing IsGoodDraft (and_paths d) (record { nodes = h.nodes; links = h.links; demands = h.demands })))
 
 yields-network : Yields IsGoodDraft NetworkForm
-yields-network = yields-items IsGoodDraft (λ (d : Draft) (t : Placed). section_head d t.is) SectionForm yields-section no_sections
+yields-network = yields-items IsGoodDraft BeginsSection SectionForm yields-section no_sections
     (record { nodes = no-rows node_name IsGoodNode; links = no-rows name_of (IsGoodNamed IsGoodLinkDraft); demands = no-rows name_of (IsGoodNamed IsGoodDemandDraft) })
 
 -- ---- the network with the numbers of its nodes

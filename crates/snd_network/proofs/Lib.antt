@@ -1,10 +1,10 @@
+pub mod Agree
 pub mod Parts
 pub mod Whole
 pub mod Finding
 pub mod FoundFile
 pub mod Once
 pub mod Top
-pub mod InOrder
 pub mod Opened
 pub mod Counts
 pub mod Fresh

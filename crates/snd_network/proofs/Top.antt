@@ -1,5 +1,5 @@
 -- What the reading of a text comes to.
-use Rattle.std.proofs.Common.{◌≡◌, ℕ, List}
+use Rattle.std.proofs.Common.{ℕ, List}
 use Rattle.std.specs.Prelude.{Result, Ok, Err, IfOk, IfErr}
 use Rattle.snd_lexer.specs.declared.token.Dialect.TheVariants as dialects
 use Rattle.snd_reader.specs.declared.fault.TextFault.{TextFault}

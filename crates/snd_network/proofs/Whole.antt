@@ -1,15 +1,15 @@
 -- Whole networks are read lawfully: sections in any order, and then the end.
-use Rattle.std.proofs.Common.{◌≡◌, ℕ, zero, suc, Bool, true, false, List, [], ◌∷◌, ◌++◌, Option, Some, None, refl, sym, ap, subst, ◌∙◌}
-use Rattle.std.specs.Prelude.{Ok, Err, codes, if◌then◌else◌}
+use Rattle.std.proofs.Common.{◌≡◌, ℕ, zero, suc, Bool, List, [], ◌∷◌, ◌++◌, Option, Some, None, refl, sym, subst}
+use Rattle.std.specs.Prelude.{Ok, codes}
 use Rattle.std.proofs.lemmas.List.{append-nil}
-use Rattle.snd_reader.specs.Readers.{Lexeme, word, open_bracket, close_bracket, equals_sign, the_end, Placed}
+use Rattle.snd_reader.specs.Readers.{Lexeme, word, open_bracket, the_end, Placed}
 use Rattle.snd_reader.specs.Forms.{Then, IsNothing, AreItems, Items}
-use Rattle.snd_reader.specs.declared.fault.Complaint.{Complaint}
-use Rattle.snd_reader.specs.declared.fault.Complaint.TheVariants.{Ended}
-use Rattle.snd_reader.proofs.Lawful.{Lawful}
+use Rattle.snd_reader.proofs.Lawful.{Says, Lawful}
 use Rattle.snd_reader.proofs.Live.{Live, live_bind, live_done, IsMore, EndsLast, items_end_last}
 use Rattle.snd_reader.proofs.Many.{lawful_items}
+use Rattle.snd_reader.proofs.SameForms.{lawful_as, same_items}
 use Rattle.snd_reader.proofs.Endings.{EndsAtEnd, ends_items}
+use Rattle.snd_network.proofs.Agree.{section_same}
 use Rattle.snd_network.proofs.Endings.{section-end}
 use Rattle.snd_network.specs.declared.file.NodeRecord.{NodeRecord}
 use Rattle.snd_network.specs.declared.draft.LinkDraft.{LinkDraft}
@@ -19,8 +19,7 @@ use Rattle.snd_network.specs.declared.draft.Table.{Table}
 use Rattle.snd_network.specs.declared.draft.Draft.{Draft}
 use Rattle.snd_network.specs.declared.draft.Section.{Section}
 use Rattle.snd_network.specs.declared.draft.Section.TheVariants.{Nodes, Links, Demands, Meta, Paths}
-use Rattle.snd_network.specs.Tests.{section_named, has_section, once, section_begun, is_complete, section_head}
-use Rattle.snd_network.specs.Grammar.{IsOpen, NodesForm, LinkForm, DemandForm, ListForm, no_sections, and_nodes, and_links, and_demands, and_meta, and_paths, SectionForm, NetworkForm}
+use Rattle.snd_network.specs.Grammar.{IsOpen, NodesForm, LinkForm, DemandForm, ListForm, no_sections, and_nodes, and_links, and_demands, and_meta, and_paths, BeginsSection, SectionForm, NetworkForm}
 use Rattle.snd_network.specs.Reading.{link, demand, list_of, section_turn, section, network}
 use Rattle.snd_network.proofs.Parts.{live_opening, live_nodes, live_link, live_demand, live_list}
 use Rattle.snd_reader.proofs.Skips.{live_skip}
@@ -43,7 +42,7 @@ live_section d Paths = live_bind _ _ _ _ live_opening (λ _. live_bind _ _ _ _ l
 -- ---- a network can be finished
 
 abbrev Finishes : Draft → Type 0
-Finishes d = (l : List Placed) × (x : Draft) × Items section_turn SectionForm d l x
+Finishes d = (l : List Placed) × (x : Draft) × Items (Says section_turn) SectionForm d l x
 
 abbrev sample : Lexeme → Placed
 sample l = record { at = 0; is = l }
@@ -86,46 +85,15 @@ finishes d = with-nodes d.nodes d.links d.demands d.has_meta d.has_paths
 
 -- the sections of a network, up to the end of the text, are read lawfully
 pub lawful_network : Lawful NetworkForm network
-lawful_network = lawful_items section_turn section SectionForm (λ d k. (live_section d k).law) finishes no_sections
+lawful_network =
+    lawful_as (Items (Says section_turn) SectionForm no_sections) NetworkForm network (same_items SectionForm section_turn BeginsSection section_same no_sections)
+    (lawful_items section_turn section SectionForm (λ d k. (live_section d k).law) finishes no_sections)
 
 -- ---- nothing is read behind the end of the text
 
--- between sections, no token but the end of the text ends their list
-pub only-end : (d : Draft) (t : Placed) → section_turn d t ≡ Ok None → t.is ≡ the_end
-only-end d t e = by t.is e
-  where
-    by-once : (b : Bool) (k : Section) → once b k ≡ Ok None → ⊥
-    by-once true k e = cc
-    by-once false k e = cc
-
-    by-section : (o : Option Section) → section_begun d o ≡ Ok None → ⊥
-    by-section None e = cc
-    by-section (Some k) e = by-once (has_section d k) k e
-
-    by : (l : Lexeme) → section_head d l ≡ Ok None → l ≡ the_end
-    by (word bytes) e = absurd (by-section (section_named bytes) e)
-    by open_bracket e = absurd cc
-    by close_bracket e = absurd cc
-    by equals_sign e = absurd cc
-    by the_end e = refl
-
-only-more : (d : Draft) (t : Placed) (k : Section) → section_turn d t ≡ Ok (Some k) → IsMore t.is
-only-more d t k e = by t.is e
-  where
-    by-complete : (b : Bool) → (if b then Ok None else Err Ended) ≡ Ok (Some k) → ⊥
-    by-complete true e = cc
-    by-complete false e = cc
-
-    by : (l : Lexeme) → section_head d l ≡ Ok (Some k) → IsMore l
-    by (word bytes) e = tt
-    by open_bracket e = tt
-    by close_bracket e = tt
-    by equals_sign e = tt
-    by the_end e = by-complete (is_complete d) e
-
 -- tokens in the form of a network have the end of the text as their last one, and nowhere before
 pub network_ends : (l : List Placed) (d : Draft) → NetworkForm l d → EndsLast l
-network_ends l d f = items_end_last section_turn SectionForm (λ s h l x g. (live_section s h).no_end l x g) only-end only-more f.0 no_sections l d f.1
+network_ends l d f = items_end_last BeginsSection SectionForm (λ s h l x g. (live_section s h).no_end l x g) (λ s t h. h.0) (λ s t k h. subst IsMore (sym h.0) tt) f.0 no_sections l d f.1
 
 -- the end of a text is told at its end alone
 pub ends_network : EndsAtEnd network

@@ -1,9 +1,9 @@
 -- The grammar of network texts: which lists of tokens stand for which records.
-use Rattle.std.specs.Prelude.{ℕ, true, false, List, [], ◌∷◌, ◌++◌, Option, Some, None}
-use Rattle.snd_reader.specs.Readers.{Placed}
+use Rattle.std.specs.Prelude.{◌≡◌, ℕ, ◌≤◌, true, false, List, [], ◌∷◌, ◌++◌, length, ◌⊎◌, is_some, codes, Option, Some, None}
+use Rattle.scaled_numbers.specs.Decimal.{Numeral, Spells, IsRead}
+use Rattle.snd_reader.specs.Readers.{word, open_bracket, close_bracket, the_end, Placed}
 use Rattle.snd_reader.specs.Forms.{Then, IsToken, IsNothing, Items}
 use Rattle.snd_reader.specs.Brackets.{IsSkipped}
-use Rattle.snd_reader.specs.Tests.{open_test, close_test, number_test}
 use Rattle.snd_network.specs.declared.file.NodeRecord.{NodeRecord}
 use Rattle.snd_network.specs.declared.draft.End.{End}
 use Rattle.snd_network.specs.declared.draft.NodeItem.{NodeItem}
@@ -16,33 +16,60 @@ use Rattle.snd_network.specs.declared.draft.Table.{Table}
 use Rattle.snd_network.specs.declared.draft.Draft.{Draft}
 use Rattle.snd_network.specs.declared.draft.Section.{Section}
 use Rattle.snd_network.specs.declared.draft.Section.TheVariants.{Nodes, Links, Demands, Meta, Paths}
-use Rattle.snd_network.specs.Tests.{end_test, list_head, node_head, module_head, coordinate_test, hops_test, section_head}
+use Rattle.snd_network.specs.declared.limits.TheConstants.{MAX_NAME_BYTES}
+use Rattle.snd_network.specs.Names.{IsNewName}
+use Rattle.snd_network.specs.Tests.{is_sign, has_section, is_complete}
 
 -- ---- single tokens
 
 -- an opening bracket
 abbrev pub IsOpen : List Placed → Unit {0} → Type 0
-IsOpen = IsToken (λ t. open_test t.is)
+IsOpen = IsToken (λ t _. t.is ≡ open_bracket)
 
 -- a closing bracket
 abbrev pub IsClose : List Placed → Unit {0} → Type 0
-IsClose = IsToken (λ t. close_test t.is)
+IsClose = IsToken (λ t _. t.is ≡ close_bracket)
 
--- a word that spells a number at a scale
+-- a word that spells a number below 10^12, which is this one at the scale
+abbrev pub IsNumeral : ℕ → Placed → ℕ → Type 0
+IsNumeral scale t n = (bytes : List ℕ) × (t.is ≡ word bytes) × IsRead bytes scale n
+
+-- a number at a scale
 abbrev pub IsNumber : ℕ → List Placed → ℕ → Type 0
-IsNumber scale = IsToken (λ t. number_test scale t.is)
+IsNumber scale = IsToken (IsNumeral scale)
+
+-- a word of at most 64 bytes, with its place
+abbrev pub IsEndName : Placed → End → Type 0
+IsEndName t e = (t.is ≡ word e.name) × (t.at ≡ e.at) × (length e.name ≤ MAX_NAME_BYTES)
 
 -- the end of a link or demand
 abbrev pub IsEnd : List Placed → End → Type 0
-IsEnd = IsToken end_test
+IsEnd = IsToken IsEndName
+
+-- it spells a number of any size
+abbrev pub SpellsNumber : List ℕ → Type 0
+SpellsNumber bytes = (n : Numeral) × Spells bytes n
+
+-- it spells a number of any size, with at most one sign in front
+abbrev pub SpellsSigned : List ℕ → Type 0
+SpellsSigned bytes = SpellsNumber bytes ⊎ ((sign : ℕ) × (digits : List ℕ) × (bytes ≡ sign ∷ digits) × (is_sign sign ≡ true) × SpellsNumber digits)
+
+-- a word that spells such a number
+abbrev pub IsSignedWord : Placed → List ℕ → Type 0
+IsSignedWord t bytes = (t.is ≡ word bytes) × SpellsSigned bytes
 
 -- a coordinate, as its word
 abbrev pub IsCoordinate : List Placed → List ℕ → Type 0
-IsCoordinate = IsToken (λ t. coordinate_test t.is)
+IsCoordinate = IsToken IsSignedWord
+
+-- the word `UNLIMITED`, or the most links of a path
+abbrev pub IsLimitWord : Placed → Option ℕ → Type 0
+IsLimitWord t None = t.is ≡ word (codes "UNLIMITED")
+IsLimitWord t (Some n) = IsNumeral 0 t n
 
 -- a hop limit, or none
 abbrev pub IsHopLimit : List Placed → Option ℕ → Type 0
-IsHopLimit = IsToken (λ t. hops_test t.is)
+IsHopLimit = IsToken IsLimitWord
 
 -- ---- nodes
 
@@ -63,6 +90,12 @@ with_last s place = record { names = s.names; rows = s.rows ++ last_node s.pendi
 abbrev pub and_named : NodeList → List ℕ → NodeList
 and_named s bytes = record { names = s.names ++ bytes ∷ []; rows = s.rows ++ last_node s.pending None; pending = Some bytes }
 
+-- A new name begins a node, an Open the place of the node whose name stands before it, and a Close ends the list.
+abbrev pub BeginsNode : NodeList → Placed → Option NodeItem → Type 0
+BeginsNode s t None = t.is ≡ close_bracket
+BeginsNode s t (Some (node_items.Name bytes)) = (t.is ≡ word bytes) × IsNewName s.names bytes
+BeginsNode s t (Some node_items.Place) = (t.is ≡ open_bracket) × (is_some s.pending ≡ true)
+
 -- behind a name nothing more of it; behind an Open two coordinates and a Close
 abbrev pub NodeForm : NodeList → NodeItem → List Placed → NodeList → Type 0
 NodeForm s (node_items.Name bytes) = IsNothing (and_named s bytes)
@@ -74,9 +107,20 @@ all_nodes s = record { names = s.names; rows = s.rows ++ last_node s.pending Non
 
 -- nodes with different names, up to a Close
 abbrev pub NodesForm : List Placed → Table NodeRecord → Type 0
-NodesForm = Then (Items (λ (s : NodeList) (t : Placed). node_head s t.is) NodeForm no_nodes) (λ s. IsNothing (all_nodes s))
+NodesForm = Then (Items BeginsNode NodeForm no_nodes) (λ s. IsNothing (all_nodes s))
+
+-- ---- ends
+
+-- the two ends of a link or demand, in brackets
+abbrev pub EndsForm : List Placed → End × End → Type 0
+EndsForm = Then IsOpen (λ _. Then IsEnd (λ source. Then IsEnd (λ target. Then IsClose (λ _. IsNothing (source, target)))))
 
 -- ---- links
+
+-- its capacity begins a module, and a Close ends the list
+abbrev pub BeginsModule : List (ℕ × ℕ) → Placed → Option ℕ → Type 0
+BeginsModule modules t None = t.is ≡ close_bracket
+BeginsModule modules t (Some capacity) = IsNumeral 6 t capacity
 
 -- a module behind its capacity is its cost
 abbrev pub ModuleForm : List (ℕ × ℕ) → ℕ → List Placed → List (ℕ × ℕ) → Type 0
@@ -84,36 +128,35 @@ ModuleForm modules capacity = Then (IsNumber 6) (λ cost. IsNothing (modules ++ 
 
 -- capacities and costs of modules, up to a Close
 abbrev pub ModulesForm : List Placed → List (ℕ × ℕ) → Type 0
-ModulesForm = Items (λ (_ : List (ℕ × ℕ)) (t : Placed). module_head t.is) ModuleForm []
+ModulesForm = Items BeginsModule ModuleForm []
 
--- a link behind its name
-abbrev pub LinkForm : List Placed → LinkDraft → Type 0
-LinkForm =
-    Then IsOpen (λ _.
-    Then IsEnd (λ source.
-    Then IsEnd (λ target.
-    Then IsClose (λ _.
+-- what the pre-installed capacity is and costs, what routing and setting up cost, and the bracket before the modules
+abbrev pub CostsForm : List Placed → ℕ × ℕ × ℕ × ℕ → Type 0
+CostsForm =
     Then (IsNumber 6) (λ pre.
     Then (IsNumber 6) (λ pre_cost.
     Then (IsNumber 6) (λ routing.
     Then (IsNumber 6) (λ setup.
     Then IsOpen (λ _.
-    Then ModulesForm (λ modules.
-    IsNothing (record { source = source; target = target; pre = pre; pre_cost = pre_cost; routing = routing; setup = setup; modules = modules })))))))))))
+    IsNothing (pre, pre_cost, routing, setup))))))
+
+-- the link of these parts
+abbrev pub link_with : End × End → ℕ × ℕ × ℕ × ℕ → List (ℕ × ℕ) → LinkDraft
+link_with x n modules = record { source = x.0; target = x.1; pre = n.0; pre_cost = n.1; routing = n.2; setup = n.3; modules = modules }
+
+-- a link behind its name
+abbrev pub LinkForm : List Placed → LinkDraft → Type 0
+LinkForm = Then EndsForm (λ x. Then CostsForm (λ n. Then ModulesForm (λ modules. IsNothing (link_with x n modules))))
 
 -- ---- demands
 
+-- the demand of these parts
+abbrev pub demand_with : End × End → ℕ → ℕ → Option ℕ → DemandDraft
+demand_with x unit value hops = record { source = x.0; target = x.1; unit = unit; value = value; hops = hops }
+
 -- a demand behind its name
 abbrev pub DemandForm : List Placed → DemandDraft → Type 0
-DemandForm =
-    Then IsOpen (λ _.
-    Then IsEnd (λ source.
-    Then IsEnd (λ target.
-    Then IsClose (λ _.
-    Then (IsNumber 0) (λ unit.
-    Then (IsNumber 6) (λ value.
-    Then IsHopLimit (λ hops.
-    IsNothing (record { source = source; target = target; unit = unit; value = value; hops = hops }))))))))
+DemandForm = Then EndsForm (λ x. Then (IsNumber 0) (λ unit. Then (IsNumber 6) (λ value. Then IsHopLimit (λ hops. IsNothing (demand_with x unit value hops)))))
 
 -- ---- lists of named things
 
@@ -125,13 +168,18 @@ no_rows = record { names = []; rows = [] }
 abbrev pub and_row : {T : Type 0} → Table (Named T) → List ℕ → T → Table (Named T)
 and_row s name part = record { names = s.names ++ name ∷ []; rows = s.rows ++ record { name = name; part = part } ∷ [] }
 
+-- a new name begins an item, and a Close ends the list
+abbrev pub BeginsItem : {T : Type 0} → Table (Named T) → Placed → Option (List ℕ) → Type 0
+BeginsItem s t None = t.is ≡ close_bracket
+BeginsItem s t (Some name) = (t.is ≡ word name) × IsNewName s.names name
+
 -- an item behind its name
 abbrev pub ItemForm : {T : Type 0} → (List Placed → T → Type 0) → Table (Named T) → List ℕ → List Placed → Table (Named T) → Type 0
 ItemForm F s name = Then F (λ part. IsNothing (and_row s name part))
 
 -- items with different names, up to a Close
 abbrev pub ListForm : {T : Type 0} → (List Placed → T → Type 0) → List Placed → Table (Named T) → Type 0
-ListForm {T} F = Items (λ (s : Table (Named T)) (t : Placed). list_head s.names t.is) (ItemForm F) no_rows
+ListForm F = Items BeginsItem (ItemForm F) no_rows
 
 -- ---- sections
 
@@ -159,6 +207,19 @@ and_meta d = record { nodes = d.nodes; links = d.links; demands = d.demands; has
 abbrev pub and_paths : Draft → Draft
 and_paths d = record { nodes = d.nodes; links = d.links; demands = d.demands; has_meta = d.has_meta; has_paths = true }
 
+-- the name of a section
+abbrev pub section_name : Section → List ℕ
+section_name Nodes = codes "NODES"
+section_name Links = codes "LINKS"
+section_name Demands = codes "DEMANDS"
+section_name Meta = codes "META"
+section_name Paths = codes "ADMISSIBLE_PATHS"
+
+-- The name of a section that has not been read begins it, and the text may end where nodes, links and demands are there.
+abbrev pub BeginsSection : Draft → Placed → Option Section → Type 0
+BeginsSection d t None = (t.is ≡ the_end) × (is_complete d ≡ true)
+BeginsSection d t (Some k) = (t.is ≡ word (section_name k)) × (has_section d k ≡ false)
+
 -- a section behind its name
 abbrev pub SectionForm : Draft → Section → List Placed → Draft → Type 0
 SectionForm d Nodes = Then IsOpen (λ _. Then NodesForm (λ nodes. IsNothing (and_nodes d nodes)))
@@ -169,4 +230,4 @@ SectionForm d Paths = Then IsOpen (λ _. Then IsSkipped (λ _. IsNothing (and_pa
 
 -- Sections in any order, each at most once, and then the end of the text; nodes, links and demands are there.
 abbrev pub NetworkForm : List Placed → Draft → Type 0
-NetworkForm = Items (λ (d : Draft) (t : Placed). section_head d t.is) SectionForm no_sections
+NetworkForm = Items BeginsSection SectionForm no_sections

@@ -2,7 +2,6 @@ pub mod Names
 pub mod Tests
 pub mod Grammar
 pub mod Reading
-pub mod InParts
 pub mod Ends
 pub mod Spelling
 pub mod Steps

@@ -17,7 +17,7 @@ use Rattle.snd_network.specs.declared.draft.Draft.{Draft}
 use Rattle.snd_network.specs.declared.draft.Section.{Section}
 use Rattle.snd_network.specs.declared.draft.Section.TheVariants.{Nodes, Links, Demands, Meta, Paths}
 use Rattle.snd_network.specs.Tests.{end_test, list_head, node_head, module_head, coordinate_test, hops_test, section_head}
-use Rattle.snd_network.specs.Grammar.{no_nodes, with_last, and_named, all_nodes, no_rows, and_row, no_sections, and_nodes, and_links, and_demands, and_meta, and_paths}
+use Rattle.snd_network.specs.Grammar.{no_nodes, with_last, and_named, all_nodes, link_with, demand_with, no_rows, and_row, no_sections, and_nodes, and_links, and_demands, and_meta, and_paths}
 
 -- ---- single tokens
 
@@ -68,6 +68,12 @@ node_list = items node_turn node_item no_nodes
 abbrev pub nodes : Reader (Table NodeRecord)
 nodes = bind node_list (λ s. done (all_nodes s))
 
+-- ---- ends
+
+-- reads the two ends in brackets
+unfoldable pub ends : Reader (End × End)
+ends = bind opening (λ _. bind end_name (λ source. bind end_name (λ target. bind closing (λ _. done (source, target)))))
+
 -- ---- links
 
 -- what a token is between modules
@@ -82,34 +88,25 @@ module_item modules capacity = bind (number 6) (λ cost. done (modules ++ (capac
 abbrev pub modules : Reader (List (ℕ × ℕ))
 modules = items module_turn module_item []
 
--- reads a link behind its name
-unfoldable pub link : Reader LinkDraft
-link =
-    bind opening (λ _.
-    bind end_name (λ source.
-    bind end_name (λ target.
-    bind closing (λ _.
+-- reads the four numbers of a link, and the bracket before its modules
+unfoldable pub costs : Reader (ℕ × ℕ × ℕ × ℕ)
+costs =
     bind (number 6) (λ pre.
     bind (number 6) (λ pre_cost.
     bind (number 6) (λ routing.
     bind (number 6) (λ setup.
     bind opening (λ _.
-    bind modules (λ modules.
-    done (record { source = source; target = target; pre = pre; pre_cost = pre_cost; routing = routing; setup = setup; modules = modules })))))))))))
+    done (pre, pre_cost, routing, setup))))))
+
+-- reads a link behind its name
+unfoldable pub link : Reader LinkDraft
+link = bind ends (λ x. bind costs (λ n. bind modules (λ modules. done (link_with x n modules))))
 
 -- ---- demands
 
 -- reads a demand behind its name
 unfoldable pub demand : Reader DemandDraft
-demand =
-    bind opening (λ _.
-    bind end_name (λ source.
-    bind end_name (λ target.
-    bind closing (λ _.
-    bind (number 0) (λ unit.
-    bind (number 6) (λ value.
-    bind hop_limit (λ hops.
-    done (record { source = source; target = target; unit = unit; value = value; hops = hops }))))))))
+demand = bind ends (λ x. bind (number 0) (λ unit. bind (number 6) (λ value. bind hop_limit (λ hops. done (demand_with x unit value hops)))))
 
 -- ---- lists of named things
 

@@ -3,8 +3,7 @@
 ghost use Rattle.snd_reader.specs.Readers.{token};
 ghost use Rattle.snd_reader.specs.Faults.{Gives};
 ghost use Rattle.snd_network.specs.Tests.{module_head};
-ghost use Rattle.snd_network.specs.Reading.{end_name, coordinate, hop_limit, module_item, modules, link, demand};
-ghost use Rattle.snd_network.specs.InParts.{ends, link_numbers, demand_numbers};
+ghost use Rattle.snd_network.specs.Reading.{end_name, coordinate, hop_limit, module_item, modules, ends, costs, link, demand};
 
 use crate::draft::{DemandDraft, End, LinkDraft};
 use crate::verdicts::{capacity_of, coordinate_of, end_of, hops_of};
@@ -84,8 +83,8 @@ fn ends(cursor: &mut Cursor<'_>, alloc: Global) -> Result<(End, End), TextFault>
 
 /// The pre-installed capacity of a link with its cost, what routing and setting up cost, and the bracket
 /// before the modules.
-fn link_numbers(cursor: &mut Cursor<'_>) -> Result<(u64, u64, u64, u64), TextFault>
-    ensures gives { Gives (λ x. (x, cursor.new)) result (link_numbers cursor.old) }
+fn costs(cursor: &mut Cursor<'_>) -> Result<(u64, u64, u64, u64), TextFault>
+    ensures gives { Gives (λ x. (x, cursor.new)) result (costs cursor.old) }
 {
     let pre = cursor.number(6)?;
     let pre_cost = cursor.number(6)?;
@@ -100,7 +99,7 @@ pub(crate) fn link(cursor: &mut Cursor<'_>, alloc: Global) -> Result<LinkDraft, 
     ensures gives { Gives (λ x. (x, cursor.new)) result (link cursor.old) }
 {
     let (source, target) = ends(cursor, alloc)?;
-    let (pre, pre_cost, routing, setup) = link_numbers(cursor)?;
+    let (pre, pre_cost, routing, setup) = costs(cursor)?;
     let modules = modules(cursor, alloc)?;
     Ok(LinkDraft {
         source,
@@ -113,22 +112,14 @@ pub(crate) fn link(cursor: &mut Cursor<'_>, alloc: Global) -> Result<LinkDraft, 
     })
 }
 
-/// The routing unit, the value and the hop limit of a demand.
-fn demand_numbers(cursor: &mut Cursor<'_>) -> Result<(u64, u64, Option<u64>), TextFault>
-    ensures gives { Gives (λ x. (x, cursor.new)) result (demand_numbers cursor.old) }
-{
-    let unit = cursor.number(0)?;
-    let value = cursor.number(6)?;
-    let hops = hop_limit(cursor)?;
-    Ok((unit, value, hops))
-}
-
 /// A demand behind its name.
 pub(crate) fn demand(cursor: &mut Cursor<'_>, alloc: Global) -> Result<DemandDraft, TextFault>
     ensures gives { Gives (λ x. (x, cursor.new)) result (demand cursor.old) }
 {
     let (source, target) = ends(cursor, alloc)?;
-    let (unit, value, hops) = demand_numbers(cursor)?;
+    let unit = cursor.number(0)?;
+    let value = cursor.number(6)?;
+    let hops = hop_limit(cursor)?;
     Ok(DemandDraft {
         source,
         target,

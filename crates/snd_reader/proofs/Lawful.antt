@@ -1,11 +1,19 @@
 -- Readers that read exactly what is written, and stop at the first bad token.
-use Rattle.std.proofs.Common.{◌≡◌, List, [], ◌∷◌, ◌++◌, refl, sym, ap, subst, ◌∙◌, append_assoc}
+use Rattle.std.proofs.Common.{◌≡◌, List, [], ◌∷◌, ◌++◌, Option, refl, sym, ap, subst, ◌∙◌, append_assoc}
 use Rattle.std.specs.Prelude.{Result, Ok, Err}
 use Rattle.std.proofs.lemmas.List.{append-nil}
 use Rattle.snd_reader.specs.declared.fault.Complaint.{Complaint}
 use Rattle.snd_reader.specs.declared.fault.Complaint.TheVariants.{Ended}
 use Rattle.snd_reader.specs.Readers.{Placed, Stopped, Reader, ◌>>=◌, done, bind, judged, token}
 use Rattle.snd_reader.specs.Forms.{Then, IsToken, IsNothing, Begins, IsFirstBad}
+
+-- the test finds that the token stands for this
+abbrev pub Finds : {A : Type 0} → (Placed → Result A Complaint) → Placed → A → Type 0
+Finds test t x = test t ≡ Ok x
+
+-- the same, where the test looks at the items so far
+abbrev pub Says : {S H : Type 0} → (S → Placed → Result (Option H) Complaint) → S → Placed → Option H → Type 0
+Says head s t h = head s t ≡ Ok h
 
 -- the rest of the tokens plays no part in where the reader stops
 abbrev pub Local : {A : Type 0} → Reader A → List Placed → Complaint → List Placed → Type 0
@@ -90,43 +98,43 @@ lawful_done v = record {
 }
 
 -- to read one token is lawful, where its test finds some token good
-pub lawful_token : {A : Type 0} (test : Placed → Result A Complaint) (some : Placed) (value : A) → test some ≡ Ok value → Lawful (IsToken test) (token test)
+pub lawful_token : {A : Type 0} (test : Placed → Result A Complaint) (some : Placed) (value : A) → test some ≡ Ok value → Lawful (IsToken (Finds test)) (token test)
 lawful_token {A} test some value good = record {
   takes = λ ts x rest e. takes ts x rest e;
   again = λ front x rest f. again front x rest f;
   stops = λ ts c rest e. stops ts c rest e;
 }
   where
-    takes-by : (t : Placed) (ts : List Placed) (j : Result A Complaint) (x : A) (rest : List Placed) → test t ≡ j → judged t ts j ≡ read_as x rest → Taken (IsToken test) (t ∷ ts) x rest
+    takes-by : (t : Placed) (ts : List Placed) (j : Result A Complaint) (x : A) (rest : List Placed) → test t ≡ j → judged t ts j ≡ read_as x rest → Taken (IsToken (Finds test)) (t ∷ ts) x rest
     takes-by t ts (Ok y) x rest h e =
         let p = ok-parts y x ts rest e in
         record { front = t ∷ []; whole = ap (λ (us : List Placed). t ∷ us) p.1; form = (t, refl, h ∙ ap (λ (z : A). Ok z) p.0) }
     takes-by t ts (Err c) x rest h e = absurd cc
 
-    takes : (ts : List Placed) (x : A) (rest : List Placed) → token test ts ≡ read_as x rest → Taken (IsToken test) ts x rest
+    takes : (ts : List Placed) (x : A) (rest : List Placed) → token test ts ≡ read_as x rest → Taken (IsToken (Finds test)) ts x rest
     takes [] x rest e = absurd cc
     takes (t ∷ ts) x rest e = takes-by t ts (test t) x rest refl e
 
     one : (t : Placed) (x : A) (rest : List Placed) (j : Result A Complaint) → j ≡ Ok x → judged t rest j ≡ read_as x rest
     one t x rest j h = rw h refl
 
-    again : (front : List Placed) (x : A) (rest : List Placed) → IsToken test front x → token test (front ++ rest) ≡ read_as x rest
+    again : (front : List Placed) (x : A) (rest : List Placed) → IsToken (Finds test) front x → token test (front ++ rest) ≡ read_as x rest
     again front x rest (t, e, h) = subst (λ (us : List Placed). token test (us ++ rest) ≡ read_as x rest) (sym e) (one t x rest (test t) h)
 
-    begun : Begins (IsToken test) []
+    begun : Begins (IsToken (Finds test)) []
     begun = (some ∷ [], value, (some, refl, good))
 
     bad : (t : Placed) (d c : Complaint) (others : List Placed) (j : Result A Complaint) → j ≡ Err d → d ≡ c → judged t others j ≡ stopped_at c (t ∷ others)
     bad t d c others j h e = rw (h, e) refl
 
-    stops-by : (t : Placed) (ts : List Placed) (j : Result A Complaint) (c : Complaint) (rest : List Placed) → test t ≡ j → judged t ts j ≡ stopped_at c rest → Stops (IsToken test) (token test) (t ∷ ts) c rest
+    stops-by : (t : Placed) (ts : List Placed) (j : Result A Complaint) (c : Complaint) (rest : List Placed) → test t ≡ j → judged t ts j ≡ stopped_at c rest → Stops (IsToken (Finds test)) (token test) (t ∷ ts) c rest
     stops-by t ts (Ok y) c rest h e = absurd cc
     stops-by t ts (Err d) c rest h e =
         let p = err-parts A d c (t ∷ ts) rest e in
         let alone : Local (token test) [] c (t ∷ ts) = λ others. bad t d c others (test t) h p.0 in
         record { front = []; whole = p.1; begun = begun; alone = subst (λ (us : List Placed). Local (token test) [] c us) p.1 alone }
 
-    stops : (ts : List Placed) (c : Complaint) (rest : List Placed) → token test ts ≡ stopped_at c rest → Stops (IsToken test) (token test) ts c rest
+    stops : (ts : List Placed) (c : Complaint) (rest : List Placed) → token test ts ≡ stopped_at c rest → Stops (IsToken (Finds test)) (token test) ts c rest
     stops [] c rest e =
         let p = err-parts A Ended c [] rest e in
         let alone : Local (token test) [] c [] = rw (← p.0) refl in

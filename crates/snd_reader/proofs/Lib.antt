@@ -8,6 +8,7 @@ pub mod Headers
 pub mod Skips
 pub mod SkipLoop
 pub mod CutTexts
+pub mod SameForms
 pub mod Standing
 pub mod ReadTexts
 pub mod OneFault

@@ -6,7 +6,7 @@ use Rattle.snd_reader.specs.declared.fault.Complaint.{Complaint}
 use Rattle.snd_reader.specs.declared.fault.Complaint.TheVariants.{Ended}
 use Rattle.snd_reader.specs.Readers.{Lexeme, word, open_bracket, close_bracket, equals_sign, the_end, Placed, Reader, done, bind, token, items}
 use Rattle.snd_reader.specs.Forms.{Then, IsToken, IsNothing, AreItems, Items}
-use Rattle.snd_reader.proofs.Lawful.{Lawful, lawful_done, lawful_token, lawful_bind, apart}
+use Rattle.snd_reader.proofs.Lawful.{Finds, Says, Lawful, lawful_done, lawful_token, lawful_bind, apart}
 use Rattle.snd_reader.proofs.Many.{lawful_items}
 use Rattle.snd_reader.proofs.Endings.{EndsAtEnd, ends_done, ends_token, ends_bind, ends_items}
 
@@ -63,23 +63,23 @@ more_by {A} test ends t x e = by t.is refl
     by the_end is = absurd (apart (sym (ends t is) ∙ e))
 
 -- to read one token is live, where its test finds some token good and tells of the end at the end alone
-pub live_token : {A : Type 0} (test : Placed → Result A Complaint) (some : Placed) (value : A) → test some ≡ Ok value → ((t : Placed) → t.is ≡ the_end → test t ≡ Err Ended) → ((t : Placed) → test t ≡ Err Ended → t.is ≡ the_end) → Live (IsToken test) (token test)
+pub live_token : {A : Type 0} (test : Placed → Result A Complaint) (some : Placed) (value : A) → test some ≡ Ok value → ((t : Placed) → t.is ≡ the_end → test t ≡ Err Ended) → ((t : Placed) → test t ≡ Err Ended → t.is ≡ the_end) → Live (IsToken (Finds test)) (token test)
 live_token {A} test some value good ends only = record { law = lawful_token test some value good; some = (some ∷ [], value, (some, refl, good)); no_end = λ l z f. no_end l z f; at_end = ends_token test only }
   where
-    no_end : (l : List Placed) (z : A) → IsToken test l z → HasNoEnd l
+    no_end : (l : List Placed) (z : A) → IsToken (Finds test) l z → HasNoEnd l
     no_end l z (t, e, h) = subst HasNoEnd (sym e) (more_by test ends t z h, tt)
 
 module _ {S H : Type 0} (head : S → Placed → Result (Option H) Complaint) (body : S → H → Reader S) (F : S → H → List Placed → S → Type 0)
-    (live : (s : S) (h : H) → Live (F s h) (body s h)) (finish : (s : S) → (l : List Placed) × (x : S) × Items head F s l x) (ends : (s : S) (t : Placed) → t.is ≡ the_end → head s t ≡ Err Ended)
+    (live : (s : S) (h : H) → Live (F s h) (body s h)) (finish : (s : S) → (l : List Placed) × (x : S) × Items (Says head) F s l x) (ends : (s : S) (t : Placed) → t.is ≡ the_end → head s t ≡ Err Ended)
     (only : (s : S) (t : Placed) → head s t ≡ Err Ended → t.is ≡ the_end) where
-  items_no_end : (n : ℕ) (s : S) (l : List Placed) (x : S) → AreItems head F n s l x → HasNoEnd l
+  items_no_end : (n : ℕ) (s : S) (l : List Placed) (x : S) → AreItems (Says head) F n s l x → HasNoEnd l
   unfolding AreItems
   items_no_end zero s l x (t, a, e, b) = subst HasNoEnd (sym e) (more_by (head s) (ends s) t None a, tt)
   items_no_end (suc n) s l x (t, h, front, next, rest, a, f, r, e) =
       subst HasNoEnd (sym e) (more_by (head s) (ends s) t (Some h) a, no_end_append front rest ((live s h).no_end front next f) (items_no_end n next rest x r))
 
   -- to read a list of items is live, where each item is live and the list can always be finished
-  pub live_items : (s : S) → Live (Items head F s) (items head body s)
+  pub live_items : (s : S) → Live (Items (Says head) F s) (items head body s)
   live_items s = record {
     law = lawful_items head body F (λ u h. (live u h).law) finish s;
     some = finish s;
@@ -97,11 +97,11 @@ pub record EndsLast (l : List Placed) : Type 0 where
   pub before : HasNoEnd front
   pub whole : l ≡ front ++ last ∷ []
 
-module _ {S H : Type 0} (head : S → Placed → Result (Option H) Complaint) (F : S → H → List Placed → S → Type 0)
+module _ {S H : Type 0} (Head : S → Placed → Option H → Type 0) (F : S → H → List Placed → S → Type 0)
     (no_end : (s : S) (h : H) (l : List Placed) (x : S) → F s h l x → HasNoEnd l)
-    (at_end : (s : S) (t : Placed) → head s t ≡ Ok None → t.is ≡ the_end) (at_more : (s : S) (t : Placed) (h : H) → head s t ≡ Ok (Some h) → IsMore t.is) where
+    (at_end : (s : S) (t : Placed) → Head s t None → t.is ≡ the_end) (at_more : (s : S) (t : Placed) (h : H) → Head s t (Some h) → IsMore t.is) where
   -- a list that only the end of a text ends has this end as its last token, and nowhere before
-  pub items_end_last : (n : ℕ) (s : S) (l : List Placed) (x : S) → AreItems head F n s l x → EndsLast l
+  pub items_end_last : (n : ℕ) (s : S) (l : List Placed) (x : S) → AreItems Head F n s l x → EndsLast l
   unfolding AreItems
   items_end_last zero s l x (t, a, e, b) = record { front = []; last = t; is_end = at_end s t a; before = tt; whole = e }
   items_end_last (suc n) s l x (t, h, front, next, rest, a, f, r, e) =

@@ -6,7 +6,7 @@ use Rattle.snd_reader.specs.declared.fault.Complaint.{Complaint}
 use Rattle.snd_reader.specs.declared.fault.Complaint.TheVariants.{Ended}
 use Rattle.snd_reader.specs.Readers.{Placed, Stopped, Reader, ◌>>=◌, turn, turns, items}
 use Rattle.snd_reader.specs.Forms.{Begins, AreItems, Items}
-use Rattle.snd_reader.proofs.Lawful.{Lawful, Taken, Local, read_as, stopped_at, ok-parts, err-parts}
+use Rattle.snd_reader.proofs.Lawful.{Says, Lawful, Taken, Local, read_as, stopped_at, ok-parts, err-parts}
 
 -- where turns stop, with any number of turns left
 abbrev Fixed : {S : Type 0} → (ℕ → Reader S) → List Placed → Complaint → List Placed → Type 0
@@ -20,31 +20,31 @@ record Halts {S : Type 0} (F : List Placed → S → Type 0) (r : ℕ → Reader
   alone : Fixed r front c rest
 
 module _ {S H : Type 0} (head : S → Placed → Result (Option H) Complaint) (body : S → H → Reader S) (F : S → H → List Placed → S → Type 0)
-    (law : (s : S) (h : H) → Lawful (F s h) (body s h)) (finish : (s : S) → (l : List Placed) × (x : S) × Items head F s l x) where
+    (law : (s : S) (h : H) → Lawful (F s h) (body s h)) (finish : (s : S) → (l : List Placed) × (x : S) × Items (Says head) F s l x) where
   abbrev turns_of : S → ℕ → Reader S
   turns_of s m = turns head body m s
 
   -- an item and the rest of a list of items make a list of items
-  pub one-more : (n : ℕ) (s next x : S) (t : Placed) (h : H) (front rest l : List Placed) → head s t ≡ Ok (Some h) → F s h front next → AreItems head F n next rest x → l ≡ t ∷ (front ++ rest) → Items head F s l x
+  pub one-more : (n : ℕ) (s next x : S) (t : Placed) (h : H) (front rest l : List Placed) → head s t ≡ Ok (Some h) → F s h front next → AreItems (Says head) F n next rest x → l ≡ t ∷ (front ++ rest) → Items (Says head) F s l x
   unfolding AreItems
   one-more n s next x t h front rest l a f r e = (suc n, (t, h, front, next, rest, a, f, r, e))
 
   -- a token that ends a list is a list without items
-  pub nothing-more : (s : S) (t : Placed) (l : List Placed) (x : S) → head s t ≡ Ok None → l ≡ t ∷ [] → x ≡ s → Items head F s l x
+  pub nothing-more : (s : S) (t : Placed) (l : List Placed) (x : S) → head s t ≡ Ok None → l ≡ t ∷ [] → x ≡ s → Items (Says head) F s l x
   unfolding AreItems
   nothing-more s t l x a e b = (zero, (t, a, e, b))
 
   -- ---- what turns take
 
   takes-turn : (n : ℕ) (s : S) (t : Placed) (ts : List Placed) (x : S) (rest : List Placed) (j : Result (Option H) Complaint)
-      → ((next : S) (us : List Placed) → turns head body n next us ≡ read_as x rest → Taken (Items head F next) us x rest)
-      → head s t ≡ j → turn body (turns head body n) s t ts j ≡ read_as x rest → Taken (Items head F s) (t ∷ ts) x rest
+      → ((next : S) (us : List Placed) → turns head body n next us ≡ read_as x rest → Taken (Items (Says head) F next) us x rest)
+      → head s t ≡ j → turn body (turns head body n) s t ts j ≡ read_as x rest → Taken (Items (Says head) F s) (t ∷ ts) x rest
   takes-turn n s t ts x rest (Ok None) later e r =
       let p = ok-parts s x ts rest r in
       record { front = t ∷ []; whole = ap (λ (us : List Placed). t ∷ us) p.1; form = nothing-more s t (t ∷ []) x e refl (sym p.0) }
   takes-turn n s t ts x rest (Ok (Some h)) later e r = by-body (body s h ts) refl r
     where
-      by-body : (o : Result (S × List Placed) Stopped) → body s h ts ≡ o → (o >>= λ p. turns head body n p.0 p.1) ≡ read_as x rest → Taken (Items head F s) (t ∷ ts) x rest
+      by-body : (o : Result (S × List Placed) Stopped) → body s h ts ≡ o → (o >>= λ p. turns head body n p.0 p.1) ≡ read_as x rest → Taken (Items (Says head) F s) (t ∷ ts) x rest
       by-body (Ok p) b r =
           let a = (law s h).takes ts p.0 p.1 b in
           let k = later p.0 p.1 r in
@@ -56,7 +56,7 @@ module _ {S H : Type 0} (head : S → Placed → Result (Option H) Complaint) (b
       by-body (Err y) b r = absurd cc
   takes-turn n s t ts x rest (Err c) later e r = absurd cc
 
-  takes : (n : ℕ) (s : S) (ts : List Placed) (x : S) (rest : List Placed) → turns head body n s ts ≡ read_as x rest → Taken (Items head F s) ts x rest
+  takes : (n : ℕ) (s : S) (ts : List Placed) (x : S) (rest : List Placed) → turns head body n s ts ≡ read_as x rest → Taken (Items (Says head) F s) ts x rest
   unfolding turns
   takes zero s ts x rest r = absurd cc
   takes (suc n) s [] x rest r = absurd cc
@@ -72,7 +72,7 @@ module _ {S H : Type 0} (head : S → Placed → Result (Option H) Complaint) (b
   unfolding turns
   last-turn n s t ts x e b = rw (e, b) refl
 
-  again : (k n : ℕ) (s : S) (front : List Placed) (x : S) (rest : List Placed) → AreItems head F k s front x → k < n → turns head body n s (front ++ rest) ≡ read_as x rest
+  again : (k n : ℕ) (s : S) (front : List Placed) (x : S) (rest : List Placed) → AreItems (Says head) F k s front x → k < n → turns head body n s (front ++ rest) ≡ read_as x rest
   unfolding AreItems
   again k zero s front x rest f lt = absurd (omega arith)
   again zero (suc n) s front x rest (t, a, e, b) lt =
@@ -81,7 +81,7 @@ module _ {S H : Type 0} (head : S → Placed → Result (Option H) Complaint) (b
       ap (λ (us : List Placed). turns head body (suc n) s (us ++ rest)) e ∙ ap (λ (us : List Placed). turns head body (suc n) s (t ∷ us)) (append_assoc l1 l2 rest)
       ∙ one-turn n s t h (l1 ++ (l2 ++ rest)) next (l2 ++ rest) (read_as x rest) a ((law s h).again l1 next (l2 ++ rest) f) (again k n next l2 x rest r (omega arith))
 
-  few : (k : ℕ) (s : S) (l : List Placed) (x : S) → AreItems head F k s l x → k < length l
+  few : (k : ℕ) (s : S) (l : List Placed) (x : S) → AreItems (Says head) F k s l x → k < length l
   unfolding AreItems
   few zero s l x (t, a, e, b) = omega (arith, ap length e)
   few (suc k) s l x (t, h, l1, next, l2, a, f, r, e) = omega (arith, ap length e, length-append l1 l2, few k next l2 x r)
@@ -130,8 +130,8 @@ module _ {S H : Type 0} (head : S → Placed → Result (Option H) Complaint) (b
           ∙ one-turn m s t h (front ++ (front' ++ (u ∷ others))) next (front' ++ (u ∷ others)) (Err (c, u ∷ others)) e ((law s h).again front next (front' ++ (u ∷ others)) f) (alone m others (omega (arith, length-append front front')))
 
   halts-turn : (n : ℕ) (s : S) (t : Placed) (ts : List Placed) (c : Complaint) (rest : List Placed) (j : Result (Option H) Complaint)
-      → ((next : S) (us : List Placed) → length us < n → turns head body n next us ≡ stopped_at c rest → Halts (Items head F next) (turns_of next) us c rest)
-      → length ts < n → head s t ≡ j → turn body (turns head body n) s t ts j ≡ stopped_at c rest → Halts (Items head F s) (turns_of s) (t ∷ ts) c rest
+      → ((next : S) (us : List Placed) → length us < n → turns head body n next us ≡ stopped_at c rest → Halts (Items (Says head) F next) (turns_of next) us c rest)
+      → length ts < n → head s t ≡ j → turn body (turns head body n) s t ts j ≡ stopped_at c rest → Halts (Items (Says head) F s) (turns_of s) (t ∷ ts) c rest
   halts-turn n s t ts c rest (Ok None) later lt e r = absurd cc
   halts-turn n s t ts c rest (Err d) later lt e r =
       let p = err-parts S d c (t ∷ ts) rest r in
@@ -139,11 +139,11 @@ module _ {S H : Type 0} (head : S → Placed → Result (Option H) Complaint) (b
       record { front = []; whole = p.1; begun = finish s; alone = subst (λ (us : List Placed). Fixed (turns_of s) [] c us) p.1 alone }
   halts-turn n s t ts c rest (Ok (Some h)) later lt e r = by-body (body s h ts) refl r
     where
-      by-body : (o : Result (S × List Placed) Stopped) → body s h ts ≡ o → (o >>= λ p. turns head body n p.0 p.1) ≡ stopped_at c rest → Halts (Items head F s) (turns_of s) (t ∷ ts) c rest
+      by-body : (o : Result (S × List Placed) Stopped) → body s h ts ≡ o → (o >>= λ p. turns head body n p.0 p.1) ≡ stopped_at c rest → Halts (Items (Says head) F s) (turns_of s) (t ∷ ts) c rest
       by-body (Ok p) b r =
           let a = (law s h).takes ts p.0 p.1 b in
           let k = later p.0 p.1 (omega (arith, ap length a.whole, length-append a.front p.1)) r in
-          let begun : Begins (Items head F s) (t ∷ (a.front ++ k.front)) =
+          let begun : Begins (Items (Says head) F s) (t ∷ (a.front ++ k.front)) =
           (k.begun.0, k.begun.1, one-more k.begun.2.0 s p.0 k.begun.1 t h a.front (k.front ++ k.begun.0) _ e a.form k.begun.2.1 (ap (λ (l : List Placed). t ∷ l) (append_assoc a.front k.front k.begun.0))) in
           record {
             front = t ∷ (a.front ++ k.front);
@@ -156,11 +156,11 @@ module _ {S H : Type 0} (head : S → Placed → Result (Option H) Complaint) (b
           let q : body s h ts ≡ stopped_at c rest = b ∙ (let w : stopped_at {A = S} y.0 y.1 ≡ stopped_at c rest = rw (p.0, p.1) refl in w) in
           let a = (law s h).stops ts c rest q in
           let last = finish a.begun.1 in
-          let begun : Begins (Items head F s) (t ∷ a.front) =
+          let begun : Begins (Items (Says head) F s) (t ∷ a.front) =
           (a.begun.0 ++ last.0, last.1, one-more last.2.0 s a.begun.1 last.1 t h (a.front ++ a.begun.0) last.0 _ e a.begun.2 last.2.1 (ap (λ (l : List Placed). t ∷ l) (sym (append_assoc a.front a.begun.0 last.0)))) in
           record { front = t ∷ a.front; whole = ap (λ (us : List Placed). t ∷ us) a.whole; begun = begun; alone = in-body s t h a.front c rest e a.alone }
 
-  halts : (n : ℕ) (s : S) (ts : List Placed) (c : Complaint) (rest : List Placed) → length ts < n → turns head body n s ts ≡ stopped_at c rest → Halts (Items head F s) (turns_of s) ts c rest
+  halts : (n : ℕ) (s : S) (ts : List Placed) (c : Complaint) (rest : List Placed) → length ts < n → turns head body n s ts ≡ stopped_at c rest → Halts (Items (Says head) F s) (turns_of s) ts c rest
   unfolding turns
   halts zero s ts c rest lt r = absurd (omega arith)
   halts (suc n) s [] c rest lt r =
@@ -174,7 +174,7 @@ module _ {S H : Type 0} (head : S → Placed → Result (Option H) Complaint) (b
   local s front c (t ∷ ts) alone = λ others. alone (suc (length (front ++ (t ∷ others)))) others (omega (arith, length-append front (t ∷ others)))
 
   -- to read a list of items is lawful, where each item is lawful and the list can always be finished
-  pub lawful_items : (s : S) → Lawful (Items head F s) (items head body s)
+  pub lawful_items : (s : S) → Lawful (Items (Says head) F s) (items head body s)
   lawful_items s = record {
     takes = λ ts x rest r. takes (suc (length ts)) s ts x rest r;
     again = λ front x rest f. again f.0 (suc (length (front ++ rest))) s front x rest f.1 (omega (arith, few f.0 s front x f.1, length-append front rest));
@@ -184,6 +184,6 @@ module _ {S H : Type 0} (head : S → Placed → Result (Option H) Complaint) (b
   }
 
 -- a list that a token may end at once can always be finished
-pub finish_by : {S H : Type 0} (head : S → Placed → Result (Option H) Complaint) (F : S → H → List Placed → S → Type 0) (closer : Placed) → ((s : S) → head s closer ≡ Ok None) → (s : S) → (l : List Placed) × (x : S) × Items head F s l x
+pub finish_by : {S H : Type 0} (head : S → Placed → Result (Option H) Complaint) (F : S → H → List Placed → S → Type 0) (closer : Placed) → ((s : S) → head s closer ≡ Ok None) → (s : S) → (l : List Placed) × (x : S) × Items (Says head) F s l x
 unfolding AreItems
 finish_by head F closer closes s = (closer ∷ [], s, (zero, (closer, closes s, refl, refl)))

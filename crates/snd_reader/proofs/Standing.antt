@@ -1,8 +1,6 @@
 -- Tokens that stand for what a form says, piece by piece: their places play no part but in the value.
-use Rattle.std.proofs.Common.{◌≡◌, suc, List, [], ◌∷◌, ◌++◌, Option, Some, None, refl, sym, ap, ◌∙◌}
-use Rattle.std.specs.Prelude.{Result, Ok}
+use Rattle.std.proofs.Common.{◌≡◌, suc, List, [], ◌∷◌, ◌++◌, Option, Some, None, refl, sym, ap}
 use Rattle.std.proofs.lemmas.List.{append-nil}
-use Rattle.snd_reader.specs.declared.fault.Complaint.{Complaint}
 use Rattle.snd_reader.specs.Readers.{Lexeme, Placed}
 use Rattle.snd_reader.specs.Forms.{Then, IsToken, IsNothing, AreItems, Items}
 use Rattle.snd_reader.proofs.CutTexts.{AreSeen}
@@ -63,40 +61,36 @@ reads_nothing v P p = record { found = λ ts h. none v P ts p h }
 
 -- ---- one token
 
--- the test finds it good
-pub record Judged {A : Type 0} (answer : Result A Complaint) (P : A → Type 0) : Type 0 where
+-- it stands for a value of which this holds
+pub record Stands {A : Type 0} (Is : A → Type 0) (P : A → Type 0) : Type 0 where
   pub value : A
-  pub is : answer ≡ Ok value
+  pub is : Is value
   pub good : P value
 
-one : {A : Type 0} (test : Placed → Result A Complaint) (P : A → Type 0) (l : Lexeme) (ts : List Placed) → ((t : Placed) → t.is ≡ l → Judged (test t) P) → AreSeen ts (l ∷ []) → Found (IsToken test) P ts
-one test P l [] r h = absurd h
-one test P l (t ∷ []) r h = (let j = r t h.0 in record { value = j.value; form = (t, refl, j.is); good = j.good })
-one test P l (t ∷ u ∷ ts) r h = absurd h.1
+one : {A : Type 0} (Is : Placed → A → Type 0) (P : A → Type 0) (l : Lexeme) (ts : List Placed) → ((t : Placed) → t.is ≡ l → Stands (Is t) P) → AreSeen ts (l ∷ []) → Found (IsToken Is) P ts
+one Is P l [] r h = absurd h
+one Is P l (t ∷ []) r h = (let j = r t h.0 in record { value = j.value; form = (t, refl, j.is); good = j.good })
+one Is P l (t ∷ u ∷ ts) r h = absurd h.1
 
--- a token that the test finds good, wherever it stands, stands for what the test gives
-pub reads_placed : {A : Type 0} (test : Placed → Result A Complaint) (P : A → Type 0) (l : Lexeme) → ((t : Placed) → t.is ≡ l → Judged (test t) P) → Reads (IsToken test) P (l ∷ [])
-reads_placed test P l r = record { found = λ ts h. one test P l ts r h }
-
--- a token stands for what its test gives, where the test asks for no place
-pub reads_token : {A : Type 0} (test : Lexeme → Result A Complaint) (l : Lexeme) (x : A) → test l ≡ Ok x → Reads (IsToken (λ t. test t.is)) (λ y. y ≡ x) (l ∷ [])
-reads_token test l x h = reads_placed (λ t. test t.is) (λ y. y ≡ x) l (λ t e. record { value = x; is = ap test e ∙ h; good = refl })
+-- a token that stands for a value of which this holds, wherever it stands
+pub reads_token : {A : Type 0} (Is : Placed → A → Type 0) (P : A → Type 0) (l : Lexeme) → ((t : Placed) → t.is ≡ l → Stands (Is t) P) → Reads (IsToken Is) P (l ∷ [])
+reads_token Is P l r = record { found = λ ts h. one Is P l ts r h }
 
 -- ---- items
 
-module _ {S H : Type 0} (head : S → Placed → Result (Option H) Complaint) (F : S → H → List Placed → S → Type 0) (Q : S → Type 0) where
-  ends : (s : S) (l : Lexeme) (ts : List Placed) → ((t : Placed) → t.is ≡ l → head s t ≡ Ok None) → Q s → AreSeen ts (l ∷ []) → Found (Items head F s) Q ts
+module _ {S H : Type 0} (Head : S → Placed → Option H → Type 0) (F : S → H → List Placed → S → Type 0) (Q : S → Type 0) where
+  ends : (s : S) (l : Lexeme) (ts : List Placed) → ((t : Placed) → t.is ≡ l → Head s t None) → Q s → AreSeen ts (l ∷ []) → Found (Items Head F s) Q ts
   unfolding AreItems
   ends s l [] r q h = absurd h
   ends s l (t ∷ []) r q h = record { value = s; form = (0, (t, r t h.0, refl, refl)); good = q }
   ends s l (t ∷ u ∷ ts) r q h = absurd h.1
 
   -- a token ends the list
-  pub reads_end : (s : S) (l : Lexeme) → ((t : Placed) → t.is ≡ l → head s t ≡ Ok None) → Q s → Reads (Items head F s) Q (l ∷ [])
+  pub reads_end : (s : S) (l : Lexeme) → ((t : Placed) → t.is ≡ l → Head s t None) → Q s → Reads (Items Head F s) Q (l ∷ [])
   reads_end s l r q = record { found = λ ts h. ends s l ts r q h }
 
   goes-on : (P : S → Type 0) (s : S) (l : Lexeme) (i : H) (ls ms : List Lexeme) (ts : List Placed)
-      → ((t : Placed) → t.is ≡ l → head s t ≡ Ok (Some i)) → Reads (F s i) P ls → ((next : S) → P next → Reads (Items head F next) Q ms) → AreSeen ts (l ∷ (ls ++ ms)) → Found (Items head F s) Q ts
+      → ((t : Placed) → t.is ≡ l → Head s t (Some i)) → Reads (F s i) P ls → ((next : S) → P next → Reads (Items Head F next) Q ms) → AreSeen ts (l ∷ (ls ++ ms)) → Found (Items Head F s) Q ts
   unfolding AreItems
   goes-on P s l i ls ms [] r body later h = absurd h
   goes-on P s l i ls ms (t ∷ ts) r body later h =
@@ -111,5 +105,5 @@ module _ {S H : Type 0} (head : S → Placed → Result (Option H) Complaint) (F
 
   -- an item, and then the others
   pub reads_item : (P : S → Type 0) (s : S) (l : Lexeme) (i : H) (ls ms : List Lexeme)
-      → ((t : Placed) → t.is ≡ l → head s t ≡ Ok (Some i)) → Reads (F s i) P ls → ((next : S) → P next → Reads (Items head F next) Q ms) → Reads (Items head F s) Q (l ∷ (ls ++ ms))
+      → ((t : Placed) → t.is ≡ l → Head s t (Some i)) → Reads (F s i) P ls → ((next : S) → P next → Reads (Items Head F next) Q ms) → Reads (Items Head F s) Q (l ∷ (ls ++ ms))
   reads_item P s l i ls ms r body later = record { found = λ ts h. goes-on P s l i ls ms ts r body later h }

@@ -1,9 +1,11 @@
-//! Readers that the grammars of network and model texts share.
+//! What network and model texts share: tokens behind a header line, readers of tokens, faults, names, and
+//! how tokens are written.
 //!
 //! Promises of each reading call that it gives what its reader of `specs/Readers.antt` gives: it passes
 //! the token that stands there, or tells what is wrong with it and where; the end of a text is a token
-//! too. Begin at `Cursor`. Stands on `snd_lexer` and `scaled_numbers`. The grammars themselves are left
-//! to the crates above, whose contracts may rest on the forms and laws that stand here.
+//! too. Begin at `cut_text`, whose words are in `specs/Texts.antt`, and at `Cursor`. Stands on `snd_lexer`
+//! and `scaled_numbers`. The grammars themselves are left to the crates above, whose contracts rest on the
+//! forms of `specs/Forms.antt` and the laws that stand here.
 #![tactic(auto)]
 
 mod brackets;

@@ -1,6 +1,5 @@
 use Rattle.std.proofs.lemmas.Result.{err_from_is_err_and}
-use Rattle.snd_network.specs.Reading.{opening, closing, end_name}
-use Rattle.snd_network.specs.InParts.{ends}
+use Rattle.snd_network.specs.Reading.{opening, closing, end_name, ends}
 use Rattle.snd_reader.proofs.Faults.{through}
 use Rattle.snd_network.proofs.readers.ends.Goals as goal
 

@@ -1,7 +1,6 @@
-use Rattle.std.proofs.Common.{List, sym, subst}
+use Rattle.std.proofs.Common.{sym, subst}
 use Rattle.std.proofs.lemmas.Result.{err_from_is_err_and}
 use Rattle.snd_lexer.specs.declared.token.Dialect.TheVariants as dialects
-use Rattle.snd_reader.specs.Readers.{Placed}
 use Rattle.snd_reader.specs.Texts.{HasTokens}
 use Rattle.snd_network.specs.Spelling.{network_header}
 use Rattle.snd_network.proofs.Top.{cut_fault, draft_spelt, draft_told}
