@@ -5,7 +5,7 @@ use Rattle.block_deques.specs.declared.block.Block.{Block}
 use Rattle.block_deques.specs.declared.block.Hand.{Hand}
 use Rattle.block_deques.specs.Hands.{weigh, hand, Took, Sums}
 use Rattle.block_deques.specs.Making.{OwnerOf}
-use Rattle.block_deques.specs.Gathers.{known, known_to, put_on, IsWhole, AreWhole}
+use Rattle.block_deques.specs.Gathers.{known, known_to, put_on, HasAllParts, AreWhole}
 use Rattle.block_deques.proofs.Moves.{weigh-append}
 use Rattle.block_deques.proofs.Places.{got_last, got_longer}
 use Rattle.block_deques.proofs.Gains.{adds_last}
@@ -27,7 +27,7 @@ no_more first v before left same sums old h =
     let p = ap (weigh h) same in omega arith
 
 -- where each worker has every part, the last has and so have the others
-pub whole_fewer : (ws fewer : List OwnerOf) (w : OwnerOf) → ws ≡ fewer ++ w ∷ [] → AreWhole ws → IsWhole w × AreWhole fewer
+pub whole_fewer : (ws fewer : List OwnerOf) (w : OwnerOf) → ws ≡ fewer ++ w ∷ [] → AreWhole ws → HasAllParts w × AreWhole fewer
 whole_fewer ws fewer w is all =
     let all' : AreWhole (fewer ++ w ∷ []) = subst AreWhole is all in
     (all' (length fewer) w (got_last fewer w), (λ k v at. all' k v (got_longer fewer (w ∷ []) v k at)))

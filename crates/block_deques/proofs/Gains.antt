@@ -9,7 +9,7 @@ use Rattle.block_deques.specs.declared.reach.Reach.{Reach}
 use Rattle.block_deques.specs.Hands.{both}
 use Rattle.block_deques.specs.Reaches.{reach_view}
 use Rattle.block_deques.specs.Making.{OwnerOf}
-use Rattle.block_deques.specs.Gathers.{adds, known, known_to, known_in, known_in_all, IsRuling, AreRuling, IsRowOn, AreRowsOn, HasGained, HaveGained}
+use Rattle.block_deques.specs.Gathers.{adds, known, known_to, known_in_row, known_in_all, IsRuling, AreRuling, IsRowOn, AreRowsOn, HasGained, HaveGained}
 use Rattle.block_deques.proofs.Moves.{weigh-append}
 use Rattle.block_deques.proofs.Places.{some_same, item_there, got_last, got_longer, set_cases, there}
 
@@ -59,7 +59,7 @@ pub record Absorbed (ws vs : List OwnerOf) (row rs : List Reach) : Type 0 where
   pub deques : (k : ℕ) (w : OwnerOf) (r : Reach) → slice_get ws k ≡ Some w → slice_get rs k ≡ Some r → stealer_deque r.stealer ≡ worker_deque w
   pub untouched : (k : ℕ) (v : OwnerOf) → k < length rs → slice_get vs k ≡ Some v → slice_get ws k ≡ Some v
   pub gained : (k : ℕ) (w v : OwnerOf) → length rs ≤ k → slice_get ws k ≡ Some w → slice_get vs k ≡ Some v → HasGained 1 w v
-  pub sums : (h : Block → ℕ) → known_to h vs + known_in h rs ≡ known_to h ws + known_in h row
+  pub sums : (h : Block → ℕ) → known_to h vs + known_in_row h rs ≡ known_to h ws + known_in_row h row
 
 -- before the first pass of a row, all are still to come
 pub none_absorbed : (ws : List OwnerOf) (row : List Reach) → IsRowOn ws row → Absorbed ws ws row row
@@ -110,7 +110,7 @@ pub all_absorbed : (ws vs : List OwnerOf) (row : List Reach) → Absorbed ws vs 
 all_absorbed ws vs row a k w v atw atv = a.gained k w v (omega arith) atw atv
 
 -- after a whole row the workers know what they and the row knew
-pub sums_absorbed : (ws vs : List OwnerOf) (row : List Reach) → Absorbed ws vs row [] → (h : Block → ℕ) → known_to h vs ≡ known_to h ws + known_in h row
+pub sums_absorbed : (ws vs : List OwnerOf) (row : List Reach) → Absorbed ws vs row [] → (h : Block → ℕ) → known_to h vs ≡ known_to h ws + known_in_row h row
 sums_absorbed ws vs row a h = let s = a.sums h in omega arith
 
 -- the rows of left, the front of all rows, are still to come; those behind them have come
@@ -152,7 +152,7 @@ rows_last ws left fewer row is all =
 
 -- one row more is taken in
 pub one_row_absorbed : (ws vs us : List OwnerOf) (rows left fewer : List (Vec Reach Global)) (row : Vec Reach Global) → left ≡ fewer ++ row ∷ [] → length us ≡ length vs → HaveGained 1 vs us
-    → ((h : Block → ℕ) → known_to h us ≡ known_to h vs + known_in h row.items) → RowsAbsorbed ws vs rows left → RowsAbsorbed ws us rows fewer
+    → ((h : Block → ℕ) → known_to h us ≡ known_to h vs + known_in_row h row.items) → RowsAbsorbed ws vs rows left → RowsAbsorbed ws us rows fewer
 one_row_absorbed ws vs us rows left fewer row is same gained sums a =
     let t = a.total in
     let long : length left ≡ length fewer + 1 = ap length is ∙ length-append fewer (row ∷ []) in
@@ -172,7 +172,7 @@ one_row_absorbed ws vs us rows left fewer row is same gained sums a =
       sums = λ h.
           let s = a.sums h in
           let n = sums h in
-          let f = adds_last (λ (z : Vec Reach Global). known_in h z.items) left fewer row is in omega arith;
+          let f = adds_last (λ (z : Vec Reach Global). known_in_row h z.items) left fewer row is in omega arith;
     }
 
 -- after all rows each worker has gained as many parts as there are rows

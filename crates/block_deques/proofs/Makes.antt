@@ -7,7 +7,7 @@ use Rattle.crossbeam_deque.specs.Handles.{worker_view, worker_deque, stealer_deq
 use Rattle.block_deques.specs.declared.limits.TheConstants.{MAX_DECKS}
 use Rattle.block_deques.specs.declared.block.Block.{Block}
 use Rattle.block_deques.specs.declared.block.Hand.{Hand}
-use Rattle.block_deques.specs.Passes.{IsOwner, AreNumbered}
+use Rattle.block_deques.specs.Passes.{IsOwner, AreDeckBlocks}
 use Rattle.block_deques.specs.declared.reach.Reach.{Reach}
 use Rattle.block_deques.specs.declared.deck.Deck.{Deck}
 use Rattle.block_deques.specs.Hands.{thief, owner_after, all_parts}
@@ -139,7 +139,7 @@ pub nothing_taken : (ws : List OwnerOf) (k parts : ℕ) (w : OwnerOf) → AreFre
 nothing_taken ws k parts w fresh at = ap (λ (v : Hand). v.taken) (fresh k w at).1
 
 -- no blocks are numbered in order
-pub none_numbered : (deck : ℕ) (blocks : List Block) → blocks ≡ [] → AreNumbered deck blocks
+pub none_numbered : (deck : ℕ) (blocks : List Block) → blocks ≡ [] → AreDeckBlocks deck blocks
 none_numbered deck blocks none place within = let e = ap length none in absurd (omega arith)
 
 -- one deck more

@@ -6,7 +6,7 @@ use Rattle.crossbeam_deque.specs.Tasks.{Pushes, Takes, Forks, Merges, Learns, Fi
 use Rattle.crossbeam_deque.proofs.Lists.{at_set, at_snoc}
 use Rattle.block_deques.specs.declared.block.Block.{Block}
 use Rattle.block_deques.specs.declared.block.Hand.{Hand}
-use Rattle.block_deques.specs.Hands.{weigh, total, Rises, IsNumbered, hand, all_parts, Fits, Kept, Puts, Took, owner_after, thief, spent, both, Sums, Drained}
+use Rattle.block_deques.specs.Hands.{weigh, total, Rises, IsNumbered, hand, all_parts, Fits, Kept, Puts, Took, owner_after, thief, spent_hand, both, Sums, Drained}
 
 -- a weight of two lists of blocks is the weights of both
 pub weigh-append : (h : Block → ℕ) (xs ys : List Block) → weigh h (xs ++ ys) ≡ weigh h xs + weigh h ys
@@ -123,23 +123,23 @@ forks port v more items views k at =
     }
 
 -- one pass takes in another
-pub merges : (port : ℕ) (v : Hand) (other : ℕ) (u : Hand) → 0 < v.parts → Merges Kept port v other u (both v u) spent
+pub merges : (port : ℕ) (v : Hand) (other : ℕ) (u : Hand) → 0 < v.parts → Merges Kept port v other u (both v u) spent_hand
 merges port v other u some_part items views k at ne at' =
     let w = both v u in
     let vs = set views port w in
     let mine = k.each port v at in
     let parts = total_set (λ z. z.parts) views port v w at in
-    let parts' = total_set (λ z. z.parts) vs other u spent at' in
+    let parts' = total_set (λ z. z.parts) vs other u spent_hand at' in
     let old = k.parts in record {
       writer = k.writer;
       front = k.front;
       numbered = k.numbered;
       weights = λ h.
           let s = total_set (λ z. weigh h z.taken + weigh h z.joined) views port v w at in
-          let t = total_set (λ z. weigh h z.taken + weigh h z.joined) vs other u spent at' in
+          let t = total_set (λ z. weigh h z.taken + weigh h z.joined) vs other u spent_hand at' in
           let o = k.weights h in omega (arith, weigh-append h v.joined (u.taken ++ u.joined), weigh-append h u.taken u.joined);
       parts = omega arith;
-      each = each_set (Fits k.writer (length k.front) (k.front ++ items)) vs other spent ((λ o. absurd (true≢false (sym o))), tt, (λ none. (refl, refl)))
+      each = each_set (Fits k.writer (length k.front) (k.front ++ items)) vs other spent_hand ((λ o. absurd (true≢false (sym o))), tt, (λ none. (refl, refl)))
           (λ j z _ there. each_set (Fits k.writer (length k.front) (k.front ++ items)) views port w (mine.0, mine.1, (λ none. absurd (omega arith))) (λ j z _ there. k.each j z there) j z there);
     }
 

@@ -15,7 +15,7 @@ use Rattle.block_deques.specs.Reaches.{reach_taken}
 use Rattle.block_deques.specs.Decks.{DeckId, deck_id, put_by, popped_by, taken_by}
 use Rattle.block_deques.specs.Wholes.{AreOneMaking, all_put, all_taken, HaveSame, times, IsEachOnce, one_at}
 use Rattle.block_deques.specs.Making.{OwnerOf}
-use Rattle.block_deques.specs.Gathers.{known_to, known_in, known_in_all, put_on, worker_of, reaches_of, IsRuling, AreRuling, IsRowOn, AreRowsOn, HaveGained, AreWhole}
+use Rattle.block_deques.specs.Gathers.{known_to, known_in_row, known_in_all, put_on, worker_of, reaches_of, IsRuling, AreRuling, IsRowOn, AreRowsOn, HaveGained, AreWhole}
 use Rattle.block_deques.proofs.Moves.{weigh-append}
 use Rattle.block_deques.proofs.Places.{some_same, there, got_map, map_got}
 use Rattle.block_deques.proofs.Gains.{adds_alike}
@@ -25,7 +25,7 @@ pub put_total : (h : Block → ℕ) (ds : List Deck) → put_on h (map worker_of
 put_total h [] = refl
 put_total h (d ∷ ds) = let r = put_total h ds in omega (arith, weigh-append h (put_by d) (all_put ds))
 
-known_row : (h : Block → ℕ) (rs : List Reach) → known_in h rs ≡ weigh h (flat_map reach_taken rs)
+known_row : (h : Block → ℕ) (rs : List Reach) → known_in_row h rs ≡ weigh h (flat_map reach_taken rs)
 known_row h [] = refl
 known_row h (r ∷ rs) =
     let none = ap (weigh h) r.thief.4 in

@@ -19,8 +19,8 @@ abbrev pub number_of : Deck → ℕ
 number_of d = d.number
 
 -- how many decks there are of its making
-abbrev pub count_of : Deck → ℕ
-count_of d = length d.reaches.items
+abbrev pub deck_count : Deck → ℕ
+deck_count d = length d.reaches.items
 
 -- the blocks that a deck has put on its own deque, in their order
 abbrev pub put_by : Deck → List Block

@@ -24,12 +24,12 @@ abbrev pub known_to : (Block → ℕ) → List OwnerOf → ℕ
 known_to h ws = adds (λ (w : OwnerOf). known h (worker_view w)) ws
 
 -- the weight of what the passes of a row know to be taken
-abbrev pub known_in : (Block → ℕ) → List Reach → ℕ
-known_in h rs = adds (λ (r : Reach). known h (reach_view r)) rs
+abbrev pub known_in_row : (Block → ℕ) → List Reach → ℕ
+known_in_row h rs = adds (λ (r : Reach). known h (reach_view r)) rs
 
 -- the weight of what the passes of all rows know to be taken
 abbrev pub known_in_all : (Block → ℕ) → List (Vec Reach Global) → ℕ
-known_in_all h rows = adds (λ (row : Vec Reach Global). known_in h row.items) rows
+known_in_all h rows = adds (λ (row : Vec Reach Global). known_in_row h row.items) rows
 
 -- the weight of what the workers have put
 abbrev pub put_on : (Block → ℕ) → List OwnerOf → ℕ
@@ -69,9 +69,9 @@ abbrev pub HaveGained : ℕ → List OwnerOf → List OwnerOf → Type 0
 HaveGained parts ws vs = (k : ℕ) (w v : OwnerOf) → slice_get ws k ≡ Some w → slice_get vs k ≡ Some v → HasGained parts w v
 
 -- the worker has every part again
-abbrev pub IsWhole : OwnerOf → Type 0
-IsWhole w = (worker_flavor w ≡ 0) × ((worker_view w).owner ≡ true) × ((worker_view w).parts ≡ all_parts)
+abbrev pub HasAllParts : OwnerOf → Type 0
+HasAllParts w = (worker_flavor w ≡ 0) × ((worker_view w).owner ≡ true) × ((worker_view w).parts ≡ all_parts)
 
 -- each has
 abbrev pub AreWhole : List OwnerOf → Type 0
-AreWhole ws = (k : ℕ) (w : OwnerOf) → slice_get ws k ≡ Some w → IsWhole w
+AreWhole ws = (k : ℕ) (w : OwnerOf) → slice_get ws k ≡ Some w → HasAllParts w

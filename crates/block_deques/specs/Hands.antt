@@ -74,8 +74,8 @@ abbrev pub thief : Hand
 thief = hand 1 false [] [] []
 
 -- a pass that was taken in
-abbrev pub spent : Hand
-spent = hand 0 false [] [] []
+abbrev pub spent_hand : Hand
+spent_hand = hand 0 false [] [] []
 
 -- one takes in what the other took
 abbrev pub both : Hand → Hand → Hand

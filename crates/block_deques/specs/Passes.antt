@@ -22,5 +22,5 @@ abbrev pub block_at : List Block → ℕ → Block
 block_at blocks place = slice_index_or blocks place (record { deck = 0; index = 0; slot = 0; node = record { 0 = 0 }; version = 0; first = 0; count = 0 })
 
 -- each block has this deck's number, and its place as its index
-abbrev pub AreNumbered : ℕ → List Block → Type 0
-AreNumbered deck blocks = (place : ℕ) → place < length blocks → ((block_at blocks place).deck ≡ deck) × ((block_at blocks place).index ≡ place)
+abbrev pub AreDeckBlocks : ℕ → List Block → Type 0
+AreDeckBlocks deck blocks = (place : ℕ) → place < length blocks → ((block_at blocks place).deck ≡ deck) × ((block_at blocks place).index ≡ place)

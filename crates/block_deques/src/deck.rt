@@ -2,7 +2,7 @@
 
 ghost use Rattle.std.specs.Prelude.{◌≡◌, ◌≢◌, ◌<◌, ◌≤◌, ◌^◌, ◌+◌, ◌++◌, [], ◌∷◌, ℕ, length, IfOk, IfSome, OnErr, IfNone};
 ghost use Rattle.block_deques.specs.declared.limits.TheConstants.{MAX_DECKS};
-ghost use Rattle.block_deques.specs.Passes.{IsOwner, AreNumbered};
+ghost use Rattle.block_deques.specs.Passes.{IsOwner, AreDeckBlocks};
 ghost use Rattle.crossbeam_deque.specs.Handles.{worker_view};
 
 use crate::block::Block;
@@ -23,11 +23,11 @@ pub struct Deck {
     ghost owned: { IsOwner (length reaches.items) worker },
     ghost counted: { (number < length reaches.items) × (length reaches.items ≤ MAX_DECKS) },
     ghost listed: { length (worker_view worker).put ≡ puts },
-    ghost numbered: { AreNumbered number (worker_view worker).put },
+    ghost numbered: { AreDeckBlocks number (worker_view worker).put },
 }
 
 impl Deck {
-    ghost use Rattle.block_deques.specs.Decks.{block_of, IsSameDeck, number_of, count_of, put_by, popped_by, stolen_by, HasNotStolen, FoundOwnEmpty, FoundEmpty};
+    ghost use Rattle.block_deques.specs.Decks.{block_of, IsSameDeck, number_of, deck_count, put_by, popped_by, stolen_by, HasNotStolen, FoundOwnEmpty, FoundEmpty};
     ghost use Rattle.block_deques.specs.Hands.{IsRising};
 
     /// The number of this deck among those of its making, from 0. Takes no memory.
@@ -39,7 +39,7 @@ impl Deck {
 
     /// How many decks there are of its making. Takes no memory.
     pub fn count(&self) -> u32
-        ensures value { result ≡ count_of self.now }
+        ensures value { result ≡ deck_count self.now }
         ensures within { (number_of self.now < result) × (result ≤ MAX_DECKS) }
     {
         self.reaches.len() as u32
@@ -48,7 +48,7 @@ impl Deck {
     /// How many blocks this deck has put. Takes no memory.
     pub fn puts(&self) -> u64
         ensures value { result ≡ length (put_by self.now) }
-        ensures numbered { AreNumbered (number_of self.now) (put_by self.now) }
+        ensures numbered { AreDeckBlocks (number_of self.now) (put_by self.now) }
     {
         self.puts
     }
@@ -114,7 +114,7 @@ impl Deck {
     /// - Gives: None only where that deque was empty at a moment of this call.
     /// - Rule: docs/METHOD.md, "Decks".
     pub fn steal<R: Wait>(&mut self, rt: &R, victim: u32) -> Option<Block>
-        requires victim { victim < count_of self.old }
+        requires victim { victim < deck_count self.old }
         requires other { victim ≢ number_of self.old }
         ensures same { IsSameDeck self.old self.new }
         ensures put { put_by self.new ≡ put_by self.old }

@@ -5,7 +5,7 @@ ghost use Rattle.crossbeam_deque.specs.Handles.{worker_view};
 ghost use Rattle.block_deques.specs.declared.block.Block.{Block as AnyBlock};
 ghost use Rattle.block_deques.specs.Hands.{weigh};
 ghost use Rattle.block_deques.specs.Wholes.{AreOneMaking, AreAllDecks, all_put, all_taken, HaveSame, IsEachOnce};
-ghost use Rattle.block_deques.specs.Gathers.{known, known_to, known_in, known_in_all, put_on, worker_of, reaches_of, AreRuling, IsRowOn, AreRowsOn, HaveGained, IsWhole, AreWhole};
+ghost use Rattle.block_deques.specs.Gathers.{known, known_to, known_in_row, known_in_all, put_on, worker_of, reaches_of, AreRuling, IsRowOn, AreRowsOn, HaveGained, HasAllParts, AreWhole};
 
 use crate::block::Block;
 use crate::deck::Deck;
@@ -42,7 +42,7 @@ fn absorb_row(owners: &mut Vec<Owner>, mut row: Vec<Reach>)
     requires ruling { AreRuling owners.old.items }
     ensures count { length owners.new.items ≡ length owners.old.items }
     ensures gained { HaveGained 1 owners.old.items owners.new.items }
-    ensures known { (h : AnyBlock → ℕ) → known_to h owners.new.items ≡ known_to h owners.old.items + known_in h row.items }
+    ensures known { (h : AnyBlock → ℕ) → known_to h owners.new.items ≡ known_to h owners.old.items + known_in_row h row.items }
 {
     while let Some(reach) = row.pop() {
         let place = row.len();
@@ -67,7 +67,7 @@ fn absorb_rows(mut owners: Vec<Owner>, mut rows: Vec<Vec<Reach>>) -> Vec<Owner>
 
 /// Adds the blocks that are left on a deque.
 fn drain(mut owner: Owner, left: &mut Vec<Block>) -> Result<(), AllocError>
-    requires { IsWhole owner }
+    requires { HasAllParts owner }
     ensures { OnOk result ((h : AnyBlock → ℕ) → weigh h left.new.items + known h (worker_view owner) ≡ weigh h left.old.items + weigh h (worker_view owner).put) }
 {
     while let Some(block) = owner.pop_as::<Drain>() {

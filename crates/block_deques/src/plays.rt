@@ -8,13 +8,13 @@ pub(crate) struct Law;
 
 impl Protocol<Block, Hand> for Law {
     ghost use Rattle.std.specs.Prelude.{true, []};
-    ghost use Rattle.block_deques.specs.Hands.{Kept, hand, all_parts, spent};
+    ghost use Rattle.block_deques.specs.Hands.{Kept, hand, all_parts, spent_hand};
 
     ghost holds = { Kept };
 
     ghost first = { hand all_parts true [] [] [] };
 
-    ghost guest = { spent };
+    ghost guest = { spent_hand };
 }
 
 /// A block is put last.
@@ -52,11 +52,11 @@ impl Split<Hand> for NewThief {
 pub(crate) struct Together;
 
 impl Join<Hand> for Together {
-    ghost use Rattle.block_deques.specs.Hands.{both, spent};
+    ghost use Rattle.block_deques.specs.Hands.{both, spent_hand};
 
     ghost both = { both };
 
-    ghost spent = { spent };
+    ghost spent = { spent_hand };
 }
 
 /// The first block is taken by the pass that has all parts.

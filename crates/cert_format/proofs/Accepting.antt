@@ -18,7 +18,7 @@ use Rattle.cert_format.specs.Bodies.{only_if, fixed_of, number_row, list_row, lo
 use Rattle.cert_format.proofs.BodyLaws.{number_row_takes, list_takes}
 use Rattle.cert_format.proofs.ReadingLaws.{one_line, many_takes}
 use Rattle.cert_format.proofs.CutLaws.{GoodCut, cut_takes}
-use Rattle.cert_format.specs.Reading.{◌>>=◌, bind, done, judged, one, many, lists, record_on, records, place_of, nothing_behind, last_line, ending}
+use Rattle.cert_format.specs.Reading.{◌>>=◌, bind, done, past_line, one, many, lists, record_on, records, place_of, nothing_behind, last_line, ending}
 use Rattle.cert_format.specs.Drafts.{left_open, Stated, is_complete}
 use Rattle.plan_words.specs.Cuts.{HasNoLine, IsNoLine}
 use Rattle.cert_format.specs.Answers.{StopsAt, Stops, Reads}
@@ -28,12 +28,12 @@ use Rattle.cert_format.specs.Answers.{StopsAt, Stops, Reads}
 -- a reader of one line gives what a whole first line is read as, and the lines behind it
 pub one_read : {A : Type 0} (f : List ℕ → Option A) (ls : List Line) (body : List ℕ) (rest : List Line) (x : A) → ls ≡ whole body ∷ rest → f body ≡ Some x → one f ls ≡ Ok (x, rest)
 unfolding one
-one_read f ls body rest x is e = ap (one f) is ∙ ap (judged (whole body) rest) e
+one_read f ls body rest x is e = ap (one f) is ∙ ap (past_line (whole body) rest) e
 
 -- a reader of one line stops at a whole first line that it cannot read
 pub one_refused : {A : Type 0} (f : List ℕ → Option A) (ls : List Line) (body : List ℕ) (rest : List Line) → ls ≡ whole body ∷ rest → f body ≡ None → one f ls ≡ Err ls
 unfolding one
-one_refused f ls body rest is e = ap (one f) is ∙ ap (judged (whole body) rest) e ∙ ap (λ us. Err us) (sym is)
+one_refused f ls body rest is e = ap (one f) is ∙ ap (past_line (whole body) rest) e ∙ ap (λ us. Err us) (sym is)
 
 one-none : {A : Type 0} (f : List ℕ → Option A) (ls : List Line) → HasNoLine ls → one f ls ≡ Err ls
 unfolding one

@@ -63,7 +63,7 @@ use Rattle.cert_format.specs.declared.bodies.Sizes.{Sizes}
 use Rattle.cert_format.specs.declared.form.Form.{Form}
 use Rattle.cert_format.specs.declared.form.Form.TheVariants.{First, Second, Third}
 use Rattle.cert_format.specs.Lists.{is_among}
-use Rattle.plan_words.specs.Words.{◌>>=◌, numerals, row, behind, before, each, numbers_of, grains_of, row_of}
+use Rattle.plan_words.specs.Words.{◌>>=◌, numerals, row, behind, before, each, numbers_of, grains_of, numbers_after_word}
 use Rattle.cert_format.specs.Grammar.{header_line, both_word, count_line, size_line, status_line, number_line, cost_line, signed_text, bound_line, arc_numbers, counted, path_line, modules_line, price_line, CanTell, AreArcs, IsBoundField}
 use Rattle.cert_format.specs.Bodies.{
   only_if,
@@ -88,7 +88,7 @@ use Rattle.cert_format.specs.Bodies.{
   bound_of,
   numbered_arc,
   arc_of,
-  count_of,
+  fitting_count,
   uncounted,
   path_of,
   modules_of,
@@ -104,14 +104,14 @@ AreSmall ns = AllByRecursion (λ n. n < 2 ^ 128) ns
 -- ---- parts
 
 -- numbers that are read behind a word are below 2^128, and the line is the word and these numbers
-pub row_takes : (word body ns : List ℕ) → row_of word body ≡ Some ns → AreSmall ns × (body ≡ row word ns)
+pub row_takes : (word body ns : List ℕ) → numbers_after_word word body ≡ Some ns → AreSmall ns × (body ≡ row word ns)
 row_takes word body ns e =
     let (rest, first, later) = then-some (behind word body) numbers_of ns e in
     let more = numbers_takes rest ns later in
     (more.0, behind_takes word body rest first ∙ ap (λ bs. word ++ bs) more.1)
 
 -- the line of a word and numbers below 2^128 is read as these numbers
-pub row_again : (word ns : List ℕ) → AreSmall ns → row_of word (row word ns) ≡ Some ns
+pub row_again : (word ns : List ℕ) → AreSmall ns → numbers_after_word word (row word ns) ≡ Some ns
 row_again word ns h = ap (λ o. o >>= numbers_of) (behind_found word (numerals ns)) ∙ numbers_found ns h
 
 -- a value that depends on a test is found where the test holds
@@ -154,7 +154,7 @@ one_again low high n above below = only_true (nat_le low n && nat_le n high) n (
 pub number_row_takes : (word : List ℕ) (low high : ℕ) (body : List ℕ) (n : ℕ) → number_row word low high body ≡ Some n → (low ≤ n) × (n ≤ high) × (body ≡ number_line word n)
 unfolding number_row
 number_row_takes word low high body n e =
-    let (ns, first, later) = then-some (row_of word body) (one_in low high) n e in
+    let (ns, first, later) = then-some (numbers_after_word word body) (one_in low high) n e in
     let one = one_takes low high ns n later in
     (one.0, one.1, (row_takes word body ns first).1 ∙ ap (row word) one.2)
 
@@ -190,7 +190,7 @@ sizes-takes (n ∷ l ∷ d ∷ k ∷ ns) x e = absurd cc
 count-takes-line : (body : List ℕ) (x : ℕ × ℕ × ℕ) → count_row body ≡ Some x → AreSizes x × (body ≡ count_line x.0 x.1 x.2)
 unfolding count_row
 count-takes-line body x e =
-    let (ns, first, later) = then-some (row_of (codes "SIZE") body) sizes_in x e in
+    let (ns, first, later) = then-some (numbers_after_word (codes "SIZE") body) sizes_in x e in
     let sizes = sizes-takes ns x later in
     (sizes.0, (row_takes (codes "SIZE") body ns first).1 ∙ ap (row (codes "SIZE")) sizes.1)
 
@@ -481,12 +481,12 @@ arc_takes n a e =
 pub arc_again : (a : ArcId) → a.0 < 2 ^ 32 → arc_of a.0 ≡ Some a
 arc_again a small = only_true (nat_lt a.0 (2 ^ 32)) a (lt-ltb a.0 (2 ^ 32) small)
 
-count-takes : (n c : ℕ) → count_of n ≡ Some c → (c < 2 ^ 64) × (n ≡ c)
+count-takes : (n c : ℕ) → fitting_count n ≡ Some c → (c < 2 ^ 64) × (n ≡ c)
 count-takes n c e =
     let (test, same) = cond_some (nat_lt n (2 ^ 64)) n c e in
     (subst (λ k. k < 2 ^ 64) same (ltb-true n (2 ^ 64) test), same)
 
-count-again : (c : ℕ) → c < 2 ^ 64 → count_of c ≡ Some c
+count-again : (c : ℕ) → c < 2 ^ 64 → fitting_count c ≡ Some c
 count-again c small = only_true (nat_lt c (2 ^ 64)) c (lt-ltb c (2 ^ 64) small)
 
 map-same : (ns : List ℕ) → map (λ n. n) ns ≡ ns
@@ -507,8 +507,8 @@ counts_small (c ∷ counts) h = (omega (arith, h.0), counts_small counts h.1)
 pub path_takes : (body : List ℕ) (arcs : List ArcId) → path_of body ≡ Some arcs → (length arcs ≤ MAX_PATH_ARCS) × AreArcs arcs × (body ≡ path_line arcs)
 unfolding path_of
 path_takes body arcs e =
-    let (ms, before, last) = then-some (row_of (codes "PATH") body >>= uncounted MAX_PATH_ARCS) (each arc_of) arcs e in
-    let (ns, first, middle) = then-some (row_of (codes "PATH") body) (uncounted MAX_PATH_ARCS) ms before in
+    let (ms, before, last) = then-some (numbers_after_word (codes "PATH") body >>= uncounted MAX_PATH_ARCS) (each arc_of) arcs e in
+    let (ns, first, middle) = then-some (numbers_after_word (codes "PATH") body) (uncounted MAX_PATH_ARCS) ms before in
     let few = uncounted_takes MAX_PATH_ARCS ns ms middle in
     let each_arc = each_takes arc_of (λ (a : ArcId). a.0 < 2 ^ 32) (λ (a : ArcId). a.0) arc_takes ms arcs last in
     (omega (arith, few.0, ap length each_arc.1, length-map arcs (λ (a : ArcId). a.0)), each_arc.0, (row_takes (codes "PATH") body ns first).1 ∙ ap (row (codes "PATH")) (few.1 ∙ ap counted each_arc.1))
@@ -526,10 +526,10 @@ path_again arcs few h =
 pub modules_takes : (body counts : List ℕ) → modules_of body ≡ Some counts → (length counts ≤ MAX_MODULES) × AllByRecursion (λ c. c < 2 ^ 64) counts × (body ≡ modules_line counts)
 unfolding modules_of
 modules_takes body counts e =
-    let (ms, before, last) = then-some (row_of (codes "MODULES") body >>= uncounted MAX_MODULES) (each count_of) counts e in
-    let (ns, first, middle) = then-some (row_of (codes "MODULES") body) (uncounted MAX_MODULES) ms before in
+    let (ms, before, last) = then-some (numbers_after_word (codes "MODULES") body >>= uncounted MAX_MODULES) (each fitting_count) counts e in
+    let (ns, first, middle) = then-some (numbers_after_word (codes "MODULES") body) (uncounted MAX_MODULES) ms before in
     let few = uncounted_takes MAX_MODULES ns ms middle in
-    let each_count = each_takes count_of (λ c. c < 2 ^ 64) (λ c. c) count-takes ms counts last in
+    let each_count = each_takes fitting_count (λ c. c < 2 ^ 64) (λ c. c) count-takes ms counts last in
     let same : ms ≡ counts = each_count.1 ∙ map-same counts in
     (subst (λ xs. length xs ≤ MAX_MODULES) same few.0, each_count.0, (row_takes (codes "MODULES") body ns first).1 ∙ ap (row (codes "MODULES")) (few.1 ∙ ap counted same))
 
@@ -537,10 +537,10 @@ modules_takes body counts e =
 pub modules_again : (counts : List ℕ) → length counts ≤ MAX_MODULES → AllByRecursion (λ c. c < 2 ^ 64) counts → modules_of (modules_line counts) ≡ Some counts
 unfolding modules_of
 modules_again counts few h =
-    ap (λ o. o >>= uncounted MAX_MODULES >>= each count_of) (row_again (codes "MODULES") (counted counts) (omega (arith, few), counts_small counts h))
-    ∙ ap (λ o. o >>= each count_of) (uncounted_again MAX_MODULES counts few)
-    ∙ ap (each count_of) (sym (map-same counts))
-    ∙ each_found count_of (λ c. c < 2 ^ 64) (λ c. c) count-again counts h
+    ap (λ o. o >>= uncounted MAX_MODULES >>= each fitting_count) (row_again (codes "MODULES") (counted counts) (omega (arith, few), counts_small counts h))
+    ∙ ap (λ o. o >>= each fitting_count) (uncounted_again MAX_MODULES counts few)
+    ∙ ap (each fitting_count) (sym (map-same counts))
+    ∙ each_found fitting_count (λ c. c < 2 ^ 64) (λ c. c) count-again counts h
 
 -- ---- price lists
 
@@ -554,7 +554,7 @@ pub record IsNewList (entries : ℕ) (lists : List (List ℕ)) (list : List ℕ)
 pub list_takes : (entries : ℕ) (lists : List (List ℕ)) (body list : List ℕ) → list_row entries lists body ≡ Some list → IsNewList entries lists list × (body ≡ price_line list)
 unfolding list_row
 list_takes entries lists body list e =
-    let (ns, first, test) = then-some (row_of (codes "P") body) (λ ns. only_if (length ns == entries && not (is_among lists ns)) ns) list e in
+    let (ns, first, test) = then-some (numbers_after_word (codes "P") body) (λ ns. only_if (length ns == entries && not (is_among lists ns)) ns) list e in
     let (both, same) = cond_some (length ns == entries && not (is_among lists ns)) ns list test in
     let parts = and_parts (length ns == entries) (not (is_among lists ns)) both in
     let r = row_takes (codes "P") body ns first in (

@@ -7,9 +7,9 @@ use Rattle.std.proofs.lemmas.Bool.{and_parts, and_from, ltb-true, lt-ltb, leb-tr
 use Rattle.plan_base.specs.declared.limits.TheConstants.{MAX_NODES}
 use Rattle.proof_tree.specs.declared.cuts.Cut.{Cut as LoadCut}
 use Rattle.proof_tree.specs.Spellings.{FitsCuts}
-use Rattle.plan_words.specs.Words.{◌>>=◌, row, row_of}
+use Rattle.plan_words.specs.Words.{◌>>=◌, row, numbers_after_word}
 use Rattle.plan_words.proofs.NumberWords.{then-some, map-some}
-use Rattle.cert_format.specs.Grammar.{counted, members, bit, cut_numbers, cut_line, HasCutFields}
+use Rattle.cert_format.specs.Grammar.{counted, members, bit, numbers_of_cut, cut_line, HasCutFields}
 use Rattle.cert_format.specs.Bodies.{set_of, load_cut_with, load_cut_in, load_cut_row}
 use Rattle.cert_format.proofs.BodyLaws.{AreSmall, row_takes, row_again}
 use Rattle.cert_format.proofs.ReadingLaws.{pair_of}
@@ -43,7 +43,7 @@ bit_few false = omega arith
 abbrev are-within : ℕ → ℕ → ℕ → Bool
 are-within period first installed = nat_lt period (2 ^ 64) && nat_lt first (2 ^ 64) && nat_le installed 1
 
-in-takes : (nodes : ℕ) (ns : List ℕ) (cut : LoadCut) → load_cut_in nodes ns ≡ Some cut → GoodCut nodes cut × (ns ≡ cut_numbers cut)
+in-takes : (nodes : ℕ) (ns : List ℕ) (cut : LoadCut) → load_cut_in nodes ns ≡ Some cut → GoodCut nodes cut × (ns ≡ numbers_of_cut cut)
 unfolding load_cut_in
 in-takes nodes [] cut e = absurd cc
 in-takes nodes (period ∷ []) cut e = absurd cc
@@ -54,7 +54,7 @@ in-takes nodes (period ∷ first ∷ installed ∷ ns) cut e =
     let parts = and_parts (nat_lt period (2 ^ 64) && nat_lt first (2 ^ 64)) (nat_le installed 1) test in
     let grains = and_parts (nat_lt period (2 ^ 64)) (nat_lt first (2 ^ 64)) parts.0 in
     let set = set_takes nodes ns fs found in
-    subst (λ (x : LoadCut). GoodCut nodes x × (period ∷ first ∷ installed ∷ ns ≡ cut_numbers x)) is (
+    subst (λ (x : LoadCut). GoodCut nodes x × (period ∷ first ∷ installed ∷ ns ≡ numbers_of_cut x)) is (
       (set.0, (ltb-true period (2 ^ 64) grains.0, ltb-true first (2 ^ 64) grains.1)),
       ap (λ k. period ∷ first ∷ k ∷ ns) (bit-takes installed (leb-true installed 1 parts.1)) ∙ ap (λ ms. period ∷ first ∷ bit (installed == 1) ∷ ms) set.1,
     )
@@ -63,7 +63,7 @@ in-takes nodes (period ∷ first ∷ installed ∷ ns) cut e =
 pub cut_takes : (nodes : ℕ) (body : List ℕ) (cut : LoadCut) → load_cut_row nodes body ≡ Some cut → GoodCut nodes cut × (body ≡ cut_line cut)
 unfolding load_cut_row
 cut_takes nodes body cut e =
-    let (ns, first, later) = then-some (row_of (codes "C") body) (load_cut_in nodes) cut e in
+    let (ns, first, later) = then-some (numbers_after_word (codes "C") body) (load_cut_in nodes) cut e in
     let c = in-takes nodes ns cut later in
     (c.0, (row_takes (codes "C") body ns first).1 ∙ ap (row (codes "C")) c.1)
 
@@ -71,7 +71,7 @@ cut_takes nodes body cut e =
 abbrev with-bit : LoadCut → Bool → LoadCut
 with-bit cut t = record { nodes = cut.nodes; period = cut.period; first = cut.first; counts_installed = t }
 
-in-again : (nodes : ℕ) (cut : LoadCut) → GoodCut nodes cut → load_cut_in nodes (cut_numbers cut) ≡ Some cut
+in-again : (nodes : ℕ) (cut : LoadCut) → GoodCut nodes cut → load_cut_in nodes (numbers_of_cut cut) ≡ Some cut
 unfolding load_cut_in
 in-again nodes cut g =
     let b : ℕ = bit cut.counts_installed in
@@ -84,12 +84,12 @@ in-again nodes cut g =
     ∙ ap (λ t. Some (with-bit cut t)) (bit-again cut.counts_installed)
 
 -- the line of a cut with an answer for each node and numbers that fit is read as this cut
-pub cut_again : (nodes : ℕ) (cut : LoadCut) → AreSmall (cut_numbers cut) → GoodCut nodes cut → load_cut_row nodes (cut_line cut) ≡ Some cut
+pub cut_again : (nodes : ℕ) (cut : LoadCut) → AreSmall (numbers_of_cut cut) → GoodCut nodes cut → load_cut_row nodes (cut_line cut) ≡ Some cut
 unfolding load_cut_row
-cut_again nodes cut small g = ap (λ o. o >>= load_cut_in nodes) (row_again (codes "C") (cut_numbers cut) small) ∙ in-again nodes cut g
+cut_again nodes cut small g = ap (λ o. o >>= load_cut_in nodes) (row_again (codes "C") (numbers_of_cut cut) small) ∙ in-again nodes cut g
 
 -- the numbers of a cut are small
-pub cut_numbers_small : (nodes : ℕ) (cut : LoadCut) → nodes ≤ MAX_NODES → GoodCut nodes cut → AreSmall (cut_numbers cut)
+pub cut_numbers_small : (nodes : ℕ) (cut : LoadCut) → nodes ≤ MAX_NODES → GoodCut nodes cut → AreSmall (numbers_of_cut cut)
 cut_numbers_small nodes cut few g = (omega (arith, g.1.0), (omega (arith, g.1.1), (omega (arith, bit_few cut.counts_installed), set_small nodes cut.nodes few g.0)))
 
 -- ---- a cut that is read with any count of nodes

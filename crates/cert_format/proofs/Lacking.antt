@@ -41,7 +41,7 @@ use Rattle.cert_format.specs.Grammar.{
   head_lines,
   design_lines,
   bound_lines,
-  cut_numbers,
+  numbers_of_cut,
   cut_line,
   cut_lines,
   price_line,
@@ -201,7 +201,7 @@ cuts-lack First nodes cuts few fits fields = tt
 cuts-lack Second nodes cuts few fits fields = tt
 cuts-lack Third nodes cuts few fits fields = (
   row-lacks (codes "CUTS") (length cuts ∷ []) refl (let some : length cuts ≤ MAX_CUTS = fits.few in omega (arith, some), tt),
-  rec-map (GoodCut nodes) cut_line (λ cut g. row-lacks (codes "C") (cut_numbers cut) refl (cut_numbers_small nodes cut few g)) cuts (good_cuts nodes cuts fits fields),
+  rec-map (GoodCut nodes) cut_line (λ cut g. row-lacks (codes "C") (numbers_of_cut cut) refl (cut_numbers_small nodes cut few g)) cuts (good_cuts nodes cuts fits fields),
 )
 
 lists-lack : (entries : ℕ) (lists : List (List ℕ)) → AreStated entries (length lists) lists → AllByRecursion (Lacks 10) (list_lines (length lists) lists)

@@ -6,7 +6,7 @@ use Rattle.std.proofs.lemmas.Slice.Eq.{bytes_eq-Decides}
 use Rattle.proof_tree.specs.declared.tree.Evidence.TheVariants.{Bound, Routed, Overfull, Cut, Far, Crowd, Open}
 use Rattle.proof_tree.specs.declared.tree.TreeNode.{TreeNode}
 use Rattle.proof_tree.specs.declared.tree.TreeNode.TheVariants.{Split, Loads, Leaf}
-use Rattle.cert_format.specs.Lists.{is_among, with_list, with_some, prices_at, gathered, lists_of}
+use Rattle.cert_format.specs.Lists.{is_among, with_list, with_some, record_prices, gathered, lists_of}
 use Rattle.cert_format.specs.Grammar.{AreWithin, HasRecordFields}
 use Rattle.cert_format.specs.Written.{HasShownFields}
 
@@ -47,9 +47,9 @@ in-by lists ps h = by (is_among lists ps) refl h
 all-kept : (lists : List (List ℕ)) (nodes : List TreeNode) → AreInFields (gathered lists nodes) → AreInFields lists
 unfolding gathered
 all-kept lists [] h = h
-all-kept lists (node ∷ nodes) h = kept lists (prices_at node) (all-kept (with_some lists (prices_at node)) nodes h)
+all-kept lists (node ∷ nodes) h = kept lists (record_prices node) (all-kept (with_some lists (record_prices node)) nodes h)
 
-record-fields : (all lists : List (List ℕ)) (node : TreeNode) → HasShownFields all node → AreInFields (with_some lists (prices_at node)) → HasRecordFields node
+record-fields : (all lists : List (List ℕ)) (node : TreeNode) → HasShownFields all node → AreInFields (with_some lists (record_prices node)) → HasRecordFields node
 record-fields all lists (Split demand at left right) h k = h
 record-fields all lists (Loads place load) h k = h
 record-fields all lists (Leaf (Bound ps)) h k = in-by lists ps k
@@ -64,8 +64,8 @@ fields-from : (all lists : List (List ℕ)) (nodes : List TreeNode) → AllByRec
 unfolding gathered
 fields-from all lists [] h k = tt
 fields-from all lists (node ∷ nodes) h k = (
-  record-fields all lists node h.0 (all-kept (with_some lists (prices_at node)) nodes k),
-  fields-from all (with_some lists (prices_at node)) nodes h.1 k,
+  record-fields all lists node h.0 (all-kept (with_some lists (record_prices node)) nodes k),
+  fields-from all (with_some lists (record_prices node)) nodes h.1 k,
 )
 
 -- where the price lists of a tree and its records, as their lines show them, fit their fields, so do the records

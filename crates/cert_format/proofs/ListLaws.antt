@@ -15,7 +15,7 @@ use Rattle.proof_tree.specs.Spellings.{FitsRecord}
 use Rattle.cert_format.specs.declared.limits.TheConstants.{MAX_LISTS}
 use Rattle.cert_format.specs.declared.form.Form.{Form}
 use Rattle.cert_format.specs.declared.form.Form.TheVariants.{First, Second, Third}
-use Rattle.cert_format.specs.Lists.{is_among, number_in, with_list, prices_at, with_some, gathered, lists_of, lists_in, is_list, named_by, named_behind, named_from, IsNext, AreNamed, AreNew}
+use Rattle.cert_format.specs.Lists.{is_among, number_in, with_list, record_prices, with_some, gathered, lists_of, lists_in, is_list, named_by, named_behind, named_from, IsNext, AreNamed, AreNew}
 use Rattle.cert_format.specs.Grammar.{HasRecordFields}
 use Rattle.cert_format.specs.Drafts.{AreStated, AreListed}
 use Rattle.cert_format.proofs.BodyLaws.{AreSmall}
@@ -161,8 +161,8 @@ gathered-named : (w : ℕ) (lists : List (List ℕ)) → AreNew w [] lists → (
 unfolding gathered AreNamed named_from
 gathered-named w lists new [] named le h = refl
 gathered-named w lists new (node ∷ nodes) named le h =
-    let here = named-step w lists new named le (prices_at node) h.0 in
-    ap (λ ls. gathered ls nodes) here.0 ∙ gathered-named w lists new nodes (named_by lists named (prices_at node)) here.1 h.1
+    let here = named-step w lists new named le (record_prices node) h.0 in
+    ap (λ ls. gathered ls nodes) here.0 ∙ gathered-named w lists new nodes (named_by lists named (record_prices node)) here.1 h.1
 
 -- where records name all lists in their order, these are the lists of the tree
 pub lists_named : (w : ℕ) (lists : List (List ℕ)) (nodes : List TreeNode) → AreNew w [] lists → AreNamed Second lists 0 nodes → named_from Second lists 0 nodes ≡ length lists → lists_of nodes ≡ lists
@@ -171,7 +171,7 @@ lists_named w lists nodes new h ends =
 
 -- ---- the lists of a tree are different, and named in order
 
-prices-good : (nodes w : ℕ) (node : TreeNode) (ps : List ℕ) → prices_at node ≡ Some ps → FitsRecord nodes w node → HasRecordFields node → (length ps ≡ w) × AreSmall ps
+prices-good : (nodes w : ℕ) (node : TreeNode) (ps : List ℕ) → record_prices node ≡ Some ps → FitsRecord nodes w node → HasRecordFields node → (length ps ≡ w) × AreSmall ps
 prices-good nodes w (Split demand at left right) ps e fits fields = absurd cc
 prices-good nodes w (Loads place load) ps e fits fields = absurd cc
 prices-good nodes w (Leaf (Bound qs)) ps e fits fields = subst (λ xs. (length xs ≡ w) × AreSmall xs) (some-same qs ps e) (fits, fields)
@@ -208,7 +208,7 @@ unfolding AreNew
 next-other w lists [] ps new h = ap (is_list ps) (at-length lists [])
 next-other w lists (x ∷ added) ps new h = ap (is_list ps) (at-length lists (x ∷ added)) ∙ not-same lists ps x h new.2
 
-built : (w : ℕ) (lists : List (List ℕ)) (node : TreeNode) (nodes : List TreeNode) (o : Option (List ℕ)) → prices_at node ≡ o → (added : List (List ℕ)) → gathered (with_some lists o) nodes ≡ lists ++ added → AreNew w lists added
+built : (w : ℕ) (lists : List (List ℕ)) (node : TreeNode) (nodes : List TreeNode) (o : Option (List ℕ)) → record_prices node ≡ o → (added : List (List ℕ)) → gathered (with_some lists o) nodes ≡ lists ++ added → AreNew w lists added
     → IfSome o (IsNext (lists ++ added) (length lists)) → (k : ℕ) → named_by (lists ++ added) (length lists) o ≡ k → AreNamed Second (lists ++ added) k nodes → named_from Second (lists ++ added) k nodes ≡ length (lists ++ added) → Gathering w lists (node ∷ nodes)
 unfolding gathered AreNamed named_from
 built w lists node nodes o e added all new next k is named ends = record {
@@ -227,16 +227,16 @@ new-more w lists added ps good f new = (good.0, good.1, f, new)
 pub gathering : (count w : ℕ) (lists : List (List ℕ)) (nodes : List TreeNode) → AllByRecursion (λ node. FitsRecord count w node × HasRecordFields node) nodes → Gathering w lists nodes
 unfolding gathered AreNew AreNamed named_from
 gathering count w lists [] h = record { added = []; all_is = sym (append-nil lists); new = tt; named = tt; ends = ap length (sym (append-nil lists)) }
-gathering count w lists (node ∷ nodes) h = by (prices_at node) refl (gathering count w lists nodes h.1) (λ ps. gathering count w (lists ++ ps ∷ []) nodes h.1)
+gathering count w lists (node ∷ nodes) h = by (record_prices node) refl (gathering count w lists nodes h.1) (λ ps. gathering count w (lists ++ ps ∷ []) nodes h.1)
   where
-    old : (ps : List ℕ) → prices_at node ≡ Some ps → is_among lists ps ≡ true → Gathering w lists nodes → Gathering w lists (node ∷ nodes)
+    old : (ps : List ℕ) → record_prices node ≡ Some ps → is_among lists ps ≡ true → Gathering w lists nodes → Gathering w lists (node ∷ nodes)
     old ps e t g =
         let low : number_in (lists ++ g.added) ps < length lists = number-among lists ps g.added t in
         built w lists node nodes (Some ps) e g.added (ap (λ b. gathered (cond b lists (lists ++ ps ∷ [])) nodes) t ∙ g.all_is) g.new
         (record { listed = omega (arith, low, length-append lists g.added); in_order = omega (arith, low) })
         (length lists) (ap (λ b. cond b (suc (length lists)) (length lists)) (next-other w lists g.added ps g.new t)) g.named g.ends
 
-    fresh : (ps : List ℕ) → prices_at node ≡ Some ps → is_among lists ps ≡ false → Gathering w (lists ++ ps ∷ []) nodes → Gathering w lists (node ∷ nodes)
+    fresh : (ps : List ℕ) → record_prices node ≡ Some ps → is_among lists ps ≡ false → Gathering w (lists ++ ps ∷ []) nodes → Gathering w lists (node ∷ nodes)
     fresh ps e f g =
         let good = prices-good count w node ps e h.0.0 h.0.1 in
         let same : (lists ++ ps ∷ []) ++ g.added ≡ lists ++ (ps ∷ g.added) = append_assoc lists (ps ∷ []) g.added in
@@ -249,13 +249,13 @@ gathering count w lists (node ∷ nodes) h = by (prices_at node) refl (gathering
         (subst (λ ls. AreNamed Second ls (length (lists ++ ps ∷ [])) nodes) same g.named)
         (subst (λ ls. named_from Second ls (length (lists ++ ps ∷ [])) nodes ≡ length ls) same g.ends)
 
-    some : (ps : List ℕ) → prices_at node ≡ Some ps → Gathering w lists nodes → Gathering w (lists ++ ps ∷ []) nodes → Gathering w lists (node ∷ nodes)
+    some : (ps : List ℕ) → record_prices node ≡ Some ps → Gathering w lists nodes → Gathering w (lists ++ ps ∷ []) nodes → Gathering w lists (node ∷ nodes)
     some ps e g k = elim (cases_Bool (is_among lists ps)) [
       | inl t ↦ old ps e t g
       | inr f ↦ fresh ps e f k
     ]
 
-    by : (o : Option (List ℕ)) → prices_at node ≡ o → Gathering w lists nodes → ((ps : List ℕ) → Gathering w (lists ++ ps ∷ []) nodes) → Gathering w lists (node ∷ nodes)
+    by : (o : Option (List ℕ)) → record_prices node ≡ o → Gathering w lists nodes → ((ps : List ℕ) → Gathering w (lists ++ ps ∷ []) nodes) → Gathering w lists (node ∷ nodes)
     by None e g more = built w lists node nodes None e g.added g.all_is g.new tt (length lists) refl g.named g.ends
     by (Some ps) e g more = some ps e g (more ps)
 
@@ -281,7 +281,7 @@ unfolding gathered
 few-gathered lists [] = omega arith
 few-gathered lists (Split demand at left right ∷ nodes) = few-gathered lists nodes
 few-gathered lists (Loads place load ∷ nodes) = few-gathered lists nodes
-few-gathered lists (Leaf evidence ∷ nodes) = omega (arith, few-gathered (with_some lists (prices_at (Leaf evidence))) nodes, with-few lists (prices_at (Leaf evidence)))
+few-gathered lists (Leaf evidence ∷ nodes) = omega (arith, few-gathered (with_some lists (record_prices (Leaf evidence))) nodes, with-few lists (record_prices (Leaf evidence)))
 
 -- in whole trees, twice the count of leaves is the count of records and that of trees together
 pub half_leaves : (nodes : List TreeNode) (trees : ℕ) → are_trees trees nodes ≡ true → 2 * leaves nodes ≡ length nodes + trees
@@ -334,17 +334,17 @@ first-named lists named (node ∷ nodes) = (tt, first-named lists named nodes)
 third-ends : (lists : List (List ℕ)) (named : ℕ) (nodes : List TreeNode) → named_from Third lists named nodes ≡ named_from Second lists named nodes
 unfolding named_from
 third-ends lists named [] = refl
-third-ends lists named (node ∷ nodes) = third-ends lists (named_by lists named (prices_at node)) nodes
+third-ends lists named (node ∷ nodes) = third-ends lists (named_by lists named (record_prices node)) nodes
 
 third-named : (lists : List (List ℕ)) (named : ℕ) (nodes : List TreeNode) → AreNamed Second lists named nodes → AreNamed Third lists named nodes
 unfolding AreNamed
 third-named lists named [] h = tt
-third-named lists named (node ∷ nodes) h = (h.0, third-named lists (named_by lists named (prices_at node)) nodes h.1)
+third-named lists named (node ∷ nodes) h = (h.0, third-named lists (named_by lists named (record_prices node)) nodes h.1)
 
 second-named : (lists : List (List ℕ)) (named : ℕ) (nodes : List TreeNode) → AreNamed Third lists named nodes → AreNamed Second lists named nodes
 unfolding AreNamed
 second-named lists named [] h = tt
-second-named lists named (node ∷ nodes) h = (h.0, second-named lists (named_by lists named (prices_at node)) nodes h.1)
+second-named lists named (node ∷ nodes) h = (h.0, second-named lists (named_by lists named (record_prices node)) nodes h.1)
 
 -- the lists of a tree are those of a text
 pub record AreReady (form : Form) (entries : ℕ) (nodes : List TreeNode) : Type 0 where

@@ -8,7 +8,7 @@ use Rattle.std.proofs.lemmas.List.{map-append, length-map, drop_more, drop_all}
 use Rattle.std.proofs.lemmas.Bool.{ltb-false}
 use Rattle.indexmap.specs.IndexSet.{insert_key}
 use Rattle.proof_tree.specs.declared.tree.TreeNode.{TreeNode}
-use Rattle.cert_format.specs.Lists.{place_in, number_in, prices_at, with_some, with_list, gathered}
+use Rattle.cert_format.specs.Lists.{place_in, number_in, record_prices, with_some, with_list, gathered}
 
 -- some item of a viewed list passes a test exactly where the view of some item does
 pub any_viewed : {X Y : Type 0} (view : X → Y) (p : Y → Bool) (xs : List X) → list_any p (map view xs) ≡ list_any (λ x. p (view x)) xs
@@ -84,7 +84,7 @@ added view eq ks new k fresh n = rw (n, fresh) (map-append view ks (k ∷ []))
 -- ---- the lists of a tree
 
 -- the lists gathered from a record on are those gathered behind it, with its own prices among the lists
-pub gathered_more : (lists new : List (List ℕ)) (nodes : List TreeNode) (i : ℕ) (d : TreeNode) (o : Option (List ℕ)) → i < length nodes → prices_at (get_or nodes i d) ≡ o → with_some lists o ≡ new → gathered lists (drop i nodes) ≡ gathered new (drop (i + 1) nodes)
+pub gathered_more : (lists new : List (List ℕ)) (nodes : List TreeNode) (i : ℕ) (d : TreeNode) (o : Option (List ℕ)) → i < length nodes → record_prices (get_or nodes i d) ≡ o → with_some lists o ≡ new → gathered lists (drop i nodes) ≡ gathered new (drop (i + 1) nodes)
 unfolding gathered
 gathered_more lists new nodes i d o lt e w =
     ap (gathered lists) (drop_more nodes i d lt)
@@ -92,11 +92,11 @@ gathered_more lists new nodes i d o lt e w =
     ∙ ap (λ ls. gathered ls (drop (i + 1) nodes)) w
 
 -- behind a record with prices, once these are among the lists, the same is gathered as from it on
-pub gathered_some : (lists new : List (List ℕ)) (nodes : List TreeNode) (i : ℕ) (d : TreeNode) (ps : List ℕ) → i < length nodes → Some ps ≡ prices_at (get_or nodes i d) → new ≡ with_list lists ps → gathered new (drop (i + 1) nodes) ≡ gathered lists (drop i nodes)
+pub gathered_some : (lists new : List (List ℕ)) (nodes : List TreeNode) (i : ℕ) (d : TreeNode) (ps : List ℕ) → i < length nodes → Some ps ≡ record_prices (get_or nodes i d) → new ≡ with_list lists ps → gathered new (drop (i + 1) nodes) ≡ gathered lists (drop i nodes)
 gathered_some lists new nodes i d ps lt e w = sym (gathered_more lists new nodes i d (Some ps) lt (sym e) (sym w))
 
 -- behind a record without prices the same lists are gathered as from it on
-pub gathered_none : (lists : List (List ℕ)) (nodes : List TreeNode) (i : ℕ) (d : TreeNode) → i < length nodes → None ≡ prices_at (get_or nodes i d) → gathered lists (drop (i + 1) nodes) ≡ gathered lists (drop i nodes)
+pub gathered_none : (lists : List (List ℕ)) (nodes : List TreeNode) (i : ℕ) (d : TreeNode) → i < length nodes → None ≡ record_prices (get_or nodes i d) → gathered lists (drop (i + 1) nodes) ≡ gathered lists (drop i nodes)
 gathered_none lists nodes i d lt e = sym (gathered_more lists lists nodes i d None lt (sym e) refl)
 
 -- behind the last record no further list is gathered

@@ -8,9 +8,9 @@ use Rattle.cert_format.specs.declared.fault.PlanFault.TheVariants as faults
 use Rattle.plan_words.specs.Lines.{Line, text_of, lines_of}
 use Rattle.cert_format.specs.Grammar.{SpellsPlan}
 use Rattle.cert_format.specs.Drafts.{IsBegun, IsMisplaced}
-use Rattle.cert_format.specs.Faults.{IsFault, OnlyPlan, OnlyFault}
+use Rattle.cert_format.specs.Faults.{IsFault, OnlyPlan, OnlyPlanFault}
 use Rattle.cert_format.specs.Reading.{plan_of}
-use Rattle.cert_format.specs.Answers.{Gives}
+use Rattle.cert_format.specs.Answers.{GivesPlan}
 use Rattle.cert_format.proofs.PlanLaws.{stated_by, spelled_draft, plan_drafted, plan_text_lines, spells_takes, spells_again}
 use Rattle.cert_format.proofs.Places.{told_line, told_end}
 
@@ -66,12 +66,12 @@ one_fault text (faults.Ended a) (faults.Ended b) f g = inr (inr (ap (λ x. fault
 -- ---- what is answered
 
 -- where a plan is answered, the text spells it
-pub answers_plan : (text : List ℕ) (r : Result Plan PlanFault) → Gives r (plan_of text) → IfOk r (SpellsPlan text)
+pub answers_plan : (text : List ℕ) (r : Result Plan PlanFault) → GivesPlan r (plan_of text) → IfOk r (SpellsPlan text)
 answers_plan text (Ok plan) g = spells_takes text plan g
 answers_plan text (Err fault) g = tt
 
 -- where a fault is answered, it is a fault of the text
-pub answers_fault : (text : List ℕ) (r : Result Plan PlanFault) → Gives r (plan_of text) → IfErr r (IsFault text)
+pub answers_fault : (text : List ℕ) (r : Result Plan PlanFault) → GivesPlan r (plan_of text) → IfErr r (IsFault text)
 answers_fault text (Ok plan) g = tt
 answers_fault text (Err (faults.Line at)) g = told_line text at g
 answers_fault text (Err (faults.Ended at)) g = told_end text at g
@@ -84,11 +84,11 @@ same : (one other : Plan) → read one ≡ read other → one ≡ other
 same one other e = cc
 
 -- of a text that spells a plan, this plan or want of memory is answered
-pub answers_only_plan : (text : List ℕ) (r : Result Plan PlanFault) → Gives r (plan_of text) → (plan : Plan) → SpellsPlan text plan → OnlyPlan r plan
+pub answers_only_plan : (text : List ℕ) (r : Result Plan PlanFault) → GivesPlan r (plan_of text) → (plan : Plan) → SpellsPlan text plan → OnlyPlan r plan
 answers_only_plan text (Ok found) g plan s = same found plan (sym g ∙ spells_again text plan s)
 answers_only_plan text (Err fault) g plan s = no_fault text plan fault s (answers_fault text (Err fault) g)
 
 -- of a text with a fault other than want of memory, this fault or want of memory is answered
-pub answers_only_fault : (text : List ℕ) (r : Result Plan PlanFault) → Gives r (plan_of text) → (fault : PlanFault) → IsFault text fault → OnlyFault r fault
+pub answers_only_fault : (text : List ℕ) (r : Result Plan PlanFault) → GivesPlan r (plan_of text) → (fault : PlanFault) → IsFault text fault → OnlyPlanFault r fault
 answers_only_fault text (Ok found) g fault f = no_fault text found fault (answers_plan text (Ok found) g) f
 answers_only_fault text (Err told) g fault f = one_fault text told fault (answers_fault text (Err told) g) f

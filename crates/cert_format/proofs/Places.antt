@@ -18,9 +18,9 @@ use Rattle.cert_format.specs.declared.numbering.Ground.{Ground}
 use Rattle.cert_format.specs.Versions.{has_line}
 use Rattle.cert_format.specs.Lists.{Names, AreNamed, AreNew}
 use Rattle.cert_format.specs.Grammar.{price_line, end_line, design_lines, bound_lines, cut_lines}
-use Rattle.cert_format.specs.Drafts.{IsGrown, left_open, Stated, AreListed, IsDraft, IsBegun, IsMisplaced, IsUnfinished, is_complete, front_of, tree_of, closing, draft_lines}
+use Rattle.cert_format.specs.Drafts.{IsGrown, left_open, Stated, AreListed, IsDraft, IsBegun, IsMisplaced, IsUnfinished, is_complete, front_of, stated_tree_lines, closing_lines, draft_lines}
 use Rattle.cert_format.specs.Bodies.{fixed_of}
-use Rattle.cert_format.specs.Reading.{◌>>=◌, done, judged, one, opening, lists, tree, stated_on, before_end, last_line, ending, whole_plan, place_of, read_as, plan_of}
+use Rattle.cert_format.specs.Reading.{◌>>=◌, done, past_line, one, opening, lists, tree, stated_on, before_end, last_line, ending, whole_plan, place_of, read_as, plan_of}
 use Rattle.plan_words.proofs.Cutting.{text_of_lines}
 use Rattle.cert_format.proofs.BodyLaws.{fixed_takes, fixed_again}
 use Rattle.cert_format.proofs.ListLaws.{good_listed}
@@ -40,7 +40,7 @@ apart e = cc
 
 -- what stands behind the front of a draft
 abbrev tail_of : Stated → List Line
-tail_of s = cond (length s.lists == s.stated) (tree_of s ++ closing s) []
+tail_of s = cond (length s.lists == s.stated) (stated_tree_lines s ++ closing_lines s) []
 
 -- a draft states no more price lists than there are
 few-by : (form : Form) (entries n : ℕ) (found : List (List ℕ)) → AreListed form entries n found → length found ≤ n
@@ -48,17 +48,17 @@ few-by First entries n found h = (let none : length found ≡ 0 = ap length h.1 
 few-by Second entries n found h = h.1
 few-by Third entries n found h = h.1
 
-draft-read : (s : Stated) → IsDraft s → (before_end (draft_lines s) ≡ Ok (s, closing s)) ⊎ (before_end (draft_lines s) ≡ Err [])
+draft-read : (s : Stated) → IsDraft s → (before_end (draft_lines s) ≡ Ok (s, closing_lines s)) ⊎ (before_end (draft_lines s) ≡ Err [])
 draft-read s g =
     elim (cases_Bool (nat_lt (length s.lists) s.stated)) [
       | inl t ↦
           (let short : length s.lists < s.stated = ltb-true (length s.lists) s.stated t in
           let other : (length s.lists == s.stated) ≡ false = ne_eqb (length s.lists) s.stated (λ e. absurd (omega (arith, e, short))) in
-          inr (ap (λ b. before_end (front_of s ++ cond b (tree_of s ++ closing s) [])) other ∙ ap before_end (append-nil (front_of s)) ∙ draft_short s g short))
+          inr (ap (λ b. before_end (front_of s ++ cond b (stated_tree_lines s ++ closing_lines s) [])) other ∙ ap before_end (append-nil (front_of s)) ∙ draft_short s g short))
       | inr f ↦
           (let ge : s.stated ≤ length s.lists = ltb-false (length s.lists) s.stated f in
           let same : length s.lists ≡ s.stated = omega (arith, ge, few-by s.form (numbers_in s.plan) s.stated s.lists g.listed) in
-          inl (ap (λ b. before_end (front_of s ++ cond b (tree_of s ++ closing s) [])) (eq-eqb (length s.lists) s.stated same) ∙ draft_again s (closing s) g same))
+          inl (ap (λ b. before_end (front_of s ++ cond b (stated_tree_lines s ++ closing_lines s) [])) (eq-eqb (length s.lists) s.stated same) ∙ draft_again s (closing_lines s) g same))
     ]
 
 -- where reading stops at a line, that line begins no draft behind those before it
@@ -77,7 +77,7 @@ err-rest [] us e = cc
 err-rest (unfinished bytes ∷ ls) us e = cc
 err-rest (whole body ∷ ls) us e = by (fixed_of end_line body) e
   where
-    by : (o : Option (Unit {0})) → judged (whole body) ls o ≡ Err us → whole body ∷ ls ≡ us
+    by : (o : Option (Unit {0})) → past_line (whole body) ls o ≡ Err us → whole body ∷ ls ≡ us
     by None e = cc
     by (Some x) e = absurd cc
 
@@ -165,7 +165,7 @@ late ls bad f us found vs a e s =
     let ground : Ground = ground_on f found in
     let x : ℕ × List TreeNode = s.value in
     let t = tree_takes ground (good_listed f.0.form (entries_on f) f.4 found listed) ((s.front ++ s.more) ++ []) x [] (s.begun.again []) in
-    let whole_tree : s.front ++ s.more ≡ tree_of (stated_on f found x) = sym (append-nil (s.front ++ s.more)) ∙ t.1 ∙ append-nil (tree_of (stated_on f found x)) in
+    let whole_tree : s.front ++ s.more ≡ stated_tree_lines (stated_on f found x) = sym (append-nil (s.front ++ s.more)) ∙ t.1 ∙ append-nil (stated_tree_lines (stated_on f found x)) in
     let lists_hold : Holds (lists (entries_on f) f.4 []) prices found = record { again = λ others. ap (λ n. lists (entries_on f) n [] (prices ++ others)) (sym long) ∙ lists_again (entries_on f) [] found others new } in
     let state : Stated = stated_on f found x in
     let draft = draft_from f found x (record { front_is = g.0; listed = listed; tree_is = t.0 }) in
@@ -179,12 +179,12 @@ late ls bad f us found vs a e s =
       parts = a.parts ∙ ap (λ us. a.front ++ us) (l.lines ∙ ap (λ ls. map whole (map price_line ls) ++ vs) (sym l.all) ∙ ap (λ vs. prices ++ vs) s.parts) ∙ sym (regroup a.front prices s.front bad);
       begun = record {
         states = state;
-        more = s.more ++ closing state;
+        more = s.more ++ closing_lines state;
         draft = draft;
-        begins = ap (λ b. front_of state ++ cond b (tree_of state ++ closing state) []) same
-            ∙ ap (λ us. us ++ (tree_of state ++ closing state)) (behind-front a.front f found x g.1 g.0.count_is listed)
-            ∙ ap (λ us. (a.front ++ prices) ++ (us ++ closing state)) (sym whole_tree)
-            ∙ regroup' a.front prices s.front s.more (closing state);
+        begins = ap (λ b. front_of state ++ cond b (stated_tree_lines state ++ closing_lines state) []) same
+            ∙ ap (λ us. us ++ (stated_tree_lines state ++ closing_lines state)) (behind-front a.front f found x g.1 g.0.count_is listed)
+            ∙ ap (λ us. (a.front ++ prices) ++ (us ++ closing_lines state)) (sym whole_tree)
+            ∙ regroup' a.front prices s.front s.more (closing_lines state);
       };
       refused = λ k after e b. alone-refused front' k after (subst (Local before_end front') e alone) b;
     }
@@ -217,25 +217,25 @@ before-last ls bad e =
 
 module _ (s : Stated) (draft : IsDraft s) (long : length s.lists ≡ s.stated) where
   abbrev lines : List Line
-  lines = front_of s ++ tree_of s
+  lines = front_of s ++ stated_tree_lines s
 
-  all-lines : draft_lines s ≡ lines ++ closing s
-  all-lines = ap (λ b. front_of s ++ cond b (tree_of s ++ closing s) []) (eq-eqb (length s.lists) s.stated long) ∙ sym (append_assoc (front_of s) (tree_of s) (closing s))
+  all-lines : draft_lines s ≡ lines ++ closing_lines s
+  all-lines = ap (λ b. front_of s ++ cond b (stated_tree_lines s ++ closing_lines s) []) (eq-eqb (length s.lists) s.stated long) ∙ sym (append_assoc (front_of s) (stated_tree_lines s) (closing_lines s))
 
   read-lines : (rest : List Line) → before_end (lines ++ rest) ≡ Ok (s, rest)
-  read-lines rest = ap before_end (append_assoc (front_of s) (tree_of s) rest) ∙ draft_again s rest draft long
+  read-lines rest = ap before_end (append_assoc (front_of s) (stated_tree_lines s) rest) ∙ draft_again s rest draft long
 
   -- what may follow these lines is what stands behind those of the draft
-  follows : (l : Line) (b : IsBegun (lines ++ l ∷ [])) → l ∷ b.more ≡ closing s
+  follows : (l : Line) (b : IsBegun (lines ++ l ∷ [])) → l ∷ b.more ≡ closing_lines s
   follows l b =
       let here : before_end (draft_lines b.states) ≡ Ok (s, l ∷ b.more) = ap before_end (b.begins ∙ append_assoc lines (l ∷ []) b.more) ∙ read-lines (l ∷ b.more) in
       elim (draft-read b.states b.draft) [
-        | inl r ↦ (let p = ok-parts {A = Stated} s b.states (l ∷ b.more) (closing b.states) (sym here ∙ r) in p.1 ∙ ap (λ x. closing x) (sym p.0))
+        | inl r ↦ (let p = ok-parts {A = Stated} s b.states (l ∷ b.more) (closing_lines b.states) (sym here ∙ r) in p.1 ∙ ap (λ x. closing_lines x) (sym p.0))
         | inr r ↦ absurd (apart (sym r ∙ here))
       ]
 
   begins : IsBegun lines
-  begins = record { states = s; more = closing s; draft = draft; begins = all-lines }
+  begins = record { states = s; more = closing_lines s; draft = draft; begins = all-lines }
 
   cut-short : (rest : List Line) → is_complete s ≡ false → (ls : List Line) → ls ≡ lines ++ rest → StopsWell ls rest
   cut-short rest short ls is = record {
@@ -280,7 +280,7 @@ pub whole_stops : (ls bad : List Line) → whole_plan ls ≡ Err bad → StopsWe
 unfolding whole_plan
 whole_stops ls bad e = by (before_end ls) refl e
   where
-    last : (s : Stated) (rest : List Line) → IsDraft s → length s.lists ≡ s.stated → ls ≡ (front_of s ++ tree_of s) ++ rest → is_complete s ≡ true
+    last : (s : Stated) (rest : List Line) → IsDraft s → length s.lists ≡ s.stated → ls ≡ (front_of s ++ stated_tree_lines s) ++ rest → is_complete s ≡ true
         → (r : Result ((Unit {0}) × List Line) (List Line)) → one (fixed_of end_line) rest ≡ r → last_line s.plan r ≡ Err bad → StopsWell ls bad
     last s rest g long is complete (Err us) h f =
         let same : us ≡ bad = cc in
@@ -290,16 +290,16 @@ whole_stops ls bad e = by (before_end ls) refl e
     last s rest g long is complete (Ok (x, l ∷ us)) h f =
         let (body, line, read) = one_line (fixed_of end_line) rest x (l ∷ us) h in
         let same : l ∷ us ≡ bad = cc in
-        subst (λ y. StopsWell ls y) same (behind-end s g long l us complete ls (is ∙ ap (λ ws. (front_of s ++ tree_of s) ++ ws) (line ∙ ap (λ b. whole b ∷ (l ∷ us)) (fixed_takes end_line body x read))))
+        subst (λ y. StopsWell ls y) same (behind-end s g long l us complete ls (is ∙ ap (λ ws. (front_of s ++ stated_tree_lines s) ++ ws) (line ∙ ap (λ b. whole b ∷ (l ∷ us)) (fixed_takes end_line body x read))))
 
-    decide : (s : Stated) (rest : List Line) → IsDraft s → length s.lists ≡ s.stated → ls ≡ (front_of s ++ tree_of s) ++ rest → (t : Bool) → is_complete s ≡ t
+    decide : (s : Stated) (rest : List Line) → IsDraft s → length s.lists ≡ s.stated → ls ≡ (front_of s ++ stated_tree_lines s) ++ rest → (t : Bool) → is_complete s ≡ t
         → cond t (last_line s.plan (one (fixed_of end_line) rest)) (Err rest) ≡ Err bad → StopsWell ls bad
     decide s rest g long is true h f = last s rest g long is h (one (fixed_of end_line) rest) refl f
     decide s rest g long is false h f = (let same : rest ≡ bad = cc in subst (λ x. StopsWell ls x) same (cut-short s g long rest h ls is))
 
     by : (o : Result (Stated × List Line) (List Line)) → before_end ls ≡ o → (o >>= ending) ≡ Err bad → StopsWell ls bad
     by (Err us) h f = (let same : us ≡ bad = cc in before-last ls bad (h ∙ ap (λ x. Err x) same))
-    by (Ok d) h f = (let g = draft_takes ls d.0 d.1 h in decide d.0 d.1 g.0 g.1 (g.2 ∙ sym (append_assoc (front_of d.0) (tree_of d.0) d.1)) (is_complete d.0) refl f)
+    by (Ok d) h f = (let g = draft_takes ls d.0 d.1 h in decide d.0 d.1 g.0 g.1 (g.2 ∙ sym (append_assoc (front_of d.0) (stated_tree_lines d.0) d.1)) (is_complete d.0) refl f)
 
 -- ---- the fault of a text
 

@@ -48,9 +48,9 @@ use Rattle.cert_format.specs.Grammar.{
   HasFields,
   SpellsPlan,
 }
-use Rattle.cert_format.specs.Drafts.{IsGrown, Stated, AreListed, IsDraft, has_counts, is_complete, front_of, tree_of, closing, draft_lines}
+use Rattle.cert_format.specs.Drafts.{IsGrown, Stated, AreListed, IsDraft, has_counts, is_complete, front_of, stated_tree_lines, closing_lines, draft_lines}
 use Rattle.cert_format.specs.Bodies.{fixed_of, number_row, cost_allowed, cost_of, bound_of, load_cut_row}
-use Rattle.cert_format.specs.Reading.{Reader, ◌>>=◌, bind, done, one, many, head, design_of, design, bound, load_cuts, list_count, front_with, entries_of, opening, lists, records, tree, tree_with, ground_with, stated_on, before_end, last_line, ending, whole_plan, read_as, plan_of}
+use Rattle.cert_format.specs.Reading.{LineReader, ◌>>=◌, bind, done, one, many, head, design_of, design, bound, load_cuts, list_count, front_with, entries_of, opening, lists, records, tree, tree_with, ground_with, stated_on, before_end, last_line, ending, whole_plan, read_as, plan_of}
 use Rattle.plan_words.proofs.Cutting.{text_of_lines, lines_of_text}
 use Rattle.cert_format.proofs.BodyLaws.{IsCost, fixed_takes, fixed_again, number_row_takes, number_row_again, cost_takes, cost_again, bound_takes, bound_again}
 use Rattle.cert_format.proofs.CutLaws.{GoodCut, good_cuts, cut_takes, cut_again, cut_numbers_small}
@@ -275,19 +275,19 @@ abbrev pub Front : Type 0
 Front = Head × Option (ℕ × Design) × Option ℤ × List LoadCut × ℕ
 
 -- reads what stands before the price lists from their count on
-abbrev pub front4 : Head → Option (ℕ × Design) → Option ℤ → List LoadCut → Reader Front
+abbrev pub front4 : Head → Option (ℕ × Design) → Option ℤ → List LoadCut → LineReader Front
 front4 h d b cuts = bind (list_count h.form) λ stated. done (front_with h d b cuts stated)
 
 -- reads what stands before the price lists from the cuts on
-abbrev pub front3 : Head → Option (ℕ × Design) → Option ℤ → Reader Front
+abbrev pub front3 : Head → Option (ℕ × Design) → Option ℤ → LineReader Front
 front3 h d b = bind (load_cuts h.form h.nodes) λ cuts. front4 h d b cuts
 
 -- reads what stands before the price lists from the bound on
-abbrev pub front2 : Head → Option (ℕ × Design) → Reader Front
+abbrev pub front2 : Head → Option (ℕ × Design) → LineReader Front
 front2 h d = bind (bound h.status) λ b. front3 h d b
 
 -- reads what stands before the price lists from the cost on
-abbrev pub front1 : Head → Reader Front
+abbrev pub front1 : Head → LineReader Front
 front1 h = bind (design h) λ d. front2 h d
 
 -- what stands before the price lists, each part of it as it has to be
@@ -385,16 +385,16 @@ listed_from Second entries n found count long new = (count, omega (arith, long),
 listed_from Third entries n found count long new = (count, omega (arith, long), new)
 
 -- reads the tree behind the price lists, and gives what is stated
-abbrev pub before2 : Front → List (List ℕ) → Reader Stated
+abbrev pub before2 : Front → List (List ℕ) → LineReader Stated
 before2 f found = bind (tree (ground_on f found)) λ t. done (stated_on f found t)
 
 -- reads the price lists and the tree, and gives what is stated
-abbrev pub before1 : Front → Reader Stated
+abbrev pub before1 : Front → LineReader Stated
 before1 f = bind (lists (entries_on f) f.4 []) λ found. before2 f found
 
 -- what is read before the last line has parts as they have to be and all lists; the lines taken are its own
 pub parts_take : (ls : List Line) (x : Stated) (rest : List Line) → before_end ls ≡ read_one x rest
-    → (f : Front) × (found : List (List ℕ)) × (t : ℕ × List TreeNode) × AreParts f found t × (length found ≡ f.4) × (stated_on f found t ≡ x) × (ls ≡ front_of (stated_on f found t) ++ (tree_of (stated_on f found t) ++ rest))
+    → (f : Front) × (found : List (List ℕ)) × (t : ℕ × List TreeNode) × AreParts f found t × (length found ≡ f.4) × (stated_on f found t ≡ x) × (ls ≡ front_of (stated_on f found t) ++ (stated_tree_lines (stated_on f found t) ++ rest))
 unfolding before_end
 parts_take ls x rest e =
     let (f, us, e1, f1) = taken opening (λ f. before1 f) ls x rest e in
@@ -413,7 +413,7 @@ parts_take ls x rest e =
       long,
       p.0,
       ff.1 ∙ ap (front_text f) (l.lines ∙ ap (λ ls. map whole (map price_line ls) ++ vs) (sym l.all)) ∙ front_same f found t vs ff.0.count_is listed
-          ∙ ap (λ vs. front_of (stated_on f found t) ++ vs) (tt'.1 ∙ ap (λ ws. tree_of (stated_on f found t) ++ ws) p.1),
+          ∙ ap (λ vs. front_of (stated_on f found t) ++ vs) (tt'.1 ∙ ap (λ ws. stated_tree_lines (stated_on f found t) ++ ws) p.1),
     )
 
 new-from : (form : Form) (entries n : ℕ) (found : List (List ℕ)) → AreListed form entries n found → AreNew entries [] found
@@ -424,11 +424,11 @@ new-from Third entries n found h = h.2
 
 -- the lines of parts that are as they have to be, with all price lists stated, are read as what these state
 pub parts_again : (f : Front) (found : List (List ℕ)) (t : ℕ × List TreeNode) (rest : List Line) → AreParts f found t → length found ≡ f.4
-    → before_end (front_of (stated_on f found t) ++ (tree_of (stated_on f found t) ++ rest)) ≡ Ok (stated_on f found t, rest)
+    → before_end (front_of (stated_on f found t) ++ (stated_tree_lines (stated_on f found t) ++ rest)) ≡ Ok (stated_on f found t, rest)
 unfolding before_end
 parts_again f found t rest g long =
     let o : Result (Stated × List Line) (List Line) = Ok (stated_on f found t, rest) in
-    let vs : List Line = tree_of (stated_on f found t) ++ rest in
+    let vs : List Line = stated_tree_lines (stated_on f found t) ++ rest in
     let us : List Line = map whole (map price_line found) ++ vs in
     ap (bind opening λ f. before1 f) (sym (front_same f found t vs g.front_is.count_is g.listed))
     ∙ and_then opening (λ f. before1 f) (front_text f us) f us o (front_again f us g.front_is)
@@ -566,13 +566,13 @@ parts_from s g =
     }
 
 -- what is read before the last line is a draft with all price lists stated, and the lines taken are its own
-pub draft_takes : (ls : List Line) (s : Stated) (rest : List Line) → before_end ls ≡ read_one s rest → IsDraft s × (length s.lists ≡ s.stated) × (ls ≡ front_of s ++ (tree_of s ++ rest))
+pub draft_takes : (ls : List Line) (s : Stated) (rest : List Line) → before_end ls ≡ read_one s rest → IsDraft s × (length s.lists ≡ s.stated) × (ls ≡ front_of s ++ (stated_tree_lines s ++ rest))
 draft_takes ls s rest e =
     let (f, found, t, g, long, is, lines) = parts_take ls s rest e in
-    subst (λ (s : Stated). IsDraft s × (length s.lists ≡ s.stated) × (ls ≡ front_of s ++ (tree_of s ++ rest))) is (draft_from f found t g, long, lines)
+    subst (λ (s : Stated). IsDraft s × (length s.lists ≡ s.stated) × (ls ≡ front_of s ++ (stated_tree_lines s ++ rest))) is (draft_from f found t g, long, lines)
 
 -- the lines of a draft with all price lists stated are read as this draft
-pub draft_again : (s : Stated) (rest : List Line) → IsDraft s → length s.lists ≡ s.stated → before_end (front_of s ++ (tree_of s ++ rest)) ≡ Ok (s, rest)
+pub draft_again : (s : Stated) (rest : List Line) → IsDraft s → length s.lists ≡ s.stated → before_end (front_of s ++ (stated_tree_lines s ++ rest)) ≡ Ok (s, rest)
 draft_again s rest g long = parts_again (front_parts s) s.lists (s.count, s.plan.tree) rest (parts_from s g) long
 
 -- where price lists lack in a draft, reading stops at the end behind those that are there
@@ -593,7 +593,7 @@ pub record IsToldBy (ls : List Line) (plan : Plan) : Type 0 where
   pub lines : ls ≡ map whole (plan_lines form plan)
 
 -- the lines of a whole text
-whole-lines : (s : Stated) → length s.lists ≡ s.stated → s.lists ≡ lists_in s.form s.plan.tree → length s.plan.tree ≡ s.count → front_of s ++ (tree_of s ++ whole end_line ∷ []) ≡ map whole (plan_lines s.form s.plan)
+whole-lines : (s : Stated) → length s.lists ≡ s.stated → s.lists ≡ lists_in s.form s.plan.tree → length s.plan.tree ≡ s.count → front_of s ++ (stated_tree_lines s ++ whole end_line ∷ []) ≡ map whole (plan_lines s.form s.plan)
 whole-lines s long lists_are count =
     let tree' : List (List ℕ) = tree_lines s.form s.lists s.count s.plan.tree in
     ap (λ ws. front_of s ++ ws) (sym (map-append whole tree' (end_line ∷ []))) ∙ sym (map-append whole (front_lines s.form s.stated s.lists s.plan) (tree' ++ end_line ∷ []))
@@ -631,7 +631,7 @@ whole_takes ls plan e =
       cuts_told = g.0.cuts_told;
       has_lines = g.0.lines;
       asked = subst IsTrue (sym met.1) refl;
-      lines = g.2 ∙ ap (λ us. front_of s ++ (tree_of s ++ us)) end ∙ whole-lines s g.1 lists_are count;
+      lines = g.2 ∙ ap (λ us. front_of s ++ (stated_tree_lines s ++ us)) end ∙ whole-lines s g.1 lists_are count;
     })
   where
     when_err : (t : Bool) (r : Result Plan (List Line)) (us : List Line) (plan : Plan) → cond t r (Err us) ≡ Ok plan → (t ≡ true) × (r ≡ Ok plan)
@@ -696,8 +696,8 @@ plan-complete form plan s f asked =
 pub plan_drafted : (form : Form) (plan : Plan) → IsSpellable plan → HasFields plan → IsTrue (is_asked form plan.cuts plan.tree) → draft_lines (stated_by form plan) ≡ map whole (plan_lines form plan)
 plan_drafted form plan s f asked =
     let x : Stated = stated_by form plan in
-    ap (λ b. front_of x ++ cond b (tree_of x ++ closing x) []) (eq-eqb (length x.lists) x.stated refl)
-    ∙ ap (λ b. front_of x ++ (tree_of x ++ cond b (whole end_line ∷ []) [])) (plan-complete form plan s f asked)
+    ap (λ b. front_of x ++ cond b (stated_tree_lines x ++ closing_lines x) []) (eq-eqb (length x.lists) x.stated refl)
+    ∙ ap (λ b. front_of x ++ (stated_tree_lines x ++ cond b (whole end_line ∷ []) [])) (plan-complete form plan s f asked)
     ∙ whole-lines x refl refl refl
 
 -- the lines of a plan that can be spelt, in a version that can tell it and is asked for, are read as it

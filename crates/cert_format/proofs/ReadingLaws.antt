@@ -23,7 +23,7 @@ use Rattle.cert_format.specs.Lists.{shown, named_behind, AreNamed, AreNew}
 use Rattle.cert_format.specs.Grammar.{header_line, size_line, status_line, number_line, path_line, modules_line, price_line, record_line, AreArcs, HasRecordFields, HasDesignFields}
 use Rattle.cert_format.specs.Drafts.{IsGrown, left_open}
 use Rattle.cert_format.specs.Bodies.{form_of, number_row, size_row, status_of, path_of, modules_of, list_row}
-use Rattle.cert_format.specs.Reading.{Reader, ◌>>=◌, bind, done, judged, one, many, head, design_of, lists, record_on, records, head_with, design_with}
+use Rattle.cert_format.specs.Reading.{LineReader, ◌>>=◌, bind, done, past_line, one, many, head, design_of, lists, record_on, records, head_with, design_with}
 use Rattle.cert_format.proofs.BodyLaws.{AreTold, sizes_at, form_takes, form_again, number_row_takes, number_row_again, size_takes, size_again, status_takes, status_again, path_takes, path_again, modules_takes, modules_again, list_takes, list_again}
 use Rattle.cert_format.proofs.ListLaws.{AreGood}
 use Rattle.cert_format.proofs.ShownLaws.{record_in_takes, record_in_again}
@@ -47,12 +47,12 @@ bind_ok (Ok x) f y e = (x, refl, e)
 bind_ok (Err ls) f y e = absurd cc
 
 -- a reader that is bound was read, and so was what follows
-pub taken : {A B : Type 0} (r : Reader A) (s : A → Reader B) (ls : List Line) (y : B) (rest : List Line) → bind r s ls ≡ read_one y rest → (x : A) × (us : List Line) × (r ls ≡ read_one x us) × (s x us ≡ read_one y rest)
+pub taken : {A B : Type 0} (r : LineReader A) (s : A → LineReader B) (ls : List Line) (y : B) (rest : List Line) → bind r s ls ≡ read_one y rest → (x : A) × (us : List Line) × (r ls ≡ read_one x us) × (s x us ≡ read_one y rest)
 unfolding bind
 taken r s ls y rest e = let (p, first, later) = bind_ok (r ls) (λ p. s p.0 p.1) (y, rest) e in (p.0, p.1, first, later)
 
 -- where the first of two readers gives a value, both give what the second one gives from there on
-pub and_then : {A B : Type 0} (r : Reader A) (s : A → Reader B) (ls : List Line) (x : A) (us : List Line) (o : Result (B × List Line) (List Line)) → r ls ≡ Ok (x, us) → s x us ≡ o → bind r s ls ≡ o
+pub and_then : {A B : Type 0} (r : LineReader A) (s : A → LineReader B) (ls : List Line) (x : A) (us : List Line) (o : Result (B × List Line) (List Line)) → r ls ≡ Ok (x, us) → s x us ≡ o → bind r s ls ≡ o
 unfolding bind
 and_then r s ls x us o e f = ap (λ t. t >>= λ p. s p.0 p.1) e ∙ f
 
@@ -68,14 +68,14 @@ one_line f [] x rest e = absurd cc
 one_line f (unfinished bytes ∷ ls) x rest e = absurd cc
 one_line {A} f (whole body ∷ ls) x rest e = by (f body) refl e
   where
-    by : (o : Option A) → f body ≡ o → judged (whole body) ls o ≡ read_one x rest → (bytes : List ℕ) × (whole body ∷ ls ≡ whole bytes ∷ rest) × (f bytes ≡ Some x)
+    by : (o : Option A) → f body ≡ o → past_line (whole body) ls o ≡ read_one x rest → (bytes : List ℕ) × (whole body ∷ ls ≡ whole bytes ∷ rest) × (f bytes ≡ Some x)
     by None h e = absurd cc
     by (Some y) h e = (let p = ok-parts y x ls rest e in (body, ap (λ us. whole body ∷ us) p.1, h ∙ ap (λ z. Some z) p.0))
 
 -- a whole line that can be read is read from lines that begin with it
 pub one_again : {A : Type 0} (f : List ℕ → Option A) (body : List ℕ) (x : A) (rest : List Line) → f body ≡ Some x → one f (whole body ∷ rest) ≡ Ok (x, rest)
 unfolding one
-one_again f body x rest e = ap (judged (whole body) rest) e
+one_again f body x rest e = ap (past_line (whole body) rest) e
 
 -- reading nothing gives the value and leaves all lines
 pub done_is : {A : Type 0} (x : A) (rest : List Line) → done x rest ≡ Ok (x, rest)
@@ -125,20 +125,20 @@ abbrev pub lines_of_head : Head → List (List ℕ)
 lines_of_head h = header_line h.form ∷ size_line h.form h.nodes h.links h.demands h.both ∷ status_line h.status ∷ number_line (codes "BUDGET") h.budget ∷ number_line (codes "EXAMINED") h.examined ∷ []
 
 -- the readers that follow one another there
-abbrev pub head4 : Form → Sizes → PlanStatus → ℕ → Reader Head
+abbrev pub head4 : Form → Sizes → PlanStatus → ℕ → LineReader Head
 head4 form sizes status budget = bind (one (number_row (codes "EXAMINED") 0 (2 ^ 32 - 1))) λ examined.
     done (head_with form sizes status budget examined)
 
 -- reads the first five lines from the budget on
-abbrev pub head3 : Form → Sizes → PlanStatus → Reader Head
+abbrev pub head3 : Form → Sizes → PlanStatus → LineReader Head
 head3 form sizes status = bind (one (number_row (codes "BUDGET") 1 MAX_BUDGET)) λ budget. head4 form sizes status budget
 
 -- reads the first five lines from the status on
-abbrev pub head2 : Form → Sizes → Reader Head
+abbrev pub head2 : Form → Sizes → LineReader Head
 head2 form sizes = bind (one status_of) λ status. head3 form sizes status
 
 -- reads the first five lines from the sizes on
-abbrev pub head1 : Form → Reader Head
+abbrev pub head1 : Form → LineReader Head
 head1 form = bind (one (size_row form)) λ sizes. head2 form sizes
 
 -- what the first five lines are read as is within its limits, and the lines taken are its own

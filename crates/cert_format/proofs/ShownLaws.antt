@@ -14,7 +14,7 @@ use Rattle.cert_format.specs.declared.limits.TheConstants.{MAX_LISTS}
 use Rattle.cert_format.specs.declared.form.Form.{Form}
 use Rattle.cert_format.specs.declared.form.Form.TheVariants.{First, Second, Third}
 use Rattle.cert_format.specs.Versions.{has_line}
-use Rattle.cert_format.specs.Lists.{number_in, prices_in, prices_at, numbered, with_number, shown, width, named_behind, IsNext, Names, AreNamed, AreNew, listed, priced, with_prices, meant, resolved}
+use Rattle.cert_format.specs.Lists.{number_in, prices_in, record_prices, leaf_with_number, with_number, shown, width, named_behind, IsNext, Names, AreNamed, AreNew, listed, priced, with_listed_prices, meant, resolved}
 use Rattle.plan_words.specs.Words.{◌>>=◌}
 use Rattle.cert_format.specs.Grammar.{record_line, HasLeafFields, HasRecordFields}
 use Rattle.cert_format.specs.Bodies.{record_of, record_in}
@@ -59,7 +59,7 @@ record IsNumberedLeaf (lists : List (List ℕ)) (named nodes entries : ℕ) (e r
   fits : FitsEvidence nodes entries e
   fields : HasLeafFields e
   next : IfSome (prices_in e) (IsNext lists named)
-  numbers : raw ≡ numbered lists e
+  numbers : raw ≡ leaf_with_number lists e
 
 leaf-takes : (lists : List (List ℕ)) (named nodes entries : ℕ) (raw e : Evidence) → AreNew entries [] lists → priced lists named raw ≡ Some e → FitsEvidence nodes 1 raw → HasLeafFields raw → IsNumberedLeaf lists named nodes entries e raw
 leaf-takes lists named nodes entries (Bound ns) e new h fits fields =
@@ -83,10 +83,10 @@ leaf-takes lists named nodes entries (Open ns) e new h fits fields =
 record IsNumbered (lists : List (List ℕ)) (named nodes entries : ℕ) (node raw : TreeNode) : Type 0 where
   fits : FitsRecord nodes entries node
   fields : HasRecordFields node
-  next : IfSome (prices_at node) (IsNext lists named)
+  next : IfSome (record_prices node) (IsNext lists named)
   numbers : raw ≡ with_number lists node
 
-numbered-takes : (lists : List (List ℕ)) (named nodes entries : ℕ) (raw node : TreeNode) → AreNew entries [] lists → with_prices lists named raw ≡ Some node → FitsRecord nodes 1 raw → HasRecordFields raw → IsNumbered lists named nodes entries node raw
+numbered-takes : (lists : List (List ℕ)) (named nodes entries : ℕ) (raw node : TreeNode) → AreNew entries [] lists → with_listed_prices lists named raw ≡ Some node → FitsRecord nodes 1 raw → HasRecordFields raw → IsNumbered lists named nodes entries node raw
 numbered-takes lists named nodes entries (Split demand at left right) node new e fits fields =
     let is : Split demand at left right ≡ node = cc in
     subst (λ (x : TreeNode). IsNumbered lists named nodes entries x (Split demand at left right)) is (record { fits = fits; fields = fields; next = tt; numbers = refl })
@@ -151,9 +151,9 @@ number-small lists named ps few next = (omega (arith, few, next.listed), tt)
 record IsNumberedWell (lists : List (List ℕ)) (named nodes : ℕ) (node : TreeNode) : Type 0 where
   fits : FitsRecord nodes 1 (with_number lists node)
   fields : HasRecordFields (with_number lists node)
-  is_read : with_prices lists named (with_number lists node) ≡ Some node
+  is_read : with_listed_prices lists named (with_number lists node) ≡ Some node
 
-numbered-well : (lists : List (List ℕ)) (named nodes entries : ℕ) (node : TreeNode) → length lists ≤ MAX_LISTS → FitsRecord nodes entries node → HasRecordFields node → IfSome (prices_at node) (IsNext lists named) → IsNumberedWell lists named nodes node
+numbered-well : (lists : List (List ℕ)) (named nodes entries : ℕ) (node : TreeNode) → length lists ≤ MAX_LISTS → FitsRecord nodes entries node → HasRecordFields node → IfSome (record_prices node) (IsNext lists named) → IsNumberedWell lists named nodes node
 numbered-well lists named nodes entries (Split demand at left right) few fits fields next = record { fits = fits; fields = fields; is_read = refl }
 numbered-well lists named nodes entries (Loads place load) few fits fields next = record { fits = tt; fields = fields; is_read = refl }
 numbered-well lists named nodes entries (Leaf (Bound ps)) few fits fields next = record { fits = refl; fields = number-small lists named ps few next; is_read = ap (λ o. option_map (λ (x : Evidence). Leaf x) (option_map (λ prices. Bound prices) o)) (listed-again lists named ps next) }

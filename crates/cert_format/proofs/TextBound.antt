@@ -26,7 +26,7 @@ use Rattle.cert_format.specs.declared.form.Form.{Form}
 use Rattle.cert_format.specs.declared.form.Form.TheVariants.{First, Second, Third}
 use Rattle.plan_words.specs.Lines.{whole, text_of}
 use Rattle.cert_format.specs.Versions.{has_thirds, written_form}
-use Rattle.cert_format.specs.Lists.{lists_of, numbered, with_number, AreNew}
+use Rattle.cert_format.specs.Lists.{lists_of, leaf_with_number, with_number, AreNew}
 use Rattle.cert_format.specs.Drafts.{AreStated}
 use Rattle.cert_format.specs.Written.{numbered_lines}
 use Rattle.plan_words.specs.Words.{numerals, row}
@@ -48,7 +48,7 @@ use Rattle.cert_format.specs.Grammar.{
   record_line,
   design_lines,
   bound_lines,
-  cut_numbers,
+  numbers_of_cut,
   cut_line,
   cut_lines,
   price_line,
@@ -254,9 +254,9 @@ cut-most nodes small cut g =
     let set : List ℕ = members 0 cut.nodes in
     let few : length set ≤ 512 = omega (arith, small, long, members_few 0 cut.nodes) in
     let ids = members-ids 0 nodes cut.nodes (omega (arith, long)) (omega (arith, small)) in
-    let each : AllByRecursion (λ n. n < 10 ^ 20) (cut_numbers cut) =
+    let each : AllByRecursion (λ n. n < 10 ^ 20) (numbers_of_cut cut) =
     (omega (arith, g.1.0), (omega (arith, g.1.1), (omega (arith, bit_few cut.counts_installed), (omega (arith, few), weaker (λ n. n < 10 ^ 10) (λ n. n < 10 ^ 20) (λ n lt. omega (arith, lt)) set ids)))) in
-    omega (arith, few, length-append (codes "C") (numerals (cut_numbers cut)), numerals-counts (cut_numbers cut) each)
+    omega (arith, few, length-append (codes "C") (numerals (numbers_of_cut cut)), numerals-counts (numbers_of_cut cut) each)
 
 cuts-most : (form : Form) (nodes : ℕ) (cuts : List LoadCut) → nodes ≤ MAX_NODES → FitsCuts nodes cuts → AllByRecursion HasCutFields cuts → bytes_of (cut_lines form cuts) ≤ 2800000
 unfolding cut_lines
@@ -341,8 +341,8 @@ tree-most : (nodes : ℕ) (lists : List (List ℕ)) → nodes ≤ MAX_NODES → 
 unfolding record_line
 tree-most nodes lists few [] h = omega arith
 tree-most nodes lists few (Leaf e ∷ ns) h =
-    let here : suc (length (leaf_line (numbered lists e))) ≤ 5700 = leaf-most nodes (numbered lists e) few h.0.0 h.0.1 in
-    omega (arith, here, bytes-cons (leaf_line (numbered lists e)) (numbered_lines lists ns), tree-most nodes lists few ns h.1)
+    let here : suc (length (leaf_line (leaf_with_number lists e))) ≤ 5700 = leaf-most nodes (leaf_with_number lists e) few h.0.0 h.0.1 in
+    omega (arith, here, bytes-cons (leaf_line (leaf_with_number lists e)) (numbered_lines lists ns), tree-most nodes lists few ns h.1)
 tree-most nodes lists few (Split demand at left right ∷ ns) h =
     let here : suc (length (record_line (Split demand at left right))) ≤ 22600 = split-most demand.0 at.0 left right h.0.1.0 h.0.1.1 h.0.0.0 h.0.0.1 h.0.1.2 h.0.1.3 in
     omega (arith, here, bytes-cons (record_line (Split demand at left right)) (numbered_lines lists ns), tree-most nodes lists few ns h.1)

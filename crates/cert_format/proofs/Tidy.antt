@@ -16,7 +16,7 @@ use Rattle.cert_format.specs.Lists.{resolved, AreNew}
 use Rattle.cert_format.specs.Grammar.{header_line, size_line, status_line, number_line, cost_line, bound_line, path_line, modules_line, cut_line, price_line, CanTell}
 use Rattle.plan_words.specs.Words.{behind}
 use Rattle.cert_format.specs.Bodies.{fixed_of, form_of, number_row, size_row, status_of, cost_of, bound_of, path_of, modules_of, leaf_of, record_of, record_in, list_row, load_cut_row}
-use Rattle.cert_format.specs.Reading.{Reader, ◌>>=◌, bind, done, judged, one, many, head, design_of, design, bound, load_cuts, list_count, front_with, opening, lists, record_on, records, tree, head_with, design_with, tree_with}
+use Rattle.cert_format.specs.Reading.{LineReader, ◌>>=◌, bind, done, past_line, one, many, head, design_of, design, bound, load_cuts, list_count, front_with, opening, lists, record_on, records, tree, head_with, design_with, tree_with}
 use Rattle.cert_format.specs.Drafts.{left_open}
 use Rattle.cert_format.proofs.BodyLaws.{AreTold, sizes_at, form_again, number_row_again, size_again, status_again, cost_again, bound_again, path_again, modules_again, list_takes, list_again}
 use Rattle.cert_format.proofs.CutLaws.{empty_cut, empty_again}
@@ -24,22 +24,22 @@ use Rattle.cert_format.proofs.ReadingLaws.{read_one, taken, and_then, done_parts
 use Rattle.cert_format.proofs.PlanLaws.{front1, front2, front3, front4}
 
 -- the lines behind play no part in where the reader stops
-abbrev pub Local : {A : Type 0} → Reader A → List Line → List Line → Type 0
+abbrev pub Local : {A : Type 0} → LineReader A → List Line → List Line → Type 0
 Local r front [] = r front ≡ Err []
 Local r front (l ∷ after) = (others : List Line) → r (front ++ (l ∷ others)) ≡ Err (l ∷ others)
 
 -- these lines are read as the value, whatever follows them
-pub record Holds {A : Type 0} (r : Reader A) (lines : List Line) (x : A) : Type 0 where
+pub record Holds {A : Type 0} (r : LineReader A) (lines : List Line) (x : A) : Type 0 where
   pub again : (others : List Line) → r (lines ++ others) ≡ read_one x others
 
 -- the lines that are taken are read so again
-pub record Taken {A : Type 0} (r : Reader A) (ls : List Line) (x : A) (rest : List Line) : Type 0 where
+pub record Taken {A : Type 0} (r : LineReader A) (ls : List Line) (x : A) (rest : List Line) : Type 0 where
   pub front : List Line
   pub parts : ls ≡ front ++ rest
   pub holds : Holds r front x
 
 -- the lines before the stop begin some value
-pub record Stuck {A : Type 0} (r : Reader A) (ls bad : List Line) : Type 0 where
+pub record Stuck {A : Type 0} (r : LineReader A) (ls bad : List Line) : Type 0 where
   pub front : List Line
   pub parts : ls ≡ front ++ bad
   pub more : List Line
@@ -48,7 +48,7 @@ pub record Stuck {A : Type 0} (r : Reader A) (ls bad : List Line) : Type 0 where
   pub alone : Local r front bad
 
 -- a reader that reads its lines whatever follows, stops at the first that cannot stand, and can read some lines
-pub record Tidy {A : Type 0} (r : Reader A) : Type 0 where
+pub record Tidy {A : Type 0} (r : LineReader A) : Type 0 where
   pub takes : (ls : List Line) (x : A) (rest : List Line) → r ls ≡ read_one x rest → Taken r ls x rest
   pub stops : (ls bad : List Line) → r ls ≡ Err bad → Stuck r ls bad
   pub some_lines : List Line
@@ -80,7 +80,7 @@ tidy_done {A} v = record {
 -- where a single line stops, every text that begins with it stops
 refused-at : {A : Type 0} (f : List ℕ → Option A) (b : List ℕ) → f b ≡ None → (others : List Line) → one f (whole b ∷ others) ≡ stopped_at (whole b ∷ others)
 unfolding one
-refused-at f b h others = ap (judged (whole b) others) h
+refused-at f b h others = ap (past_line (whole b) others) h
 
 one-stops : {A : Type 0} (f : List ℕ → Option A) (ls bad : List Line) → one f ls ≡ stopped_at bad → (ls ≡ bad) × Local (one f) [] bad
 unfolding one
@@ -88,7 +88,7 @@ one-stops {A} f [] bad e = (let same : [] ≡ bad = err-same A [] bad e in (same
 one-stops {A} f (unfinished bytes ∷ ls) bad e = (let same : unfinished bytes ∷ ls ≡ bad = err-same A (unfinished bytes ∷ ls) bad e in (same, subst (Local (one f) []) same (λ others. refl)))
 one-stops {A} f (whole b ∷ ls) bad e = by (f b) refl e
   where
-    by : (o : Option A) → f b ≡ o → judged (whole b) ls o ≡ stopped_at bad → (whole b ∷ ls ≡ bad) × Local (one f) [] bad
+    by : (o : Option A) → f b ≡ o → past_line (whole b) ls o ≡ stopped_at bad → (whole b ∷ ls ≡ bad) × Local (one f) [] bad
     by (Some y) h e = absurd cc
     by None h e = (let same : whole b ∷ ls ≡ bad = err-same A (whole b ∷ ls) bad e in (same, subst (Local (one f) []) same (refused-at f b h)))
 
@@ -107,12 +107,12 @@ tidy_one {A} f body v good = record {
 
 -- ---- one after the other
 
-stop-first : {A X : Type 0} (r : Reader A) (s : A → Reader X) (ls bad : List Line) → r ls ≡ stopped_at bad → bind r s ls ≡ stopped_at bad
+stop-first : {A X : Type 0} (r : LineReader A) (s : A → LineReader X) (ls bad : List Line) → r ls ≡ stopped_at bad → bind r s ls ≡ stopped_at bad
 unfolding bind
 stop-first r s ls bad e = ap (λ t. t >>= λ p. s p.0 p.1) e
 
 -- where two readers in turn stop, the first one stops, or the second one stops behind what the first one read
-pub bind_stops : {A X : Type 0} (r : Reader A) (s : A → Reader X) (ls bad : List Line) → bind r s ls ≡ stopped_at bad → (r ls ≡ stopped_at bad) ⊎ ((x : A) × (us : List Line) × (r ls ≡ read_one x us) × (s x us ≡ stopped_at bad))
+pub bind_stops : {A X : Type 0} (r : LineReader A) (s : A → LineReader X) (ls bad : List Line) → bind r s ls ≡ stopped_at bad → (r ls ≡ stopped_at bad) ⊎ ((x : A) × (us : List Line) × (r ls ≡ read_one x us) × (s x us ≡ stopped_at bad))
 unfolding bind
 bind_stops {A} {X} r s ls bad e = by (r ls) refl e
   where
@@ -121,18 +121,18 @@ bind_stops {A} {X} r s ls bad e = by (r ls) refl e
     by (Err us) h e = (let same : us ≡ bad = err-same X us bad e in inl (h ∙ ap (λ us. Err us) same))
 
 -- where the second of two readers stops whatever follows, so do both behind what the first one reads
-pub local_after : {A X : Type 0} (r : Reader A) (s : A → Reader X) (front : List Line) (x : A) (later bad : List Line) → Holds r front x → Local (s x) later bad → Local (bind r s) (front ++ later) bad
+pub local_after : {A X : Type 0} (r : LineReader A) (s : A → LineReader X) (front : List Line) (x : A) (later bad : List Line) → Holds r front x → Local (s x) later bad → Local (bind r s) (front ++ later) bad
 local_after r s front x later [] h alone = and_then r s (front ++ later) x later (stopped_at []) (h.again later) alone
 local_after r s front x later (l ∷ us) h alone = λ others.
     ap (bind r s) (append_assoc front later (l ∷ others)) ∙ and_then r s (front ++ (later ++ (l ∷ others))) x (later ++ (l ∷ others)) (stopped_at (l ∷ others)) (h.again (later ++ (l ∷ others))) (alone others)
 
 -- where the first of two readers stops whatever follows, so do both
-pub local_before : {A X : Type 0} (r : Reader A) (s : A → Reader X) (front bad : List Line) → Local r front bad → Local (bind r s) front bad
+pub local_before : {A X : Type 0} (r : LineReader A) (s : A → LineReader X) (front bad : List Line) → Local r front bad → Local (bind r s) front bad
 local_before r s front [] alone = stop-first r s front [] alone
 local_before r s front (l ∷ us) alone = λ others. stop-first r s (front ++ (l ∷ others)) (l ∷ others) (alone others)
 
 -- two tidy readers, one after the other, are tidy
-pub tidy_bind : {A X : Type 0} (r : Reader A) (s : A → Reader X) → Tidy r → ((x : A) → Tidy (s x)) → Tidy (bind r s)
+pub tidy_bind : {A X : Type 0} (r : LineReader A) (s : A → LineReader X) → Tidy r → ((x : A) → Tidy (s x)) → Tidy (bind r s)
 tidy_bind {A} {X} r s first second = record {
   takes = λ ls z rest e. takes ls z rest e;
   stops = λ ls bad e. stops ls bad e;

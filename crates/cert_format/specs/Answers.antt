@@ -33,15 +33,15 @@ Reads view (Ok x) read = read ≡ Ok (view x)
 Reads view (Err e) read = Stops e read
 
 -- the fault is the one that is read, where memory did not run out
-abbrev pub Fails : PlanFault → Result Plan PlanFault → Type 0
-Fails faults.OutOfMemory read = Unit {0}
-Fails (faults.Line at) read = read ≡ Err (faults.Line at)
-Fails (faults.Ended at) read = read ≡ Err (faults.Ended at)
+abbrev pub StopsWith : PlanFault → Result Plan PlanFault → Type 0
+StopsWith faults.OutOfMemory read = Unit {0}
+StopsWith (faults.Line at) read = read ≡ Err (faults.Line at)
+StopsWith (faults.Ended at) read = read ≡ Err (faults.Ended at)
 
 -- the answer is what is read, or memory ran out
-abbrev pub Gives : Result Plan PlanFault → Result Plan PlanFault → Type 0
-Gives (Ok plan) read = read ≡ Ok plan
-Gives (Err e) read = Fails e read
+abbrev pub GivesPlan : Result Plan PlanFault → Result Plan PlanFault → Type 0
+GivesPlan (Ok plan) read = read ≡ Ok plan
+GivesPlan (Err e) read = StopsWith e read
 
 -- ---- what is seen of values of the code
 
@@ -54,8 +54,8 @@ abbrev pub sides_view : {Z : Type 0} → Option (Vec ArcId Z × Vec ArcId Z) →
 sides_view found = option_map (λ x. (x.0.items, x.1.items)) found
 
 -- a value, and the lines of the text behind it
-abbrev pub seen : {A : Type 0} → A × Bor (List ℕ) → A × List Line
-seen x = (x.0, lines_of x.1.now)
+abbrev pub seen_value : {A : Type 0} → A × Bor (List ℕ) → A × List Line
+seen_value x = (x.0, lines_of x.1.now)
 
 -- items, and the lines of the text behind them
 abbrev pub seen_items : {A Z : Type 0} → Vec A Z × Bor (List ℕ) → List A × List Line

@@ -16,7 +16,7 @@ use Rattle.cert_format.specs.declared.bodies.Sizes.{Sizes}
 use Rattle.cert_format.specs.declared.form.Form.{Form}
 use Rattle.cert_format.specs.declared.form.Form.TheVariants.{First, Second, Third}
 use Rattle.cert_format.specs.Lists.{is_among, width, resolved}
-use Rattle.plan_words.specs.Words.{◌>>=◌, behind, before, each, numbers_of, grains_of, row_of}
+use Rattle.plan_words.specs.Words.{◌>>=◌, behind, before, each, numbers_of, grains_of, numbers_after_word}
 
 -- the value, where the test holds
 abbrev pub only_if : {A : Type 0} → Bool → A → Option A
@@ -39,7 +39,7 @@ one_in low high (n ∷ m ∷ ns) = None
 
 -- a word and a number from low to high
 unfoldable pub number_row : List ℕ → ℕ → ℕ → List ℕ → Option ℕ
-number_row word low high body = row_of word body >>= one_in low high
+number_row word low high body = numbers_after_word word body >>= one_in low high
 
 -- these three sizes
 abbrev pub sizes_with : ℕ → ℕ → ℕ → ℕ × ℕ × ℕ
@@ -52,7 +52,7 @@ sizes_in _ = None
 
 -- the counts of nodes, links and demands
 unfoldable pub count_row : List ℕ → Option (ℕ × ℕ × ℕ)
-count_row body = row_of (codes "SIZE") body >>= sizes_in
+count_row body = numbers_after_word (codes "SIZE") body >>= sizes_in
 
 -- the counts, and whether each direction of a link has a price of its own
 abbrev pub with_both : Bool → ℕ × ℕ × ℕ → Sizes
@@ -126,8 +126,8 @@ abbrev pub arc_of : ℕ → Option ArcId
 arc_of n = only_if (nat_lt n (2 ^ 32)) (numbered_arc n)
 
 -- a count, where it fits
-abbrev pub count_of : ℕ → Option ℕ
-count_of n = only_if (nat_lt n (2 ^ 64)) n
+abbrev pub fitting_count : ℕ → Option ℕ
+fitting_count n = only_if (nat_lt n (2 ^ 64)) n
 
 -- the numbers behind their count, at most so many
 abbrev pub uncounted : ℕ → List ℕ → Option (List ℕ)
@@ -136,11 +136,11 @@ uncounted most (m ∷ ns) = only_if (m == length ns && nat_le m most) ns
 
 -- a path
 unfoldable pub path_of : List ℕ → Option (List ArcId)
-path_of body = row_of (codes "PATH") body >>= uncounted MAX_PATH_ARCS >>= each arc_of
+path_of body = numbers_after_word (codes "PATH") body >>= uncounted MAX_PATH_ARCS >>= each arc_of
 
 -- the counts of a link's modules
 unfoldable pub modules_of : List ℕ → Option (List ℕ)
-modules_of body = row_of (codes "MODULES") body >>= uncounted MAX_MODULES >>= each count_of
+modules_of body = numbers_after_word (codes "MODULES") body >>= uncounted MAX_MODULES >>= each fitting_count
 
 -- ---- records
 
@@ -266,7 +266,7 @@ record_in form lists named nodes entries body = record_of nodes (width form entr
 
 -- a price list that is none of those before it
 unfoldable pub list_row : ℕ → List (List ℕ) → List ℕ → Option (List ℕ)
-list_row entries lists body = row_of (codes "P") body >>= λ ns. only_if (length ns == entries && not (is_among lists ns)) ns
+list_row entries lists body = numbers_after_word (codes "P") body >>= λ ns. only_if (length ns == entries && not (is_among lists ns)) ns
 
 -- ---- the cuts of the plan
 
@@ -284,4 +284,4 @@ load_cut_in nodes (period ∷ first ∷ installed ∷ ns) = if nat_lt period (2 
 
 -- a cut
 unfoldable pub load_cut_row : ℕ → List ℕ → Option LoadCut
-load_cut_row nodes body = row_of (codes "C") body >>= load_cut_in nodes
+load_cut_row nodes body = numbers_after_word (codes "C") body >>= load_cut_in nodes

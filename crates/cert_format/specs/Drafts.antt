@@ -76,16 +76,16 @@ abbrev pub front_of : Stated → List Line
 front_of s = map whole (front_lines s.form s.stated s.lists s.plan)
 
 -- the lines of the tree
-abbrev pub tree_of : Stated → List Line
-tree_of s = map whole (tree_lines s.form s.lists s.count s.plan.tree)
+abbrev pub stated_tree_lines : Stated → List Line
+stated_tree_lines s = map whole (tree_lines s.form s.lists s.count s.plan.tree)
 
 -- the last line, which stands only where the tree is whole and as long as stated, each price list is named, and the version is asked for
-abbrev pub closing : Stated → List Line
-closing s = if is_complete s then whole end_line ∷ [] else []
+abbrev pub closing_lines : Stated → List Line
+closing_lines s = if is_complete s then whole end_line ∷ [] else []
 
 -- the lines of a draft: where price lists lack it breaks off behind those that are there
 abbrev pub draft_lines : Stated → List Line
-draft_lines s = front_of s ++ (if length s.lists == s.stated then tree_of s ++ closing s else [])
+draft_lines s = front_of s ++ (if length s.lists == s.stated then stated_tree_lines s ++ closing_lines s else [])
 
 -- these lines begin the lines of a draft
 pub record IsBegun (lines : List Line) : Type 0 where

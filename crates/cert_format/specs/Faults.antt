@@ -17,6 +17,6 @@ OnlyPlan (Ok found) plan = found ≡ plan
 OnlyPlan (Err fault) plan = fault ≡ OutOfMemory
 
 -- the answer is this fault, or want of memory
-abbrev pub OnlyFault : Result Plan PlanFault → PlanFault → Type 0
-OnlyFault (Ok found) f = f ≡ OutOfMemory
-OnlyFault (Err fault) f = (fault ≡ OutOfMemory) ⊎ ((f ≡ OutOfMemory) ⊎ (fault ≡ f))
+abbrev pub OnlyPlanFault : Result Plan PlanFault → PlanFault → Type 0
+OnlyPlanFault (Ok found) f = f ≡ OutOfMemory
+OnlyPlanFault (Err fault) f = (fault ≡ OutOfMemory) ⊎ ((f ≡ OutOfMemory) ⊎ (fault ≡ f))

@@ -125,12 +125,12 @@ bit true = 1
 bit false = 0
 
 -- the numbers of a cut of the plan: its period, how many grains of each period are counted, whether what is installed counts, and its nodes
-abbrev pub cut_numbers : LoadCut → List ℕ
-cut_numbers cut = cut.period ∷ cut.first ∷ bit cut.counts_installed ∷ counted (members 0 cut.nodes)
+abbrev pub numbers_of_cut : LoadCut → List ℕ
+numbers_of_cut cut = cut.period ∷ cut.first ∷ bit cut.counts_installed ∷ counted (members 0 cut.nodes)
 
 -- a cut of the plan
 abbrev pub cut_line : LoadCut → List ℕ
-cut_line cut = row (codes "C") (cut_numbers cut)
+cut_line cut = row (codes "C") (numbers_of_cut cut)
 
 -- how many cuts there are, and the cuts: the third version alone tells them
 unfoldable pub cut_lines : Form → List LoadCut → List (List ℕ)

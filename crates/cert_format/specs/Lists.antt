@@ -40,10 +40,10 @@ prices_in (Crowd prices) = Some prices
 prices_in (Open prices) = Some prices
 
 -- the prices of a record
-abbrev pub prices_at : TreeNode → Option (List ℕ)
-prices_at (Split demand at left right) = None
-prices_at (Loads place load) = None
-prices_at (Leaf evidence) = prices_in evidence
+abbrev pub record_prices : TreeNode → Option (List ℕ)
+record_prices (Split demand at left right) = None
+record_prices (Loads place load) = None
+record_prices (Leaf evidence) = prices_in evidence
 
 -- the lists with these prices, where there are some
 abbrev pub with_some : List (List ℕ) → Option (List ℕ) → List (List ℕ)
@@ -53,7 +53,7 @@ with_some lists (Some prices) = with_list lists prices
 -- the lists with those of records
 unfoldable pub gathered : List (List ℕ) → List TreeNode → List (List ℕ)
 gathered lists [] = lists
-gathered lists (node ∷ nodes) = gathered (with_some lists (prices_at node)) nodes
+gathered lists (node ∷ nodes) = gathered (with_some lists (record_prices node)) nodes
 
 -- the price lists of a tree, each once, in preorder of their first use
 abbrev pub lists_of : List TreeNode → List (List ℕ)
@@ -68,20 +68,20 @@ lists_in Third nodes = lists_of nodes
 -- ---- records with numbers of lists
 
 -- the leaf with the number of its list in place of the prices
-abbrev pub numbered : List (List ℕ) → Evidence → Evidence
-numbered lists (Bound prices) = Bound (number_in lists prices ∷ [])
-numbered lists Routed = Routed
-numbered lists (Overfull link) = Overfull link
-numbered lists (Cut demand reached) = Cut demand reached
-numbered lists (Far demand) = Far demand
-numbered lists (Crowd prices) = Crowd (number_in lists prices ∷ [])
-numbered lists (Open prices) = Open (number_in lists prices ∷ [])
+abbrev pub leaf_with_number : List (List ℕ) → Evidence → Evidence
+leaf_with_number lists (Bound prices) = Bound (number_in lists prices ∷ [])
+leaf_with_number lists Routed = Routed
+leaf_with_number lists (Overfull link) = Overfull link
+leaf_with_number lists (Cut demand reached) = Cut demand reached
+leaf_with_number lists (Far demand) = Far demand
+leaf_with_number lists (Crowd prices) = Crowd (number_in lists prices ∷ [])
+leaf_with_number lists (Open prices) = Open (number_in lists prices ∷ [])
 
 -- the record with the number of its list in place of the prices
 abbrev pub with_number : List (List ℕ) → TreeNode → TreeNode
 with_number lists (Split demand at left right) = Split demand at left right
 with_number lists (Loads place load) = Loads place load
-with_number lists (Leaf evidence) = Leaf (numbered lists evidence)
+with_number lists (Leaf evidence) = Leaf (leaf_with_number lists evidence)
 
 -- the record as its line shows it: with its prices, or with the number of their list
 abbrev pub shown : Form → List (List ℕ) → TreeNode → TreeNode
@@ -108,8 +108,8 @@ named_by lists named (Some prices) = if is_list prices (slice_get lists named) t
 -- how many lists are named behind a record, where so many were named before it
 abbrev pub named_behind : Form → List (List ℕ) → ℕ → TreeNode → ℕ
 named_behind First lists named node = named
-named_behind Second lists named node = named_by lists named (prices_at node)
-named_behind Third lists named node = named_by lists named (prices_at node)
+named_behind Second lists named node = named_by lists named (record_prices node)
+named_behind Third lists named node = named_by lists named (record_prices node)
 
 -- how many lists are named behind records, where so many were named before them
 unfoldable pub named_from : Form → List (List ℕ) → ℕ → List TreeNode → ℕ
@@ -124,8 +124,8 @@ pub record IsNext (lists : List (List ℕ)) (named : ℕ) (prices : List ℕ) : 
 -- where the version has price lists, the record names one that is named already, or the next one
 abbrev pub Names : Form → List (List ℕ) → ℕ → TreeNode → Type 0
 Names First lists named node = ⊤
-Names Second lists named node = IfSome (prices_at node) (IsNext lists named)
-Names Third lists named node = IfSome (prices_at node) (IsNext lists named)
+Names Second lists named node = IfSome (record_prices node) (IsNext lists named)
+Names Third lists named node = IfSome (record_prices node) (IsNext lists named)
 
 -- each record names a list that is named already, or the next one, where so many are named before them
 unfoldable pub AreNamed : Form → List (List ℕ) → ℕ → List TreeNode → Type 0
@@ -156,16 +156,16 @@ priced lists named (Crowd ns) = option_map (λ prices. Crowd prices) (listed lis
 priced lists named (Open ns) = option_map (λ prices. Open prices) (listed lists named ns)
 
 -- the record with the prices that its number stands for
-abbrev pub with_prices : List (List ℕ) → ℕ → TreeNode → Option TreeNode
-with_prices lists named (Split demand at left right) = Some (Split demand at left right)
-with_prices lists named (Loads place load) = Some (Loads place load)
-with_prices lists named (Leaf evidence) = option_map (λ found. Leaf found) (priced lists named evidence)
+abbrev pub with_listed_prices : List (List ℕ) → ℕ → TreeNode → Option TreeNode
+with_listed_prices lists named (Split demand at left right) = Some (Split demand at left right)
+with_listed_prices lists named (Loads place load) = Some (Loads place load)
+with_listed_prices lists named (Leaf evidence) = option_map (λ found. Leaf found) (priced lists named evidence)
 
 -- the record that is shown so
 abbrev pub meant : Form → List (List ℕ) → ℕ → TreeNode → Option TreeNode
 meant First lists named node = Some node
-meant Second lists named node = with_prices lists named node
-meant Third lists named node = with_prices lists named node
+meant Second lists named node = with_listed_prices lists named node
+meant Third lists named node = with_listed_prices lists named node
 
 -- the record that is shown so, where the version has a line for it
 unfoldable pub resolved : Form → List (List ℕ) → ℕ → TreeNode → Option TreeNode

@@ -24,8 +24,8 @@ use Rattle.cert_format.specs.Drafts.{left_open, Stated, is_complete}
 use Rattle.cert_format.specs.Bodies.{fixed_of, form_of, number_row, size_row, status_of, cost_of, bound_of, path_of, modules_of, record_in, list_row, load_cut_row}
 
 -- a value and the lines behind it, or the lines from the first one on that cannot stand there
-abbrev pub Reader : Type 0 → Type 0
-Reader A = List Line → Result (A × List Line) (List Line)
+abbrev pub LineReader : Type 0 → Type 0
+LineReader A = List Line → Result (A × List Line) (List Line)
 
 infixl 10 ◌>>=◌
 -- goes on where nothing is wrong yet
@@ -34,26 +34,26 @@ abbrev pub ◌>>=◌ : {A B : Type 0} → Result A (List Line) → (A → Result
 (Err e) >>= f = Err e
 
 -- reads one thing, and then another that may depend on it
-unfoldable pub bind : {A B : Type 0} → Reader A → (A → Reader B) → Reader B
+unfoldable pub bind : {A B : Type 0} → LineReader A → (A → LineReader B) → LineReader B
 bind r s ls = r ls >>= λ p. s p.0 p.1
 
 -- reads nothing
-unfoldable pub done : {A : Type 0} → A → Reader A
+unfoldable pub done : {A : Type 0} → A → LineReader A
 done x ls = Ok (x, ls)
 
 -- goes past a line that was read
-abbrev pub judged : {A : Type 0} → Line → List Line → Option A → Result (A × List Line) (List Line)
-judged l ls (Some x) = Ok (x, ls)
-judged l ls None = Err (l ∷ ls)
+abbrev pub past_line : {A : Type 0} → Line → List Line → Option A → Result (A × List Line) (List Line)
+past_line l ls (Some x) = Ok (x, ls)
+past_line l ls None = Err (l ∷ ls)
 
 -- reads one line
-unfoldable pub one : {A : Type 0} → (List ℕ → Option A) → Reader A
+unfoldable pub one : {A : Type 0} → (List ℕ → Option A) → LineReader A
 one f [] = Err []
-one f (whole body ∷ ls) = judged (whole body) ls (f body)
+one f (whole body ∷ ls) = past_line (whole body) ls (f body)
 one f (unfinished bytes ∷ ls) = Err (unfinished bytes ∷ ls)
 
 -- reads so many lines of a kind
-unfoldable pub many : {A : Type 0} → ℕ → (List ℕ → Option A) → Reader (List A)
+unfoldable pub many : {A : Type 0} → ℕ → (List ℕ → Option A) → LineReader (List A)
 many zero f = done []
 many (suc n) f = bind (one f) (λ x. bind (many n f) (λ xs. done (x ∷ xs)))
 
@@ -63,7 +63,7 @@ head_with form sizes status budget examined =
     record { form = form; nodes = sizes.nodes; links = sizes.links; demands = sizes.demands; both = sizes.both; status = status; budget = budget; examined = examined }
 
 -- the five lines that begin each text
-unfoldable pub head : Reader Head
+unfoldable pub head : LineReader Head
 head = bind (one form_of) λ form.
     bind (one (size_row form)) λ sizes.
     bind (one status_of) λ status.
@@ -76,30 +76,30 @@ abbrev pub design_with : ℕ → List (List ArcId) → List (List ℕ) → Optio
 design_with cost paths counts = Some (cost, record { paths = paths; counts = counts })
 
 -- the paths and the counts of modules, where there is a cost
-unfoldable pub design_of : ℕ → ℕ → Option ℕ → Reader (Option (ℕ × Design))
+unfoldable pub design_of : ℕ → ℕ → Option ℕ → LineReader (Option (ℕ × Design))
 design_of demands links None = done None
 design_of demands links (Some cost) = bind (many demands path_of) λ paths.
     bind (many links modules_of) λ counts.
     done (design_with cost paths counts)
 
 -- the cost, and the design that has it
-unfoldable pub design : Head → Reader (Option (ℕ × Design))
+unfoldable pub design : Head → LineReader (Option (ℕ × Design))
 design h = bind (one (cost_of h.status)) (design_of h.demands h.links)
 
 -- the bound of an undecided plan
-unfoldable pub bound : PlanStatus → Reader (Option ℤ)
+unfoldable pub bound : PlanStatus → LineReader (Option ℤ)
 bound Optimal = done None
 bound Infeasible = done None
 bound Undecided = one bound_of
 
 -- the cuts, which the third version tells
-unfoldable pub load_cuts : Form → ℕ → Reader (List LoadCut)
+unfoldable pub load_cuts : Form → ℕ → LineReader (List LoadCut)
 load_cuts First nodes = done []
 load_cuts Second nodes = done []
 load_cuts Third nodes = bind (one (number_row (codes "CUTS") 0 MAX_CUTS)) λ count. many count (load_cut_row nodes)
 
 -- how many price lists are stated
-unfoldable pub list_count : Form → Reader ℕ
+unfoldable pub list_count : Form → LineReader ℕ
 list_count First = done 0
 list_count Second = one (number_row (codes "PRICES") 0 MAX_LISTS)
 list_count Third = one (number_row (codes "PRICES") 0 MAX_LISTS)
@@ -113,11 +113,11 @@ abbrev pub front_with : Head → Option (ℕ × Design) → Option ℤ → List 
 front_with h d b cuts stated = (h, d, b, cuts, stated)
 
 -- all lines before the price lists
-unfoldable pub opening : Reader (Head × Option (ℕ × Design) × Option ℤ × List LoadCut × ℕ)
+unfoldable pub opening : LineReader (Head × Option (ℕ × Design) × Option ℤ × List LoadCut × ℕ)
 opening = bind head λ h. bind (design h) λ d. bind (bound h.status) λ b. bind (load_cuts h.form h.nodes) λ cuts. bind (list_count h.form) λ stated. done (front_with h d b cuts stated)
 
 -- reads so many price lists, each different from those before it
-unfoldable pub lists : ℕ → ℕ → List (List ℕ) → Reader (List (List ℕ))
+unfoldable pub lists : ℕ → ℕ → List (List ℕ) → LineReader (List (List ℕ))
 lists entries zero before = done before
 lists entries (suc n) before = bind (one (list_row entries before)) λ list. lists entries n (before ++ list ∷ [])
 
@@ -126,7 +126,7 @@ abbrev pub record_on : Ground → ℕ → List ℕ → Option TreeNode
 record_on g named body = record_in g.form g.lists named g.nodes g.entries body
 
 -- reads records until the tree is whole, but no more than so many
-unfoldable pub records : Ground → ℕ → ℕ → ℕ → Reader (List TreeNode)
+unfoldable pub records : Ground → ℕ → ℕ → ℕ → LineReader (List TreeNode)
 records g named zero trees = done []
 records g named (suc count) zero = done []
 records g named (suc count) (suc others) = bind (one (record_on g named)) λ node.
@@ -138,7 +138,7 @@ abbrev pub tree_with : ℕ → List TreeNode → ℕ × List TreeNode
 tree_with count nodes = (count, nodes)
 
 -- how many records are stated, and those that were read
-unfoldable pub tree : Ground → Reader (ℕ × List TreeNode)
+unfoldable pub tree : Ground → LineReader (ℕ × List TreeNode)
 tree g = bind (one (number_row (codes "TREE") 1 MAX_RECORDS)) λ count.
     bind (records g 0 count 1) λ nodes.
     done (tree_with count nodes)
@@ -172,7 +172,7 @@ abbrev pub stated_on : Head × Option (ℕ × Design) × Option ℤ × List Load
 stated_on f lists t = stated_with f.0 f.1 f.2 f.3 f.4 lists t
 
 -- all lines before the last: what they state, the tree of which need not be whole
-unfoldable pub before_end : Reader Stated
+unfoldable pub before_end : LineReader Stated
 before_end = bind opening λ f. bind (lists (entries_of f.0 f.3) f.4 []) λ found.
     bind (tree (ground_with f.0 f.3 found)) λ t. done (stated_on f found t)
 

@@ -3,7 +3,7 @@
 ghost use Rattle.std.specs.Prelude.{◌≡◌, ◌<◌, Some, None, IfOk};
 ghost use Rattle.std.specs.Option.{option_map};
 ghost use Rattle.plan_words.specs.Words.{each, grains_of};
-ghost use Rattle.cert_format.specs.Bodies.{fixed_of, one_in, number_row, sizes_in, count_row, with_both, both_row, size_row, form_of, status_of, none_or, cost_allowed, cost_of, positive, negative, signed_of, bound_of, arc_of, count_of, uncounted, path_of, modules_of, list_row};
+ghost use Rattle.cert_format.specs.Bodies.{fixed_of, one_in, number_row, sizes_in, count_row, with_both, both_row, size_row, form_of, status_of, none_or, cost_allowed, cost_of, positive, negative, signed_of, bound_of, arc_of, fitting_count, uncounted, path_of, modules_of, list_row};
 ghost use Rattle.plan_words.specs.Cuts.{found_now, items_of};
 
 use crate::form::Form;
@@ -306,7 +306,7 @@ pub(crate) fn arcs(alloc: Global, numbers: &[u128]) -> Result<Option<Vec<ArcId>>
 /// Counts of modules.
 #[tactic(auto, using(plan_words::proofs::NumberWords::each_more, plan_words::proofs::NumberWords::each_stop, plan_words::proofs::NumberWords::each_end, plan_words::proofs::NumberWords::with_nothing))]
 fn counts(alloc: Global, numbers: &[u128]) -> Result<Option<Vec<u64>>, AllocError>
-    ensures { IfOk result (λ found. items_of found ≡ each count_of numbers.now) }
+    ensures { IfOk result (λ found. items_of found ≡ each fitting_count numbers.now) }
 {
     let mut counts = Vec::new(alloc);
     for n in numbers {

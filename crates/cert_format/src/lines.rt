@@ -3,7 +3,7 @@
 ghost use Rattle.std.specs.Prelude.{◌≡◌, ◌∷◌, List, ℕ, Option};
 ghost use Rattle.plan_words.specs.Lines.{whole, lines_of};
 ghost use Rattle.cert_format.specs.Reading.{one};
-ghost use Rattle.cert_format.specs.Answers.{Reads, seen};
+ghost use Rattle.cert_format.specs.Answers.{Reads, seen_value};
 
 use plan_words::Stop;
 
@@ -15,7 +15,7 @@ pub(crate) fn accept<'a, T: Drop>(
     rest: &'a [u8],
 ) -> Result<(T, &'a [u8]), Stop>
     ensures { (f : List ℕ → Option T) (body : List ℕ) → lines_of text.now ≡ whole body ∷ lines_of rest.now → found ≡ f body
-        → Reads seen result (one f (lines_of text.now)) }
+        → Reads seen_value result (one f (lines_of text.now)) }
 {
     match found {
         Some(value) => Ok((value, rest)),

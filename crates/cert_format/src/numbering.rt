@@ -2,7 +2,7 @@
 
 ghost use Rattle.std.specs.Prelude.{◌≡◌, ◌≤◌, ◌<◌, ◌+◌, ◌^◌, nat_eq, IfOk};
 ghost use Rattle.std.specs.Cmp.Lexicographic.{pointwise};
-ghost use Rattle.cert_format.specs.Lists.{prices_in, prices_at, lists_of, named_by, named_behind, listed, priced, with_prices, meant, resolved};
+ghost use Rattle.cert_format.specs.Lists.{prices_in, record_prices, lists_of, named_by, named_behind, listed, priced, with_listed_prices, meant, resolved};
 ghost use Rattle.plan_words.specs.Cuts.{found_now};
 
 use crate::form::{Form, has_line};
@@ -37,8 +37,8 @@ fn prices_in(evidence: &Evidence) -> Option<&[u128]>
 }
 
 /// The prices of a record.
-fn prices_at(node: &TreeNode) -> Option<&[u128]>
-    ensures { found_now result ≡ prices_at node.now }
+fn record_prices(node: &TreeNode) -> Option<&[u128]>
+    ensures { found_now result ≡ record_prices node.now }
 {
     match node {
         TreeNode::Split { .. } | TreeNode::Loads { .. } => None,
@@ -53,7 +53,7 @@ pub(crate) fn lists_of(alloc: Global, nodes: &[TreeNode]) -> Result<Lists, Alloc
 {
     let mut lists = Lists::new(alloc);
     for node in nodes {
-        if let Some(prices) = prices_at(node) {
+        if let Some(prices) = record_prices(node) {
             lists.note(alloc, prices)?;
         }
     }
@@ -94,7 +94,7 @@ pub(crate) fn named_behind(ground: &Ground, named: u32, node: &TreeNode) -> u32
 {
     match ground.form {
         Form::First => named,
-        Form::Second | Form::Third => named_by(&ground.lists, named, prices_at(node)),
+        Form::Second | Form::Third => named_by(&ground.lists, named, record_prices(node)),
     }
 }
 
@@ -146,13 +146,13 @@ fn priced(
 }
 
 /// The record with the prices that its number stands for, where so many lists are named before it.
-fn with_prices(
+fn with_listed_prices(
     alloc: Global,
     lists: &Lists,
     named: u32,
     node: TreeNode,
 ) -> Result<Option<TreeNode>, AllocError>
-    ensures { IfOk result (λ found. found ≡ with_prices lists.now named node) }
+    ensures { IfOk result (λ found. found ≡ with_listed_prices lists.now named node) }
 {
     match node {
         TreeNode::Split { .. } | TreeNode::Loads { .. } => Ok(Some(node)),
@@ -174,7 +174,7 @@ fn meant(
 {
     match ground.form {
         Form::First => Ok(Some(node)),
-        Form::Second | Form::Third => with_prices(alloc, &ground.lists, named, node),
+        Form::Second | Form::Third => with_listed_prices(alloc, &ground.lists, named, node),
     }
 }
 

@@ -5,12 +5,12 @@ ghost use Rattle.proof_tree.specs.declared.plan.Plan.{Plan as AnyPlan};
 ghost use Rattle.plan_words.specs.Lines.{lines_of};
 ghost use Rattle.cert_format.specs.declared.form.Form.TheVariants.{Third};
 ghost use Rattle.cert_format.specs.Grammar.{end_line, SpellsPlan};
-ghost use Rattle.cert_format.specs.Faults.{IsFault, OnlyPlan, OnlyFault};
+ghost use Rattle.cert_format.specs.Faults.{IsFault, OnlyPlan, OnlyPlanFault};
 ghost use Rattle.cert_format.specs.Lists.{named_from};
 ghost use Rattle.cert_format.specs.Bodies.{fixed_of, form_of, number_row, size_row, status_of, cost_of, bound_of, path_of, modules_of, list_row, load_cut_row};
 ghost use Rattle.cert_format.specs.Reading.{one, many, head, design_of, design, bound, load_cuts, list_count, entries_of, opening, lists, record_on, records, tree, before_end, last_line, ending, whole_plan, place_of, plan_of};
 ghost use Rattle.cert_format.specs.Drafts.{left_open};
-ghost use Rattle.cert_format.specs.Answers.{Reads, Gives, seen, seen_items, seen_records, seen_tree, seen_draft, drafted, IsCounted};
+ghost use Rattle.cert_format.specs.Answers.{Reads, GivesPlan, seen_value, seen_items, seen_records, seen_tree, seen_draft, drafted, IsCounted};
 ghost use Rattle.proof_tree.specs.declared.limits.TheConstants.{MAX_RECORDS, MAX_CUTS};
 ghost use Rattle.cert_format.specs.declared.limits.TheConstants.{MAX_PLAN_BYTES};
 
@@ -62,7 +62,7 @@ struct Draft {
 /// A line of nothing but these bytes.
 #[tactic(auto, using(crate::proofs::Accepting::no_first_line, crate::proofs::Accepting::stops_memory))]
 fn fixed_line<'a>(line: &[u8], text: &'a [u8]) -> Result<((), &'a [u8]), Stop>
-    ensures { Reads seen result (one (fixed_of line.now) (lines_of text.now)) }
+    ensures { Reads seen_value result (one (fixed_of line.now) (lines_of text.now)) }
 {
     let (body, rest) = first_line(text)?;
     accept(bodies::fixed(line, body), text, rest)
@@ -77,7 +77,7 @@ fn number_line<'a>(
     high: u32,
     text: &'a [u8],
 ) -> Result<(u32, &'a [u8]), Stop>
-    ensures { Reads seen result (one (number_row word.now low high) (lines_of text.now)) }
+    ensures { Reads seen_value result (one (number_row word.now low high) (lines_of text.now)) }
 {
     let (body, rest) = first_line(text)?;
     accept(
@@ -90,7 +90,7 @@ fn number_line<'a>(
 /// The line of the version.
 #[tactic(auto, using(crate::proofs::Accepting::no_first_line, crate::proofs::Accepting::stops_memory))]
 fn form_line(text: &[u8]) -> Result<(Form, &[u8]), Stop>
-    ensures { Reads seen result (one form_of (lines_of text.now)) }
+    ensures { Reads seen_value result (one form_of (lines_of text.now)) }
 {
     let (body, rest) = first_line(text)?;
     accept(bodies::form(body), text, rest)
@@ -99,7 +99,7 @@ fn form_line(text: &[u8]) -> Result<(Form, &[u8]), Stop>
 /// The line of the sizes.
 #[tactic(auto, using(crate::proofs::Accepting::no_first_line, crate::proofs::Accepting::stops_memory))]
 fn size_line(alloc: Global, form: Form, text: &[u8]) -> Result<(Sizes, &[u8]), Stop>
-    ensures { Reads seen result (one (size_row form) (lines_of text.now)) }
+    ensures { Reads seen_value result (one (size_row form) (lines_of text.now)) }
 {
     let (body, rest) = first_line(text)?;
     accept(bodies::size_row(alloc, form, body)?, text, rest)
@@ -108,7 +108,7 @@ fn size_line(alloc: Global, form: Form, text: &[u8]) -> Result<(Sizes, &[u8]), S
 /// The line of the status.
 #[tactic(auto, using(crate::proofs::Accepting::no_first_line, crate::proofs::Accepting::stops_memory))]
 fn status_line(text: &[u8]) -> Result<(PlanStatus, &[u8]), Stop>
-    ensures { Reads seen result (one status_of (lines_of text.now)) }
+    ensures { Reads seen_value result (one status_of (lines_of text.now)) }
 {
     let (body, rest) = first_line(text)?;
     accept(bodies::status(body), text, rest)
@@ -117,7 +117,7 @@ fn status_line(text: &[u8]) -> Result<(PlanStatus, &[u8]), Stop>
 /// The line of the cost.
 #[tactic(auto, using(crate::proofs::Accepting::no_first_line, crate::proofs::Accepting::stops_memory))]
 fn cost_line(alloc: Global, status: PlanStatus, text: &[u8]) -> Result<(Option<u128>, &[u8]), Stop>
-    ensures { Reads seen result (one (cost_of status) (lines_of text.now)) }
+    ensures { Reads seen_value result (one (cost_of status) (lines_of text.now)) }
 {
     let (body, rest) = first_line(text)?;
     accept(bodies::cost(alloc, status, body)?, text, rest)
@@ -126,7 +126,7 @@ fn cost_line(alloc: Global, status: PlanStatus, text: &[u8]) -> Result<(Option<u
 /// The line of the bound.
 #[tactic(auto, using(crate::proofs::Accepting::no_first_line, crate::proofs::Accepting::stops_memory))]
 fn bound_line(alloc: Global, text: &[u8]) -> Result<(Option<i128>, &[u8]), Stop>
-    ensures { Reads seen result (one bound_of (lines_of text.now)) }
+    ensures { Reads seen_value result (one bound_of (lines_of text.now)) }
 {
     let (body, rest) = first_line(text)?;
     accept(bodies::bound(alloc, body)?, text, rest)
@@ -135,7 +135,7 @@ fn bound_line(alloc: Global, text: &[u8]) -> Result<(Option<i128>, &[u8]), Stop>
 /// The line of a path.
 #[tactic(auto, using(crate::proofs::Accepting::no_first_line, crate::proofs::Accepting::stops_memory))]
 fn path_line(alloc: Global, text: &[u8]) -> Result<(Path, &[u8]), Stop>
-    ensures { Reads seen result (one path_of (lines_of text.now)) }
+    ensures { Reads seen_value result (one path_of (lines_of text.now)) }
 {
     let (body, rest) = first_line(text)?;
     accept(bodies::path(alloc, body)?, text, rest)
@@ -144,7 +144,7 @@ fn path_line(alloc: Global, text: &[u8]) -> Result<(Path, &[u8]), Stop>
 /// The line of a link's counts of modules.
 #[tactic(auto, using(crate::proofs::Accepting::no_first_line, crate::proofs::Accepting::stops_memory))]
 fn modules_line(alloc: Global, text: &[u8]) -> Result<(Items<u64>, &[u8]), Stop>
-    ensures { Reads seen result (one modules_of (lines_of text.now)) }
+    ensures { Reads seen_value result (one modules_of (lines_of text.now)) }
 {
     let (body, rest) = first_line(text)?;
     accept(bodies::modules(alloc, body)?, text, rest)
@@ -153,7 +153,7 @@ fn modules_line(alloc: Global, text: &[u8]) -> Result<(Items<u64>, &[u8]), Stop>
 /// The line of a cut of sets of so many nodes.
 #[tactic(auto, using(crate::proofs::Accepting::no_first_line, crate::proofs::Accepting::stops_memory))]
 fn load_cut_line(alloc: Global, nodes: u32, text: &[u8]) -> Result<(Cut, &[u8]), Stop>
-    ensures { Reads seen result (one (load_cut_row nodes) (lines_of text.now)) }
+    ensures { Reads seen_value result (one (load_cut_row nodes) (lines_of text.now)) }
 {
     let (body, rest) = first_line(text)?;
     accept(load_cuts::load_cut(alloc, nodes, body)?, text, rest)
@@ -167,7 +167,7 @@ fn list_line<'a>(
     lists: &Lists,
     text: &'a [u8],
 ) -> Result<(Prices, &'a [u8]), Stop>
-    ensures { Reads seen result (one (list_row entries lists.now) (lines_of text.now)) }
+    ensures { Reads seen_value result (one (list_row entries lists.now) (lines_of text.now)) }
 {
     let (body, rest) = first_line(text)?;
     accept(bodies::list(alloc, entries, lists, body)?, text, rest)
@@ -181,7 +181,7 @@ fn record_line<'a>(
     named: u32,
     text: &'a [u8],
 ) -> Result<(TreeNode, &'a [u8]), Stop>
-    ensures { Reads seen result (one (record_on ground.now named) (lines_of text.now)) }
+    ensures { Reads seen_value result (one (record_on ground.now named) (lines_of text.now)) }
 {
     let (body, rest) = first_line(text)?;
     accept(records::record_in(alloc, ground, named, body)?, text, rest)
@@ -190,7 +190,7 @@ fn record_line<'a>(
 /// The five lines that begin each text.
 #[tactic(auto, using(crate::proofs::Accepting::through, crate::proofs::Accepting::stops_memory), unfolding(crate::specs::Reading::head, crate::specs::Reading::bind, crate::specs::Reading::done))]
 fn read_head(alloc: Global, text: &[u8]) -> Result<(Head, &[u8]), Stop>
-    ensures { Reads seen result (head (lines_of text.now)) }
+    ensures { Reads seen_value result (head (lines_of text.now)) }
 {
     let (form, text) = form_line(text)?;
     let (sizes, text) = size_line(alloc, form, text)?;
@@ -253,7 +253,7 @@ fn read_design_of(
     cost: Option<u128>,
     text: &[u8],
 ) -> Result<(Option<(u128, Design)>, &[u8]), Stop>
-    ensures { Reads seen result (design_of demands links cost (lines_of text.now)) }
+    ensures { Reads seen_value result (design_of demands links cost (lines_of text.now)) }
 {
     let Some(cost) = cost else {
         return Ok((None, text));
@@ -274,7 +274,7 @@ fn read_design(
     head: Head,
     text: &[u8],
 ) -> Result<(Option<(u128, Design)>, &[u8]), Stop>
-    ensures { Reads seen result (design head (lines_of text.now)) }
+    ensures { Reads seen_value result (design head (lines_of text.now)) }
 {
     let (cost, text) = cost_line(alloc, head.status, text)?;
     read_design_of(alloc, head.demands, head.links, cost, text)
@@ -283,7 +283,7 @@ fn read_design(
 /// The bound of an undecided plan.
 #[tactic(auto, unfolding(crate::specs::Reading::bound, crate::specs::Reading::bind, crate::specs::Reading::done))]
 fn read_bound(alloc: Global, status: PlanStatus, text: &[u8]) -> Result<(Option<i128>, &[u8]), Stop>
-    ensures { Reads seen result (bound status (lines_of text.now)) }
+    ensures { Reads seen_value result (bound status (lines_of text.now)) }
 {
     match status {
         PlanStatus::Optimal | PlanStatus::Infeasible => Ok((None, text)),
@@ -324,7 +324,7 @@ fn read_cuts(alloc: Global, nodes: u32, count: u32, text: &[u8]) -> Result<(Vec<
 /// How many cuts there are, and the cuts.
 #[tactic(auto, using(crate::proofs::Accepting::through, crate::proofs::Accepting::stops_memory, crate::proofs::Accepting::row_most, crate::proofs::Accepting::cuts_counted), unfolding(crate::specs::Reading::load_cuts, crate::specs::Reading::bind))]
 fn read_counted_cuts(alloc: Global, nodes: u32, text: &[u8]) -> Result<(Items<Cut>, &[u8]), Stop>
-    ensures reads { Reads seen result (load_cuts Third nodes (lines_of text.now)) }
+    ensures reads { Reads seen_value result (load_cuts Third nodes (lines_of text.now)) }
     ensures few { IfOk result (λ x. length x.0 ≤ MAX_CUTS) }
 {
     let (count, text) = number_line(alloc, b"CUTS", 0, MAX_CUTS as u32, text)?;
@@ -340,7 +340,7 @@ fn read_load_cuts(
     nodes: u32,
     text: &[u8],
 ) -> Result<(Items<Cut>, &[u8]), Stop>
-    ensures reads { Reads seen result (load_cuts form nodes (lines_of text.now)) }
+    ensures reads { Reads seen_value result (load_cuts form nodes (lines_of text.now)) }
     ensures few { IfOk result (λ x. length x.0 ≤ MAX_CUTS) }
 {
     match form {
@@ -352,7 +352,7 @@ fn read_load_cuts(
 /// How many price lists are stated.
 #[tactic(auto, unfolding(crate::specs::Reading::list_count, crate::specs::Reading::done))]
 fn read_list_count(alloc: Global, form: Form, text: &[u8]) -> Result<(u32, &[u8]), Stop>
-    ensures { Reads seen result (list_count form (lines_of text.now)) }
+    ensures { Reads seen_value result (list_count form (lines_of text.now)) }
 {
     match form {
         Form::First => Ok((0, text)),
@@ -363,7 +363,7 @@ fn read_list_count(alloc: Global, form: Form, text: &[u8]) -> Result<(u32, &[u8]
 /// All lines before the price lists.
 #[tactic(auto, using(crate::proofs::Accepting::through, crate::proofs::Accepting::stops_memory), unfolding(crate::specs::Reading::opening, crate::specs::Reading::bind, crate::specs::Reading::done))]
 fn read_opening(alloc: Global, text: &[u8]) -> Result<(Opening, &[u8]), Stop>
-    ensures reads { Reads seen result (opening (lines_of text.now)) }
+    ensures reads { Reads seen_value result (opening (lines_of text.now)) }
     ensures few { IfOk result (λ x. length x.0.3 ≤ MAX_CUTS) }
 {
     let (head, text) = read_head(alloc, text)?;
@@ -382,7 +382,7 @@ fn read_lists(
     stated: u32,
     text: &[u8],
 ) -> Result<(Lists, &[u8]), Stop>
-    ensures { Reads seen result (lists entries stated [] (lines_of text.now)) }
+    ensures { Reads seen_value result (lists entries stated [] (lines_of text.now)) }
 {
     let mut lists = Lists::new(alloc);
     let mut rest = text;
@@ -580,7 +580,7 @@ pub fn read_plan(alloc: Global, text: &[u8]) -> Result<Plan, PlanFault>
     // This is wrong with the text.
     ensures fault { IfErr result (IsFault text.now) }
     // Nothing else is told of a text with this fault, unless memory runs out.
-    ensures fault_only { (fault : PlanFault) → IsFault text.now fault → OnlyFault result fault }
+    ensures fault_only { (fault : PlanFault) → IsFault text.now fault → OnlyPlanFault result fault }
 {
     plan_or_fault(alloc, text)
 }
@@ -589,7 +589,7 @@ pub fn read_plan(alloc: Global, text: &[u8]) -> Result<Plan, PlanFault>
 #[tactic(auto, unfolding(crate::specs::Reading::plan_of))]
 fn plan_or_fault(alloc: Global, text: &[u8]) -> Result<Plan, PlanFault>
     requires { length text.now ≤ MAX_PLAN_BYTES }
-    ensures { Gives result (plan_of text.now) }
+    ensures { GivesPlan result (plan_of text.now) }
 {
     match whole_plan(alloc, text) {
         Ok(plan) => Ok(plan),

@@ -16,7 +16,7 @@ use Rattle.proof_tree.specs.Regions.{Region, AreInRange}
 use Rattle.proof_tree.specs.Evidence.{AreOnlyPaths, CostEnough, ClosedByOverfull}
 use Rattle.verifier_paths.specs.OnlyPaths.{HavePaths, HasSecond}
 use Rattle.cert_verifier.specs.LeafRules.{HaveOnlyPaths, CanCarryAll}
-use Rattle.cert_verifier.specs.Routings.{needed, IsCostOfLoads, HasOverfull, AreLoadsInRange, IsOverfull}
+use Rattle.cert_verifier.specs.Routings.{needed, IsCostOfLoads, HasOverfull, AreLoadsInRange, IsOverloaded}
 use Rattle.cert_verifier.proofs.OnlyLoads.{only_there, only_back, only_need}
 
 -- these loads are those of the design
@@ -115,7 +115,7 @@ only_in_range p g one other e within first second h = record {
 }
 
 -- a link that cannot carry its load of the only paths, or has a load outside its range, closes the region
-pub overfull_closes : (p : Parts) (g : Region) (d : Design) (loads : List ℕ) (link : LinkId) → AreOnlyPaths p g.forbidden d → AreLoadsOf p d loads → link.0 < length p.links → IsOverfull p g.ranges loads link.0 → ClosedByOverfull p g link
+pub overfull_closes : (p : Parts) (g : Region) (d : Design) (loads : List ℕ) (link : LinkId) → AreOnlyPaths p g.forbidden d → AreLoadsOf p d loads → link.0 < length p.links → IsOverloaded p g.ranges loads link.0 → ClosedByOverfull p g link
 overfull_closes p g d loads link only are_loads within over =
     record {
       routing = d;
@@ -128,7 +128,7 @@ overfull_closes p g d loads link only are_loads within over =
     }
 
 -- and what closes it shows in the loads of any only paths
-pub closed-overfull : (p : Parts) (g : Region) (d : Design) (loads : List ℕ) (link : LinkId) → AreOnlyPaths p g.forbidden d → AreLoadsOf p d loads → ClosedByOverfull p g link → IsOverfull p g.ranges loads link.0
+pub closed-overfull : (p : Parts) (g : Region) (d : Design) (loads : List ℕ) (link : LinkId) → AreOnlyPaths p g.forbidden d → AreLoadsOf p d loads → ClosedByOverfull p g link → IsOverloaded p g.ranges loads link.0
 closed-overfull p g d loads link only are_loads closed = elim closed.overfull [
   | inl cannot ↦ inl (subst (λ (load : ℕ). CannotCarry p link.0 load) (sym (need_is p d loads link.0 closed.is_link are_loads ∙ only_need p g.forbidden d closed.routing link.0 closed.is_link only closed.only)) cannot)
   | inr outside ↦ inr (λ h. outside (only_in_range p g d closed.routing link.0 closed.is_link only closed.only (from_range p g d loads link.0 closed.is_link are_loads h)))

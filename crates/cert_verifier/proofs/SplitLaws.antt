@@ -11,7 +11,7 @@ use Rattle.link_steps.specs.Ranges.{range_at}
 use Rattle.arc_restrict.specs.Restrictions.{Forbidden}
 use Rattle.proof_tree.specs.Regions.{IsLoadSplit}
 use Rattle.proof_tree.specs.Splits.{IsSplit}
-use Rattle.cert_verifier.specs.SplitRules.{SplitFinds, Exist, HaveArcs, Leave, AreApart, AreFree, HasBothSides, LoadsFind}
+use Rattle.cert_verifier.specs.SplitRules.{SplitFinds, Exist, HaveArcs, Leave, AreApart, AreAllowed, HasBothSides, LoadsFind}
 use Rattle.cert_verifier.proofs.FirstRules.{unless-none}
 use Rattle.cert_verifier.proofs.RuleLaws.{then_by-none, FindsOne, unless-one, then_by-one}
 
@@ -27,7 +27,7 @@ split_found_none p r index id at left right h =
     let some : HaveArcs left right = unless-none _ _ b.0 in
     let leave : Leave p at left × Leave p at right = unless-none _ _ c.0 in
     let apart : AreApart left right = unless-none _ _ d.0 in
-    let free : AreFree r id left × AreFree r id right = unless-none _ _ d.1 in
+    let free : AreAllowed r id left × AreAllowed r id right = unless-none _ _ d.1 in
     record {
       demand = exist.demand;
       node = exist.node;

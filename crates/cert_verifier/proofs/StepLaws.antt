@@ -19,7 +19,7 @@ use Rattle.proof_tree.specs.Trees.{LeafAt, children_at, leaf_here, leaves_at, le
 use Rattle.cert_verifier.specs.declared.rejected.Rejected.{Rejected}
 use Rattle.cert_verifier.specs.declared.walk.Turn.{Turn}
 use Rattle.cert_verifier.specs.RecordRules.{RecordFinds, RecordsFind, TreeFinds}
-use Rattle.cert_verifier.specs.Walks.{IsPlace, StandsAt, AreLeft}
+use Rattle.cert_verifier.specs.Walks.{IsTreePlace, StandsAt, AreLeft}
 use Rattle.cert_verifier.specs.Bounds.{IsLeastBoundIn}
 use Rattle.cert_verifier.proofs.TreeLaws.{after-whole}
 
@@ -42,7 +42,7 @@ pub so_far-start : (p : Parts) (plan : Plan) (turns : List Turn) (g : Region) (l
 so_far-start p plan turns g least at_root empty none whole = record {
   gs = whole_region p ∷ [];
   met = [];
-  place = (empty, subst (λ ts. IsPlace p plan.tree ts g []) (sym at_root) (refl, subst (λ (x : Region). AreRanges p x.ranges) (sym empty) (AreRanges-whole p)));
+  place = (empty, subst (λ ts. IsTreePlace p plan.tree ts g []) (sym at_root) (refl, subst (λ (x : Region). AreRanges p x.ranges) (sym empty) (AreRanges-whole p)));
   finds = λ found h. h;
   whole = whole;
   leaves = refl;
@@ -51,7 +51,7 @@ so_far-start p plan turns g least at_root empty none whole = record {
 
 -- where a record follows, a region is left to be answered
 first_left : (p : Parts) (nodes : List TreeNode) (turns : List Turn) (g : Region) (gs : List Region) (node : TreeNode) (nodes_after : List TreeNode) → AreLeft p nodes turns g gs → IsTrue (are_trees (length gs) (node ∷ nodes_after))
-    → (rest : List Region) × (gs ≡ (g ∷ rest)) × IsPlace p nodes turns g rest
+    → (rest : List Region) × (gs ≡ (g ∷ rest)) × IsTreePlace p nodes turns g rest
 first_left p nodes turns g [] node after place whole = absurd (let bad : false ≡ true = whole in cc)
 first_left p nodes turns g (next ∷ rest) node after place whole = (rest, ap (λ s. s ∷ rest) (sym place.0), place.1)
 
@@ -61,7 +61,7 @@ drop_here nodes index node within is = drop-cons nodes index node within ∙ ap 
 -- the region is the first that is left, and the place is below the turns
 record IsHere (p : Parts) (plan : Plan) (index : ℕ) (turns : List Turn) (g : Region) (node : TreeNode) (met : List LeafAt) : Type 0 where
   rest : List Region
-  place : IsPlace p plan.tree turns g rest
+  place : IsTreePlace p plan.tree turns g rest
   finds : (found : Option Rejected) → RecordsFind p plan (g ∷ rest) index (node ∷ drop (index + 1) plan.tree) found → TreeFinds p plan plan.tree found
   whole : IsTrue (are_trees (suc (length rest)) (node ∷ drop (index + 1) plan.tree))
   leaves : leaves_of p plan.tree ≡ met ++ leaves_at (g ∷ rest) (node ∷ drop (index + 1) plan.tree)
@@ -86,7 +86,7 @@ so_far-stands p plan index turns g least node h within is = let here = so_far-he
 -- a record that breaks no rule, from which the walk goes on
 pub so_far-step : (p : Parts) (plan : Plan) (index : ℕ) (turns turns_after : List Turn) (g g_after : Region) (least least_after : Option ℤ) (node : TreeNode)
     → IsSoFar p plan index turns g least → index < length plan.tree → get_or plan.tree index node ≡ node → RecordFinds p plan g index node None
-    → ((gs : List Region) → IsPlace p plan.tree turns g gs → AreLeft p plan.tree turns_after g_after (children_at g node ++ gs))
+    → ((gs : List Region) → IsTreePlace p plan.tree turns g gs → AreLeft p plan.tree turns_after g_after (children_at g node ++ gs))
     → ((met : List LeafAt) → IsLeastBoundIn p plan.cuts met least → IsLeastBoundIn p plan.cuts (met ++ leaf_here g node) least_after)
     → IsSoFar p plan (index + 1) turns_after g_after least_after
 so_far-step p plan index turns turns_after g g_after least least_after node h within is none left lower =

@@ -23,7 +23,7 @@ use Rattle.proof_tree.proofs.RangeLaws.{AreRanges-up_to, AreRanges-above, with_r
 use Rattle.verifier_paths.specs.Kept.{Marks, forbidden_by, without_forbidden, HasRows}
 use Rattle.verifier_paths.proofs.MarkLaws.{undo_forbid}
 use Rattle.cert_verifier.specs.declared.walk.Turn.{Turn}
-use Rattle.cert_verifier.specs.Walks.{region_by, Splits, IsWithin, child_of, left_after, IsPlace, StandsAt, AreLeft}
+use Rattle.cert_verifier.specs.Walks.{region_of_marks, Splits, IsSplitWithin, child_of, left_after, IsTreePlace, StandsAt, AreLeft}
 
 -- an arc that exists has a number below twice the count of links
 pub arc_within : (p : Parts) (a : ArcId) → IsTrue (is_arc p a) → a.0 < 2 * length p.links
@@ -43,7 +43,7 @@ pub split-within : (p : Parts) (r : Forbidden) (id : DemandId) (at : NodeId) (le
 split-within p r id at left right h = record { demand = h.demand; left_within = side_within p r id at left h.left_side; right_within = side_within p r id at right h.right_side }
 
 -- the numbers of a split are within the instance
-splits-within : (p : Parts) (parent : Region) (node : TreeNode) (range : LoadRange) → Splits p parent node range → IsWithin (length p.demands) (2 * length p.links) (places p) range node
+splits-within : (p : Parts) (parent : Region) (node : TreeNode) (range : LoadRange) → Splits p parent node range → IsSplitWithin (length p.demands) (2 * length p.links) (places p) range node
 splits-within p parent (Split id at left right) range h = let within = split-within p parent.forbidden id at left right h in (within.demand, within.left_within, within.right_within)
 splits-within p parent (Loads place load) range h = (h.0.is_place, subst (λ (x : LoadRange). load < x.most) (sym h.1) h.0.some_right)
 splits-within p parent (Leaf evidence) range h = absurd h
@@ -69,7 +69,7 @@ child-ranges p parent (Loads place load) range is_right left right splits childr
 child-ranges p parent (Leaf evidence) range is_right left right splits children are = absurd splits
 
 -- at each place of the tree ranges have loads
-pub place-ranges : (p : Parts) (nodes : List TreeNode) (turns : List Turn) (g : Region) (gs : List Region) → IsPlace p nodes turns g gs → AreRanges p g.ranges
+pub place-ranges : (p : Parts) (nodes : List TreeNode) (turns : List Turn) (g : Region) (gs : List Region) → IsTreePlace p nodes turns g gs → AreRanges p g.ranges
 place-ranges p nodes [] g gs h = h.1
 place-ranges p nodes (turn ∷ turns) g gs h =
     subst (λ (x : Region). AreRanges p x.ranges) (sym h.child)
@@ -85,14 +85,14 @@ some_same x y h = cc
 
 -- the record of the last turn is a split within the instance
 pub turn-within : (p : Parts) (nodes : List TreeNode) (turn : Turn) (turns : List Turn) (marks : Marks) (ranges : List LoadRange) (node : TreeNode) → slice_get nodes turn.split ≡ Some node → HasRows p marks
-    → StandsAt p nodes (turn ∷ turns) (region_by marks ranges) → IsWithin marks.demands marks.arcs (length ranges) turn.range node
+    → StandsAt p nodes (turn ∷ turns) (region_of_marks marks ranges) → IsSplitWithin marks.demands marks.arcs (length ranges) turn.range node
 turn-within p nodes turn turns marks ranges node is rows stands =
     let h = stands.is_place in
-    let are : AreRanges p ranges = stands-ranges p nodes (turn ∷ turns) (region_by marks ranges) stands in
-    let within = subst (IsWithin (length p.demands) (2 * length p.links) (places p) turn.range) (some_same _ _ (sym h.is_record ∙ is)) (splits-within p h.parent h.split turn.range h.splits) in
-    subst (λ (n : ℕ). IsWithin n marks.arcs (length ranges) turn.range node) (sym rows.demands)
-    (subst (λ (n : ℕ). IsWithin (length p.demands) n (length ranges) turn.range node) (sym rows.arcs)
-    (subst (λ (n : ℕ). IsWithin (length p.demands) (2 * length p.links) n turn.range node) (sym are.count) within))
+    let are : AreRanges p ranges = stands-ranges p nodes (turn ∷ turns) (region_of_marks marks ranges) stands in
+    let within = subst (IsSplitWithin (length p.demands) (2 * length p.links) (places p) turn.range) (some_same _ _ (sym h.is_record ∙ is)) (splits-within p h.parent h.split turn.range h.splits) in
+    subst (λ (n : ℕ). IsSplitWithin n marks.arcs (length ranges) turn.range node) (sym rows.demands)
+    (subst (λ (n : ℕ). IsSplitWithin (length p.demands) n (length ranges) turn.range node) (sym rows.arcs)
+    (subst (λ (n : ℕ). IsSplitWithin (length p.demands) (2 * length p.links) n turn.range node) (sym are.count) within))
 
 -- the record that the last turn reads is the one at its place
 pub turn-read : (p : Parts) (nodes read : List TreeNode) (turn : Turn) (turns : List Turn) (g : Region) → StandsAt p nodes (turn ∷ turns) g → read ≡ nodes → (node : TreeNode) → node ≡ get_or read turn.split node → slice_get nodes turn.split ≡ Some node
@@ -105,14 +105,14 @@ turn-read p nodes read turn turns g stands same node is =
 -- up from the right child to its split
 pub leave_right : (p : Parts) (nodes : List TreeNode) (turn : Turn) (turns : List Turn) (g g_after : Region) (gs : List Region) (node : TreeNode) → slice_get nodes turn.split ≡ Some node → turn.is_right ≡ true
     → ((parent left : Region) → Splits p parent node turn.range → children_at parent node ≡ left ∷ g ∷ [] → g_after ≡ parent)
-    → IsPlace p nodes (turn ∷ turns) g gs → IsPlace p nodes turns g_after gs
+    → IsTreePlace p nodes (turn ∷ turns) g gs → IsTreePlace p nodes turns g_after gs
 leave_right p nodes turn turns g g_after gs node is right_one up h =
     let same : h.split ≡ node = some_same _ _ (sym h.is_record ∙ is) in
     let child : g ≡ h.right = h.child ∙ ap (λ b. child_of b h.left h.right) right_one in
     let rest : gs ≡ h.more = h.rest ∙ ap (λ b. left_after b h.right h.more) right_one in
     let children : children_at h.parent node ≡ h.left ∷ g ∷ [] = ap (children_at h.parent) (sym same) ∙ h.children ∙ ap (λ x. h.left ∷ x ∷ []) (sym child) in
     let to_parent : g_after ≡ h.parent = up h.parent h.left (subst (λ n. Splits p h.parent n turn.range) same h.splits) children in
-    subst (λ x. IsPlace p nodes turns x gs) (sym to_parent) (subst (IsPlace p nodes turns h.parent) (sym rest) h.above)
+    subst (λ x. IsTreePlace p nodes turns x gs) (sym to_parent) (subst (IsTreePlace p nodes turns h.parent) (sym rest) h.above)
 
 -- the same turn, to the right child
 abbrev pub to_right : Turn → Turn
@@ -121,14 +121,14 @@ to_right turn = record turn { is_right = true }
 -- from the left child into the right one
 pub leave_left : (p : Parts) (nodes : List TreeNode) (turn : Turn) (turns : List Turn) (g g_after : Region) (gs : List Region) (node : TreeNode) → slice_get nodes turn.split ≡ Some node → turn.is_right ≡ false
     → ((parent right : Region) → Splits p parent node turn.range → children_at parent node ≡ g ∷ right ∷ [] → g_after ≡ right)
-    → IsPlace p nodes (turn ∷ turns) g gs → AreLeft p nodes (to_right turn ∷ turns) g_after gs
+    → IsTreePlace p nodes (turn ∷ turns) g gs → AreLeft p nodes (to_right turn ∷ turns) g_after gs
 leave_left p nodes turn turns g g_after gs node is left_one over h =
     let same : h.split ≡ node = some_same _ _ (sym h.is_record ∙ is) in
     let child : g ≡ h.left = h.child ∙ ap (λ b. child_of b h.left h.right) left_one in
     let rest : gs ≡ h.right ∷ h.more = h.rest ∙ ap (λ b. left_after b h.right h.more) left_one in
     let children : children_at h.parent node ≡ g ∷ h.right ∷ [] = ap (children_at h.parent) (sym same) ∙ h.children ∙ ap (λ x. x ∷ h.right ∷ []) (sym child) in
     let to_other : g_after ≡ h.right = over h.parent h.right (subst (λ n. Splits p h.parent n turn.range) same h.splits) children in
-    let below : IsPlace p nodes (to_right turn ∷ turns) g_after h.more = record {
+    let below : IsTreePlace p nodes (to_right turn ∷ turns) g_after h.more = record {
       split = h.split;
       parent = h.parent;
       left = h.left;
@@ -144,7 +144,7 @@ leave_left p nodes turn turns g g_after gs node is left_one over h =
     subst (AreLeft p nodes (to_right turn ∷ turns) g_after) (sym rest) (to_other, below)
 
 -- where no turn is left, nothing is
-pub left_at_end : (p : Parts) (nodes : List TreeNode) (turns : List Turn) (g : Region) (gs : List Region) → turns ≡ [] → IsPlace p nodes turns g gs → AreLeft p nodes turns g gs
+pub left_at_end : (p : Parts) (nodes : List TreeNode) (turns : List Turn) (g : Region) (gs : List Region) → turns ≡ [] → IsTreePlace p nodes turns g gs → AreLeft p nodes turns g gs
 left_at_end p nodes [] g gs none place = subst (AreLeft p nodes [] g) (sym place.0) refl
 left_at_end p nodes (turn ∷ turns) g gs none place = absurd (let bad : (turn ∷ turns) ≡ [] = none in cc)
 
@@ -159,11 +159,11 @@ record-is nodes read i here same is node found = is ∙ ap (λ ns. get_or ns i h
 -- from a split of this place into its left child
 pub entered : (p : Parts) (nodes : List TreeNode) (index : ℕ) (turns turns_after : List Turn) (g g_after left right : Region) (gs : List Region) (node : TreeNode) (had : LoadRange)
     → slice_get nodes index ≡ Some node → Splits p g node had → children_at g node ≡ left ∷ right ∷ [] → g_after ≡ left → turns_after ≡ turns ++ (record { split = index; is_right = false; range = had } ∷ [])
-    → IsPlace p nodes (reverse turns) g gs → AreLeft p nodes (reverse turns_after) g_after (children_at g node ++ gs)
+    → IsTreePlace p nodes (reverse turns) g gs → AreLeft p nodes (reverse turns_after) g_after (children_at g node ++ gs)
 entered p nodes index turns turns_after g g_after left right gs node had found splits children to_left pushed place =
     let next : Turn = record { split = index; is_right = false; range = had } in
     let last : reverse turns_after ≡ next ∷ reverse turns = ap (λ (ts : List Turn). reverse ts) pushed ∙ reverse_push turns next in
-    let below : IsPlace p nodes (next ∷ reverse turns) g_after (right ∷ gs) = record {
+    let below : IsTreePlace p nodes (next ∷ reverse turns) g_after (right ∷ gs) = record {
       split = node;
       parent = g;
       left = left;
@@ -177,7 +177,7 @@ entered p nodes index turns turns_after g g_after left right gs node had found s
       above = place;
     } in
     subst (λ (cs : List Region). AreLeft p nodes (reverse turns_after) g_after (cs ++ gs)) (sym children)
-    (to_left, subst (λ ts. IsPlace p nodes ts g_after (right ∷ gs)) (sym last) below)
+    (to_left, subst (λ ts. IsTreePlace p nodes ts g_after (right ∷ gs)) (sym last) below)
 
 -- Marks and ranges of the regions.
 
@@ -185,41 +185,41 @@ abbrev region : Forbidden → List LoadRange → Region
 region r ranges = record { forbidden = r; ranges = ranges }
 
 -- where marks and ranges are those of a region, the region that they make is this one
-pub region-is : (g : Region) (marks : Marks) (ranges : List LoadRange) → forbidden_by marks ≡ g.forbidden → ranges ≡ g.ranges → region_by marks ranges ≡ g
+pub region-is : (g : Region) (marks : Marks) (ranges : List LoadRange) → forbidden_by marks ≡ g.forbidden → ranges ≡ g.ranges → region_of_marks marks ranges ≡ g
 region-is g marks ranges one other = ap₂ region one other
 
 -- what the right child forbids is undone
-pub up_arcs : (p : Parts) (parent left : Region) (id : DemandId) (at : NodeId) (l r : List ArcId) (marks after : Marks) (ranges : List LoadRange) → IsSplit p parent.forbidden id at l r → children_at parent (Split id at l r) ≡ left ∷ region_by marks ranges ∷ []
-    → forbidden_by after ≡ without_forbidden (forbidden_by marks) id r → region_by after ranges ≡ parent
+pub up_arcs : (p : Parts) (parent left : Region) (id : DemandId) (at : NodeId) (l r : List ArcId) (marks after : Marks) (ranges : List LoadRange) → IsSplit p parent.forbidden id at l r → children_at parent (Split id at l r) ≡ left ∷ region_of_marks marks ranges ∷ []
+    → forbidden_by after ≡ without_forbidden (forbidden_by marks) id r → region_of_marks after ranges ≡ parent
 up_arcs p parent left id at l r marks after ranges split children is =
-    let same = both_same (with_arcs parent id l) (with_arcs parent id r) left (region_by marks ranges) children in
+    let same = both_same (with_arcs parent id l) (with_arcs parent id r) left (region_of_marks marks ranges) children in
     let had : forbidden_by marks ≡ with_forbidden parent.forbidden id r = ap (λ (g : Region). g.forbidden) (sym same.1) in
     let back : without_forbidden (forbidden_by marks) id r ≡ parent.forbidden = ap (λ (s : Forbidden). without_forbidden s id r) had ∙ undo_forbid parent.forbidden id r split.right_side.permitted in
     region-is parent after ranges (is ∙ back) (ap (λ (g : Region). g.ranges) (sym same.1))
 
 -- what the left child forbids is undone, and the right arcs are forbidden
-pub over_arcs : (p : Parts) (parent right : Region) (id : DemandId) (at : NodeId) (l r : List ArcId) (marks after : Marks) (ranges : List LoadRange) → IsSplit p parent.forbidden id at l r → children_at parent (Split id at l r) ≡ region_by marks ranges ∷ right ∷ []
-    → forbidden_by after ≡ with_forbidden (without_forbidden (forbidden_by marks) id l) id r → region_by after ranges ≡ right
+pub over_arcs : (p : Parts) (parent right : Region) (id : DemandId) (at : NodeId) (l r : List ArcId) (marks after : Marks) (ranges : List LoadRange) → IsSplit p parent.forbidden id at l r → children_at parent (Split id at l r) ≡ region_of_marks marks ranges ∷ right ∷ []
+    → forbidden_by after ≡ with_forbidden (without_forbidden (forbidden_by marks) id l) id r → region_of_marks after ranges ≡ right
 over_arcs p parent right id at l r marks after ranges split children is =
-    let same = both_same (with_arcs parent id l) (with_arcs parent id r) (region_by marks ranges) right children in
+    let same = both_same (with_arcs parent id l) (with_arcs parent id r) (region_of_marks marks ranges) right children in
     let had : forbidden_by marks ≡ with_forbidden parent.forbidden id l = ap (λ (g : Region). g.forbidden) (sym same.0) in
     let back : without_forbidden (forbidden_by marks) id l ≡ parent.forbidden = ap (λ (s : Forbidden). without_forbidden s id l) had ∙ undo_forbid parent.forbidden id l split.left_side.permitted in
     region-is (with_arcs parent id r) after ranges (is ∙ ap (λ (s : Forbidden). with_forbidden s id r) back) (ap (λ (g : Region). g.ranges) (sym same.0)) ∙ same.1
 
 -- the place has the range again that it had
-pub up_loads : (parent left : Region) (place load : ℕ) (had : LoadRange) (marks : Marks) (ranges : List LoadRange) → had ≡ range_at parent.ranges place → children_at parent (Loads place load) ≡ left ∷ region_by marks ranges ∷ []
-    → region_by marks (with_range ranges place had) ≡ parent
+pub up_loads : (parent left : Region) (place load : ℕ) (had : LoadRange) (marks : Marks) (ranges : List LoadRange) → had ≡ range_at parent.ranges place → children_at parent (Loads place load) ≡ left ∷ region_of_marks marks ranges ∷ []
+    → region_of_marks marks (with_range ranges place had) ≡ parent
 up_loads parent left place load had marks ranges is children =
-    let same = both_same (up_to parent place load) (above parent place load) left (region_by marks ranges) children in
+    let same = both_same (up_to parent place load) (above parent place load) left (region_of_marks marks ranges) children in
     let given : ranges ≡ with_range parent.ranges place (begins_at (range_at parent.ranges place) (load + 1)) = ap (λ (g : Region). g.ranges) (sym same.1) in
     let back : with_range ranges place had ≡ parent.ranges = ap₂ (λ (rs : List LoadRange) (x : LoadRange). with_range rs place x) given is ∙ with_range-back parent.ranges place (begins_at (range_at parent.ranges place) (load + 1)) in
     region-is parent marks (with_range ranges place had) (ap (λ (g : Region). g.forbidden) (sym same.1)) back
 
 -- the place has the loads of the range that are above
-pub over_loads : (parent right : Region) (place load : ℕ) (had : LoadRange) (marks : Marks) (ranges : List LoadRange) → had ≡ range_at parent.ranges place → children_at parent (Loads place load) ≡ region_by marks ranges ∷ right ∷ []
-    → region_by marks (with_range ranges place (begins_at had (load + 1))) ≡ right
+pub over_loads : (parent right : Region) (place load : ℕ) (had : LoadRange) (marks : Marks) (ranges : List LoadRange) → had ≡ range_at parent.ranges place → children_at parent (Loads place load) ≡ region_of_marks marks ranges ∷ right ∷ []
+    → region_of_marks marks (with_range ranges place (begins_at had (load + 1))) ≡ right
 over_loads parent right place load had marks ranges is children =
-    let same = both_same (up_to parent place load) (above parent place load) (region_by marks ranges) right children in
+    let same = both_same (up_to parent place load) (above parent place load) (region_of_marks marks ranges) right children in
     let given : ranges ≡ with_range parent.ranges place (ends_at (range_at parent.ranges place) load) = ap (λ (g : Region). g.ranges) (sym same.0) in
     let next : with_range ranges place (begins_at had (load + 1)) ≡ with_range parent.ranges place (begins_at (range_at parent.ranges place) (load + 1)) =
     ap₂ (λ (rs : List LoadRange) (x : LoadRange). with_range rs place (begins_at x (load + 1))) given is

@@ -36,8 +36,8 @@ CutsFind p cuts zero found = found ≡ None
 CutsFind p cuts (suc n) found = (CutsFind p cuts n then_by unless (IsNewCut p cuts n) (Cuts n)) found
 
 -- how many records are splits or closed leaves
-abbrev pub examined_in : List TreeNode → ℕ
-examined_in nodes = count_by (λ node. not (is_open node)) nodes
+abbrev pub examined_count : List TreeNode → ℕ
+examined_count nodes = count_by (λ node. not (is_open node)) nodes
 
 -- an undecided plan has an open leaf
 abbrev pub HasItsOpen : PlanStatus → List TreeNode → Type 0
@@ -66,7 +66,7 @@ BoundFinds p plan Undecided found =
 abbrev pub CountsFind : Plan → Option Rejected → Type 0
 CountsFind plan =
     unless (HasItsOpen plan.status plan.tree) (Kind (length plan.tree))
-    then_by unless (plan.examined ≡ examined_in plan.tree) (Counts plan.examined (examined_in plan.tree))
+    then_by unless (plan.examined ≡ examined_count plan.tree) (Counts plan.examined (examined_count plan.tree))
     then_by unless (KeepsBudget plan.status plan.examined plan.budget) (Budget plan.examined plan.budget)
 
 -- the first rule that the plan breaks: sizes, the design and its cost, the cuts, the records, an open leaf where it is

@@ -12,8 +12,8 @@ use Rattle.link_steps.specs.Ranges.{IsIn}
 use Rattle.link_steps.specs.Values.{ranges_of_link}
 
 -- the design of these paths that installs nothing
-abbrev pub design_of : List (List ArcId) → Design
-design_of paths = record { paths = paths; counts = [] }
+abbrev pub bare_design : List (List ArcId) → Design
+bare_design paths = record { paths = paths; counts = [] }
 
 -- the larger load of a link's places
 abbrev pub needed : Parts → List ℕ → ℕ → ℕ
@@ -40,5 +40,5 @@ abbrev pub AreLoadsInRange : Parts → List LoadRange → List ℕ → ℕ → T
 AreLoadsInRange p ranges loads e = AreIn (ranges_of_link p ranges e) (there_of p (slice_index loads) e) (back_of p (slice_index loads) e)
 
 -- the link cannot carry the larger load of its places, or the load of a place of it is outside its range
-abbrev pub IsOverfull : Parts → List LoadRange → List ℕ → ℕ → Type 0
-IsOverfull p ranges loads e = CannotCarry p e (needed p loads e) ⊎ (AreLoadsInRange p ranges loads e → ⊥)
+abbrev pub IsOverloaded : Parts → List LoadRange → List ℕ → ℕ → Type 0
+IsOverloaded p ranges loads e = CannotCarry p e (needed p loads e) ⊎ (AreLoadsInRange p ranges loads e → ⊥)

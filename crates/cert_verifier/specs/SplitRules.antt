@@ -33,8 +33,8 @@ abbrev pub AreApart : List ArcId → List ArcId → Type 0
 AreApart left right = All (λ a. is_among right a ≡ false) left
 
 -- no arc is forbidden to the demand already
-abbrev pub AreFree : Forbidden → DemandId → List ArcId → Type 0
-AreFree r id arcs = All (λ a. r id.0 a ≡ false) arcs
+abbrev pub AreAllowed : Forbidden → DemandId → List ArcId → Type 0
+AreAllowed r id arcs = All (λ a. r id.0 a ≡ false) arcs
 
 -- the first rule that the split of a record of this index breaks: 1 what it names exists, 2 there are arcs, 3 they leave
 -- the node, 4 no arc is on both sides, 5 none is forbidden already
@@ -44,7 +44,7 @@ SplitFinds p r index id at left right =
     then_by unless (HaveArcs left right) (Split index 2)
     then_by unless (Leave p at left × Leave p at right) (Split index 3)
     then_by unless (AreApart left right) (Split index 4)
-    then_by unless (AreFree r id left × AreFree r id right) (Split index 5)
+    then_by unless (AreAllowed r id left × AreAllowed r id right) (Split index 5)
 
 -- the range has loads up to this one, and loads above it
 pub record HasBothSides (range : LoadRange) (load : ℕ) : Type 0 where

@@ -12,8 +12,8 @@ use Rattle.verifier_paths.specs.Kept.{Marks, forbidden_by}
 use Rattle.cert_verifier.specs.declared.walk.Turn.{Turn}
 
 -- the region of these marks and these ranges
-abbrev pub region_by : Marks → List LoadRange → Region
-region_by marks ranges = record { forbidden = forbidden_by marks; ranges = ranges }
+abbrev pub region_of_marks : Marks → List LoadRange → Region
+region_of_marks marks ranges = record { forbidden = forbidden_by marks; ranges = ranges }
 
 -- the record is a split of the region, and the range is what the place had there whose loads it splits
 abbrev pub Splits : Parts → Region → TreeNode → LoadRange → Type 0
@@ -22,10 +22,10 @@ Splits p g (Loads place load) range = IsLoadSplit p g.ranges place load × (rang
 Splits p g (Leaf evidence) range = ⊥
 
 -- the record is a split whose demand, arcs or place are among so many; the range has loads above that of a split of loads
-abbrev pub IsWithin : ℕ → ℕ → ℕ → LoadRange → TreeNode → Type 0
-IsWithin demands arcs places range (Split demand at left right) = (demand.0 < demands) × All (λ a. a.0 < arcs) left × All (λ a. a.0 < arcs) right
-IsWithin demands arcs places range (Loads place load) = (place < places) × (load < range.most)
-IsWithin demands arcs places range (Leaf evidence) = ⊥
+abbrev pub IsSplitWithin : ℕ → ℕ → ℕ → LoadRange → TreeNode → Type 0
+IsSplitWithin demands arcs places range (Split demand at left right) = (demand.0 < demands) × All (λ a. a.0 < arcs) left × All (λ a. a.0 < arcs) right
+IsSplitWithin demands arcs places range (Loads place load) = (place < places) × (load < range.most)
+IsSplitWithin demands arcs places range (Leaf evidence) = ⊥
 
 -- the right child of a split, or the left one
 abbrev pub child_of : Bool → Region → Region → Region
@@ -52,21 +52,21 @@ pub record IsBelow (p : Parts) (nodes : List TreeNode) (turn : Turn) (upper : Re
   pub above : upper parent more
 
 -- below these turns, the last of them first, a place with this region leaves these regions to be answered
-abbrev pub IsPlace : Parts → List TreeNode → List Turn → Region → List Region → Type 0
-IsPlace p nodes [] g gs = (gs ≡ []) × AreRanges p g.ranges
-IsPlace p nodes (turn ∷ turns) g gs = IsBelow p nodes turn (IsPlace p nodes turns) g gs
+abbrev pub IsTreePlace : Parts → List TreeNode → List Turn → Region → List Region → Type 0
+IsTreePlace p nodes [] g gs = (gs ≡ []) × AreRanges p g.ranges
+IsTreePlace p nodes (turn ∷ turns) g gs = IsBelow p nodes turn (IsTreePlace p nodes turns) g gs
 
 -- some regions are left to be answered after the place
 pub record StandsAt (p : Parts) (nodes : List TreeNode) (turns : List Turn) (g : Region) : Type 0 where
   pub rest : List Region
-  pub is_place : IsPlace p nodes turns g rest
+  pub is_place : IsTreePlace p nodes turns g rest
 
 -- the regions that are left to be answered: the place has the first of them, and where there are none the tree has ended
 abbrev pub AreLeft : Parts → List TreeNode → List Turn → Region → List Region → Type 0
 AreLeft p nodes turns g [] = turns ≡ []
-AreLeft p nodes turns g (next ∷ gs) = (g ≡ next) × IsPlace p nodes turns g gs
+AreLeft p nodes turns g (next ∷ gs) = (g ≡ next) × IsTreePlace p nodes turns g gs
 
 -- up from a child: there, at the next record, or not there yet, at the split
 abbrev pub IsAfter : Bool → Parts → List TreeNode → List Turn → Region → List Region → Type 0
 IsAfter true p nodes turns g gs = AreLeft p nodes turns g gs
-IsAfter false p nodes turns g gs = IsPlace p nodes turns g gs
+IsAfter false p nodes turns g gs = IsTreePlace p nodes turns g gs

@@ -13,7 +13,7 @@ ghost use Rattle.verifier_paths.specs.Kept.{forbidden_by};
 ghost use Rattle.verifier_paths.specs.OnlyPaths.{HavePaths};
 ghost use Rattle.cert_verifier.specs.Bounds.{HasRests};
 ghost use Rattle.cert_verifier.specs.Totals.{IsPriceTotal, room_price};
-ghost use Rattle.cert_verifier.specs.Walks.{region_by};
+ghost use Rattle.cert_verifier.specs.Walks.{region_of_marks};
 
 use crate::leaves::Place;
 use link_steps::Ranges;
@@ -135,7 +135,7 @@ pub(crate) fn bound_at(
     requires cuts { HasRests at.now.inst.now at.now.cuts.now at.now.rests.now }
     requires count { length numbers.now ≡ places at.now.inst.now + length at.now.cuts.now }
     requires lawful { AreLawfulNumbers at.now.inst.now at.now.cuts.now numbers.now }
-    ensures bound { IfOk result (λ bound. IfSome bound (IsBoundAt at.now.inst.now at.now.cuts.now (region_by at.now.forbidden.now at.now.ranges.now) numbers.now)) }
+    ensures bound { IfOk result (λ bound. IfSome bound (IsBoundAt at.now.inst.now at.now.cuts.now (region_of_marks at.now.forbidden.now at.now.ranges.now) numbers.now)) }
     ensures none { IfOk result (λ bound. IfNone bound (HavePaths at.now.inst.now (forbidden_by at.now.forbidden.now) → ⊥)) }
 {
     at.inst.lawful();

@@ -7,7 +7,7 @@ ghost use Rattle.plan_base.specs.Facts.{IsInstance};
 ghost use Rattle.proof_tree.specs.declared.limits.TheConstants.{MAX_CUTS};
 ghost use Rattle.proof_tree.specs.Plans.{is_open, needs_cost, stated_cost, HasSizes};
 ghost use Rattle.cert_verifier.specs.Kinds.{asks_closed, asks_without_cost, is_wrong_kind};
-ghost use Rattle.cert_verifier.specs.PlanRules.{DesignFinds, IsNewCut, CutsFind, HasItsOpen, KeepsBudget, examined_in};
+ghost use Rattle.cert_verifier.specs.PlanRules.{DesignFinds, IsNewCut, CutsFind, HasItsOpen, KeepsBudget, examined_count};
 
 use crate::rejected::Rejected;
 use plan_base::{Design, Instance, check_design};
@@ -142,9 +142,9 @@ pub(crate) fn has_its_open(plan: &Plan) -> bool
 }
 
 /// How many records are splits or closed leaves.
-pub(crate) fn examined_in(nodes: &[TreeNode]) -> u32
+pub(crate) fn examined_count(nodes: &[TreeNode]) -> u32
     requires few { length nodes.now < 2 ^ 32 }
-    ensures { result ≡ examined_in nodes.now }
+    ensures { result ≡ examined_count nodes.now }
 {
     let mut count = 0;
     for node in nodes {

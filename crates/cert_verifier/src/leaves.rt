@@ -20,10 +20,10 @@ ghost use Rattle.verifier_paths.specs.OnlyPaths.{path_in};
 ghost use Rattle.cert_verifier.specs.declared.rejected.Rejected.TheVariants.{Leaf};
 ghost use Rattle.cert_verifier.specs.Told.{Tells};
 ghost use Rattle.cert_verifier.specs.Leaving.{leads_out, IsNoWayOut};
-ghost use Rattle.cert_verifier.specs.Routings.{design_of, needed, IsCostOfLoads, HasOverfull, AreIn, AreLoadsInRange};
+ghost use Rattle.cert_verifier.specs.Routings.{bare_design, needed, IsCostOfLoads, HasOverfull, AreIn, AreLoadsInRange};
 ghost use Rattle.cert_verifier.specs.Bounds.{HasRests, IsOpenLawful};
 ghost use Rattle.cert_verifier.specs.LeafRules.{HasLimit, AreFreeOnUseful, LeafFinds};
-ghost use Rattle.cert_verifier.specs.Walks.{region_by};
+ghost use Rattle.cert_verifier.specs.Walks.{region_of_marks};
 
 use crate::bounds::{are_lawful, bound_at, is_crowded, is_cut_short, is_enough, price_total};
 use crate::rejected::Rejected;
@@ -87,7 +87,7 @@ fn check_bound(alloc: Global, at: &Place, numbers: &Prices) -> Result<(), Reject
     requires cuts { HasRests at.now.inst.now at.now.cuts.now at.now.rests.now }
     requires unit { IsUnit at.now.inst.now at.now.unit }
     requires count { length numbers.now ≡ places at.now.inst.now + length at.now.cuts.now }
-    ensures { Tells (LeafFinds at.now.inst.now at.now.cuts.now at.now.cost (region_by at.now.forbidden.now at.now.ranges.now) at.now.index (kind.Bound numbers.now)) (result_err result) }
+    ensures { Tells (LeafFinds at.now.inst.now at.now.cuts.now at.now.cost (region_of_marks at.now.forbidden.now at.now.ranges.now) at.now.index (kind.Bound numbers.now)) (result_err result) }
 {
     if !are_lawful(at, numbers) {
         return broken(at.index, 1);
@@ -138,7 +138,7 @@ fn cost_of_paths(inst: &Instance, table: &StepTable, loads: &[u128; MAX_PLACES])
 fn loads_of_paths(alloc: Global, inst: &Instance, paths: Items<Path>) -> [u128; MAX_PLACES]
     requires count { length paths ≡ length inst.now.demands }
     requires simple { (k : ℕ) → k < length inst.now.demands → IsSimplePath inst.now (demand_at inst.now k) (path_in paths k) }
-    ensures value { (q : ℕ) → q < MAX_PLACES → slice_index result q ≡ load_at inst.now (design_of paths) q }
+    ensures value { (q : ℕ) → q < MAX_PLACES → slice_index result q ≡ load_at inst.now (bare_design paths) q }
     ensures within { (q : ℕ) → q < MAX_PLACES → slice_index result q ≤ total_load inst.now }
 {
     let design = Design {
@@ -161,7 +161,7 @@ fn costs_enough(total: u128, cost: Option<u128>) -> bool
 /// Whether no path has more arcs than its demand's limit.
 fn are_within(inst: &Instance, paths: &Items<Path>) -> bool
     requires { length paths.now ≡ length inst.now.demands }
-    ensures { IsTrue result ↔ KeepsLimits inst.now (design_of paths.now) }
+    ensures { IsTrue result ↔ KeepsLimits inst.now (bare_design paths.now) }
 {
     for place in 0..inst.demands() {
         let path = &paths.as_slice()[place as usize];
@@ -188,7 +188,7 @@ fn routing_or(enough: bool, within: bool, index: u32) -> Result<(), Rejected>
 /// The rules of a leaf that is closed by its routing.
 fn check_routed(alloc: Global, at: &Place) -> Result<(), Rejected>
     requires table { at.now.table.now ≡ at.now.inst.now }
-    ensures { Tells (LeafFinds at.now.inst.now at.now.cuts.now at.now.cost (region_by at.now.forbidden.now at.now.ranges.now) at.now.index kind.Routed) (result_err result) }
+    ensures { Tells (LeafFinds at.now.inst.now at.now.cuts.now at.now.cost (region_of_marks at.now.forbidden.now at.now.ranges.now) at.now.index kind.Routed) (result_err result) }
 {
     at.inst.lawful();
     match only_paths(alloc, at.inst, at.forbidden)? {
@@ -249,7 +249,7 @@ fn are_in_range(at: &Place, link: LinkId, loads: &[u128; MAX_PLACES]) -> bool
 fn check_overfull(alloc: Global, at: &Place, link: LinkId) -> Result<(), Rejected>
     requires table { at.now.table.now ≡ at.now.inst.now }
     requires ranges { AreRanges at.now.inst.now at.now.ranges.now }
-    ensures { Tells (LeafFinds at.now.inst.now at.now.cuts.now at.now.cost (region_by at.now.forbidden.now at.now.ranges.now) at.now.index (kind.Overfull link)) (result_err result) }
+    ensures { Tells (LeafFinds at.now.inst.now at.now.cuts.now at.now.cost (region_of_marks at.now.forbidden.now at.now.ranges.now) at.now.index (kind.Overfull link)) (result_err result) }
 {
     if link.0 >= at.inst.links() {
         return broken(at.index, 1);
@@ -299,7 +299,7 @@ fn is_closed(at: &Place, demand: DemandId, reached: &[bool]) -> bool
 /// The rules of a leaf that is closed by a cut.
 #[tactic(auto, using(crate::proofs::LeafFindings::cut_findings))]
 fn check_cut(at: &Place, demand: DemandId, reached: &[bool]) -> Result<(), Rejected>
-    ensures { LeafFinds at.now.inst.now at.now.cuts.now at.now.cost (region_by at.now.forbidden.now at.now.ranges.now) at.now.index (kind.Cut demand reached.now) (result_err result) }
+    ensures { LeafFinds at.now.inst.now at.now.cuts.now at.now.cost (region_of_marks at.now.forbidden.now at.now.ranges.now) at.now.index (kind.Cut demand reached.now) (result_err result) }
 {
     if demand.0 >= at.inst.demands() {
         return broken(at.index, 1);
@@ -340,7 +340,7 @@ fn is_past(fewest: Option<u128>, limit: u64) -> bool
 
 /// The rules of a leaf where no path of a demand keeps its limit.
 fn check_far(alloc: Global, at: &Place, demand: DemandId) -> Result<(), Rejected>
-    ensures { Tells (LeafFinds at.now.inst.now at.now.cuts.now at.now.cost (region_by at.now.forbidden.now at.now.ranges.now) at.now.index (kind.Far demand)) (result_err result) }
+    ensures { Tells (LeafFinds at.now.inst.now at.now.cuts.now at.now.cost (region_of_marks at.now.forbidden.now at.now.ranges.now) at.now.index (kind.Far demand)) (result_err result) }
 {
     let Some(limit) = limit_of(at.inst, demand) else {
         return broken(at.index, 1);
@@ -376,7 +376,7 @@ fn are_free_on_useful(inst: &Instance, ranges: &Ranges, prices: &[u128]) -> bool
 fn check_crowd(alloc: Global, at: &Place, prices: &Prices) -> Result<(), Rejected>
     requires ranges { length at.now.ranges.now ≡ places at.now.inst.now }
     requires count { places at.now.inst.now ≤ length prices.now }
-    ensures { Tells (LeafFinds at.now.inst.now at.now.cuts.now at.now.cost (region_by at.now.forbidden.now at.now.ranges.now) at.now.index (kind.Crowd prices.now)) (result_err result) }
+    ensures { Tells (LeafFinds at.now.inst.now at.now.cuts.now at.now.cost (region_of_marks at.now.forbidden.now at.now.ranges.now) at.now.index (kind.Crowd prices.now)) (result_err result) }
 {
     let numerators = prices.as_slice();
     if !are_within_limit(at.inst, numerators) {
@@ -400,7 +400,7 @@ fn check_crowd(alloc: Global, at: &Place, prices: &Prices) -> Result<(), Rejecte
 fn check_open(at: &Place, numbers: &Prices) -> Result<(), Rejected>
     requires few { length at.now.cuts.now ≤ MAX_CUTS }
     requires count { length numbers.now ≡ places at.now.inst.now + length at.now.cuts.now }
-    ensures { LeafFinds at.now.inst.now at.now.cuts.now at.now.cost (region_by at.now.forbidden.now at.now.ranges.now) at.now.index (kind.Open numbers.now) (result_err result) }
+    ensures { LeafFinds at.now.inst.now at.now.cuts.now at.now.cost (region_of_marks at.now.forbidden.now at.now.ranges.now) at.now.index (kind.Open numbers.now) (result_err result) }
 {
     if !are_lawful(at, numbers) {
         return broken(at.index, 1);
@@ -415,7 +415,7 @@ pub(crate) fn check_leaf(alloc: Global, at: &Place, evidence: &Evidence) -> Resu
     requires cuts { HasRests at.now.inst.now at.now.cuts.now at.now.rests.now }
     requires unit { IsUnit at.now.inst.now at.now.unit }
     requires fits { FitsEvidence at.now.inst.now.nodes (places at.now.inst.now + length at.now.cuts.now) evidence.now }
-    ensures { Tells (LeafFinds at.now.inst.now at.now.cuts.now at.now.cost (region_by at.now.forbidden.now at.now.ranges.now) at.now.index evidence.now) (result_err result) }
+    ensures { Tells (LeafFinds at.now.inst.now at.now.cuts.now at.now.cost (region_of_marks at.now.forbidden.now at.now.ranges.now) at.now.index evidence.now) (result_err result) }
 {
     match evidence {
         Evidence::Bound(numbers) => check_bound(alloc, at, numbers),
@@ -439,8 +439,8 @@ pub(crate) fn open_bound(
     requires cuts { HasRests at.now.inst.now at.now.cuts.now at.now.rests.now }
     requires fits { FitsEvidence at.now.inst.now.nodes (places at.now.inst.now + length at.now.cuts.now) evidence.now }
     requires lawful { IsOpenLawful at.now.inst.now at.now.cuts.now evidence.now }
-    ensures bound { IfOk result (λ bound. IfSome bound (IsOpenBound at.now.inst.now at.now.cuts.now (region_by at.now.forbidden.now at.now.ranges.now) evidence.now)) }
-    ensures none { IfOk result (λ bound. IfNone bound ((bound : ℤ) → IsOpenBound at.now.inst.now at.now.cuts.now (region_by at.now.forbidden.now at.now.ranges.now) evidence.now bound → ⊥)) }
+    ensures bound { IfOk result (λ bound. IfSome bound (IsOpenBound at.now.inst.now at.now.cuts.now (region_of_marks at.now.forbidden.now at.now.ranges.now) evidence.now)) }
+    ensures none { IfOk result (λ bound. IfNone bound ((bound : ℤ) → IsOpenBound at.now.inst.now at.now.cuts.now (region_of_marks at.now.forbidden.now at.now.ranges.now) evidence.now bound → ⊥)) }
 {
     match evidence {
         Evidence::Open(numbers) => bound_at(alloc, at, numbers),

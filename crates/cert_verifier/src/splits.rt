@@ -5,7 +5,7 @@ ghost use Rattle.plan_base.specs.Arcs.{is_arc};
 ghost use Rattle.plan_base.specs.Places.{places};
 ghost use Rattle.arc_restrict.specs.Restrictions.{is_among};
 ghost use Rattle.verifier_paths.specs.Kept.{forbidden_by};
-ghost use Rattle.cert_verifier.specs.SplitRules.{Exist, Leave, AreApart, AreFree, SplitFinds, HasBothSides, LoadsFind};
+ghost use Rattle.cert_verifier.specs.SplitRules.{Exist, Leave, AreApart, AreAllowed, SplitFinds, HasBothSides, LoadsFind};
 ghost use Rattle.std.specs.Result.{result_err};
 
 use crate::rejected::Rejected;
@@ -59,7 +59,7 @@ fn are_apart(left: &[ArcId], right: &[ArcId]) -> bool
 
 /// Whether no arc is forbidden to the demand.
 fn are_free(forbidden: &Forbidden, demand: DemandId, arcs: &[ArcId]) -> bool
-    ensures { IsTrue result ↔ AreFree (forbidden_by forbidden.now) demand arcs.now }
+    ensures { IsTrue result ↔ AreAllowed (forbidden_by forbidden.now) demand arcs.now }
 {
     arcs.iter().all(|arc| !forbidden.forbids(demand, *arc))
 }

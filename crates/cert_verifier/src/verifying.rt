@@ -14,7 +14,8 @@ ghost use Rattle.cert_verifier.specs.Told.{Tells};
 ghost use Rattle.cert_verifier.specs.PlanRules.{BoundFinds, CountsFind, PlanFinds, IsRejection};
 
 use crate::claims::{
-    check_cuts, check_plan_design, examined_in, has_its_open, has_sizes, keeps_budget, stated_cost,
+    check_cuts, check_plan_design, examined_count, has_its_open, has_sizes, keeps_budget,
+    stated_cost,
 };
 use crate::rejected::Rejected;
 use crate::walk::{Against, lower, walk_tree};
@@ -72,7 +73,7 @@ fn check_counts(plan: &Plan) -> Result<(), Rejected>
             index: nodes.len() as u32,
         });
     }
-    let found = examined_in(nodes);
+    let found = examined_count(nodes);
     if plan.examined != found {
         return Err(Rejected::Counts {
             stated: plan.examined,

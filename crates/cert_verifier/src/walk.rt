@@ -19,7 +19,7 @@ ghost use Rattle.cert_verifier.specs.Told.{Tells};
 ghost use Rattle.cert_verifier.specs.Bounds.{HasRests, IsLowerOf, IsLeastBoundIn};
 ghost use Rattle.cert_verifier.specs.RecordRules.{RecordFinds, TreeFinds};
 ghost use Rattle.cert_verifier.specs.SplitRules.{SplitFinds, LoadsFind};
-ghost use Rattle.cert_verifier.specs.Walks.{region_by, Splits, IsWithin, IsPlace, StandsAt, AreLeft, IsAfter};
+ghost use Rattle.cert_verifier.specs.Walks.{region_of_marks, Splits, IsSplitWithin, IsTreePlace, StandsAt, AreLeft, IsAfter};
 
 use crate::claims::{is_wrong_kind, stated_cost};
 use crate::leaves::{Place, check_leaf, open_bound};
@@ -90,7 +90,7 @@ fn swap_sides(forbidden: &mut Forbidden, demand: DemandId, left: &[ArcId], right
 impl Walk {
     /// At the root, where nothing is forbidden and each place may carry any load.
     pub(crate) fn new(alloc: Global, inst: &Instance) -> Result<Walk, AllocError>
-        ensures whole { IfOk result (λ walk. region_by walk.forbidden walk.ranges ≡ whole inst.now) }
+        ensures whole { IfOk result (λ walk. region_of_marks walk.forbidden walk.ranges ≡ whole inst.now) }
         ensures rows { IfOk result (λ walk. HasRows inst.now walk.forbidden) }
         ensures turns { IfOk result (λ walk. walk.turns.items ≡ []) }
         ensures least { IfOk result (λ walk. walk.least ≡ None) }
@@ -107,10 +107,10 @@ impl Walk {
     ///
     /// - Takes: the range that the place had whose loads it splits.
     fn turn_right(&mut self, split: &TreeNode, range: LoadRange)
-        requires { IsWithin self.old.forbidden.demands self.old.forbidden.arcs (length self.old.ranges) range split.now }
+        requires { IsSplitWithin self.old.forbidden.demands self.old.forbidden.arcs (length self.old.ranges) range split.now }
         ensures over { (p : AnyParts) (parent right : Region) → Splits p parent split.now range
-            → children_at parent split.now ≡ region_by self.old.forbidden self.old.ranges ∷ right ∷ []
-            → region_by self.new.forbidden self.new.ranges ≡ right }
+            → children_at parent split.now ≡ region_of_marks self.old.forbidden self.old.ranges ∷ right ∷ []
+            → region_of_marks self.new.forbidden self.new.ranges ≡ right }
         ensures demands { self.new.forbidden.demands ≡ self.old.forbidden.demands }
         ensures arcs { self.new.forbidden.arcs ≡ self.old.forbidden.arcs }
         ensures turns { self.new.turns.items ≡ self.old.turns.items }
@@ -143,10 +143,10 @@ impl Walk {
     ///
     /// - Takes: the range that the place had whose loads it splits.
     fn go_up(&mut self, split: &TreeNode, range: LoadRange)
-        requires { IsWithin self.old.forbidden.demands self.old.forbidden.arcs (length self.old.ranges) range split.now }
+        requires { IsSplitWithin self.old.forbidden.demands self.old.forbidden.arcs (length self.old.ranges) range split.now }
         ensures up { (p : AnyParts) (parent left : Region) → Splits p parent split.now range
-            → children_at parent split.now ≡ left ∷ region_by self.old.forbidden self.old.ranges ∷ []
-            → region_by self.new.forbidden self.new.ranges ≡ parent }
+            → children_at parent split.now ≡ left ∷ region_of_marks self.old.forbidden self.old.ranges ∷ []
+            → region_of_marks self.new.forbidden self.new.ranges ≡ parent }
         ensures demands { self.new.forbidden.demands ≡ self.old.forbidden.demands }
         ensures arcs { self.new.forbidden.arcs ≡ self.old.forbidden.arcs }
         ensures turns { self.new.turns.items ≡ self.old.turns.items }
@@ -165,10 +165,10 @@ impl Walk {
     /// Gives whether the walk stands at the next record.
     fn leave(&mut self, against: &Against, turn: Turn) -> Result<bool, AllocError>
         requires rows { HasRows against.now.inst.now self.old.forbidden }
-        requires stands { StandsAt against.now.inst.now against.now.plan.now.tree (turn ∷ reverse self.old.turns.items) (region_by self.old.forbidden self.old.ranges) }
+        requires stands { StandsAt against.now.inst.now against.now.plan.now.tree (turn ∷ reverse self.old.turns.items) (region_of_marks self.old.forbidden self.old.ranges) }
         ensures after { IfOk result (λ there. (gs : List Region)
-            → IsPlace against.now.inst.now against.now.plan.now.tree (turn ∷ reverse self.old.turns.items) (region_by self.old.forbidden self.old.ranges) gs
-            → IsAfter there against.now.inst.now against.now.plan.now.tree (reverse self.new.turns.items) (region_by self.new.forbidden self.new.ranges) gs) }
+            → IsTreePlace against.now.inst.now against.now.plan.now.tree (turn ∷ reverse self.old.turns.items) (region_of_marks self.old.forbidden self.old.ranges) gs
+            → IsAfter there against.now.inst.now against.now.plan.now.tree (reverse self.new.turns.items) (region_of_marks self.new.forbidden self.new.ranges) gs) }
         ensures turns { IfOk result (λ there. there ≡ false → self.new.turns.items ≡ self.old.turns.items) }
         ensures rows { HasRows against.now.inst.now self.new.forbidden }
         ensures least { self.new.least ≡ self.old.least }
@@ -190,10 +190,10 @@ impl Walk {
     /// Goes from a leaf to the next record: up to the first split whose left child it is in, and into the right one.
     fn go_on(&mut self, against: &Against) -> Result<(), AllocError>
         requires rows { HasRows against.now.inst.now self.old.forbidden }
-        requires stands { StandsAt against.now.inst.now against.now.plan.now.tree (reverse self.old.turns.items) (region_by self.old.forbidden self.old.ranges) }
+        requires stands { StandsAt against.now.inst.now against.now.plan.now.tree (reverse self.old.turns.items) (region_of_marks self.old.forbidden self.old.ranges) }
         ensures left { OnOk result ((gs : List Region)
-            → IsPlace against.now.inst.now against.now.plan.now.tree (reverse self.old.turns.items) (region_by self.old.forbidden self.old.ranges) gs
-            → AreLeft against.now.inst.now against.now.plan.now.tree (reverse self.new.turns.items) (region_by self.new.forbidden self.new.ranges) gs) }
+            → IsTreePlace against.now.inst.now against.now.plan.now.tree (reverse self.old.turns.items) (region_of_marks self.old.forbidden self.old.ranges) gs
+            → AreLeft against.now.inst.now against.now.plan.now.tree (reverse self.new.turns.items) (region_of_marks self.new.forbidden self.new.ranges) gs) }
         ensures rows { HasRows against.now.inst.now self.new.forbidden }
         ensures least { self.new.least ≡ self.old.least }
     {
@@ -262,12 +262,12 @@ impl Walk {
         requires ranges { AreRanges against.now.inst.now self.old.ranges }
         requires node { node.now ≡ Leaf evidence.now }
         requires fits { FitsRecord against.now.inst.now.nodes (places against.now.inst.now + length against.now.plan.now.cuts) node.now }
-        ensures found { Tells (RecordFinds against.now.inst.now against.now.plan.now (region_by self.old.forbidden self.old.ranges) index node.now) (result_err result) }
+        ensures found { Tells (RecordFinds against.now.inst.now against.now.plan.now (region_of_marks self.old.forbidden self.old.ranges) index node.now) (result_err result) }
         ensures forbidden { self.new.forbidden ≡ self.old.forbidden }
         ensures ranges { self.new.ranges ≡ self.old.ranges }
         ensures turns { self.new.turns ≡ self.old.turns }
         ensures least { OnOk result ((leaves : List LeafAt) → IsLeastBoundIn against.now.inst.now against.now.plan.now.cuts leaves self.old.least
-            → IsLeastBoundIn against.now.inst.now against.now.plan.now.cuts (leaves ++ leaf_here (region_by self.old.forbidden self.old.ranges) node.now) self.new.least) }
+            → IsLeastBoundIn against.now.inst.now against.now.plan.now.cuts (leaves ++ leaf_here (region_of_marks self.old.forbidden self.old.ranges) node.now) self.new.least) }
     {
         if is_wrong_kind(against.plan, node) {
             return Err(Rejected::Kind { index });
@@ -332,16 +332,16 @@ impl Walk {
         requires index { index < length against.now.plan.now.tree }
         requires fits { All (FitsRecord against.now.inst.now.nodes (places against.now.inst.now + length against.now.plan.now.cuts)) against.now.plan.now.tree }
         requires rows { HasRows against.now.inst.now self.old.forbidden }
-        requires stands { StandsAt against.now.inst.now against.now.plan.now.tree (reverse self.old.turns.items) (region_by self.old.forbidden self.old.ranges) }
+        requires stands { StandsAt against.now.inst.now against.now.plan.now.tree (reverse self.old.turns.items) (region_of_marks self.old.forbidden self.old.ranges) }
         ensures found { (node : AnyRecord) → slice_get against.now.plan.now.tree index ≡ Some node
-            → Tells (RecordFinds against.now.inst.now against.now.plan.now (region_by self.old.forbidden self.old.ranges) index node) (result_err result) }
+            → Tells (RecordFinds against.now.inst.now against.now.plan.now (region_of_marks self.old.forbidden self.old.ranges) index node) (result_err result) }
         ensures left { OnOk result ((node : AnyRecord) (gs : List Region) → slice_get against.now.plan.now.tree index ≡ Some node
-            → IsPlace against.now.inst.now against.now.plan.now.tree (reverse self.old.turns.items) (region_by self.old.forbidden self.old.ranges) gs
-            → AreLeft against.now.inst.now against.now.plan.now.tree (reverse self.new.turns.items) (region_by self.new.forbidden self.new.ranges) (children_at (region_by self.old.forbidden self.old.ranges) node ++ gs)) }
+            → IsTreePlace against.now.inst.now against.now.plan.now.tree (reverse self.old.turns.items) (region_of_marks self.old.forbidden self.old.ranges) gs
+            → AreLeft against.now.inst.now against.now.plan.now.tree (reverse self.new.turns.items) (region_of_marks self.new.forbidden self.new.ranges) (children_at (region_of_marks self.old.forbidden self.old.ranges) node ++ gs)) }
         ensures rows { HasRows against.now.inst.now self.new.forbidden }
         ensures least { OnOk result ((node : AnyRecord) (leaves : List LeafAt) → slice_get against.now.plan.now.tree index ≡ Some node
             → IsLeastBoundIn against.now.inst.now against.now.plan.now.cuts leaves self.old.least
-            → IsLeastBoundIn against.now.inst.now against.now.plan.now.cuts (leaves ++ leaf_here (region_by self.old.forbidden self.old.ranges) node) self.new.least) }
+            → IsLeastBoundIn against.now.inst.now against.now.plan.now.cuts (leaves ++ leaf_here (region_of_marks self.old.forbidden self.old.ranges) node) self.new.least) }
     {
         let node = &against.plan.tree.nodes()[index as usize];
         match node {

@@ -50,13 +50,13 @@ plan_of network model workers budget =
     option_and_then (λ seats. option_map (λ number. OfNetwork (Plan seats number) network model) (budget_of budget)) (workers_of workers)
 
 -- the sample of this number with so many nodes and demands
-abbrev pub key_of : ℕ → ℕ → ℕ → SampleKey
-key_of number nodes demands = record { number = number; nodes = nodes; demands = demands }
+abbrev pub key_of_sample : ℕ → ℕ → ℕ → SampleKey
+key_of_sample number nodes demands = record { number = number; nodes = nodes; demands = demands }
 
 -- the sample that three words name: its number, how many nodes, and how many demands
 abbrev pub sample_key : Word → Word → Word → Option SampleKey
 sample_key number nodes demands =
-    option_and_then (λ first. option_and_then (λ second. option_map (key_of first second)
+    option_and_then (λ first. option_and_then (λ second. option_map (key_of_sample first second)
     (number_within 0 MAX_DEMANDS demands)) (number_within MIN_NODES MAX_NODES nodes)) (number_within 0 MAX_NUMBER number)
 
 -- ---- what its words give

@@ -6,7 +6,7 @@ use Rattle.dual_versions.specs.declared.table.Table.{Table}
 use Rattle.dual_versions.specs.declared.rule.View.{View}
 use Rattle.dual_versions.specs.Tables.{Entries, last_of, entry_at}
 use Rattle.dual_versions.specs.Boards.{Begins, Sees}
-use Rattle.dual_versions.specs.Rows.{shown_by}
+use Rattle.dual_versions.specs.Rows.{shown_entries}
 use Rattle.dual_versions.specs.Views.{Entered}
 use Rattle.dual_versions.proofs.Puts.{last_of_more}
 
@@ -26,16 +26,16 @@ some_tables before t = omega (arith, length-append before (t ∷ []))
 -- what a reader sees when it enters goes on from what it saw
 pub sees : (v w u : View) (x : Table) (seen : List Entries) → Entered v x x w → u ≡ w → seen ≡ v.seen → Sees seen u.seen
 sees v w u x seen e same is =
-    let whole : u.seen ≡ e.before ++ shown_by x.rows.items ∷ [] = ap (λ (y : View). y.seen) (same ∙ e.all) in (
-      subst (λ (l : List Entries). 0 < length l) (sym whole) (some_tables e.before (shown_by x.rows.items)),
+    let whole : u.seen ≡ e.before ++ shown_entries x.rows.items ∷ [] = ap (λ (y : View). y.seen) (same ∙ e.all) in (
+      subst (λ (l : List Entries). 0 < length l) (sym whole) (some_tables e.before (shown_entries x.rows.items)),
       (e.later.0, ap (λ (y : View). y.seen) same ∙ (e.later.1 ∙ ap (λ (l : List Entries). l ++ e.later.0) (sym is))),
     )
 
 -- what a reader reads of a slot is the entry of the newest table that it has seen
-pub reads : (v w u : View) (x t : Table) (slot : ℕ) → Entered v x x w → u ≡ w → t ≡ x → entry_at slot u.seen ≡ slice_index_or (shown_by t.rows.items) slot None
+pub reads : (v w u : View) (x t : Table) (slot : ℕ) → Entered v x x w → u ≡ w → t ≡ x → entry_at slot u.seen ≡ slice_index_or (shown_entries t.rows.items) slot None
 reads v w u x t slot e same is =
     ap (λ (l : List Entries). slice_index_or (last_of l) slot None) (ap (λ (y : View). y.seen) (same ∙ e.all))
-    ∙ (ap (λ (l : Entries). slice_index_or l slot None) (last_of_more e.before (shown_by x.rows.items)) ∙ ap (λ (y : Table). slice_index_or (shown_by y.rows.items) slot None) (sym is))
+    ∙ (ap (λ (l : Entries). slice_index_or l slot None) (last_of_more e.before (shown_entries x.rows.items)) ∙ ap (λ (y : Table). slice_index_or (shown_entries y.rows.items) slot None) (sym is))
 
 -- a beginning of a beginning is a beginning
 pub begins_trans : (a b c : List Entries) → Begins a b → Begins b c → Begins a c

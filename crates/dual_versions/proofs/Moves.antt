@@ -8,8 +8,8 @@ use Rattle.atomic_table.proofs.Lists.{at_set, at_snoc}
 use Rattle.dual_versions.specs.declared.table.Table.{Table}
 use Rattle.dual_versions.specs.declared.rule.View.{View}
 use Rattle.dual_versions.specs.Tables.{Entries}
-use Rattle.dual_versions.specs.Boards.{Begins, counted}
-use Rattle.dual_versions.specs.Rows.{shown_by}
+use Rattle.dual_versions.specs.Boards.{Begins, saturated}
+use Rattle.dual_versions.specs.Rows.{shown_entries}
 use Rattle.dual_versions.specs.Views.{Fits, IsKept, newcomer, tables_if, tables_of, Shown, Entered}
 
 off : false ≡ true → ⊥
@@ -33,8 +33,8 @@ fits_set log number writer views by w others mine j u e =
 pub begins : (x : Table) → x.number ≡ 0 → IsKept x (newcomer ∷ [])
 begins x none = record { before = []; writer = 0; number = none; seats = one }
   where
-    one : (seat : ℕ) (v : View) → get_elem? (newcomer ∷ []) seat ≡ some v → Fits (shown_by x.rows.items ∷ []) x.number 0 seat v
-    one zero v e = subst (Fits (shown_by x.rows.items ∷ []) x.number 0 0) (some-injective _ _ e) (fits_newcomer (shown_by x.rows.items ∷ []) x.number 0 0)
+    one : (seat : ℕ) (v : View) → get_elem? (newcomer ∷ []) seat ≡ some v → Fits (shown_entries x.rows.items ∷ []) x.number 0 seat v
+    one zero v e = subst (Fits (shown_entries x.rows.items ∷ []) x.number 0 0) (some-injective _ _ e) (fits_newcomer (shown_entries x.rows.items ∷ []) x.number 0 0)
     one (suc seat) v e = absurd (some-ne-none v (sym e))
 
 -- a newcomer may join, and the rule is kept
@@ -45,14 +45,14 @@ admits x views h = record {
   number = h.number;
   seats = λ j u e. ⊎_elim
       (λ was. h.seats j u was)
-      (λ (same : newcomer ≡ u). subst (Fits (h.before ++ shown_by x.rows.items ∷ []) x.number h.writer j) same (fits_newcomer (h.before ++ shown_by x.rows.items ∷ []) x.number h.writer j))
+      (λ (same : newcomer ≡ u). subst (Fits (h.before ++ shown_entries x.rows.items ∷ []) x.number h.writer j) same (fits_newcomer (h.before ++ shown_entries x.rows.items ∷ []) x.number h.writer j))
       (at_snoc views newcomer u j e);
 }
 
 -- a reader that enters sees the newest table
 pub enters : (seat : ℕ) (v : View) → v.writes ≡ false → Turns IsKept seat v (λ x. x) Entered
 enters seat v idle x views h at =
-    let log = h.before ++ shown_by x.rows.items ∷ [] in
+    let log = h.before ++ shown_entries x.rows.items ∷ [] in
     let mine = h.seats seat v at in
     let w : View = record { seen = log; writes = false } in (
       w,
@@ -70,10 +70,10 @@ alone : (before : List Entries) (now : Entries) → length before ≡ 0 → now 
 alone [] now none = refl
 alone (t ∷ before) now none = absurd (omega arith)
 
-known : (v : View) (x : Table) (before : List Entries) (writer seat : ℕ) → (v.writes ≡ false → x.number ≡ 0) → x.number ≡ counted (length before) → Fits (before ++ shown_by x.rows.items ∷ []) x.number writer seat v → (b : Bool) → v.writes ≡ b
-    → tables_if b v.seen (shown_by x.rows.items) ≡ before ++ shown_by x.rows.items ∷ []
+known : (v : View) (x : Table) (before : List Entries) (writer seat : ℕ) → (v.writes ≡ false → x.number ≡ 0) → x.number ≡ saturated (length before) → Fits (before ++ shown_entries x.rows.items ∷ []) x.number writer seat v → (b : Bool) → v.writes ≡ b
+    → tables_if b v.seen (shown_entries x.rows.items) ≡ before ++ shown_entries x.rows.items ∷ []
 known v x before writer seat fresh number mine true is = (mine.whole is).2
-known v x before writer seat fresh number mine false is = let none = fresh is in alone before (shown_by x.rows.items) (omega arith)
+known v x before writer seat fresh number mine false is = let none = fresh is in alone before (shown_entries x.rows.items) (omega arith)
 
 -- no other is the writer
 other_is_not : (v : View) (x : Table) (writer seat j : ℕ) (log : List Entries) (u : View) → (v.writes ≡ false → x.number ≡ 0) → Fits log x.number writer seat v → Fits log x.number writer j u → j ≢ seat → u.writes ≡ true → (b : Bool) → v.writes ≡ b → ⊥
@@ -81,10 +81,10 @@ other_is_not v x writer seat j log u fresh mine theirs apart writes true is = ap
 other_is_not v x writer seat j log u fresh mine theirs apart writes false is = let none = fresh is in let some' = (theirs.whole writes).0 in absurd (omega arith)
 
 -- a writer that shows the next table adds it to the history
-pub shows : (seat : ℕ) (v : View) (x y : Table) → (v.writes ≡ false → x.number ≡ 0) → y.number ≡ counted (x.number + 1) → TurnsAt IsKept seat v x y Shown
+pub shows : (seat : ℕ) (v : View) (x y : Table) → (v.writes ≡ false → x.number ≡ 0) → y.number ≡ saturated (x.number + 1) → TurnsAt IsKept seat v x y Shown
 shows seat v x y fresh next views h at =
-    let log = h.before ++ shown_by x.rows.items ∷ [] in
-    let now = shown_by y.rows.items in
+    let log = h.before ++ shown_entries x.rows.items ∷ [] in
+    let now = shown_entries y.rows.items in
     let mine = h.seats seat v at in
     let same : tables_of v x ≡ log = known v x h.before h.writer seat fresh h.number mine v.writes refl in
     let w : View = record { seen = tables_of v x ++ now ∷ []; writes = true } in (
@@ -92,7 +92,7 @@ shows seat v x y fresh next views h at =
       record {
         before = log;
         writer = seat;
-        number = let n = h.number in omega (arith, length-append h.before (shown_by x.rows.items ∷ []));
+        number = let n = h.number in omega (arith, length-append h.before (shown_entries x.rows.items ∷ []));
         seats = fits_set (log ++ now ∷ []) y.number seat views seat w
             (λ j u apart e.
             let f = h.seats j u e in

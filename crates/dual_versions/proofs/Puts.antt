@@ -3,8 +3,8 @@ use Rattle.std.proofs.Common.{◌≡◌, ℕ, ◌+◌, ◌-◌, ◌<◌, List, [
 use Rattle.dual_versions.specs.declared.row.Row.{Row}
 use Rattle.dual_versions.specs.declared.table.Put.{Put}
 use Rattle.dual_versions.specs.Tables.{Entries, after, last_of}
-use Rattle.dual_versions.specs.Boards.{counted}
-use Rattle.dual_versions.specs.Rows.{shown_by, put_row, taken, pair_of, HaveRoom}
+use Rattle.dual_versions.specs.Boards.{saturated}
+use Rattle.dual_versions.specs.Rows.{shown_entries, put_row, taken, pair_of, HaveRoom}
 use Rattle.dual_versions.specs.Views.{IsPut, ArePuts}
 use Rattle.dual_versions.proofs.RowLists.{length-put_row, put_row_room, put_row_shown}
 
@@ -28,7 +28,7 @@ last_of_more (u ∷ v ∷ ts) t = last_of_more (v ∷ ts) t
 pub record IsAfter (prices number : ℕ) (rows : List Row) (ps : List Put) (s : ℕ × List Row) : Type 0 where
   pub size : length s.1 ≡ length rows
   pub room : HaveRoom prices s.1
-  pub shown : shown_by s.1 ≡ after (shown_by rows) (map pair_of ps)
+  pub shown : shown_entries s.1 ≡ after (shown_entries rows) (map pair_of ps)
 
 -- rows that take in all puts show the table that the puts make
 pub folded : (prices number n : ℕ) (rows : List Row) (ps : List Put) → HaveRoom prices rows → ArePuts (length rows) prices number ps → IsAfter prices number rows ps (fold taken (n, rows) ps)
@@ -44,7 +44,7 @@ folded prices number n rows (p ∷ ps) room are =
     }
 
 -- rows that take in puts have the next number
-pub folded_number : (slots prices number n : ℕ) (rows : List Row) (ps : List Put) → 0 < length ps → ArePuts slots prices number ps → (fold taken (n, rows) ps).0 ≡ counted (number + 1)
+pub folded_number : (slots prices number n : ℕ) (rows : List Row) (ps : List Put) → 0 < length ps → ArePuts slots prices number ps → (fold taken (n, rows) ps).0 ≡ saturated (number + 1)
 folded_number slots prices number n rows [] some' are = absurd (omega arith)
 folded_number slots prices number n rows (p ∷ []) some' are = are.0.2
 folded_number slots prices number n rows (p ∷ q ∷ ps) some' are = folded_number slots prices number p.number (put_row rows p.slot p.what) (q ∷ ps) (omega arith) are.1

@@ -4,7 +4,7 @@ use Rattle.std.specs.Prelude.{slice_index_or, replicate, ◌+◌, ◌++◌, ◌=
 use Rattle.std.proofs.lemmas.Bool.Decides.{nat_tests}
 use Rattle.dual_versions.specs.declared.published.Published.{Published}
 use Rattle.dual_versions.specs.declared.row.Row.{Row}
-use Rattle.dual_versions.specs.Rows.{entry_of, shown_by, filled, put_row, HaveRoom, blank}
+use Rattle.dual_versions.specs.Rows.{row_entry, shown_entries, filled, put_row, HaveRoom, blank}
 use Rattle.plan_base.specs.declared.ids.BranchId.{BranchId}
 use Rattle.std.proofs.lemmas.List.{replicate-append-replicate, length-replicate}
 
@@ -21,13 +21,13 @@ put_row_past (x ∷ rows) zero what out = absurd (omega arith)
 put_row_past (x ∷ rows) (suc k) what out = ap (λ ys. x ∷ ys) (put_row_past rows k what (omega arith))
 
 -- a row shows the entry of its slot
-pub entry_here : (rows : List Row) (k : ℕ) (r : Row) → k < length rows → r ≡ get_or rows k r → entry_of r ≡ slice_index_or (shown_by rows) k None
+pub entry_here : (rows : List Row) (k : ℕ) (r : Row) → k < length rows → r ≡ get_or rows k r → row_entry r ≡ slice_index_or (shown_entries rows) k None
 entry_here [] k r in' at = absurd (omega arith)
-entry_here (x ∷ rows) zero r in' at = ap entry_of at
+entry_here (x ∷ rows) zero r in' at = ap row_entry at
 entry_here (x ∷ rows) (suc k) r in' at = entry_here rows k r (omega arith) at
 
 -- no slot shows no entry
-pub entry_past : (rows : List Row) (k : ℕ) → length rows ≤ k → None ≡ slice_index_or (shown_by rows) k None
+pub entry_past : (rows : List Row) (k : ℕ) → length rows ≤ k → None ≡ slice_index_or (shown_entries rows) k None
 entry_past [] k out = refl
 entry_past (x ∷ rows) zero out = absurd (omega arith)
 entry_past (x ∷ rows) (suc k) out = entry_past rows k (omega arith)
@@ -48,10 +48,10 @@ put_row_room n (x ∷ rows) zero what room fits = (ap (λ (y : Row). length y.wh
 put_row_room n (x ∷ rows) (suc k) what room fits = (room.0, put_row_room n rows k what room.1 fits)
 
 -- a put shows the entry in its slot
-pub put_row_shown : (n : ℕ) (rows : List Row) (k : ℕ) (what : Published) → HaveRoom n rows → k < length rows → length what.prices ≡ n → shown_by (put_row rows k what) ≡ set (shown_by rows) k (Some what)
+pub put_row_shown : (n : ℕ) (rows : List Row) (k : ℕ) (what : Published) → HaveRoom n rows → k < length rows → length what.prices ≡ n → shown_entries (put_row rows k what) ≡ set (shown_entries rows) k (Some what)
 put_row_shown n [] k what room in' fits = absurd (omega arith)
-put_row_shown n (x ∷ rows) zero what room in' fits = ap (λ y. entry_of y ∷ shown_by rows) (filled_room n x what room.0 fits)
-put_row_shown n (x ∷ rows) (suc k) what room in' fits = ap (λ ys. entry_of x ∷ ys) (put_row_shown n rows k what room.1 (omega arith) fits)
+put_row_shown n (x ∷ rows) zero what room in' fits = ap (λ y. row_entry y ∷ shown_entries rows) (filled_room n x what room.0 fits)
+put_row_shown n (x ∷ rows) (suc k) what room in' fits = ap (λ ys. row_entry x ∷ ys) (put_row_shown n rows k what room.1 (omega arith) fits)
 
 -- one row more of the length of the prices
 pub room_more : (n : ℕ) (rows : List Row) (r : Row) → HaveRoom n rows → length r.what.prices ≡ n → HaveRoom n (rows ++ r ∷ [])
@@ -68,6 +68,6 @@ rooms zero n node = tt
 rooms (suc k) n node = (length-replicate n 0, rooms k n node)
 
 -- blank rows show no entries
-pub blanks_shown : (k n : ℕ) (node : BranchId) → shown_by (replicate k (blank node n)) ≡ replicate k None
+pub blanks_shown : (k n : ℕ) (node : BranchId) → shown_entries (replicate k (blank node n)) ≡ replicate k None
 blanks_shown zero n node = refl
 blanks_shown (suc k) n node = ap (λ ts. None ∷ ts) (blanks_shown k n node)

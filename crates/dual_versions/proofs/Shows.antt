@@ -4,8 +4,8 @@ use Rattle.dual_versions.specs.declared.table.Table.{Table}
 use Rattle.dual_versions.specs.declared.table.Put.{Put}
 use Rattle.dual_versions.specs.declared.rule.View.{View}
 use Rattle.dual_versions.specs.Tables.{Entries, after, last_of}
-use Rattle.dual_versions.specs.Boards.{Board, counted, with_pending_shown}
-use Rattle.dual_versions.specs.Rows.{shown_by, taken, pair_of, HaveRoom, blank}
+use Rattle.dual_versions.specs.Boards.{Board, saturated, with_pending_shown}
+use Rattle.dual_versions.specs.Rows.{shown_entries, taken, pair_of, HaveRoom, blank}
 use Rattle.dual_versions.specs.Views.{IsBoard, ArePuts, Shown, tables_of, newcomer}
 use Rattle.plan_base.specs.declared.ids.BranchId.{BranchId}
 use Rattle.dual_versions.proofs.RowLists.{rooms, blanks_shown}
@@ -19,15 +19,15 @@ module _ (prices : ℕ) (v w : View) (x y : Table) (ps qs : List Put) where
   is_after : IsBoard prices v x ps → (y.number, y.rows.items) ≡ fold taken (x.number, x.rows.items) ps → IsAfter prices x.number x.rows.items ps (y.number, y.rows.items)
   is_after b is = subst (IsAfter prices x.number x.rows.items ps) (sym is) (folded prices x.number x.number x.rows.items ps b.rows b.puts)
 
-  tables_are : Shown v x y w → tables_of w y ≡ tables_of v x ++ shown_by y.rows.items ∷ []
+  tables_are : Shown v x y w → tables_of w y ≡ tables_of v x ++ shown_entries y.rows.items ∷ []
   tables_are s = ap (λ (u : View). tables_of u y) s
 
   -- after a show the new table and no pending puts are a board
   pub still_board : IsBoard prices v x ps → 0 < length ps → (y.number, y.rows.items) ≡ fold taken (x.number, x.rows.items) ps → qs ≡ [] → Shown v x y w → IsBoard prices w y qs
   still_board b some' is none s =
-      let next : y.number ≡ counted (x.number + 1) = ap (λ (t : ℕ × List _). t.0) is ∙ folded_number (length x.rows.items) prices x.number x.number x.rows.items ps some' b.puts in
-      let one : length (tables_of v x) ≡ length b.last.0 + 1 = ap length b.last.1 ∙ length-append b.last.0 (shown_by x.rows.items ∷ []) in
-      let two : length (tables_of w y) ≡ length (tables_of v x) + 1 = ap length (tables_are s) ∙ length-append (tables_of v x) (shown_by y.rows.items ∷ []) in
+      let next : y.number ≡ saturated (x.number + 1) = ap (λ (t : ℕ × List _). t.0) is ∙ folded_number (length x.rows.items) prices x.number x.number x.rows.items ps some' b.puts in
+      let one : length (tables_of v x) ≡ length b.last.0 + 1 = ap length b.last.1 ∙ length-append b.last.0 (shown_entries x.rows.items ∷ []) in
+      let two : length (tables_of w y) ≡ length (tables_of v x) + 1 = ap length (tables_are s) ∙ length-append (tables_of v x) (shown_entries y.rows.items ∷ []) in
       let now = b.number in
       record {
         fresh = λ f. absurd (true≢false (sym (ap (λ (u : View). u.writes) s) ∙ f));
@@ -42,8 +42,8 @@ module _ (prices : ℕ) (v w : View) (x y : Table) (ps qs : List Put) where
       → board_of prices w y qs ≡ record { slots = length x.rows.items; prices = prices; tables = tables_of v x ++ after (last_of (tables_of v x)) (map pair_of ps) ∷ []; pending = [] }
   shows_all b is none s =
       let a = is_after b is in
-      let last : last_of (tables_of v x) ≡ shown_by x.rows.items = ap last_of b.last.1 ∙ last_of_more b.last.0 (shown_by x.rows.items) in
-      let table : shown_by y.rows.items ≡ after (last_of (tables_of v x)) (map pair_of ps) = a.shown ∙ ap (λ (t : Entries). after t (map pair_of ps)) (sym last) in
+      let last : last_of (tables_of v x) ≡ shown_entries x.rows.items = ap last_of b.last.1 ∙ last_of_more b.last.0 (shown_entries x.rows.items) in
+      let table : shown_entries y.rows.items ≡ after (last_of (tables_of v x)) (map pair_of ps) = a.shown ∙ ap (λ (t : Entries). after t (map pair_of ps)) (sym last) in
       let tables : tables_of w y ≡ tables_of v x ++ after (last_of (tables_of v x)) (map pair_of ps) ∷ [] = tables_are s ∙ ap (λ (t : Entries). tables_of v x ++ t ∷ []) table in
       let pending : map pair_of qs ≡ [] = ap (map pair_of) none in
       λ i. record { slots = a.size i; prices = prices; tables = tables i; pending = pending i }
@@ -53,7 +53,7 @@ pub shows_pending : (prices : ℕ) (v w : View) (x y : Table) (ps qs : List Put)
 shows_pending prices v w x y [] qs b some' is none s = absurd (omega arith)
 shows_pending prices v w x y (p ∷ ps) qs b some' is none s = shows_all prices v w x y (p ∷ ps) qs b is none s
 
-one_table : (v : View) (x : Table) → v ≡ newcomer → tables_of v x ≡ shown_by x.rows.items ∷ []
+one_table : (v : View) (x : Table) → v ≡ newcomer → tables_of v x ≡ shown_entries x.rows.items ∷ []
 one_table v x is = ap (λ (u : View). tables_of u x) is
 
 -- a new table of blank rows is a board
@@ -70,4 +70,4 @@ made prices slots node v x ps none rows is no_puts =
 
 -- a new board has one table, without entries
 pub made_tables : (prices slots : ℕ) (node : BranchId) (v : View) (x : Table) → x.rows.items ≡ replicate slots (blank node prices) → v ≡ newcomer → tables_of v x ≡ replicate slots None ∷ []
-made_tables prices slots node v x rows is = one_table v x is ∙ ap (λ (t : Entries). t ∷ []) (ap shown_by rows ∙ blanks_shown slots prices node)
+made_tables prices slots node v x rows is = one_table v x is ∙ ap (λ (t : Entries). t ∷ []) (ap shown_entries rows ∙ blanks_shown slots prices node)

@@ -12,8 +12,8 @@ abbrev pub Sees : List Entries → List Entries → Type 0
 Sees seen list = (0 < length list) × Begins seen list
 
 -- as a u64 counts: up to 2^64 - 1
-abbrev pub counted : ℕ → ℕ
-counted n = min n 18446744073709551615
+abbrev pub saturated : ℕ → ℕ
+saturated n = min n 18446744073709551615
 
 -- how many slots there are, how many prices and rates an entry has, the tables shown, and what is pending, with its slots
 pub record Board : Type 0 where

@@ -7,12 +7,12 @@ use Rattle.dual_versions.specs.declared.table.Put.{Put}
 use Rattle.dual_versions.specs.Tables.{Entries}
 
 -- what a row shows
-abbrev pub entry_of : Row → Option Published
-entry_of row = if row.shown then Some row.what else None
+abbrev pub row_entry : Row → Option Published
+row_entry row = if row.shown then Some row.what else None
 
 -- what rows show
-abbrev pub shown_by : List Row → Entries
-shown_by rows = map entry_of rows
+abbrev pub shown_entries : List Row → Entries
+shown_entries rows = map row_entry rows
 
 -- the row with this entry, where it has room for just as many prices and rates
 abbrev pub filled : Row → Published → Row

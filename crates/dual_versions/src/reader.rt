@@ -2,7 +2,7 @@
 
 ghost use Rattle.std.specs.Prelude.{◌≡◌, ◌⊎◌, ◌-◌, ◌↔◌, Some, length, IfOk, IsTrue};
 ghost use Rattle.dual_versions.specs.Tables.{entry_at};
-ghost use Rattle.dual_versions.specs.Boards.{Sees, counted};
+ghost use Rattle.dual_versions.specs.Boards.{Sees, saturated};
 
 use crate::published::Published;
 use crate::rule::{Enters, TableReader};
@@ -23,14 +23,14 @@ pub struct BoardReader {
 impl Model for BoardReader {
     ghost use Rattle.std.specs.Prelude.{◌≡◌, ◌-◌, List, false, length};
     ghost use Rattle.dual_versions.specs.Tables.{Entries};
-    ghost use Rattle.dual_versions.specs.Boards.{counted};
+    ghost use Rattle.dual_versions.specs.Boards.{saturated};
     ghost use Rattle.dual_versions.specs.Views.{known_by};
 
     ghost Value = { List Entries };
 
     ghost view = { λ s. (known_by s.reader.place).seen };
 
-    ghost invariant = { λ s. ((known_by s.reader.place).writes ≡ false) × (s.number ≡ counted (length (known_by s.reader.place).seen - 1)) };
+    ghost invariant = { λ s. ((known_by s.reader.place).writes ≡ false) × (s.number ≡ saturated (length (known_by s.reader.place).seen - 1)) };
 }
 
 impl BoardReader {
@@ -111,7 +111,7 @@ impl BoardReader {
     /// The number of the table that this reader has seen last in the list of tables shown, from 0, or `2^64 - 1` where the
     /// number is larger. Takes no memory.
     pub fn seen(&self) -> u64
-        ensures { result ≡ counted (length self.now - 1) }
+        ensures { result ≡ saturated (length self.now - 1) }
     {
         self.number
     }

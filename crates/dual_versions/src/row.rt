@@ -1,7 +1,7 @@
 //! A row of a table.
 
 ghost use Rattle.std.specs.Prelude.{◌≡◌, ◌↔◌, Some, IfOk, IsTrue};
-ghost use Rattle.dual_versions.specs.Rows.{filled, entry_of};
+ghost use Rattle.dual_versions.specs.Rows.{filled, row_entry};
 
 use crate::published::Published;
 use std::alloc::AllocError;
@@ -33,7 +33,7 @@ impl Row {
     ///
     /// - Errors: want of memory alone.
     pub fn copy(&self) -> Result<Option<Published>, AllocError>
-        ensures { IfOk result (λ entry. entry ≡ entry_of self.now) }
+        ensures { IfOk result (λ entry. entry ≡ row_entry self.now) }
     {
         if !self.shown {
             return Ok(None);
@@ -43,7 +43,7 @@ impl Row {
 
     /// Whether this is its entry.
     pub fn has(&self, what: &Published) -> bool
-        ensures { IsTrue result ↔ (entry_of self.now ≡ Some what.now) }
+        ensures { IsTrue result ↔ (row_entry self.now ≡ Some what.now) }
     {
         self.shown
             && self.what.node == what.node

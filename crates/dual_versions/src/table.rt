@@ -1,7 +1,7 @@
 //! The table that readers see, as it takes entries in.
 
 ghost use Rattle.std.specs.Prelude.{◌≡◌, ◌↔◌, IfOk, IsTrue, None, Some, slice_index_or};
-ghost use Rattle.dual_versions.specs.Rows.{taken, shown_by};
+ghost use Rattle.dual_versions.specs.Rows.{taken, shown_entries};
 
 use crate::published::Published;
 use crate::row::Row;
@@ -34,7 +34,7 @@ impl Table {
     /// - Errors: want of memory alone.
     #[tactic(auto, using(crate::proofs::RowLists::entry_here, crate::proofs::RowLists::entry_past))]
     pub fn entry(&self, slot: usize) -> Result<Option<Published>, AllocError>
-        ensures { IfOk result (λ entry. entry ≡ slice_index_or (shown_by self.now.rows.items) slot None) }
+        ensures { IfOk result (λ entry. entry ≡ slice_index_or (shown_entries self.now.rows.items) slot None) }
     {
         if slot < self.rows.len() {
             self.rows[slot].copy()
@@ -46,7 +46,7 @@ impl Table {
     /// Whether this slot has this entry.
     #[tactic(auto, using(crate::proofs::RowLists::entry_here, crate::proofs::RowLists::entry_past))]
     pub fn has(&self, slot: usize, what: &Published) -> bool
-        ensures { IsTrue result ↔ (slice_index_or (shown_by self.now.rows.items) slot None ≡ Some what.now) }
+        ensures { IsTrue result ↔ (slice_index_or (shown_entries self.now.rows.items) slot None ≡ Some what.now) }
     {
         slot < self.rows.len() && self.rows[slot].has(what)
     }

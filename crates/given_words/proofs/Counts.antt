@@ -3,7 +3,7 @@ use Rattle.std.proofs.Common.{◌≡◌, ◌+◌, ◌≤◌, ◌&&◌, ◌||◌,
 use Rattle.std.specs.Prelude.{option_and_then, find}
 use Rattle.std.specs.List.{list_any}
 use Rattle.std.specs.Str.{bytes_eq}
-use Rattle.given_words.specs.Given.{Use, Word, Part, name, ending, option, other, part_of, adds, name_given, names_given, option_given, part_given, given, has, are_different, all_new, all_given, value_of, whole, told}
+use Rattle.given_words.specs.Given.{Use, Word, Part, name, ending, option, other, part_of, with_use, name_given, names_given, option_given, part_given, given, has, are_different, all_new, all_given, value_of, whole, told}
 use Rattle.given_words.proofs.Tables.{and-true, not-any, same_words}
 
 -- how many uses there are
@@ -11,13 +11,13 @@ abbrev few : Option (List Use) → ℕ
 few None = 0
 few (Some uses) = length uses
 
-adds-few : (u : Use) (r : Option (List Use)) (most : ℕ) → few r ≤ most → few (adds u r) ≤ most + 1
-adds-few u None most h = omega arith
-adds-few u (Some uses) most h = omega (arith, h)
+with_use-few : (u : Use) (r : Option (List Use)) (most : ℕ) → few r ≤ most → few (with_use u r) ≤ most + 1
+with_use-few u None most h = omega arith
+with_use-few u (Some uses) most h = omega (arith, h)
 
 name-few : (names : List Word) (word : Word) (next : List Word → Option (List Use)) (most : ℕ) → ((more : List Word) → few (next more) ≤ most) → few (name_given names word next) ≤ most + 1
 name-few [] word next most h = omega arith
-name-few (id ∷ names) word next most h = adds-few (id, word) (next names) most (h names)
+name-few (id ∷ names) word next most h = with_use-few (id, word) (next names) most (h names)
 
 names-few : (words names : List Word) → few (names_given words names) ≤ length words
 names-few [] names = omega arith
@@ -26,7 +26,7 @@ names-few (word ∷ rest) names = omega (arith, name-few names word (names_given
 option-few : (f : Option Word) (inside : Option Word) (next : Option Word → Option (List Use)) (most : ℕ) → ((awaits : Option Word) → few (next awaits) ≤ most) → few (option_given f inside next) ≤ most + 1
 option-few None inside next most h = omega arith
 option-few (Some id) None next most h = omega (arith, h (Some id))
-option-few (Some id) (Some v) next most h = adds-few (id, v) (next None) most (h None)
+option-few (Some id) (Some v) next most h = with_use-few (id, v) (next None) most (h None)
 
 part-few : (options names : List Word) (awaits : Option Word) (part : Part) (word : Word) (rest : List Word) (next : List Word → Option Word → Option (List Use))
     → ((more : List Word) (awaits : Option Word) → few (next more awaits) ≤ length rest) → few (part_given options names awaits part word rest next) ≤ length rest + 1
@@ -34,7 +34,7 @@ part-few options names None name word rest next h = name-few names word (λ more
 part-few options names None ending word rest next h = omega (arith, names-few rest names)
 part-few options names None (option called inside) word rest next h = option-few (find (λ o. bytes_eq o called) options) inside (next names) (length rest) (h names)
 part-few options names None other word rest next h = omega arith
-part-few options names (Some id) name word rest next h = adds-few (id, word) (next names None) (length rest) (h names None)
+part-few options names (Some id) name word rest next h = with_use-few (id, word) (next names None) (length rest) (h names None)
 part-few options names (Some id) ending word rest next h = omega arith
 part-few options names (Some id) (option called inside) word rest next h = omega arith
 part-few options names (Some id) other word rest next h = omega arith

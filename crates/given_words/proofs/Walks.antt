@@ -15,7 +15,7 @@ use Rattle.clap.specs.declared.builder.action.ArgAction.TheVariants.{Set}
 use Rattle.clap.specs.declared.builder.value_parser.ValueParser.TheVariants as vp
 use Rattle.clap.specs.declared.builder.value_parser.Reading.TheVariants.{AsWritten}
 use Rattle.clap.specs.declared.parser.matches.ValueSource.TheVariants.{CommandLine}
-use Rattle.given_words.specs.Given.{Use, Part, name, ending, option, other, part_of, behind_dashes, adds, name_given, names_given, option_given, part_given, given, has, all_new}
+use Rattle.given_words.specs.Given.{Use, Part, name, ending, option, other, part_of, behind_dashes, with_use, name_given, names_given, option_given, part_given, given, has, all_new}
 
 -- ---- what is held
 
@@ -276,7 +276,7 @@ module _ (base : Shape) (c : List Rule) where
       rw m.is (go (option_map_or (λ q. bytes_eq q.0 id) (pending_use p) false)
       ∙ settled_next c us p pends (λ rows. next (walk_at rows (Some (id, word ∷ [])) idle (min (position + 1) usize_max) (trailing || false)))
       ∙ ap (λ o. if is_new us p then o else None) (goes id left (record { long = m.long; index = m.index; required = m.required; is = m.found; found = m.found; same = m.same }) places.1)
-      ∙ sym (expect_settled us p (adds (id, word) (more left))))
+      ∙ sym (expect_settled us p (with_use (id, word) (more left))))
     where
       h : Held
       h = held (map use_row us) (pending_use p)
@@ -353,7 +353,7 @@ module _ (base : Shape) (c : List Rule) where
         ∙ ap (λ x. if is_new us p then x else None) (one_use (after us p) id v m.long m.index m.required (λ rows. outcome s (walk_at rows None idle position false) rest)
         ∙ ap (λ x. if is_new (after us p) (Some (id, v)) then x else None) (follows.idles (after us p ++ (id, v) ∷ []) None tt position names places ∙ ap (expect (after us p ++ (id, v) ∷ [])) (same_map (given options rest names None)))
         ∙ sym (expect_settled (after us p) (Some (id, v)) (given options rest names None)))
-        ∙ sym (expect_settled us p (adds (id, v) (given options rest names None))))
+        ∙ sym (expect_settled us p (with_use (id, v) (given options rest names None))))
 
     -- a word that is no option of the table, and begins with one dash, fails
     bundle_fails : (first : ℕ) (tail : Text) (h : Held) → h.skip ≡ 0 → (x : ℕ) × (slice_get (chars (first ∷ tail)) 0 ≡ Some x) → bundle_fault c false (first ∷ tail) h ≡ kind.UnknownArgument ∷ []

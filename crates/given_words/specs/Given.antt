@@ -43,13 +43,13 @@ part_of (first ∷ second ∷ rest) = if first == 45 then if second == 45 then b
 -- ---- the words in turn
 
 -- one use more at the head
-abbrev pub adds : Use → Option (List Use) → Option (List Use)
-adds u = option_map (λ uses. u ∷ uses)
+abbrev pub with_use : Use → Option (List Use) → Option (List Use)
+with_use u = option_map (λ uses. u ∷ uses)
 
 -- the word is given to the first of the names that are left
 abbrev pub name_given : List Word → Word → (List Word → Option (List Use)) → Option (List Use)
 name_given [] word next = None
-name_given (id ∷ names) word next = adds (id, word) (next names)
+name_given (id ∷ names) word next = with_use (id, word) (next names)
 
 -- the words are given to the names in turn
 abbrev pub names_given : List Word → List Word → Option (List Use)
@@ -60,7 +60,7 @@ names_given (word ∷ rest) names = name_given names word (names_given rest)
 abbrev pub option_given : Option Word → Option Word → (Option Word → Option (List Use)) → Option (List Use)
 option_given None value next = None
 option_given (Some id) None next = next (Some id)
-option_given (Some id) (Some value) next = adds (id, value) (next None)
+option_given (Some id) (Some value) next = with_use (id, value) (next None)
 
 -- what a word and those behind it give, where an option awaits its value or none does
 abbrev pub part_given : List Word → List Word → Option Word → Part → Word → List Word → (List Word → Option Word → Option (List Use)) → Option (List Use)
@@ -68,7 +68,7 @@ part_given options names None name word rest next = name_given names word (λ mo
 part_given options names None ending word rest next = names_given rest names
 part_given options names None (option called value) word rest next = option_given (find (λ o. bytes_eq o called) options) value (next names)
 part_given options names None other word rest next = None
-part_given options names (Some id) name word rest next = adds (id, word) (next names None)
+part_given options names (Some id) name word rest next = with_use (id, word) (next names None)
 part_given options names (Some id) _ word rest next = None
 
 -- no option awaits its value

@@ -5,7 +5,7 @@ use Rattle.plan_base.specs.declared.parts.Parts.{Parts}
 use Rattle.arc_restrict.specs.Restrictions.{Forbidden, IsFewest}
 use Rattle.hop_pricing.specs.declared.within.Within.{Within}
 use Rattle.hop_pricing.specs.declared.within.Within.TheVariants.{Path, Far}
-use Rattle.hop_pricing.specs.Within.{IsLeastWithin, HasNoneWithin, AreFewest, IsWithin, IsSameAnswer}
+use Rattle.hop_pricing.specs.Within.{IsLeastWithin, HasNoneWithin, AreFewest, IsFoundWithin, IsSameAnswer}
 
 lt_or_ge : (a b : ℕ) → (a < b) ⊎ (b ≤ a)
 lt_or_ge a b = grind arith
@@ -41,7 +41,7 @@ same-price p r prices k hops one other price other_price h i =
     omega (arith, le, ge, h.price_is, i.price_is)
 
 -- two right answers are the same
-pub same-answer : (p : Parts) (r : Forbidden) (prices : List ℕ) (k hops : ℕ) (one other : Within) → IsWithin p r prices k hops one → IsWithin p r prices k hops other → IsSameAnswer one other
+pub same-answer : (p : Parts) (r : Forbidden) (prices : List ℕ) (k hops : ℕ) (one other : Within) → IsFoundWithin p r prices k hops one → IsFoundWithin p r prices k hops other → IsSameAnswer one other
 same-answer p r prices k hops (Path one price) (Path other other_price) h i = same-price p r prices k hops one other price other_price h i
 same-answer p r prices k hops (Path one price) (Far fewest) h i = absurd (i.0 one h.within)
 same-answer p r prices k hops (Far fewest) (Path other price) h i = absurd (h.0 other i.within)

@@ -29,14 +29,14 @@ AreFewest p r k None = HasNoPath p r k
 AreFewest p r k (Some arcs) = IsFewest p r k arcs
 
 -- what is found is so: a path has the least price within the limit; or none is within it, and the fewest arcs are told
-abbrev pub IsWithin : Parts → Forbidden → List ℕ → ℕ → ℕ → Within → Type 0
-IsWithin p r prices k hops (Path path price) = IsLeastWithin p r prices k hops path price
-IsWithin p r prices k hops (Far fewest) = HasNoneWithin p r k hops × AreFewest p r k fewest
+abbrev pub IsFoundWithin : Parts → Forbidden → List ℕ → ℕ → ℕ → Within → Type 0
+IsFoundWithin p r prices k hops (Path path price) = IsLeastWithin p r prices k hops path price
+IsFoundWithin p r prices k hops (Far fewest) = HasNoneWithin p r k hops × AreFewest p r k fewest
 
 -- what is found is that no permitted path is within the limit
-abbrev pub IsFar : Within → Type 0
-IsFar (Path path price) = ⊥
-IsFar (Far fewest) = ⊤
+abbrev pub FindsNone : Within → Type 0
+FindsNone (Path path price) = ⊥
+FindsNone (Far fewest) = ⊤
 
 -- both are paths of the same price, or both tell the same fewest arcs
 abbrev pub IsSameAnswer : Within → Within → Type 0

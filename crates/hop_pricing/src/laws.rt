@@ -4,7 +4,7 @@ ghost use Rattle.std.specs.Prelude.{ℕ, List, ◌↔◌, ◌<◌};
 ghost use Rattle.plan_base.specs.declared.parts.Parts.{Parts as AnyParts};
 ghost use Rattle.arc_restrict.specs.Restrictions.{Forbidden, IsFewest};
 ghost use Rattle.hop_pricing.specs.declared.within.Within.{Within as AnyWithin};
-ghost use Rattle.hop_pricing.specs.Within.{HasNoneWithin, IsWithin, IsSameAnswer};
+ghost use Rattle.hop_pricing.specs.Within.{HasNoneWithin, IsFoundWithin, IsSameAnswer};
 
 /// No permitted path is within a limit exactly where the fewest arcs of a permitted path are above it.
 pub fn above_the_limit()
@@ -13,5 +13,5 @@ pub fn above_the_limit()
 
 /// Two right answers within one limit are paths of one price, or tell the same fewest arcs.
 pub fn one_answer()
-    ensures { (p : AnyParts) (r : Forbidden) (prices : List ℕ) (k hops : ℕ) (one other : AnyWithin) → IsWithin p r prices k hops one → IsWithin p r prices k hops other → IsSameAnswer one other }
+    ensures { (p : AnyParts) (r : Forbidden) (prices : List ℕ) (k hops : ℕ) (one other : AnyWithin) → IsFoundWithin p r prices k hops one → IsFoundWithin p r prices k hops other → IsSameAnswer one other }
 {}

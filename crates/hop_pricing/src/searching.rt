@@ -3,7 +3,7 @@
 ghost use Rattle.std.specs.Prelude.{◌↔◌, ◌<◌, length, IfOk};
 ghost use Rattle.arc_restrict.specs.Rows.{forbids};
 ghost use Rattle.path_pricing.specs.Priced.{ArePrices};
-ghost use Rattle.hop_pricing.specs.Within.{HasNoneWithin, IsFar, IsWithin};
+ghost use Rattle.hop_pricing.specs.Within.{HasNoneWithin, FindsNone, IsFoundWithin};
 
 use crate::counting::fewest;
 use crate::within::Within;
@@ -24,7 +24,7 @@ fn by_rounds(
 ) -> Result<Within, AllocError>
     requires prices { ArePrices inst.now prices.now }
     requires demand { demand.0 < length inst.now.demands }
-    ensures within { IfOk result (IsWithin inst.now (forbids restriction.now) prices.now demand.0 hops) }
+    ensures within { IfOk result (IsFoundWithin inst.now (forbids restriction.now) prices.now demand.0 hops) }
 {
     let weights = arc_weights(alloc, inst, prices, demand, restriction)?;
     let asked = inst.demand(demand);
@@ -58,8 +58,8 @@ pub fn least_within(
 ) -> Result<Within, AllocError>
     requires prices { ArePrices inst.now prices.now }
     requires demand { demand.0 < length inst.now.demands }
-    ensures within { IfOk result (IsWithin inst.now (forbids restriction.now) prices.now demand.0 hops) }
-    ensures far { IfOk result (λ found. IsFar found ↔ HasNoneWithin inst.now (forbids restriction.now) demand.0 hops) }
+    ensures within { IfOk result (IsFoundWithin inst.now (forbids restriction.now) prices.now demand.0 hops) }
+    ensures far { IfOk result (λ found. FindsNone found ↔ HasNoneWithin inst.now (forbids restriction.now) demand.0 hops) }
 {
     match price(alloc, inst, prices, demand, restriction)? {
         Priced::Path { path, length, .. } => {

@@ -21,7 +21,7 @@ use Rattle.snd_network.specs.declared.file.DemandRecord.{DemandRecord}
 use Rattle.snd_network.specs.Tests.{is_sign, checked_coordinate}
 use Rattle.snd_network.specs.WellFormed.{IsWord, IsName, IsCoordinateWord, IsModule, IsGoodNode, IsGoodLink, IsGoodDemand, AreDifferent, IsWellFormed}
 use Rattle.instance_maker.specs.Draws.{next_state, state_after, draw}
-use Rattle.instance_maker.specs.Samples.{sample_node, sample_modules, ring_link, chord, ring, after_ring, chords, after_chords, sample_demand, sample_links, sample_network}
+use Rattle.instance_maker.specs.Samples.{sample_node, sample_modules, ring_link, chord, ring_links, after_ring, chords, after_chords, sample_demand, sample_links, sample_network}
 use Rattle.instance_maker.proofs.Numbered.{numbered_at, all_numbered, pairs_numbered, pairs_append}
 
 -- what is written is read back
@@ -159,8 +159,8 @@ different-links number nodes some few =
     let state = after_ring number nodes in
     let round : ℕ → LinkRecord = λ i. ring_link nodes (state_after number (2 * i)) i in
     let across : ℕ → LinkRecord = λ i. chord nodes (state_after state (3 * i)) i in
-    subst AreDifferent (sym (map-append name (ring number nodes) (chords state nodes)))
-    (pairs_append (λ a b. a ≢ b) (map name (ring number nodes)) (map name (chords state nodes))
+    subst AreDifferent (sym (map-append name (ring_links number nodes) (chords state nodes)))
+    (pairs_append (λ a b. a ≢ b) (map name (ring_links number nodes)) (map name (chords state nodes))
     (different name 114 round nodes (λ i. refl) (omega arith))
     (different name 99 across (nodes / 2) (λ i. refl) (omega arith))
     (λ i j d low high e. unlike i j (sym (name-at name 114 round nodes i d (λ i. refl) low) ∙ e ∙ name-at name 99 across (nodes / 2) j d (λ i. refl) high)))
@@ -172,7 +172,7 @@ formed back number nodes demands some few within =
     let state = after_chords (after_ring number nodes) nodes in
     record {
       nodes = all_numbered IsGoodNode sample_node nodes (λ i below. good-node back i (omega arith));
-      links = rw count (All-append (IsGoodLink nodes) (ring number nodes) (chords (after_ring number nodes) nodes)
+      links = rw count (All-append (IsGoodLink nodes) (ring_links number nodes) (chords (after_ring number nodes) nodes)
           (all_numbered (IsGoodLink nodes) (λ i. ring_link nodes (state_after number (2 * i)) i) nodes (λ i below. good-ring nodes (state_after number (2 * i)) i below few))
           (all_numbered (IsGoodLink nodes) (λ i. chord nodes (state_after (after_ring number nodes) (3 * i)) i) (nodes / 2) (λ i below. good-chord nodes (state_after (after_ring number nodes) (3 * i)) i (omega arith) few)));
       demands = rw count (all_numbered (IsGoodDemand nodes) (λ i. sample_demand nodes (state_after state (3 * i)) i) demands (λ i below. good-demand nodes (state_after state (3 * i)) i some (omega arith)));

@@ -16,10 +16,10 @@ use Rattle.snd_model.specs.declared.keys.Key.TheVariants as keys
 use Rattle.snd_model.specs.Grammar.{setting_of}
 use Rattle.model_check.specs.Profile.{is_planned}
 use Rattle.snd_model.specs.declared.values.HopModel.TheVariants as hops
-use Rattle.model_check.specs.Reading.{link_of, demand_of, ReadsAs}
+use Rattle.model_check.specs.Reading.{link_of_record, demand_of, ReadsAs}
 use Rattle.link_steps.specs.Costs.{HasMoreSteps}
 use Rattle.instance_maker.specs.Draws.{next_state, state_after, draw}
-use Rattle.instance_maker.specs.Samples.{sample_node, sample_modules, sample_link, ring_link, chord, ring, after_ring, chords, after_chords, sample_demand, sample_demands, sample_links, sample_network}
+use Rattle.instance_maker.specs.Samples.{sample_node, sample_modules, sample_link, ring_link, chord, ring_links, after_ring, chords, after_chords, sample_demand, sample_demands, sample_links, sample_network}
 use Rattle.instance_maker.specs.Trials.{trial_model, sample_parts}
 use Rattle.instance_maker.proofs.Numbered.{all_numbered}
 use Rattle.instance_maker.proofs.Formed.{drawn_below}
@@ -44,7 +44,7 @@ record IsSampleLink (nodes : ℕ) (l : Link) : Type 0 where
   free : l.routing ≡ 0
   has_tens : HasTens l
 
-sampled : (nodes state source target : ℕ) (name : List ℕ) → source < nodes → target < nodes → source ≢ target → IsSampleLink nodes (link_of (sample_link name source target (sample_modules state)))
+sampled : (nodes state source target : ℕ) (name : List ℕ) → source < nodes → target < nodes → source ≢ target → IsSampleLink nodes (link_of_record (sample_link name source target (sample_modules state)))
 sampled nodes state source target name from to apart =
     let small = drawn_below state 20 (omega arith) in
     let large = drawn_below (next_state state) 40 (omega arith) in
@@ -65,11 +65,11 @@ sampled nodes state source target name from to apart =
       has_tens = record { pre = refl; small = (5 + draw state 20) * 10 ^ 6 * 10 ^ 6; large = (15 + draw (next_state state) 40) * 10 ^ 6 * 10 ^ 6; modules = refl };
     }
 
-sampled-ring : (nodes state i : ℕ) → 4 ≤ nodes → i < nodes → IsSampleLink nodes (link_of (ring_link nodes state i))
+sampled-ring : (nodes state i : ℕ) → 4 ≤ nodes → i < nodes → IsSampleLink nodes (link_of_record (ring_link nodes state i))
 sampled-ring nodes state i some within =
     sampled nodes state i ((i + 1) % nodes) (ring_link nodes state i).name within (mod-lt (i + 1) (omega arith)) (elsewhere nodes i 1 within (omega arith) (omega arith))
 
-sampled-chord : (nodes state i : ℕ) → 4 ≤ nodes → i < nodes → IsSampleLink nodes (link_of (chord nodes state i))
+sampled-chord : (nodes state i : ℕ) → 4 ≤ nodes → i < nodes → IsSampleLink nodes (link_of_record (chord nodes state i))
 sampled-chord nodes state i some within =
     let d = draw state (nodes - 3) in
     let low : d < nodes - 3 = drawn_below state (nodes - 3) (omega arith) in
@@ -77,17 +77,17 @@ sampled-chord nodes state i some within =
     let apart : i ≢ (i + 2 + d) % nodes = λ e. elsewhere nodes i (2 + d) within (omega arith) (omega (arith, low)) (e ∙ ap (λ n. n % nodes) same) in
     sampled nodes (next_state state) i ((i + 2 + d) % nodes) (chord nodes state i).name within (mod-lt (i + 2 + d) (omega arith)) apart
 
-all-sampled : (number nodes : ℕ) → 4 ≤ nodes → All (IsSampleLink nodes) (map link_of (sample_links number nodes))
+all-sampled : (number nodes : ℕ) → 4 ≤ nodes → All (IsSampleLink nodes) (map link_of_record (sample_links number nodes))
 all-sampled number nodes some =
     let state = after_ring number nodes in
-    All-map (IsSampleLink nodes) link_of (sample_links number nodes) (All-append (λ l. IsSampleLink nodes (link_of l)) (ring number nodes) (chords state nodes)
-    (all_numbered (λ l. IsSampleLink nodes (link_of l)) (λ i. ring_link nodes (state_after number (2 * i)) i) nodes (λ i within. sampled-ring nodes (state_after number (2 * i)) i some within))
-    (all_numbered (λ l. IsSampleLink nodes (link_of l)) (λ i. chord nodes (state_after state (3 * i)) i) (nodes / 2) (λ i within. sampled-chord nodes (state_after state (3 * i)) i some (omega arith))))
+    All-map (IsSampleLink nodes) link_of_record (sample_links number nodes) (All-append (λ l. IsSampleLink nodes (link_of_record l)) (ring_links number nodes) (chords state nodes)
+    (all_numbered (λ l. IsSampleLink nodes (link_of_record l)) (λ i. ring_link nodes (state_after number (2 * i)) i) nodes (λ i within. sampled-ring nodes (state_after number (2 * i)) i some within))
+    (all_numbered (λ l. IsSampleLink nodes (link_of_record l)) (λ i. chord nodes (state_after state (3 * i)) i) (nodes / 2) (λ i within. sampled-chord nodes (state_after state (3 * i)) i some (omega arith))))
 
-count-links : (number nodes : ℕ) → length (map link_of (sample_links number nodes)) ≡ nodes + nodes / 2
+count-links : (number nodes : ℕ) → length (map link_of_record (sample_links number nodes)) ≡ nodes + nodes / 2
 count-links number nodes =
     let state = after_ring number nodes in
-    length-map (sample_links number nodes) link_of ∙ length-append (ring number nodes) (chords state nodes)
+    length-map (sample_links number nodes) link_of_record ∙ length-append (ring_links number nodes) (chords state nodes)
     ∙ omega (arith, length-map-range_with_len (λ i. ring_link nodes (state_after number (2 * i)) i) 0 nodes, length-map-range_with_len (λ i. chord nodes (state_after state (3 * i)) i) 0 (nodes / 2))
 
 -- ---- demands

@@ -48,8 +48,8 @@ abbrev pub chord : ℕ → ℕ → ℕ → LinkRecord
 chord nodes state i = sample_link (codes "c" ++ decimal i) i ((i + 2 + draw state (nodes - 3)) % nodes) (sample_modules (next_state state))
 
 -- the links of the ring, one for each node, from this state on: two draws each
-abbrev pub ring : ℕ → ℕ → List LinkRecord
-ring state nodes = map (λ i. ring_link nodes (state_after state (2 * i)) i) (range_with_len 0 nodes)
+abbrev pub ring_links : ℕ → ℕ → List LinkRecord
+ring_links state nodes = map (λ i. ring_link nodes (state_after state (2 * i)) i) (range_with_len 0 nodes)
 
 -- the state behind the ring
 abbrev pub after_ring : ℕ → ℕ → ℕ
@@ -84,7 +84,7 @@ sample_demands state nodes count = map (λ i. sample_demand nodes (state_after s
 
 -- the links: the ring, and behind it the chords
 abbrev pub sample_links : ℕ → ℕ → List LinkRecord
-sample_links number nodes = ring number nodes ++ chords (after_ring number nodes) nodes
+sample_links number nodes = ring_links number nodes ++ chords (after_ring number nodes) nodes
 
 -- the network of a number: so many nodes, their links, and so many demands; the number is the first state
 abbrev pub sample_network : ℕ → ℕ → ℕ → NetworkFile

@@ -12,7 +12,7 @@ use Rattle.snd_model.specs.declared.values.PathModel.TheVariants as paths
 use Rattle.snd_model.specs.declared.values.HopModel.TheVariants as hops
 use Rattle.snd_model.specs.declared.values.SurvivabilityModel.TheVariants as survivals
 use Rattle.snd_model.specs.declared.file.ModelFile.{ModelFile}
-use Rattle.model_check.specs.Reading.{link_of, demand_of}
+use Rattle.model_check.specs.Reading.{link_of_record, demand_of}
 use Rattle.instance_maker.specs.Samples.{sample_links, sample_network}
 
 -- the model of each trial: undirected demands and links, modules, single paths, and nothing else
@@ -34,6 +34,6 @@ sample_parts number nodes demands = record {
   orient = Undirected;
   law = Any;
   nodes = nodes;
-  links = map link_of (sample_links number nodes);
+  links = map link_of_record (sample_links number nodes);
   demands = map (demand_of hops.No) (sample_network number nodes demands).demands;
 }

@@ -4,7 +4,7 @@ ghost use Rattle.std.specs.Prelude.{◌≡◌, ◌<◌, ◌≤◌, ◌+◌, ◌*
 ghost use Rattle.std.specs.List.{range_with_len};
 ghost use Rattle.snd_network.specs.WellFormed.{IsWellFormed};
 ghost use Rattle.instance_maker.specs.Draws.{next_state, draw};
-ghost use Rattle.instance_maker.specs.Samples.{sample_node, sample_modules, sample_link, ring_link, chord, ring, chords, sample_demand, sample_demands, after_ring, after_chords, sample_links, sample_network};
+ghost use Rattle.instance_maker.specs.Samples.{sample_node, sample_modules, sample_link, ring_link, chord, ring_links, chords, sample_demand, sample_demands, after_ring, after_chords, sample_links, sample_network};
 
 use crate::draws::Draws;
 use crate::laws::samples_are_well_formed;
@@ -174,7 +174,7 @@ fn push_ring(
     draws: &mut Draws,
 ) -> Result<(), AllocError>
     requires { nodes ≤ MAX_NODES }
-    ensures links { OnOk result (links.new.items ≡ links.old.items ++ ring draws.old.state nodes) }
+    ensures links { OnOk result (links.new.items ≡ links.old.items ++ ring_links draws.old.state nodes) }
     ensures next { OnOk result (draws.new.state ≡ after_ring draws.old.state nodes) }
 {
     for place in 0..nodes {

@@ -23,7 +23,7 @@ use Rattle.model_check.specs.declared.fault.CheckFault.{CheckFault}
 use Rattle.model_check.specs.declared.fault.CheckFault.TheVariants.{Unsupported, Build, OutOfMemory}
 use Rattle.model_check.specs.Profile.{IsSupported}
 use Rattle.model_check.specs.Reading.{ReadsAs}
-use Rattle.model_check.specs.Refusals.{IsFirstOutside, IsBadPair, IsUnsupported, parts_of, IsCheckFault}
+use Rattle.model_check.specs.Refusals.{IsFirstOutside, IsBadPair, IsUnsupported, parts_of_files, IsCheckFault}
 use Rattle.model_check.specs.Telling.{outside_fault, value_fault}
 use Rattle.model_check.proofs.Values.{planned-none, outside-some}
 
@@ -47,11 +47,11 @@ same_parts net model a b h k =
 -- ---- an instance is not refused
 
 -- the parts that are built are those that are read
-built_is_read : (net : NetworkFile) (model : ModelFile) (p : Parts) → ReadsAs net model p → IsInstance p → parts_of net model ≡ p
+built_is_read : (net : NetworkFile) (model : ModelFile) (p : Parts) → ReadsAs net model p → IsInstance p → parts_of_files net model ≡ p
 built_is_read net model p h lawful =
     let few : p.nodes ≤ MAX_NODES = lawful.nodes in
     let count : told_of (length net.nodes) ≡ p.nodes = omega (arith, few, h.nodes) in
-    same_fields (parts_of net model) p (sym h.orient) (sym h.law) count (sym h.links) (sym h.demands)
+    same_fields (parts_of_files net model) p (sym h.orient) (sym h.law) count (sym h.links) (sym h.demands)
 
 unsupported_not : (m : ModelFile) (key : Key) (value : ℕ) → IsUnsupported m key value → IsSupported m → ⊥
 unsupported_not m key value h supported =

@@ -23,9 +23,9 @@ use Rattle.snd_network.specs.declared.file.NetworkFile.{NetworkFile}
 use Rattle.snd_network.specs.WellFormed.{IsModule, IsGoodLink, IsGoodDemand, IsWellFormed}
 use Rattle.snd_model.specs.declared.values.HopModel.{HopModel}
 use Rattle.snd_model.specs.declared.file.ModelFile.{ModelFile}
-use Rattle.model_check.specs.Reading.{module_of, link_of, demand_of}
-use Rattle.model_check.specs.Refusals.{parts_of, CanComeOfParts, CanCome}
-use Rattle.model_check.specs.Telling.{told}
+use Rattle.model_check.specs.Reading.{module_of, link_of_record, demand_of}
+use Rattle.model_check.specs.Refusals.{parts_of_files, CanComeOfParts, CanCome}
+use Rattle.model_check.specs.Telling.{as_check_fault}
 
 -- a fault that is found is one that can come
 abbrev Can : Option BuildFault → Type 0
@@ -70,7 +70,7 @@ small_modules : (ms : List (ℕ × ℕ)) → All IsModule ms → list_any is_lar
 small_modules ms h =
     list_any_none is_large (map module_of ms) (All-map (λ m. is_large m ≡ false) module_of ms (λ k d within. small_module _ (h k d within)))
 
-small_link : (count : ℕ) (r : LinkRecord) → IsGoodLink count r → has_large_number_of (link_of r) ≡ false
+small_link : (count : ℕ) (r : LinkRecord) → IsGoodLink count r → has_large_number_of (link_of_record r) ≡ false
 small_link count r h =
     let pre : r.pre < CAPACITY_BOUND = h.pre in
     let routing : r.routing < CAPACITY_BOUND = h.routing in
@@ -80,10 +80,10 @@ small_link count r h =
 ends_inside : (count : ℕ) (source target : NodeId) → source.0 < count → target.0 < count → has_end_outside count source target ≡ false
 ends_inside count source target a b = grind (arith, nat_tests)
 
-can_link : (count : ℕ) (r : LinkRecord) → IsGoodLink count r → (e : ℕ) → Can (link_fault count e (link_of r))
+can_link : (count : ℕ) (r : LinkRecord) → IsGoodLink count r → (e : ℕ) → Can (link_fault count e (link_of_record r))
 unfolding link_fault
 can_link count r h e =
-    let l : Link = link_of r in
+    let l : Link = link_of_record r in
     let loop = when (l.source.0 == l.target.0) (LoopLink (link_id e)) in
     let outside = when (has_end_outside count l.source l.target) (EndOutOfRange (end.Link (link_id e))) in
     let large = when (has_large_number_of l) (OverLimit 10 e) in
@@ -92,9 +92,9 @@ can_link count r h e =
     can_or outside loop (never_when (has_end_outside count l.source l.target) (EndOutOfRange (end.Link (link_id e))) (ends_inside count r.source r.target h.source h.target)) (λ _.
     can_when (l.source.0 == l.target.0) (LoopLink (link_id e)) tt)))
 
-can_links : (count : ℕ) (rs : List LinkRecord) → All (IsGoodLink count) rs → Can (first_in (link_fault count) (map link_of rs))
+can_links : (count : ℕ) (rs : List LinkRecord) → All (IsGoodLink count) rs → Can (first_in (link_fault count) (map link_of_record rs))
 can_links count rs h =
-    can_in (link_fault count) (map link_of rs) (All-map (λ l. (e : ℕ) → Can (link_fault count e l)) link_of rs (λ k d within. can_link count _ (h k d within)))
+    can_in (link_fault count) (map link_of_record rs) (All-map (λ l. (e : ℕ) → Can (link_fault count e l)) link_of_record rs (λ k d within. can_link count _ (h k d within)))
 
 can_demand : (hop : HopModel) (count : ℕ) (r : DemandRecord) → IsGoodDemand count r → (k : ℕ) → Can (demand_fault count k (demand_of hop r))
 unfolding demand_fault
@@ -125,10 +125,10 @@ told_whole p n is none =
     let small : p.nodes ≤ MAX_NODES = grind (arith, nat_tests) in
     omega (arith, small, is)
 
-can_parts : (net : NetworkFile) (model : ModelFile) → IsWellFormed net → Can (build_fault (parts_of net model))
+can_parts : (net : NetworkFile) (model : ModelFile) → IsWellFormed net → Can (build_fault (parts_of_files net model))
 unfolding build_fault
 can_parts net model h =
-    let p : Parts = parts_of net model in
+    let p : Parts = parts_of_files net model in
     let routing = first_in (routing_fault (total_load p)) p.links in
     let demands = first_in (demand_fault p.nodes) p.demands in
     let links = first_in (link_fault p.nodes) p.links in
@@ -140,7 +140,7 @@ can_parts net model h =
     can_routing (total_load p) p.links))))
 
 -- what is told of parts that are not built
-pub told_can : (net : NetworkFile) (model : ModelFile) (fault : BuildFault) → IsWellFormed net → IsBuildFault (parts_of net model) fault → CanCome (told fault)
+pub told_can : (net : NetworkFile) (model : ModelFile) (fault : BuildFault) → IsWellFormed net → IsBuildFault (parts_of_files net model) fault → CanCome (as_check_fault fault)
 told_can net model (LoopLink link) h is = tt
 told_can net model (LoopDemand demand) h is = tt
 told_can net model (EndOutOfRange what) h is = can_parts net model h (EndOutOfRange what) (is (λ same. cc))

@@ -43,8 +43,8 @@ abbrev pub module_of : ℕ × ℕ → Module
 module_of m = record { capacity = m.0; cost = m.1 * 10 ^ 6 }
 
 -- a link: a millionth of a unit of cost for a unit of load is a cost grain for a load grain
-abbrev pub link_of : LinkRecord → Link
-link_of l = record { source = l.source; target = l.target; pre = l.pre; routing = l.routing; modules = map module_of l.modules }
+abbrev pub link_of_record : LinkRecord → Link
+link_of_record l = record { source = l.source; target = l.target; pre = l.pre; routing = l.routing; modules = map module_of l.modules }
 
 -- a demand: its load in load grains is the routing unit times the value
 abbrev pub demand_of : HopModel → DemandRecord → Demand
@@ -56,5 +56,5 @@ pub record ReadsAs (net : NetworkFile) (model : ModelFile) (parts : Parts) : Typ
   pub orient : parts.orient ≡ orient_of model.link
   pub law : parts.law ≡ law_of model.capacity
   pub nodes : parts.nodes ≡ length net.nodes
-  pub links : parts.links ≡ map link_of net.links
+  pub links : parts.links ≡ map link_of_record net.links
   pub demands : parts.demands ≡ map (demand_of model.hop) net.demands

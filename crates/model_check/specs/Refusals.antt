@@ -15,7 +15,7 @@ use Rattle.snd_model.specs.Grammar.{setting_of}
 use Rattle.model_check.specs.declared.fault.CheckFault.{CheckFault}
 use Rattle.model_check.specs.declared.fault.CheckFault.TheVariants.{Unsupported, Build, OutOfMemory}
 use Rattle.model_check.specs.Profile.{is_planned, AreAllPlanned, IsSupported}
-use Rattle.model_check.specs.Reading.{orient_of, law_of, link_of, demand_of}
+use Rattle.model_check.specs.Reading.{orient_of, law_of, link_of_record, demand_of}
 
 -- the key's value is outside the profile, and the value of each key before it in the table is in the profile
 pub record IsFirstOutside (m : ModelFile) (key : Key) : Type 0 where
@@ -38,19 +38,19 @@ pub record IsUnsupported (m : ModelFile) (key : Key) (value : ℕ) : Type 0 wher
   pub number : value ≡ number_of (setting_of m key)
 
 -- the parts that are built, with the count of nodes as a fault tells it
-abbrev pub parts_of : NetworkFile → ModelFile → Parts
-parts_of net model = record {
+abbrev pub parts_of_files : NetworkFile → ModelFile → Parts
+parts_of_files net model = record {
   orient = orient_of model.link;
   law = law_of model.capacity;
   nodes = told_of (length net.nodes);
-  links = map link_of net.links;
+  links = map link_of_record net.links;
   demands = map (demand_of model.hop) net.demands;
 }
 
 -- a refusal of the model comes before every fault of the parts; want of memory may be told of any files
 abbrev pub IsCheckFault : NetworkFile → ModelFile → CheckFault → Type 0
 IsCheckFault net model (Unsupported key value) = IsUnsupported model key value
-IsCheckFault net model (Build fault) = IsSupported model × (build_fault (parts_of net model) ≡ Some fault)
+IsCheckFault net model (Build fault) = IsSupported model × (build_fault (parts_of_files net model) ≡ Some fault)
 IsCheckFault net model OutOfMemory = Unit {0}
 
 -- what can be wrong with the parts of a network that is well formed: a loop, or one of the limits 3 to 8

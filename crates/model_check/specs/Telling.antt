@@ -13,9 +13,9 @@ use Rattle.model_check.specs.Profile.{is_planned}
 use Rattle.model_check.specs.Refusals.{IsUnsupported}
 
 -- want of memory is one and the same, wherever it comes
-abbrev pub told : BuildFault → CheckFault
-told build_faults.OutOfMemory = OutOfMemory
-told fault = Build fault
+abbrev pub as_check_fault : BuildFault → CheckFault
+as_check_fault build_faults.OutOfMemory = OutOfMemory
+as_check_fault fault = Build fault
 
 -- the value of a key is outside the profile
 abbrev pub outside_fault : ModelFile → Key → Option CheckFault

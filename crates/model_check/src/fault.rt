@@ -1,7 +1,7 @@
 //! Why two files stand for no instance that can be planned.
 
 ghost use Rattle.std.specs.Prelude.{◌≡◌};
-ghost use Rattle.model_check.specs.Telling.{told};
+ghost use Rattle.model_check.specs.Telling.{as_check_fault};
 
 use plan_base::BuildFault;
 use snd_model::Key;
@@ -24,7 +24,7 @@ pub enum CheckFault {
 }
 
 impl From<BuildFault> for CheckFault {
-    ghost from_gives = { λ fault e. e ≡ told fault };
+    ghost from_gives = { λ fault e. e ≡ as_check_fault fault };
 
     fn from(fault: BuildFault) -> CheckFault {
         match fault {

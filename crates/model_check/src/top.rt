@@ -8,7 +8,7 @@ ghost use Rattle.model_check.specs.Refusals.{IsCheckFault, CanCome};
 
 use crate::fault::CheckFault;
 use crate::profile::check_model;
-use crate::valuing::parts_of;
+use crate::valuing::parts_of_files;
 use plan_base::Instance;
 use snd_model::ModelFile;
 use snd_network::NetworkFile;
@@ -39,6 +39,6 @@ pub fn to_instance(
     ensures can_come { IfErr result CanCome }
 {
     check_model(model)?;
-    let parts = parts_of(alloc, net, model)?;
+    let parts = parts_of_files(alloc, net, model)?;
     Ok(Instance::build(alloc, parts)?)
 }

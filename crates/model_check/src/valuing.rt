@@ -2,8 +2,8 @@
 
 ghost use Rattle.std.specs.Prelude.{◌≡◌, map, IfOk};
 ghost use Rattle.plan_base.specs.Faults.{told_of};
-ghost use Rattle.model_check.specs.Reading.{module_of, link_of, demand_of, orient_of, law_of, limit_of};
-ghost use Rattle.model_check.specs.Refusals.{parts_of};
+ghost use Rattle.model_check.specs.Reading.{module_of, link_of_record, demand_of, orient_of, law_of, limit_of};
+ghost use Rattle.model_check.specs.Refusals.{parts_of_files};
 
 use plan_base::{CountLaw, Demand, Items, Link, Module, Orient, Parts};
 use snd_model::{CapacityModel, HopModel, LinkModel, ModelFile};
@@ -69,8 +69,8 @@ fn modules_of(alloc: Global, modules: &Items<(u64, u64)>) -> Result<Items<Module
 }
 
 /// The link in grains.
-fn link_of(alloc: Global, link: &LinkRecord) -> Result<Link, AllocError>
-    ensures { IfOk result (λ found. found ≡ link_of link.now) }
+fn link_of_record(alloc: Global, link: &LinkRecord) -> Result<Link, AllocError>
+    ensures { IfOk result (λ found. found ≡ link_of_record link.now) }
 {
     Ok(Link {
         source: link.source,
@@ -84,11 +84,11 @@ fn link_of(alloc: Global, link: &LinkRecord) -> Result<Link, AllocError>
 /// The links in grains.
 #[tactic(auto, using(crate::proofs::Lists::next_more))]
 fn links_of(alloc: Global, links: &Items<LinkRecord>) -> Result<Items<Link>, AllocError>
-    ensures { IfOk result (λ found. found ≡ map link_of links.now) }
+    ensures { IfOk result (λ found. found ≡ map link_of_record links.now) }
 {
     let mut found = Vec::new(alloc);
     for link in links.as_slice() {
-        found.push(link_of(alloc, link)?)?;
+        found.push(link_of_record(alloc, link)?)?;
     }
     Ok(Items::from_vec(found))
 }
@@ -122,12 +122,12 @@ fn demands_of(
 }
 
 /// The parts that the files stand for.
-pub(crate) fn parts_of(
+pub(crate) fn parts_of_files(
     alloc: Global,
     net: &NetworkFile,
     model: &ModelFile,
 ) -> Result<Parts, AllocError>
-    ensures { IfOk result (λ parts. parts ≡ parts_of net.now model.now) }
+    ensures { IfOk result (λ parts. parts ≡ parts_of_files net.now model.now) }
 {
     Ok(Parts {
         orient: orient_of(model.link),

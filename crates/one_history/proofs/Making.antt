@@ -2,7 +2,7 @@ use Rattle.std.proofs.Common.{◌≡◌, ℕ, ◌+◌, ◌-◌, ◌*◌, ◌<◌
 use Rattle.one_history.specs.declared.limits.TheConstants.{MAX_CALLERS, MAX_CALLS}
 use Rattle.one_history.specs.declared.view.View.{View}
 use Rattle.one_history.specs.Rules.{all_draws}
-use Rattle.one_history.specs.Steps.{Knowing, made, given, maker_after, new_caller}
+use Rattle.one_history.specs.Steps.{Knowing, made, next_role, maker_after, new_caller}
 use Rattle.one_history.specs.Passes.{Pass, IsMaker, IsNewCaller}
 
 -- How the maker makes callers.
@@ -40,7 +40,7 @@ module _ {D C : Type 0} (callers number : ℕ) (old : Pass D C) (m : IsMaker cal
       let d : new.me.0.draws ≡ MAX_CALLS = ap (λ (x : View C). x.draws) v in (
         (
           (ap (λ (x : View C). x.stage) v, ap (λ (x : Knowing D C). x.1) is),
-          ap (λ (x : View C). x.role) v ∙ ap given m.role,
+          ap (λ (x : View C). x.role) v ∙ ap next_role m.role,
           ap (λ (x : View C). length x.mine) v,
           omega arith,
           ap (λ (x : View C). x.parts) v,

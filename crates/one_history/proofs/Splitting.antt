@@ -11,7 +11,7 @@ use Rattle.one_history.specs.declared.view.Stage.TheVariants.{Idle}
 use Rattle.one_history.specs.declared.view.View.{View}
 use Rattle.one_history.specs.Histories.{Leading, calls_by, OwnCalls}
 use Rattle.one_history.specs.Rules.{RolesApart, ticket_of, Apart, StageFits, Fits, Kept}
-use Rattle.one_history.specs.Steps.{made, given, maker_after, new_caller, guest_of}
+use Rattle.one_history.specs.Steps.{made, next_role, maker_after, new_caller, guest_of}
 use Rattle.one_history.proofs.ViewLists.{prefix_nil, total_set, each_set, each_snoc, held_set, held_snoc}
 use Rattle.one_history.proofs.Keeping.{idle_holds_none, no_ticket, stranger_apart, apart_set, apart_snoc, place_set, place_snoc}
 
@@ -72,7 +72,7 @@ module _ {D C : Type 0} (leads : Leading D C) (callers id : ℕ) (v : View C) wh
       let f = k.each id v at in
       let none_yet : (n : ℕ) → m ≤ n → calls_by n k.history ≡ [] = subst (λ r. OwnCalls k.history r v.mine) role f.own in
       let left_role : left.role ≡ Maker (m + 1) = ap made role in
-      let new_role : w.role ≡ Caller m = ap given role in
+      let new_role : w.role ≡ Caller m = ap next_role role in
       let left_apart : (j : ℕ) (u : View C) → j ≢ id → get_elem? s.views j ≡ some u → Apart left u × Apart u left = λ j u ne there.
       let l = k.apart id j v u (λ e. ne (sym e)) at there in
       let r = k.apart j id u v ne there at in (

@@ -49,10 +49,10 @@ made (Caller n) = Caller n
 made Guest = Guest
 
 -- the role of the caller that a maker makes next
-abbrev pub given : Role → Role
-given (Maker m) = Caller m
-given (Caller n) = Guest
-given Guest = Guest
+abbrev pub next_role : Role → Role
+next_role (Maker m) = Caller m
+next_role (Caller n) = Guest
+next_role Guest = Guest
 
 -- the view of a maker when it has made a caller, to which it gave a part and draws
 abbrev pub maker_after : {C : Type 0} → View C → View C
@@ -60,7 +60,7 @@ maker_after v = record v { parts = v.parts - 1; draws = v.draws - MAX_CALLS; rol
 
 -- the view of a new caller, which has seen what the maker has
 abbrev pub new_caller : {C : Type 0} → View C → View C
-new_caller v = record { parts = 1; draws = MAX_CALLS; role = given v.role; stage = Idle; seen = v.seen; heard = []; mine = [] }
+new_caller v = record { parts = 1; draws = MAX_CALLS; role = next_role v.role; stage = Idle; seen = v.seen; heard = []; mine = [] }
 
 -- the view of a guest, which has seen the same
 abbrev pub guest_of : {C : Type 0} → View C → View C

@@ -16,7 +16,7 @@ use Rattle.plan_texts.specs.Refusals.{IsProblem, Counts}
 use Rattle.run_ends.specs.Ends.{IsUsage}
 use Rattle.run_ends.specs.Found.{EndsSo, IsFound}
 use Rattle.run_ends.proofs.Finding.{found_misread}
-use Rattle.picture_runs.specs.PictureRuns.{usage_line, Asked, IsDrawnSo, drawn, unnamed, undrawn, IsDrawn, IsEndOfDrawing}
+use Rattle.picture_runs.specs.PictureRuns.{picture_usage, Asked, IsDrawnSo, drawn, unnamed, undrawn, IsDrawn, IsEndOfDrawing}
 
 -- ---- names
 
@@ -54,15 +54,15 @@ drawn_ends name = record { ends = λ texts status bytes done. drawn-ends name do
 
 -- what is found for words that ask for a drawing
 pub found_asked : (asked : Option Asked) (names : Texts) (name : Option Name) (shelf : Told) (counts : Counts) (before now : ℕ) (result : Result Answer Stop) → Some (names, name) ≡ asked
-    → IsFound usage_line (IsDrawn name) (Some names) shelf counts before now result
-    → IsFound usage_line (IsDrawn (option_and_then (λ a. a.1) asked)) (option_map (λ a. a.0) asked) shelf counts before now result
+    → IsFound picture_usage (IsDrawn name) (Some names) shelf counts before now result
+    → IsFound picture_usage (IsDrawn (option_and_then (λ a. a.1) asked)) (option_map (λ a. a.0) asked) shelf counts before now result
 found_asked asked names name shelf counts before now result is found =
-    subst (λ (a : Option Asked). IsFound usage_line (IsDrawn (option_and_then (λ a. a.1) a)) (option_map (λ a. a.0) a) shelf counts before now result) is found
+    subst (λ (a : Option Asked). IsFound picture_usage (IsDrawn (option_and_then (λ a. a.1) a)) (option_map (λ a. a.0) a) shelf counts before now result) is found
 
 -- what is found for words that are not read
 pub found_unasked : (asked : Option Asked) (lit : Option Name) (shelf : Told) (counts : Counts) (before : ℕ) (result : Result Answer Stop) → None ≡ asked
-    → IfOk result (λ answer. IsUsage usage_line answer.status answer.text.items) → IfErr result (λ stop. stop ≡ stops.OutOfMemory)
-    → IsFound usage_line (IsDrawn lit) (option_map (λ a. a.0) asked) shelf counts before before result
+    → IfOk result (λ answer. IsUsage picture_usage answer.status answer.text.items) → IfErr result (λ stop. stop ≡ stops.OutOfMemory)
+    → IsFound picture_usage (IsDrawn lit) (option_map (λ a. a.0) asked) shelf counts before before result
 found_unasked asked lit shelf counts before result is usage wanting =
-    subst (λ (a : Option Asked). IsFound usage_line (IsDrawn lit) (option_map (λ a. a.0) a) shelf counts before before result) is
-    (found_misread usage_line (IsDrawn lit) shelf counts before result usage wanting)
+    subst (λ (a : Option Asked). IsFound picture_usage (IsDrawn lit) (option_map (λ a. a.0) a) shelf counts before before result) is
+    (found_misread picture_usage (IsDrawn lit) shelf counts before result usage wanting)

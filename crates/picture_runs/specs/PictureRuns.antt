@@ -16,8 +16,8 @@ use Rattle.run_ends.specs.Ends.{IsTextRun}
 use Rattle.plan_picture.specs.Pictures.{IsPicture}
 
 -- how the program is called
-abbrev pub usage_line : List ℕ
-usage_line = codes "usage: sndpicture NET MODEL PLAN [--demand NAME]\n"
+abbrev pub picture_usage : List ℕ
+picture_usage = codes "usage: sndpicture NET MODEL PLAN [--demand NAME]\n"
 
 -- what is asked for: the names of a network, a model and a plan, and perhaps that of a demand to be lit
 abbrev pub Asked : Type 0
@@ -33,8 +33,8 @@ abbrev pub asked_in : List Name → Option Asked
 asked_in words = option_and_then asked_of (told (codes "network" ∷ codes "model" ∷ codes "plan" ∷ []) (codes "demand" ∷ []) words)
 
 -- the names of texts that the words give
-abbrev pub names_in : List Name → Option Texts
-names_in words = option_map (λ asked. asked.0) (asked_in words)
+abbrev pub asked_names : List Name → Option Texts
+asked_names words = option_map (λ asked. asked.0) (asked_in words)
 
 -- the name of the demand that the words ask to be lit
 abbrev pub lit_in : List Name → Option Name
@@ -66,7 +66,7 @@ pub record IsPictureOf (net : NetworkFile) (p : Parts) (plan : Plan) (name : Opt
 pub record IsNamedInVain (net : NetworkFile) (p : Parts) (plan : Plan) (name : Option Name) (bytes : List ℕ) : Type 0 where
   pub valid : IsValidPlan p plan
   pub missing : IsMissing net p name
-  pub line : bytes ≡ usage_line
+  pub line : bytes ≡ picture_usage
 
 -- a valid plan is drawn, unless a name is in vain, and any other is rejected, with the status that goes with it
 pub data IsDrawnSo (net : NetworkFile) (p : Parts) (plan : Plan) (name : Option Name) (status : Status) (bytes : List ℕ) : Type 0 where
@@ -80,7 +80,7 @@ IsDrawn name texts status bytes = HoldsOfProblem texts (λ net p plan. IsSomeAnd
 
 -- a run of these words ends with the picture that they ask for, with a refusal of words, texts or plan, with a front of such an answer, or with nothing
 abbrev pub IsPictureRun : List Name → Told → Counts → ℕ → ℕ → Option (List ℕ) → Option (List ℕ) → Status → Type 0
-IsPictureRun words shelf counts begins_before begins_now before now status = IsTextRun usage_line (IsDrawn (lit_in words)) (names_in words) shelf counts begins_before begins_now before now status
+IsPictureRun words shelf counts begins_before begins_now before now status = IsTextRun picture_usage (IsDrawn (lit_in words)) (asked_names words) shelf counts begins_before begins_now before now status
 
 -- the statuses of a drawing
 abbrev pub IsEndOfDrawing : Status → Type 0

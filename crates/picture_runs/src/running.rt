@@ -11,7 +11,7 @@ ghost use Rattle.plan_texts.specs.Stops.{IsReadStop, TookMore, Stops};
 ghost use Rattle.run_ends.specs.Ends.{IsOwnEnd};
 ghost use Rattle.run_ends.specs.Found.{IsFound};
 ghost use Rattle.plan_picture.specs.Pictures.{IsPicture};
-ghost use Rattle.picture_runs.specs.PictureRuns.{usage_line, names_in, lit_in, IsMissing, IsDrawnSo, IsDrawn, IsPictureRun, IsEndOfDrawing};
+ghost use Rattle.picture_runs.specs.PictureRuns.{picture_usage, asked_names, lit_in, IsMissing, IsDrawnSo, IsDrawn, IsPictureRun, IsEndOfDrawing};
 
 use crate::words::asked_in;
 use cert_verifier::{Rejected, verify};
@@ -164,8 +164,8 @@ fn draw_plan<S: Shelf>(
 /// What a run of these words has to say.
 #[tactic(auto, using(run_ends::proofs::Finding::found_wanting, crate::proofs::Drawing::found_unasked))]
 fn answer_to<S: Shelf>(alloc: Global, words: &[String], shelf: &mut S) -> Result<Answer, Stop>
-    ensures found { IsFound usage_line (IsDrawn (lit_in (map string_bytes words.now)))
-        (names_in (map string_bytes words.now)) (S.text shelf.old)
+    ensures found { IsFound picture_usage (IsDrawn (lit_in (map string_bytes words.now)))
+        (asked_names (map string_bytes words.now)) (S.text shelf.old)
         (counts_of (S.faults shelf.old) (S.faults shelf.new) (S.taken shelf.new))
         (S.begins shelf.old) (S.begins shelf.new) result }
     ensures later { S.faults shelf.old ≤ S.faults shelf.new }
@@ -202,7 +202,7 @@ pub fn picture_run<S: Shelf, W: Sink>(
     ensures write_fault { result ≡ Status.WriteFault → Rose (W.faults out.old) (W.faults out.new) }
 
     // There is no other answer, unless something outside failed.
-    ensures complete { IsOwnEnd IsEndOfDrawing (names_in (map string_bytes words.now)) result
+    ensures complete { IsOwnEnd IsEndOfDrawing (asked_names (map string_bytes words.now)) result
         ⊎ Rose (S.faults shelf.old) (S.faults shelf.new) ⊎ Rose (W.faults out.old) (W.faults out.new) }
     ensures shelf_later { S.faults shelf.old ≤ S.faults shelf.new }
     ensures sink_later { W.faults out.old ≤ W.faults out.new }

@@ -22,7 +22,7 @@ use Rattle.pool_machine.specs.Nodes.{IsSoundFate, HasSoundFate}
 use Rattle.pool_machine.specs.Family.{HasChildrenBy}
 use Rattle.pool_machine.specs.Soundness.{IsSound}
 use Rattle.pool_machine.specs.PlanOf.{records_by, records_in, records_at, tree_of}
-use Rattle.plan_assembly.specs.PlanParts.{numbers_by, numbers_in, numbers_at, preorder_of, times_in}
+use Rattle.plan_assembly.specs.PlanParts.{numbers_by, numbers_from, numbers_at, preorder_of, times_in}
 use Rattle.pool_machine.proofs.Lists.{All-at}
 use Rattle.pool_machine.proofs.Frames.{same_or_other}
 use Rattle.pool_machine.proofs.Rising.{child-region}
@@ -67,7 +67,7 @@ module _ (s : State) (h : IsSound s) where
       → leaves_at (region_of p node ∷ gs) (at_depth depth n ++ rest) ≡ leaves_by p s.nodes (numbers_at depth s.nodes n) ++ leaves_at gs rest
   leaves-there zero n node is deep gs rest = let within = slice_get_within s.nodes n node is in absurd (omega arith)
   leaves-there (suc depth) n node is deep gs rest =
-      let P : Option Node → Type 0 = λ o. leaves_at (region_of p node ∷ gs) (records_in (at_depth depth) o ++ rest) ≡ leaves_by p s.nodes (numbers_in (numbers_at depth s.nodes) n o) ++ leaves_at gs rest in
+      let P : Option Node → Type 0 = λ o. leaves_at (region_of p node ∷ gs) (records_in (at_depth depth) o ++ rest) ≡ leaves_by p s.nodes (numbers_from (numbers_at depth s.nodes) n o) ++ leaves_at gs rest in
       subst P (sym is) (by_fate (λ m child above at gs' rest'. leaves-there depth m child at (omega arith) gs' rest') node.fate refl (h.family.children n node is))
     where
       g : Region

@@ -11,7 +11,7 @@ use Rattle.branch_tree.specs.declared.node.Fate.TheVariants.{Undone, ClosedBy, D
 use Rattle.pool_machine.specs.State.{Node, State}
 use Rattle.pool_machine.specs.Machine.{IsReachable}
 use Rattle.pool_machine.specs.Family.{HasChildrenBy}
-use Rattle.plan_assembly.specs.PlanParts.{numbers_by, numbers_in, numbers_at, preorder_of, HaveChildren, times_in, IsOrderOf}
+use Rattle.plan_assembly.specs.PlanParts.{numbers_by, numbers_from, numbers_at, preorder_of, HaveChildren, times_in, IsOrderOf}
 use Rattle.pool_machine.proofs.Frames.{same_or_other}
 use Rattle.pool_machine.proofs.Runs.{IsReachable-sound}
 use Rattle.plan_assembly.proofs.PlanBorn.{division_by, division_in, division_at, IsChildNumber, IsParent, AreBorn, beyond, parent-before, IsReachable-born}
@@ -50,7 +50,7 @@ module _ (nodes : List Node) (h : HaveChildren nodes) where
           let right = none d.right_child.0 children.1.0 in
           omega arith
 
-      by : ((m : ℕ) → n < m → times_in k (numbers_at depth nodes m) ≡ 0) → (o : Option Node) → slice_get nodes n ≡ o → times_in k (numbers_in (numbers_at depth nodes) n o) ≡ 0
+      by : ((m : ℕ) → n < m → times_in k (numbers_at depth nodes m) ≡ 0) → (o : Option Node) → slice_get nodes n ≡ o → times_in k (numbers_from (numbers_at depth nodes) n o) ≡ 0
       by none None e = refl
       by none (Some node) e = times_in-other k n (numbers_by (numbers_at depth nodes) node.fate) (λ same. absurd (omega arith)) ∙ by_fate none node node.fate (h n node e)
 
@@ -68,7 +68,7 @@ module _ (nodes : List Node) (h : HaveChildren nodes) where
           let right = below-none depth d.right_child.0 n children.1.0 in
           omega arith
 
-      by : (o : Option Node) → slice_get nodes n ≡ o → times_in n (numbers_in (numbers_at depth nodes) n o) ≡ 1
+      by : (o : Option Node) → slice_get nodes n ≡ o → times_in n (numbers_from (numbers_at depth nodes) n o) ≡ 1
       by None e = let far = beyond nodes n e in absurd (omega arith)
       by (Some node) e =
           let first = times_in-same n (numbers_by (numbers_at depth nodes) node.fate) in
@@ -138,7 +138,7 @@ module _ (nodes : List Node) (h : HaveChildren nodes) where
                 let same_d : d ≡ parent.0 = cc in
                 own below node d c (born.apart n d e) (subst (λ (x : Division). IsChildNumber x k) (sym same_d) parent.2) same
 
-        by : AgreeBelow depth n k m → (o : Option Node) → slice_get nodes n ≡ o → times_in k (numbers_in (numbers_at depth nodes) n o) ≡ times_in m (numbers_in (numbers_at depth nodes) n o)
+        by : AgreeBelow depth n k m → (o : Option Node) → slice_get nodes n ≡ o → times_in k (numbers_from (numbers_at depth nodes) n o) ≡ times_in m (numbers_from (numbers_at depth nodes) n o)
         by below None e = refl
         by below (Some node) e = elim (same_or_other n m) [
           | inl same ↦
@@ -174,7 +174,7 @@ numbers-within nodes (suc depth) n = by (λ m. numbers-within nodes depth m) (sl
     by_fate below (ClosedBy found) = All-nil (λ m. m < length nodes)
     by_fate below (DividedBy d) = All-append (λ m. m < length nodes) (numbers_at depth nodes d.left_child.0) (numbers_at depth nodes d.right_child.0) (below d.left_child.0) (below d.right_child.0)
 
-    by : ((m : ℕ) → All (λ x. x < length nodes) (numbers_at depth nodes m)) → (o : Option Node) → slice_get nodes n ≡ o → All (λ m. m < length nodes) (numbers_in (numbers_at depth nodes) n o)
+    by : ((m : ℕ) → All (λ x. x < length nodes) (numbers_at depth nodes m)) → (o : Option Node) → slice_get nodes n ≡ o → All (λ m. m < length nodes) (numbers_from (numbers_at depth nodes) n o)
     by below None e = All-nil (λ m. m < length nodes)
     by below (Some node) e = All-cons (λ m. m < length nodes) n (numbers_by (numbers_at depth nodes) node.fate) (slice_get_within nodes n node e) (by_fate below node.fate)
 

@@ -45,9 +45,9 @@ abbrev pub record_at : List Node → ℕ → TreeNode
 record_at nodes n = record_in (slice_get nodes n)
 
 -- the numbers that wait, and behind them the children of a node, the left one last
-abbrev pub with_children : List ℕ → Option (BranchId × BranchId) → List ℕ
-with_children waiting None = waiting
-with_children waiting (Some children) = (waiting ++ (children.1.0 ∷ [])) ++ (children.0.0 ∷ [])
+abbrev pub numbers_with_children : List ℕ → Option (BranchId × BranchId) → List ℕ
+numbers_with_children waiting None = waiting
+numbers_with_children waiting (Some children) = (waiting ++ (children.1.0 ∷ [])) ++ (children.0.0 ∷ [])
 
 -- the numbers below a node whose children's numbers a function tells
 abbrev pub numbers_by : (ℕ → List ℕ) → Fate → List ℕ
@@ -56,14 +56,14 @@ numbers_by below (ClosedBy found) = []
 numbers_by below (DividedBy d) = below d.left_child.0 ++ below d.right_child.0
 
 -- the number of the node that is there and those below it, or none
-abbrev pub numbers_in : (ℕ → List ℕ) → ℕ → Option Node → List ℕ
-numbers_in below n None = []
-numbers_in below n (Some node) = n ∷ numbers_by below node.fate
+abbrev pub numbers_from : (ℕ → List ℕ) → ℕ → Option Node → List ℕ
+numbers_from below n None = []
+numbers_from below n (Some node) = n ∷ numbers_by below node.fate
 
 -- the numbers of the subtree at a number, in preorder, down to a depth
 abbrev pub numbers_at : ℕ → List Node → ℕ → List ℕ
 numbers_at zero nodes n = []
-numbers_at (suc depth) nodes n = numbers_in (numbers_at depth nodes) n (slice_get nodes n)
+numbers_at (suc depth) nodes n = numbers_from (numbers_at depth nodes) n (slice_get nodes n)
 
 -- the numbers of the tree in preorder
 abbrev pub preorder_of : List Node → List ℕ

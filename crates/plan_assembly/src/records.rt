@@ -4,7 +4,7 @@ ghost use Rattle.std.specs.Prelude.{◌≡◌, ◌<◌, ◌^◌, length, map, So
 ghost use Rattle.proof_tree.specs.Shapes.{are_trees};
 ghost use Rattle.pool_machine.specs.PlanOf.{records_at};
 ghost use Rattle.pool_nodes.specs.Records.{record_of, children_by};
-ghost use Rattle.plan_assembly.specs.PlanParts.{record_at, with_children, preorder_of, HaveChildren, IsOrderOf};
+ghost use Rattle.plan_assembly.specs.PlanParts.{record_at, numbers_with_children, preorder_of, HaveChildren, IsOrderOf};
 
 use pool_nodes::PoolNode;
 use proof_tree::{Tree, TreeNode};
@@ -12,7 +12,7 @@ use std::alloc::{AllocError, Global};
 
 /// Puts the children of a node behind the numbers that wait, the left one last.
 fn await_children(waiting: &mut Vec<usize>, node: &PoolNode) -> Result<(), AllocError>
-    ensures { IfOk result (λ _. waiting.new.items ≡ with_children waiting.old.items (children_by node.now.fate)) }
+    ensures { IfOk result (λ _. waiting.new.items ≡ numbers_with_children waiting.old.items (children_by node.now.fate)) }
 {
     if let Some((left, right)) = node.children() {
         waiting.push(right.0 as usize)?;

@@ -72,18 +72,18 @@ abbrev pub demand_line : NetworkFile → Design → ℕ → List ℕ
 demand_line net d k = codes "DEMAND " ++ demand_name net k ++ way_text net (path_at d k) ++ codes "\n"
 
 -- a line for each of so many links
-abbrev pub link_lines : NetworkFile → Parts → Design → ℕ → List ℕ
-link_lines net p d count = flat_map (link_line net p d) (range_with_len 0 count)
+abbrev pub link_report : NetworkFile → Parts → Design → ℕ → List ℕ
+link_report net p d count = flat_map (link_line net p d) (range_with_len 0 count)
 
 -- a line for each of so many demands
-abbrev pub demand_lines : NetworkFile → Design → ℕ → List ℕ
-demand_lines net d count = flat_map (demand_line net d) (range_with_len 0 count)
+abbrev pub demand_report : NetworkFile → Design → ℕ → List ℕ
+demand_report net d count = flat_map (demand_line net d) (range_with_len 0 count)
 
 -- a design with its cost: the cost, then the links, then the demands; or that there is none
 abbrev pub design_text : NetworkFile → Parts → Option (ℕ × Design) → List ℕ
 design_text net p None = codes "none\n"
 design_text net p (Some design) =
-    cost_text design.0 ++ codes "\n" ++ link_lines net p design.1 (length p.links) ++ demand_lines net design.1 (length p.demands)
+    cost_text design.0 ++ codes "\n" ++ link_report net p design.1 (length p.links) ++ demand_report net design.1 (length p.demands)
 
 -- the line of the count of cuts, where there is a cut
 unfoldable pub cuts_text : ℕ → List ℕ

@@ -6,7 +6,7 @@ ghost use Rattle.plan_base.specs.Arcs.{link_of};
 ghost use Rattle.plan_base.specs.Places.{there_of, back_of};
 ghost use Rattle.plan_base.specs.Designs.{load_at, link_cost, IsGoodDesign};
 ghost use Rattle.proof_tree.specs.Plans.{IsValidPlan};
-ghost use Rattle.plan_report.specs.Reports.{IsReadFrom, HasNames, back_text, traffic_text, installed_text, link_line, way_text, demand_line, link_lines, demand_lines, design_text, cuts_text, report_text};
+ghost use Rattle.plan_report.specs.Reports.{IsReadFrom, HasNames, back_text, traffic_text, installed_text, link_line, way_text, demand_line, link_report, demand_report, design_text, cuts_text, report_text};
 
 use crate::check_lines::LOAD_SCALE;
 use crate::numbers::{push_number, push_numbers};
@@ -133,7 +133,7 @@ fn push_links(
     requires names { HasNames net.now inst.now }
     requires good { IsGoodDesign inst.now design.now }
     requires loads { (q : ℕ) → q < MAX_PLACES → slice_index loads.now q ≡ load_at inst.now design.now q }
-    ensures { OnOk result (text.new.items ≡ text.old.items ++ link_lines net.now inst.now design.now (length inst.now.links)) }
+    ensures { OnOk result (text.new.items ≡ text.old.items ++ link_report net.now inst.now design.now (length inst.now.links)) }
 {
     for place in 0..inst.links() {
         let link = LinkId(place);
@@ -190,7 +190,7 @@ fn push_demands(
 ) -> Result<(), AllocError>
     requires names { HasNames net.now inst.now }
     requires good { IsGoodDesign inst.now design.now }
-    ensures { OnOk result (text.new.items ≡ text.old.items ++ demand_lines net.now design.now (length inst.now.demands)) }
+    ensures { OnOk result (text.new.items ≡ text.old.items ++ demand_report net.now design.now (length inst.now.demands)) }
 {
     for place in 0..inst.demands() {
         push_demand(text, net, inst, design, DemandId(place))?;

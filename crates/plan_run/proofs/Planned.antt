@@ -20,10 +20,10 @@ use Rattle.plan_texts.specs.Answers.{IsVerified}
 use Rattle.plan_texts.specs.OneAnswer.{Below}
 use Rattle.plan_texts.proofs.OneRefusal.{refused_or_read, verdict-of, good-if}
 use Rattle.plan_run.specs.Plans.{IsPlanDone}
-use Rattle.plan_run.specs.Runs.{IsDone}
+use Rattle.plan_run.specs.Runs.{IsWorkDone}
 
 -- texts for which a command does its work spell what it works on
-done-good : (command : Command Word) (texts : Texts) (status : Status) (bytes : List ℕ) → IsDone command texts status bytes → AreGood texts
+done-good : (command : Command Word) (texts : Texts) (status : Status) (bytes : List ℕ) → IsWorkDone command texts status bytes → AreGood texts
 done-good (OfNetwork (Plan workers budget) network model) texts status bytes done = a_problem done.net done.parts done.plan done.problem
 done-good (OfNetwork Check network model) texts status bytes done = a_problem done.net done.parts done.plan done.problem
 done-good (OfPlan Verify network model plan) texts status bytes done = a_problem done.net done.parts done.plan done.problem
@@ -32,7 +32,7 @@ done-good (Upgrade plan) texts status bytes done = a_plan done.plan done.read
 done-good (OfSample work key) texts status bytes done = no_texts done.0
 
 -- texts that are refused are not also worked on
-pub refused_or_done : Below → (command : Command Word) (texts : Texts) (fault : RunFault) (status : Status) (bytes : List ℕ) → AreRefused texts fault → IsDone command texts status bytes → ⊥
+pub refused_or_done : Below → (command : Command Word) (texts : Texts) (fault : RunFault) (status : Status) (bytes : List ℕ) → AreRefused texts fault → IsWorkDone command texts status bytes → ⊥
 refused_or_done below command texts fault status bytes refused done = refused_or_read below texts fault refused (done-good command texts status bytes done)
 
 -- what network and model read as does not depend on a plan

@@ -10,13 +10,13 @@ use Rattle.command_words.specs.declared.command.Command.{Command}
 use Rattle.command_words.specs.Words.{Word}
 use Rattle.plan_texts.specs.declared.status.Status.{Status}
 use Rattle.plan_texts.specs.declared.status.Status.TheVariants.{Good, Usage, BadText, Unsupported, OverLimit, ReadFault, WriteFault, OutOfMemory, Infeasible, Undecided, Rejected}
-use Rattle.plan_texts.specs.Statuses.{status_of}
+use Rattle.plan_texts.specs.Statuses.{refusal_status}
 use Rattle.plan_texts.specs.Texts.{Text, Name, Told, Texts, most_bytes, IsKindRead, HoldsOfTexts}
 use Rattle.plan_texts.specs.Refusals.{AreRefused, IsTooLong, IsRefusalOf, Counts}
 use Rattle.plan_texts.specs.OneAnswer.{Below}
 use Rattle.plan_texts.proofs.OneRefusal.{refused_or_read}
 use Rattle.run_ends.specs.Ends.{IsAnswer, Says}
-use Rattle.plan_run.specs.Runs.{names_of, IsDone}
+use Rattle.plan_run.specs.Runs.{texts_of_command, IsWorkDone}
 use Rattle.plan_run.specs.Supports.{IsKindTold, AreToldWell, AreSupported, EndsWith, SaysOf}
 use Rattle.plan_run.proofs.WorkEnds.{done-ends}
 
@@ -61,7 +61,7 @@ not-refused below shelf names begun fault s h =
     refused_or_read below s.texts fault (subst (λ (t : Texts). AreRefused t fault) same h.holds) s.good
 
 -- the texts are refused for a read fault alone
-only-read : Below → (shelf : Told) (names : Texts) (begun : ℕ) (fault : RunFault) → AreToldWell shelf names → IsRefusalOf names shelf begun fault → status_of fault ≡ ReadFault
+only-read : Below → (shelf : Told) (names : Texts) (begun : ℕ) (fault : RunFault) → AreToldWell shelf names → IsRefusalOf names shelf begun fault → refusal_status fault ≡ ReadFault
 only-read below shelf names begun faults.Usage s refusal = absurd refusal.holds
 only-read below shelf names begun (faults.Read file) s refusal = refl
 only-read below shelf names begun (faults.TooLong file) s refusal = absurd (not-long shelf names begun file s refusal)
@@ -78,14 +78,14 @@ only-read below shelf names begun (faults.OverLimit limit at) s refusal = absurd
 abbrev EndsFor : Command Word → Status → Type 0
 EndsFor command status = EndsWith command status ⊎ (status ≡ ReadFault) ⊎ (status ≡ WriteFault) ⊎ (status ≡ OutOfMemory)
 
-answer-ends : Below → (shelf : Told) (counts : Counts) (begun : ℕ) (command : Command Word) (status : Status) (bytes : List ℕ) → AreToldWell shelf (names_of command)
-    → IsAnswer (fault_line faults.Usage) (IsDone command) (Some (names_of command)) shelf counts begun status bytes → EndsFor command status
+answer-ends : Below → (shelf : Told) (counts : Counts) (begun : ℕ) (command : Command Word) (status : Status) (bytes : List ℕ) → AreToldWell shelf (texts_of_command command)
+    → IsAnswer (fault_line faults.Usage) (IsWorkDone command) (Some (texts_of_command command)) shelf counts begun status bytes → EndsFor command status
 answer-ends below shelf counts begun command status bytes s (inl refused) =
-    inr (inl (refused.is_status ∙ only-read below shelf (names_of command) begun refused.fault s refused.refusal))
+    inr (inl (refused.is_status ∙ only-read below shelf (texts_of_command command) begun refused.fault s refused.refusal))
 answer-ends below shelf counts begun command status bytes s (inr done) = inl (done-ends command done.texts status bytes done.holds)
 
-says-ends : Below → (shelf : Told) (counts : Counts) (begun : ℕ) (command : Command Word) (status : Status) (bytes : List ℕ) → AreToldWell shelf (names_of command)
-    → Says (fault_line faults.Usage) (IsDone command) (Some (names_of command)) shelf counts begun status bytes → EndsFor command status
+says-ends : Below → (shelf : Told) (counts : Counts) (begun : ℕ) (command : Command Word) (status : Status) (bytes : List ℕ) → AreToldWell shelf (texts_of_command command)
+    → Says (fault_line faults.Usage) (IsWorkDone command) (Some (texts_of_command command)) shelf counts begun status bytes → EndsFor command status
 says-ends below shelf counts begun command WriteFault bytes s says = inr (inr (inl refl))
 says-ends below shelf counts begun command OutOfMemory bytes s says = inr (inr (inr refl))
 says-ends below shelf counts begun command ReadFault bytes s says = inr (inl refl)
@@ -103,4 +103,4 @@ pub done_where_supported : Below → (words : List Word) (shelf : Told) (counts 
     → SaysOf words shelf counts begun status bytes → EndsFor command status
 done_where_supported below words shelf counts begun command status bytes s says =
     says-ends below shelf counts begun command status bytes s.texts
-    (subst (λ (o : Option (Command Word)). Says (fault_line faults.Usage) (λ texts status bytes. IsSomeAnd o (λ c. IsDone c texts status bytes)) (option_map names_of o) shelf counts begun status bytes) s.asked says)
+    (subst (λ (o : Option (Command Word)). Says (fault_line faults.Usage) (λ texts status bytes. IsSomeAnd o (λ c. IsWorkDone c texts status bytes)) (option_map texts_of_command o) shelf counts begun status bytes) s.asked says)

@@ -19,7 +19,7 @@ use Rattle.plan_texts.specs.Texts.{Texts}
 use Rattle.plan_texts.specs.Answers.{IsReport, reported, unreported}
 use Rattle.run_ends.specs.Found.{EndsSo}
 use Rattle.run_ends.proofs.Ending.{verdict-ends}
-use Rattle.plan_run.specs.Runs.{IsDone, IsDoneSo}
+use Rattle.plan_run.specs.Runs.{IsWorkDone, IsDoneSo}
 use Rattle.plan_run.specs.Supports.{EndsWith, IsEndOfWork}
 
 planned-ends : (claimed : PlanStatus) (status : Status) → status ≡ status_of_plan claimed → (status ≡ Good) ⊎ (status ≡ Infeasible) ⊎ (status ≡ Undecided)
@@ -33,7 +33,7 @@ report-ends net parts (Some plan) status bytes (reported good is) = inl good
 report-ends net parts (Some plan) status bytes (unreported bad is) = inr bad
 
 -- a command that does its work ends with one of its own statuses
-pub done-ends : (command : Command Word) (texts : Texts) (status : Status) (bytes : List ℕ) → IsDone command texts status bytes → EndsWith command status
+pub done-ends : (command : Command Word) (texts : Texts) (status : Status) (bytes : List ℕ) → IsWorkDone command texts status bytes → EndsWith command status
 done-ends (OfNetwork (Plan workers budget) network model) texts status bytes done = planned-ends done.holds.plan.status status done.holds.is_status
 done-ends (OfNetwork Check network model) texts status bytes done = done.holds.good
 done-ends (OfPlan Verify network model plan) texts status bytes done = verdict-ends done.parts done.plan status bytes done.holds
@@ -42,7 +42,7 @@ done-ends (Upgrade plan) texts status bytes done = done.written.good
 done-ends (OfSample Sample key) texts status bytes done = done.1.good
 done-ends (OfSample Trial key) texts status bytes done = planned-ends done.1.plan.status status done.1.is_status
 
-some-ends : (command : Option (Command Word)) (texts : Texts) (status : Status) (bytes : List ℕ) → IsSomeAnd command (λ command. IsDone command texts status bytes) → IsSomeAnd command (λ command. EndsWith command status)
+some-ends : (command : Option (Command Word)) (texts : Texts) (status : Status) (bytes : List ℕ) → IsSomeAnd command (λ command. IsWorkDone command texts status bytes) → IsSomeAnd command (λ command. EndsWith command status)
 some-ends None texts status bytes done = done
 some-ends (Some command) texts status bytes done = done-ends command texts status bytes done
 

@@ -9,12 +9,12 @@ use Rattle.plan_texts.specs.declared.stop.Stop.{Stop}
 use Rattle.plan_texts.specs.Texts.{Told}
 use Rattle.plan_texts.specs.Refusals.{Counts}
 use Rattle.run_ends.specs.Found.{IsFound}
-use Rattle.plan_run.specs.Runs.{names_of, names_in, IsDone, IsDoneSo}
+use Rattle.plan_run.specs.Runs.{texts_of_command, texts_in_words, IsWorkDone, IsDoneSo}
 
 -- the command did its work, or stops for a cause that the counts show
 abbrev pub IsFoundBy : Command Word → Told → Counts → ℕ → ℕ → Result Answer Stop → Type 0
-IsFoundBy command shelf counts before now result = IsFound (fault_line faults.Usage) (IsDone command) (Some (names_of command)) shelf counts before now result
+IsFoundBy command shelf counts before now result = IsFound (fault_line faults.Usage) (IsWorkDone command) (Some (texts_of_command command)) shelf counts before now result
 
 -- the same of a run of these words
 abbrev pub IsFoundFor : List Word → Told → Counts → ℕ → ℕ → Result Answer Stop → Type 0
-IsFoundFor words shelf counts before now result = IsFound (fault_line faults.Usage) (IsDoneSo words) (names_in words) shelf counts before now result
+IsFoundFor words shelf counts before now result = IsFound (fault_line faults.Usage) (IsDoneSo words) (texts_in_words words) shelf counts before now result

@@ -24,8 +24,8 @@ abbrev pub network_of : SampleKey → NetworkFile
 network_of key = sample_network key.number key.nodes key.demands
 
 -- the parts that it stands for under the model of a trial
-abbrev pub parts_of : SampleKey → Parts
-parts_of key = sample_parts key.number key.nodes key.demands
+abbrev pub parts_of_key : SampleKey → Parts
+parts_of_key key = sample_parts key.number key.nodes key.demands
 
 -- the text of the network of a sample, which spells that network
 pub record IsSampled (key : SampleKey) (status : Status) (bytes : List ℕ) : Type 0 where
@@ -37,9 +37,9 @@ pub record IsSampled (key : SampleKey) (status : Status) (bytes : List ℕ) : Ty
 pub record IsTried (key : SampleKey) (status : Status) (bytes : List ℕ) : Type 0 where
   pub plan : Plan
   pub cuts : List Cut
-  pub stands : ReadsAs (network_of key) trial_model (parts_of key)
-  pub searched : IsSearched (parts_of key) cuts TRIAL_BUDGET plan
-  pub line : bytes ≡ trial_line (parts_of key) plan
+  pub stands : ReadsAs (network_of key) trial_model (parts_of_key key)
+  pub searched : IsSearched (parts_of_key key) cuts TRIAL_BUDGET plan
+  pub line : bytes ≡ trial_line (parts_of_key key) plan
   pub is_status : status ≡ status_of_plan plan.status
 
 -- this is done with a sample, with this status and this text

@@ -14,7 +14,7 @@ use Rattle.plan_texts.specs.declared.status.Status.TheVariants.{Good, Rejected, 
 use Rattle.plan_texts.specs.Texts.{Text, Name, Told, Texts, most_bytes}
 use Rattle.plan_texts.specs.Refusals.{AreGood, Counts}
 use Rattle.run_ends.specs.Ends.{Says}
-use Rattle.plan_run.specs.Runs.{names_of, names_in, IsDoneSo}
+use Rattle.plan_run.specs.Runs.{texts_of_command, texts_in_words, IsDoneSo}
 
 -- the shelf tells this text of this name, and it is within the limit of its kind
 pub record IsTold (shelf : Told) (file : FileKind) (name : Name) (text : Text) : Type 0 where
@@ -38,7 +38,7 @@ pub record AreToldWell (shelf : Told) (names : Texts) : Type 0 where
 -- the words ask for the command, and the shelf tells the texts that they name, which spell what it works on
 pub record AreSupported (words : List Word) (shelf : Told) (command : Command Word) : Type 0 where
   pub asked : command_in words ≡ Some command
-  pub texts : AreToldWell shelf (names_of command)
+  pub texts : AreToldWell shelf (texts_of_command command)
 
 -- how a command ends that does its work
 abbrev pub EndsWith : Command Word → Status → Type 0
@@ -55,4 +55,4 @@ IsEndOfWork words status = IsSomeAnd (command_in words) (λ command. EndsWith co
 
 -- what each status says of the texts begun and of the bytes written, in a run of these words
 abbrev pub SaysOf : List Word → Told → Counts → ℕ → Status → List ℕ → Type 0
-SaysOf words shelf counts begun status bytes = Says (fault_line faults.Usage) (IsDoneSo words) (names_in words) shelf counts begun status bytes
+SaysOf words shelf counts begun status bytes = Says (fault_line faults.Usage) (IsDoneSo words) (texts_in_words words) shelf counts begun status bytes

@@ -15,10 +15,10 @@ ghost use Rattle.instance_maker.specs.declared.trials.TheConstants.{TRIAL_BUDGET
 ghost use Rattle.command_words.specs.declared.command.SampleKey.{SampleKey as AnyKey};
 ghost use Rattle.plan_run.specs.Budgets.{CoversSplits};
 ghost use Rattle.plan_run.specs.Plans.{IsPlanDone};
-ghost use Rattle.plan_run.specs.Samples.{parts_of, IsTried};
+ghost use Rattle.plan_run.specs.Samples.{parts_of_key, IsTried};
 ghost use Rattle.run_ends.specs.Ends.{IsOwnEnd};
 ghost use Rattle.plan_run.specs.Supports.{AreSupported, EndsWith, IsEndOfWork, SaysOf};
-ghost use Rattle.plan_run.specs.Runs.{names_in, IsRun, IsDone};
+ghost use Rattle.plan_run.specs.Runs.{texts_in_words, IsCommandRun, IsWorkDone};
 
 use crate::top_call::run;
 use cert_format::laws::text_within_limit;
@@ -44,9 +44,9 @@ pub fn run_surely<R: Threads + Wait + Sync, G: Gate>(
     gate: &G,
 ) -> Status
     // Over a sink that tells nothing the bytes are free, but the begins and the cause are not.
-    ensures answer { IsRun (map string_bytes words.now) (λ name. Some (text_of shelf.old name))
+    ensures answer { IsCommandRun (map string_bytes words.now) (λ name. Some (text_of shelf.old name))
         (counts_of 0 0 (taken_count shelf.new)) (begin_count shelf.old) (begin_count shelf.new) None None result }
-    ensures complete { IsOwnEnd (IsEndOfWork (map string_bytes words.now)) (names_in (map string_bytes words.now)) result }
+    ensures complete { IsOwnEnd (IsEndOfWork (map string_bytes words.now)) (texts_in_words (map string_bytes words.now)) result }
     ensures no_read_fault { result ≡ Status.ReadFault → ⊥ }
     ensures no_write_fault { result ≡ Status.WriteFault → ⊥ }
 {
@@ -56,7 +56,7 @@ pub fn run_surely<R: Threads + Wait + Sync, G: Gate>(
 /// Where texts are refused, no command does its work for them.
 pub fn refused_or_done()
     ensures { (command : AnyCommand Word) (texts : Texts) (fault : AnyFault) (status : AnyStatus) (bytes : List ℕ) →
-        AreRefused texts fault → IsDone command texts status bytes → ⊥ }
+        AreRefused texts fault → IsWorkDone command texts status bytes → ⊥ }
 {
     one_answer_below();
 }
@@ -82,7 +82,7 @@ pub fn accepted_where_planned()
 pub fn decided_where_covered()
     ensures planned { (budget : ℕ) (texts : Texts) (bytes : List ℕ) (done : IsPlanDone budget texts statuses.Undecided bytes) →
         CoversSplits done.parts budget → ⊥ }
-    ensures tried { (key : AnyKey) (bytes : List ℕ) → IsTried key statuses.Undecided bytes → CoversSplits (parts_of key) TRIAL_BUDGET → ⊥ }
+    ensures tried { (key : AnyKey) (bytes : List ℕ) → IsTried key statuses.Undecided bytes → CoversSplits (parts_of_key key) TRIAL_BUDGET → ⊥ }
 {
     enough_budget();
 }

@@ -4,7 +4,7 @@ ghost use Rattle.std.specs.Prelude.{◌≡◌, ◌≤◌, ◌⊎◌, map, string
 ghost use Rattle.plan_io.specs.Causes.{Rose};
 ghost use Rattle.plan_texts.specs.Refusals.{counts_of};
 ghost use Rattle.run_ends.specs.Ends.{IsOwnEnd};
-ghost use Rattle.plan_run.specs.Runs.{names_in, IsRun};
+ghost use Rattle.plan_run.specs.Runs.{texts_in_words, IsCommandRun};
 ghost use Rattle.plan_run.specs.Supports.{IsEndOfWork};
 
 use crate::commands::answer_to;
@@ -31,14 +31,14 @@ pub fn run<R: Threads + Wait + Sync, S: Shelf, W: Sink, G: Gate>(
     out: &mut W,
     gate: &G,
 ) -> Status
-    ensures answer { IsRun (map string_bytes words.now) (S.text shelf.old)
+    ensures answer { IsCommandRun (map string_bytes words.now) (S.text shelf.old)
         (counts_of (S.faults shelf.old) (S.faults shelf.new) (S.taken shelf.new))
         (S.begins shelf.old) (S.begins shelf.new) (W.contents out.old) (W.contents out.new) result }
     ensures read_fault { result ≡ Status.ReadFault → Rose (S.faults shelf.old) (S.faults shelf.new) }
     ensures write_fault { result ≡ Status.WriteFault → Rose (W.faults out.old) (W.faults out.new) }
 
     // There is no other answer, unless something outside failed.
-    ensures complete { IsOwnEnd (IsEndOfWork (map string_bytes words.now)) (names_in (map string_bytes words.now)) result
+    ensures complete { IsOwnEnd (IsEndOfWork (map string_bytes words.now)) (texts_in_words (map string_bytes words.now)) result
         ⊎ Rose (S.faults shelf.old) (S.faults shelf.new) ⊎ Rose (W.faults out.old) (W.faults out.new) }
     ensures shelf_later { S.faults shelf.old ≤ S.faults shelf.new }
     ensures sink_later { W.faults out.old ≤ W.faults out.new }

@@ -9,7 +9,7 @@ use Rattle.plan_base.specs.declared.path.Design.{Design}
 use Rattle.plan_base.specs.Designs.{cost_of}
 use Rattle.link_steps.specs.Unit.{IsMultiple, IsUnit}
 use Rattle.proof_tree.proofs.UnitLaws.{unit-positive, cost-multiple}
-use Rattle.plan_table.specs.Tables.{raised}
+use Rattle.plan_table.specs.Tables.{rounded_up}
 
 -- the multiple that a number is rounded up to is the least one not below it
 least : (unit n most : ℕ) → 0 < unit → IsMultiple unit most → n ≤ most → div_ceil n unit * unit ≤ most
@@ -21,8 +21,8 @@ least unit n most positive (times, is) below =
     omega (arith, le, is)
 
 -- a bound that is raised is one still
-pub raised-le : (p : Parts) (unit : ℕ) (bound : ℤ) (d : Design) → IsUnit p unit → bound ≤ℤ pos (cost_of p d) → raised unit bound ≤ℤ pos (cost_of p d)
-raised-le p unit (pos n) d is below =
+pub rounded_up-le : (p : Parts) (unit : ℕ) (bound : ℤ) (d : Design) → IsUnit p unit → bound ≤ℤ pos (cost_of p d) → rounded_up unit bound ≤ℤ pos (cost_of p d)
+rounded_up-le p unit (pos n) d is below =
     let le : div_ceil n unit * unit ≤ cost_of p d = least unit n (cost_of p d) (unit-positive p unit is) (cost-multiple p unit d is) (omega (arith, ints, below)) in
     omega (arith, ints, le)
-raised-le p unit (negsuc n) d is below = below
+rounded_up-le p unit (negsuc n) d is below = below

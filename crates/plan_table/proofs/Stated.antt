@@ -16,8 +16,8 @@ use Rattle.proof_tree.specs.declared.plan.PlanStatus.TheVariants.{Optimal, Infea
 use Rattle.proof_tree.specs.declared.plan.Plan.{Plan}
 use Rattle.proof_tree.specs.Plans.{stated_cost, IsStatedDesign, IsCandidate, IsLeastCandidate, HasStatus, IsValidPlan}
 use Rattle.cert_verifier.proofs.CostBounds.{good-cost}
-use Rattle.plan_table.specs.Tables.{raised, claimed_bound}
-use Rattle.plan_table.proofs.Raised.{raised-le}
+use Rattle.plan_table.specs.Tables.{rounded_up, claimed_bound}
+use Rattle.plan_table.proofs.Raised.{rounded_up-le}
 
 -- ---- the cost
 
@@ -42,12 +42,12 @@ no-more : (v : ℤ) → v ≤ℤ v
 no-more v = omega (arith, ints)
 
 undecided : (p : Parts) (plan : Plan) (unit cost : ℕ) (d : Design) → IsUnit p unit → IsStatedDesign p cost d → plan.design ≡ Some (cost, d) → (bound : Option ℤ)
-    → MatchOption bound ((b : ℤ) → IsCandidate p plan b → ⊥) (λ b. IsLeastCandidate p plan b) → IfSome (option_map (raised unit) bound) (λ b. b ≤ℤ pos cost)
+    → MatchOption bound ((b : ℤ) → IsCandidate p plan b → ⊥) (λ b. IsLeastCandidate p plan b) → IfSome (option_map (rounded_up unit) bound) (λ b. b ≤ℤ pos cost)
 undecided p plan unit cost d is_unit stated same None none = tt
 undecided p plan unit cost d is_unit stated same (Some b) is =
     let own : IsSomeAnd (stated_cost plan) (λ c. pos c ≡ pos cost) = rw same refl in
     let below : b ≤ℤ pos cost = is.least (pos cost) (inl own) in
-    subst (λ n. raised unit b ≤ℤ pos n) stated.cost_is (raised-le p unit b d is_unit (subst (λ n. b ≤ℤ pos n) (sym stated.cost_is) below))
+    subst (λ n. rounded_up unit b ≤ℤ pos n) stated.cost_is (rounded_up-le p unit b d is_unit (subst (λ n. b ≤ℤ pos n) (sym stated.cost_is) below))
 
 of_status : (p : Parts) (plan : Plan) (unit cost : ℕ) (d : Design) → IsUnit p unit → IsStatedDesign p cost d → plan.design ≡ Some (cost, d) → (status : PlanStatus) → HasStatus p plan status → IfSome (claimed_bound unit status (Some (cost, d)) plan.bound) (λ b. b ≤ℤ pos cost)
 of_status p plan unit cost d is_unit stated same Optimal has = no-more (pos cost)

@@ -49,16 +49,16 @@ gap_text cost (negsuc n) = []
 -- ---- the plan
 
 -- a bound rounded up to a multiple of the unit of costs; a negative one as it is
-abbrev pub raised : ℕ → ℤ → ℤ
-raised unit (pos n) = pos (div_ceil n unit * unit)
-raised unit (negsuc n) = negsuc n
+abbrev pub rounded_up : ℕ → ℤ → ℤ
+rounded_up unit (pos n) = pos (div_ceil n unit * unit)
+rounded_up unit (negsuc n) = negsuc n
 
 -- what no feasible design costs less than: the cost of an optimal plan, the raised bound of an undecided one
 abbrev pub claimed_bound : ℕ → PlanStatus → Option (ℕ × Design) → Option ℤ → Option ℤ
 claimed_bound unit Optimal None bound = None
 claimed_bound unit Optimal (Some design) bound = Some (pos design.0)
 claimed_bound unit Infeasible design bound = None
-claimed_bound unit Undecided design bound = option_map (raised unit) bound
+claimed_bound unit Undecided design bound = option_map (rounded_up unit) bound
 
 -- the cost of a design, where there is one
 abbrev pub cost_field : Option (ℕ × Design) → List ℕ
@@ -173,12 +173,12 @@ abbrev pub reached_words : NetworkFile → List Bool → ℕ → List ℕ
 reached_words net reached count = flat_map (reached_word net reached) (range_with_len 0 count)
 
 -- one of a link's places has a price
-abbrev pub is_priced : Parts → List ℕ → ℕ → Bool
-is_priced p prices e = nat_lt 0 (there_of p (slice_index prices) e) || nat_lt 0 (back_of p (slice_index prices) e)
+abbrev pub has_price : Parts → List ℕ → ℕ → Bool
+has_price p prices e = nat_lt 0 (there_of p (slice_index prices) e) || nat_lt 0 (back_of p (slice_index prices) e)
 
 -- the name of the link of this number behind a blank, where it has a price
 abbrev pub priced_word : NetworkFile → Parts → List ℕ → ℕ → List ℕ
-priced_word net p prices e = if is_priced p prices e then 32 ∷ link_name net e else []
+priced_word net p prices e = if has_price p prices e then 32 ∷ link_name net e else []
 
 -- the names of the links that have a price, each behind a blank
 abbrev pub priced_words : NetworkFile → Parts → List ℕ → ℕ → List ℕ
@@ -198,12 +198,12 @@ evidence_row net p i (Leaf (Crowd prices)) = evidence_line i (codes "CROWD") [] 
 evidence_row net p i node = []
 
 -- the record that is read past the end of a list
-abbrev pub no_node : TreeNode
-no_node = Leaf Routed
+abbrev pub no_record : TreeNode
+no_record = Leaf Routed
 
 -- the line of the record at this place
 unfoldable pub record_row : NetworkFile → Parts → List TreeNode → ℕ → List ℕ
-record_row net p nodes i = evidence_row net p i (slice_index_or nodes i no_node)
+record_row net p nodes i = evidence_row net p i (slice_index_or nodes i no_record)
 
 -- the lines of so many records
 abbrev pub record_rows : NetworkFile → Parts → List TreeNode → ℕ → List ℕ
@@ -225,13 +225,13 @@ abbrev pub is_whole : Parts → LoadRange → ℕ → Bool
 is_whole p range q = nat_eq range.least 0 && nat_eq range.most (whole_range p q).most
 
 -- the place is that of an arc from a link's target to its source
-abbrev pub is_back : Parts → ℕ → Bool
-is_back p q = is_two_way p.orient && nat_eq (q % 2) 1
+abbrev pub is_back_place : Parts → ℕ → Bool
+is_back_place p q = is_two_way p.orient && nat_eq (q % 2) 1
 
 -- the names of the ends of a place's link, each behind a comma, in the order in which the place leads
 abbrev pub place_ends : NetworkFile → Parts → ℕ → List ℕ
 place_ends net p q =
-    if is_back p q then ends_fields net (link_at p (link_of_place p q)).target (link_at p (link_of_place p q)).source
+    if is_back_place p q then ends_fields net (link_at p (link_of_place p q)).target (link_at p (link_of_place p q)).source
     else ends_fields net (link_at p (link_of_place p q)).source (link_at p (link_of_place p q)).target
 
 -- the record's place in the tree, and the names of a place's link and of its ends

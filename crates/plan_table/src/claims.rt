@@ -4,7 +4,7 @@ ghost use Rattle.std.specs.Prelude.{◌≡◌, ◌<◌, ◌≤◌, ◌^◌, ◌*
 ghost use Rattle.std.specs.Int.{div_ceil};
 ghost use Rattle.link_steps.specs.Unit.{IsUnit};
 ghost use Rattle.proof_tree.specs.Plans.{IsValidPlan};
-ghost use Rattle.plan_table.specs.Tables.{used_text, gap_text, raised, claimed_bound, cost_field, gap_field, bound_fields, plan_names, plan_row, plan_table};
+ghost use Rattle.plan_table.specs.Tables.{used_text, gap_text, rounded_up, claimed_bound, cost_field, gap_field, bound_fields, plan_names, plan_row, plan_table};
 
 use crate::fields::push_digits;
 use plan_base::Instance;
@@ -87,7 +87,7 @@ fn push_none(text: &mut Vec<u8>, plan: &Plan) -> Result<(), AllocError>
 }
 
 /// A number rounded up to a multiple of the unit.
-fn raised(number: u128, unit: u128) -> u128
+fn rounded_up(number: u128, unit: u128) -> u128
     requires number { number < 2 ^ 127 }
     requires unit { 0 < unit }
     ensures { result ≡ div_ceil number unit * unit }
@@ -99,13 +99,13 @@ fn raised(number: u128, unit: u128) -> u128
 fn push_raised(text: &mut Vec<u8>, plan: &Plan, bound: i128, unit: u128) -> Result<(), AllocError>
     requires unit { 0 < unit }
     requires small { IfSome plan.now.design (λ design. design.0 < 2 ^ 115) }
-    requires below { IfSome plan.now.design (λ design. raised unit bound ≤ℤ pos design.0) }
-    ensures { OnOk result (text.new.items ≡ text.old.items ++ bound_fields plan.now.design (Some (raised unit bound))) }
+    requires below { IfSome plan.now.design (λ design. rounded_up unit bound ≤ℤ pos design.0) }
+    ensures { OnOk result (text.new.items ≡ text.old.items ++ bound_fields plan.now.design (Some (rounded_up unit bound))) }
 {
     if bound < 0 {
         push_negative(text, plan, bound)
     } else {
-        push_number(text, plan, raised(bound as u128, unit))
+        push_number(text, plan, rounded_up(bound as u128, unit))
     }
 }
 

@@ -3,7 +3,7 @@
 ghost use Rattle.std.specs.Prelude.{◌≡◌, ◌<◌, ◌++◌, ◌∷◌, false, length, slice_index, slice_index_or, OnOk};
 ghost use Rattle.plan_base.specs.Places.{there_of, back_of};
 ghost use Rattle.plan_report.specs.Reports.{node_name, link_name, demand_name};
-ghost use Rattle.plan_table.specs.Tables.{reached_word, reached_words, is_priced, priced_word, priced_words, evidence_line, evidence_row, record_row, record_rows};
+ghost use Rattle.plan_table.specs.Tables.{reached_word, reached_words, has_price, priced_word, priced_words, evidence_line, evidence_row, record_row, record_rows};
 
 use crate::fields::{parted, push_digits, push_field};
 use plan_base::{DemandId, Instance, LinkId, NodeId, Prices};
@@ -81,9 +81,9 @@ fn price_of(prices: &Prices, place: usize) -> u128
 }
 
 /// Whether one of a link's places has a price.
-fn is_priced(inst: &Instance, prices: &Prices, id: LinkId) -> bool
+fn has_price(inst: &Instance, prices: &Prices, id: LinkId) -> bool
     requires { id.0 < length inst.now.links }
-    ensures { result ≡ is_priced inst.now prices.now id.0 }
+    ensures { result ≡ has_price inst.now prices.now id.0 }
 {
     inst.lawful();
     let number = id.0 as usize;
@@ -105,7 +105,7 @@ fn push_if_priced(
     requires { id.0 < length inst.now.links }
     ensures { OnOk result (words.new.items ≡ words.old.items ++ priced_word net.now inst.now prices.now id.0) }
 {
-    if is_priced(inst, prices, id) {
+    if has_price(inst, prices, id) {
         words.push(b' ')?;
         return words.extend_from_slice(link_name(net, id));
     }

@@ -7,7 +7,7 @@ ghost use Rattle.proof_tree.specs.Regions.{whole};
 ghost use Rattle.proof_tree.specs.Plans.{stated_cost};
 ghost use Rattle.proof_tree.specs.RatedTrees.{IsRatedTree};
 ghost use Rattle.plan_table.specs.Pending.{IsDivisible, children_last};
-ghost use Rattle.plan_table.specs.Tables.{is_whole, is_back, place_ends, range_head, range_fields, range_line, range_row, range_rows, leaf_ranges, tree_ranges};
+ghost use Rattle.plan_table.specs.Tables.{is_whole, is_back_place, place_ends, range_head, range_fields, range_line, range_row, range_rows, leaf_ranges, tree_ranges};
 
 use crate::evidence::link_name;
 use crate::fields::{push_digits, push_field};
@@ -29,8 +29,8 @@ fn is_whole(inst: &Instance, range: LoadRange, place: u32) -> bool
 }
 
 /// Whether the place is that of an arc from a link's target to its source.
-fn is_back(inst: &Instance, place: u32) -> bool
-    ensures { result ≡ is_back inst.now place }
+fn is_back_place(inst: &Instance, place: u32) -> bool
+    ensures { result ≡ is_back_place inst.now place }
 {
     inst.orient().is_two_way() && place % 2 == 1
 }
@@ -47,7 +47,7 @@ fn push_place_ends(
     ensures { OnOk result (text.new.items ≡ text.old.items ++ place_ends net.now inst.now place) }
 {
     let link = inst.link(inst.link_of_place(place));
-    if is_back(inst, place) {
+    if is_back_place(inst, place) {
         push_ends(text, net, link.target, link.source)
     } else {
         push_ends(text, net, link.source, link.target)

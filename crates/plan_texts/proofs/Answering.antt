@@ -16,7 +16,7 @@ use Rattle.plan_texts.specs.declared.status.Status.TheVariants.{WriteFault}
 use Rattle.plan_texts.specs.Texts.{Told, Texts, AreRead, HoldsOfTexts}
 use Rattle.plan_texts.specs.Refusals.{IsProblem, HoldsOfProblem, IsPlanAlone, Counts, IsShownBy}
 use Rattle.plan_texts.specs.Stops.{IsReadStop, TookMore}
-use Rattle.plan_texts.specs.Answers.{IsCheck, IsVerdict, IsReport, IsChecked, IsVerified, IsReported, IsRewritten, IsUpgraded, IsWhole, IsWritten, whole, cut}
+use Rattle.plan_texts.specs.Answers.{IsCheck, IsVerdict, IsReport, IsChecked, IsVerified, IsReported, IsRewritten, IsUpgraded, IsWholeAnswer, IsWritten, whole, cut}
 
 -- what holds of what the texts spell holds of a problem of the texts
 pub of_problem : (names : Texts) (shelf : Told) (begun : ℕ) (net : NetworkFile) (parts : Parts) (plan : Option Plan) (Holds : NetworkFile → Parts → Option Plan → Type 0)
@@ -49,11 +49,11 @@ read_from names shelf begun net parts plan h = record { model = h.holds.reads.op
 -- ---- what is written of an answer
 
 -- where the whole text of an answer or refusal was appended, it is written with its own status
-pub written_whole : (found : Result Answer Stop) (before now : Option (List ℕ)) (status : Status) (text : List ℕ) → IsWhole found status text → Appends before now text → IsWritten found before now status
+pub written_whole : (found : Result Answer Stop) (before now : Option (List ℕ)) (status : Status) (text : List ℕ) → IsWholeAnswer found status text → Appends before now text → IsWritten found before now status
 written_whole found before now status text is appends = whole text is appends
 
 -- where only a front of an answer's or refusal's text was appended, it is written with the status of a write fault
-pub written_cut : (found : Result Answer Stop) (before now : Option (List ℕ)) (status : Status) (text : List ℕ) (written : ℕ) → IsWhole found status text → written < length text → Appends before now (take written text) → IsWritten found before now WriteFault
+pub written_cut : (found : Result Answer Stop) (before now : Option (List ℕ)) (status : Status) (text : List ℕ) (written : ℕ) → IsWholeAnswer found status text → written < length text → Appends before now (take written text) → IsWritten found before now WriteFault
 written_cut found before now status text written is short appends = cut status text written is short appends refl
 
 -- ---- what a shelf shows of a refusal

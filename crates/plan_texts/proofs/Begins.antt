@@ -11,8 +11,8 @@ use Rattle.plan_report.specs.declared.run_fault.RunFault.TheVariants as faults
 use Rattle.plan_texts.specs.declared.stop.Stop.{Stop}
 use Rattle.plan_texts.specs.declared.stop.Stop.TheVariants as stops
 use Rattle.plan_texts.specs.Texts.{Name, Told, Texts, Begun, most_bytes, count_of, text_count, alone, two, three, AreRead}
-use Rattle.plan_texts.specs.Refusals.{AreRefused, IsRefusalOf, IsAt, WasRead, name_of}
-use Rattle.plan_texts.specs.Stops.{stop_of_reading, IsUnread, IsTextStop, TookMore, IsStop, Stops}
+use Rattle.plan_texts.specs.Refusals.{AreRefused, IsRefusalOf, IsLastBegun, WasRead, name_of}
+use Rattle.plan_texts.specs.Stops.{stop_of_reading, IsUnread, IsTextStop, TookMore, IsStopCause, Stops}
 
 one-more : (before now : ℕ) → CountsUp before now → (before < 2 ^ 63) ⊎ (2 ^ 63 ≤ before) → Begun 1 before now
 one-more before now up (inl below) = let is : now ≡ before + 1 = up.below below in record { exact = λ room. is; later = omega arith; few = omega arith }
@@ -40,7 +40,7 @@ few-texts texts = omega (arith, few-of texts.network, few-of texts.model, few-of
 -- ---- a text that does not come in
 
 -- a text of this kind and name does not come in
-unread : (names : Texts) (file : FileKind) (name : Name) (shelf : Told) (number before now : ℕ) (stop : Stop) → Begun number before now → number ≤ text_count names → name_of names file ≡ Some name → IsAt shelf names number file → IsUnread shelf name file stop → Stops names shelf before now stop
+unread : (names : Texts) (file : FileKind) (name : Name) (shelf : Told) (number before now : ℕ) (stop : Stop) → Begun number before now → number ≤ text_count names → name_of names file ≡ Some name → IsLastBegun shelf names number file → IsUnread shelf name file stop → Stops names shelf before now stop
 unread names file name shelf number before now (stops.Refused fault) begun few named place (inl read) = record { begun = number; rises = begun; few = few; is = rw read record { name = name; named = named; place = place } }
 unread names file name shelf number before now (stops.Refused fault) begun few named place (inr long) = record { begun = number; rises = begun; few = few; is = rw long.0 record { name = name; named = named; place = place; longer = long.1 } }
 unread names file name shelf number before now stops.OutOfMemory begun few named place why = record { begun = number; rises = begun; few = few; is = few }
@@ -86,7 +86,7 @@ refusal names shelf begun texts (faults.LoopDemand demand) read refused = record
 refusal names shelf begun texts (faults.Unsupported key value) read refused = record { texts = texts; read = read; holds = refused }
 refusal names shelf begun texts (faults.OverLimit limit at) read refused = record { texts = texts; read = read; holds = refused }
 
-read-stop : (names : Texts) (shelf : Told) (number : ℕ) (texts : Texts) (stop : Stop) → AreRead shelf names number texts → IsTextStop texts stop → IsStop names shelf number stop
+read-stop : (names : Texts) (shelf : Told) (number : ℕ) (texts : Texts) (stop : Stop) → AreRead shelf names number texts → IsTextStop texts stop → IsStopCause names shelf number stop
 read-stop names shelf number texts (stops.Refused fault) read is = refusal names shelf number texts fault read is
 read-stop names shelf number texts stops.OutOfMemory read is = omega (arith, read.all)
 

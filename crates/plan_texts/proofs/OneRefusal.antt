@@ -32,7 +32,7 @@ use Rattle.plan_report.specs.declared.run_fault.RunFault.{RunFault}
 use Rattle.plan_report.specs.declared.run_fault.RunFault.TheVariants as faults
 use Rattle.plan_texts.specs.declared.status.Status.{Status}
 use Rattle.plan_texts.specs.declared.status.Status.TheVariants.{Good, Rejected}
-use Rattle.plan_texts.specs.Texts.{Texts, nothing}
+use Rattle.plan_texts.specs.Texts.{Texts, empty_texts}
 use Rattle.plan_texts.specs.Refusals.{
   SpellsItsNetwork,
   SpellsItsModel,
@@ -288,7 +288,7 @@ only-plan texts fault (of_steps limit at past told) first second = absurd (not-t
 not-alone : Below → (texts : Texts) (plan : Plan) → IsPlanAlone texts plan → (rule : ℕ) × (at : ℕ) × IsPlanRefused texts.plan rule at → ⊥
 not-alone below texts plan is (rule, at, bad) = no-plan below texts.plan rule at bad (has-plan texts.plan (Some plan) is.plan_text)
 
-not-nothing : (texts : Texts) → texts ≡ nothing → (rule : ℕ) × (at : ℕ) × IsPlanRefused texts.plan rule at → ⊥
+not-nothing : (texts : Texts) → texts ≡ empty_texts → (rule : ℕ) × (at : ℕ) × IsPlanRefused texts.plan rule at → ⊥
 not-nothing texts none (rule, at, bad) = not-there (λ text. IsPlanFault text rule at) texts.plan (ap (λ (t : Texts). t.plan) none) bad
 
 not-good : Below → (texts : Texts) (fault : RunFault) → Cause texts fault → AreGood texts → ⊥

@@ -18,7 +18,7 @@ use Rattle.plan_texts.specs.declared.status.Status.TheVariants.{Good, WriteFault
 use Rattle.plan_texts.specs.declared.stop.Stop.{Stop}
 use Rattle.plan_texts.specs.declared.stop.Stop.TheVariants as stops
 use Rattle.plan_texts.specs.Refusals.{HoldsOfProblem, IsPlanAlone}
-use Rattle.plan_texts.specs.Statuses.{status_of}
+use Rattle.plan_texts.specs.Statuses.{refusal_status}
 use Rattle.plan_texts.specs.Texts.{Texts}
 
 -- ---- what is written of an instance
@@ -87,13 +87,13 @@ pub record IsUpgraded (texts : Texts) (status : Status) (bytes : List ℕ) : Typ
 -- ---- what becomes of an answer
 
 -- the status and the whole text of an answer, or of a refusal
-abbrev pub IsWhole : Result Answer Stop → Status → List ℕ → Type 0
-IsWhole (Ok answer) status whole = (status ≡ answer.status) × (whole ≡ answer.text.items)
-IsWhole (Err (stops.Refused fault)) status whole = (status ≡ status_of fault) × (whole ≡ fault_line fault)
-IsWhole (Err stops.OutOfMemory) status whole = ⊥
+abbrev pub IsWholeAnswer : Result Answer Stop → Status → List ℕ → Type 0
+IsWholeAnswer (Ok answer) status whole = (status ≡ answer.status) × (whole ≡ answer.text.items)
+IsWholeAnswer (Err (stops.Refused fault)) status whole = (status ≡ refusal_status fault) × (whole ≡ fault_line fault)
+IsWholeAnswer (Err stops.OutOfMemory) status whole = ⊥
 
 -- the text was written and its status given; or a front of it was, and the sink failed; or nothing was, and memory was wanting
 pub data IsWritten (found : Result Answer Stop) (before now : Option (List ℕ)) (status : Status) : Type 0 where
-  whole : (text : List ℕ) → IsWhole found status text → Appends before now text → IsWritten found before now status
-  cut : (other : Status) (text : List ℕ) (written : ℕ) → IsWhole found other text → written < length text → Appends before now (take written text) → status ≡ WriteFault → IsWritten found before now status
+  whole : (text : List ℕ) → IsWholeAnswer found status text → Appends before now text → IsWritten found before now status
+  cut : (other : Status) (text : List ℕ) (written : ℕ) → IsWholeAnswer found other text → written < length text → Appends before now (take written text) → status ≡ WriteFault → IsWritten found before now status
   wanting : status ≡ OutOfMemory → Appends before now [] → IsWritten found before now status

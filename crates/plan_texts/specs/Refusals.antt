@@ -27,7 +27,7 @@ use Rattle.plan_report.specs.declared.run_fault.FileKind.{FileKind}
 use Rattle.plan_report.specs.declared.run_fault.FileKind.TheVariants as files
 use Rattle.plan_report.specs.declared.run_fault.RunFault.{RunFault}
 use Rattle.plan_report.specs.declared.run_fault.RunFault.TheVariants as faults
-use Rattle.plan_texts.specs.Texts.{Text, Name, Told, Texts, nothing, count_of, most_bytes, IsRead, HoldsOfTexts}
+use Rattle.plan_texts.specs.Texts.{Text, Name, Told, Texts, empty_texts, count_of, most_bytes, IsRead, HoldsOfTexts}
 
 -- ---- what texts stand for
 
@@ -93,7 +93,7 @@ pub record IsPlanAlone (texts : Texts) (plan : Plan) : Type 0 where
 pub data AreGood (texts : Texts) : Type 0 where
   a_problem : (net : NetworkFile) (parts : Parts) (plan : Option Plan) → IsProblem texts net parts plan → AreGood texts
   a_plan : (plan : Plan) → IsPlanAlone texts plan → AreGood texts
-  no_texts : texts ≡ nothing → AreGood texts
+  no_texts : texts ≡ empty_texts → AreGood texts
 
 -- ---- why texts are refused
 
@@ -150,10 +150,10 @@ abbrev pub WasRead : Told → FileKind → Option Name → Type 0
 WasRead shelf file named = IfSome named (λ name. (text : Text) × IsRead shelf file name text)
 
 -- the text begun last is this one, and those before it were read
-abbrev pub IsAt : Told → Texts → ℕ → FileKind → Type 0
-IsAt shelf names begun files.Network = begun ≡ 1
-IsAt shelf names begun files.Model = (begun ≡ count_of names.network + 1) × WasRead shelf files.Network names.network
-IsAt shelf names begun files.Plan = (begun ≡ count_of names.network + count_of names.model + 1) × WasRead shelf files.Network names.network × WasRead shelf files.Model names.model
+abbrev pub IsLastBegun : Told → Texts → ℕ → FileKind → Type 0
+IsLastBegun shelf names begun files.Network = begun ≡ 1
+IsLastBegun shelf names begun files.Model = (begun ≡ count_of names.network + 1) × WasRead shelf files.Network names.network
+IsLastBegun shelf names begun files.Plan = (begun ≡ count_of names.network + count_of names.model + 1) × WasRead shelf files.Network names.network × WasRead shelf files.Model names.model
 
 -- the name of the text of this kind, where one is named
 abbrev pub name_of : Texts → FileKind → Option Name
@@ -165,13 +165,13 @@ name_of names files.Plan = names.plan
 pub record IsUnreadable (shelf : Told) (names : Texts) (begun : ℕ) (file : FileKind) : Type 0 where
   pub name : Name
   pub named : name_of names file ≡ Some name
-  pub place : IsAt shelf names begun file
+  pub place : IsLastBegun shelf names begun file
 
 -- the text begun last is this one, and it is longer than its limit
 pub record IsTooLong (shelf : Told) (names : Texts) (begun : ℕ) (file : FileKind) : Type 0 where
   pub name : Name
   pub named : name_of names file ≡ Some name
-  pub place : IsAt shelf names begun file
+  pub place : IsLastBegun shelf names begun file
   pub longer : IfSome (shelf name) (λ told. most_bytes file < length told)
 
 -- texts of these names, so many of which were begun, may be refused so

@@ -22,16 +22,16 @@ exit_number statuses.Undecided = 11
 exit_number statuses.Rejected = 12
 
 -- how a run ends that refuses its words or texts so
-abbrev pub status_of : RunFault → Status
-status_of faults.Usage = statuses.Usage
-status_of (faults.Text file fault) = statuses.BadText
-status_of (faults.PlanText rule at) = statuses.BadText
-status_of (faults.LoopLink link) = statuses.BadText
-status_of (faults.LoopDemand demand) = statuses.BadText
-status_of (faults.Unsupported key value) = statuses.Unsupported
-status_of (faults.TooLong file) = statuses.OverLimit
-status_of (faults.OverLimit limit at) = statuses.OverLimit
-status_of (faults.Read file) = statuses.ReadFault
+abbrev pub refusal_status : RunFault → Status
+refusal_status faults.Usage = statuses.Usage
+refusal_status (faults.Text file fault) = statuses.BadText
+refusal_status (faults.PlanText rule at) = statuses.BadText
+refusal_status (faults.LoopLink link) = statuses.BadText
+refusal_status (faults.LoopDemand demand) = statuses.BadText
+refusal_status (faults.Unsupported key value) = statuses.Unsupported
+refusal_status (faults.TooLong file) = statuses.OverLimit
+refusal_status (faults.OverLimit limit at) = statuses.OverLimit
+refusal_status (faults.Read file) = statuses.ReadFault
 
 -- how a run ends that writes a plan of this status
 abbrev pub status_of_plan : PlanStatus → Status

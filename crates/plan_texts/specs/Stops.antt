@@ -109,13 +109,13 @@ abbrev pub TookMore : ℕ → Stop → Type 0
 TookMore taken stop = (file : FileKind) → stop ≡ Refused (faults.TooLong file) → most_bytes file < taken
 
 -- why a command about texts of these names, so many of which were begun, stops
-abbrev pub IsStop : Texts → Told → ℕ → Stop → Type 0
-IsStop names shelf begun (Refused fault) = IsRefusalOf names shelf begun fault
-IsStop names shelf begun OutOfMemory = begun ≤ text_count names
+abbrev pub IsStopCause : Texts → Told → ℕ → Stop → Type 0
+IsStopCause names shelf begun (Refused fault) = IsRefusalOf names shelf begun fault
+IsStopCause names shelf begun OutOfMemory = begun ≤ text_count names
 
 -- a command about texts of these names stops so, and the count of begins tells how many were begun
 pub record Stops (names : Texts) (shelf : Told) (before now : ℕ) (stop : Stop) : Type 0 where
   pub begun : ℕ
   pub rises : Begun begun before now
   pub few : begun ≤ text_count names
-  pub is : IsStop names shelf begun stop
+  pub is : IsStopCause names shelf begun stop

@@ -24,8 +24,8 @@ pub record Texts : Type 0 where
   pub plan : Option (List ℕ)
 
 -- nothing
-abbrev pub nothing : Texts
-nothing = record { network = None; model = None; plan = None }
+abbrev pub empty_texts : Texts
+empty_texts = record { network = None; model = None; plan = None }
 
 -- a plan by itself
 abbrev pub alone : List ℕ → Texts

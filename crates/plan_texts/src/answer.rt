@@ -2,7 +2,7 @@
 
 ghost use Rattle.std.specs.Prelude.{◌≡◌, ◌≤◌, IfOk};
 ghost use Rattle.plan_io.specs.Causes.{Rose};
-ghost use Rattle.plan_texts.specs.Answers.{IsWhole, IsWritten};
+ghost use Rattle.plan_texts.specs.Answers.{IsWholeAnswer, IsWritten};
 
 use crate::status::Status;
 use crate::stop::Stop;
@@ -19,7 +19,7 @@ pub struct Answer {
 
 /// The answer that was found, or that of a refusal.
 fn whole_answer(alloc: Global, found: Result<Answer, Stop>) -> Result<Answer, AllocError>
-    ensures { IfOk result (λ answer. IsWhole found answer.status answer.text.items) }
+    ensures { IfOk result (λ answer. IsWholeAnswer found answer.status answer.text.items) }
 {
     match found {
         Ok(answer) => Ok(answer),

@@ -1,7 +1,7 @@
 //! How a run ends.
 
 ghost use Rattle.std.specs.Prelude.{◌≡◌};
-ghost use Rattle.plan_texts.specs.Statuses.{exit_number, status_of, status_of_plan};
+ghost use Rattle.plan_texts.specs.Statuses.{exit_number, refusal_status, status_of_plan};
 
 use plan_report::RunFault;
 use proof_tree::PlanStatus;
@@ -45,7 +45,7 @@ impl Status {
 
     /// How a run ends that refuses its words or texts so.
     pub(crate) fn of_fault(fault: RunFault) -> Status
-        ensures { result ≡ status_of fault }
+        ensures { result ≡ refusal_status fault }
     {
         match fault {
             RunFault::Usage => Status::Usage,

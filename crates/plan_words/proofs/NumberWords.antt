@@ -12,7 +12,7 @@ use Rattle.std.proofs.lemmas.List.{append-nil, drop_more, drop_all}
 use Rattle.std.proofs.lemmas.Slice.Eq.{bytes_eq-Decides}
 use Rattle.std.proofs.lemmas.Fmt.{decimal_is_IsNumeral_wide}
 use Rattle.std.proofs.lemmas.Str.Parse.{digit_from_value}
-use Rattle.plan_words.specs.Words.{◌>>=◌, numerals, behind, onto_words, words_of, each, read_by, number_of, numbers_behind, numbers_in, numbers_of}
+use Rattle.plan_words.specs.Words.{◌>>=◌, numerals, behind, onto_words, words_of, each, read_by, number_of, numbers_behind, numbers_of_words, numbers_of}
 use Rattle.plan_words.specs.Cuts.{Lacks, StartsWith, IsCutAt}
 
 -- ---- options
@@ -196,7 +196,7 @@ with_front front o = option_map (λ ys. front ++ ys) o
 pub numbers_step : (word rest : List ℕ) → Lacks 32 word → StartsWith 32 rest → numbers_of (32 ∷ (word ++ rest)) ≡ (number_of word >>= λ n. option_map (λ ns. n ∷ ns) (numbers_of rest))
 unfolding numbers_of each
 numbers_step word rest h k =
-    ap numbers_in (words_step word rest h k)
+    ap numbers_of_words (words_step word rest h k)
     ∙ ap (λ w. number_of word >>= λ n. option_map (λ ns. n ∷ ns) w) (sym (ap (λ f. numbers_behind f (words_of rest).1) (no-front rest k)))
 
 starts-numerals : (ns : List ℕ) → StartsWith 32 (numerals ns)
@@ -275,7 +275,7 @@ numbers_end front [] none = ap (with_front front) no-numbers ∙ ap (λ ns. Some
 numbers_end front (b ∷ rest) none = absurd (omega arith)
 
 -- bytes that no blank begins are no numbers
-other-byte : (b : ℕ) (w : List ℕ × List (List ℕ)) → (b == 32) ≡ false → numbers_in (onto_words b w) ≡ None
+other-byte : (b : ℕ) (w : List ℕ × List (List ℕ)) → (b == 32) ≡ false → numbers_of_words (onto_words b w) ≡ None
 other-byte b w f = rw f refl
 
 no-front-blank : (b : ℕ) (rest : List ℕ) → None ≡ behind (32 ∷ []) (b ∷ rest) → (b == 32) ≡ false

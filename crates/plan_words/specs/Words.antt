@@ -76,13 +76,13 @@ numbers_behind [] words = each number_of words
 numbers_behind (byte ∷ front) words = None
 
 -- the numbers of the words behind blanks
-abbrev pub numbers_in : List ℕ × List (List ℕ) → Option (List ℕ)
-numbers_in w = numbers_behind w.0 w.1
+abbrev pub numbers_of_words : List ℕ × List (List ℕ) → Option (List ℕ)
+numbers_of_words w = numbers_behind w.0 w.1
 
 -- the numbers below 2^128 that are written so, a blank in front of each
 unfoldable pub numbers_of : List ℕ → Option (List ℕ)
-numbers_of bytes = numbers_in (words_of bytes)
+numbers_of bytes = numbers_of_words (words_of bytes)
 
 -- the numbers behind the word in a line
-abbrev pub row_of : List ℕ → List ℕ → Option (List ℕ)
-row_of word body = behind word body >>= numbers_of
+abbrev pub numbers_after_word : List ℕ → List ℕ → Option (List ℕ)
+numbers_after_word word body = behind word body >>= numbers_of

@@ -4,7 +4,7 @@ ghost use Rattle.std.specs.Prelude.{decimal, drop, ◌≡◌, ◌<◌, ◌≤◌
 ghost use Rattle.std.specs.Str.{bytes_eq};
 ghost use Rattle.std.specs.Str.Parse.{AllDigits, digits_value};
 ghost use Rattle.scaled_numbers.specs.Canonical.{grains_text};
-ghost use Rattle.plan_words.specs.Words.{behind, before, number_of, numbers_of, grains_of, row_of};
+ghost use Rattle.plan_words.specs.Words.{behind, before, number_of, numbers_of, grains_of, numbers_after_word};
 ghost use Rattle.plan_words.specs.Cuts.{found_now, items_of, IsScaledParts};
 
 use crate::lines::cut;
@@ -102,7 +102,7 @@ pub fn numbers(alloc: Global, bytes: &[u8]) -> Result<Option<Vec<u128>>, AllocEr
 /// - Errors: want of memory alone.
 #[tactic(auto, unfolding(crate::specs::Words::numbers_of))]
 pub fn row(alloc: Global, word: &[u8], body: &[u8]) -> Result<Option<Vec<u128>>, AllocError>
-    ensures { IfOk result (λ found. items_of found ≡ row_of word.now body.now) }
+    ensures { IfOk result (λ found. items_of found ≡ numbers_after_word word.now body.now) }
 {
     match behind(word, body) {
         Some(rest) => numbers(alloc, rest),

@@ -13,9 +13,9 @@ use Rattle.plan_texts.specs.declared.status.Status.{Status}
 use Rattle.plan_texts.specs.declared.status.Status.TheVariants.{Good, Usage, BadText, Unsupported, OverLimit, ReadFault, WriteFault, OutOfMemory, Infeasible, Undecided, Rejected}
 use Rattle.plan_texts.specs.declared.stop.Stop.{Stop}
 use Rattle.plan_texts.specs.declared.stop.Stop.TheVariants as stops
-use Rattle.plan_texts.specs.Statuses.{status_of}
-use Rattle.plan_texts.specs.Texts.{Told, Texts, Begun, nothing, text_count}
-use Rattle.plan_texts.specs.Answers.{IsVerdict, accepted, rejected, IsWhole, IsWritten, whole, cut, wanting}
+use Rattle.plan_texts.specs.Statuses.{refusal_status}
+use Rattle.plan_texts.specs.Texts.{Told, Texts, Begun, empty_texts, text_count}
+use Rattle.plan_texts.specs.Answers.{IsVerdict, accepted, rejected, IsWholeAnswer, IsWritten, whole, cut, wanting}
 use Rattle.plan_texts.specs.Refusals.{Counts, IsShownBy}
 use Rattle.plan_texts.proofs.Begins.{few-texts}
 use Rattle.run_ends.specs.Ends.{IsAnswer, Says, IsTextRun, IsOwnEnd}
@@ -32,7 +32,7 @@ verdict-ends parts (Some plan) status bytes (rejected bad is) = inr bad
 -- ---- statuses of refusals
 
 -- no fault has the status of a write fault or of want of memory
-refused-status : (fault : RunFault) → (status_of fault ≡ WriteFault → ⊥) × (status_of fault ≡ OutOfMemory → ⊥)
+refused-status : (fault : RunFault) → (refusal_status fault ≡ WriteFault → ⊥) × (refusal_status fault ≡ OutOfMemory → ⊥)
 refused-status faults.Usage = (λ same. cc, λ same. cc)
 refused-status (faults.Text file fault) = (λ same. cc, λ same. cc)
 refused-status (faults.PlanText rule at) = (λ same. cc, λ same. cc)
@@ -44,7 +44,7 @@ refused-status (faults.OverLimit limit at) = (λ same. cc, λ same. cc)
 refused-status (faults.Read file) = (λ same. cc, λ same. cc)
 
 -- only the refusal of a text that could not be read has the status of a read fault
-read-shown : (counts : Counts) (fault : RunFault) → ReadFault ≡ status_of fault → IsShownBy counts fault → Rose counts.faults_before counts.faults_now
+read-shown : (counts : Counts) (fault : RunFault) → ReadFault ≡ refusal_status fault → IsShownBy counts fault → Rose counts.faults_before counts.faults_now
 read-shown counts faults.Usage same shown = absurd cc
 read-shown counts (faults.Text file fault) same shown = absurd cc
 read-shown counts (faults.PlanText rule at) same shown = absurd cc
@@ -67,17 +67,17 @@ usage-only usage_line shelf begun (faults.TooLong file) refused = absurd refused
 usage-only usage_line shelf begun (faults.OverLimit limit at) refused = absurd refused
 usage-only usage_line shelf begun (faults.Read file) refused = absurd refused
 
-rise : (begun before now : ℕ) (names : Option Texts) → begun ≤ text_count (unwrap_or names nothing) → Begun begun before now → before < 2 ^ 62 → now ≡ before + begun
-rise begun before now names few rises below = rises.exact (omega (arith, few, few-texts (unwrap_or names nothing)))
+rise : (begun before now : ℕ) (names : Option Texts) → begun ≤ text_count (unwrap_or names empty_texts) → Begun begun before now → before < 2 ^ 62 → now ≡ before + begun
+rise begun before now names few rises below = rises.exact (omega (arith, few, few-texts (unwrap_or names empty_texts)))
 
 module _ (usage_line : List ℕ) (Done : Texts → Status → List ℕ → Type 0) (names : Option Texts) (shelf : Told) (counts : Counts) where
   -- ---- whole texts
 
   refused-answer : (named : Option Texts) (begun : ℕ) (fault : RunFault) (status : Status) (bytes : List ℕ) → IsShownBy counts fault → IsRefusalFor usage_line named shelf begun fault
-      → (status ≡ status_of fault) × (bytes ≡ fault_line fault) → IsAnswer usage_line Done named shelf counts begun status bytes
+      → (status ≡ refusal_status fault) × (bytes ≡ fault_line fault) → IsAnswer usage_line Done named shelf counts begun status bytes
   refused-answer None begun fault status bytes seen refused is =
       let only = usage-only usage_line shelf begun fault refused in
-      (only.1, subst (λ (f : RunFault). status ≡ status_of f) only.0 is.0, is.1 ∙ only.2)
+      (only.1, subst (λ (f : RunFault). status ≡ refusal_status f) only.0 is.0, is.1 ∙ only.2)
   refused-answer (Some texts) begun fault status bytes seen refused is = inl record { fault = fault; refusal = refused; shown = seen; is_status = is.0; line = is.1 }
 
   done-answer : (named : Option Texts) (begun : ℕ) (status : Status) (bytes : List ℕ) → IsDoneFor usage_line Done named shelf begun status bytes → IsAnswer usage_line Done named shelf counts begun status bytes
@@ -86,7 +86,7 @@ module _ (usage_line : List ℕ) (Done : Texts → Status → List ℕ → Type 
 
   -- a whole text is that of an answer
   answer-of : (begun : ℕ) (found : Result Answer Stop) (status : Status) (text : List ℕ) → IfErr found (λ stop. IsShownStop counts stop) → IsResult usage_line Done names shelf begun found
-      → IsWhole found status text → IsAnswer usage_line Done names shelf counts begun status text
+      → IsWholeAnswer found status text → IsAnswer usage_line Done names shelf counts begun status text
   answer-of begun (Ok answer) status text seen done is = rw (is.0, is.1) (done-answer names begun answer.status answer.text.items done)
   answer-of begun (Err (stops.Refused fault)) status text seen refused is = refused-answer names begun fault status text seen refused is
   answer-of begun (Err stops.OutOfMemory) status text seen found is = absurd is
@@ -160,7 +160,7 @@ module _ (usage_line : List ℕ) (Done : Texts → Status → List ℕ → Type 
     no_write_fault before now found h = ok-not-write h.begun found h.is
 
     read-whole : (begun : ℕ) (found : Result Answer Stop) (status : Status) (text : List ℕ) → IsResult usage_line Done names shelf begun found → IfErr found (λ stop. IsShownStop counts stop)
-        → IsWhole found status text → status ≡ ReadFault → Rose counts.faults_before counts.faults_now
+        → IsWholeAnswer found status text → status ≡ ReadFault → Rose counts.faults_before counts.faults_now
     read-whole begun (Ok answer) status text done seen is same = absurd ((done-not names begun answer.status answer.text.items done).0 (sym is.0 ∙ same))
     read-whole begun (Err (stops.Refused fault)) status text refused seen is same = read-shown counts fault (sym same ∙ is.0) seen
     read-whole begun (Err stops.OutOfMemory) status text found seen is same = absurd is
@@ -174,7 +174,7 @@ module _ (usage_line : List ℕ) (Done : Texts → Status → List ℕ → Type 
 
     -- ---- complete
 
-    own-fault : (texts : Texts) (fault : RunFault) (begun : ℕ) → IsRefusalFor usage_line (Some texts) shelf begun fault → IsOwnEnd IsEndOfWork (Some texts) (status_of fault) ⊎ (status_of fault ≡ ReadFault)
+    own-fault : (texts : Texts) (fault : RunFault) (begun : ℕ) → IsRefusalFor usage_line (Some texts) shelf begun fault → IsOwnEnd IsEndOfWork (Some texts) (refusal_status fault) ⊎ (refusal_status fault ≡ ReadFault)
     own-fault texts faults.Usage begun refused = absurd refused.holds
     own-fault texts (faults.Text file fault) begun refused = inl (inr (inl refl))
     own-fault texts (faults.PlanText rule at) begun refused = inl (inr (inl refl))
@@ -185,7 +185,7 @@ module _ (usage_line : List ℕ) (Done : Texts → Status → List ℕ → Type 
     own-fault texts (faults.OverLimit limit at) begun refused = inl (inr (inr (inr (inl refl))))
     own-fault texts (faults.Read file) begun refused = inr refl
 
-    own-refusal : (named : Option Texts) (fault : RunFault) (begun : ℕ) → IsRefusalFor usage_line named shelf begun fault → IsOwnEnd IsEndOfWork named (status_of fault) ⊎ (status_of fault ≡ ReadFault)
+    own-refusal : (named : Option Texts) (fault : RunFault) (begun : ℕ) → IsRefusalFor usage_line named shelf begun fault → IsOwnEnd IsEndOfWork named (refusal_status fault) ⊎ (refusal_status fault ≡ ReadFault)
     own-refusal None fault begun refused = let is : fault ≡ faults.Usage = (usage-only usage_line shelf begun fault refused).0 in rw is (inl (inl refl))
     own-refusal (Some texts) fault begun refused = own-fault texts fault begun refused
 
@@ -193,7 +193,7 @@ module _ (usage_line : List ℕ) (Done : Texts → Status → List ℕ → Type 
     own-done None begun status bytes done = inl done.1.0
     own-done (Some texts) begun status bytes done = inl (ends.ends done.texts status bytes done.holds)
 
-    own-whole : (begun : ℕ) (found : Result Answer Stop) (status : Status) (text : List ℕ) → IsResult usage_line Done names shelf begun found → IsWhole found status text → IsOwnEnd IsEndOfWork names status ⊎ (status ≡ ReadFault)
+    own-whole : (begun : ℕ) (found : Result Answer Stop) (status : Status) (text : List ℕ) → IsResult usage_line Done names shelf begun found → IsWholeAnswer found status text → IsOwnEnd IsEndOfWork names status ⊎ (status ≡ ReadFault)
     own-whole begun (Ok answer) status text done is = inl (rw is.0 (own-done names begun answer.status answer.text.items done))
     own-whole begun (Err (stops.Refused fault)) status text refused is = rw is.0 (own-refusal names fault begun refused)
     own-whole begun (Err stops.OutOfMemory) status text found is = absurd is

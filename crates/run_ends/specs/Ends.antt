@@ -7,8 +7,8 @@ use Rattle.plan_report.specs.declared.run_fault.RunFault.{RunFault}
 use Rattle.plan_report.specs.Lines.{fault_line}
 use Rattle.plan_texts.specs.declared.status.Status.{Status}
 use Rattle.plan_texts.specs.declared.status.Status.TheVariants.{Usage, BadText, Unsupported, OverLimit, WriteFault, OutOfMemory}
-use Rattle.plan_texts.specs.Statuses.{status_of}
-use Rattle.plan_texts.specs.Texts.{Told, Texts, nothing, text_count, HoldsOfTexts}
+use Rattle.plan_texts.specs.Statuses.{refusal_status}
+use Rattle.plan_texts.specs.Texts.{Told, Texts, empty_texts, text_count, HoldsOfTexts}
 use Rattle.plan_texts.specs.Refusals.{IsRefusalOf, Counts, IsShownBy}
 
 -- ---- answers
@@ -18,7 +18,7 @@ pub record IsRefusedSo (names : Texts) (shelf : Told) (counts : Counts) (begun :
   pub fault : RunFault
   pub refusal : IsRefusalOf names shelf begun fault
   pub shown : IsShownBy counts fault
-  pub is_status : status ≡ status_of fault
+  pub is_status : status ≡ refusal_status fault
   pub line : bytes ≡ fault_line fault
 
 -- The words name these texts, which are refused or for which the work is done; or they are not read: then no text is begun, and the line tells how the program is called.
@@ -40,7 +40,7 @@ pub record IsCutAnswer (usage_line : List ℕ) (Done : Texts → Status → List
 -- what each status says of the texts begun and of the bytes written; where memory was wanting no more texts were begun than are named
 abbrev pub Says : List ℕ → (Texts → Status → List ℕ → Type 0) → Option Texts → Told → Counts → ℕ → Status → List ℕ → Type 0
 Says usage_line Done names shelf counts begun WriteFault bytes = IsCutAnswer usage_line Done names shelf counts begun bytes
-Says usage_line Done names shelf counts begun OutOfMemory bytes = (begun ≤ text_count (unwrap_or names nothing)) × (bytes ≡ [])
+Says usage_line Done names shelf counts begun OutOfMemory bytes = (begun ≤ text_count (unwrap_or names empty_texts)) × (bytes ≡ [])
 Says usage_line Done names shelf counts begun status bytes = IsAnswer usage_line Done names shelf counts begun status bytes
 
 -- A run began so many texts, wrote these bytes and nothing else, and its status says so.

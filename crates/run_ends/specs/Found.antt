@@ -9,7 +9,7 @@ use Rattle.plan_texts.specs.declared.status.Status.{Status}
 use Rattle.plan_texts.specs.declared.status.Status.TheVariants.{ReadFault, WriteFault, OutOfMemory as NoMemory}
 use Rattle.plan_texts.specs.declared.stop.Stop.{Stop}
 use Rattle.plan_texts.specs.declared.stop.Stop.TheVariants.{Refused, OutOfMemory}
-use Rattle.plan_texts.specs.Texts.{Told, Texts, Begun, nothing, text_count, HoldsOfTexts}
+use Rattle.plan_texts.specs.Texts.{Told, Texts, Begun, empty_texts, text_count, HoldsOfTexts}
 use Rattle.plan_texts.specs.Refusals.{IsRefusalOf, Counts, IsShownBy}
 use Rattle.run_ends.specs.Ends.{IsUsage}
 
@@ -46,6 +46,6 @@ IsShownStop counts OutOfMemory = Unit {0}
 pub record IsFound (usage_line : List ℕ) (Done : Texts → Status → List ℕ → Type 0) (names : Option Texts) (shelf : Told) (counts : Counts) (before now : ℕ) (result : Result Answer Stop) : Type 0 where
   pub begun : ℕ
   pub rises : Begun begun before now
-  pub few : begun ≤ text_count (unwrap_or names nothing)
+  pub few : begun ≤ text_count (unwrap_or names empty_texts)
   pub is : IsResult usage_line Done names shelf begun result
   pub shown : IfErr result (IsShownStop counts)

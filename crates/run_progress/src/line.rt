@@ -1,7 +1,7 @@
 //! The words of the line.
 
 ghost use Rattle.std.specs.Prelude.{◌≡◌, ◌++◌, decimal, OnOk, IfOk};
-ghost use Rattle.run_progress.specs.Lines.{cost_text, bound_text, time_text, search_text, standing_text, line_text};
+ghost use Rattle.run_progress.specs.Lines.{best_cost_text, search_bound_text, time_text, search_text, standing_text, progress_text};
 
 use itoa::Buffer;
 use plan_io::Standing;
@@ -20,7 +20,7 @@ fn push_number(text: &mut Vec<u8>, number: u64) -> Result<(), AllocError>
 
 /// Writes the cost of the best design, in the unit of a network file, or that there is no design.
 fn push_cost(text: &mut Vec<u8>, cost: Option<u128>) -> Result<(), AllocError>
-    ensures { OnOk result (text.new.items ≡ text.old.items ++ cost_text cost) }
+    ensures { OnOk result (text.new.items ≡ text.old.items ++ best_cost_text cost) }
 {
     match cost {
         Some(cost) => {
@@ -33,7 +33,7 @@ fn push_cost(text: &mut Vec<u8>, cost: Option<u128>) -> Result<(), AllocError>
 
 /// Writes the bound of a search, in the unit of a network file, where one is told.
 fn push_bound(text: &mut Vec<u8>, bound: Option<u128>) -> Result<(), AllocError>
-    ensures { OnOk result (text.new.items ≡ text.old.items ++ bound_text bound) }
+    ensures { OnOk result (text.new.items ≡ text.old.items ++ search_bound_text bound) }
 {
     match bound {
         Some(bound) => {
@@ -95,7 +95,7 @@ pub fn line_of(
     workers: u32,
     seconds: u64,
 ) -> Result<Vec<u8>, AllocError>
-    ensures { IfOk result (λ text. text.items ≡ line_text standing workers seconds) }
+    ensures { IfOk result (λ text. text.items ≡ progress_text standing workers seconds) }
 {
     let mut text = Vec::new(alloc);
     push_time(&mut text, seconds)?;

@@ -6,7 +6,7 @@ use Rattle.plan_base.specs.declared.parts.Parts.{Parts}
 use Rattle.plan_base.specs.Arcs.{demand_at}
 use Rattle.arc_restrict.specs.Restrictions.{Forbidden, IsPermittedPath, IsOnlyPath}
 use Rattle.second_path.specs.declared.determining.Held.{Held}
-use Rattle.second_path.specs.Others.{IsOtherPath, HasPath, ComesBefore, IsFirstTwo}
+use Rattle.second_path.specs.Others.{IsOtherPath, HasPath, Precedes, IsFirstTwo}
 use Rattle.second_path.proofs.Trees.{last_or_before}
 use Rattle.second_path.specs.Searching.{ArePaths, IsHeld, IsHeldTo}
 
@@ -40,7 +40,7 @@ held_other p r paths n held found is other larger h = record {
   ];
 }
   where
-    only_before : (old : Option Held) → IfSome old (λ h. (demand_at p h.demand.0).load < (demand_at p n).load) → IsHeldTo p r paths n old → (m : ℕ) → m < n → ComesBefore p m n → IsOnlyPath p r m (slice_index_or paths m [])
+    only_before : (old : Option Held) → IfSome old (λ h. (demand_at p h.demand.0).load < (demand_at p n).load) → IsHeldTo p r paths n old → (m : ℕ) → m < n → Precedes p m n → IsOnlyPath p r m (slice_index_or paths m [])
     only_before None larger h m below first = h m below
     only_before (Some old) larger h m below first = h.before m below (inl (elim first [
       | inl more ↦ omega (arith, more, larger)

@@ -19,8 +19,8 @@ pub record HasPath (p : Parts) (r : Forbidden) (k : ℕ) : Type 0 where
   pub permitted : IsPermittedPath p r k path
 
 -- the one demand has the larger load, or the same load and the lower number
-abbrev pub ComesBefore : Parts → ℕ → ℕ → Type 0
-ComesBefore p k m =
+abbrev pub Precedes : Parts → ℕ → ℕ → Type 0
+Precedes p k m =
     ((demand_at p m).load < (demand_at p k).load)
     ⊎ (((demand_at p k).load ≡ (demand_at p m).load) × (k < m))
 
@@ -57,7 +57,7 @@ pub record IsFirstTwo (p : Parts) (r : Forbidden) (k : ℕ) (first second : List
   pub permitted : IsPermittedPath p r k first
   pub other : IsOtherPath p r k first second
   pub all : (m : ℕ) → m < length p.demands → HasPath p r m
-  pub others : (m : ℕ) → m < length p.demands → ComesBefore p m k → (arcs : List ArcId) × IsOnlyPath p r m arcs
+  pub others : (m : ℕ) → m < length p.demands → Precedes p m k → (arcs : List ArcId) × IsOnlyPath p r m arcs
 
 -- each demand has one permitted path, and these are they
 pub record AreOnlyPaths (p : Parts) (r : Forbidden) (paths : List (List ArcId)) : Type 0 where

@@ -9,7 +9,7 @@ use Rattle.plan_base.specs.Paths.{arc_at, node_at}
 use Rattle.arc_restrict.specs.Restrictions.{Forbidden, IsPermittedPath, IsOnlyPath}
 use Rattle.second_path.specs.declared.search.Search.{Search}
 use Rattle.second_path.specs.declared.determining.Held.{Held}
-use Rattle.second_path.specs.Others.{holds, IsOtherPath, ComesBefore}
+use Rattle.second_path.specs.Others.{holds, IsOtherPath, Precedes}
 
 -- one of the first n arrivals leads to the node of this number
 pub record IsLedTo (p : Parts) (arrivals : List ArcId) (n v : ℕ) : Type 0 where
@@ -143,7 +143,7 @@ pub record ArePaths (p : Parts) (r : Forbidden) (n : ℕ) (paths : List (List Ar
 pub record IsHeld (p : Parts) (r : Forbidden) (paths : List (List ArcId)) (n : ℕ) (held : Held) : Type 0 where
   pub within : held.demand.0 < n
   pub other : IsOtherPath p r held.demand.0 (slice_index_or paths held.demand.0 []) held.other
-  pub before : (m : ℕ) → m < n → ComesBefore p m held.demand.0 → IsOnlyPath p r m (slice_index_or paths m [])
+  pub before : (m : ℕ) → m < n → Precedes p m held.demand.0 → IsOnlyPath p r m (slice_index_or paths m [])
 
 -- of the first n demands, the first with two paths is held, or none has two
 abbrev pub IsHeldTo : Parts → Forbidden → List (List ArcId) → ℕ → Option Held → Type 0

@@ -14,8 +14,8 @@ use Rattle.text_runs.specs.VerifyRuns.{names_in}
 use Rattle.plan_table.specs.Tables.{IsTableText}
 
 -- how the program is called
-abbrev pub usage_line : List ℕ
-usage_line = codes "usage: sndtable NET MODEL PLAN\n"
+abbrev pub table_usage : List ℕ
+table_usage = codes "usage: sndtable NET MODEL PLAN\n"
 
 -- the plan is a valid one of the instance, so what it claims is so, and these are its tables
 pub record IsTableOf (net : NetworkFile) (p : Parts) (plan : Plan) (bytes : List ℕ) : Type 0 where
@@ -34,4 +34,4 @@ IsTabled texts status bytes = HoldsOfProblem texts (λ net p plan. IsSomeAnd pla
 
 -- a run of these words ends with the tables of the plan that they name, with a refusal of words, texts or plan, with a front of such an answer, or with nothing
 abbrev pub IsTableRun : List Name → Told → Counts → ℕ → ℕ → Option (List ℕ) → Option (List ℕ) → Status → Type 0
-IsTableRun words shelf counts begins_before begins_now before now status = IsTextRun usage_line IsTabled (names_in words) shelf counts begins_before begins_now before now status
+IsTableRun words shelf counts begins_before begins_now before now status = IsTextRun table_usage IsTabled (names_in words) shelf counts begins_before begins_now before now status

@@ -10,7 +10,7 @@ ghost use Rattle.plan_texts.specs.Stops.{IsReadStop, TookMore, Stops};
 ghost use Rattle.run_ends.specs.Ends.{IsOwnEnd};
 ghost use Rattle.run_ends.specs.Found.{IsFound};
 ghost use Rattle.text_runs.specs.VerifyRuns.{names_in, IsEndOfVerdict};
-ghost use Rattle.table_runs.specs.TableRuns.{usage_line, IsTable, IsTabled, IsTableRun};
+ghost use Rattle.table_runs.specs.TableRuns.{table_usage, IsTable, IsTabled, IsTableRun};
 
 use cert_verifier::{Rejected, verify};
 use plan_io::{Shelf, Sink};
@@ -85,7 +85,7 @@ fn table_plan<S: Shelf>(
 /// What a run of these words has to say.
 #[tactic(auto, using(text_runs::proofs::ThreeNames::found_other))]
 fn answer_to<S: Shelf>(alloc: Global, words: &[String], shelf: &mut S) -> Result<Answer, Stop>
-    ensures found { IsFound usage_line IsTabled (names_in (map string_bytes words.now)) (S.text shelf.old)
+    ensures found { IsFound table_usage IsTabled (names_in (map string_bytes words.now)) (S.text shelf.old)
         (counts_of (S.faults shelf.old) (S.faults shelf.new) (S.taken shelf.new))
         (S.begins shelf.old) (S.begins shelf.new) result }
     ensures later { S.faults shelf.old ≤ S.faults shelf.new }

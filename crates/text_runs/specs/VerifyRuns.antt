@@ -13,12 +13,12 @@ names_in (network ∷ model ∷ plan ∷ []) = Some (three network model plan)
 names_in _ = None
 
 -- how the program is called
-abbrev pub usage_line : List ℕ
-usage_line = codes "usage: sndverify NET MODEL PLAN\n"
+abbrev pub verify_usage : List ℕ
+verify_usage = codes "usage: sndverify NET MODEL PLAN\n"
 
 -- a run of these words ends with the verdict on the plan that they name, with a refusal of words or texts, with a front of such an answer, or with nothing
 abbrev pub IsVerifyRun : List Name → Told → Counts → ℕ → ℕ → Option (List ℕ) → Option (List ℕ) → Status → Type 0
-IsVerifyRun words shelf counts begins_before begins_now before now status = IsTextRun usage_line IsVerified (names_in words) shelf counts begins_before begins_now before now status
+IsVerifyRun words shelf counts begins_before begins_now before now status = IsTextRun verify_usage IsVerified (names_in words) shelf counts begins_before begins_now before now status
 
 -- the statuses of a verdict
 abbrev pub IsEndOfVerdict : Status → Type 0

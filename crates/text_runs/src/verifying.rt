@@ -6,7 +6,7 @@ ghost use Rattle.plan_texts.specs.Refusals.{counts_of};
 ghost use Rattle.plan_texts.specs.Answers.{IsVerified};
 ghost use Rattle.run_ends.specs.Ends.{IsOwnEnd};
 ghost use Rattle.run_ends.specs.Found.{IsFound};
-ghost use Rattle.text_runs.specs.VerifyRuns.{names_in, usage_line, IsVerifyRun, IsEndOfVerdict};
+ghost use Rattle.text_runs.specs.VerifyRuns.{names_in, verify_usage, IsVerifyRun, IsEndOfVerdict};
 
 use plan_io::{Shelf, Sink};
 use plan_texts::{Answer, Status, Stop, verify_plan, write_answer};
@@ -19,7 +19,7 @@ const USAGE_LINE: &[u8] = b"usage: sndverify NET MODEL PLAN\n";
 /// What a run of these words has to say.
 #[tactic(auto, using(crate::proofs::ThreeNames::found_other))]
 fn answer_to<S: Shelf>(alloc: Global, words: &[String], shelf: &mut S) -> Result<Answer, Stop>
-    ensures found { IsFound usage_line IsVerified (names_in (map string_bytes words.now)) (S.text shelf.old)
+    ensures found { IsFound verify_usage IsVerified (names_in (map string_bytes words.now)) (S.text shelf.old)
         (counts_of (S.faults shelf.old) (S.faults shelf.new) (S.taken shelf.new))
         (S.begins shelf.old) (S.begins shelf.new) result }
     ensures later { S.faults shelf.old ≤ S.faults shelf.new }

@@ -12,7 +12,7 @@ use Rattle.plan_base.proofs.Bools.{and-first}
 use Rattle.plan_base.proofs.PathLaws.{length-IsSimplePath}
 use Rattle.arc_restrict.specs.Restrictions.{Forbidden, IsPermittedPath, HasNoPath}
 use Rattle.arc_restrict.specs.Prices.{price_of, AreWithinLimit, IsLeastPrice}
-use Rattle.verifier_paths.specs.Labels.{label_at, may_take, is_left_out, IsAtMost, IsWay, AreLeast}
+use Rattle.verifier_paths.specs.Labels.{label_at, may_take, is_omitted, IsAtMost, IsWay, AreLeast}
 use Rattle.verifier_paths.proofs.Ways.{MeetOnce, route_of_way, simple_of_way, way-all, way_of_simple}
 use Rattle.verifier_paths.proofs.Rounding.{TakesArcs, price-few}
 
@@ -31,15 +31,15 @@ all-three a b c is_a not_b not_c = rw (is_a, not_b, not_c) refl
 
 -- an arc that may be taken is not forbidden
 pub taken_permitted : (p : Parts) (r : Forbidden) (k : ℕ) (out : Option ArcId) (a : ArcId) → IsTrue (may_take p r k out a) → r k a ≡ false
-taken_permitted p r k out a taken = (three (is_arc p a) (r k a) (is_left_out out a) taken).0
+taken_permitted p r k out a taken = (three (is_arc p a) (r k a) (is_omitted out a) taken).0
 
 -- an arc that may be taken is not the one to be left out
-pub taken_not_left_out : (p : Parts) (r : Forbidden) (k : ℕ) (out : Option ArcId) (a : ArcId) → IsTrue (may_take p r k out a) → is_left_out out a ≡ false
-taken_not_left_out p r k out a taken = (three (is_arc p a) (r k a) (is_left_out out a) taken).1
+pub taken_not_left_out : (p : Parts) (r : Forbidden) (k : ℕ) (out : Option ArcId) (a : ArcId) → IsTrue (may_take p r k out a) → is_omitted out a ≡ false
+taken_not_left_out p r k out a taken = (three (is_arc p a) (r k a) (is_omitted out a) taken).1
 
 -- an arc that is neither forbidden nor left out may be taken
-pub takes_of : (p : Parts) (r : Forbidden) (k : ℕ) (out : Option ArcId) (a : ArcId) → IsTrue (is_arc p a) → r k a ≡ false → is_left_out out a ≡ false → IsTrue (may_take p r k out a)
-takes_of p r k out a is permitted kept = all-three (is_arc p a) (r k a) (is_left_out out a) is permitted kept
+pub takes_of : (p : Parts) (r : Forbidden) (k : ℕ) (out : Option ArcId) (a : ArcId) → IsTrue (is_arc p a) → r k a ≡ false → is_omitted out a ≡ false → IsTrue (may_take p r k out a)
+takes_of p r k out a is permitted kept = all-three (is_arc p a) (r k a) (is_omitted out a) is permitted kept
 
 -- the arcs of a permitted path may be taken
 pub path-taken : (p : Parts) (r : Forbidden) (k : ℕ) (arcs : List ArcId) → IsPermittedPath p r k arcs → All (λ a. IsTrue (may_take p r k None a)) arcs

@@ -12,7 +12,7 @@ use Rattle.plan_base.proofs.PathSums.{place-within}
 use Rattle.arc_restrict.specs.Restrictions.{Forbidden, IsPermittedPath, HasNoPath, IsFewest}
 use Rattle.arc_restrict.specs.Prices.{price_of, IsLeastPrice}
 use Rattle.verifier_paths.specs.Labels.{may_take, label_at, IsAtMost, IsWay, AreLeast}
-use Rattle.verifier_paths.specs.OnlyPaths.{AreOnes, AreFewest, IsPathOf, IsStep}
+use Rattle.verifier_paths.specs.OnlyPaths.{AreOnes, AreFewestArcs, IsPathOf, IsStep}
 use Rattle.verifier_paths.proofs.Ways.{Avoids, MeetOnce, has_last, way_on, price-cons, simple_of_way, way-all, way_of_simple}
 use Rattle.verifier_paths.proofs.Offers.{known}
 use Rattle.verifier_paths.proofs.Rounding.{TakesArcs, tail-within}
@@ -29,7 +29,7 @@ ones-count p takes prices from to (a ∷ arcs) ones are way =
     omega (arith, price-cons p prices a arcs, rest, one)
 
 -- at prices of one, a least price is a fewest count of arcs
-pub fewest_of_least : (p : Parts) (takes : ArcId → Bool) (prices : List ℕ) (source : ℕ) (labels : List (Option ℕ)) → AreOnes p prices → TakesArcs p takes → AreLeast p takes (price_of p prices) source labels → AreFewest p takes source labels
+pub fewest_of_least : (p : Parts) (takes : ArcId → Bool) (prices : List ℕ) (source : ℕ) (labels : List (Option ℕ)) → AreOnes p prices → TakesArcs p takes → AreLeast p takes (price_of p prices) source labels → AreFewestArcs p takes source labels
 fewest_of_least p takes prices source labels ones are least = record {
   count = least.count;
   attained = λ v price within is.
@@ -61,7 +61,7 @@ pub record HasStep (p : Parts) (takes : ArcId → Bool) (labels : List (Option �
   pub arc : ArcId
   pub is : IsStep p takes labels here steps arc
 
-step_of_way : (p : Parts) (takes : ArcId → Bool) (source here steps : ℕ) (labels : List (Option ℕ)) (arcs : List ArcId) → IsInstance p → TakesArcs p takes → here < p.nodes → AreFewest p takes source labels
+step_of_way : (p : Parts) (takes : ArcId → Bool) (source here steps : ℕ) (labels : List (Option ℕ)) (arcs : List ArcId) → IsInstance p → TakesArcs p takes → here < p.nodes → AreFewestArcs p takes source labels
     → label_at labels here ≡ Some (suc steps) → IsWay p takes source here arcs → length arcs ≡ suc steps → HasStep p takes labels here steps
 step_of_way p takes source here steps labels [] inst are within least is way size = absurd (omega (arith, size))
 step_of_way p takes source here steps labels (b ∷ arcs) inst are within least is way size =
@@ -77,7 +77,7 @@ step_of_way p takes source here steps labels (b ∷ arcs) inst are within least 
     record { arc = l.last; is = record { taken = l.taken; leads = l.leads; nearer = tail.is ∙ ap (λ n. Some n) same } }
 
 -- from a node that is reached in some arcs, an arc leads back to one that is one arc nearer
-pub has_step : (p : Parts) (takes : ArcId → Bool) (source here steps : ℕ) (labels : List (Option ℕ)) → IsInstance p → TakesArcs p takes → here < p.nodes → AreFewest p takes source labels
+pub has_step : (p : Parts) (takes : ArcId → Bool) (source here steps : ℕ) (labels : List (Option ℕ)) → IsInstance p → TakesArcs p takes → here < p.nodes → AreFewestArcs p takes source labels
     → label_at labels here ≡ Some (suc steps) → HasStep p takes labels here steps
 has_step p takes source here steps labels inst are within least is =
     let w = least.attained here (suc steps) within is in
@@ -134,7 +134,7 @@ from_source p takes source here [] way none = way
 from_source p takes source here (a ∷ arcs) way none = absurd (omega (arith, none))
 
 -- with no steps left, the arcs read back are a path
-pub back-end : (p : Parts) (takes : ArcId → Bool) (labels : List (Option ℕ)) (k : ℕ) (target : NodeId) (here : ℕ) (arcs : List ArcId) → TakesArcs p takes → AreFewest p takes (demand_at p k).source.0 labels
+pub back-end : (p : Parts) (takes : ArcId → Bool) (labels : List (Option ℕ)) (k : ℕ) (target : NodeId) (here : ℕ) (arcs : List ArcId) → TakesArcs p takes → AreFewestArcs p takes (demand_at p k).source.0 labels
     → target ≡ (demand_at p k).target → IsBack p takes labels target.0 0 here arcs → IsPathOf p takes k (reverse arcs)
 back-end p takes labels k target here arcs are least is h =
     let s = (demand_at p k).source.0 in
@@ -149,7 +149,7 @@ back-end p takes labels k target here arcs are least is h =
     }
 
 -- where the target has no label there is no path
-pub no_path : (p : Parts) (takes : ArcId → Bool) (k : ℕ) (labels : List (Option ℕ)) → (demand_at p k).target.0 < p.nodes → AreFewest p takes (demand_at p k).source.0 labels
+pub no_path : (p : Parts) (takes : ArcId → Bool) (k : ℕ) (labels : List (Option ℕ)) → (demand_at p k).target.0 < p.nodes → AreFewestArcs p takes (demand_at p k).source.0 labels
     → label_at labels (demand_at p k).target.0 ≡ None → (arcs : List ArcId) → IsPathOf p takes k arcs → ⊥
 no_path p takes k labels within least is arcs path =
     subst (λ (x : Option ℕ). IsAtMost x (length arcs)) is

@@ -9,13 +9,13 @@ use Rattle.verifier_paths.specs.declared.limits.TheConstants.{MAX_WAY_ARCS}
 use Rattle.arc_restrict.specs.Restrictions.{Forbidden}
 
 -- the arc is the one that is left out
-abbrev pub is_left_out : Option ArcId → ArcId → Bool
-is_left_out None a = false
-is_left_out (Some out) a = out.0 == a.0
+abbrev pub is_omitted : Option ArcId → ArcId → Bool
+is_omitted None a = false
+is_omitted (Some out) a = out.0 == a.0
 
 -- the arc exists, is not forbidden to the demand, and is not left out
 abbrev pub may_take : Parts → Forbidden → ℕ → Option ArcId → ArcId → Bool
-may_take p r k left_out a = is_arc p a && (not (r k a) && not (is_left_out left_out a))
+may_take p r k left_out a = is_arc p a && (not (r k a) && not (is_omitted left_out a))
 
 -- the price that is known of a node
 abbrev pub label_at : List (Option ℕ) → ℕ → Option ℕ

@@ -28,8 +28,8 @@ pub record AreOnes (p : Parts) (prices : List ℕ) : Type 0 where
   pub limit : AreWithinLimit p prices
 
 -- each node has the fewest arcs of all ways to it
-abbrev pub AreFewest : Parts → (ArcId → Bool) → ℕ → List (Option ℕ) → Type 0
-AreFewest p takes source labels = AreLeast p takes (λ arcs. length arcs) source labels
+abbrev pub AreFewestArcs : Parts → (ArcId → Bool) → ℕ → List (Option ℕ) → Type 0
+AreFewestArcs p takes source labels = AreLeast p takes (λ arcs. length arcs) source labels
 
 -- a simple path of the demand, of arcs that may be taken
 pub record IsPathOf (p : Parts) (takes : ArcId → Bool) (k : ℕ) (arcs : List ArcId) : Type 0 where

@@ -7,7 +7,7 @@ ghost use Rattle.plan_base.specs.Arcs.{demand_at};
 ghost use Rattle.arc_restrict.specs.Restrictions.{IsPermittedPath, IsOnlyPath};
 ghost use Rattle.verifier_paths.specs.Kept.{forbidden_by};
 ghost use Rattle.verifier_paths.specs.Labels.{may_take, label_at};
-ghost use Rattle.verifier_paths.specs.OnlyPaths.{HavePaths, HasSecond, IsOnlyPaths, ArePathsTo, AreOnlyTo, IsStep, IsStepBack, IsPathOf, AreOnes, AreFewest};
+ghost use Rattle.verifier_paths.specs.OnlyPaths.{HavePaths, HasSecond, IsOnlyPaths, ArePathsTo, AreOnlyTo, IsStep, IsStepBack, IsPathOf, AreOnes, AreFewestArcs};
 
 use crate::marks::Forbidden;
 use crate::rounds::{Ways, least_prices};
@@ -71,7 +71,7 @@ fn arcs_back(
     steps: u128,
 ) -> Result<Vec<ArcId>, AllocError>
     requires lawful { IsInstance ways.now.inst.now }
-    requires labels { AreFewest ways.now.inst.now
+    requires labels { AreFewestArcs ways.now.inst.now
         (may_take ways.now.inst.now (forbidden_by ways.now.forbidden.now) ways.now.demand.0 ways.now.left_out)
         (demand_at ways.now.inst.now ways.now.demand.0).source.0 labels.now }
     requires target { target ≡ (demand_at ways.now.inst.now ways.now.demand.0).target }

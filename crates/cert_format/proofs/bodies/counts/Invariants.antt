@@ -1,8 +1,8 @@
 use Rattle.std.proofs.Common.{◌≡◌, drop}
 use Rattle.plan_words.specs.Words.{each}
-use Rattle.cert_format.specs.Bodies.{count_of}
+use Rattle.cert_format.specs.Bodies.{fitting_count}
 use Rattle.plan_words.proofs.NumberWords.{with_front}
 use Rattle.cert_format.proofs.bodies.counts.Given as goal
 
 abbrev pub invariant-loop-n : goal.invariant-loop-n
-invariant-loop-n l = with_front l.counts.items (each count_of (drop l.n-index l.numbers)) ≡ each count_of l.numbers
+invariant-loop-n l = with_front l.counts.items (each fitting_count (drop l.n-index l.numbers)) ≡ each fitting_count l.numbers

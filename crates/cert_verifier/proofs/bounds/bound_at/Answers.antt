@@ -6,7 +6,7 @@ use mir.Val.{SFits, to_z, of_z}
 use Rattle.proof_tree.specs.RatedEvidence.{rates_in}
 use Rattle.verifier_paths.specs.Kept.{forbidden_by}
 use Rattle.cert_verifier.specs.Totals.{IsPriceTotal}
-use Rattle.cert_verifier.specs.Walks.{region_by}
+use Rattle.cert_verifier.specs.Walks.{region_of_marks}
 use Rattle.cert_verifier.proofs.BoundOfTotals.{sum-bounded, sum-not_above, totals_bound}
 use Rattle.cert_verifier.proofs.bounds.bound_at.Goals as goal
 
@@ -36,7 +36,7 @@ returns-in_ok-values-in-Some-clause-bound c =
     to_z-of_z w128 c.total_of.result total_fits ∙ c.total_of.ensures ∙ ap (λ (v : ℤ). pos (c.in-Some.priced + c.counted_at-counted.result) +ℤ v) (to_z-of_z w128 values values_fit) in
     let priced : IsPriceTotal at.inst.now (forbidden_by at.forbidden.now) c.args.numbers.now c.in-Some.priced = rw (c.in-Some.is, c.as_slice.ensures.value) at c.in_ok-priced.ensures.total in
     rw (to_z-of_z w128 bound bound_fits)
-    (totals_bound at.inst.now at.cuts.now (region_by at.forbidden.now at.ranges.now) c.args.numbers.now c.in-Some.priced c.counted_at-counted.result values bound priced c.counted_at-counted.ensures.value c.in_ok-values-in-Some.ensures
+    (totals_bound at.inst.now at.cuts.now (region_of_marks at.forbidden.now at.ranges.now) c.args.numbers.now c.in-Some.priced c.counted_at-counted.result values bound priced c.counted_at-counted.ensures.value c.in_ok-values-in-Some.ensures
     (record {
       reaches = subst (λ (t : ℤ). t ≤ℤ (pos 1000 *ℤ bound)) total_is c.thousandth_up.ensures.reaches;
       least = λ other le. c.thousandth_up.ensures.least other (subst (λ (t : ℤ). t ≤ℤ (pos 1000 *ℤ other)) (sym total_is) le);

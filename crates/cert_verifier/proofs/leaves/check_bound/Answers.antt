@@ -3,7 +3,7 @@ use Rattle.std.proofs.lemmas.Int.{to_z-of_z}
 use mir.Syntax.{w128}
 use mir.Val.{SFits}
 use Rattle.cert_verifier.specs.LeafRules.{LeafFinds}
-use Rattle.cert_verifier.specs.Walks.{region_by}
+use Rattle.cert_verifier.specs.Walks.{region_of_marks}
 use Rattle.cert_verifier.proofs.LeafFindings.{not_so, bound_decided}
 use Rattle.cert_verifier.proofs.leaves.check_bound.Goals as goal
 
@@ -20,7 +20,7 @@ returns-in-Some c = λ differs.
     let is = rw c.in-Some.is at c.in_ok-bound.ensures.bound in
     let small : SFits w128 c.in-Some.bound = search rules in
     let above = rw (to_z-of_z w128 c.in-Some.bound small) at c.is_above.ensures in
-    bound_decided at.inst.now at.cuts.now at.cost (region_by at.forbidden.now at.ranges.now) at.index c.args.numbers.now c.in-Some.bound at.unit c.is_above.result _ c.requires.unit (c.are_lawful.ensures.0 lawful) is above c.holds_or.ensures.ok c.holds_or.ensures.broken
+    bound_decided at.inst.now at.cuts.now at.cost (region_of_marks at.forbidden.now at.ranges.now) at.index c.args.numbers.now c.in-Some.bound at.unit c.is_above.result _ c.requires.unit (c.are_lawful.ensures.0 lawful) is above c.holds_or.ensures.ok c.holds_or.ensures.broken
 
 pub returns-in-None : goal.returns-in-None
 unfolding LeafFinds

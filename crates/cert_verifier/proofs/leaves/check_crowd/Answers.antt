@@ -1,6 +1,6 @@
 use Rattle.std.proofs.Common.{inl, inr, refl, ◌≡◌, true, false, rules}
 use Rattle.cert_verifier.specs.LeafRules.{LeafFinds}
-use Rattle.cert_verifier.specs.Walks.{region_by}
+use Rattle.cert_verifier.specs.Walks.{region_of_marks}
 use Rattle.cert_verifier.proofs.LeafFindings.{not_so, crowd_decided}
 use Rattle.cert_verifier.proofs.leaves.check_crowd.Goals as goal
 
@@ -30,7 +30,7 @@ returns-in-Some c = λ differs.
     let free = rw c.as_slice-numerators.ensures.value at c.are_free_on_useful.ensures in
     let is = rw (c.in-Some.is, c.as_slice-numerators.ensures.value) at c.in_ok-total.ensures.total in
     let more = rw c.as_slice-numerators.ensures.value at c.is_crowded.ensures in
-    crowd_decided at.inst.now at.cuts.now at.cost (region_by at.forbidden.now at.ranges.now) at.index c.args.prices.now c.in-Some.total c.is_crowded.result _ (limit.0 fits) (free.0 is_free) is more
+    crowd_decided at.inst.now at.cuts.now at.cost (region_of_marks at.forbidden.now at.ranges.now) at.index c.args.prices.now c.in-Some.total c.is_crowded.result _ (limit.0 fits) (free.0 is_free) is more
     c.holds_or.ensures.ok c.holds_or.ensures.broken
 
 pub returns-in-None : goal.returns-in-None

@@ -3,8 +3,8 @@ use Rattle.plan_base.specs.declared.limits.TheConstants.{MAX_PLACES}
 use Rattle.plan_base.specs.Places.{places}
 use Rattle.plan_base.proofs.PlaceSums.{places-few}
 use Rattle.cert_verifier.specs.LeafRules.{LeafFinds}
-use Rattle.cert_verifier.specs.Walks.{region_by}
-use Rattle.cert_verifier.specs.Routings.{design_of}
+use Rattle.cert_verifier.specs.Walks.{region_of_marks}
+use Rattle.cert_verifier.specs.Routings.{bare_design}
 use Rattle.cert_verifier.proofs.RoutingLaws.{AreLoadsOf, not_only_paths}
 use Rattle.cert_verifier.proofs.LeafFindings.{not_so, overfull_outside, overfull_decided}
 use Rattle.cert_verifier.proofs.leaves.check_overfull.Goals as goal
@@ -36,9 +36,9 @@ returns-then-not-are_in_range c = λ differs.
     let loads = c.loads_of_paths-loads.result in
     let only = rw c.in-Only.is at c.in_ok-only_paths.ensures.left in
     let few : places at.inst.now ≤ MAX_PLACES = places-few at.inst.now c.links.ensures.lawful in
-    let are_loads : AreLoadsOf at.inst.now (design_of c.in-Only.paths) loads = λ q below. c.loads_of_paths-loads.ensures.value q (omega (arith, below, few)) in
+    let are_loads : AreLoadsOf at.inst.now (bare_design c.in-Only.paths) loads = λ q below. c.loads_of_paths-loads.ensures.value q (omega (arith, below, few)) in
     let fails : c.are_in_range.result ≡ false = search rules in
-    overfull_outside at.inst.now at.cuts.now at.cost (region_by at.forbidden.now at.ranges.now) at.index c.args.link (design_of c.in-Only.paths) loads (omega arith) only.1 are_loads (not_so c.are_in_range.result _ c.are_in_range.ensures fails)
+    overfull_outside at.inst.now at.cuts.now at.cost (region_of_marks at.forbidden.now at.ranges.now) at.index c.args.link (bare_design c.in-Only.paths) loads (omega arith) only.1 are_loads (not_so c.are_in_range.result _ c.are_in_range.ensures fails)
 
 pub returns-else-not-are_in_range : goal.returns-else-not-are_in_range
 returns-else-not-are_in_range c = λ differs.
@@ -46,7 +46,7 @@ returns-else-not-are_in_range c = λ differs.
     let loads = c.loads_of_paths-loads.result in
     let only = rw c.in-Only.is at c.in_ok-only_paths.ensures.left in
     let few : places at.inst.now ≤ MAX_PLACES = places-few at.inst.now c.links.ensures.lawful in
-    let are_loads : AreLoadsOf at.inst.now (design_of c.in-Only.paths) loads = λ q below. c.loads_of_paths-loads.ensures.value q (omega (arith, below, few)) in
+    let are_loads : AreLoadsOf at.inst.now (bare_design c.in-Only.paths) loads = λ q below. c.loads_of_paths-loads.ensures.value q (omega (arith, below, few)) in
     let holds : c.are_in_range.result ≡ true = search rules in
-    overfull_decided at.inst.now at.cuts.now at.cost (region_by at.forbidden.now at.ranges.now) at.index c.args.link (design_of c.in-Only.paths) loads c.cannot_carry.result _ (omega arith) only.1 are_loads (c.are_in_range.ensures.0 holds) c.cannot_carry.ensures
+    overfull_decided at.inst.now at.cuts.now at.cost (region_of_marks at.forbidden.now at.ranges.now) at.index c.args.link (bare_design c.in-Only.paths) loads c.cannot_carry.result _ (omega arith) only.1 are_loads (c.are_in_range.ensures.0 holds) c.cannot_carry.ensures
     c.holds_or.ensures.ok c.holds_or.ensures.broken

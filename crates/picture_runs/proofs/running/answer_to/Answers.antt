@@ -3,7 +3,7 @@ use Rattle.std.specs.Prelude.{map, string_bytes, option_map}
 use Rattle.plan_texts.specs.Texts.{three}
 use Rattle.plan_texts.specs.Refusals.{counts_of}
 use Rattle.run_ends.proofs.Finding.{found_named}
-use Rattle.picture_runs.specs.PictureRuns.{usage_line, asked_in, IsDrawn}
+use Rattle.picture_runs.specs.PictureRuns.{picture_usage, asked_in, IsDrawn}
 use Rattle.picture_runs.proofs.Drawing.{found_asked}
 use Rattle.picture_runs.proofs.running.answer_to.Goals as goal
 
@@ -17,5 +17,5 @@ returns-in-Some-clause-found g c =
     let lit = option_map (λ word. word.now) c.in-Some.name in
     let asked : Some (names, lit) ≡ asked_in (map string_bytes c.args.words.now) = search rules in
     found_asked (asked_in (map string_bytes c.args.words.now)) names lit shelf counts before now c.draw_plan.result asked
-    (found_named usage_line (IsDrawn lit) shelf counts names before now c.draw_plan.result
+    (found_named picture_usage (IsDrawn lit) shelf counts names before now c.draw_plan.result
     c.draw_plan.ensures.done c.draw_plan.ensures.begun c.draw_plan.ensures.stop c.draw_plan.ensures.read_fault c.draw_plan.ensures.too_long)

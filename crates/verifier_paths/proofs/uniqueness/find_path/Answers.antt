@@ -4,7 +4,7 @@ use Rattle.plan_base.specs.declared.parts.Demand.{Demand}
 use Rattle.plan_base.specs.Arcs.{demand_at}
 use Rattle.verifier_paths.specs.Kept.{forbidden_by}
 use Rattle.verifier_paths.specs.Labels.{may_take, label_at}
-use Rattle.verifier_paths.specs.OnlyPaths.{AreFewest}
+use Rattle.verifier_paths.specs.OnlyPaths.{AreFewestArcs}
 use Rattle.verifier_paths.proofs.LeastPrices.{takes_arcs}
 use Rattle.verifier_paths.proofs.StepsBack.{fewest_of_least, no_path}
 use Rattle.verifier_paths.proofs.uniqueness.find_path.Goals as goal
@@ -17,7 +17,7 @@ arcs_back-requires-clause-labels c =
     let out = c.args.ways.now.left_out in
     let takes = may_take p r k out in
     let source = (demand_at p k).source.0 in
-    subst (AreFewest p takes source) (sym c.deref.ensures.value)
+    subst (AreFewestArcs p takes source) (sym c.deref.ensures.value)
     (fewest_of_least p takes c.args.ones.now source c.in_ok-labels.labels.items c.requires.ones (takes_arcs p r k out) c.in_ok-labels.ensures.least)
 
 pub returns-clause-none : goal.returns-clause-none

@@ -1,6 +1,0 @@
-use Rattle.std.proofs.Common.{◌≡◌, take}
-use Rattle.cert_verifier.specs.PlanRules.{examined_in}
-use Rattle.cert_verifier.proofs.claims.examined_in.Given as goal
-
-abbrev pub invariant-loop-node : goal.invariant-loop-node
-invariant-loop-node l = l.count ≡ examined_in (take l.node-index l.nodes)
