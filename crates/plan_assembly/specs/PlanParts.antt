@@ -1,10 +1,10 @@
--- What a plan is put together from: its records in preorder, and its bound; no public contract cites it.
+-- What a plan is put together from: a state, its records in preorder, and its bound; of it public contracts cite `IsAssembled` alone.
 use Rattle.std.specs.Prelude.{ℕ, zero, suc, ◌≤ℤ◌, ◌≡◌, ◌<◌, ◌≤◌, ◌⊎◌, ◌==◌, List, [], ◌∷◌, ◌++◌, length, count_by, Option, Some, None, IsSomeAnd, MatchOption, slice_get, All, ℤ, pos}
+use Rattle.std.specs.Arc.{arc_value}
 use Rattle.plan_base.specs.declared.ids.BranchId.{BranchId}
 use Rattle.plan_base.specs.declared.parts.Parts.{Parts}
 use Rattle.arc_restrict.specs.Restrictions.{Forbidden, HasNoPath}
 use Rattle.arc_restrict.specs.Prices.{IsLeastPrice}
-use Rattle.cut_table.specs.Numbers.{CutProblem}
 use Rattle.proof_tree.specs.declared.cuts.Cut.{Cut}
 use Rattle.proof_tree.specs.RatedEvidence.{IsBoundAt}
 use Rattle.proof_tree.specs.declared.tree.Evidence.TheVariants as evidence
@@ -22,16 +22,17 @@ use Rattle.arc_restrict.specs.Rows.{forbids}
 use Rattle.proof_tree.specs.Regions.{Region}
 use Rattle.pool_nodes.specs.Records.{record_of}
 use Rattle.pool_nodes.specs.Grounds.{Kept, HasGrounds}
+use Rattle.pool_nodes.specs.declared.search_state.SearchState.{SearchState}
+use Rattle.pool_nodes.specs.SearchStates.{machine_state}
 
--- what a plan is put together from is a state that events lead to, with the table of its instance and its cuts and the
+-- what a plan is put together from shows a state that events lead to, with the table of its instance and its cuts and the
 -- regions of its open leaves
-pub record IsAssembled (s : State) (table : CutProblem) (grounds : List (Option Kept)) : Type 0 where
-  pub reachable : IsReachable s
-  pub some_budget : 0 < s.budget
-  pub budget : s.budget ≤ MAX_BUDGET
-  pub table_is : table.problem ≡ s.problem
-  pub cuts_are : table.cuts ≡ s.cuts
-  pub has_grounds : HasGrounds s.problem s.nodes grounds
+pub record IsAssembled (a : SearchState) : Type 0 where
+  pub reachable : IsReachable (machine_state a)
+  pub some_budget : 0 < a.budget
+  pub budget : a.budget ≤ MAX_BUDGET
+  pub table_is : (arc_value a.table).problem ≡ arc_value a.problem
+  pub has_grounds : HasGrounds (arc_value a.problem) a.nodes.items a.grounds.items
 
 -- Records
 

@@ -6,17 +6,18 @@ ghost use Rattle.arc_restrict.specs.Rows.{forbids};
 ghost use Rattle.path_pricing.specs.Priced.{ArePrices};
 ghost use Rattle.cut_table.specs.Numbers.{AreNumbers};
 ghost use Rattle.pool_machine.specs.State.{cutoff_of};
-ghost use Rattle.plan_assembly.specs.PlanParts.{region_in, IsPriceOrNone, IsBoundOrNone, IsLeafBoundOrNone, IsLeastOrNone};
+ghost use Rattle.pool_machine.specs.Machine.{IsReachable};
+ghost use Rattle.pool_nodes.specs.SearchStates.{machine_state};
+ghost use Rattle.plan_assembly.specs.PlanParts.{region_in, IsAssembled, IsPriceOrNone, IsBoundOrNone, IsLeafBoundOrNone, IsLeastOrNone};
 
-use crate::assembly::Assembly;
 use arc_restrict::Restriction;
 use bound_assembly::Round;
 use cut_table::CutTable;
-use leaf_work::{Known, Trees, find};
+use leaf_work::{Known, KnownAbove, Trees, find};
 use link_steps::Ranges;
 use path_pricing::Priced;
 use plan_base::{BranchId, DemandId, Instance, Prices};
-use pool_nodes::lesser;
+use pool_nodes::{SearchState, lesser};
 use std::alloc::{AllocError, Global};
 use std::sync::Arc;
 
@@ -90,51 +91,59 @@ fn signed(cost: u128) -> i128
     cost as i128
 }
 
-impl Assembly {
-    /// The cost of the best design, in cost grains.
-    fn signed_cost(&self) -> Option<i128>
-        ensures { result ≡ option_map (λ cost. pos cost) (cutoff_of self.now) }
-    {
-        match &self.incumbent {
-            Some(held) => Some(signed(held.cost)),
-            None => None,
-        }
+/// The cost of the best design, in cost grains.
+fn signed_cost(state: &SearchState) -> Option<i128>
+    requires { IsReachable (machine_state state.now) }
+    ensures { result ≡ option_map (λ cost. pos cost) (cutoff_of (machine_state state.now)) }
+{
+    match &state.incumbent {
+        Some(held) => Some(signed(held.cost)),
+        None => None,
     }
+}
 
-    /// The bound of an open leaf at its kept prices, in cost grains: what is recorded, or the bound at its first
-    /// prices where no version was complete. None for another node, and where a demand has no permitted path.
-    fn leaf_bound(&self, number: usize) -> Result<Option<i128>, AllocError>
-        requires { number < length self.now.nodes }
-        ensures { IfOk result (IsLeafBoundOrNone self.now number) }
-    {
-        let Some(plot) = self.grounds[number].plot() else {
-            return Ok(None);
-        };
-        let leaf = &self.nodes[number];
-        if let Some(bound) = leaf.bound() {
-            return Ok(Some(bound));
-        }
-        bound_at(
-            self.alloc,
-            &*self.problem,
-            &*self.table,
-            leaf.first_prices(),
-            &**plot.rows(),
-            &**plot.ranges(),
-            self.known.of(number),
-        )
+/// The bound of an open leaf at its kept prices, in cost grains: what is recorded, or the bound at its first
+/// prices where no version was complete. None for another node, and where a demand has no permitted path.
+fn leaf_bound(
+    state: &SearchState,
+    known: &KnownAbove,
+    number: usize,
+) -> Result<Option<i128>, AllocError>
+    requires assembled { IsAssembled state.now }
+    requires number { number < length state.now.nodes.items }
+    ensures { IfOk result (IsLeafBoundOrNone (machine_state state.now) number) }
+{
+    let Some(plot) = state.grounds[number].plot() else {
+        return Ok(None);
+    };
+    let leaf = &state.nodes[number];
+    if let Some(bound) = leaf.bound() {
+        return Ok(Some(bound));
     }
+    bound_at(
+        state.alloc,
+        &*state.problem,
+        &*state.table,
+        leaf.first_prices(),
+        &**plot.rows(),
+        &**plot.ranges(),
+        known.of(number),
+    )
+}
 
-    /// The least of the bounds of the open leaves and the cost of the best design, in cost grains; none where there
-    /// is neither.
-    #[tactic(auto, using(crate::proofs::LeafBounds::least_limits))]
-    pub(crate) fn least_bound(&self) -> Result<Option<i128>, AllocError>
-        ensures { IfOk result (IsLeastOrNone self.now (length self.now.nodes)) }
-    {
-        let mut least = self.signed_cost();
-        for number in 0..self.nodes.as_slice().len() {
-            least = lesser(least, self.leaf_bound(number)?);
-        }
-        Ok(least)
+/// The least of the bounds of the open leaves and the cost of the best design, in cost grains; none where there
+/// is neither.
+#[tactic(auto, using(crate::proofs::LeafBounds::least_limits))]
+pub(crate) fn least_bound(
+    state: &SearchState,
+    known: &KnownAbove,
+) -> Result<Option<i128>, AllocError>
+    requires { IsAssembled state.now }
+    ensures { IfOk result (IsLeastOrNone (machine_state state.now) (length state.now.nodes.items)) }
+{
+    let mut least = signed_cost(state);
+    for number in 0..state.nodes.as_slice().len() {
+        least = lesser(least, leaf_bound(state, known, number)?);
     }
+    Ok(least)
 }

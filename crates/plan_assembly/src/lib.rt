@@ -1,16 +1,14 @@
 //! The plan of a search: its tree written down, its best design, and what they claim.
 //!
 //! Promises that the plan of a search that is done is that of its state, is valid, and fits a plan text. Begin at
-//! `Assembly::into_plan`; the plan of a state stands in `pool_machine/specs/PlanOf.antt`, and what a plan is put together
-//! from in `specs/PlanParts.antt`. Stands on `plan_base`, `link_steps`, `arc_restrict`, `path_pricing`, `proof_tree`,
+//! `into_plan`; the plan of a state stands in `pool_machine/specs/PlanOf.antt`, and what a plan is put together from in
+//! `specs/PlanParts.antt`. Stands on `plan_base`, `link_steps`, `arc_restrict`, `path_pricing`, `proof_tree`,
 //! `cut_table`, `bound_assembly`, `incumbent`, `pool_machine`, `pool_nodes` and `leaf_work`. How the search came there is
 //! left to `pool_core`.
 #![tactic(auto)]
 
-mod assembly;
 mod bounds;
 mod planning;
 mod records;
-mod shared;
 
-pub use assembly::Assembly;
+pub use planning::into_plan;

@@ -3,13 +3,17 @@
 ghost use Rattle.std.specs.Prelude.{◌≡◌, IfOk, true};
 ghost use Rattle.proof_tree.specs.Plans.{IsValidPlan};
 ghost use Rattle.proof_tree.specs.Spellings.{IsSpellable};
+ghost use Rattle.pool_machine.specs.Machine.{IsReachable};
 ghost use Rattle.pool_machine.specs.PlanOf.{status_of, is_done, stated_design, IsPlanOf, HasOpeningBound, PartsPaths};
-ghost use Rattle.plan_assembly.specs.PlanParts.{IsStatedBound};
+ghost use Rattle.pool_nodes.specs.SearchStates.{machine_state};
+ghost use Rattle.plan_assembly.specs.PlanParts.{IsAssembled, IsStatedBound};
 
-use crate::assembly::Assembly;
+use crate::bounds::least_bound;
 use crate::records;
+use leaf_work::KnownAbove;
 use plan_base::{Design, Items};
 use pool_machine::Incumbent;
+use pool_nodes::SearchState;
 use proof_tree::{Cut, Plan, PlanStatus};
 use std::alloc::{AllocError, Global};
 
@@ -34,78 +38,82 @@ fn copies_of(alloc: Global, cuts: &[Cut]) -> Result<Items<Cut>, AllocError>
     Ok(Items::from_vec(copies))
 }
 
-impl Assembly {
-    /// What the plan claims: nothing where a leaf is open.
-    fn status(&self) -> PlanStatus
-        ensures { result ≡ status_of self.now }
-    {
-        if (self.examined as usize) < self.nodes.as_slice().len() {
-            return PlanStatus::Undecided;
-        }
-        match &self.incumbent {
-            Some(_) => PlanStatus::Optimal,
-            None => PlanStatus::Infeasible,
-        }
+/// What the plan claims: nothing where a leaf is open.
+fn status(state: &SearchState) -> PlanStatus
+    requires { IsReachable (machine_state state.now) }
+    ensures { result ≡ status_of (machine_state state.now) }
+{
+    if (state.examined as usize) < state.nodes.as_slice().len() {
+        return PlanStatus::Undecided;
     }
+    match &state.incumbent {
+        Some(_) => PlanStatus::Optimal,
+        None => PlanStatus::Infeasible,
+    }
+}
 
-    /// The bound that the plan states, in cost grains.
-    fn stated_bound(&self, status: PlanStatus) -> Result<Option<i128>, AllocError>
-        ensures { IfOk result (IsStatedBound self.now status) }
-    {
-        match status {
-            PlanStatus::Undecided => self.least_bound(),
-            PlanStatus::Optimal => Ok(None),
-            PlanStatus::Infeasible => Ok(None),
-        }
+/// The bound that the plan states, in cost grains.
+fn stated_bound(
+    state: &SearchState,
+    known: &KnownAbove,
+    status: PlanStatus,
+) -> Result<Option<i128>, AllocError>
+    requires { IsAssembled state.now }
+    ensures { IfOk result (IsStatedBound (machine_state state.now) status) }
+{
+    match status {
+        PlanStatus::Undecided => least_bound(state, known),
+        PlanStatus::Optimal => Ok(None),
+        PlanStatus::Infeasible => Ok(None),
     }
+}
 
-    /// The plan: the tree, the best design, and what they claim.
-    ///
-    /// - Takes: a search that is done.
-    /// - Gives: a valid plan with the cuts of the search, which a plan text can hold, and each split of which parts two paths
-    ///   of a demand or two steps of a link. The bound of an undecided plan is at least the bound of the root at the start
-    ///   prices.
-    /// - Errors: want of memory alone.
-    /// - Rule: docs/METHOD.md, "The search as a machine".
-    pub fn into_plan(self) -> Result<Plan, AllocError>
-        requires done { is_done self ≡ true }
-        ensures plan { IfOk result (λ plan. IsPlanOf self plan) }
-        ensures valid { IfOk result (λ plan. IsValidPlan self.problem plan) }
-        ensures fits { IfOk result IsSpellable }
-        ensures bound { IfOk result (λ plan. HasOpeningBound self.problem plan) }
-        ensures splits { IfOk result (λ plan. PartsPaths self.problem plan.tree) }
-    {
-        let status = self.status();
-        let bound = self.stated_bound(status)?;
-        let Assembly {
-            alloc,
-            problem,
-            table,
-            unit: _unit,
-            nodes,
-            columns: _columns,
-            grounds: _grounds,
-            incumbent,
-            examined,
-            budget,
-            next_version: _next_version,
-            accepted: _accepted,
-            known: _known,
-        } = self;
-        let cuts = copies_of(alloc, table.cuts())?;
-        let tree = records::tree_of(alloc, nodes)?;
-        Ok(Plan {
-            nodes: problem.nodes(),
-            links: problem.links(),
-            demands: problem.demands(),
-            both: problem.orient().is_two_way(),
-            status,
-            budget,
-            examined,
-            design: design_of(incumbent),
-            bound,
-            cuts,
-            tree,
-        })
-    }
+/// The plan: the tree, the best design, and what they claim.
+///
+/// - Takes: a search that is done; what is known above its nodes that wait, so that their bounds are found sooner.
+/// - Gives: a valid plan with the cuts of the search, which a plan text can hold, and each split of which parts two paths
+///   of a demand or two steps of a link. The bound of an undecided plan is at least the bound of the root at the start
+///   prices.
+/// - Errors: want of memory alone.
+/// - Rule: docs/METHOD.md, "The search as a machine".
+pub fn into_plan(state: SearchState, known: &KnownAbove) -> Result<Plan, AllocError>
+    requires assembled { IsAssembled state }
+    requires done { is_done (machine_state state) ≡ true }
+    ensures plan { IfOk result (λ plan. IsPlanOf (machine_state state) plan) }
+    ensures valid { IfOk result (λ plan. IsValidPlan (machine_state state).problem plan) }
+    ensures fits { IfOk result IsSpellable }
+    ensures bound { IfOk result (λ plan. HasOpeningBound (machine_state state).problem plan) }
+    ensures splits { IfOk result (λ plan. PartsPaths (machine_state state).problem plan.tree) }
+{
+    let status = status(&state);
+    let bound = stated_bound(&state, known, status)?;
+    let SearchState {
+        alloc,
+        problem,
+        table,
+        unit: _unit,
+        nodes,
+        grounds: _grounds,
+        columns: _columns,
+        incumbent,
+        examined,
+        budget,
+        next_version: _next_version,
+        accepted: _accepted,
+    } = state;
+    let cuts = copies_of(alloc, table.cuts())?;
+    let tree = records::tree_of(alloc, nodes)?;
+    Ok(Plan {
+        nodes: problem.nodes(),
+        links: problem.links(),
+        demands: problem.demands(),
+        both: problem.orient().is_two_way(),
+        status,
+        budget,
+        examined,
+        design: design_of(incumbent),
+        bound,
+        cuts,
+        tree,
+    })
 }

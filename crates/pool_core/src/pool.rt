@@ -21,43 +21,24 @@ mod settling;
 mod tasks;
 mod valuing;
 
-use column_pool::ColumnPool;
-use cut_table::CutTable;
 use leaf_work::KnownAbove;
 use master_step::Room;
-use plan_base::{BranchId, Instance};
-use pool_machine::{Incumbent, NodeState, Opened, RoundFault};
-use pool_nodes::{Ground, PoolNode, Slot, first_free};
+use plan_base::BranchId;
+use pool_machine::{NodeState, Opened, RoundFault};
+use pool_nodes::{SearchState, Slot, first_free};
 use pool_reading::{Claims, OpenLeaves, PoolView};
-use std::alloc::Global;
 use std::marker::Model;
-use std::sync::Arc;
 
 /// The state of the search, and what its calls work with.
 ///
 /// Contracts see it as the state of the machine.
 #[derive(Drop)]
 pub struct Pool {
-    /// Where memory comes from.
-    alloc: Global,
-    problem: Arc<Instance>,
-    /// The step table of the instance, and the cuts.
-    table: Arc<CutTable>,
-    /// What all costs are multiples of, in cost grains.
-    unit: u128,
-    nodes: Vec<PoolNode>,
-    columns: ColumnPool,
+    state: SearchState,
     /// Where steps are tried; no part of the state.
     room: Room,
-    /// For each node its region, while it is an open leaf.
-    grounds: Vec<Ground>,
     /// The slots of rounds, 64.
     places: Vec<Slot>,
-    incumbent: Option<Incumbent>,
-    examined: u32,
-    budget: u32,
-    next_version: u64,
-    accepted: u64,
     /// What each worker was given last; no part of the state.
     claims: Claims,
     /// Which nodes are open leaves; no part of the state.
@@ -69,35 +50,14 @@ pub struct Pool {
 impl Model for Pool {
     ghost use Rattle.std.specs.Arc.{arc_value};
     ghost use Rattle.pool_machine.specs.State.{State};
+    ghost use Rattle.pool_nodes.specs.SearchStates.{machine_state};
     ghost use Rattle.pool_reading.specs.Views.{IsFittedPool};
 
     ghost Value = { State };
 
-    ghost view = { λ a. record {
-      problem = arc_value a.problem;
-      cuts = (arc_value a.table).cuts;
-      unit = a.unit;
-      nodes = a.nodes.items;
-      columns = a.columns;
-      incumbent = a.incumbent;
-      examined = a.examined;
-      budget = a.budget;
-      next_version = a.next_version;
-      accepted = a.accepted;
-    } };
+    ghost view = { λ a. machine_state a.state };
 
-    ghost invariant = { λ a. IsFittedPool (record {
-      problem = arc_value a.problem;
-      cuts = (arc_value a.table).cuts;
-      unit = a.unit;
-      nodes = a.nodes.items;
-      columns = a.columns;
-      incumbent = a.incumbent;
-      examined = a.examined;
-      budget = a.budget;
-      next_version = a.next_version;
-      accepted = a.accepted;
-    }) (arc_value a.table) a.room a.grounds.items a.places.items };
+    ghost invariant = { λ a. IsFittedPool (machine_state a.state) (arc_value a.state.table) a.room a.state.grounds.items a.places.items };
 }
 
 impl Pool {
@@ -105,7 +65,7 @@ impl Pool {
     pub fn examined(&self) -> u32
         ensures { result ≡ self.now.examined }
     {
-        self.examined
+        self.state.examined
     }
 
     /// The pool as one that is only read. Takes no memory, and no time to speak of.
@@ -113,19 +73,8 @@ impl Pool {
         ensures { result ≡ self.now }
     {
         PoolView {
-            alloc: self.alloc,
-            problem: &*self.problem,
-            table: &*self.table,
-            unit: self.unit,
-            nodes: self.nodes.as_slice(),
-            columns: &self.columns,
-            grounds: self.grounds.as_slice(),
+            state: &self.state,
             places: self.places.as_slice(),
-            incumbent: &self.incumbent,
-            examined: self.examined,
-            budget: self.budget,
-            next_version: self.next_version,
-            accepted: self.accepted,
             claims: &self.claims,
             leaves: &self.leaves,
         }
@@ -156,12 +105,12 @@ impl Pool {
         let Slot::Free(place) = std::mem::replace(free, Slot::Of(node)) else {
             unreachable!();
         };
-        let version = self.next_version;
-        let opened = &mut self.nodes[node.0 as usize];
+        let version = self.state.next_version;
+        let opened = &mut self.state.nodes[node.0 as usize];
         opened.begin(place, version);
-        let ranges = self.grounds[node.0 as usize].ranges().unwrap();
-        opened.complete(&*self.problem, &*self.table, &**ranges);
-        self.next_version = version + 1;
+        let ranges = self.state.grounds[node.0 as usize].ranges().unwrap();
+        opened.complete(&*self.state.problem, &*self.state.table, &**ranges);
+        self.state.next_version = version + 1;
         Ok(Opened {
             slot: slot as u32,
             version,

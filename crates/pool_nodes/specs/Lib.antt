@@ -3,3 +3,4 @@ pub mod Records
 pub mod Grounds
 pub mod Slots
 pub mod Ranks
+pub mod SearchStates

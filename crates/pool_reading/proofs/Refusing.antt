@@ -9,7 +9,6 @@ use Rattle.plan_base.proofs.Bools.{not-true}
 use Rattle.plan_base.proofs.FirstFault.{none-when}
 use Rattle.proof_tree.specs.declared.cuts.Cut.{Cut}
 use Rattle.cut_table.specs.Numbers.{AreNumbers}
-use Rattle.pool_machine.specs.declared.answers.Publish.{Publish}
 use Rattle.pool_machine.specs.declared.answers.Publish.TheVariants as publish
 use Rattle.pool_machine.specs.Publishing.{price_fault, unlawful_fault}
 use Rattle.pool_machine.proofs.RefusedNumbers.{unlawful-told}

@@ -1,5 +1,4 @@
 pub mod Views
-pub mod Shown
 pub mod Examining
 pub mod Work
 pub mod Valuing

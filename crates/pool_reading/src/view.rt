@@ -21,38 +21,22 @@ mod working;
 
 use crate::claims::Claims;
 use crate::open_leaves::OpenLeaves;
-use column_pool::ColumnPool;
 use cut_table::CutTable;
 use plan_base::{BranchId, DemandId, Instance};
 use pool_machine::limits::MAX_ROUNDS;
-use pool_machine::{Incumbent, NodeState, RoundFault};
-use pool_nodes::{Ground, PoolNode, Slot, free_count};
-use std::alloc::Global;
+use pool_machine::{NodeState, RoundFault};
+use pool_nodes::{PoolNode, SearchState, Slot, free_count};
 use std::marker::Model;
 
-/// A pool that is only read: references to its fields, and copies of its numbers.
+/// A pool that is only read: references to its parts.
 ///
 /// Contracts see it as the state of the machine, as they see the pool.
 #[derive(Drop)]
 pub struct PoolView<'a> {
-    /// Where memory comes from.
-    pub alloc: Global,
-    pub problem: &'a Instance,
-    /// The steps of the links and the cuts.
-    pub table: &'a CutTable,
-    /// What all costs are multiples of, in cost grains.
-    pub unit: u128,
-    pub nodes: &'a [PoolNode],
-    pub columns: &'a ColumnPool,
-    /// For each node its region, while it is an open leaf.
-    pub grounds: &'a [Ground],
+    /// The state, with its grounds.
+    pub state: &'a SearchState,
     /// The slots of rounds, 64.
     pub places: &'a [Slot],
-    pub incumbent: &'a Option<Incumbent>,
-    pub examined: u32,
-    pub budget: u32,
-    pub next_version: u64,
-    pub accepted: u64,
     /// What each worker was given last; no part of the state.
     pub claims: &'a Claims,
     /// Which nodes are open leaves; no part of the state.
@@ -60,24 +44,39 @@ pub struct PoolView<'a> {
 }
 
 impl<'a> Model for PoolView<'a> {
+    ghost use Rattle.std.specs.Arc.{arc_value};
     ghost use Rattle.pool_machine.specs.State.{State};
+    ghost use Rattle.pool_nodes.specs.SearchStates.{machine_state};
     ghost use Rattle.pool_reading.specs.Views.{IsKeptPool};
 
     ghost Value = { State };
 
-    ghost use Rattle.pool_reading.specs.Shown.{shown};
+    ghost view = { λ a. machine_state a.state.now };
 
-    ghost view = { shown };
-
-    ghost invariant = { λ a. IsKeptPool (shown a) a.table.now a.grounds.now a.places.now };
+    ghost invariant = { λ a. IsKeptPool (machine_state a.state.now) (arc_value a.state.now.table) a.state.now.grounds.items a.places.now };
 }
 
 impl<'a> PoolView<'a> {
+    /// The instance.
+    fn problem(&self) -> &'a Instance
+        ensures { result.now ≡ self.now.problem }
+    {
+        &*self.state.problem
+    }
+
+    /// The step table of the instance, and the cuts.
+    fn table(&self) -> &'a CutTable
+        ensures problem { result.now.problem ≡ self.now.problem }
+        ensures cuts { result.now.cuts ≡ self.now.cuts }
+    {
+        &*self.state.table
+    }
+
     /// The node of this number, if there is one.
     fn node(&self, node: BranchId) -> Option<&'a PoolNode>
         ensures { option_map (λ x. x.now) result ≡ slice_get self.now.nodes node.0 }
     {
-        self.nodes.get(node.0 as usize)
+        self.state.nodes.get(node.0 as usize)
     }
 
     /// What a node is now; `Unknown` where there is no node of this number.
@@ -94,7 +93,7 @@ impl<'a> PoolView<'a> {
     fn is_spent(&self) -> bool
         ensures { result ≡ is_spent self.now }
     {
-        self.budget <= self.examined
+        self.state.budget <= self.state.examined
     }
 
     /// The version of the active round of a node.
@@ -118,7 +117,7 @@ impl<'a> PoolView<'a> {
     {
         if self.is_spent() {
             return Some(RoundFault::Spent {
-                examined: self.examined,
+                examined: self.state.examined,
             });
         }
         let state = self.state(node);

@@ -42,7 +42,12 @@ impl Pool {
     {
         self.seek_design(node, guide)?;
         let brief = self.told(node, version)?;
-        let Next { prices, split } = next_step(self.alloc, &*self.problem, &*self.table, &brief)?;
+        let Next { prices, split } = next_step(
+            self.state.alloc,
+            &*self.state.problem,
+            &*self.state.table,
+            &brief,
+        )?;
         self.advise(node, split);
         match prices {
             Some(prices) => {

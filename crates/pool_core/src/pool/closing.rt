@@ -24,13 +24,13 @@ impl Pool {
         requires event { IsReachable (closed_at self.old node reason (slice_get self.old.nodes node.0)) }
         ensures { self.new ≡ closed_at self.old node reason (slice_get self.old.nodes node.0) }
     {
-        let closed = &mut self.nodes[node.0 as usize];
+        let closed = &mut self.state.nodes[node.0 as usize];
         let round = closed.close(reason);
         give_back(&mut self.places, round);
-        let ground = &mut self.grounds[node.0 as usize];
+        let ground = &mut self.state.grounds[node.0 as usize];
         ground.clear();
         self.leaves.remove(node);
-        self.examined += 1;
+        self.state.examined += 1;
     }
 
     /// Closes an open leaf whose bound is above the cost of the best design less the unit of costs, or which has a crowd
@@ -43,7 +43,7 @@ impl Pool {
         ensures event { CloseStep self.old node result self.new }
     {
         // Whoever looks into the pool knows what its type keeps, which the proof needs.
-        let _ = &self.nodes;
+        let _ = &self.state.nodes;
         if let Some(refusal) = self.view().close_refusal(node) {
             return refusal;
         }
@@ -59,11 +59,11 @@ impl Pool {
     pub fn better(&mut self, design: Design) -> Result<Better, DesignFault>
         ensures event { BetterStep self.old design result self.new }
     {
-        let cost = check_design(&*self.problem, &design)?;
+        let cost = check_design(&*self.state.problem, &design)?;
         if let Some(held) = self.view().held_within(cost) {
             return Ok(Better::NotLess { cost, held });
         }
-        self.incumbent = Some(Incumbent { cost, design });
+        self.state.incumbent = Some(Incumbent { cost, design });
         Ok(Better::Taken { cost })
     }
 }

@@ -62,8 +62,8 @@ impl Pool {
         requires { IsDivisionAt self.now node division.now }
         ensures { IfOk result (λ made. AreChildrenAt self.now node division.now made.0.items made.1.items) }
     {
-        let mut children = Vec::new(self.alloc);
-        let mut grounds = Vec::new(self.alloc);
+        let mut children = Vec::new(self.state.alloc);
+        let mut grounds = Vec::new(self.state.alloc);
         let left = division.by.left_limit()?;
         let right = division.by.right_limit()?;
         self.add_child(node, left, &mut children, &mut grounds)?;
@@ -87,14 +87,19 @@ impl Pool {
         let left = division.left_child;
         let right = division.right_child;
         self.leaves.add(left, right)?;
-        append_both(&mut self.nodes, &mut self.grounds, children, grounds)?;
-        let divided = &mut self.nodes[node.0 as usize];
+        append_both(
+            &mut self.state.nodes,
+            &mut self.state.grounds,
+            children,
+            grounds,
+        )?;
+        let divided = &mut self.state.nodes[node.0 as usize];
         let round = divided.divide(division);
         give_back(&mut self.places, round);
-        let ground = &mut self.grounds[node.0 as usize];
+        let ground = &mut self.state.grounds[node.0 as usize];
         ground.clear();
         self.leaves.remove(node);
-        self.examined += 1;
+        self.state.examined += 1;
         Ok(Examined::Divided { left, right })
     }
 
@@ -104,8 +109,8 @@ impl Pool {
         ensures { self.new ≡ self.old }
     {
         let place = node.0 as usize;
-        if place < self.nodes.len() {
-            let advised = &mut self.nodes[place];
+        if place < self.state.nodes.len() {
+            let advised = &mut self.state.nodes[place];
             advised.advise(split);
         }
     }
@@ -123,7 +128,7 @@ impl Pool {
         ensures { IfOk result (IsDivisionAt self.now node) }
     {
         let view = self.view();
-        if let Some(split) = self.nodes[node.0 as usize].advised() {
+        if let Some(split) = self.state.nodes[node.0 as usize].advised() {
             if let Some(division) = view.load_division_at(node, demand, first, second, split) {
                 return Ok(division);
             }

@@ -21,7 +21,7 @@ impl Pool {
         ensures { ClosesFar self.old node demand self.new }
     {
         // Whoever looks into the pool knows what its type keeps, which the proof needs.
-        let _ = &self.nodes;
+        let _ = &self.state.nodes;
         self.close(node, Reason::Shown(Evidence::Far { demand }));
     }
 
@@ -34,11 +34,11 @@ impl Pool {
         ensures some { IfSome result (IsOverfullAt self.now node) }
         ensures none { IfNone result (AreCarriedAt self.now node routing.now.paths) }
     {
-        let ranges = self.grounds[node.0 as usize].ranges().unwrap();
-        if let Some(link) = outside_link(&*self.problem, &**ranges, routing) {
+        let ranges = self.state.grounds[node.0 as usize].ranges().unwrap();
+        if let Some(link) = outside_link(&*self.state.problem, &**ranges, routing) {
             return Some(link);
         }
-        overfull_link(&*self.problem, self.table.steps(), routing)
+        overfull_link(&*self.state.problem, self.state.table.steps(), routing)
     }
 
     /// Closes a node that leaves each demand one path: by a link that these paths overfill or of which they put a load
@@ -50,16 +50,16 @@ impl Pool {
     {
         let routing = Design {
             paths,
-            counts: Items::new(self.alloc),
+            counts: Items::new(self.state.alloc),
         };
         if let Some(link) = self.overfull_at(node, &routing) {
             self.close(node, Reason::Shown(Evidence::Overfull { link }));
             return Ok(Examined::Overfull);
         }
         let done = complete(
-            self.alloc,
-            &*self.problem,
-            self.table.steps(),
+            self.state.alloc,
+            &*self.state.problem,
+            self.state.table.steps(),
             routing.paths,
         )?;
         let Some((_cost, design)) = done else {
@@ -111,7 +111,7 @@ impl Pool {
         ensures event { ExamineStep self.old node result self.new }
     {
         // Whoever looks into the pool knows what its type keeps, which the proof needs.
-        let _ = &self.nodes;
+        let _ = &self.state.nodes;
         if let Some(refusal) = self.view().examine_refusal(node) {
             return Err(refusal);
         }

@@ -26,7 +26,7 @@ impl Pool {
         let slot = first_free(self.places.as_slice());
         Ok(Opened {
             slot: slot as u32,
-            version: self.next_version,
+            version: self.state.next_version,
         })
     }
 

@@ -17,8 +17,8 @@ impl Pool {
         ensures added { IfOk result (λ _. ForRound self.old node (λ x round. self.new ≡ record self.old { columns = gathered self.old.columns round.found (length self.old.problem.demands) })) }
         ensures front { IsErr result → GathersFront self.old node version self.new }
     {
-        let round = self.nodes[node.0 as usize].round().unwrap();
-        round.add_to(&mut self.columns)
+        let round = self.state.nodes[node.0 as usize].round().unwrap();
+        round.add_to(&mut self.state.columns)
     }
 
     /// Adds the paths of a complete round to the columns of their demands, in order of demands.

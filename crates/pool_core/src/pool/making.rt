@@ -19,7 +19,7 @@ use link_steps::{Ranges, StepTable, cost_unit};
 use master_step::Room;
 use plan_base::{Instance, Items, Prices};
 use pool_machine::limits::MAX_ROUNDS;
-use pool_nodes::{Ground, PoolNode, PoolRound, Slot};
+use pool_nodes::{Ground, PoolNode, PoolRound, SearchState, Slot};
 use pool_reading::{Claims, OpenLeaves};
 use proof_tree::Cut;
 use std::alloc::{AllocError, Global};
@@ -152,21 +152,24 @@ impl Pool {
         let table = Arc::new(alloc, cut_table)?;
         let opening = opening_with(alloc, &*inst, &*table, prices)?;
         let unit = cost_unit(&*inst);
-        Ok(Pool {
+        let state = SearchState {
             alloc,
             problem: inst,
             table,
             unit,
             nodes: opening.nodes,
-            columns: opening.columns,
-            room: opening.room,
             grounds: opening.grounds,
-            places: opening.places,
+            columns: opening.columns,
             incumbent: None,
             examined: 0,
             budget,
             next_version: 1,
             accepted: 0,
+        };
+        Ok(Pool {
+            state,
+            room: opening.room,
+            places: opening.places,
             claims: opening.claims,
             leaves: opening.leaves,
             known: KnownAbove::nothing(alloc),

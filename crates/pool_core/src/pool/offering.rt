@@ -35,7 +35,7 @@ impl Pool {
             demand,
             found,
         } = offer;
-        let priced = &mut self.nodes[node.0 as usize];
+        let priced = &mut self.state.nodes[node.0 as usize];
         match found {
             Priced::NoPath { reached } => {
                 priced.hold_cut(HeldCut { demand, reached });
@@ -50,9 +50,15 @@ impl Pool {
                     path,
                     price: length,
                 };
-                let ranges = self.grounds[node.0 as usize].ranges().unwrap();
-                let left = priced.put(demand, found, &*self.problem, &*self.table, &**ranges);
-                self.accepted += 1;
+                let ranges = self.state.grounds[node.0 as usize].ranges().unwrap();
+                let left = priced.put(
+                    demand,
+                    found,
+                    &*self.state.problem,
+                    &*self.state.table,
+                    &**ranges,
+                );
+                self.state.accepted += 1;
                 Offered::Accepted { left }
             }
         }

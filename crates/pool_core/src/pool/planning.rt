@@ -6,7 +6,6 @@ ghost use Rattle.proof_tree.specs.Spellings.{IsSpellable};
 ghost use Rattle.pool_machine.specs.PlanOf.{is_done, IsPlanOf, HasOpeningBound, PartsPaths};
 
 use super::Pool;
-use plan_assembly::Assembly;
 use proof_tree::Plan;
 use std::alloc::AllocError;
 
@@ -27,39 +26,13 @@ impl Pool {
         ensures splits { IfOk result (λ plan. PartsPaths self.problem plan.tree) }
     {
         let Pool {
-            alloc,
-            problem,
-            table,
-            unit,
-            nodes,
-            columns,
+            state,
             room: _room,
-            grounds,
             places: _places,
-            incumbent,
-            examined,
-            budget,
-            next_version,
-            accepted,
             claims: _claims,
             leaves: _leaves,
             known,
         } = self;
-        let assembly = Assembly {
-            alloc,
-            problem,
-            table,
-            unit,
-            nodes,
-            columns,
-            grounds,
-            incumbent,
-            examined,
-            budget,
-            next_version,
-            accepted,
-            known,
-        };
-        assembly.into_plan()
+        plan_assembly::into_plan(state, &known)
     }
 }

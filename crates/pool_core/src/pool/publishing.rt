@@ -36,7 +36,11 @@ impl Pool {
         ensures unchanged { self.new ≡ self.old }
         ensures value { ForRound self.old node (λ x round. IsTrue result ↔ IsCrowding self.old x round prices.now) }
     {
-        if are_crowd_prices(&*self.problem, self.view().round_at(node).prices(), prices) {
+        if are_crowd_prices(
+            &*self.state.problem,
+            self.view().round_at(node).prices(),
+            prices,
+        ) {
             return self.gain(node).is_none();
         }
         false
@@ -51,7 +55,7 @@ impl Pool {
         ensures follows { IfOk result (λ mark. ForRound self.old node (λ x round. MayReplace self.old x round prices.now mark)) }
         ensures no_gain { IfErr result (λ both. ForRound self.old node (λ x round. HasNoGain self.old x round prices.now both.0 both.1)) }
     {
-        let tried = self.nodes[node.0 as usize].crowd_tried();
+        let tried = self.state.nodes[node.0 as usize].crowd_tried();
         let view = self.view();
         let old = view.value(node, view.round_at(node).prices());
         let new = view.value(node, prices);
@@ -95,7 +99,7 @@ impl Pool {
         let slot = self.view().round_at(node).slot();
         Ok(Following {
             slot,
-            version: self.next_version,
+            version: self.state.next_version,
             crowd_tried,
         })
     }
@@ -108,12 +112,12 @@ impl Pool {
         requires { IsFollowing self.old node seen prices.now next }
         ensures { PublishStep self.old node seen prices.now (publish.Published next.slot next.version) self.new }
     {
-        let version = self.next_version;
-        let renewed = &mut self.nodes[node.0 as usize];
+        let version = self.state.next_version;
+        let renewed = &mut self.state.nodes[node.0 as usize];
         renewed.renew(version, prices, next.crowd_tried);
-        let ranges = self.grounds[node.0 as usize].ranges().unwrap();
-        renewed.complete(&*self.problem, &*self.table, &**ranges);
-        self.next_version = version + 1;
+        let ranges = self.state.grounds[node.0 as usize].ranges().unwrap();
+        renewed.complete(&*self.state.problem, &*self.state.table, &**ranges);
+        self.state.next_version = version + 1;
     }
 
     /// Gives the round of a node further prices, under which no demand is priced. Takes no memory.

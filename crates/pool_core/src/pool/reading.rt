@@ -25,14 +25,14 @@ impl Pool {
     pub fn accepted(&self) -> u64
         ensures { result ≡ self.now.accepted }
     {
-        self.accepted
+        self.state.accepted
     }
 
     /// How many nodes may be examined.
     pub fn budget(&self) -> u32
         ensures { result ≡ self.now.budget }
     {
-        self.budget
+        self.state.budget
     }
 
     /// The greatest bound of a complete version of the node, in cost grains; None exactly where no version of it was
@@ -64,7 +64,7 @@ impl Pool {
     pub fn best_design(&self) -> Result<Option<Design>, AllocError>
         ensures { IfOk result (λ found. found ≡ design_of self.now) }
     {
-        match &self.incumbent {
+        match &self.state.incumbent {
             Some(held) => Ok(Some(held.design.copy()?)),
             None => Ok(None),
         }
@@ -106,7 +106,7 @@ impl Pool {
         ensures reachable { IsReachable self.now }
         ensures sound { IsSound self.now }
     {
-        &self.problem
+        &self.state.problem
     }
 
     /// The step table of the instance, and the cuts.
@@ -114,6 +114,6 @@ impl Pool {
         ensures problem { (arc_value result.now).problem ≡ self.now.problem }
         ensures cuts { (arc_value result.now).cuts ≡ self.now.cuts }
     {
-        &self.table
+        &self.state.table
     }
 }

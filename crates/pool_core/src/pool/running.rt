@@ -166,7 +166,7 @@ impl Pool {
         ensures cuts { self.new.cuts ≡ self.old.cuts }
         ensures budget { self.new.budget ≡ self.old.budget }
     {
-        let mut guide = Guide::new(self.alloc, 0, 1);
+        let mut guide = Guide::new(self.state.alloc, 0, 1);
         let worked = self.work_all(&mut guide);
         self.remember(guide.into_above());
         worked

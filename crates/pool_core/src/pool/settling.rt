@@ -22,7 +22,7 @@ impl Pool {
         ensures none { IfNone result (ForRound self.old node (HasNoMore self.old)) }
     {
         // Whoever looks into the pool knows what its type keeps, which the proof needs.
-        let _ = &self.nodes;
+        let _ = &self.state.nodes;
         if self.view().has_enough(node) {
             return None;
         }
@@ -39,7 +39,7 @@ impl Pool {
         requires { IsToSettle self.old node version }
         ensures { Settles self.old node version self.new }
     {
-        let settled = &mut self.nodes[node.0 as usize];
+        let settled = &mut self.state.nodes[node.0 as usize];
         settled.settle();
     }
 

@@ -18,14 +18,14 @@ impl Pool {
         ensures some { IfSome result (λ new. ForRound self.old node (λ x round. HasGain self.old.problem self.old.cuts (ranges_of self.old.problem x) (columns_for self.old x) round.prices new)) }
         ensures none { IfNone result (ForRound self.old node (λ x round. HasStalled self.old.problem self.old.cuts (ranges_of self.old.problem x) (columns_for self.old x) round.prices)) }
     {
-        let plot = self.grounds[node.0 as usize].plot().unwrap();
-        let round = self.nodes[node.0 as usize].round().unwrap();
+        let plot = self.state.grounds[node.0 as usize].plot().unwrap();
+        let round = self.state.nodes[node.0 as usize].round().unwrap();
         master_step::gain(
-            &*self.problem,
-            &*self.table,
+            &*self.state.problem,
+            &*self.state.table,
             &**plot.ranges(),
             round.prices(),
-            &self.columns,
+            &self.state.columns,
             &**plot.rows(),
             &mut self.room,
         )

@@ -26,7 +26,7 @@ impl<'a> PoolView<'a> {
         ensures { IfSome result (IsLawfulTask self.now) }
     {
         let round = self.round_at(node);
-        for place in demand.0.saturating_add(1)..self.problem.demands() {
+        for place in demand.0.saturating_add(1)..self.problem().demands() {
             let demand = DemandId(place);
             let task = Task::Price {
                 node,

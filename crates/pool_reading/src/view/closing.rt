@@ -27,7 +27,7 @@ impl<'a> PoolView<'a> {
         ensures { result ≡ closable_in self.now.unit (cutoff_of self.now) (slice_get self.now.nodes node.0) }
     {
         match self.node(node) {
-            Some(node) => node.is_closable(self.unit, self.incumbent()),
+            Some(node) => node.is_closable(self.state.unit, self.incumbent()),
             None => false,
         }
     }
@@ -39,7 +39,7 @@ impl<'a> PoolView<'a> {
     {
         if self.is_spent() {
             return Some(Closing::Spent {
-                examined: self.examined,
+                examined: self.state.examined,
             });
         }
         let state = self.state(node);
@@ -60,7 +60,7 @@ impl<'a> PoolView<'a> {
         ensures some { IfSome result (λ held. (cutoff_of self.now ≡ Some held) × (is_cheaper self.now.incumbent cost ≡ false)) }
         ensures none { IfNone result (is_cheaper self.now.incumbent cost ≡ true) }
     {
-        match self.incumbent {
+        match &self.state.incumbent {
             Some(held) if held.cost <= cost => Some(held.cost),
             _ => None,
         }

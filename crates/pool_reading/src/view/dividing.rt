@@ -78,7 +78,7 @@ impl<'a> PoolView<'a> {
         ensures left { result.left_child.0 ≡ length self.now.nodes }
         ensures right { result.right_child.0 ≡ suc (length self.now.nodes) }
     {
-        let count = self.nodes.len() as u32;
+        let count = self.state.nodes.as_slice().len() as u32;
         Division {
             by,
             left_child: BranchId(count),
@@ -97,21 +97,22 @@ impl<'a> PoolView<'a> {
         requires { HasTwoPaths self.now node demand first.now second.now }
         ensures { IfOk result (IsDivisionAt self.now node) }
     {
-        self.problem.lawful();
-        let ground = &self.grounds[node.0 as usize];
+        let inst = self.problem();
+        inst.lawful();
+        let ground = &self.state.grounds[node.0 as usize];
         let Some(rows) = ground.rows() else {
             unreachable!();
         };
-        let Some((at, one, other)) = divergence(self.problem, first, second) else {
+        let Some((at, one, other)) = divergence(inst, first, second) else {
             unreachable!();
         };
         let sides = deal(
-            self.alloc,
+            self.state.alloc,
             &**rows,
             demand,
             one,
             other,
-            self.problem.leaving(at),
+            inst.leaving(at),
         )?;
         Ok(self.division(Divider::Arcs(ArcSplit {
             demand,
@@ -134,11 +135,11 @@ impl<'a> PoolView<'a> {
         ensures some { IfSome result (IsDivisionAt self.now node) }
         ensures none { IfNone result (IfSome (slice_get self.now.nodes node.0) (λ x. PartsSteps self.now.problem (ranges_of self.now.problem x) split → ⊥)) }
     {
-        let ground = &self.grounds[node.0 as usize];
+        let ground = &self.state.grounds[node.0 as usize];
         let Some(ranges) = ground.ranges() else {
             unreachable!();
         };
-        if parts_steps(self.problem, self.table.steps(), &**ranges, split) {
+        if parts_steps(self.problem(), self.table().steps(), &**ranges, split) {
             return Some(self.division(Divider::Load(split)));
         }
         None
@@ -150,11 +151,11 @@ impl<'a> PoolView<'a> {
         requires limit { IsLimitOf self.now.problem limit.now }
         ensures { IfOk result (HasGroundBelow self.now node limit.now) }
     {
-        let ground = &self.grounds[node.0 as usize];
+        let ground = &self.state.grounds[node.0 as usize];
         let Some(plot) = ground.plot() else {
             unreachable!();
         };
-        plot.below(self.alloc, limit)
+        plot.below(self.state.alloc, limit)
     }
 
     /// A child of an open leaf that has this limit too.
@@ -162,8 +163,8 @@ impl<'a> PoolView<'a> {
         requires { IsReadyAt self.now node }
         ensures { IfOk result (IsNodeBelow self.now node limit) }
     {
-        let parent = &self.nodes[node.0 as usize];
-        parent.child(self.alloc, Arc::new(self.alloc, limit)?)
+        let parent = &self.state.nodes[node.0 as usize];
+        parent.child(self.state.alloc, Arc::new(self.state.alloc, limit)?)
     }
 
     /// A child of an open leaf that has this limit too, and its region.

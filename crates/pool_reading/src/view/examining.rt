@@ -111,7 +111,7 @@ impl<'a> PoolView<'a> {
     {
         if self.is_spent() {
             return Some(ExamineFault::Spent {
-                examined: self.examined,
+                examined: self.state.examined,
             });
         }
         let state = self.state(node);
@@ -129,14 +129,16 @@ impl<'a> PoolView<'a> {
         requires { IfSome (slice_get self.now.nodes node.0) (λ x. forbids rows.now ≡ restriction_of x) }
         ensures { IfOk result (IsDetermined self.now.problem (forbids rows.now)) }
     {
+        let alloc = self.state.alloc;
+        let inst = self.problem();
         let Some(round) = self.active_round(node) else {
-            return determine(self.alloc, self.problem, rows);
+            return determine(alloc, inst, rows);
         };
         if round.left() > 0 {
-            return determine(self.alloc, self.problem, rows);
+            return determine(alloc, inst, rows);
         }
-        let paths = round.paths(self.alloc)?;
-        determine_among(self.alloc, self.problem, rows, paths)
+        let paths = round.paths(alloc)?;
+        determine_among(alloc, inst, rows, paths)
     }
 
     /// The first demand at a node that may be examined of which no permitted path keeps its limit.
@@ -145,11 +147,11 @@ impl<'a> PoolView<'a> {
         ensures some { IfOk result (λ found. IfSome found (IsFarAt self.now node)) }
         ensures none { IfOk result (λ found. IfNone found (IsNearAt self.now node)) }
     {
-        let ground = &self.grounds[node.0 as usize];
+        let ground = &self.state.grounds[node.0 as usize];
         let Some(rows) = ground.rows() else {
             unreachable!();
         };
-        first_far(self.alloc, self.problem, &**rows)
+        first_far(self.state.alloc, self.problem(), &**rows)
     }
 
     /// What the restriction of a node leaves to the demands, where it may be examined and no demand is far there.
@@ -157,7 +159,7 @@ impl<'a> PoolView<'a> {
         requires { IsNearAt self.now node }
         ensures { IfOk result (IsDeterminedAt self.now node) }
     {
-        let ground = &self.grounds[node.0 as usize];
+        let ground = &self.state.grounds[node.0 as usize];
         let Some(rows) = ground.rows() else {
             unreachable!();
         };

@@ -42,7 +42,7 @@ impl<'a> PoolView<'a> {
     {
         if self.is_spent() {
             return Some(Gather::Spent {
-                examined: self.examined,
+                examined: self.state.examined,
             });
         }
         let current = self.current(node);
@@ -58,8 +58,12 @@ impl<'a> PoolView<'a> {
         requires { IsSome (round_of self.now node) }
         ensures { IfOk result (λ lists. ForRound self.now node (λ x round. ArePermittedLists (length self.now.problem.demands) (restriction_of x) self.now.columns lists)) }
     {
-        let rows = self.grounds[node.0 as usize].rows().unwrap();
-        permitted_lists(self.alloc, self.problem, self.columns, &**rows)
+        permitted_lists(
+            self.state.alloc,
+            self.problem(),
+            &self.state.columns,
+            self.rows_at(node),
+        )
     }
 
     /// Whether no further version of a node is to follow: its crowd prices were tried; or a design is known, some node was
@@ -70,8 +74,8 @@ impl<'a> PoolView<'a> {
         match self.node(node) {
             Some(held) => {
                 held.crowd_tried()
-                    || (self.incumbent.is_some()
-                        && self.examined > 0
+                    || (self.state.incumbent.is_some()
+                        && self.state.examined > 0
                         && held.completed() >= ENOUGH_VERSIONS)
             }
             None => false,
@@ -83,7 +87,7 @@ impl<'a> PoolView<'a> {
         requires { IsSome (round_of self.now node) }
         ensures { IfSome (slice_get self.now.nodes node.0) (λ x. result.now ≡ ranges_of self.now.problem x) }
     {
-        let ranges = self.grounds[node.0 as usize].ranges().unwrap();
+        let ranges = self.state.grounds[node.0 as usize].ranges().unwrap();
         &**ranges
     }
 
@@ -101,10 +105,10 @@ impl<'a> PoolView<'a> {
             prices: round.prices().copy()?,
             ranges: ranges.copy()?,
             columns,
-            crowd_tried: self.nodes[node.0 as usize].crowd_tried(),
+            crowd_tried: self.state.nodes[node.0 as usize].crowd_tried(),
             has_enough: self.has_enough(node),
             incumbent: self.incumbent(),
-            unit: self.unit,
+            unit: self.state.unit,
         })
     }
 }

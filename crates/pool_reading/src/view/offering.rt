@@ -63,7 +63,7 @@ impl<'a> PoolView<'a> {
         requires demand { demand.0 < length self.now.problem.demands }
         ensures { result ≡ option_map Offered.Unfit (priced_fault self.now.problem round.now.prices demand.0 (forbids rows.now) found.now) }
     {
-        match check_priced(self.problem, round.prices(), demand, rows, found) {
+        match check_priced(self.problem(), round.prices(), demand, rows, found) {
             Ok(()) => None,
             Err(unfit) => Some(Offered::Unfit(unfit)),
         }
@@ -75,7 +75,7 @@ impl<'a> PoolView<'a> {
         ensures { result ≡ unfit_in self.now.problem (slice_get self.now.nodes offer.now.node.0) offer.now.demand.0 offer.now.found }
     {
         // Whoever looks into the pool knows what its type keeps, which the proof needs.
-        let _ = &self.problem;
+        let _ = &self.state;
         let Some(round) = self.active_round(offer.node) else {
             return None;
         };
@@ -92,14 +92,14 @@ impl<'a> PoolView<'a> {
     {
         if self.is_spent() {
             return Some(Offered::Spent {
-                examined: self.examined,
+                examined: self.state.examined,
             });
         }
         let current = self.current(offer.node);
         if !super::is_version(current, offer.version) {
             return Some(Offered::Stale { current });
         }
-        let demands = self.problem.demands();
+        let demands = self.problem().demands();
         if offer.demand.0 >= demands {
             return Some(Offered::NoDemand { demands });
         }

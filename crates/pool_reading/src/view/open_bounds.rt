@@ -57,6 +57,6 @@ impl<'a> PoolView<'a> {
     pub fn open_bound(&self) -> Option<i128>
         ensures { result ≡ open_bound_of self.now }
     {
-        self.least_bound(self.nodes)
+        self.least_bound(self.state.nodes.as_slice())
     }
 }

@@ -111,7 +111,7 @@ impl<'a> PoolView<'a> {
     {
         if self.is_spent() {
             return Some(Publish::Spent {
-                examined: self.examined,
+                examined: self.state.examined,
             });
         }
         let current = self.current(node);
@@ -128,7 +128,7 @@ impl<'a> PoolView<'a> {
         if done >= MAX_VERSIONS {
             return Some(Publish::Rounds { done });
         }
-        if let Some(refusal) = price_refusal(self.problem, self.table, prices) {
+        if let Some(refusal) = price_refusal(self.problem(), self.table(), prices) {
             return Some(refusal);
         }
         self.first_ungathered(node)

@@ -30,7 +30,7 @@ impl<'a> PoolView<'a> {
     pub fn incumbent(&self) -> Option<u128>
         ensures { result ≡ cutoff_of self.now }
     {
-        match self.incumbent {
+        match &self.state.incumbent {
             Some(held) => Some(held.cost),
             None => None,
         }
@@ -44,10 +44,12 @@ impl<'a> PoolView<'a> {
         ensures value { IfSome result (λ prices. IfSome (slice_get self.now.nodes node.0) (λ x. prices.now ≡ x.first_prices)) }
         ensures count { IfSome result (λ prices. length prices.now ≡ places self.now.problem + length self.now.cuts) }
     {
+        // Whoever looks into the pool knows what its type keeps, which the proof needs.
+        let _ = &self.state;
         if !super::is_waiting(self.state(node)) {
             return None;
         }
-        Some(self.nodes.get(node.0 as usize)?.first_prices())
+        Some(self.node(node)?.first_prices())
     }
 
     /// What is forbidden at an open leaf; None exactly where the node is none.
@@ -55,7 +57,7 @@ impl<'a> PoolView<'a> {
         ensures leaf { IsSome result ↔ (is_open_state (state_of self.now node) ≡ true) }
         ensures value { IfSome result (λ rows. IfSome (slice_get self.now.nodes node.0) (λ x. forbids (arc_value rows.now) ≡ restriction_of x)) }
     {
-        match self.grounds.get(node.0 as usize) {
+        match self.state.grounds.get(node.0 as usize) {
             Some(ground) => ground.rows(),
             None => None,
         }
@@ -69,7 +71,7 @@ impl<'a> PoolView<'a> {
         ensures { IfOk result (IsPublishedAt self.now slot) }
     {
         match holder(self.places, slot) {
-            Some(node) => self.nodes[node.0 as usize].published(node, slot),
+            Some(node) => self.state.nodes[node.0 as usize].published(node, slot),
             None => Ok(None),
         }
     }

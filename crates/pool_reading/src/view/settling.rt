@@ -15,7 +15,7 @@ impl<'a> PoolView<'a> {
     {
         if self.is_spent() {
             return Some(Settle::Spent {
-                examined: self.examined,
+                examined: self.state.examined,
             });
         }
         let current = self.current(node);

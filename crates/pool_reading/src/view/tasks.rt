@@ -23,7 +23,8 @@ impl<'a> PoolView<'a> {
     pub fn is_done(&self) -> bool
         ensures { result ≡ is_done self.now }
     {
-        self.examined == self.budget || self.nodes.len() == self.examined as usize
+        let state = self.state;
+        state.examined == state.budget || state.nodes.as_slice().len() == state.examined as usize
     }
 
     /// The round of a node that has one.
@@ -31,7 +32,7 @@ impl<'a> PoolView<'a> {
         requires { IsSome (round_of self.now node) }
         ensures { Some result.now ≡ round_of self.now node }
     {
-        self.nodes[node.0 as usize].round().unwrap()
+        self.state.nodes[node.0 as usize].round().unwrap()
     }
 
     /// Whether a slot is free.
@@ -104,7 +105,7 @@ impl<'a> PoolView<'a> {
         ensures none { result ≢ None }
     {
         let mut first = None;
-        for place in 0..self.nodes.len() {
+        for place in 0..self.state.nodes.as_slice().len() {
             first = self.first_of(BranchId(place as u32), has_room, first);
         }
         first

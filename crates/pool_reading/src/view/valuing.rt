@@ -16,7 +16,7 @@ impl<'a> PoolView<'a> {
         ensures { result ≡ first_ungathered self.now.columns (round_of self.now node) }
     {
         match self.active_round(node) {
-            Some(round) => round.first_ungathered(self.columns),
+            Some(round) => round.first_ungathered(&self.state.columns),
             None => None,
         }
     }
@@ -28,13 +28,13 @@ impl<'a> PoolView<'a> {
         requires prices { AreNumbers self.now.problem self.now.cuts prices.now }
         ensures { ForRound self.now node (λ x round. IsRestrictedValue self.now.problem self.now.cuts (ranges_of self.now.problem x) (columns_for self.now x) prices.now result) }
     {
-        let plot = self.grounds[node.0 as usize].plot().unwrap();
+        let plot = self.state.grounds[node.0 as usize].plot().unwrap();
         master_step::value(
-            self.problem,
-            self.table,
+            self.problem(),
+            self.table(),
             &**plot.ranges(),
             prices,
-            self.columns,
+            &self.state.columns,
             &**plot.rows(),
         )
     }

@@ -17,11 +17,11 @@ use std::sync::Arc;
 
 impl<'a> PoolView<'a> {
     /// What is forbidden at a node that has a round.
-    fn rows_at(&self, node: BranchId) -> &'a Restriction
+    pub(super) fn rows_at(&self, node: BranchId) -> &'a Restriction
         requires { IsSome (round_of self.now node) }
         ensures { IfSome (slice_get self.now.nodes node.0) (λ x. forbids result.now ≡ restriction_of x) }
     {
-        let rows = self.grounds[node.0 as usize].rows().unwrap();
+        let rows = self.state.grounds[node.0 as usize].rows().unwrap();
         &**rows
     }
 
@@ -38,9 +38,11 @@ impl<'a> PoolView<'a> {
         requires demand { demand.0 < length self.now.problem.demands }
         ensures { IfOk result (λ found. unfit_in self.now.problem (slice_get self.now.nodes node.0) demand.0 (arc_value found) ≡ None) }
     {
+        // Whoever looks into the pool knows what its type keeps, which the proof needs.
+        let _ = &self.state;
         let prices = self.round_at(node).prices();
         let rows = self.rows_at(node);
-        guide.find(self.problem, version, prices, demand, rows)
+        guide.find(self.problem(), version, prices, demand, rows)
     }
 
     /// The paths of the node's round. Where a search for a design is due, those that have more arcs than their demands'
@@ -50,12 +52,18 @@ impl<'a> PoolView<'a> {
         ensures { IfOk result (ArePaths self.now.problem) }
     {
         let round = self.round_at(node);
-        let paths = round.paths(self.alloc)?;
-        if !guide.designs().is_due(self.examined) {
+        let paths = round.paths(self.state.alloc)?;
+        if !guide.designs().is_due(self.state.examined) {
             return Ok(paths);
         }
         let rows = self.rows_at(node);
-        paths_within(self.alloc, self.problem, round.prices(), rows, paths)
+        paths_within(
+            self.state.alloc,
+            self.problem(),
+            round.prices(),
+            rows,
+            paths,
+        )
     }
 
     /// A design that a search finds from the paths of the node's round or from the cheapest design so far, where one is due.
@@ -68,11 +76,11 @@ impl<'a> PoolView<'a> {
     {
         let paths = self.start_paths(node, guide)?;
         leaf_work::new_design(
-            self.alloc,
-            self.problem,
-            self.table.steps(),
+            self.state.alloc,
+            self.problem(),
+            self.table().steps(),
             &paths,
-            self.examined,
+            self.state.examined,
             guide.designs(),
         )
     }

@@ -18,7 +18,7 @@ pub index-requires : goal.index-requires
 index-requires c =
     let s = the_view c.self.inside in
     let h : IsCompleteAt s c.args.node c.args.version = subst (λ (x : State). IsCompleteAt x c.args.node c.args.version) (sym c.self.view_is) c.requires in
-    let within : c.args.node.0 < length c.self.inside.nodes.items = has-within s c.args.node (complete-round s c.args.node c.args.version h) in
+    let within : c.args.node.0 < length c.self.inside.state.nodes.items = has-within s c.args.node (complete-round s c.args.node c.args.version h) in
     search rules
 
 pub unwrap-round-requires : goal.unwrap-round-requires
@@ -26,21 +26,21 @@ unwrap-round-requires c =
     let s = the_view c.self.inside in
     let h : IsCompleteAt s c.args.node c.args.version = subst (λ (x : State). IsCompleteAt x c.args.node c.args.version) (sym c.self.view_is) c.requires in
     let has = complete-round s c.args.node c.args.version h in
-    let read = read-round c.self.inside.nodes.items c.args.node.0 c.index.result.now (has-within s c.args.node has) c.index.ensures in
+    let read = read-round c.self.inside.state.nodes.items c.args.node.0 c.index.result.now (has-within s c.args.node has) c.index.ensures in
     shown-some _ _ _ (c.round.ensures ∙ sym read) (has-some s c.args.node has)
 
 pub add_to-requires-clause-lists : goal.add_to-requires-clause-lists
 add_to-requires-clause-lists c =
     let s = the_view c.self.inside in
     let h : IsCompleteAt s c.args.node c.args.version = subst (λ (x : State). IsCompleteAt x c.args.node c.args.version) (sym c.self.view_is) c.requires in
-    let read = read-round c.self.inside.nodes.items c.args.node.0 c.index.result.now (has-within s c.args.node (complete-round s c.args.node c.args.version h)) c.index.ensures in
+    let read = read-round c.self.inside.state.nodes.items c.args.node.0 c.index.result.now (has-within s c.args.node (complete-round s c.args.node c.args.version h)) c.index.ensures in
     round-lists s c.args.node c.unwrap-round.result.now (IsReachable-sound s c.self.invariant.kept.pool.reachable) (shown-value _ _ _ _ c.round.ensures c.unwrap-round.ensures ∙ sym read)
 
 pub add_to-requires-clause-few : goal.add_to-requires-clause-few
 add_to-requires-clause-few c =
     let s = the_view c.self.inside in
     let h : IsCompleteAt s c.args.node c.args.version = subst (λ (x : State). IsCompleteAt x c.args.node c.args.version) (sym c.self.view_is) c.requires in
-    let read = read-round c.self.inside.nodes.items c.args.node.0 c.index.result.now (has-within s c.args.node (complete-round s c.args.node c.args.version h)) c.index.ensures in
+    let read = read-round c.self.inside.state.nodes.items c.args.node.0 c.index.result.now (has-within s c.args.node (complete-round s c.args.node c.args.version h)) c.index.ensures in
     round-few s c.args.node c.unwrap-round.result.now (IsReachable-sound s c.self.invariant.kept.pool.reachable) (shown-value _ _ _ _ c.round.ensures c.unwrap-round.ensures ∙ sym read)
 
 pub invariant_of-self : goal.invariant_of-self
@@ -48,13 +48,13 @@ invariant_of-self c =
     let s = the_view c.self.inside in
     let sound : IsSound s = IsReachable-sound s c.self.invariant.kept.pool.reachable in
     let h : IsCompleteAt s c.args.node c.args.version = subst (λ (x : State). IsCompleteAt x c.args.node c.args.version) (sym c.self.view_is) c.requires in
-    let read = read-round c.self.inside.nodes.items c.args.node.0 c.index.result.now (has-within s c.args.node (complete-round s c.args.node c.args.version h)) c.index.ensures in
+    let read = read-round c.self.inside.state.nodes.items c.args.node.0 c.index.result.now (has-within s c.args.node (complete-round s c.args.node c.args.version h)) c.index.ensures in
     let found = complete-found s c.args.node c.args.version h c.unwrap-round.result.now (shown-value _ _ _ _ c.round.ensures c.unwrap-round.ensures ∙ sym read) in
     let wanting : AllocError = record {} in
     record {
-      kept = gathered-kept s c.args.node c.args.version c.add_to.new.columns wanting (arc_value c.self.inside.table) c.self.inside.grounds.items c.self.inside.places.items
+      kept = gathered-kept s c.args.node c.args.version c.add_to.new.columns wanting (arc_value c.self.inside.state.table) c.self.inside.state.grounds.items c.self.inside.places.items
           (front-added s c.args.node c.args.version h sound c.unwrap-round.result.now.found found c.add_to.new.columns
-          (front-of c.add_to.result c.self.inside.columns c.add_to.new.columns c.unwrap-round.result.now.found c.add_to.ensures.added c.add_to.ensures.front))
+          (front-of c.add_to.result c.self.inside.state.columns c.add_to.new.columns c.unwrap-round.result.now.found c.add_to.ensures.added c.add_to.ensures.front))
           c.self.invariant.kept;
       room_is = c.self.invariant.room_is;
     }
@@ -64,7 +64,7 @@ returns-clause-added c =
     let s = the_view c.self.inside in
     let sound : IsSound s = IsReachable-sound s c.self.invariant.kept.pool.reachable in
     let h : IsCompleteAt s c.args.node c.args.version = subst (λ (x : State). IsCompleteAt x c.args.node c.args.version) (sym c.self.view_is) c.requires in
-    let read = read-round c.self.inside.nodes.items c.args.node.0 c.index.result.now (has-within s c.args.node (complete-round s c.args.node c.args.version h)) c.index.ensures in
+    let read = read-round c.self.inside.state.nodes.items c.args.node.0 c.index.result.now (has-within s c.args.node (complete-round s c.args.node c.args.version h)) c.index.ensures in
     let found = complete-found s c.args.node c.args.version h c.unwrap-round.result.now (shown-value _ _ _ _ c.round.ensures c.unwrap-round.ensures ∙ sym read) in
     if_ok c.add_to.result _ _
     (λ x is. subst (λ (u : State). ForRound u c.args.node (λ n round. with_columns (the_view c.self.inside) c.add_to.new.columns ≡ with_columns u (gathered u.columns round.found (length u.problem.demands)))) c.self.view_is
@@ -76,7 +76,7 @@ returns-clause-front c =
     let s = the_view c.self.inside in
     let sound : IsSound s = IsReachable-sound s c.self.invariant.kept.pool.reachable in
     let h : IsCompleteAt s c.args.node c.args.version = subst (λ (x : State). IsCompleteAt x c.args.node c.args.version) (sym c.self.view_is) c.requires in
-    let read = read-round c.self.inside.nodes.items c.args.node.0 c.index.result.now (has-within s c.args.node (complete-round s c.args.node c.args.version h)) c.index.ensures in
+    let read = read-round c.self.inside.state.nodes.items c.args.node.0 c.index.result.now (has-within s c.args.node (complete-round s c.args.node c.args.version h)) c.index.ensures in
     let found = complete-found s c.args.node c.args.version h c.unwrap-round.result.now (shown-value _ _ _ _ c.round.ensures c.unwrap-round.ensures ∙ sym read) in
     λ bad. subst (λ (u : State). GathersFront u c.args.node c.args.version (with_columns (the_view c.self.inside) c.add_to.new.columns)) c.self.view_is
     (front-added s c.args.node c.args.version h sound c.unwrap-round.result.now.found found c.add_to.new.columns (c.add_to.ensures.front bad))

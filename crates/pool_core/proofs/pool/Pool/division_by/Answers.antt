@@ -9,7 +9,7 @@ pub index-requires : goal.index-requires
 index-requires c =
     let s = the_view c.self.inside in
     let two : HasTwoPaths s c.args.node c.args.demand c.args.first.now c.args.second.now = subst (λ (x : State). HasTwoPaths x c.args.node c.args.demand c.args.first.now c.args.second.now) (sym c.self.view_is) c.requires in
-    let within : c.args.node.0 < length c.self.inside.nodes.items = slice_get_within s.nodes c.args.node.0 two.node two.ready.open_node.is_node in
+    let within : c.args.node.0 < length c.self.inside.state.nodes.items = slice_get_within s.nodes c.args.node.0 two.node two.ready.open_node.is_node in
     search rules
 
 pub load_division_at-requires : goal.load_division_at-requires

@@ -45,7 +45,7 @@ returns-clause-follows c =
     let to : IsToPublish s c.args.node c.args.seen c.args.prices.now c.in-Ok.crowd_tried = to-publish s c.args.node c.args.seen c.args.prices.now c.in-Ok.crowd_tried (publish_fault-none s c.args.node c.args.seen c.args.prices.now allowed) c.in-Ok.ensures.follows in
     let read : Some c.round_at.result.now ≡ round_of s c.args.node = c.round_at.ensures ∙ ap (λ (t : State). round_of t c.args.node) (c.view-2.ensures ∙ c.mark_after.ensures.unchanged) in
     let slot = to_publish-slot s c.args.node c.args.seen c.args.prices.now c.in-Ok.crowd_tried to c.round_at.result.now c.slot-slot.result read c.slot-slot.ensures in
-    let version : c.self.inside.next_version ≡ s.next_version = ap (λ (t : State). t.next_version) (c.self.view_is ∙ c.mark_after.ensures.unchanged) in
+    let version : c.self.inside.state.next_version ≡ s.next_version = ap (λ (t : State). t.next_version) (c.self.view_is ∙ c.mark_after.ensures.unchanged) in
     following-of s c.args.node c.args.seen c.args.prices.now _ allowed to slot version
 
 pub returns-clause-slot : goal.returns-clause-slot

@@ -20,28 +20,28 @@ pub index-requires : goal.index-requires
 index-requires c =
     let s = the_view c.self.inside in
     let at : IsGatheredAt s c.args.node = subst (λ (x : State). IsGatheredAt x c.args.node) (sym c.self.view_is) c.requires in
-    let within : c.args.node.0 < length c.self.inside.grounds.items = ground-within s c.args.node c.self.inside.grounds.items c.self.invariant.kept.has_grounds (gathered-round s c.args.node at) in
+    let within : c.args.node.0 < length c.self.inside.state.grounds.items = ground-within s c.args.node c.self.inside.state.grounds.items c.self.invariant.kept.has_grounds (gathered-round s c.args.node at) in
     search rules
 
 pub unwrap-plot-requires : goal.unwrap-plot-requires
 unwrap-plot-requires c =
     let s = the_view c.self.inside in
     let at : IsGatheredAt s c.args.node = subst (λ (x : State). IsGatheredAt x c.args.node) (sym c.self.view_is) c.requires in
-    let w = round-kept s c.args.node c.self.inside.grounds.items c.index.result.now (IsReachable-sound s c.self.invariant.kept.pool.reachable) c.self.invariant.kept.has_grounds (gathered-round s c.args.node at) c.index.ensures in
+    let w = round-kept s c.args.node c.self.inside.state.grounds.items c.index.result.now (IsReachable-sound s c.self.invariant.kept.pool.reachable) c.self.invariant.kept.has_grounds (gathered-round s c.args.node at) c.index.ensures in
     plot-some s.problem at.node c.index.result.now w c.plot.result _ c.plot.ensures
 
 pub index-requires-2 : goal.index-requires-2
 index-requires-2 c =
     let s = the_view c.self.inside in
     let at : IsGatheredAt s c.args.node = subst (λ (x : State). IsGatheredAt x c.args.node) (sym c.self.view_is) c.requires in
-    let within : c.args.node.0 < length c.self.inside.nodes.items = has-within s c.args.node (gathered-round s c.args.node at) in
+    let within : c.args.node.0 < length c.self.inside.state.nodes.items = has-within s c.args.node (gathered-round s c.args.node at) in
     search rules
 
 pub unwrap-round-requires : goal.unwrap-round-requires
 unwrap-round-requires c =
     let s = the_view c.self.inside in
     let at : IsGatheredAt s c.args.node = subst (λ (x : State). IsGatheredAt x c.args.node) (sym c.self.view_is) c.requires in
-    let read = read-round c.self.inside.nodes.items c.args.node.0 c.index-2.result.now (has-within s c.args.node (gathered-round s c.args.node at)) c.index-2.ensures in
+    let read = read-round c.self.inside.state.nodes.items c.args.node.0 c.index-2.result.now (has-within s c.args.node (gathered-round s c.args.node at)) c.index-2.ensures in
     shown-some _ _ _ (c.round.ensures ∙ sym read) (gathered-some s c.args.node at)
 
 pub gain-requires : goal.gain-requires
@@ -49,7 +49,7 @@ gain-requires c =
     let s = the_view c.self.inside in
     let sound : IsSound s = IsReachable-sound s c.self.invariant.kept.pool.reachable in
     let at : IsGatheredAt s c.args.node = subst (λ (x : State). IsGatheredAt x c.args.node) (sym c.self.view_is) c.requires in
-    let w = round-kept s c.args.node c.self.inside.grounds.items c.index.result.now sound c.self.invariant.kept.has_grounds (gathered-round s c.args.node at) c.index.ensures in
+    let w = round-kept s c.args.node c.self.inside.state.grounds.items c.index.result.now sound c.self.invariant.kept.has_grounds (gathered-round s c.args.node at) c.index.ensures in
     let is = plot-region s.problem at.node c.index.result.now w c.plot.result _ c.unwrap-plot.result c.plot.ensures c.unwrap-plot.ensures in
     let forbidden : forbids c.deref-4.result.now ≡ restriction_of at.node = ap forbids (c.deref-4.ensures ∙ c.rows.ensures) ∙ is.forbidden in
     let ranges : c.deref-3.result.now ≡ ranges_of s.problem at.node = c.deref-3.ensures ∙ (c.ranges-2.ensures ∙ is.ranges) in
@@ -72,7 +72,7 @@ returns-clause-some c =
     let s = the_view c.self.inside in
     let sound : IsSound s = IsReachable-sound s c.self.invariant.kept.pool.reachable in
     let at : IsGatheredAt s c.args.node = subst (λ (x : State). IsGatheredAt x c.args.node) (sym c.self.view_is) c.requires in
-    let w = round-kept s c.args.node c.self.inside.grounds.items c.index.result.now sound c.self.invariant.kept.has_grounds (gathered-round s c.args.node at) c.index.ensures in
+    let w = round-kept s c.args.node c.self.inside.state.grounds.items c.index.result.now sound c.self.invariant.kept.has_grounds (gathered-round s c.args.node at) c.index.ensures in
     let is = plot-region s.problem at.node c.index.result.now w c.plot.result _ c.unwrap-plot.result c.plot.ensures c.unwrap-plot.ensures in
     let forbidden : forbids c.deref-4.result.now ≡ restriction_of at.node = ap forbids (c.deref-4.ensures ∙ c.rows.ensures) ∙ is.forbidden in
     let ranges : c.deref-3.result.now ≡ ranges_of s.problem at.node = c.deref-3.ensures ∙ (c.ranges-2.ensures ∙ is.ranges) in
@@ -88,7 +88,7 @@ returns-clause-none c =
     let s = the_view c.self.inside in
     let sound : IsSound s = IsReachable-sound s c.self.invariant.kept.pool.reachable in
     let at : IsGatheredAt s c.args.node = subst (λ (x : State). IsGatheredAt x c.args.node) (sym c.self.view_is) c.requires in
-    let w = round-kept s c.args.node c.self.inside.grounds.items c.index.result.now sound c.self.invariant.kept.has_grounds (gathered-round s c.args.node at) c.index.ensures in
+    let w = round-kept s c.args.node c.self.inside.state.grounds.items c.index.result.now sound c.self.invariant.kept.has_grounds (gathered-round s c.args.node at) c.index.ensures in
     let is = plot-region s.problem at.node c.index.result.now w c.plot.result _ c.unwrap-plot.result c.plot.ensures c.unwrap-plot.ensures in
     let forbidden : forbids c.deref-4.result.now ≡ restriction_of at.node = ap forbids (c.deref-4.ensures ∙ c.rows.ensures) ∙ is.forbidden in
     let ranges : c.deref-3.result.now ≡ ranges_of s.problem at.node = c.deref-3.ensures ∙ (c.ranges-2.ensures ∙ is.ranges) in

@@ -22,7 +22,7 @@ pub index-requires : goal.index-requires
 index-requires c =
     let s = the_view c.self.inside in
     let at : IsGatheredAt s c.args.node = subst (λ (x : State). IsGatheredAt x c.args.node) (sym c.self.view_is) c.requires.gathered in
-    let within : c.args.node.0 < length c.self.inside.nodes.items = has-within s c.args.node (gathered-round s c.args.node at) in
+    let within : c.args.node.0 < length c.self.inside.state.nodes.items = has-within s c.args.node (gathered-round s c.args.node at) in
     search rules
 
 pub round_at-requires : goal.round_at-requires

@@ -11,7 +11,7 @@ use Rattle.pool_core.proofs.pool.Pool.mark_settled.Goals as goal
 pub index_mut-settled-requires : goal.index_mut-settled-requires
 index_mut-settled-requires c =
     let to : IsToSettle (the_view c.self.inside) c.args.node c.args.version = subst (λ (s : State). IsToSettle s c.args.node c.args.version) (sym c.self.view_is) c.requires in
-    let below : c.args.node.0 < length c.self.inside.nodes.items = to_settle-within (the_view c.self.inside) c.args.node c.args.version to in
+    let below : c.args.node.0 < length c.self.inside.state.nodes.items = to_settle-within (the_view c.self.inside) c.args.node c.args.version to in
     search rules
 
 pub invariant_of-self : goal.invariant_of-self
@@ -24,7 +24,7 @@ invariant_of-self c =
             (settles-written (the_view c.self.inside) c.args.node c.args.version c.index_mut-settled.result.now c.settle.new.self to c.index_mut-settled.ensures.value c.settle.ensures);
         table_is = c.self.invariant.kept.table_is;
         cuts_are = c.self.invariant.kept.cuts_are;
-        has_grounds = HasGrounds-set _ c.self.inside.nodes.items c.self.inside.grounds.items c.args.node.0 c.index_mut-settled.result.now c.settle.new.self
+        has_grounds = HasGrounds-set _ c.self.inside.state.nodes.items c.self.inside.state.grounds.items c.args.node.0 c.index_mut-settled.result.now c.settle.new.self
             (to_settle-within (the_view c.self.inside) c.args.node c.args.version to)
             c.index_mut-settled.ensures.value (ap (λ (x : Node). x.limits) c.settle.ensures) (ap (λ (x : Node). x.fate) c.settle.ensures) c.self.invariant.kept.has_grounds;
       };

@@ -30,7 +30,7 @@ returns-clause-answer c =
     let none : open_fault s c.args.node ≡ None = subst (λ (t : State). open_fault t c.args.node ≡ None) (sym c.self.view_is) (sym (c.open_refusal.ensures ∙ ap (λ (s : State). open_fault s c.args.node) c.view.ensures) ∙ c.in_default.is) in
     let first : IsFirstFree c.self.inside.places.items c.first_free-slot.result = subst (λ (xs : List Slot). IsFirstFree xs c.first_free-slot.result) c.as_slice.ensures.value c.first_free-slot.ensures in
     let lowest : IsLowestFreeSlot s c.first_free-slot.result = lowest-free s c.self.inside.places.items c.args.node c.first_free-slot.result c.self.invariant.kept.pool (open_fault-none s c.args.node none) first in
-    subst (λ (t : State). IsOpenAnswer t c.args.node (Ok (record { slot = c.first_free-slot.result; version = c.self.inside.next_version }))) c.self.view_is (none, lowest, refl)
+    subst (λ (t : State). IsOpenAnswer t c.args.node (Ok (record { slot = c.first_free-slot.result; version = c.self.inside.state.next_version }))) c.self.view_is (none, lowest, refl)
 
 pub returns-clause-only : goal.returns-clause-only
 returns-clause-only c =
@@ -38,8 +38,8 @@ returns-clause-only c =
     let none : open_fault s c.args.node ≡ None = subst (λ (t : State). open_fault t c.args.node ≡ None) (sym c.self.view_is) (sym (c.open_refusal.ensures ∙ ap (λ (s : State). open_fault s c.args.node) c.view.ensures) ∙ c.in_default.is) in
     let first : IsFirstFree c.self.inside.places.items c.first_free-slot.result = subst (λ (xs : List Slot). IsFirstFree xs c.first_free-slot.result) c.as_slice.ensures.value c.first_free-slot.ensures in
     let lowest : IsLowestFreeSlot s c.first_free-slot.result = lowest-free s c.self.inside.places.items c.args.node c.first_free-slot.result c.self.invariant.kept.pool (open_fault-none s c.args.node none) first in
-    only-opening c.args.self.now c.args.node (record { slot = c.first_free-slot.result; version = c.self.inside.next_version })
-    (subst (λ (t : State). IsOpenAnswer t c.args.node (Ok (record { slot = c.first_free-slot.result; version = c.self.inside.next_version }))) c.self.view_is (none, lowest, refl))
+    only-opening c.args.self.now c.args.node (record { slot = c.first_free-slot.result; version = c.self.inside.state.next_version })
+    (subst (λ (t : State). IsOpenAnswer t c.args.node (Ok (record { slot = c.first_free-slot.result; version = c.self.inside.state.next_version }))) c.self.view_is (none, lowest, refl))
 
 pub returns-clause-slot : goal.returns-clause-slot
 returns-clause-slot c =

@@ -38,7 +38,7 @@ pub index_mut-opened-requires : goal.index_mut-opened-requires
 index_mut-opened-requires c =
     let may : MayOpen (the_view c.self.inside) c.args.node = open_fault-none (the_view c.self.inside) c.args.node
     (subst (λ (s : State). open_fault s c.args.node ≡ None) (sym c.self.view_is) (sym (c.open_refusal.ensures ∙ ap (λ (s : State). open_fault s c.args.node) c.view.ensures) ∙ c.in_default.is)) in
-    let within : c.args.node.0 < length c.self.inside.nodes.items = slice_get_within c.self.inside.nodes.items c.args.node.0 may.node may.is_node in
+    let within : c.args.node.0 < length c.self.inside.state.nodes.items = slice_get_within c.self.inside.state.nodes.items c.args.node.0 may.node may.is_node in
     search rules
 
 pub begin-requires : goal.begin-requires
@@ -53,21 +53,21 @@ pub index-requires : goal.index-requires
 index-requires c =
     let may : MayOpen (the_view c.self.inside) c.args.node = open_fault-none (the_view c.self.inside) c.args.node
     (subst (λ (s : State). open_fault s c.args.node ≡ None) (sym c.self.view_is) (sym (c.open_refusal.ensures ∙ ap (λ (s : State). open_fault s c.args.node) c.view.ensures) ∙ c.in_default.is)) in
-    let within : c.args.node.0 < length c.self.inside.grounds.items = leaf-within (the_view c.self.inside) c.args.node c.self.inside.grounds.items c.self.invariant.kept.has_grounds may.node may.is_node may.undone in
+    let within : c.args.node.0 < length c.self.inside.state.grounds.items = leaf-within (the_view c.self.inside) c.args.node c.self.inside.state.grounds.items c.self.invariant.kept.has_grounds may.node may.is_node may.undone in
     search rules
 
 pub unwrap-ranges-requires : goal.unwrap-ranges-requires
 unwrap-ranges-requires c =
     let may : MayOpen (the_view c.self.inside) c.args.node = open_fault-none (the_view c.self.inside) c.args.node
     (subst (λ (s : State). open_fault s c.args.node ≡ None) (sym c.self.view_is) (sym (c.open_refusal.ensures ∙ ap (λ (s : State). open_fault s c.args.node) c.view.ensures) ∙ c.in_default.is)) in
-    leaf-some (the_view c.self.inside) c.args.node c.self.inside.grounds.items c.self.invariant.kept.has_grounds may.node may.is_node may.undone _ c.index.result.now c.index.ensures c.ranges-2.result c.ranges-2.ensures
+    leaf-some (the_view c.self.inside) c.args.node c.self.inside.state.grounds.items c.self.invariant.kept.has_grounds may.node may.is_node may.undone _ c.index.result.now c.index.ensures c.ranges-2.result c.ranges-2.ensures
 
 pub complete-requires-clause-ranges : goal.complete-requires-clause-ranges
 complete-requires-clause-ranges c =
     let may : MayOpen (the_view c.self.inside) c.args.node = open_fault-none (the_view c.self.inside) c.args.node
     (subst (λ (s : State). open_fault s c.args.node ≡ None) (sym c.self.view_is) (sym (c.open_refusal.ensures ∙ ap (λ (s : State). open_fault s c.args.node) c.view.ensures) ∙ c.in_default.is)) in
     let first : IsFirstFree c.self.inside.places.items c.first_free-slot.result = subst (λ (xs : List Slot). IsFirstFree xs c.first_free-slot.result) c.as_slice.ensures.value c.first_free-slot.ensures in
-    leaf-ranges (the_view c.self.inside) c.args.node c.self.inside.grounds.items c.self.invariant.kept.has_grounds may.node may.is_node may.undone _ c.index.result.now c.index.ensures c.ranges-2.result c.ranges-2.ensures c.unwrap-ranges.result
+    leaf-ranges (the_view c.self.inside) c.args.node c.self.inside.state.grounds.items c.self.invariant.kept.has_grounds may.node may.is_node may.undone _ c.index.result.now c.index.ensures c.ranges-2.result c.ranges-2.ensures c.unwrap-ranges.result
     c.deref.result.now c.deref-3.result.now c.begin.new.self c.unwrap-ranges.ensures c.deref.ensures c.deref-3.ensures
     (begun-limits (the_view c.self.inside) c.self.inside.places.items c.args.node c.first_free-slot.result c.self.invariant.kept.pool may first
     c.index_mut-opened.result.now c.in-Free.place c.index_mut-free.result.now c.index_mut-opened.ensures.value c.index_mut-free.ensures.value
@@ -88,7 +88,7 @@ overflow_add-self c =
     let may : MayOpen (the_view c.self.inside) c.args.node = open_fault-none (the_view c.self.inside) c.args.node
     (subst (λ (s : State). open_fault s c.args.node ≡ None) (sym c.self.view_is) (sym (c.open_refusal.ensures ∙ ap (λ (s : State). open_fault s c.args.node) c.view.ensures) ∙ c.in_default.is)) in
     let first : IsFirstFree c.self.inside.places.items c.first_free-slot.result = subst (λ (xs : List Slot). IsFirstFree xs c.first_free-slot.result) c.as_slice.ensures.value c.first_free-slot.ensures in
-    let small : c.self.inside.next_version ≤ 139282 = version-small (the_view c.self.inside) c.self.inside.places.items c.args.node c.first_free-slot.result c.self.invariant.kept.pool may first in
+    let small : c.self.inside.state.next_version ≤ 139282 = version-small (the_view c.self.inside) c.self.inside.places.items c.args.node c.first_free-slot.result c.self.invariant.kept.pool may first in
     search rules
 
 pub overflow_cast-result : goal.overflow_cast-result
@@ -109,7 +109,7 @@ invariant_of-self c = record {
       c.index_mut-opened.result.now c.in-Free.place c.index_mut-free.result.now c.index_mut-opened.ensures.value c.index_mut-free.ensures.value
       (sym c.replace.ensures.value ∙ c.in-Free.is) c.begin.new.self c.begin.ensures c.complete.new.self
       (as_kept (λ p cuts. IfSome c.begin.new.self.round (λ r. TakesRound p cuts c.begin.new.self r c.complete.new.self)) _ _ _ _ c.deref.ensures c.deref-2.ensures c.complete.ensures) in
-      opened-kept (the_view c.self.inside) c.self.inside.places.items c.args.node c.first_free-slot.result c.self.invariant.kept.pool may first c.complete.new.self takes (c.self.inside.next_version + 1) (add-one c.self.inside.next_version) _ c.self.inside.grounds.items
+      opened-kept (the_view c.self.inside) c.self.inside.places.items c.args.node c.first_free-slot.result c.self.invariant.kept.pool may first c.complete.new.self takes (c.self.inside.state.next_version + 1) (add-one c.self.inside.state.next_version) _ c.self.inside.state.grounds.items
       c.index_mut-opened.result.now c.replace.new.dest c.index_mut-opened.ensures.value c.replace.ensures.after c.self.invariant.kept
       );
   room_is = c.self.invariant.room_is;
@@ -125,7 +125,7 @@ returns c =
     (sym c.replace.ensures.value ∙ c.in-Free.is) c.begin.new.self c.begin.ensures c.complete.new.self
     (as_kept (λ p cuts. IfSome c.begin.new.self.round (λ r. TakesRound p cuts c.begin.new.self r c.complete.new.self)) _ _ _ _ c.deref.ensures c.deref-2.ensures c.complete.ensures) in
     record {
-      event = subst (λ (s : State). Opens s c.args.node (record { slot = c.first_free-slot.result; version = c.self.inside.next_version })
-          (record (the_view c.self.inside) { nodes = (with_node (the_view c.self.inside) c.args.node c.complete.new.self).nodes; next_version = c.self.inside.next_version + 1 })) c.self.view_is
-          (opens (the_view c.self.inside) c.self.inside.places.items c.args.node c.first_free-slot.result c.self.invariant.kept.pool may first c.complete.new.self takes (c.self.inside.next_version + 1) (add-one c.self.inside.next_version));
+      event = subst (λ (s : State). Opens s c.args.node (record { slot = c.first_free-slot.result; version = c.self.inside.state.next_version })
+          (record (the_view c.self.inside) { nodes = (with_node (the_view c.self.inside) c.args.node c.complete.new.self).nodes; next_version = c.self.inside.state.next_version + 1 })) c.self.view_is
+          (opens (the_view c.self.inside) c.self.inside.places.items c.args.node c.first_free-slot.result c.self.invariant.kept.pool may first c.complete.new.self takes (c.self.inside.state.next_version + 1) (add-one c.self.inside.state.next_version));
     }

@@ -19,21 +19,21 @@ pub index-requires : goal.index-requires
 index-requires c =
     let s = the_view c.self.inside in
     let at : HasOnlyPaths s c.args.node c.args.routing.now.paths = subst (λ (x : State). HasOnlyPaths x c.args.node c.args.routing.now.paths) (sym c.self.view_is) c.requires in
-    let within : c.args.node.0 < length c.self.inside.grounds.items = leaf-within s c.args.node c.self.inside.grounds.items c.self.invariant.kept.has_grounds at.node at.ready.open_node.is_node at.ready.open_node.undone in
+    let within : c.args.node.0 < length c.self.inside.state.grounds.items = leaf-within s c.args.node c.self.inside.state.grounds.items c.self.invariant.kept.has_grounds at.node at.ready.open_node.is_node at.ready.open_node.undone in
     search rules
 
 pub unwrap-ranges-requires : goal.unwrap-ranges-requires
 unwrap-ranges-requires c =
     let s = the_view c.self.inside in
     let at : HasOnlyPaths s c.args.node c.args.routing.now.paths = subst (λ (x : State). HasOnlyPaths x c.args.node c.args.routing.now.paths) (sym c.self.view_is) c.requires in
-    leaf-some s c.args.node c.self.inside.grounds.items c.self.invariant.kept.has_grounds at.node at.ready.open_node.is_node at.ready.open_node.undone _ c.index.result.now c.index.ensures c.ranges-2.result c.ranges-2.ensures
+    leaf-some s c.args.node c.self.inside.state.grounds.items c.self.invariant.kept.has_grounds at.node at.ready.open_node.is_node at.ready.open_node.undone _ c.index.result.now c.index.ensures c.ranges-2.result c.ranges-2.ensures
 
 pub outside_link-requires-clause-ranges : goal.outside_link-requires-clause-ranges
 outside_link-requires-clause-ranges c =
     let s = the_view c.self.inside in
     let at : HasOnlyPaths s c.args.node c.args.routing.now.paths = subst (λ (x : State). HasOnlyPaths x c.args.node c.args.routing.now.paths) (sym c.self.view_is) c.requires in
     let same : c.deref-2.result.now ≡ ranges_of s.problem at.node =
-    leaf-ranges s c.args.node c.self.inside.grounds.items c.self.invariant.kept.has_grounds at.node at.ready.open_node.is_node at.ready.open_node.undone _ c.index.result.now c.index.ensures c.ranges-2.result c.ranges-2.ensures c.unwrap-ranges.result
+    leaf-ranges s c.args.node c.self.inside.state.grounds.items c.self.invariant.kept.has_grounds at.node at.ready.open_node.is_node at.ready.open_node.undone _ c.index.result.now c.index.ensures c.ranges-2.result c.ranges-2.ensures c.unwrap-ranges.result
     s.problem c.deref-2.result.now at.node c.unwrap-ranges.ensures refl c.deref-2.ensures refl in
     let are : AreRanges s.problem (ranges_of s.problem at.node) = (node_at s c.args.node.0 at.node (IsReachable-sound s c.self.invariant.kept.pool.reachable) at.ready.open_node.is_node).ranges in
     subst (λ (p : Parts). AreRanges p c.deref-2.result.now) (sym c.deref.ensures) (subst (AreRanges s.problem) (sym same) are)
@@ -49,7 +49,7 @@ returns-in-Some-clause-some c =
     let s = the_view c.self.inside in
     let at : HasOnlyPaths s c.args.node c.args.routing.now.paths = subst (λ (x : State). HasOnlyPaths x c.args.node c.args.routing.now.paths) (sym c.self.view_is) c.requires in
     let same : c.deref-2.result.now ≡ ranges_of s.problem at.node =
-    leaf-ranges s c.args.node c.self.inside.grounds.items c.self.invariant.kept.has_grounds at.node at.ready.open_node.is_node at.ready.open_node.undone _ c.index.result.now c.index.ensures c.ranges-2.result c.ranges-2.ensures c.unwrap-ranges.result
+    leaf-ranges s c.args.node c.self.inside.state.grounds.items c.self.invariant.kept.has_grounds at.node at.ready.open_node.is_node at.ready.open_node.undone _ c.index.result.now c.index.ensures c.ranges-2.result c.ranges-2.ensures c.unwrap-ranges.result
     s.problem c.deref-2.result.now at.node c.unwrap-ranges.ensures refl c.deref-2.ensures refl in
     let out : HasOutside s.problem (ranges_of s.problem at.node) c.args.routing.now.paths c.in-Some.link.0 =
     subst (λ (p : Parts). HasOutside p (ranges_of s.problem at.node) c.args.routing.now.paths c.in-Some.link.0) c.deref.ensures
@@ -76,7 +76,7 @@ returns-clause-none c =
     let s = the_view c.self.inside in
     let at : HasOnlyPaths s c.args.node c.args.routing.now.paths = subst (λ (x : State). HasOnlyPaths x c.args.node c.args.routing.now.paths) (sym c.self.view_is) c.requires in
     let same : c.deref-2.result.now ≡ ranges_of s.problem at.node =
-    leaf-ranges s c.args.node c.self.inside.grounds.items c.self.invariant.kept.has_grounds at.node at.ready.open_node.is_node at.ready.open_node.undone _ c.index.result.now c.index.ensures c.ranges-2.result c.ranges-2.ensures c.unwrap-ranges.result
+    leaf-ranges s c.args.node c.self.inside.state.grounds.items c.self.invariant.kept.has_grounds at.node at.ready.open_node.is_node at.ready.open_node.undone _ c.index.result.now c.index.ensures c.ranges-2.result c.ranges-2.ensures c.unwrap-ranges.result
     s.problem c.deref-2.result.now at.node c.unwrap-ranges.ensures refl c.deref-2.ensures refl in
     let inside : AreInside s.problem (ranges_of s.problem at.node) c.args.routing.now.paths (places s.problem) =
     subst (λ (p : Parts). AreInside p (ranges_of s.problem at.node) c.args.routing.now.paths (places p)) c.deref.ensures

@@ -17,7 +17,7 @@ index_mut-renewed-requires c =
     let s = the_view c.self.inside in
     let next : IsFollowing s c.args.node c.args.seen c.args.prices.now c.args.next = subst (λ (x : State). IsFollowing x c.args.node c.args.seen c.args.prices.now c.args.next) (sym c.self.view_is) c.requires in
     let to = to_publish-of s c.args.node c.args.seen c.args.prices.now c.args.next next in
-    let within : c.args.node.0 < length c.self.inside.nodes.items = renew-within s c.self.inside.places.items c.args.node c.args.seen c.args.prices.now c.args.next.crowd_tried c.self.invariant.kept.pool to in
+    let within : c.args.node.0 < length c.self.inside.state.nodes.items = renew-within s c.self.inside.places.items c.args.node c.args.seen c.args.prices.now c.args.next.crowd_tried c.self.invariant.kept.pool to in
     search rules
 
 pub renew-requires : goal.renew-requires
@@ -33,7 +33,7 @@ index-requires c =
     let next : IsFollowing s c.args.node c.args.seen c.args.prices.now c.args.next = subst (λ (x : State). IsFollowing x c.args.node c.args.seen c.args.prices.now c.args.next) (sym c.self.view_is) c.requires in
     let to = to_publish-of s c.args.node c.args.seen c.args.prices.now c.args.next next in
     let undone = renew-undone s c.self.inside.places.items c.args.node c.args.seen c.args.prices.now c.args.next.crowd_tried c.self.invariant.kept.pool to in
-    let within : c.args.node.0 < length c.self.inside.grounds.items = leaf-within s c.args.node c.self.inside.grounds.items c.self.invariant.kept.has_grounds to.node to.may.is_gathered.complete_round.is_node undone in
+    let within : c.args.node.0 < length c.self.inside.state.grounds.items = leaf-within s c.args.node c.self.inside.state.grounds.items c.self.invariant.kept.has_grounds to.node to.may.is_gathered.complete_round.is_node undone in
     search rules
 
 pub unwrap-ranges-requires : goal.unwrap-ranges-requires
@@ -42,7 +42,7 @@ unwrap-ranges-requires c =
     let next : IsFollowing s c.args.node c.args.seen c.args.prices.now c.args.next = subst (λ (x : State). IsFollowing x c.args.node c.args.seen c.args.prices.now c.args.next) (sym c.self.view_is) c.requires in
     let to = to_publish-of s c.args.node c.args.seen c.args.prices.now c.args.next next in
     let undone = renew-undone s c.self.inside.places.items c.args.node c.args.seen c.args.prices.now c.args.next.crowd_tried c.self.invariant.kept.pool to in
-    leaf-some s c.args.node c.self.inside.grounds.items c.self.invariant.kept.has_grounds to.node to.may.is_gathered.complete_round.is_node undone _ c.index.result.now c.index.ensures c.ranges-2.result c.ranges-2.ensures
+    leaf-some s c.args.node c.self.inside.state.grounds.items c.self.invariant.kept.has_grounds to.node to.may.is_gathered.complete_round.is_node undone _ c.index.result.now c.index.ensures c.ranges-2.result c.ranges-2.ensures
 
 pub complete-requires-clause-ranges : goal.complete-requires-clause-ranges
 complete-requires-clause-ranges c =
@@ -50,7 +50,7 @@ complete-requires-clause-ranges c =
     let next : IsFollowing s c.args.node c.args.seen c.args.prices.now c.args.next = subst (λ (x : State). IsFollowing x c.args.node c.args.seen c.args.prices.now c.args.next) (sym c.self.view_is) c.requires in
     let to = to_publish-of s c.args.node c.args.seen c.args.prices.now c.args.next next in
     let undone = renew-undone s c.self.inside.places.items c.args.node c.args.seen c.args.prices.now c.args.next.crowd_tried c.self.invariant.kept.pool to in
-    leaf-ranges s c.args.node c.self.inside.grounds.items c.self.invariant.kept.has_grounds to.node to.may.is_gathered.complete_round.is_node undone _ c.index.result.now c.index.ensures c.ranges-2.result c.ranges-2.ensures c.unwrap-ranges.result
+    leaf-ranges s c.args.node c.self.inside.state.grounds.items c.self.invariant.kept.has_grounds to.node to.may.is_gathered.complete_round.is_node undone _ c.index.result.now c.index.ensures c.ranges-2.result c.ranges-2.ensures c.unwrap-ranges.result
     c.deref.result.now c.deref-3.result.now c.renew.new.self c.unwrap-ranges.ensures c.deref.ensures c.deref-3.ensures
     (renewed-limits s c.self.inside.places.items c.args.node c.args.seen c.args.prices.now c.args.next.crowd_tried c.self.invariant.kept.pool to c.index_mut-renewed.result.now c.index_mut-renewed.ensures.value c.renew.new.self c.renew.ensures)
 
@@ -67,7 +67,7 @@ overflow_add-self c =
     let s = the_view c.self.inside in
     let next : IsFollowing s c.args.node c.args.seen c.args.prices.now c.args.next = subst (λ (x : State). IsFollowing x c.args.node c.args.seen c.args.prices.now c.args.next) (sym c.self.view_is) c.requires in
     let to = to_publish-of s c.args.node c.args.seen c.args.prices.now c.args.next next in
-    let small : c.self.inside.next_version ≤ 139282 = renew-small s c.self.inside.places.items c.args.node c.args.seen c.args.prices.now c.args.next.crowd_tried c.self.invariant.kept.pool to in
+    let small : c.self.inside.state.next_version ≤ 139282 = renew-small s c.self.inside.places.items c.args.node c.args.seen c.args.prices.now c.args.next.crowd_tried c.self.invariant.kept.pool to in
     search rules
 
 pub invariant_of-self : goal.invariant_of-self
@@ -79,7 +79,7 @@ invariant_of-self c =
     (as_kept (λ p cuts. IfSome c.renew.new.self.round (λ r. TakesRound p cuts c.renew.new.self r c.complete.new.self)) _ _ _ _ c.deref.ensures c.deref-2.ensures c.complete.ensures) in
     record {
       kept = renewed-kept s c.self.inside.places.items c.args.node c.args.seen c.args.prices.now c.args.next.crowd_tried c.self.invariant.kept.pool to c.complete.new.self takes
-          (c.self.inside.next_version + 1) (add-one c.self.inside.next_version) (arc_value c.self.inside.table) c.self.inside.grounds.items
+          (c.self.inside.state.next_version + 1) (add-one c.self.inside.state.next_version) (arc_value c.self.inside.state.table) c.self.inside.state.grounds.items
           c.index_mut-renewed.result.now c.index_mut-renewed.ensures.value c.self.invariant.kept;
       room_is = c.self.invariant.room_is;
     }
@@ -91,8 +91,8 @@ returns c =
     let to = to_publish-of s c.args.node c.args.seen c.args.prices.now c.args.next next in
     let takes = renewed-takes s c.self.inside.places.items c.args.node c.args.seen c.args.prices.now c.args.next.crowd_tried c.self.invariant.kept.pool to c.index_mut-renewed.result.now c.index_mut-renewed.ensures.value c.renew.new.self c.renew.ensures c.complete.new.self
     (as_kept (λ p cuts. IfSome c.renew.new.self.round (λ r. TakesRound p cuts c.renew.new.self r c.complete.new.self)) _ _ _ _ c.deref.ensures c.deref-2.ensures c.complete.ensures) in
-    let event : Publishes s c.args.node c.args.seen c.args.prices.now c.args.next.slot c.args.next.version (record s { nodes = (with_node s c.args.node c.complete.new.self).nodes; next_version = c.self.inside.next_version + 1 }) =
-    subst (λ (version : ℕ). Publishes s c.args.node c.args.seen c.args.prices.now c.args.next.slot version (record s { nodes = (with_node s c.args.node c.complete.new.self).nodes; next_version = c.self.inside.next_version + 1 })) (sym next.version_is)
-    (publishes s c.self.inside.places.items c.args.node c.args.seen c.args.prices.now c.args.next.crowd_tried c.self.invariant.kept.pool to c.complete.new.self takes (c.self.inside.next_version + 1) (add-one c.self.inside.next_version) c.args.next.slot next.slot_is) in
+    let event : Publishes s c.args.node c.args.seen c.args.prices.now c.args.next.slot c.args.next.version (record s { nodes = (with_node s c.args.node c.complete.new.self).nodes; next_version = c.self.inside.state.next_version + 1 }) =
+    subst (λ (version : ℕ). Publishes s c.args.node c.args.seen c.args.prices.now c.args.next.slot version (record s { nodes = (with_node s c.args.node c.complete.new.self).nodes; next_version = c.self.inside.state.next_version + 1 })) (sym next.version_is)
+    (publishes s c.self.inside.places.items c.args.node c.args.seen c.args.prices.now c.args.next.crowd_tried c.self.invariant.kept.pool to c.complete.new.self takes (c.self.inside.state.next_version + 1) (add-one c.self.inside.state.next_version) c.args.next.slot next.slot_is) in
     subst (λ (x : State). Publishes x c.args.node c.args.seen c.args.prices.now c.args.next.slot c.args.next.version
-    (record (the_view c.self.inside) { nodes = (with_node (the_view c.self.inside) c.args.node c.complete.new.self).nodes; next_version = c.self.inside.next_version + 1 })) c.self.view_is event
+    (record (the_view c.self.inside) { nodes = (with_node (the_view c.self.inside) c.args.node c.complete.new.self).nodes; next_version = c.self.inside.state.next_version + 1 })) c.self.view_is event

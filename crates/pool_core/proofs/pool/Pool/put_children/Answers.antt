@@ -12,59 +12,59 @@ use Rattle.pool_core.proofs.pool.Pool.put_children.Goals as goal
 
 pub index_mut-divided-requires : goal.index_mut-divided-requires
 index_mut-divided-requires c =
-    let nodes : c.append_both.new.nodes.items ≡ c.self.inside.nodes.items ++ c.args.children.now.items = c.in_ok-append_both.ensures.nodes in
+    let nodes : c.append_both.new.nodes.items ≡ c.self.inside.state.nodes.items ++ c.args.children.now.items = c.in_ok-append_both.ensures.nodes in
     let within : c.args.node.0 < length c.append_both.new.nodes.items =
     subst (λ (xs : List Node). c.args.node.0 < length xs) (sym nodes)
-    (item-within (the_view c.self.inside) _ c.self.inside.grounds.items c.self.inside.places.items c.args.node c.args.division c.self.invariant.kept
+    (item-within (the_view c.self.inside) _ c.self.inside.state.grounds.items c.self.inside.places.items c.args.node c.args.division c.self.invariant.kept
     (subst (λ (s : State). IsDivisionAt s c.args.node c.args.division) (sym c.self.view_is) c.requires.division) c.args.children.now.items c.args.grounds.now.items
     (subst (λ (s : State). AreChildrenAt s c.args.node c.args.division c.args.children.now.items c.args.grounds.now.items) (sym c.self.view_is) c.requires.children)) in
     search rules
 
 pub divide-round-requires : goal.divide-round-requires
 divide-round-requires c =
-    let nodes : c.append_both.new.nodes.items ≡ c.self.inside.nodes.items ++ c.args.children.now.items = c.in_ok-append_both.ensures.nodes in
-    item-undone (the_view c.self.inside) _ c.self.inside.grounds.items c.self.inside.places.items c.args.node c.args.division c.self.invariant.kept
+    let nodes : c.append_both.new.nodes.items ≡ c.self.inside.state.nodes.items ++ c.args.children.now.items = c.in_ok-append_both.ensures.nodes in
+    item-undone (the_view c.self.inside) _ c.self.inside.state.grounds.items c.self.inside.places.items c.args.node c.args.division c.self.invariant.kept
     (subst (λ (s : State). IsDivisionAt s c.args.node c.args.division) (sym c.self.view_is) c.requires.division) c.args.children.now.items c.args.grounds.now.items
     (subst (λ (s : State). AreChildrenAt s c.args.node c.args.division c.args.children.now.items c.args.grounds.now.items) (sym c.self.view_is) c.requires.children) c.index_mut-divided.result.now
     (c.index_mut-divided.ensures.value ∙ ap (λ (xs : List Node). get_or xs c.args.node.0 c.index_mut-divided.result.now) nodes)
 
 pub give_back-requires : goal.give_back-requires
 give_back-requires c =
-    let nodes : c.append_both.new.nodes.items ≡ c.self.inside.nodes.items ++ c.args.children.now.items = c.in_ok-append_both.ensures.nodes in
-    item-place (the_view c.self.inside) _ c.self.inside.grounds.items c.self.inside.places.items c.args.node c.args.division c.self.invariant.kept
+    let nodes : c.append_both.new.nodes.items ≡ c.self.inside.state.nodes.items ++ c.args.children.now.items = c.in_ok-append_both.ensures.nodes in
+    item-place (the_view c.self.inside) _ c.self.inside.state.grounds.items c.self.inside.places.items c.args.node c.args.division c.self.invariant.kept
     (subst (λ (s : State). IsDivisionAt s c.args.node c.args.division) (sym c.self.view_is) c.requires.division) c.args.children.now.items c.args.grounds.now.items
     (subst (λ (s : State). AreChildrenAt s c.args.node c.args.division c.args.children.now.items c.args.grounds.now.items) (sym c.self.view_is) c.requires.children) c.index_mut-divided.result.now
     (c.index_mut-divided.ensures.value ∙ ap (λ (xs : List Node). get_or xs c.args.node.0 c.index_mut-divided.result.now) nodes) c.divide-round.result c.divide-round.ensures.round
 
 pub index_mut-ground-requires : goal.index_mut-ground-requires
 index_mut-ground-requires c =
-    let grounds : c.append_both.new.grounds.items ≡ c.self.inside.grounds.items ++ c.args.grounds.now.items = c.in_ok-append_both.ensures.grounds in
+    let grounds : c.append_both.new.grounds.items ≡ c.self.inside.state.grounds.items ++ c.args.grounds.now.items = c.in_ok-append_both.ensures.grounds in
     let within : c.args.node.0 < length c.append_both.new.grounds.items =
     subst (λ (xs : List (Option Kept)). c.args.node.0 < length xs) (sym grounds)
-    (ground-within (the_view c.self.inside) _ c.self.inside.grounds.items c.self.inside.places.items c.args.node c.args.division c.self.invariant.kept
+    (ground-within (the_view c.self.inside) _ c.self.inside.state.grounds.items c.self.inside.places.items c.args.node c.args.division c.self.invariant.kept
     (subst (λ (s : State). IsDivisionAt s c.args.node c.args.division) (sym c.self.view_is) c.requires.division) c.args.children.now.items c.args.grounds.now.items
     (subst (λ (s : State). AreChildrenAt s c.args.node c.args.division c.args.children.now.items c.args.grounds.now.items) (sym c.self.view_is) c.requires.children)) in
     search rules
 
 pub overflow_add-self : goal.overflow_add-self
 overflow_add-self c =
-    let small : c.self.inside.examined < 4096 = examined-small (the_view c.self.inside) _ c.self.inside.grounds.items c.self.inside.places.items c.args.node c.args.division c.self.invariant.kept
+    let small : c.self.inside.state.examined < 4096 = examined-small (the_view c.self.inside) _ c.self.inside.state.grounds.items c.self.inside.places.items c.args.node c.args.division c.self.invariant.kept
     (subst (λ (s : State). IsDivisionAt s c.args.node c.args.division) (sym c.self.view_is) c.requires.division) in
     search rules
 
 pub invariant_of-self-2 : goal.invariant_of-self-2
 invariant_of-self-2 c = record {
   kept = (
-      let nodes : c.append_both.new.nodes.items ≡ c.self.inside.nodes.items ++ c.args.children.now.items = c.in_ok-append_both.ensures.nodes in
-      let grounds : c.append_both.new.grounds.items ≡ c.self.inside.grounds.items ++ c.args.grounds.now.items = c.in_ok-append_both.ensures.grounds in
-      let after : List Node → State = λ xs. record (the_view c.self.inside) { nodes = set xs c.args.node.0 c.divide-round.new.self; examined = c.self.inside.examined + 1 } in
-      subst (λ (xs : List Node). IsKeptPool (after xs) (arc_value c.self.inside.table) (set c.append_both.new.grounds.items c.args.node.0 c.clear.new.self) c.give_back.new.places.items) (sym nodes)
-      (subst (λ (gs : List (Option Kept)). IsKeptPool (after (c.self.inside.nodes.items ++ c.args.children.now.items)) (arc_value c.self.inside.table) (set gs c.args.node.0 c.clear.new.self) c.give_back.new.places.items) (sym grounds)
-      (divided-kept (the_view c.self.inside) _ c.self.inside.grounds.items c.self.inside.places.items c.args.node c.args.division c.self.invariant.kept
+      let nodes : c.append_both.new.nodes.items ≡ c.self.inside.state.nodes.items ++ c.args.children.now.items = c.in_ok-append_both.ensures.nodes in
+      let grounds : c.append_both.new.grounds.items ≡ c.self.inside.state.grounds.items ++ c.args.grounds.now.items = c.in_ok-append_both.ensures.grounds in
+      let after : List Node → State = λ xs. record (the_view c.self.inside) { nodes = set xs c.args.node.0 c.divide-round.new.self; examined = c.self.inside.state.examined + 1 } in
+      subst (λ (xs : List Node). IsKeptPool (after xs) (arc_value c.self.inside.state.table) (set c.append_both.new.grounds.items c.args.node.0 c.clear.new.self) c.give_back.new.places.items) (sym nodes)
+      (subst (λ (gs : List (Option Kept)). IsKeptPool (after (c.self.inside.state.nodes.items ++ c.args.children.now.items)) (arc_value c.self.inside.state.table) (set gs c.args.node.0 c.clear.new.self) c.give_back.new.places.items) (sym grounds)
+      (divided-kept (the_view c.self.inside) _ c.self.inside.state.grounds.items c.self.inside.places.items c.args.node c.args.division c.self.invariant.kept
       (subst (λ (s : State). IsDivisionAt s c.args.node c.args.division) (sym c.self.view_is) c.requires.division) c.args.children.now.items c.args.grounds.now.items
       (subst (λ (s : State). AreChildrenAt s c.args.node c.args.division c.args.children.now.items c.args.grounds.now.items) (sym c.self.view_is) c.requires.children) c.index_mut-divided.result.now
-      (c.index_mut-divided.ensures.value ∙ ap (λ (xs : List Node). get_or xs c.args.node.0 c.index_mut-divided.result.now) nodes) c.divide-round.new.self (c.self.inside.examined + 1) c.clear.new.self c.give_back.new.places.items
-      c.divide-round.ensures.node (add-one c.self.inside.examined) c.clear.ensures
+      (c.index_mut-divided.ensures.value ∙ ap (λ (xs : List Node). get_or xs c.args.node.0 c.index_mut-divided.result.now) nodes) c.divide-round.new.self (c.self.inside.state.examined + 1) c.clear.new.self c.give_back.new.places.items
+      c.divide-round.ensures.node (add-one c.self.inside.state.examined) c.clear.ensures
       (c.give_back.ensures ∙ ap (given_back c.self.inside.places.items) c.divide-round.ensures.round)))
       );
   room_is = c.self.invariant.room_is;
@@ -72,14 +72,14 @@ invariant_of-self-2 c = record {
 
 pub returns-clause-event : goal.returns-clause-event
 returns-clause-event c =
-    let nodes : c.append_both.new.nodes.items ≡ c.self.inside.nodes.items ++ c.args.children.now.items = c.in_ok-append_both.ensures.nodes in
-    let after : List Node → State = λ xs. record (the_view c.self.inside) { nodes = set xs c.args.node.0 c.divide-round.new.self; examined = c.self.inside.examined + 1 } in
+    let nodes : c.append_both.new.nodes.items ≡ c.self.inside.state.nodes.items ++ c.args.children.now.items = c.in_ok-append_both.ensures.nodes in
+    let after : List Node → State = λ xs. record (the_view c.self.inside) { nodes = set xs c.args.node.0 c.divide-round.new.self; examined = c.self.inside.state.examined + 1 } in
     subst (λ (s : State). Divides s c.args.node c.args.division.left_child c.args.division.right_child (after c.append_both.new.nodes.items)) c.self.view_is
     (subst (λ (xs : List Node). Divides (the_view c.self.inside) c.args.node c.args.division.left_child c.args.division.right_child (after xs)) (sym nodes)
-    (divided-step (the_view c.self.inside) _ c.self.inside.grounds.items c.self.inside.places.items c.args.node c.args.division c.self.invariant.kept
+    (divided-step (the_view c.self.inside) _ c.self.inside.state.grounds.items c.self.inside.places.items c.args.node c.args.division c.self.invariant.kept
     (subst (λ (s : State). IsDivisionAt s c.args.node c.args.division) (sym c.self.view_is) c.requires.division) c.args.children.now.items c.args.grounds.now.items
     (subst (λ (s : State). AreChildrenAt s c.args.node c.args.division c.args.children.now.items c.args.grounds.now.items) (sym c.self.view_is) c.requires.children) c.index_mut-divided.result.now
-    (c.index_mut-divided.ensures.value ∙ ap (λ (xs : List Node). get_or xs c.args.node.0 c.index_mut-divided.result.now) nodes) c.divide-round.new.self (c.self.inside.examined + 1) c.divide-round.ensures.node (add-one c.self.inside.examined)))
+    (c.index_mut-divided.ensures.value ∙ ap (λ (xs : List Node). get_or xs c.args.node.0 c.index_mut-divided.result.now) nodes) c.divide-round.new.self (c.self.inside.state.examined + 1) c.divide-round.ensures.node (add-one c.self.inside.state.examined)))
 
 pub returns-clause-kept : goal.returns-clause-kept
 returns-clause-kept c = tt

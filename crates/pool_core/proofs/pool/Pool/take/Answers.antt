@@ -20,7 +20,7 @@ index_mut-priced-requires c =
     let s = the_view c.self.inside in
     let sound : IsSound s = IsReachable-sound s c.self.invariant.kept.pool.reachable in
     let may : MayOffer s c.args.offer = offer_fault-none s c.args.offer sound (subst (λ (s : State). offer_fault s c.args.offer ≡ None) (sym c.self.view_is) c.requires) in
-    let within : c.args.offer.node.0 < length c.self.inside.nodes.items = slice_get_within c.self.inside.nodes.items c.args.offer.node.0 may.node may.fits.is_node in
+    let within : c.args.offer.node.0 < length c.self.inside.state.nodes.items = slice_get_within c.self.inside.state.nodes.items c.args.offer.node.0 may.node may.fits.is_node in
     search rules
 
 pub invariant_of-self : goal.invariant_of-self
@@ -29,7 +29,7 @@ invariant_of-self c = record {
       let s = the_view c.self.inside in
       let sound : IsSound s = IsReachable-sound s c.self.invariant.kept.pool.reachable in
       let may : MayOffer s c.args.offer = offer_fault-none s c.args.offer sound (subst (λ (s : State). offer_fault s c.args.offer ≡ None) (sym c.self.view_is) c.requires) in
-      cut-kept s c.args.offer may c.index_mut-priced.result.now c.index_mut-priced.ensures.value c.in-NoPath.reached c.in-NoPath.is c.hold_cut.new.self c.hold_cut.ensures _ c.self.inside.grounds.items c.self.inside.places.items c.self.invariant.kept
+      cut-kept s c.args.offer may c.index_mut-priced.result.now c.index_mut-priced.ensures.value c.in-NoPath.reached c.in-NoPath.is c.hold_cut.new.self c.hold_cut.ensures _ c.self.inside.state.grounds.items c.self.inside.places.items c.self.invariant.kept
       );
   room_is = c.self.invariant.room_is;
 }
@@ -50,7 +50,7 @@ index-requires c =
     let sound : IsSound s = IsReachable-sound s c.self.invariant.kept.pool.reachable in
     let may : MayOffer s c.args.offer = offer_fault-none s c.args.offer sound (subst (λ (s : State). offer_fault s c.args.offer ≡ None) (sym c.self.view_is) c.requires) in
     let undone = offer-undone s c.args.offer may c.index_mut-priced.result.now c.index_mut-priced.ensures.value sound in
-    let within : c.args.offer.node.0 < length c.self.inside.grounds.items = leaf-within s c.args.offer.node c.self.inside.grounds.items c.self.invariant.kept.has_grounds may.node may.fits.is_node undone in
+    let within : c.args.offer.node.0 < length c.self.inside.state.grounds.items = leaf-within s c.args.offer.node c.self.inside.state.grounds.items c.self.invariant.kept.has_grounds may.node may.fits.is_node undone in
     search rules
 
 pub unwrap-ranges-requires : goal.unwrap-ranges-requires
@@ -59,7 +59,7 @@ unwrap-ranges-requires c =
     let sound : IsSound s = IsReachable-sound s c.self.invariant.kept.pool.reachable in
     let may : MayOffer s c.args.offer = offer_fault-none s c.args.offer sound (subst (λ (s : State). offer_fault s c.args.offer ≡ None) (sym c.self.view_is) c.requires) in
     let undone = offer-undone s c.args.offer may c.index_mut-priced.result.now c.index_mut-priced.ensures.value sound in
-    leaf-some s c.args.offer.node c.self.inside.grounds.items c.self.invariant.kept.has_grounds may.node may.fits.is_node undone _ c.index.result.now c.index.ensures c.ranges-in-Path.result c.ranges-in-Path.ensures
+    leaf-some s c.args.offer.node c.self.inside.state.grounds.items c.self.invariant.kept.has_grounds may.node may.fits.is_node undone _ c.index.result.now c.index.ensures c.ranges-in-Path.result c.ranges-in-Path.ensures
 
 pub put-left-requires-clause-ranges : goal.put-left-requires-clause-ranges
 put-left-requires-clause-ranges c =
@@ -67,7 +67,7 @@ put-left-requires-clause-ranges c =
     let sound : IsSound s = IsReachable-sound s c.self.invariant.kept.pool.reachable in
     let may : MayOffer s c.args.offer = offer_fault-none s c.args.offer sound (subst (λ (s : State). offer_fault s c.args.offer ≡ None) (sym c.self.view_is) c.requires) in
     let undone = offer-undone s c.args.offer may c.index_mut-priced.result.now c.index_mut-priced.ensures.value sound in
-    leaf-ranges s c.args.offer.node c.self.inside.grounds.items c.self.invariant.kept.has_grounds may.node may.fits.is_node undone _ c.index.result.now c.index.ensures c.ranges-in-Path.result c.ranges-in-Path.ensures c.unwrap-ranges.result
+    leaf-ranges s c.args.offer.node c.self.inside.state.grounds.items c.self.invariant.kept.has_grounds may.node may.fits.is_node undone _ c.index.result.now c.index.ensures c.ranges-in-Path.result c.ranges-in-Path.ensures c.unwrap-ranges.result
     c.deref.result.now c.deref-in-Path-2.result.now c.index_mut-priced.result.now c.unwrap-ranges.ensures c.deref.ensures c.deref-in-Path-2.ensures (put-limits s c.args.offer may c.index_mut-priced.result.now c.index_mut-priced.ensures.value)
 
 pub put-left-requires-clause-sound : goal.put-left-requires-clause-sound
@@ -93,9 +93,9 @@ overflow_add-self c =
     let may : MayOffer s c.args.offer = offer_fault-none s c.args.offer sound (subst (λ (s : State). offer_fault s c.args.offer ≡ None) (sym c.self.view_is) c.requires) in
     let takes = as_kept (λ p cuts. IfSome c.index_mut-priced.result.now.round (λ round. TakesRound p cuts c.index_mut-priced.result.now (with_found round c.args.offer.demand.0 (record { path = c.in-Path.path; price = c.in-Path.length })) c.put-left.new.self)) _ _ _ _
     c.deref.ensures c.deref-in-Path.ensures c.put-left.ensures.takes in
-    let small : c.self.inside.accepted + 1 < 2 ^ 64 = accepted-small s c.args.offer may c.index_mut-priced.result.now c.index_mut-priced.ensures.value
+    let small : c.self.inside.state.accepted + 1 < 2 ^ 64 = accepted-small s c.args.offer may c.index_mut-priced.result.now c.index_mut-priced.ensures.value
     (record { path = c.in-Path.path; price = c.in-Path.length }) _ c.in-Path.is c.put-left.result
-    (c.self.inside.accepted + 1) c.put-left.new.self c.put-left.ensures.left takes (add-one c.self.inside.accepted) c.self.inside.places.items c.self.invariant.kept.pool in
+    (c.self.inside.state.accepted + 1) c.put-left.new.self c.put-left.ensures.left takes (add-one c.self.inside.state.accepted) c.self.inside.places.items c.self.invariant.kept.pool in
     search rules
 
 pub invariant_of-self-in-Path : goal.invariant_of-self-in-Path
@@ -108,7 +108,7 @@ invariant_of-self-in-Path c = record {
       c.deref.ensures c.deref-in-Path.ensures c.put-left.ensures.takes in
       accepted-kept s c.args.offer may c.index_mut-priced.result.now c.index_mut-priced.ensures.value
       (record { path = c.in-Path.path; price = c.in-Path.length }) _ c.in-Path.is c.put-left.result
-      (c.self.inside.accepted + 1) c.put-left.new.self c.put-left.ensures.left takes (add-one c.self.inside.accepted) _ c.self.inside.grounds.items c.self.inside.places.items c.self.invariant.kept
+      (c.self.inside.state.accepted + 1) c.put-left.new.self c.put-left.ensures.left takes (add-one c.self.inside.state.accepted) _ c.self.inside.state.grounds.items c.self.inside.places.items c.self.invariant.kept
       );
   room_is = c.self.invariant.room_is;
 }
@@ -121,8 +121,8 @@ returns-in-Path c =
     let takes = as_kept (λ p cuts. IfSome c.index_mut-priced.result.now.round (λ round. TakesRound p cuts c.index_mut-priced.result.now (with_found round c.args.offer.demand.0 (record { path = c.in-Path.path; price = c.in-Path.length })) c.put-left.new.self)) _ _ _ _
     c.deref.ensures c.deref-in-Path.ensures c.put-left.ensures.takes in
     record {
-      event = subst (λ (s : State). Accepts s c.args.offer c.put-left.result (record (the_view c.self.inside) { nodes = (with_node (the_view c.self.inside) c.args.offer.node c.put-left.new.self).nodes; accepted = c.self.inside.accepted + 1 })) c.self.view_is
+      event = subst (λ (s : State). Accepts s c.args.offer c.put-left.result (record (the_view c.self.inside) { nodes = (with_node (the_view c.self.inside) c.args.offer.node c.put-left.new.self).nodes; accepted = c.self.inside.state.accepted + 1 })) c.self.view_is
           (accepts s c.args.offer may c.index_mut-priced.result.now c.index_mut-priced.ensures.value
           (record { path = c.in-Path.path; price = c.in-Path.length }) _ c.in-Path.is c.put-left.result
-          (c.self.inside.accepted + 1) c.put-left.new.self c.put-left.ensures.left takes (add-one c.self.inside.accepted));
+          (c.self.inside.state.accepted + 1) c.put-left.new.self c.put-left.ensures.left takes (add-one c.self.inside.state.accepted));
     }

@@ -1,8 +1,8 @@
-use Rattle.std.proofs.Common.{◌≡◌, Some, rules, arith, length, sym, ap, subst}
+use Rattle.std.proofs.Common.{◌≡◌, Some, rules, arith, length, sym, subst}
 use Rattle.plan_base.specs.declared.parts.Parts.{Parts}
 use Rattle.arc_restrict.specs.Rows.{forbids}
 use Rattle.second_path.specs.Searching.{ArePaths}
-use Rattle.pool_machine.specs.State.{State, left_of, round_of}
+use Rattle.pool_machine.specs.State.{left_of, round_of}
 use Rattle.pool_machine.specs.Machine.{IsReachable}
 use Rattle.pool_reading.proofs.Routes.{permitted-paths}
 use Rattle.pool_reading.proofs.view.PoolView.determined.Goals as goal
@@ -11,5 +11,5 @@ pub determine_among-requires : goal.determine_among-requires
 determine_among-requires c =
     let is : Some c.in-Some.round.now ≡ round_of c.args.self.now c.args.node = rw c.in-Some.is at c.active_round.ensures in
     let complete : left_of c.in-Some.round.now ≡ 0 = search (rules, arith) in
-    subst (λ (p : Parts). ArePaths p (forbids c.args.rows.now) (length p.demands) c.in_ok-paths.paths) (sym (ap (λ (s : State). s.problem) c.self.view_is))
+    subst (λ (p : Parts). ArePaths p (forbids c.args.rows.now) (length p.demands) c.in_ok-paths.paths) (sym c.problem-inst.ensures)
     (permitted-paths c.args.self.now c.args.node (forbids c.args.rows.now) c.in-Some.round.now c.in_ok-paths.paths (subst IsReachable c.self.view_is c.self.invariant.pool.reachable) c.requires is complete c.in_ok-paths.ensures)

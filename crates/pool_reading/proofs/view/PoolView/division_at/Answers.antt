@@ -3,7 +3,7 @@ use Rattle.std.specs.Prelude.{IsNone}
 use Rattle.plan_base.specs.declared.parts.Parts.{Parts}
 use Rattle.arc_restrict.specs.Restrictions.{Forbidden}
 use Rattle.arc_restrict.specs.Rows.{forbids}
-use Rattle.pool_reading.specs.Shown.{shown}
+use Rattle.pool_nodes.specs.SearchStates.{machine_state}
 use Rattle.branch_tree.specs.declared.node.Divider.TheVariants as divider
 use Rattle.pool_machine.specs.State.{ArcSplit, State, restriction_of, region_of}
 use Rattle.pool_machine.specs.Dividing.{PartsBy}
@@ -13,27 +13,29 @@ use Rattle.branch_tree.specs.Dealing.{goes_left, goes_right, picked, AreDealt}
 use Rattle.pool_reading.specs.Examining.{IsReadyAt}
 use Rattle.pool_reading.proofs.Examining.{ready-ground-within, ready-kept, some-none}
 use Rattle.pool_reading.proofs.Reading.{kept-some, kept-rows}
-use Rattle.pool_nodes.specs.Grounds.{Kept, rows_in}
+use Rattle.pool_nodes.specs.Grounds.{Kept}
 use Rattle.std.specs.Prelude.{slice_get}
 use Rattle.pool_machine.proofs.Frames.{one_at}
 use Rattle.pool_reading.proofs.Dividings.{of_one_demand, parts-at, two-ready, division-made}
 use Rattle.pool_reading.proofs.view.PoolView.division_at.Goals as goal
 
-pub bounds-self-inside-node : goal.bounds-self-inside-node
-bounds-self-inside-node c =
-    let within : c.args.node.0 < length c.self.inside.grounds.now =
-    ready-ground-within (shown c.self.inside) _ c.self.inside.grounds.now c.self.inside.places.now c.self.invariant c.args.node (subst (λ (s : State). IsReadyAt s c.args.node) (sym c.self.view_is) (two-ready c.args.self.now c.args.node c.args.demand c.args.first.now c.args.second.now c.requires)) in
+pub index-ground-requires : goal.index-ground-requires
+index-ground-requires c =
+    let s = machine_state c.self.inside.state.now in
+    let within : c.args.node.0 < length c.self.inside.state.now.grounds.items =
+    ready-ground-within s _ c.self.inside.state.now.grounds.items c.self.inside.places.now c.self.invariant c.args.node (subst (λ (s : State). IsReadyAt s c.args.node) (sym c.self.view_is) (two-ready c.args.self.now c.args.node c.args.demand c.args.first.now c.args.second.now c.requires)) in
     search rules
 
 pub unreachable-requires : goal.unreachable-requires
 unreachable-requires c =
-    let g = ready-kept (shown c.self.inside) _ c.self.inside.grounds.now c.self.inside.places.now c.self.invariant c.args.node
-    (subst (λ (s : State). IsReadyAt s c.args.node) (sym c.self.view_is) (two-ready c.args.self.now c.args.node c.args.demand c.args.first.now c.args.second.now c.requires)) c.index-self-node.result c.index-self-node.is in
-    some-none c.rows.result (kept-some _ _ c.index-self-node.result g c.rows.result _ (λ (k : Kept). k.rows) (c.rows.ensures ∙ ap rows_in (sym c.index-self-node.is))) c.in_default.is
+    let s = machine_state c.self.inside.state.now in
+    let g = ready-kept s _ c.self.inside.state.now.grounds.items c.self.inside.places.now c.self.invariant c.args.node
+    (subst (λ (s : State). IsReadyAt s c.args.node) (sym c.self.view_is) (two-ready c.args.self.now c.args.node c.args.demand c.args.first.now c.args.second.now c.requires)) c.index-ground.result.now c.index-ground.ensures in
+    some-none c.rows.result (kept-some _ _ c.index-ground.result.now g c.rows.result _ (λ (k : Kept). k.rows) c.rows.ensures) c.in_default.is
 
 pub divergence-requires : goal.divergence-requires
 divergence-requires c =
-    subst (λ (p : Parts). AreOfOneDemand p c.args.first.now c.args.second.now) (sym (ap (λ (s : State). s.problem) c.self.view_is))
+    subst (λ (p : Parts). AreOfOneDemand p c.args.first.now c.args.second.now) (sym c.problem-inst.ensures)
     (of_one_demand c.args.self.now.problem _ c.args.demand.0 c.args.first.now c.args.second.now c.requires.two)
 
 -- the two paths are different
@@ -47,17 +49,18 @@ leaving-requires c =
 
 pub returns : goal.returns
 returns c =
-    let at : IsReadyAt (shown c.self.inside) c.args.node = (subst (λ (s : State). IsReadyAt s c.args.node) (sym c.self.view_is) (two-ready c.args.self.now c.args.node c.args.demand c.args.first.now c.args.second.now c.requires)) in
-    let g = ready-kept (shown c.self.inside) _ c.self.inside.grounds.now c.self.inside.places.now c.self.invariant c.args.node
-    (subst (λ (s : State). IsReadyAt s c.args.node) (sym c.self.view_is) (two-ready c.args.self.now c.args.node c.args.demand c.args.first.now c.args.second.now c.requires)) c.index-self-node.result c.index-self-node.is in
+    let s = machine_state c.self.inside.state.now in
+    let at : IsReadyAt s c.args.node = (subst (λ (s : State). IsReadyAt s c.args.node) (sym c.self.view_is) (two-ready c.args.self.now c.args.node c.args.demand c.args.first.now c.args.second.now c.requires)) in
+    let g = ready-kept s _ c.self.inside.state.now.grounds.items c.self.inside.places.now c.self.invariant c.args.node
+    (subst (λ (s : State). IsReadyAt s c.args.node) (sym c.self.view_is) (two-ready c.args.self.now c.args.node c.args.demand c.args.first.now c.args.second.now c.requires)) c.index-ground.result.now c.index-ground.ensures in
     let p = c.args.self.now.problem in
-    let problem : c.self.inside.problem.now ≡ p = ap (λ (s : State). s.problem) c.self.view_is in
+    let problem : c.problem-inst.result.now ≡ p = c.problem-inst.ensures in
     let one = c.in-Some-divergence.one in
     let other = c.in-Some-divergence.other in
     let leaving = c.leaving.result.now in
-    let rows = kept-rows _ _ c.index-self-node.result g c.rows.result _ c.in-Some.rows (c.rows.ensures ∙ ap rows_in (sym c.index-self-node.is)) c.in-Some.is in
+    let rows = kept-rows _ _ c.index-ground.result.now g c.rows.result _ c.in-Some.rows c.rows.ensures c.in-Some.is in
     let g_node : restriction_of at.node ≡ restriction_of c.requires.node =
-    ap restriction_of (one_at (shown c.self.inside).nodes c.args.node.0 at.node c.requires.node at.ready.open_node.is_node
+    ap restriction_of (one_at s.nodes c.args.node.0 at.node c.requires.node at.ready.open_node.is_node
     (subst (λ (s : State). slice_get s.nodes c.args.node.0 ≡ Some c.requires.node) (sym c.self.view_is) c.requires.ready.open_node.is_node)) in
     let same : forbids c.deref.result.now ≡ restriction_of c.requires.node = ap forbids c.deref.ensures ∙ (rows.0 ∙ g_node) in
     let d : ArcSplit = record { demand = c.args.demand; at = c.in-Some-divergence.at; left = c.from_vec.result; right = c.from_vec-2.result } in

@@ -1,5 +1,5 @@
 use Rattle.std.proofs.Common.{◌≤◌, length, subst, rules, arith}
-use Rattle.pool_reading.specs.Shown.{shown}
+use Rattle.pool_nodes.specs.SearchStates.{machine_state}
 use Rattle.pool_machine.specs.State.{State}
 use Rattle.pool_machine.specs.Machine.{IsReachable}
 use Rattle.pool_reading.proofs.Reading.{nodes-few}
@@ -11,7 +11,8 @@ loop-place-init c = record { found = tt; none = λ e n below. absurd (omega arit
 
 pub overflow_cast-place : goal.overflow_cast-place
 overflow_cast-place c =
-    let few : length c.self.inside.nodes.now ≤ 8193 = nodes-few (shown c.self.inside) c.self.inside.places.now c.self.invariant.pool in
+    let s = machine_state c.self.inside.state.now in
+    let few : length c.self.inside.state.now.nodes.items ≤ 8193 = nodes-few s c.self.inside.places.now c.self.invariant.pool in
     search rules
 
 pub loop-place-preserved : goal.loop-place-preserved
@@ -21,11 +22,13 @@ loop-place-preserved c = record {
 }
 
 pub returns : goal.returns
-returns c = record {
-  some = c.loop-place.invariant.found;
-  none = λ e.
-      let all : length (shown c.self.inside).nodes ≤ c.loop-place.place = search rules in
-      let all_places : length c.args.self.now.nodes ≤ c.loop-place.place = subst (λ (s : State). length s.nodes ≤ c.loop-place.place) c.self.view_is all in
-      never-none c.args.self.now (subst IsReachable c.self.view_is c.self.invariant.pool.reachable) c.requires.not_done
-      (λ n below. c.loop-place.invariant.none e n (omega (arith, all_places, below)));
-}
+returns c =
+    let s = machine_state c.self.inside.state.now in
+    record {
+      some = c.loop-place.invariant.found;
+      none = λ e.
+          let all : length s.nodes ≤ c.loop-place.place = search rules in
+          let all_places : length c.args.self.now.nodes ≤ c.loop-place.place = subst (λ (s : State). length s.nodes ≤ c.loop-place.place) c.self.view_is all in
+          never-none c.args.self.now (subst IsReachable c.self.view_is c.self.invariant.pool.reachable) c.requires.not_done
+          (λ n below. c.loop-place.invariant.none e n (omega (arith, all_places, below)));
+    }

@@ -1,11 +1,14 @@
-use Rattle.std.proofs.Common.{◌≡◌, false, ◌==◌, ap, ◌∙◌, rules, tests}
-use Rattle.pool_reading.specs.Shown.{shown}
+use Rattle.std.proofs.Common.{◌≡◌, List, length, false, ◌==◌, ap, ◌∙◌, rules, tests}
+use Rattle.std.specs.Prelude.{nat_eq}
+use Rattle.pool_nodes.specs.SearchStates.{machine_state}
+use Rattle.pool_machine.specs.State.{Node}
 use Rattle.pool_machine.specs.PlanOf.{is_done}
 use Rattle.pool_machine.proofs.Runs.{IsReachable-sound}
 use Rattle.pool_reading.proofs.TaskLaws.{done-count}
 use Rattle.pool_reading.proofs.view.PoolView.is_done.Goals as goal
 
-pub returns-else-self : goal.returns-else-self
-returns-else-self c =
-    let unspent : (c.self.inside.examined == c.self.inside.budget) ≡ false = search (rules, tests) in
-    done-count (shown c.self.inside) (IsReachable-sound (shown c.self.inside) c.self.invariant.pool.reachable) unspent ∙ ap is_done c.self.view_is
+pub returns-else-state : goal.returns-else-state
+returns-else-state c =
+    let s = machine_state c.self.inside.state.now in
+    let unspent : (c.self.inside.state.now.examined == c.self.inside.state.now.budget) ≡ false = search (rules, tests) in
+    ap (λ (xs : List Node). nat_eq (length xs) c.self.inside.state.now.examined) c.as_slice.ensures.value ∙ done-count s (IsReachable-sound s c.self.invariant.pool.reachable) unspent ∙ ap is_done c.self.view_is

@@ -1,7 +1,7 @@
-use Rattle.std.proofs.Common.{◌≡◌, sym, ap, subst}
+use Rattle.std.proofs.Common.{◌≡◌, sym, subst}
 use Rattle.plan_base.specs.declared.parts.Parts.{Parts}
 use Rattle.completions.specs.Completions.{ArePaths}
-use Rattle.pool_machine.specs.State.{State, Round, left_of}
+use Rattle.pool_machine.specs.State.{Round, left_of}
 use Rattle.pool_machine.specs.Machine.{IsReachable}
 use Rattle.pool_reading.proofs.Reading.{some_and-some}
 use Rattle.pool_reading.proofs.Routes.{complete-paths}
@@ -17,11 +17,11 @@ rows_at-rows-requires c = some_and-some (λ (round : Round). left_of round ≡ 0
 pub paths_within-requires-clause-prices : goal.paths_within-requires-clause-prices
 paths_within-requires-clause-prices c =
     prices-fit c.args.self.now c.args.node _ _ c.round_at-round.result.now (subst IsReachable c.self.view_is c.self.invariant.pool.reachable) (some_and-some (λ (round : Round). left_of round ≡ 0) _ c.requires)
-    (ap (λ (s : State). s.problem) c.self.view_is) c.round_at-round.ensures c.prices.ensures
+    c.problem.ensures c.round_at-round.ensures c.prices.ensures
 
 pub paths_within-requires-clause-paths : goal.paths_within-requires-clause-paths
 paths_within-requires-clause-paths c =
-    subst (λ (p : Parts). ArePaths p c.in_ok-paths.paths) (sym (ap (λ (s : State). s.problem) c.self.view_is))
+    subst (λ (p : Parts). ArePaths p c.in_ok-paths.paths) (sym c.problem.ensures)
     (complete-paths c.args.self.now c.args.node c.round_at-round.result.now c.in_ok-paths.paths (subst IsReachable c.self.view_is c.self.invariant.pool.reachable) c.requires c.round_at-round.ensures c.in_ok-paths.ensures)
 
 pub returns-then-not-is_due : goal.returns-then-not-is_due

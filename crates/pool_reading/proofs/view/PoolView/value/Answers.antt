@@ -1,11 +1,13 @@
-use Rattle.std.proofs.Common.{◌≡◌, ◌<◌, length, refl, sym, ap, subst, ◌∙◌, rules}
+use Rattle.std.proofs.Common.{◌≡◌, ◌<◌, List, length, sym, ap, subst, ◌∙◌, rules}
 use Rattle.arc_restrict.specs.Rows.{forbids}
+use Rattle.proof_tree.specs.declared.cuts.Cut.{Cut}
+use Rattle.column_pool.specs.Columns.{permitted_at}
 use Rattle.cut_table.specs.Numbers.{AreNumbers}
 use Rattle.master_step.specs.Restricted.{IsRestrictedValue}
 use Rattle.std.proofs.lemmas.Int.{to_z-of_z}
 use mir.Syntax.{w128}
 use mir.Val.{SFits}
-use Rattle.pool_reading.specs.Shown.{shown}
+use Rattle.pool_nodes.specs.SearchStates.{machine_state}
 use Rattle.pool_machine.specs.State.{State, restriction_of, ranges_of}
 use Rattle.pool_machine.specs.Gathering.{columns_for}
 use Rattle.pool_machine.specs.Soundness.{IsSound}
@@ -15,48 +17,54 @@ use Rattle.pool_reading.proofs.Valuing.{gathered-round, ask-numbers, ask-ranges,
 use Rattle.pool_reading.proofs.Reading.{round-kept, plot-some, plot-region, ground-within}
 use Rattle.pool_reading.proofs.view.PoolView.value.Goals as goal
 
-pub bounds-self-inside-node : goal.bounds-self-inside-node
-bounds-self-inside-node c =
-    let s = shown c.self.inside in
+pub index-requires : goal.index-requires
+index-requires c =
+    let s = machine_state c.self.inside.state.now in
     let at : IsGatheredAt s c.args.node = subst (λ (x : State). IsGatheredAt x c.args.node) (sym c.self.view_is) c.requires.gathered in
-    let within : c.args.node.0 < length c.self.inside.grounds.now = ground-within s c.args.node c.self.inside.grounds.now c.self.invariant.has_grounds (gathered-round s c.args.node at) in
+    let within : c.args.node.0 < length c.self.inside.state.now.grounds.items = ground-within s c.args.node c.self.inside.state.now.grounds.items c.self.invariant.has_grounds (gathered-round s c.args.node at) in
     search rules
 
 pub unwrap-plot-requires : goal.unwrap-plot-requires
 unwrap-plot-requires c =
-    let s = shown c.self.inside in
+    let s = machine_state c.self.inside.state.now in
     let at : IsGatheredAt s c.args.node = subst (λ (x : State). IsGatheredAt x c.args.node) (sym c.self.view_is) c.requires.gathered in
-    let w = round-kept s c.args.node c.self.inside.grounds.now c.index-self-node.result (IsReachable-sound s c.self.invariant.pool.reachable) c.self.invariant.has_grounds (gathered-round s c.args.node at) c.index-self-node.is in
-    plot-some s.problem at.node c.index-self-node.result w c.plot.result _ (c.plot.ensures ∙ sym c.index-self-node.is)
+    let w = round-kept s c.args.node c.self.inside.state.now.grounds.items c.index.result.now (IsReachable-sound s c.self.invariant.pool.reachable) c.self.invariant.has_grounds (gathered-round s c.args.node at) c.index.ensures in
+    plot-some s.problem at.node c.index.result.now w c.plot.result _ c.plot.ensures
 
 pub value-requires : goal.value-requires
 value-requires c =
-    let s = shown c.self.inside in
+    let s = machine_state c.self.inside.state.now in
     let sound : IsSound s = IsReachable-sound s c.self.invariant.pool.reachable in
     let at : IsGatheredAt s c.args.node = subst (λ (x : State). IsGatheredAt x c.args.node) (sym c.self.view_is) c.requires.gathered in
     let given : AreNumbers s.problem s.cuts c.args.prices.now = subst (λ (x : State). AreNumbers x.problem x.cuts c.args.prices.now) (sym c.self.view_is) c.requires.prices in
-    let w = round-kept s c.args.node c.self.inside.grounds.now c.index-self-node.result sound c.self.invariant.has_grounds (gathered-round s c.args.node at) c.index-self-node.is in
-    let is = plot-region s.problem at.node c.index-self-node.result w c.plot.result _ c.unwrap-plot.result (c.plot.ensures ∙ sym c.index-self-node.is) c.unwrap-plot.ensures in
+    let w = round-kept s c.args.node c.self.inside.state.now.grounds.items c.index.result.now sound c.self.invariant.has_grounds (gathered-round s c.args.node at) c.index.ensures in
+    let is = plot-region s.problem at.node c.index.result.now w c.plot.result _ c.unwrap-plot.result c.plot.ensures c.unwrap-plot.ensures in
     let forbidden : forbids c.deref-2.result.now ≡ restriction_of at.node = ap forbids (c.deref-2.ensures ∙ c.rows.ensures) ∙ is.forbidden in
     let ranges : c.deref.result.now ≡ ranges_of s.problem at.node = c.deref.ensures ∙ (c.ranges-2.ensures ∙ is.ranges) in
+    let is_p : c.problem.result.now ≡ s.problem = c.problem.ensures ∙ ap (λ (x : State). x.problem) (sym c.self.view_is) in
+    let is_cuts : c.table.result.now.cuts ≡ s.cuts = c.table.ensures.cuts ∙ ap (λ (x : State). x.cuts) (sym c.self.view_is) in
     record {
-      table = c.self.invariant.table_is;
-      are_ranges = ask-ranges s c.args.node sound at c.self.inside.problem.now c.deref-2.result.now refl forbidden c.deref.result.now ranges;
-      numbers = ask-numbers s c.args.node sound at c.self.inside.problem.now c.deref-2.result.now refl forbidden c.self.inside.table.now.cuts c.args.prices.now refl given;
-      columns = ask-columns s c.args.node sound at c.self.inside.problem.now c.deref-2.result.now refl forbidden;
-      permitted = ask-permitted s c.args.node sound at c.self.inside.problem.now c.deref-2.result.now refl forbidden;
+      table = c.table.ensures.problem ∙ sym c.problem.ensures;
+      are_ranges = ask-ranges s c.args.node sound at c.problem.result.now c.deref-2.result.now is_p forbidden c.deref.result.now ranges;
+      numbers = ask-numbers s c.args.node sound at c.problem.result.now c.deref-2.result.now is_p forbidden c.table.result.now.cuts c.args.prices.now is_cuts given;
+      columns = ask-columns s c.args.node sound at c.problem.result.now c.deref-2.result.now is_p forbidden;
+      permitted = ask-permitted s c.args.node sound at c.problem.result.now c.deref-2.result.now is_p forbidden;
     }
 
 pub returns : goal.returns
 returns c =
-    let s = shown c.self.inside in
+    let s = machine_state c.self.inside.state.now in
     let sound : IsSound s = IsReachable-sound s c.self.invariant.pool.reachable in
     let at : IsGatheredAt s c.args.node = subst (λ (x : State). IsGatheredAt x c.args.node) (sym c.self.view_is) c.requires.gathered in
-    let w = round-kept s c.args.node c.self.inside.grounds.now c.index-self-node.result sound c.self.invariant.has_grounds (gathered-round s c.args.node at) c.index-self-node.is in
-    let is = plot-region s.problem at.node c.index-self-node.result w c.plot.result _ c.unwrap-plot.result (c.plot.ensures ∙ sym c.index-self-node.is) c.unwrap-plot.ensures in
+    let w = round-kept s c.args.node c.self.inside.state.now.grounds.items c.index.result.now sound c.self.invariant.has_grounds (gathered-round s c.args.node at) c.index.ensures in
+    let is = plot-region s.problem at.node c.index.result.now w c.plot.result _ c.unwrap-plot.result c.plot.ensures c.unwrap-plot.ensures in
     let forbidden : forbids c.deref-2.result.now ≡ restriction_of at.node = ap forbids (c.deref-2.ensures ∙ c.rows.ensures) ∙ is.forbidden in
     let ranges : c.deref.result.now ≡ ranges_of s.problem at.node = c.deref.ensures ∙ (c.ranges-2.ensures ∙ is.ranges) in
+    let is_p : c.problem.result.now ≡ s.problem = c.problem.ensures ∙ ap (λ (x : State). x.problem) (sym c.self.view_is) in
+    let is_cuts : c.table.result.now.cuts ≡ s.cuts = c.table.ensures.cuts ∙ ap (λ (x : State). x.cuts) (sym c.self.view_is) in
+    let worth : IsRestrictedValue c.problem.result.now s.cuts c.deref.result.now (permitted_at (forbids c.deref-2.result.now) s.columns) c.args.prices.now c.value.result =
+    subst (λ (xs : List Cut). IsRestrictedValue c.problem.result.now xs c.deref.result.now (permitted_at (forbids c.deref-2.result.now) s.columns) c.args.prices.now c.value.result) is_cuts c.value.ensures in
     let fits : SFits w128 c.value.result = search rules in
     rw (to_z-of_z w128 c.value.result fits)
     (subst (λ (x : State). ForRound x c.args.node (λ n round. IsRestrictedValue x.problem x.cuts (ranges_of x.problem n) (columns_for x n) c.args.prices.now c.value.result)) c.self.view_is
-    (tell s c.args.node sound at c.self.inside.problem.now c.deref-2.result.now refl forbidden (λ p ranges choices prices. IsRestrictedValue p s.cuts ranges choices prices c.value.result) c.deref.result.now c.args.prices.now ranges c.value.ensures))
+    (tell s c.args.node sound at c.problem.result.now c.deref-2.result.now is_p forbidden (λ p ranges choices prices. IsRestrictedValue p s.cuts ranges choices prices c.value.result) c.deref.result.now c.args.prices.now ranges worth))
