@@ -35,15 +35,19 @@ pub(crate) fn tell_price(question: Question<'_>, body: Body, text: &mut String) 
     tell_priced(&searched(asked, DemandId(question.number(2)), body)?, text)
 }
 
+/// The least price of a demand by a search, where it has a path.
+fn least_by(asked: Asked<'_>, demand: DemandId, body: Body) -> Option<u128> {
+    length_of(&searched(asked, demand, body)?)
+}
+
 /// Adds the least price of each demand, where both searches give the same.
 fn tell_all(asked: Asked<'_>, text: &mut String) -> Option<()> {
     for place in 0..asked.inst.demands() {
-        let found = searched(asked, DemandId(place), Body::Heap)?;
-        let slow = searched(asked, DemandId(place), Body::Walk)?;
-        if length_of(&found) != length_of(&slow) {
+        let found = least_by(asked, DemandId(place), Body::Heap)?;
+        if found != least_by(asked, DemandId(place), Body::Walk)? {
             return None;
         }
-        tell_number("", length_of(&found)?, text)?;
+        tell_number("", found, text)?;
     }
     Some(())
 }
