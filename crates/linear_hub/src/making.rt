@@ -1,6 +1,7 @@
 //! How a hub begins and ends, and how seats meet.
 
 ghost use Rattle.std.specs.Prelude.{◌≡◌, ◌≤◌, ◌<◌, ◌+◌, [], length, All, IfOk};
+ghost use Rattle.std.specs.Arc.{arc_value};
 ghost use Rattle.plan_base.specs.Places.{places};
 ghost use Rattle.pool_machine.specs.declared.limits.TheConstants.{MAX_ROUNDS};
 ghost use Rattle.pool_machine.specs.Tasks.{IsSearchState};
@@ -10,12 +11,14 @@ ghost use Rattle.linear_hub.specs.Seats.{AreNew, HasMet, HasEnded, HasGathered};
 
 use crate::hub::{LinearHub, LinearSeat};
 use crate::naming::{Naming, Of, Spoken};
+use cut_table::CutTable;
 use dual_versions::{BoardReader, BoardWriter};
 use one_history::{Pass, Turns};
+use plan_base::Instance;
 use pool_core::Pool;
 use pool_desk::Desk;
 use std::alloc::{AllocError, Global};
-use std::sync::Wait;
+use std::sync::{Arc, Wait};
 
 /// So many seats, each with a reader.
 fn seats_of<N: Naming, R: Wait + Drop>(
@@ -49,6 +52,37 @@ fn seats_of<N: Naming, R: Wait + Drop>(
     Ok(list)
 }
 
+/// The turns at a desk, and so many seats, each with a reader.
+fn turns_of<N: Naming, R: Wait + Drop>(
+    alloc: Global,
+    desk: Desk<N, R>,
+    seats: u32,
+    readers: Vec<BoardReader>,
+) -> Result<(Turns<Desk<N, R>, Spoken, Of<N>>, Vec<LinearSeat<N, R>>), AllocError>
+    requires seats { (0 < seats) × (seats ≤ MAX_CALLERS) }
+    requires opening { desk.pool ≡ N.opening }
+    requires readers { length readers.items ≡ seats }
+    ensures count { IfOk result (λ r. (r.0.callers ≡ seats) × (length r.1.items ≡ seats)) }
+    ensures of { IfOk result (λ r. All (λ s. s.pass.table_id ≡ r.0.table.shared.table_id) r.1.items) }
+    ensures new { IfOk result (λ r. AreNew (λ s. s.number) (λ s. s.calls) (λ s. view_of s.pass) r.1.items) }
+{
+    let (turns, maker) = Turns::new(alloc, desk, seats)?;
+    match seats_of(alloc, &turns, maker, seats, readers) {
+        Ok(list) => Ok((turns, list)),
+        Err(AllocError) => Err(AllocError),
+    }
+}
+
+/// The instance of a pool, and the table of its steps and cuts.
+fn shared_with(pool: &Pool) -> Result<(Arc<Instance>, Arc<CutTable>), AllocError>
+    ensures problem { IfOk result (λ r. arc_value r.0 ≡ pool.now.problem) }
+    ensures table { IfOk result (λ r. ((arc_value r.1).problem ≡ pool.now.problem) × ((arc_value r.1).cuts ≡ pool.now.cuts)) }
+{
+    let problem = pool.instance().clone()?;
+    let table = pool.table().clone()?;
+    Ok((problem, table))
+}
+
 impl<N: Naming, R: Wait + Drop> LinearHub<N, R> {
     /// A hub for a pool, and its seats, each with its place as its number.
     ///
@@ -73,19 +107,18 @@ impl<N: Naming, R: Wait + Drop> LinearHub<N, R> {
         ensures of { IfOk result (λ r. All (λ s. s.pass.table_id ≡ r.0.turns.table.shared.table_id) r.1.items) }
         ensures new { IfOk result (λ r. AreNew (λ s. s.number) (λ s. s.calls) (λ s. view_of s.pass) r.1.items) }
     {
-        let problem = pool.instance().clone()?;
-        let table = pool.table().clone()?;
-        let desk = Desk::new(pool, writer);
-        let (turns, maker) = Turns::new(alloc, desk, seats)?;
-        let list = seats_of(alloc, &turns, maker, seats, readers)?;
-        Ok((
-            LinearHub {
-                turns,
-                problem,
-                table,
-            },
-            list,
-        ))
+        let (problem, table) = shared_with(&pool)?;
+        match turns_of(alloc, Desk::new(pool, writer), seats, readers) {
+            Ok((turns, list)) => Ok((
+                LinearHub {
+                    turns,
+                    problem,
+                    table,
+                },
+                list,
+            )),
+            Err(AllocError) => Err(AllocError),
+        }
     }
 
     /// What the first seat has seen, the second has seen too: both views begin one legal history. Takes no memory.

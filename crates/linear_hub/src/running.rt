@@ -44,8 +44,8 @@ pub fn search<R: Threads + Wait + Sync, G: Gate>(
     ensures led { IfOk result (IsLedTo pool) }
 {
     let numbers = pool.instance().places() + pool.table().count();
-    let (writer, readers) = board(rt, alloc, MAX_ROUNDS, workers, numbers)?;
     let decks = decks(alloc, workers)?;
+    let (writer, readers) = board(rt, alloc, MAX_ROUNDS, workers, numbers)?;
     search_as::<Brand, R, G>(rt, alloc, pool, decks, writer, readers, gate)
 }
 
