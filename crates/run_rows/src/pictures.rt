@@ -3,7 +3,7 @@
 use crate::runs::{ROOM, words_of};
 use crate::texts::Texts;
 use picture_runs::picture_run;
-use plan_io::{MemSink, SureShelf};
+use plan_io::MemSink;
 use std::alloc::Global;
 
 /// How many lines of this text have this part.
@@ -11,19 +11,34 @@ fn lines_with(text: &str, part: &str) -> usize {
     text.lines().filter(|line| line.contains(part)).count()
 }
 
-/// Draws what the words of this row name, and adds its name, the status, and how many lines have each of its parts.
-pub(crate) fn draw_row(alloc: Global, texts: &Texts, rest: &str, text: &mut String) -> Option<()> {
-    let (name, rest) = rest.split_once(' ')?;
-    let (parts, line) = rest.split_once(" : ")?;
-    let named = texts.named(alloc)?;
-    let words = words_of(alloc, line).ok()?;
-    let mut shelf = SureShelf::new(alloc, named.as_slice()).ok()?;
-    let mut sink = MemSink::new(alloc, ROOM, &[]).ok()?;
-    let status = picture_run(alloc, words.as_slice(), &mut shelf, &mut sink);
-    let picture = str::from_utf8(sink.bytes()).ok()?;
-    write!(text, "{name} {}\n", status.number()).ok()?;
+/// Adds the name of a run and its status, and how many lines of a picture have each of these parts.
+fn tell_picture(
+    name: &str,
+    parts: &str,
+    status: u8,
+    picture: &[u8],
+    text: &mut String,
+) -> Option<()> {
+    let picture = str::from_utf8(picture).ok()?;
+    write!(text, "{name} {status}\n").ok()?;
     for part in parts.split(',') {
         write!(text, "  {part} {}\n", lines_with(picture, part)).ok()?;
     }
     Some(())
+}
+
+/// The status of a run of these words over the texts, and the picture in the sink.
+fn drawn(alloc: Global, texts: &Texts, words: &[String], sink: &mut MemSink) -> Option<u8> {
+    let mut shelf = texts.shelf(alloc)?;
+    Some(picture_run(alloc, words, &mut shelf, sink).number())
+}
+
+/// Draws what the words of this row name, and adds its name, the status, and how many lines have each of its parts.
+pub(crate) fn draw_row(alloc: Global, texts: &Texts, rest: &str, text: &mut String) -> Option<()> {
+    let (name, rest) = rest.split_once(' ')?;
+    let (parts, line) = rest.split_once(" : ")?;
+    let words = words_of(alloc, line).ok()?;
+    let mut sink = MemSink::new(alloc, ROOM, &[]).ok()?;
+    let status = drawn(alloc, texts, words.as_slice(), &mut sink)?;
+    tell_picture(name, parts, status, sink.bytes(), text)
 }

@@ -22,7 +22,7 @@ pub(crate) fn words_of(alloc: Global, line: &str) -> Result<Vec<String>, AllocEr
 }
 
 /// The status of a run of the words of this line over a shelf and a sink. None where memory is wanting before it begins.
-pub(crate) fn status_of<R: Threads + Wait + Sync, S: Shelf, K: Sink, G: Gate>(
+fn status_of<R: Threads + Wait + Sync, S: Shelf, K: Sink, G: Gate>(
     rt: &R,
     alloc: Global,
     line: &str,
@@ -32,6 +32,19 @@ pub(crate) fn status_of<R: Threads + Wait + Sync, S: Shelf, K: Sink, G: Gate>(
 ) -> Option<u8> {
     let words = words_of(alloc, line).ok()?;
     Some(run(rt, alloc, words.as_slice(), shelf, sink, gate) as u8)
+}
+
+/// The status of a run of the words of this line over texts with names and a sink. None as `status_of`.
+fn status_over<R: Threads + Wait + Sync, G: Gate>(
+    rt: &R,
+    alloc: Global,
+    named: &[(&str, &[u8])],
+    line: &str,
+    sink: &mut MemSink,
+    gate: &G,
+) -> Option<u8> {
+    let mut shelf = SureShelf::new(alloc, named).ok()?;
+    status_of(rt, alloc, line, &mut shelf, sink, gate)
 }
 
 /// Adds this line where it begins with this word, or the word alone where that ends in `~`.
@@ -61,6 +74,31 @@ fn tell_lines(
     Some(())
 }
 
+/// The same, of what a sink took.
+fn tell_sink(
+    name: &str,
+    firsts: &str,
+    status: u8,
+    sink: &MemSink,
+    text: &mut String,
+) -> Option<()> {
+    let written = str::from_utf8(sink.bytes()).ok()?;
+    tell_lines(name, firsts, status, written, text)
+}
+
+/// The status of a run of the words of this line over texts with names, each call of which succeeds, and what it wrote.
+pub(crate) fn ended_over<R: Threads + Wait + Sync, G: Gate>(
+    rt: &R,
+    alloc: Global,
+    named: &[(&str, &[u8])],
+    line: &str,
+    gate: &G,
+) -> Option<(u8, MemSink)> {
+    let mut sink = MemSink::new(alloc, ROOM, &[]).ok()?;
+    let status = status_over(rt, alloc, named, line, &mut sink, gate)?;
+    Some((status, sink))
+}
+
 /// The status of a run of the words of this line over the texts, and what it wrote.
 fn ended<R: Threads + Wait + Sync, G: Gate>(
     rt: &R,
@@ -70,10 +108,22 @@ fn ended<R: Threads + Wait + Sync, G: Gate>(
     gate: &G,
 ) -> Option<(u8, MemSink)> {
     let named = texts.named(alloc)?;
-    let mut shelf = SureShelf::new(alloc, named.as_slice()).ok()?;
-    let mut sink = MemSink::new(alloc, ROOM, &[]).ok()?;
-    let status = status_of(rt, alloc, line, &mut shelf, &mut sink, gate)?;
-    Some((status, sink))
+    ended_over(rt, alloc, named.as_slice(), line, gate)
+}
+
+/// Adds what a run wrote to what is told and to the texts.
+fn keep_written(
+    alloc: Global,
+    texts: &mut Texts,
+    name: &str,
+    firsts: &str,
+    status: u8,
+    written: &[u8],
+    text: &mut String,
+) -> Option<()> {
+    let written = str::from_utf8(written).ok()?;
+    tell_lines(name, firsts, status, written, text)?;
+    texts.add(alloc, name, written)
 }
 
 /// Runs words over the texts, and adds what is written to them.
@@ -88,9 +138,7 @@ pub(crate) fn run_row<R: Threads + Wait + Sync, G: Gate>(
     let (name, rest) = rest.split_once(' ')?;
     let (firsts, line) = rest.split_once(" : ")?;
     let (status, sink) = ended(rt, alloc, texts, line, gate)?;
-    let written = str::from_utf8(sink.bytes()).ok()?;
-    tell_lines(name, firsts, status, written, text)?;
-    texts.add(alloc, name, written)
+    keep_written(alloc, texts, name, firsts, status, sink.bytes(), text)
 }
 
 /// The same, where the first two workers wait for each other, and adds whether they met.
@@ -120,6 +168,34 @@ fn failing(alloc: Global, word: &str) -> Option<Vec<u64>> {
     Some(calls)
 }
 
+/// A shelf of the texts of which this call fails.
+fn failing_shelf(alloc: Global, texts: &Texts, call: &str) -> Option<MemShelf> {
+    let calls = failing(alloc, call)?;
+    let named = texts.named(alloc)?;
+    MemShelf::new(alloc, named.as_slice(), calls.as_slice()).ok()
+}
+
+/// A sink of this room of which this call fails.
+fn failing_sink(alloc: Global, room: &str, call: &str) -> Option<MemSink> {
+    let room = room.parse::<usize>().ok()?;
+    let calls = failing(alloc, call)?;
+    MemSink::new(alloc, room, calls.as_slice()).ok()
+}
+
+/// Runs words over a shelf and a sink, and adds all that is written.
+fn tell_run<R: Threads + Wait + Sync>(
+    rt: &R,
+    alloc: Global,
+    shelf: &mut MemShelf,
+    sink: &mut MemSink,
+    name: &str,
+    line: &str,
+    text: &mut String,
+) -> Option<()> {
+    let status = status_of(rt, alloc, line, shelf, sink, &NoGate)?;
+    tell_sink(name, "*", status, sink, text)
+}
+
 /// Runs words where a call of the shelf and one of the sink fail, and the sink has this room.
 pub(crate) fn fails_row<R: Threads + Wait + Sync>(
     rt: &R,
@@ -132,15 +208,9 @@ pub(crate) fn fails_row<R: Threads + Wait + Sync>(
     let (shelf_call, rest) = rest.split_once(' ')?;
     let (sink_call, rest) = rest.split_once(' ')?;
     let (room, line) = rest.split_once(' ')?;
-    let named = texts.named(alloc)?;
-    let shelf_fails = failing(alloc, shelf_call)?;
-    let sink_fails = failing(alloc, sink_call)?;
-    let room = room.parse::<usize>().ok()?;
-    let mut shelf = MemShelf::new(alloc, named.as_slice(), shelf_fails.as_slice()).ok()?;
-    let mut sink = MemSink::new(alloc, room, sink_fails.as_slice()).ok()?;
-    let status = status_of(rt, alloc, line, &mut shelf, &mut sink, &NoGate)?;
-    let written = str::from_utf8(sink.bytes()).ok()?;
-    tell_lines(name, "*", status, written, text)
+    let mut shelf = failing_shelf(alloc, texts, shelf_call)?;
+    let mut sink = failing_sink(alloc, room, sink_call)?;
+    tell_run(rt, alloc, &mut shelf, &mut sink, name, line, text)
 }
 
 /// The status of a check of these texts.
@@ -151,9 +221,27 @@ fn checked<R: Threads + Wait + Sync>(
     model: &[u8],
 ) -> Option<u8> {
     let named = [("net", network), ("model", model)];
-    let mut shelf = SureShelf::new(alloc, &named).ok()?;
     let mut sink = MemSink::new(alloc, ROOM, &[]).ok()?;
-    status_of(rt, alloc, "check net model", &mut shelf, &mut sink, &NoGate)
+    status_over(rt, alloc, &named, "check net model", &mut sink, &NoGate)
+}
+
+/// Adds each status that `cuts_row` tells of, for this text and this model.
+fn tell_cuts<R: Threads + Wait + Sync>(
+    rt: &R,
+    alloc: Global,
+    base: &[u8],
+    model: &[u8],
+    text: &mut String,
+) -> Option<()> {
+    let mut last = None;
+    for count in 0..=base.len() {
+        let status = checked(rt, alloc, &base[..count], model)?;
+        if last != Some(status) {
+            write!(text, "  {status} from {count} on\n").ok()?;
+            last = Some(status);
+        }
+    }
+    Some(())
 }
 
 /// Checks a text cut after each count of bytes, and adds each status with the least of the counts in a row that give it.
@@ -169,15 +257,7 @@ pub(crate) fn cuts_row<R: Threads + Wait + Sync>(
     let base = texts.find(base)?.as_bytes();
     let model = texts.find(model)?.as_bytes();
     write!(text, "{name}\n").ok()?;
-    let mut last = None;
-    for count in 0..=base.len() {
-        let status = checked(rt, alloc, &base[..count], model)?;
-        if last != Some(status) {
-            write!(text, "  {status} from {count} on\n").ok()?;
-            last = Some(status);
-        }
-    }
-    Some(())
+    tell_cuts(rt, alloc, base, model, text)
 }
 
 /// Runs words over the files of the folder that the program runs in.

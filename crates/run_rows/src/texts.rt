@@ -1,5 +1,6 @@
 //! The texts that runs read.
 
+use plan_io::SureShelf;
 use std::alloc::Global;
 
 /// A text and its name.
@@ -95,5 +96,11 @@ impl Texts {
                 .ok()?;
         }
         Some(named)
+    }
+
+    /// A shelf of the texts, each call of which succeeds.
+    pub(crate) fn shelf(&self, alloc: Global) -> Option<SureShelf> {
+        let named = self.named(alloc)?;
+        SureShelf::new(alloc, named.as_slice()).ok()
     }
 }

@@ -1,12 +1,19 @@
 //! Plans that are verified, each in the version of its row and in that of `upgrade`.
 
-use crate::runs::{ROOM, status_of, words_of};
+use crate::runs::{ROOM, ended_over, words_of};
 use crate::texts::Texts;
 use plan_io::{MemSink, NoGate, SureShelf};
 use std::alloc::Global;
 use std::sync::Wait;
 use std::thread::Threads;
 use text_runs::verify_run;
+
+/// The status of the verifier alone of texts with names, and its line in the sink.
+fn verified(alloc: Global, named: &[(&str, &[u8])], sink: &mut MemSink) -> Option<u8> {
+    let words = words_of(alloc, "net model plan").ok()?;
+    let mut shelf = SureShelf::new(alloc, named).ok()?;
+    Some(verify_run(alloc, words.as_slice(), &mut shelf, sink) as u8)
+}
 
 /// Whether the verifier alone ends with this status and writes this line of a network, a model and a plan.
 fn ends_so<'a>(
@@ -18,19 +25,55 @@ fn ends_so<'a>(
     line: &[u8],
 ) -> Option<bool> {
     let named = [("net", network), ("model", model), ("plan", plan)];
-    let words = words_of(alloc, "net model plan").ok()?;
-    let mut shelf = SureShelf::new(alloc, &named).ok()?;
     let mut alone = MemSink::new(alloc, ROOM, &[]).ok()?;
-    let ended = verify_run(alloc, words.as_slice(), &mut shelf, &mut alone);
-    Some(ended as u8 == status && alone.bytes() == line)
+    let ended = verified(alloc, &named, &mut alone)?;
+    Some(ended == status && alone.bytes() == line)
 }
 
 /// The text that `upgrade` writes of this plan, None where it ends otherwise.
 fn upgraded<R: Threads + Wait + Sync>(rt: &R, alloc: Global, plan: &[u8]) -> Option<MemSink> {
-    let mut shelf = SureShelf::new(alloc, &[("plan", plan)]).ok()?;
-    let mut sink = MemSink::new(alloc, ROOM, &[]).ok()?;
-    let status = status_of(rt, alloc, "upgrade plan", &mut shelf, &mut sink, &NoGate)?;
+    let (status, sink) = ended_over(rt, alloc, &[("plan", plan)], "upgrade plan", &NoGate)?;
     if status == 0 { Some(sink) } else { None }
+}
+
+/// Whether the verifier alone ends with this status and writes this line, also of the text that `upgrade` writes of a plan
+/// that is accepted or rejected.
+fn ends_so_twice<'a, R: Threads + Wait + Sync>(
+    rt: &R,
+    alloc: Global,
+    network: &'a [u8],
+    model: &'a [u8],
+    plan: &'a [u8],
+    status: u8,
+    line: &[u8],
+) -> Option<bool> {
+    if !ends_so(alloc, network, model, plan, status, line)? {
+        return Some(false);
+    }
+    if status != 0 && status != 12 {
+        return Some(true);
+    }
+    let second = upgraded(rt, alloc, plan)?;
+    ends_so(alloc, network, model, second.bytes(), status, line)
+}
+
+/// Adds the name of a row, the status and the line of a verified plan. None as `plan_row`.
+fn tell_verified<'a, R: Threads + Wait + Sync>(
+    rt: &R,
+    alloc: Global,
+    network: &'a [u8],
+    model: &'a [u8],
+    plan: &'a [u8],
+    name: &str,
+    status: u8,
+    line: &[u8],
+    text: &mut String,
+) -> Option<()> {
+    if !ends_so_twice(rt, alloc, network, model, plan, status, line)? {
+        return None;
+    }
+    let line = str::from_utf8(line).ok()?;
+    write!(text, "{name} {status} {line}").ok()
 }
 
 /// Verifies a plan of a network and a model through the top call, and adds the name of the row, the status and the line.
@@ -48,32 +91,20 @@ pub(crate) fn plan_row<R: Threads + Wait + Sync>(
     let (network, model) = rest.split_once(' ')?;
     let network = texts.find(network)?.as_bytes();
     let model = texts.find(model)?.as_bytes();
-    let named = [
-        ("net", network),
-        ("model", model),
-        ("plan", plan.as_bytes()),
-    ];
-    let mut shelf = SureShelf::new(alloc, &named).ok()?;
-    let mut sink = MemSink::new(alloc, ROOM, &[]).ok()?;
-    let status = status_of(
+    let plan = plan.as_bytes();
+    let named = [("net", network), ("model", model), ("plan", plan)];
+    let (status, sink) = ended_over(rt, alloc, &named, "verify net model plan", &NoGate)?;
+    tell_verified(
         rt,
         alloc,
-        "verify net model plan",
-        &mut shelf,
-        &mut sink,
-        &NoGate,
-    )?;
-    if !ends_so(alloc, network, model, plan.as_bytes(), status, sink.bytes())? {
-        return None;
-    }
-    if status == 0 || status == 12 {
-        let second = upgraded(rt, alloc, plan.as_bytes())?;
-        if !ends_so(alloc, network, model, second.bytes(), status, sink.bytes())? {
-            return None;
-        }
-    }
-    let line = str::from_utf8(sink.bytes()).ok()?;
-    write!(text, "{name} {status} {line}").ok()
+        network,
+        model,
+        plan,
+        name,
+        status,
+        sink.bytes(),
+        text,
+    )
 }
 
 /// Verifies a plan of a network and a model that is like the text of a base: of each two lines the second one stands in the
