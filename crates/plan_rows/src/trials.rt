@@ -102,6 +102,28 @@ fn read_plan_again<R: Threads + Wait + Sync>(
     Ok(())
 }
 
+/// Has a plan verified that a run with this budget wrote, which ended so. Gives what the plan tells.
+fn known_of<R: Threads + Wait + Sync>(
+    rt: &R,
+    alloc: Global,
+    texts: &Texts,
+    budget: u32,
+    status: Status,
+    plan: &[u8],
+) -> Result<Known> {
+    let plan = str::from_utf8(plan)?;
+    let claim = claim_of(plan)?;
+    ensure!(status == claim.ends_with()?, "another status");
+    ensure!(claim.budget == budget, "another budget");
+    ensure!(claim.keeps_budget(), "examined: {}", claim.examined);
+    ensure!(
+        plan.starts_with(claim.known.first_line()),
+        "another version"
+    );
+    read_plan_again(rt, alloc, texts, plan, &claim)?;
+    Ok(claim.known)
+}
+
 /// Plans a network with so many workers and this budget, and has the plan verified. Gives what the plan tells.
 pub(crate) fn plan_within<R: Threads + Wait + Sync>(
     rt: &R,
@@ -116,15 +138,5 @@ pub(crate) fn plan_within<R: Threads + Wait + Sync>(
     ];
     let line = format!(in alloc; "plan net model --workers {workers} --nodes {budget}")?;
     let (status, out) = ends(rt, alloc, line.as_str(), &named, PLAN_ROOM)?;
-    let plan = str::from_utf8(out.bytes())?;
-    let claim = claim_of(plan)?;
-    ensure!(status == claim.ends_with()?, "another status");
-    ensure!(claim.budget == budget, "another budget");
-    ensure!(claim.keeps_budget(), "examined: {}", claim.examined);
-    ensure!(
-        plan.starts_with(claim.known.first_line()),
-        "another version"
-    );
-    read_plan_again(rt, alloc, texts, plan, &claim)?;
-    Ok(claim.known)
+    known_of(rt, alloc, texts, budget, status, out.bytes())
 }
