@@ -1,5 +1,5 @@
 -- Loads times least prices, demand by demand.
-use Rattle.std.proofs.Common.{◌≡◌, ℕ, zero, suc, ◌+◌, ◌*◌, ◌/◌, ◌<◌, ◌≤◌, ◌⊎◌, inl, inr, max, List, length, take, slice_index_or, Option, None, refl, sym, subst, ◌∙◌, arith, add-one}
+use Rattle.std.proofs.Common.{◌≡◌, ℕ, zero, suc, ◌+◌, ◌*◌, ◌/◌, ◌<◌, ◌≤◌, ◌⊎◌, inl, inr, max, List, length, take, slice_index_or, Option, Some, None, refl, sym, subst, ◌∙◌, arith, add-one}
 use Rattle.std.specs.List.{sum_by}
 use Rattle.std.proofs.Math.Nat.{mul-le-mul_left, div-mul-le_self}
 use Rattle.std.proofs.lemmas.Nat.{le-div}
@@ -85,6 +85,15 @@ priced_next p r prices n total price within priced is small =
 -- the loads of the first demands times their least prices add up to at most 511 times MAX_PRICED_LOAD
 pub priced-within : (p : Parts) (r : Forbidden) (prices : List ℕ) (n total : ℕ) → n ≤ length p.demands → ArePriced p r prices n total → total ≤ 511 * MAX_PRICED_LOAD
 priced-within p r prices n total within priced = omega (arith, priced.small, whole-le p n within)
+
+-- the load of the next demand times the price that is found of it adds to those before it, and the sum stays small
+pub next_priced : (p : Parts) (r : Forbidden) (prices : List ℕ) (found : List (Option ℕ)) (n total load price : ℕ) (item : Option ℕ)
+    → load ≡ (demand_at p n).load → n < length p.demands → ArePricesOf p r prices found → item ≡ slice_index_or found n item → item ≡ Some price
+    → ArePriced p r prices n total → ArePriced p r prices (n + 1) (total + load * price) × (total + load * price ≤ 511 * MAX_PRICED_LOAD)
+next_priced p r prices found n total load price item load_is within are read is priced =
+    let here = price_at p r prices found n item (Some price) are within read is in
+    let next = priced_next p r prices n total price within priced here.is_least here.is_small in
+    rw load_is (next, priced-within p r prices (n + 1) (total + (demand_at p n).load * price) (omega (arith, within)) next)
 
 -- the loads of all demands times their least prices add up to the price total
 pub priced_all : (p : Parts) (r : Forbidden) (prices : List ℕ) (total : ℕ) → ArePriced p r prices (length p.demands) total → IsPriceTotal p r prices total

@@ -1,8 +1,7 @@
-use Rattle.std.proofs.Common.{◌≡◌, ℕ, ◌+◌, ◌*◌, ◌<◌, length, Some, None, ap, subst, arith, rules}
+use Rattle.std.proofs.Common.{◌≡◌, ℕ, ◌<◌, length, None, ap, subst, arith, rules}
 use Rattle.plan_base.specs.declared.parts.Demand.{Demand}
-use Rattle.plan_base.specs.Arcs.{demand_at}
 use Rattle.verifier_paths.specs.Kept.{forbidden_by}
-use Rattle.cert_verifier.proofs.PriceTotals.{ArePriced, price_at, priced_none, priced_next, priced-within, priced_all}
+use Rattle.cert_verifier.proofs.PriceTotals.{ArePriced, price_at, priced_none, next_priced, priced-within, priced_all}
 use Rattle.cert_verifier.proofs.bounds.price_total.Goals as goal
 
 pub loop-place-init : goal.loop-place-init
@@ -10,27 +9,15 @@ loop-place-init c = priced_none c.args.inst.now (forbidden_by c.args.forbidden.n
 
 pub overflow_mul-total : goal.overflow_mul-total
 overflow_mul-total c =
-    let p = c.args.inst.now in
-    let r = forbidden_by c.args.forbidden.now in
-    let place = c.loop-place.place in
-    let load : c.demand.result.now.load ≡ (demand_at p place).load = ap (λ (k : Demand). k.load) c.demand.ensures.value in
-    let here : place < length p.demands = omega arith in
-    let priced = price_at p r c.args.prices.now c.in_ok-found.found.items place c.index.result.now (Some c.in-Some.price) c.in_ok-found.ensures here c.index.ensures c.in-Some.is in
-    let next = priced_next p r c.args.prices.now place c.loop-place.total c.in-Some.price here c.loop-place.invariant priced.is_least priced.is_small in
-    let within = priced-within p r c.args.prices.now (place + 1) (c.loop-place.total + (demand_at p place).load * c.in-Some.price) (omega (arith, here)) next in
-    rw load (omega (arith, within))
+    let next = next_priced c.args.inst.now (forbidden_by c.args.forbidden.now) c.args.prices.now c.in_ok-found.found.items c.loop-place.place c.loop-place.total c.demand.result.now.load
+    c.in-Some.price c.index.result.now (ap (λ (k : Demand). k.load) c.demand.ensures.value) (omega arith) c.in_ok-found.ensures c.index.ensures c.in-Some.is c.loop-place.invariant in
+    omega (arith, next.1)
 
 pub overflow_add-total : goal.overflow_add-total
 overflow_add-total c =
-    let p = c.args.inst.now in
-    let r = forbidden_by c.args.forbidden.now in
-    let place = c.loop-place.place in
-    let load : c.demand.result.now.load ≡ (demand_at p place).load = ap (λ (k : Demand). k.load) c.demand.ensures.value in
-    let here : place < length p.demands = omega arith in
-    let priced = price_at p r c.args.prices.now c.in_ok-found.found.items place c.index.result.now (Some c.in-Some.price) c.in_ok-found.ensures here c.index.ensures c.in-Some.is in
-    let next = priced_next p r c.args.prices.now place c.loop-place.total c.in-Some.price here c.loop-place.invariant priced.is_least priced.is_small in
-    let within = priced-within p r c.args.prices.now (place + 1) (c.loop-place.total + (demand_at p place).load * c.in-Some.price) (omega (arith, here)) next in
-    rw load (omega (arith, within))
+    let next = next_priced c.args.inst.now (forbidden_by c.args.forbidden.now) c.args.prices.now c.in_ok-found.found.items c.loop-place.place c.loop-place.total c.demand.result.now.load
+    c.in-Some.price c.index.result.now (ap (λ (k : Demand). k.load) c.demand.ensures.value) (omega arith) c.in_ok-found.ensures c.index.ensures c.in-Some.is c.loop-place.invariant in
+    omega (arith, next.1)
 
 pub returns-in-None-clause-none : goal.returns-in-None-clause-none
 returns-in-None-clause-none c = λ have.
@@ -41,13 +28,9 @@ returns-in-None-clause-none c = λ have.
 
 pub loop-place-preserved : goal.loop-place-preserved
 loop-place-preserved c =
-    let p = c.args.inst.now in
-    let r = forbidden_by c.args.forbidden.now in
-    let place = c.loop-place.place in
-    let load : c.demand.result.now.load ≡ (demand_at p place).load = ap (λ (k : Demand). k.load) c.demand.ensures.value in
-    let here : place < length p.demands = omega arith in
-    let priced = price_at p r c.args.prices.now c.in_ok-found.found.items place c.index.result.now (Some c.in-Some.price) c.in_ok-found.ensures here c.index.ensures c.in-Some.is in
-    rw load (priced_next p r c.args.prices.now place c.loop-place.total c.in-Some.price here c.loop-place.invariant priced.is_least priced.is_small)
+    let next = next_priced c.args.inst.now (forbidden_by c.args.forbidden.now) c.args.prices.now c.in_ok-found.found.items c.loop-place.place c.loop-place.total c.demand.result.now.load
+    c.in-Some.price c.index.result.now (ap (λ (k : Demand). k.load) c.demand.ensures.value) (omega arith) c.in_ok-found.ensures c.index.ensures c.in-Some.is c.loop-place.invariant in
+    next.0
 
 pub returns-clause-total : goal.returns-clause-total
 returns-clause-total c =
