@@ -4,11 +4,13 @@ use Rattle.plan_base.specs.declared.ids.ArcId.{ArcId}
 use Rattle.plan_base.specs.declared.ids.LinkId.{LinkId}
 use Rattle.plan_base.specs.declared.parts.Parts.{Parts}
 use Rattle.plan_base.specs.declared.path.Design.{Design}
+use Rattle.plan_base.specs.declared.limits.TheConstants.{MAX_PLACES}
+use Rattle.plan_base.specs.Facts.{IsInstance}
 use Rattle.plan_base.specs.Arcs.{demand_at}
 use Rattle.plan_base.specs.Places.{places, there_of, back_of}
 use Rattle.plan_base.specs.Designs.{path_at, load_at, need, KeepsLimit, KeepsLimits}
 use Rattle.plan_base.proofs.SumsBelow.{sum_below-same}
-use Rattle.plan_base.proofs.PlaceSums.{there-same, back-same}
+use Rattle.plan_base.proofs.PlaceSums.{there-same, back-same, places-few}
 use Rattle.link_steps.specs.Costs.{Carries, CannotCarry, IsLeastModuleCost, IsStepCost}
 use Rattle.link_steps.specs.Ranges.{range_there, range_back, IsIn}
 use Rattle.arc_restrict.specs.Restrictions.{Forbidden}
@@ -16,12 +18,17 @@ use Rattle.proof_tree.specs.Regions.{Region, AreInRange}
 use Rattle.proof_tree.specs.Evidence.{AreOnlyPaths, CostEnough, ClosedByOverfull}
 use Rattle.verifier_paths.specs.OnlyPaths.{HavePaths, HasSecond}
 use Rattle.cert_verifier.specs.LeafRules.{HaveOnlyPaths, CanCarryAll}
-use Rattle.cert_verifier.specs.Routings.{needed, IsCostOfLoads, HasOverfull, AreLoadsInRange, IsOverloaded}
+use Rattle.cert_verifier.specs.Routings.{bare_design, needed, IsCostOfLoads, HasOverfull, AreLoadsInRange, IsOverloaded}
 use Rattle.cert_verifier.proofs.OnlyLoads.{only_there, only_back, only_need}
 
 -- these loads are those of the design
 abbrev pub AreLoadsOf : Parts → Design → List ℕ → Type 0
 AreLoadsOf p d loads = (q : ℕ) → q < places p → slice_index loads q ≡ load_at p d q
+
+-- loads that are found of paths for each place there may be are those of the design of these paths
+pub loads_are : (p : Parts) (paths : List (List ArcId)) (loads : List ℕ) → IsInstance p → ((q : ℕ) → q < MAX_PLACES → slice_index loads q ≡ load_at p (bare_design paths) q)
+    → AreLoadsOf p (bare_design paths) loads
+loads_are p paths loads inst found = λ q below. let few : places p ≤ MAX_PLACES = places-few p inst in found q (omega (arith, below, few))
 
 there_is : (p : Parts) (d : Design) (loads : List ℕ) (e : ℕ) → e < length p.links → AreLoadsOf p d loads → there_of p (slice_index loads) e ≡ there_of p (load_at p d) e
 there_is p d loads e within are_loads = there-same p (slice_index loads) (load_at p d) e within are_loads

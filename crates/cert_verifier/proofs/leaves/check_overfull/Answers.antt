@@ -1,11 +1,8 @@
-use Rattle.std.proofs.Common.{◌≡◌, inl, inr, refl, true, false, ◌<◌, ◌≤◌, length, arith, rules}
-use Rattle.plan_base.specs.declared.limits.TheConstants.{MAX_PLACES}
-use Rattle.plan_base.specs.Places.{places}
-use Rattle.plan_base.proofs.PlaceSums.{places-few}
+use Rattle.std.proofs.Common.{◌≡◌, inl, inr, refl, true, false, ◌<◌, length, arith, rules}
 use Rattle.cert_verifier.specs.LeafRules.{LeafFinds}
 use Rattle.cert_verifier.specs.Walks.{region_of_marks}
 use Rattle.cert_verifier.specs.Routings.{bare_design}
-use Rattle.cert_verifier.proofs.RoutingLaws.{AreLoadsOf, not_only_paths}
+use Rattle.cert_verifier.proofs.RoutingLaws.{loads_are, not_only_paths}
 use Rattle.cert_verifier.proofs.LeafFindings.{not_so, overfull_outside, overfull_decided}
 use Rattle.cert_verifier.proofs.leaves.check_overfull.Goals as goal
 
@@ -35,8 +32,7 @@ returns-then-not-are_in_range c = λ differs.
     let at = c.args.at.now in
     let loads = c.loads_of_paths-loads.result in
     let only = rw c.in-Only.is at c.in_ok-only_paths.ensures.left in
-    let few : places at.inst.now ≤ MAX_PLACES = places-few at.inst.now c.links.ensures.lawful in
-    let are_loads : AreLoadsOf at.inst.now (bare_design c.in-Only.paths) loads = λ q below. c.loads_of_paths-loads.ensures.value q (omega (arith, below, few)) in
+    let are_loads = loads_are at.inst.now c.in-Only.paths loads c.links.ensures.lawful c.loads_of_paths-loads.ensures.value in
     let fails : c.are_in_range.result ≡ false = search rules in
     overfull_outside at.inst.now at.cuts.now at.cost (region_of_marks at.forbidden.now at.ranges.now) at.index c.args.link (bare_design c.in-Only.paths) loads (omega arith) only.1 are_loads (not_so c.are_in_range.result _ c.are_in_range.ensures fails)
 
@@ -45,8 +41,7 @@ returns-else-not-are_in_range c = λ differs.
     let at = c.args.at.now in
     let loads = c.loads_of_paths-loads.result in
     let only = rw c.in-Only.is at c.in_ok-only_paths.ensures.left in
-    let few : places at.inst.now ≤ MAX_PLACES = places-few at.inst.now c.links.ensures.lawful in
-    let are_loads : AreLoadsOf at.inst.now (bare_design c.in-Only.paths) loads = λ q below. c.loads_of_paths-loads.ensures.value q (omega (arith, below, few)) in
+    let are_loads = loads_are at.inst.now c.in-Only.paths loads c.links.ensures.lawful c.loads_of_paths-loads.ensures.value in
     let holds : c.are_in_range.result ≡ true = search rules in
     overfull_decided at.inst.now at.cuts.now at.cost (region_of_marks at.forbidden.now at.ranges.now) at.index c.args.link (bare_design c.in-Only.paths) loads c.cannot_carry.result _ (omega arith) only.1 are_loads (c.are_in_range.ensures.0 holds) c.cannot_carry.ensures
     c.holds_or.ensures.ok c.holds_or.ensures.broken

@@ -1,11 +1,8 @@
-use Rattle.std.proofs.Common.{inl, inr, refl, ◌≤◌, arith}
-use Rattle.plan_base.specs.declared.limits.TheConstants.{MAX_PLACES}
-use Rattle.plan_base.specs.Places.{places}
-use Rattle.plan_base.proofs.PlaceSums.{places-few}
+use Rattle.std.proofs.Common.{inl, inr, refl}
 use Rattle.cert_verifier.specs.LeafRules.{LeafFinds}
 use Rattle.cert_verifier.specs.Walks.{region_of_marks}
 use Rattle.cert_verifier.specs.Routings.{bare_design}
-use Rattle.cert_verifier.proofs.RoutingLaws.{AreLoadsOf, not_only_paths}
+use Rattle.cert_verifier.proofs.RoutingLaws.{loads_are, not_only_paths}
 use Rattle.cert_verifier.proofs.LeafFindings.{routed_overfull, routed_decided}
 use Rattle.cert_verifier.proofs.leaves.check_routed.Goals as goal
 
@@ -26,8 +23,7 @@ returns-in-Some c = λ differs.
     let at = c.args.at.now in
     let loads = c.loads_of_paths-loads.result in
     let only = rw c.in-Only.is at c.in_ok-only_paths.ensures.left in
-    let few : places at.inst.now ≤ MAX_PLACES = places-few at.inst.now c.lawful.ensures in
-    let are_loads : AreLoadsOf at.inst.now (bare_design c.in-Only.paths) loads = λ q below. c.loads_of_paths-loads.ensures.value q (omega (arith, below, few)) in
+    let are_loads = loads_are at.inst.now c.in-Only.paths loads c.lawful.ensures c.loads_of_paths-loads.ensures.value in
     routed_decided at.inst.now at.cuts.now at.cost (region_of_marks at.forbidden.now at.ranges.now) at.index (bare_design c.in-Only.paths) loads c.in-Some.total c.costs_enough.result c.are_within-within.result _ only.1 are_loads c.in-Some.ensures.cost
     c.costs_enough.ensures c.are_within-within.ensures c.routing_or.ensures.ok c.routing_or.ensures.cheap c.routing_or.ensures.long
 
@@ -36,6 +32,5 @@ returns-in-None c = λ differs.
     let at = c.args.at.now in
     let loads = c.loads_of_paths-loads.result in
     let only = rw c.in-Only.is at c.in_ok-only_paths.ensures.left in
-    let few : places at.inst.now ≤ MAX_PLACES = places-few at.inst.now c.lawful.ensures in
-    let are_loads : AreLoadsOf at.inst.now (bare_design c.in-Only.paths) loads = λ q below. c.loads_of_paths-loads.ensures.value q (omega (arith, below, few)) in
+    let are_loads = loads_are at.inst.now c.in-Only.paths loads c.lawful.ensures c.loads_of_paths-loads.ensures.value in
     rw c.broken-in-None.ensures (routed_overfull at.inst.now at.cuts.now at.cost (region_of_marks at.forbidden.now at.ranges.now) at.index (bare_design c.in-Only.paths) loads only.1 are_loads c.in-None.ensures.none)
