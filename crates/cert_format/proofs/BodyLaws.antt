@@ -297,20 +297,25 @@ two-ways false x o s e = inr e
 told : {A : Type 0} (print : A → List ℕ) (body : List ℕ) (one s : A) → bytes_eq body (print one) ≡ true → one ≡ s → body ≡ print s
 told print body one s t is = (bytes_eq-Decides body (print one)).0 t ∙ ap print is
 
--- bytes that are read as a version are the first line of this version
-pub form_takes : (body : List ℕ) (form : Form) → form_of body ≡ Some form → body ≡ header_line form
-unfolding form_of
-form_takes body form e =
-    elim (two-ways (bytes_eq body (header_line First)) First (cond (bytes_eq body (header_line Second)) (Some Second) (cond (bytes_eq body (header_line Third)) (Some Third) None)) form e) [
-      | inl (t, is) ↦ told header_line body First form t is
-      | inr f ↦ elim (two-ways (bytes_eq body (header_line Second)) Second (cond (bytes_eq body (header_line Third)) (Some Third) None) form f) [
-        | inl (t, is) ↦ told header_line body Second form t is
-        | inr g ↦ elim (two-ways (bytes_eq body (header_line Third)) Third None form g) [
-          | inl (t, is) ↦ told header_line body Third form t is
+-- bytes that are the print of one of three values, the first that fits, are that of the value that is found
+three-ways : {A : Type 0} (print : A → List ℕ) (body : List ℕ) (a b c s : A)
+    → cond (bytes_eq body (print a)) (Some a) (cond (bytes_eq body (print b)) (Some b) (cond (bytes_eq body (print c)) (Some c) None)) ≡ Some s → body ≡ print s
+three-ways print body a b c s e =
+    elim (two-ways (bytes_eq body (print a)) a (cond (bytes_eq body (print b)) (Some b) (cond (bytes_eq body (print c)) (Some c) None)) s e) [
+      | inl (t, is) ↦ told print body a s t is
+      | inr f ↦ elim (two-ways (bytes_eq body (print b)) b (cond (bytes_eq body (print c)) (Some c) None) s f) [
+        | inl (t, is) ↦ told print body b s t is
+        | inr g ↦ elim (two-ways (bytes_eq body (print c)) c None s g) [
+          | inl (t, is) ↦ told print body c s t is
           | inr h ↦ absurd cc
         ]
       ]
     ]
+
+-- bytes that are read as a version are the first line of this version
+pub form_takes : (body : List ℕ) (form : Form) → form_of body ≡ Some form → body ≡ header_line form
+unfolding form_of
+form_takes body form e = three-ways header_line body First Second Third form e
 
 -- the first line of a version is read as this version
 pub form_again : (form : Form) → form_of (header_line form) ≡ Some form
@@ -322,17 +327,7 @@ form_again Third = refl
 -- bytes that are read as a status are the line of this status
 pub status_takes : (body : List ℕ) (s : PlanStatus) → status_of body ≡ Some s → body ≡ status_line s
 unfolding status_of
-status_takes body s e =
-    elim (two-ways (bytes_eq body (status_line Optimal)) Optimal (cond (bytes_eq body (status_line Infeasible)) (Some Infeasible) (cond (bytes_eq body (status_line Undecided)) (Some Undecided) None)) s e) [
-      | inl (t, is) ↦ told status_line body Optimal s t is
-      | inr f ↦ elim (two-ways (bytes_eq body (status_line Infeasible)) Infeasible (cond (bytes_eq body (status_line Undecided)) (Some Undecided) None) s f) [
-        | inl (t, is) ↦ told status_line body Infeasible s t is
-        | inr g ↦ elim (two-ways (bytes_eq body (status_line Undecided)) Undecided None s g) [
-          | inl (t, is) ↦ told status_line body Undecided s t is
-          | inr h ↦ absurd cc
-        ]
-      ]
-    ]
+status_takes body s e = three-ways status_line body Optimal Infeasible Undecided s e
 
 -- the line of a status is read as this status
 pub status_again : (s : PlanStatus) → status_of (status_line s) ≡ Some s
