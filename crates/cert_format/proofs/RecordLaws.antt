@@ -453,27 +453,16 @@ leaf_again nodes links (Far demand) small fits fields = ap (option_map far_with)
 leaf_again nodes links (Crowd ps) small fits fields = ap (option_map (λ prices. Crowd prices)) (prices-again links ps fits fields)
 leaf_again nodes links (Open ps) small fits fields = ap (option_map (λ prices. Open prices)) (prices-again links ps fits fields)
 
--- a leaf's line is no load split's
-no-loads : (e : Evidence) → behind (codes "LOADS") (leaf_line e) ≡ None
+-- a leaf's line is no split's, and no load split's
+no-split : (e : Evidence) → (behind (codes "SPLIT") (leaf_line e) ≡ None) × (behind (codes "LOADS") (leaf_line e) ≡ None)
 unfolding behind leaf_line
-no-loads (Bound ps) = refl
-no-loads Routed = refl
-no-loads (Overfull link) = refl
-no-loads (Cut demand reached) = refl
-no-loads (Far demand) = refl
-no-loads (Crowd ps) = refl
-no-loads (Open ps) = refl
-
--- and no split's
-no-split : (e : Evidence) → behind (codes "SPLIT") (leaf_line e) ≡ None
-unfolding behind leaf_line
-no-split (Bound ps) = refl
-no-split Routed = refl
-no-split (Overfull link) = refl
-no-split (Cut demand reached) = refl
-no-split (Far demand) = refl
-no-split (Crowd ps) = refl
-no-split (Open ps) = refl
+no-split (Bound ps) = (refl, refl)
+no-split Routed = (refl, refl)
+no-split (Overfull link) = (refl, refl)
+no-split (Cut demand reached) = (refl, refl)
+no-split (Far demand) = (refl, refl)
+no-split (Crowd ps) = (refl, refl)
+no-split (Open ps) = (refl, refl)
 
 -- numbers below 2^128 followed by such numbers are all below 2^128
 pub small_append : (xs ys : List ℕ) → AreSmall xs → AreSmall ys → AreSmall (xs ++ ys)
@@ -510,6 +499,6 @@ record_again nodes links (Loads place load) small fits fields =
     ∙ ap (λ o. choose o (λ rest. numbers_of rest >>= loads_in) (from_leaf nodes links (row (codes "LOADS") ns))) (behind_found (codes "LOADS") (numerals ns))
     ∙ loads-again place load fields.0 fields.1
 record_again nodes links (Leaf e) small fits fields =
-    ap (λ o. choose o (λ rest. numbers_of rest >>= split_in) (from_loads nodes links (leaf_line e))) (no-split e)
-    ∙ ap (λ o. choose o (λ rest. numbers_of rest >>= loads_in) (from_leaf nodes links (leaf_line e))) (no-loads e)
+    ap (λ o. choose o (λ rest. numbers_of rest >>= split_in) (from_loads nodes links (leaf_line e))) (no-split e).0
+    ∙ ap (λ o. choose o (λ rest. numbers_of rest >>= loads_in) (from_leaf nodes links (leaf_line e))) (no-split e).1
     ∙ ap (option_map (λ (evidence : Evidence). Leaf evidence)) (leaf_again nodes links e small fits fields)
