@@ -376,21 +376,6 @@ fn add_figures(looks: &mut [LinkLook], links: &[Span], spots: &[Spot], canvas: &
     }
 }
 
-/// How links bend, the places of their names and figures, and how wide they are drawn.
-fn link_looks(
-    alloc: Global,
-    links: &[Span],
-    spots: &[Spot],
-    bends: &[Spot],
-    canvas: &mut Canvas,
-) -> Result<Vec<LinkLook>, AllocError>
-    ensures { IfOk result (λ looks. length looks.items ≡ length links.now) }
-{
-    let mut looks = named_looks(alloc, links, spots, bends, canvas)?;
-    add_figures(looks.as_mut_slice(), links, spots, canvas);
-    Ok(looks)
-}
-
 /// Where the marks of a network stand: nodes at their coordinates, or on a circle where one has none or all stand on one
 /// line from west to east or from south to north; names where they cover least of what is drawn before them; figures
 /// where they cover no name and no node.
@@ -414,13 +399,19 @@ pub fn looks_of(
     cover_links(&mut canvas, links, spots.as_slice(), bends.as_slice());
     cover_nodes(&mut canvas, spots.as_slice());
     let node_looks = node_looks(alloc, nodes, spots.as_slice(), &mut canvas)?;
-    let link_looks = link_looks(
+    let mut link_looks = named_looks(
         alloc,
         links,
         spots.as_slice(),
         bends.as_slice(),
         &mut canvas,
     )?;
+    add_figures(
+        link_looks.as_mut_slice(),
+        links,
+        spots.as_slice(),
+        &mut canvas,
+    );
     Ok(Looks {
         nodes: Items::from_vec(node_looks),
         links: Items::from_vec(link_looks),
