@@ -6,16 +6,20 @@ use Rattle.std.proofs.lemmas.List.{append-nil, drop_more, length-drop}
 use Rattle.cert_format.specs.Bodies.{only_if, choose, behind_number, flags_of, ascends}
 use Rattle.plan_words.proofs.NumberWords.{with_front, fronts}
 
+-- a flag of this node, and those of the nodes behind it
+step-on : (front : List Bool) (flag : Bool) (at left less : ℕ) (ns : List ℕ) → left ≡ less → with_front front (option_map (λ flags. flag ∷ flags) (flags_of (suc at) left ns)) ≡ with_front (front ++ flag ∷ []) (flags_of (at + 1) less ns)
+step-on front flag at left less ns same =
+    let next : suc at ≡ at + 1 = omega arith in
+    fronts front flag (flags_of (suc at) left ns)
+    ∙ ap (λ k. with_front (front ++ flag ∷ []) (flags_of k left ns)) next
+    ∙ ap (λ k. with_front (front ++ flag ∷ []) (flags_of (at + 1) k ns)) same
+
 step-in : (front : List Bool) (at left less : ℕ) (ns rest : List ℕ) → Some rest ≡ behind_number at ns → left ≡ suc less → with_front front (flags_of at left ns) ≡ with_front (front ++ true ∷ []) (flags_of (at + 1) less rest)
 unfolding flags_of
 step-in front at zero less ns rest e is = absurd (omega arith)
 step-in front at (suc left) less ns rest e is =
-    let same : left ≡ less = omega arith in
-    let next : suc at ≡ at + 1 = omega arith in
     ap (λ o. with_front front (choose o (λ rest. option_map (λ flags. true ∷ flags) (flags_of (suc at) left rest)) (option_map (λ flags. false ∷ flags) (flags_of (suc at) left ns)))) (sym e)
-    ∙ fronts front true (flags_of (suc at) left rest)
-    ∙ ap (λ k. with_front (front ++ true ∷ []) (flags_of k left rest)) next
-    ∙ ap (λ k. with_front (front ++ true ∷ []) (flags_of (at + 1) k rest)) same
+    ∙ step-on front true at left less rest (omega arith)
 
 -- the node is in the list
 pub flags_in : (front : List Bool) (at nodes : ℕ) (ns rest : List ℕ) → at < nodes → Some rest ≡ behind_number at ns → with_front front (flags_of at (nodes - at) ns) ≡ with_front (front ++ true ∷ []) (flags_of (at + 1) (nodes - (at + 1)) rest)
@@ -25,12 +29,8 @@ step-out : (front : List Bool) (at left less : ℕ) (ns : List ℕ) → None ≡
 unfolding flags_of
 step-out front at zero less ns e is = absurd (omega arith)
 step-out front at (suc left) less ns e is =
-    let same : left ≡ less = omega arith in
-    let next : suc at ≡ at + 1 = omega arith in
     ap (λ o. with_front front (choose o (λ rest. option_map (λ flags. true ∷ flags) (flags_of (suc at) left rest)) (option_map (λ flags. false ∷ flags) (flags_of (suc at) left ns)))) (sym e)
-    ∙ fronts front false (flags_of (suc at) left ns)
-    ∙ ap (λ k. with_front (front ++ false ∷ []) (flags_of k left ns)) next
-    ∙ ap (λ k. with_front (front ++ false ∷ []) (flags_of (at + 1) k ns)) same
+    ∙ step-on front false at left less ns (omega arith)
 
 -- it is not
 pub flags_out : (front : List Bool) (at nodes : ℕ) (ns : List ℕ) → at < nodes → None ≡ behind_number at ns → with_front front (flags_of at (nodes - at) ns) ≡ with_front (front ++ false ∷ []) (flags_of (at + 1) (nodes - (at + 1)) ns)
