@@ -1,6 +1,8 @@
 -- Least bounds of open leaves.
 use Rattle.std.specs.Prelude.{ℕ, ◌≡◌, List, Option, Some, None, MatchOption, Any, ⊤, ◌⊎◌, ℤ, ◌≤ℤ◌}
 use Rattle.plan_base.specs.declared.parts.Parts.{Parts}
+use Rattle.link_steps.specs.declared.range.LoadRange.{LoadRange}
+use Rattle.link_steps.specs.Ranges.{AreRanges}
 use Rattle.proof_tree.specs.declared.cuts.Cut.{Cut as LoadCut}
 use Rattle.proof_tree.specs.declared.tree.Evidence.{Evidence}
 use Rattle.proof_tree.specs.declared.tree.Evidence.TheVariants.{Bound, Routed, Overfull, Cut, Far, Crowd, Open}
@@ -13,6 +15,10 @@ use Rattle.proof_tree.specs.Plans.{IsOpenBound}
 pub record HasRests (p : Parts) (cuts : List LoadCut) (rests : List ℕ) : Type 0 where
   pub is_list : IsCutList p cuts
   pub are_rests : AreRests p cuts rests
+
+-- the table is that of the instance, the ranges are ranges of its places, and the rests are those of the cuts
+abbrev pub AreForInstance : Parts → Parts → List LoadRange → List LoadCut → List ℕ → Type 0
+AreForInstance p table ranges cuts rests = (table ≡ p) × AreRanges p ranges × HasRests p cuts rests
 
 -- the numbers of an open leaf are as they have to be
 abbrev pub IsOpenLawful : Parts → List LoadCut → Evidence → Type 0

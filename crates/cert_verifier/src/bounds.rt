@@ -2,7 +2,6 @@
 
 ghost use Rattle.std.specs.Prelude.{◌≡◌, ◌≤◌, ◌<◌, ◌+◌, ◌*◌, ◌^◌, ◌↔◌, ℤ, pos, ◌≤ℤ◌, ◌<ℤ◌, ◌+ℤ◌, ◌-ℤ◌, ◌*ℤ◌, length, IsTrue, IfOk, IfSome, IfNone};
 ghost use Rattle.plan_base.specs.Places.{places};
-ghost use Rattle.link_steps.specs.Ranges.{AreRanges};
 ghost use Rattle.arc_restrict.specs.Prices.{AreWithinLimit};
 ghost use Rattle.proof_tree.specs.declared.limits.TheConstants.{MAX_CUTS};
 ghost use Rattle.proof_tree.specs.RatedBounds.{cut_total, IsRatedTotal};
@@ -11,7 +10,7 @@ ghost use Rattle.proof_tree.specs.Evidence.{is_cut_short, room_at};
 ghost use Rattle.verifier_paths.specs.declared.limits.TheConstants.{MAX_WAY_ARCS};
 ghost use Rattle.verifier_paths.specs.Kept.{forbidden_by};
 ghost use Rattle.verifier_paths.specs.OnlyPaths.{HavePaths};
-ghost use Rattle.cert_verifier.specs.Bounds.{HasRests};
+ghost use Rattle.cert_verifier.specs.Bounds.{HasRests, AreForInstance};
 ghost use Rattle.cert_verifier.specs.Totals.{IsPriceTotal, room_price};
 ghost use Rattle.cert_verifier.specs.Walks.{region_of_marks};
 
@@ -86,9 +85,7 @@ fn counted_at(at: &Place, numbers: &Prices) -> u128
 
 /// The sum of the values of all links at the leaf, in thousandths of a cost grain.
 fn values_at(alloc: Global, at: &Place, numbers: &Prices) -> Result<i128, AllocError>
-    requires table { at.now.table.now ≡ at.now.inst.now }
-    requires ranges { AreRanges at.now.inst.now at.now.ranges.now }
-    requires cuts { HasRests at.now.inst.now at.now.cuts.now at.now.rests.now }
+    requires parts { AreForInstance at.now.inst.now at.now.table.now at.now.ranges.now at.now.cuts.now at.now.rests.now }
     requires count { length numbers.now ≡ places at.now.inst.now + length at.now.cuts.now }
     requires lawful { AreLawfulNumbers at.now.inst.now at.now.cuts.now numbers.now }
     ensures { IfOk result (λ values. IsRatedTotal at.now.inst.now at.now.cuts.now at.now.ranges.now numbers.now (rates_in at.now.inst.now numbers.now) (length at.now.inst.now.links) values) }
@@ -130,9 +127,7 @@ pub(crate) fn bound_at(
     at: &Place,
     numbers: &Prices,
 ) -> Result<Option<i128>, AllocError>
-    requires table { at.now.table.now ≡ at.now.inst.now }
-    requires ranges { AreRanges at.now.inst.now at.now.ranges.now }
-    requires cuts { HasRests at.now.inst.now at.now.cuts.now at.now.rests.now }
+    requires parts { AreForInstance at.now.inst.now at.now.table.now at.now.ranges.now at.now.cuts.now at.now.rests.now }
     requires count { length numbers.now ≡ places at.now.inst.now + length at.now.cuts.now }
     requires lawful { AreLawfulNumbers at.now.inst.now at.now.cuts.now numbers.now }
     ensures bound { IfOk result (λ bound. IfSome bound (IsBoundAt at.now.inst.now at.now.cuts.now (region_of_marks at.now.forbidden.now at.now.ranges.now) numbers.now)) }

@@ -21,7 +21,7 @@ ghost use Rattle.cert_verifier.specs.declared.rejected.Rejected.TheVariants.{Lea
 ghost use Rattle.cert_verifier.specs.Told.{Tells};
 ghost use Rattle.cert_verifier.specs.Leaving.{leads_out, IsNoWayOut};
 ghost use Rattle.cert_verifier.specs.Routings.{bare_design, needed, IsCostOfLoads, HasOverfull, AreIn, AreLoadsInRange};
-ghost use Rattle.cert_verifier.specs.Bounds.{HasRests, IsOpenLawful};
+ghost use Rattle.cert_verifier.specs.Bounds.{AreForInstance, IsOpenLawful};
 ghost use Rattle.cert_verifier.specs.LeafRules.{HasLimit, AreFreeOnUseful, LeafFinds};
 ghost use Rattle.cert_verifier.specs.Walks.{region_of_marks};
 
@@ -82,9 +82,7 @@ fn is_above(bound: i128, cost: Option<u128>, unit: u128) -> bool
 
 /// The rules of a leaf that is closed by its bound.
 fn check_bound(alloc: Global, at: &Place, numbers: &Prices) -> Result<(), Rejected>
-    requires table { at.now.table.now ≡ at.now.inst.now }
-    requires ranges { AreRanges at.now.inst.now at.now.ranges.now }
-    requires cuts { HasRests at.now.inst.now at.now.cuts.now at.now.rests.now }
+    requires parts { AreForInstance at.now.inst.now at.now.table.now at.now.ranges.now at.now.cuts.now at.now.rests.now }
     requires unit { IsUnit at.now.inst.now at.now.unit }
     requires count { length numbers.now ≡ places at.now.inst.now + length at.now.cuts.now }
     ensures { Tells (LeafFinds at.now.inst.now at.now.cuts.now at.now.cost (region_of_marks at.now.forbidden.now at.now.ranges.now) at.now.index (kind.Bound numbers.now)) (result_err result) }
@@ -410,9 +408,7 @@ fn check_open(at: &Place, numbers: &Prices) -> Result<(), Rejected>
 
 /// The first rule that the leaf breaks.
 pub(crate) fn check_leaf(alloc: Global, at: &Place, evidence: &Evidence) -> Result<(), Rejected>
-    requires table { at.now.table.now ≡ at.now.inst.now }
-    requires ranges { AreRanges at.now.inst.now at.now.ranges.now }
-    requires cuts { HasRests at.now.inst.now at.now.cuts.now at.now.rests.now }
+    requires parts { AreForInstance at.now.inst.now at.now.table.now at.now.ranges.now at.now.cuts.now at.now.rests.now }
     requires unit { IsUnit at.now.inst.now at.now.unit }
     requires fits { FitsEvidence at.now.inst.now.nodes (places at.now.inst.now + length at.now.cuts.now) evidence.now }
     ensures { Tells (LeafFinds at.now.inst.now at.now.cuts.now at.now.cost (region_of_marks at.now.forbidden.now at.now.ranges.now) at.now.index evidence.now) (result_err result) }
@@ -434,9 +430,7 @@ pub(crate) fn open_bound(
     at: &Place,
     evidence: &Evidence,
 ) -> Result<Option<i128>, AllocError>
-    requires table { at.now.table.now ≡ at.now.inst.now }
-    requires ranges { AreRanges at.now.inst.now at.now.ranges.now }
-    requires cuts { HasRests at.now.inst.now at.now.cuts.now at.now.rests.now }
+    requires parts { AreForInstance at.now.inst.now at.now.table.now at.now.ranges.now at.now.cuts.now at.now.rests.now }
     requires fits { FitsEvidence at.now.inst.now.nodes (places at.now.inst.now + length at.now.cuts.now) evidence.now }
     requires lawful { IsOpenLawful at.now.inst.now at.now.cuts.now evidence.now }
     ensures bound { IfOk result (λ bound. IfSome bound (IsOpenBound at.now.inst.now at.now.cuts.now (region_of_marks at.now.forbidden.now at.now.ranges.now) evidence.now)) }

@@ -14,8 +14,8 @@ returns-then-is_empty c =
     let fits : SFits w128 values = search rules in
     let empty : length c.as_slice-cuts.result.now ≡ 0 = eqb-true _ _ (sym c.is_empty.ensures ∙ c.if-is_empty.true) in
     let none : length at.cuts.now ≡ 0 = sym c.as_slice-cuts.ensures.len ∙ empty in
-    let is : IsValueTotal at.inst.now at.ranges.now c.args.numbers.now (length at.inst.now.links) values = rw c.requires.table at c.value_total.ensures in
+    let is : IsValueTotal at.inst.now at.ranges.now c.args.numbers.now (length at.inst.now.links) values = rw c.requires.parts.0 at c.value_total.ensures in
     rw (to_z-of_z w128 values fits) (prices_total at.inst.now at.cuts.now at.ranges.now c.args.numbers.now values none is)
 
 pub rated_total-requires-clause-cuts : goal.rated_total-requires-clause-cuts
-rated_total-requires-clause-cuts c = rw c.as_slice-cuts.ensures.value c.requires.cuts.is_list.are_cuts
+rated_total-requires-clause-cuts c = rw c.as_slice-cuts.ensures.value c.requires.parts.2.is_list.are_cuts
