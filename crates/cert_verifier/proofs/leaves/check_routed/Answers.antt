@@ -21,16 +21,14 @@ returns-in-Second c = λ differs.
 pub returns-in-Some : goal.returns-in-Some
 returns-in-Some c = λ differs.
     let at = c.args.at.now in
-    let loads = c.loads_of_paths-loads.result in
     let only = rw c.in-Only.is at c.in_ok-only_paths.ensures.left in
-    let are_loads = loads_are at.inst.now c.in-Only.paths loads c.lawful.ensures c.loads_of_paths-loads.ensures.value in
-    routed_decided at.inst.now at.cuts.now at.cost (region_of_marks at.forbidden.now at.ranges.now) at.index (bare_design c.in-Only.paths) loads c.in-Some.total c.costs_enough.result c.are_within-within.result _ only.1 are_loads c.in-Some.ensures.cost
+    let are_loads = loads_are at.inst.now c.in-Only.paths c.loads_of_paths-loads.result c.lawful.ensures c.loads_of_paths-loads.ensures.value in
+    routed_decided at.inst.now at.cuts.now at.cost (region_of_marks at.forbidden.now at.ranges.now) at.index (bare_design c.in-Only.paths) _ c.in-Some.total c.costs_enough.result c.are_within-within.result _ only.1 are_loads c.in-Some.ensures.cost
     c.costs_enough.ensures c.are_within-within.ensures c.routing_or.ensures.ok c.routing_or.ensures.cheap c.routing_or.ensures.long
 
 pub returns-in-None : goal.returns-in-None
 returns-in-None c = λ differs.
     let at = c.args.at.now in
-    let loads = c.loads_of_paths-loads.result in
     let only = rw c.in-Only.is at c.in_ok-only_paths.ensures.left in
-    let are_loads = loads_are at.inst.now c.in-Only.paths loads c.lawful.ensures c.loads_of_paths-loads.ensures.value in
-    rw c.broken-in-None.ensures (routed_overfull at.inst.now at.cuts.now at.cost (region_of_marks at.forbidden.now at.ranges.now) at.index (bare_design c.in-Only.paths) loads only.1 are_loads c.in-None.ensures.none)
+    let are_loads = loads_are at.inst.now c.in-Only.paths c.loads_of_paths-loads.result c.lawful.ensures c.loads_of_paths-loads.ensures.value in
+    rw c.broken-in-None.ensures (routed_overfull at.inst.now at.cuts.now at.cost (region_of_marks at.forbidden.now at.ranges.now) at.index (bare_design c.in-Only.paths) _ only.1 are_loads c.in-None.ensures.none)
