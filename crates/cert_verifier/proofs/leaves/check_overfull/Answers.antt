@@ -14,16 +14,14 @@ returns-then-link-links c = λ differs.
 pub returns-in-Missing : goal.returns-in-Missing
 unfolding LeafFinds
 returns-in-Missing c = λ differs.
-    let at = c.args.at.now in
-    let within : c.args.link.0 < length at.inst.now.links = omega arith in
+    let within : c.args.link.0 < length c.args.at.now.inst.now.links = omega arith in
     let without = rw c.in-Missing.is at c.in_ok-only_paths.ensures.left in
     rw c.broken-in-Missing.ensures (inr (inl (within, refl), inl (refl, inr (without, refl))))
 
 pub returns-in-Second : goal.returns-in-Second
 unfolding LeafFinds
 returns-in-Second c = λ differs.
-    let at = c.args.at.now in
-    let within : c.args.link.0 < length at.inst.now.links = omega arith in
+    let within : c.args.link.0 < length c.args.at.now.inst.now.links = omega arith in
     let second = rw c.in-Second.is at c.in_ok-only_paths.ensures.left in
     rw c.broken-in-Second.ensures (inr (inl (within, refl), inr (inl (second.0, refl), inl (refl, inr (not_only_paths _ _ second.1, refl)))))
 
