@@ -8,7 +8,7 @@ use crate::bounding::bound_at;
 use crate::limits::{FOUND_IN_ROUND, IDLE_ROUNDS, LEAST_GAIN, TRUSTED_ROUNDS};
 use crate::lists::{is_marked, marked, marked_numbers, put_list, rate_at, tested, widened};
 use crate::rising::{Aim, Risen, rise};
-use crate::seeker::Ground;
+use crate::seeker::{Ground, Sight};
 use column_pool::ColumnPool;
 use cut_table::{CutTable, SeenLoads};
 use plan_base::Prices;
@@ -223,14 +223,18 @@ fn go_round(
 fn next_cuts(
     ground: Ground<'_>,
     table: &CutTable,
-    seen: &SeenLoads,
+    sight: &Sight,
     marks: &[bool],
 ) -> Result<Vec<Cut>, AllocError> {
     let stay = marked(ground.alloc, table.cuts(), marks)?;
     let mut cuts = tested(ground.alloc, ground.inst, stay).into_vec();
-    ground
-        .search
-        .extend(ground.alloc, ground.inst, seen, FOUND_IN_ROUND, &mut cuts)?;
+    sight.search.extend(
+        ground.alloc,
+        ground.inst,
+        &sight.seen,
+        FOUND_IN_ROUND,
+        &mut cuts,
+    )?;
     Ok(cuts)
 }
 
@@ -238,14 +242,14 @@ fn next_cuts(
 fn renew_table(
     ground: Ground<'_>,
     table: &mut CutTable,
-    seen: &SeenLoads,
+    sight: &Sight,
     standing: &mut Standing,
 ) -> Result<(), AllocError>
     requires { table.old.problem ≡ ground.inst.now }
     ensures { table.new.problem ≡ table.old.problem }
 {
     let marks = standing.marks(ground, table.count())?;
-    let cuts = next_cuts(ground, table, seen, &marks)?;
+    let cuts = next_cuts(ground, table, sight, &marks)?;
     put_list(ground.alloc, ground.inst, table, cuts)?;
     standing.renew(ground, &marks, table.count())
 }
@@ -272,7 +276,7 @@ pub(crate) fn go_rounds(
     most: u32,
     aim: Aim,
     columns: &mut ColumnPool,
-    seen: &mut SeenLoads,
+    sight: &mut Sight,
     standing: &mut Standing,
 ) -> Result<(), AllocError>
     requires table { table.old.problem ≡ ground.inst.now }
@@ -281,10 +285,10 @@ pub(crate) fn go_rounds(
     ensures count { OnOk result (length columns.new ≡ length ground.entry.inst.now.demands) }
 {
     for _round in 0..most {
-        if !go_round(ground, table, aim, columns, seen, standing)? {
+        if !go_round(ground, table, aim, columns, &mut sight.seen, standing)? {
             return narrow_table(ground, table, standing);
         }
-        renew_table(ground, table, seen, standing)?;
+        renew_table(ground, table, sight, standing)?;
     }
     if let Some(bound) = bound_at(ground, table, ground.whole, &standing.numbers, columns)? {
         standing.take(bound)?;

@@ -24,11 +24,28 @@ use std::alloc::{AllocError, Global};
 pub(crate) struct Ground<'a> {
     pub(crate) alloc: Global,
     pub(crate) inst: &'a Instance,
-    pub(crate) search: &'a CutSearch,
     /// No arc is forbidden.
     pub(crate) none: &'a Restriction,
     /// All loads of each place.
     pub(crate) whole: &'a Ranges,
+}
+
+/// Where cuts are found: among sets of nodes, at the loads that ascents have seen.
+#[derive(Drop)]
+pub(crate) struct Sight {
+    pub(crate) search: CutSearch,
+    pub(crate) seen: SeenLoads,
+}
+
+impl Sight {
+    /// No loads are seen yet.
+    fn new(ground: Ground<'_>, table: &CutTable) -> Result<Sight, AllocError>
+        requires { table.now.problem ≡ ground.inst.now }
+    {
+        let search = CutSearch::new(ground.alloc, ground.inst, table.steps())?;
+        let seen = SeenLoads::new(ground.alloc, ground.inst, SEEN_TURNS)?;
+        Ok(Sight { search, seen })
+    }
 }
 
 /// How many rounds and nodes a budget of nodes is worth: what they cost together is less than the nodes.
@@ -122,14 +139,14 @@ fn opened(
     Ok(Some((Standing::at(ground, start, bound)?, aim)))
 }
 
-/// Puts the cuts in the table that rounds and the short search behind them find, with room for the loads that they see.
+/// Puts the cuts in the table that rounds and the short search behind them find.
 fn find_from(
     ground: Ground<'_>,
     table: &mut CutTable,
     budget: u32,
     aim: Aim,
     columns: &mut ColumnPool,
-    seen: &mut SeenLoads,
+    sight: &mut Sight,
     standing: &mut Standing,
 ) -> Result<(), AllocError>
     requires table { table.old.problem ≡ ground.inst.now }
@@ -137,12 +154,12 @@ fn find_from(
     ensures { table.new.problem ≡ table.old.problem }
 {
     let (rounds, tried) = effort_of(budget);
-    go_rounds(ground, table, rounds, aim, columns, seen, standing)?;
+    go_rounds(ground, table, rounds, aim, columns, sight, standing)?;
     if table.count() == 0 {
         return Ok(());
     }
     let mut nodes = first_nodes(ground, standing.best.copy()?)?;
-    try_nodes(ground, table, tried, aim, columns, seen, &mut nodes)
+    try_nodes(ground, table, tried, aim, columns, sight, &mut nodes)
 }
 
 /// Puts the cuts in the table that are found with these columns, where the search for cuts may begin.
@@ -159,14 +176,14 @@ fn seek_with(
     let Some((mut standing, aim)) = opened(ground, table, columns)? else {
         return Ok(());
     };
-    let mut seen = SeenLoads::new(ground.alloc, ground.inst, SEEN_TURNS)?;
+    let mut sight = Sight::new(ground, table)?;
     find_from(
         ground,
         table,
         budget,
         aim,
         columns,
-        &mut seen,
+        &mut sight,
         &mut standing,
     )
 }
@@ -192,11 +209,9 @@ fn put_found(
 {
     let none = Restriction::none(alloc, inst)?;
     let whole = Ranges::whole(alloc, inst)?;
-    let search = CutSearch::new(alloc, inst, table.steps())?;
     let ground = Ground {
         alloc,
         inst,
-        search: &search,
         none: &none,
         whole: &whole,
     };

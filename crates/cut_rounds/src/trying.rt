@@ -8,7 +8,7 @@ use crate::limits::FOUND_AT_NODE;
 use crate::lists::{copy_of, is_marked, marked, put_list, rate_at, widened};
 use crate::nodes::{Node, next_of};
 use crate::rising::{Aim, Risen, rise};
-use crate::seeker::Ground;
+use crate::seeker::{Ground, Sight};
 use branch_tree::LoadSplit;
 use column_pool::ColumnPool;
 use cut_table::{CutTable, SeenLoads};
@@ -198,14 +198,18 @@ fn mark_used(
 }
 
 /// Puts the cuts besides in the table that the loads seen violate.
-fn widen_table(ground: Ground<'_>, table: &mut CutTable, seen: &SeenLoads) -> Result<(), AllocError>
+fn widen_table(ground: Ground<'_>, table: &mut CutTable, sight: &Sight) -> Result<(), AllocError>
     requires { table.old.problem ≡ ground.inst.now }
     ensures { table.new.problem ≡ table.old.problem }
 {
     let mut cuts = copy_of(ground.alloc, table.cuts())?;
-    let found = ground
-        .search
-        .extend(ground.alloc, ground.inst, seen, FOUND_AT_NODE, &mut cuts)?;
+    let found = sight.search.extend(
+        ground.alloc,
+        ground.inst,
+        &sight.seen,
+        FOUND_AT_NODE,
+        &mut cuts,
+    )?;
     if found == 0 {
         return Ok(());
     }
@@ -236,7 +240,7 @@ fn put_examined(
     ground: Ground<'_>,
     table: &mut CutTable,
     aim: Aim,
-    seen: &SeenLoads,
+    sight: &Sight,
     node: &Node,
     found: &Examined,
     nodes: &mut Vec<Node>,
@@ -250,7 +254,7 @@ fn put_examined(
     if let Some(split) = found.split {
         put_children(ground, node, found, split, nodes)?;
     }
-    widen_table(ground, table, seen)
+    widen_table(ground, table, sight)
 }
 
 /// Examines a node, marks the cuts that have a rate there, and puts those besides in the table that it finds.
@@ -259,7 +263,7 @@ fn try_node(
     table: &mut CutTable,
     aim: Aim,
     columns: &mut ColumnPool,
-    seen: &mut SeenLoads,
+    sight: &mut Sight,
     node: &Node,
     nodes: &mut Vec<Node>,
     used: &mut Vec<bool>,
@@ -269,11 +273,11 @@ fn try_node(
     ensures table { table.new.problem ≡ table.old.problem }
     ensures count { OnOk result (length columns.new ≡ length ground.entry.inst.now.demands) }
 {
-    let Some(found) = examine(ground, table, aim, columns, seen, node)? else {
+    let Some(found) = examine(ground, table, aim, columns, &mut sight.seen, node)? else {
         return Ok(());
     };
     mark_used(ground, table, &found.numbers, used)?;
-    put_examined(ground, table, aim, seen, node, &found, nodes)
+    put_examined(ground, table, aim, sight, node, &found, nodes)
 }
 
 /// Tries the node of least bound, where one is left.
@@ -282,7 +286,7 @@ fn try_next(
     table: &mut CutTable,
     aim: Aim,
     columns: &mut ColumnPool,
-    seen: &mut SeenLoads,
+    sight: &mut Sight,
     nodes: &mut Vec<Node>,
     used: &mut Vec<bool>,
 ) -> Result<(), AllocError>
@@ -292,7 +296,7 @@ fn try_next(
     ensures count { OnOk result (length columns.new ≡ length ground.entry.inst.now.demands) }
 {
     match taken(nodes) {
-        Some(node) => try_node(ground, table, aim, columns, seen, &node, nodes, used),
+        Some(node) => try_node(ground, table, aim, columns, sight, &node, nodes, used),
         None => Ok(()),
     }
 }
@@ -304,7 +308,7 @@ pub(crate) fn try_nodes(
     most: u32,
     aim: Aim,
     columns: &mut ColumnPool,
-    seen: &mut SeenLoads,
+    sight: &mut Sight,
     nodes: &mut Vec<Node>,
 ) -> Result<(), AllocError>
     requires table { table.old.problem ≡ ground.inst.now }
@@ -314,7 +318,7 @@ pub(crate) fn try_nodes(
     let before = table.count();
     let mut used = Vec::new(ground.alloc);
     for _ in 0..most {
-        try_next(ground, table, aim, columns, seen, nodes, &mut used)?;
+        try_next(ground, table, aim, columns, sight, nodes, &mut used)?;
     }
     keep_used(ground, table, before, &used)
 }
