@@ -47,23 +47,28 @@ fn put_all_on(inst: &Instance, table: &StepTable, routing: &mut Routing)
     }
 }
 
-/// Reroutes each demand once where that helps, and tells whether it helped one.
+/// Reroutes each demand once where that helps, and tells behind how many demands it helped last, 0 where it helped none.
+/// Where it helps none of so many first ones, the others are passed over.
 fn reroute_each(
     inst: &Instance,
     table: &StepTable,
+    until: u32,
     routing: &mut Routing,
-) -> Result<bool, AllocError>
+) -> Result<u32, AllocError>
     requires table { table.now ≡ inst.now }
     requires routing { IsRouting inst.now routing.old }
     ensures routing { IsRouting inst.now routing.new }
 {
-    let mut helped = false;
+    let mut last = 0;
     for place in 0..inst.demands() {
+        if last == 0 && place >= until {
+            break;
+        }
         if routing.reroute(inst, table, DemandId(place))? {
-            helped = true;
+            last = place + 1;
         }
     }
-    Ok(helped)
+    Ok(last)
 }
 
 /// Reroutes the demands until none helps or all turns are spent.
@@ -72,36 +77,56 @@ fn reroute_all(inst: &Instance, table: &StepTable, routing: &mut Routing) -> Res
     requires routing { IsRouting inst.now routing.old }
     ensures routing { IsRouting inst.now routing.new }
 {
+    let mut until = inst.demands();
     for _turn in 0..MAX_TURNS {
-        if !reroute_each(inst, table, routing)? {
+        until = reroute_each(inst, table, until, routing)?;
+        if until == 0 {
             break;
         }
     }
     Ok(())
 }
 
-/// Reroutes each demand of a group once where that helps, and tells whether it helped one.
+/// Where a turn of single reroutes helped last: behind how many demands of its list, and how many searches there were then.
+#[derive(Clone, Copy)]
+struct LastHelp {
+    places: usize,
+    searches: u32,
+}
+
+/// Reroutes each demand of a group once where that helps, and tells where it helped last. Where it helps none of so many
+/// first ones, the others are passed over.
 fn reroute_group(
     inst: &Instance,
     table: &StepTable,
     group: &[DemandId],
+    until: usize,
     routing: &mut Routing,
-) -> Result<bool, AllocError>
+) -> Result<Option<LastHelp>, AllocError>
     requires table { table.now ≡ inst.now }
     requires routing { IsRouting inst.now routing.old }
     requires group { AreDemands inst.now group.now }
     ensures routing { IsRouting inst.now routing.new }
 {
-    let mut helped = false;
+    let mut last = None;
+    let mut tried = 0usize;
     for demand in group {
+        if last.is_none() && tried >= until {
+            break;
+        }
+        tried = tried.saturating_add(1);
         if routing.reroute(inst, table, *demand)? {
-            helped = true;
+            last = Some(LastHelp {
+                places: tried,
+                searches: routing.searches,
+            });
         }
     }
-    Ok(helped)
+    Ok(last)
 }
 
-/// Reroutes the demands of a group until none helps or all turns are spent.
+/// Reroutes the demands of a group until none helps or all turns are spent. What was tried in vain since the last one that
+/// helped is not tried again, and counts as if it were.
 fn touch_up(
     inst: &Instance,
     table: &StepTable,
@@ -113,10 +138,15 @@ fn touch_up(
     requires group { AreDemands inst.now group.now }
     ensures routing { IsRouting inst.now routing.new }
 {
+    let mut until = group.len();
+    let mut vain = 0u32;
     for _turn in 0..GROUP_TURNS {
-        if !reroute_group(inst, table, group, routing)? {
+        let Some(last) = reroute_group(inst, table, group, until, routing)? else {
+            routing.searches = routing.searches.saturating_add(vain);
             break;
-        }
+        };
+        until = last.places;
+        vain = routing.searches.saturating_sub(last.searches);
     }
     Ok(())
 }
@@ -173,6 +203,15 @@ fn keep_group(
     Ok(())
 }
 
+/// Whether a demand is laid on this path.
+fn is_laid_on(routing: &Routing, demand: DemandId, path: &Path) -> bool {
+    let place = demand.0 as usize;
+    match (routing.laid.get(place), routing.paths.get(place)) {
+        (Some(true), Some(own)) => own == path,
+        _ => false,
+    }
+}
+
 /// Lays the demands of a group on their paths among these, in place of their own.
 fn set_group_back(
     inst: &Instance,
@@ -188,7 +227,10 @@ fn set_group_back(
     ensures routing { OnOk result (IsRouting inst.now routing.new) }
 {
     for demand in group {
-        routing.set_back(inst, table, *demand, &paths[demand.0 as usize])?;
+        let path = &paths[demand.0 as usize];
+        if !is_laid_on(routing, *demand, path) {
+            routing.set_back(inst, table, *demand, path)?;
+        }
     }
     Ok(())
 }
