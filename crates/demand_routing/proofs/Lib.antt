@@ -1,4 +1,5 @@
 pub mod Rises
+pub mod HoldingLaws
 pub mod ReroutingLaws
 pub mod TrafficLaws
 pub mod RoutingLaws

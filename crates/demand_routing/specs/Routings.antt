@@ -13,6 +13,7 @@ use Rattle.least_path.specs.Paths.{Weights}
 use Rattle.completions.specs.Completions.{with_paths, ArePaths}
 use Rattle.demand_routing.specs.declared.routing.Routing.{Routing}
 use Rattle.demand_routing.specs.Kept.{IsLeastKept, HasNoneKept, HasNoneKeptBelow}
+use Rattle.demand_routing.specs.Holding.{AreHeld}
 use Rattle.demand_routing.specs.Traffic.{IsRiseAlong, AreAddedCosts, AreFarCosts}
 
 -- whether the demand of this number is marked
@@ -27,11 +28,12 @@ laid_on p paths laid q k = if is_marked laid k then load_from p (with_paths path
 abbrev pub AreLoads : Parts → List (List ArcId) → List Bool → List ℕ → Type 0
 AreLoads p paths laid loads = (q : ℕ) → q < MAX_PLACES → slice_index loads q ≡ sum_below (laid_on p paths laid q) (length p.demands)
 
--- a simple path and a mark for each demand, and the loads of those that are marked as laid
+-- a simple path and a mark for each demand, the loads of those that are marked as laid, and step costs that are held
 pub record IsRouting (p : Parts) (r : Routing) : Type 0 where
   pub paths : ArePaths p r.paths.items
   pub marks : length r.laid.items ≡ length p.demands
   pub loads : AreLoads p r.paths.items r.laid.items r.loads.value
+  pub held : AreHeld p r.helds.value
 
 -- the paths, the marks and the loads are the same
 pub record HasSameRoutes (r s : Routing) : Type 0 where

@@ -13,9 +13,9 @@ ghost use Rattle.demand_routing.specs.Traffic.{AreRises, HasTooMuch};
 use crate::copies::set_path;
 use crate::limits::LimitedRoom;
 use crate::loads::{add_load, remove_load};
-use crate::weights::{FarRises, Rises, rise_along};
+use crate::weights::{FarRises, Held, Rises, rise_along};
 use link_steps::StepTable;
-use plan_base::limits::MAX_PLACES;
+use plan_base::limits::{MAX_LINKS, MAX_PLACES};
 use plan_base::{DemandId, Instance, Path};
 use std::alloc::{AllocError, Global};
 
@@ -33,6 +33,8 @@ pub struct Routing {
     pub searches: u32,
     /// For each place where among its link's steps that of its link's need is looked for first.
     nears: Box<[u32; MAX_PLACES]>,
+    /// For each link a step cost of it, and the loads that this is of.
+    helds: Box<[Held; MAX_LINKS]>,
     room: LimitedRoom,
 }
 
@@ -52,6 +54,7 @@ impl Routing {
             cost: 0,
             searches: 0,
             nears: Box::new(alloc, [0; MAX_PLACES])?,
+            helds: Box::new(alloc, [Held::none(); MAX_LINKS])?,
             room: LimitedRoom::new(alloc, inst)?,
         })
     }
@@ -75,7 +78,16 @@ impl Routing {
         }
         let load = inst.demand(demand).load;
         let arcs = self.paths[place].as_slice();
-        let rise = rise_along(inst, table, &self.loads, &mut self.nears, arcs, load, true);
+        let rise = rise_along(
+            inst,
+            table,
+            &self.loads,
+            &mut self.nears,
+            &mut self.helds,
+            arcs,
+            load,
+            true,
+        );
         add_load(inst, &mut self.loads, arcs, load);
         self.cost = self.cost.saturating_add(rise.unwrap_or(u128::MAX));
         self.laid[place] = true;
@@ -104,7 +116,16 @@ impl Routing {
         let load = inst.demand(demand).load;
         let arcs = self.paths[place].as_slice();
         remove_load(inst, &mut self.loads, arcs, load);
-        let fall = rise_along(inst, table, &self.loads, &mut self.nears, arcs, load, false);
+        let fall = rise_along(
+            inst,
+            table,
+            &self.loads,
+            &mut self.nears,
+            &mut self.helds,
+            arcs,
+            load,
+            false,
+        );
         self.cost = self.cost.saturating_sub(fall.unwrap_or(0));
         self.laid[place] = false;
         fall
@@ -138,6 +159,7 @@ impl Routing {
             inst,
             table,
             loads: &self.loads,
+            helds: &self.helds,
             nears: &self.nears,
             load: demand.load,
         };
@@ -170,6 +192,7 @@ impl Routing {
             inst,
             table,
             loads: &self.loads,
+            helds: &self.helds,
             nears: &self.nears,
             load: demand.load,
         };

@@ -1,16 +1,18 @@
 //! What arcs weigh while demands are laid.
 
-ghost use Rattle.std.specs.Prelude.{◌≡◌, ◌<◌, ◌≤◌, ◌+◌, ◌*◌, ◌/◌, min, max, length, slice_index, IfSome, IfNone};
+ghost use Rattle.std.specs.Prelude.{ℕ, ◌≡◌, true, false, ◌<◌, ◌≤◌, ◌+◌, ◌*◌, ◌/◌, min, max, length, slice_index, IfSome, IfNone};
 ghost use Rattle.std.specs.Option.{unwrap_or};
+ghost use Rattle.plan_base.specs.declared.parts.Parts.{Parts};
 ghost use Rattle.plan_base.specs.Facts.{IsInstance, total_load};
 ghost use Rattle.plan_base.specs.Places.{places, link_of_place, there_of, back_of};
 ghost use Rattle.link_steps.specs.Costs.{CannotCarry, IsStepCost};
 ghost use Rattle.demand_routing.specs.Traffic.{with_more, IsTooMuch, IsCostOf, IsRise, IsAddedCost, span_of, IsFarCost, AreRises, HasTooMuch};
+ghost use Rattle.demand_routing.specs.Holding.{IsHeld, AreHeld};
 
 use completions::{LINK_COST_BOUND, routing_cost};
 use least_path::Weigher;
 use link_steps::{PlacedCost, StepTable};
-use plan_base::limits::{MAX_PLACES, MAX_TOTAL_LOAD};
+use plan_base::limits::{MAX_LINKS, MAX_PLACES, MAX_TOTAL_LOAD};
 use plan_base::{ArcId, Instance, LinkId, LinkLoads};
 
 /// The step cost of the loads of a link's places, in cost grains, and the place of its step, which is found at once where
@@ -41,23 +43,93 @@ fn step_cost(
     })
 }
 
+/// A step cost of a link that is held, and the loads of its places that it is of.
+#[derive(Clone, Copy, Debug)]
+pub struct Held {
+    /// Whether there is one.
+    pub known: bool,
+    /// In load grains.
+    pub there: u128,
+    /// In load grains.
+    pub back: u128,
+    /// In cost grains.
+    pub cost: u128,
+    /// The place of its step.
+    pub place: u32,
+}
+
+impl Held {
+    /// No step cost.
+    pub fn none() -> Held
+        ensures { result.known ≡ false }
+    {
+        Held {
+            known: false,
+            there: 0,
+            back: 0,
+            cost: 0,
+            place: 0,
+        }
+    }
+}
+
+/// What `step_cost` gives: the step cost that is held, where it is of these loads.
+fn known_cost(
+    inst: &Instance,
+    table: &StepTable,
+    helds: &[Held; MAX_LINKS],
+    link: LinkId,
+    loads: LinkLoads,
+    near: u32,
+) -> Option<PlacedCost>
+    requires lawful { IsInstance inst.now }
+    requires table { table.now ≡ inst.now }
+    requires helds { AreHeld inst.now helds.now }
+    requires link { link.0 < length inst.now.links }
+    ensures load { IfSome result (λ _. max loads.there loads.back ≤ total_load inst.now) }
+    ensures some { IfSome result (λ found. IsStepCost inst.now link.0 loads.there loads.back found.cost) }
+    ensures none { IfNone result (max loads.there loads.back ≤ total_load inst.now → CannotCarry inst.now link.0 (max loads.there loads.back)) }
+{
+    let held = helds[link.0 as usize];
+    if held.known && held.there == loads.there && held.back == loads.back {
+        return Some(PlacedCost {
+            cost: held.cost,
+            place: held.place,
+        });
+    }
+    step_cost(inst, table, link, loads, near)
+}
+
+/// Holds a step cost of a link, in place of the one that is held.
+fn hold(inst: &Instance, helds: &mut [Held; MAX_LINKS], link: LinkId, held: Held)
+    requires helds { AreHeld inst.now helds.old }
+    requires held { IsHeld inst.now link.0 held }
+    ensures { AreHeld inst.now helds.new }
+{
+    if (link.0 as usize) < MAX_LINKS {
+        helds[link.0 as usize] = held;
+    }
+}
+
 /// The step cost of a link for what its places carry, in cost grains; None where the link cannot carry that. Its step is
 /// looked for near a place.
 fn held_cost(
     inst: &Instance,
     table: &StepTable,
+    helds: &[Held; MAX_LINKS],
     loads: &[u128; MAX_PLACES],
     link: LinkId,
     near: u32,
 ) -> Option<PlacedCost>
     requires lawful { IsInstance inst.now }
     requires table { table.now ≡ inst.now }
+    requires helds { AreHeld inst.now helds.now }
     requires link { link.0 < length inst.now.links }
     ensures some { IfSome result (λ found. IsCostOf inst.now (slice_index loads.now) link.0 found.cost) }
     ensures none { IfNone result (IsTooMuch inst.now (slice_index loads.now) link.0) }
 {
     let held = LinkLoads::of_link(inst, loads, link);
-    step_cost(inst, table, link, held, near)
+    known_cost(inst, table, helds, link, held, near)
 }
 
 /// The loads of a place's link with a load more on that place, up to the greatest number.
@@ -134,6 +206,7 @@ fn rise_above(
 fn added_cost(
     inst: &Instance,
     table: &StepTable,
+    helds: &[Held; MAX_LINKS],
     loads: &[u128; MAX_PLACES],
     place: u32,
     load: u128,
@@ -141,12 +214,13 @@ fn added_cost(
 ) -> Option<u128>
     requires lawful { IsInstance inst.now }
     requires table { table.now ≡ inst.now }
+    requires helds { AreHeld inst.now helds.now }
     requires place { place < places inst.now }
     ensures value { IsAddedCost inst.now (slice_index loads.now) place load result }
     ensures within { unwrap_or result 0 ≤ LINK_COST_BOUND }
 {
     let link = inst.link_of_place(place);
-    let before = held_cost(inst, table, loads, link, near)?;
+    let before = held_cost(inst, table, helds, loads, link, near)?;
     rise_above(inst, table, loads, place, before, load)
 }
 
@@ -179,6 +253,7 @@ fn span_of(inst: &Instance, carried: u128, load: u128, far: u128) -> u128
 fn far_cost(
     inst: &Instance,
     table: &StepTable,
+    helds: &[Held; MAX_LINKS],
     loads: &[u128; MAX_PLACES],
     place: u32,
     load: u128,
@@ -187,12 +262,13 @@ fn far_cost(
 ) -> Option<u128>
     requires lawful { IsInstance inst.now }
     requires table { table.now ≡ inst.now }
+    requires helds { AreHeld inst.now helds.now }
     requires place { place < places inst.now }
     ensures value { IsFarCost inst.now (slice_index loads.now) place load far result }
     ensures within { unwrap_or result 0 ≤ 2 * LINK_COST_BOUND }
 {
     let link = inst.link_of_place(place);
-    let before = held_cost(inst, table, loads, link, near)?;
+    let before = held_cost(inst, table, helds, loads, link, near)?;
     let rise = rise_above(inst, table, loads, place, before, load)?;
     let span = span_of(inst, loads[place as usize], load, far);
     if span == 0 {
@@ -227,6 +303,8 @@ pub struct Rises<'a> {
     pub table: &'a StepTable,
     /// For each place, in load grains.
     pub loads: &'a [u128; MAX_PLACES],
+    /// For each link a step cost of it, and the loads that this is of.
+    pub helds: &'a [Held; MAX_LINKS],
     /// For each place where among its link's steps that of what it carries is looked for first.
     pub nears: &'a [u32; MAX_PLACES],
     /// In load grains.
@@ -235,17 +313,20 @@ pub struct Rises<'a> {
 
 impl Weigher for Rises<'_> {
     ghost use Rattle.std.specs.Prelude.{◌≡◌};
+    ghost use Rattle.demand_routing.specs.Holding.{AreHeld};
     ghost use Rattle.demand_routing.specs.Weighed.{added_costs};
 
     ghost weights = { λ a. added_costs a.inst.now a.loads.now a.load };
 
-    ghost fits = { λ a. a.table.now ≡ a.inst.now };
+    ghost fits = { λ a. (a.table.now ≡ a.inst.now) × AreHeld a.inst.now a.helds.now };
 
     fn weight(&self, arc: ArcId) -> Option<u128> {
         self.inst.lawful();
         let place = self.inst.place(arc);
         let near = near_of(self.nears, place);
-        added_cost(self.inst, self.table, self.loads, place, self.load, near)
+        added_cost(
+            self.inst, self.table, self.helds, self.loads, place, self.load, near,
+        )
     }
 }
 
@@ -260,11 +341,12 @@ pub struct FarRises<'a> {
 
 impl Weigher for FarRises<'_> {
     ghost use Rattle.std.specs.Prelude.{◌≡◌, ◌≤◌};
+    ghost use Rattle.demand_routing.specs.Holding.{AreHeld};
     ghost use Rattle.demand_routing.specs.Weighed.{far_costs};
 
     ghost weights = { λ a. far_costs a.rises.inst.now a.rises.loads.now a.rises.load a.far };
 
-    ghost fits = { λ a. a.rises.table.now ≡ a.rises.inst.now };
+    ghost fits = { λ a. (a.rises.table.now ≡ a.rises.inst.now) × AreHeld a.rises.inst.now a.rises.helds.now };
 
     fn weight(&self, arc: ArcId) -> Option<u128> {
         let rises = &self.rises;
@@ -274,6 +356,7 @@ impl Weigher for FarRises<'_> {
         far_cost(
             rises.inst,
             rises.table,
+            rises.helds,
             rises.loads,
             place,
             rises.load,
@@ -283,19 +366,37 @@ impl Weigher for FarRises<'_> {
     }
 }
 
-/// What the step cost of a place's link rises by where a load is added to the place, in cost grains, and the places of the
-/// step of what the link carries without the load and with it.
+/// What the step cost of a place's link rises by where a load is added to the place, in cost grains, and the step costs
+/// without the load and with it.
 #[derive(Clone, Copy, Debug)]
 struct Rise {
     cost: u128,
-    before: u32,
-    after: u32,
+    before: Held,
+    after: Held,
 }
 
 impl Rise {
-    /// The place of the step once the load is laid, or once it is taken off.
-    fn near(self, laid: bool) -> u32 {
+    /// The step cost once the load is laid, or once it is taken off.
+    fn held(self, laid: bool) -> Held
+        ensures { (p : Parts) (e : ℕ) → IsHeld p e self.before → IsHeld p e self.after → IsHeld p e result }
+    {
         if laid { self.after } else { self.before }
+    }
+}
+
+/// A step cost that is found for these loads, to be held.
+fn found_cost(loads: LinkLoads, found: PlacedCost) -> Held
+    ensures known { result.known ≡ true }
+    ensures there { result.there ≡ loads.there }
+    ensures back { result.back ≡ loads.back }
+    ensures cost { result.cost ≡ found.cost }
+{
+    Held {
+        known: true,
+        there: loads.there,
+        back: loads.back,
+        cost: found.cost,
+        place: found.place,
     }
 }
 
@@ -304,50 +405,63 @@ impl Rise {
 fn rise_at(
     inst: &Instance,
     table: &StepTable,
+    helds: &[Held; MAX_LINKS],
     loads: &[u128; MAX_PLACES],
     place: u32,
     load: u128,
     near: u32,
 ) -> Option<Rise>
     requires table { table.now ≡ inst.now }
+    requires helds { AreHeld inst.now helds.now }
     ensures value { IfSome result (λ rise. IsRise inst.now (slice_index loads.now) place load rise.cost) }
     ensures within { IfSome result (λ _. place < places inst.now) }
+    ensures before { IfSome result (λ rise. IsHeld inst.now (link_of_place inst.now place) rise.before) }
+    ensures after { IfSome result (λ rise. IsHeld inst.now (link_of_place inst.now place) rise.after) }
     ensures none { IfNone result (place < places inst.now → IsTooMuch inst.now (with_more (slice_index loads.now) place load) (link_of_place inst.now place)) }
 {
     if place >= inst.places() {
         return None;
     }
     let link = inst.link_of_place(place);
-    let before = held_cost(inst, table, loads, link, near)?;
-    let after = placed_rise(inst, table, loads, place, before, load)?;
+    let less = LinkLoads::of_link(inst, loads, link);
+    let more = loads_with(inst, loads, place, load);
+    let before = known_cost(inst, table, helds, link, less, near)?;
+    let after = known_cost(inst, table, helds, link, more, before.place)?;
     Some(Rise {
-        cost: after.cost,
-        before: before.place,
-        after: after.place,
+        cost: after.cost.saturating_sub(before.cost),
+        before: found_cost(less, before),
+        after: found_cost(more, after),
     })
 }
 
 /// What the step costs of a path's links rise by where this load is added to what its places carry, in cost grains, up to
 /// the greatest number; None where one of the links cannot carry that. The steps are looked for near a place for each of
-/// the path's places, which becomes that of the step once the load is laid, or once it is taken off.
+/// the path's places, which becomes that of the step once the load is laid, or once it is taken off; the step costs then
+/// are held.
 pub fn rise_along(
     inst: &Instance,
     table: &StepTable,
     loads: &[u128; MAX_PLACES],
     nears: &mut [u32; MAX_PLACES],
+    helds: &mut [Held; MAX_LINKS],
     arcs: &[ArcId],
     load: u128,
     laid: bool,
 ) -> Option<u128>
     requires table { table.now ≡ inst.now }
+    requires helds { AreHeld inst.now helds.old }
     ensures sum { IfSome result (AreRises inst.now loads.now load arcs.now u128.MAX) }
     ensures none { IfNone result (HasTooMuch inst.now loads.now load arcs.now) }
+    ensures helds { AreHeld inst.now helds.new }
 {
     let mut sum = 0u128;
     for arc in arcs {
         let place = inst.place(*arc);
-        let rise = rise_at(inst, table, loads, place, load, near_of(nears, place))?;
-        set_near(nears, place, rise.near(laid));
+        let near = near_of(nears, place);
+        let rise = rise_at(inst, table, helds, loads, place, load, near)?;
+        let held = rise.held(laid);
+        set_near(nears, place, held.place);
+        hold(inst, helds, inst.link_of_place(place), held);
         sum = sum.saturating_add(rise.cost);
     }
     Some(sum)

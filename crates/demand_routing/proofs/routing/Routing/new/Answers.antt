@@ -1,7 +1,9 @@
 use Rattle.std.proofs.Common.{◌≡◌, false, List, Bool, subst, sym, arith, rules, replicate}
 use Rattle.std.proofs.lemmas.List.{get_or-replicate}
-use Rattle.plan_base.specs.declared.limits.TheConstants.{MAX_PLACES}
+use Rattle.plan_base.specs.declared.limits.TheConstants.{MAX_LINKS, MAX_PLACES}
+use Rattle.demand_routing.specs.Holding.{AreHeld}
 use Rattle.demand_routing.specs.Routings.{AreLoads}
+use Rattle.demand_routing.proofs.HoldingLaws.{none-held}
 use Rattle.demand_routing.proofs.RoutingLaws.{loads-none}
 use Rattle.demand_routing.proofs.routing.Routing.new.Goals as goal
 
@@ -15,6 +17,7 @@ returns-clause-routing c =
       loads =
           subst (AreLoads p c.args.paths.items c.in_ok-vec.field-0.items) (sym c.in_ok-new.ensures.ok)
           (subst (λ (laid : List Bool). AreLoads p c.args.paths.items laid (replicate MAX_PLACES 0)) (sym items) (loads-none p c.args.paths.items c.demands.result (replicate MAX_PLACES 0) c.demands.ensures.value (λ e below. get_or-replicate MAX_PLACES e 0 0 below)));
+      held = subst (AreHeld p) (sym c.in_ok-new-3.ensures.ok) (none-held p MAX_LINKS c.none.result c.none.ensures);
     }
 
 pub returns-clause-off : goal.returns-clause-off

@@ -1,4 +1,4 @@
-use Rattle.std.proofs.Common.{◌≡◌, ◌∙◌, ◌<◌, true, false, [], length, subst, sym, ap, arith}
+use Rattle.std.proofs.Common.{◌≡◌, ◌∙◌, ◌<◌, true, false, [], length, subst, sym, ap, arith, rules}
 use Rattle.std.proofs.Math.ListN.{length-set}
 use Rattle.std.proofs.lemmas.List.{get_or_default}
 use Rattle.plan_base.specs.declared.parts.Demand.{Demand}
@@ -21,9 +21,10 @@ returns-clause-routing c =
     let has_path : k < length paths = omega (arith, c.requires.demand, are.paths.count) in
     let path : c.as_slice-arcs.result.now ≡ path_at (with_paths paths) k = c.as_slice-arcs.ensures.value ∙ c.index-2.ensures ∙ get_or_default paths k c.index-2.result.now [] has_path in
     let off : is_marked laid k ≡ false = get_or_default laid k false c.index.result.now marked ∙ sym c.index.ensures ∙ c.if-index.false in
-    let loads : AreLoads p paths laid c.deref_mut-2.result.now = subst (AreLoads p paths laid) (sym c.deref_mut-2.ensures.value) are.loads in
+    let loads : AreLoads p paths laid c.deref_mut-3.result.now = subst (AreLoads p paths laid) (sym c.deref_mut-3.ensures.value) are.loads in
     record {
       paths = are.paths;
       marks = length-set laid k true ∙ are.marks;
-      loads = loads-on p paths laid c.deref_mut-2.result.now c.add_load.new.loads k c.demand.result.now.load c.as_slice-arcs.result.now c.lawful.ensures are.paths c.requires.demand are.marks load path loads off c.add_load.ensures;
+      loads = loads-on p paths laid c.deref_mut-3.result.now c.add_load.new.loads k c.demand.result.now.load c.as_slice-arcs.result.now c.lawful.ensures are.paths c.requires.demand are.marks load path loads off c.add_load.ensures;
+      held = search rules;
     }

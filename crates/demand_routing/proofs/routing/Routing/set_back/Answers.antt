@@ -19,4 +19,5 @@ put_on-requires-clause-routing c =
       paths = subst (ArePaths p) (sym set) (paths_set p c.take_off-fall.new.self.paths.items k path c.requires.demand are.paths c.requires.path);
       marks = are.marks;
       loads = subst (λ (ps : List (List ArcId)). AreLoads p ps laid loads) (sym set) (loads-same p c.take_off-fall.new.self.paths.items laid loads k path c.take_off-fall.ensures.off are.loads);
+      held = are.held;
     }

@@ -41,4 +41,5 @@ returns-clause-routing c =
       paths = are.paths;
       marks = length-set c.args.self.now.laid.items c.args.demand.0 false ∙ are.marks;
       loads = (returns-clause-without c).are_loads;
+      held = search rules;
     }

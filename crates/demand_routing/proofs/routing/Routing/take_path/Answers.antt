@@ -16,4 +16,5 @@ returns-clause-routing c =
       paths = paths_set p paths k c.swap.new.path c.requires.demand are.paths simple;
       marks = are.marks;
       loads = loads-same p paths c.args.self.now.laid.items c.args.self.now.loads.value k c.swap.new.path c.requires.off are.loads;
+      held = are.held;
     }
