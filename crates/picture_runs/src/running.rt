@@ -1,13 +1,14 @@
 //! Pictures, from words to a status and one text.
 
-ghost use Rattle.std.specs.Prelude.{◌≡◌, ◌≤◌, ◌<◌, ◌⊎◌, length, map, string_bytes, option_map, Some, IfOk, IfErr, IfSome, IfNone};
+ghost use Rattle.std.specs.Prelude.{◌≡◌, ◌≤◌, ◌<◌, ◌⊎◌, length, map, string_bytes, option_map, Some, IfOk, IfSome, IfNone};
+ghost use Rattle.std.specs.Result.{result_err};
 ghost use Rattle.plan_io.specs.Causes.{Rose};
 ghost use Rattle.proof_tree.specs.Plans.{IsValidPlan};
 ghost use Rattle.proof_tree.specs.Spellings.{IsSpellable};
 ghost use Rattle.plan_report.specs.Reports.{IsReadFrom, HasNames, demand_name};
-ghost use Rattle.plan_texts.specs.Texts.{Begun, three, HoldsOfTexts};
+ghost use Rattle.plan_texts.specs.Texts.{three, HoldsOfTexts};
 ghost use Rattle.plan_texts.specs.Refusals.{counts_of};
-ghost use Rattle.plan_texts.specs.Stops.{IsReadStop, TookMore, Stops};
+ghost use Rattle.plan_texts.specs.Stops.{BeginsOrStops};
 ghost use Rattle.run_ends.specs.Ends.{IsOwnEnd};
 ghost use Rattle.run_ends.specs.Found.{IsFound};
 ghost use Rattle.plan_picture.specs.Pictures.{IsPicture};
@@ -133,7 +134,7 @@ fn draw_read(
 }
 
 /// Reads a network text, a model text and a plan text, and draws the plan, once it is verified.
-#[tactic(auto, using(plan_texts::proofs::Begins::memory_after_three, plan_texts::proofs::Answering::read_from, crate::proofs::Drawing::drawn_texts))]
+#[tactic(auto, using(plan_texts::proofs::Begins::memory_after, plan_texts::proofs::Answering::read_from, crate::proofs::Drawing::drawn_texts))]
 fn draw_plan<S: Shelf>(
     alloc: Global,
     network: &str,
@@ -144,12 +145,9 @@ fn draw_plan<S: Shelf>(
 ) -> Result<Answer, Stop>
     ensures done { IfOk result (λ answer. HoldsOfTexts (S.text shelf.old) (three network.now model.now plan.now) 3
         (λ texts. IsDrawn (option_map (λ word. word.now) name.entry) texts answer.status answer.text.items)) }
-    ensures begun { IfOk result (λ _. Begun 3 (S.begins shelf.old) (S.begins shelf.new)) }
-    ensures stop { IfErr result (Stops (three network.now model.now plan.now) (S.text shelf.old)
-        (S.begins shelf.old) (S.begins shelf.new)) }
-    ensures read_fault { IfErr result (λ stop. IsReadStop stop → Rose (S.faults shelf.old) (S.faults shelf.new)) }
-    ensures too_long { IfErr result (TookMore (S.taken shelf.new)) }
-    ensures later { S.faults shelf.old ≤ S.faults shelf.new }
+    ensures stops { BeginsOrStops (three network.now model.now plan.now) (S.text shelf.old)
+        (counts_of (S.faults shelf.old) (S.faults shelf.new) (S.taken shelf.new))
+        (S.begins shelf.old) (S.begins shelf.new) (result_err result) }
 {
     let planned = match read_planned(alloc, network, model, plan, shelf) {
         Ok(planned) => planned,

@@ -1,7 +1,7 @@
 -- What a run found, from what its commands ensure.
 use Rattle.std.proofs.Common.{◌≡◌, ℕ, List, Option, Some, None, option_map, Result, Ok, Err, refl, subst, arith}
-use Rattle.std.specs.Prelude.{IfOk, IfErr, IsSomeAnd}
-use Rattle.plan_io.specs.Causes.{Rose}
+use Rattle.std.specs.Prelude.{IfOk, IsSomeAnd}
+use Rattle.std.specs.Result.{result_err}
 use Rattle.plan_report.specs.declared.run_fault.RunFault.TheVariants as faults
 use Rattle.plan_report.specs.Lines.{fault_line}
 use Rattle.command_words.specs.declared.command.Command.{Command}
@@ -12,9 +12,9 @@ use Rattle.command_words.specs.Words.{Word, command_in}
 use Rattle.plan_texts.specs.declared.answer.Answer.{Answer}
 use Rattle.plan_texts.specs.declared.stop.Stop.{Stop}
 use Rattle.plan_texts.specs.declared.stop.Stop.TheVariants as stops
-use Rattle.plan_texts.specs.Texts.{Told, Begun, empty_texts, text_count, AreRead, HoldsOfTexts}
+use Rattle.plan_texts.specs.Texts.{Told, empty_texts, text_count, AreRead, HoldsOfTexts}
 use Rattle.plan_texts.specs.Refusals.{Counts}
-use Rattle.plan_texts.specs.Stops.{IsReadStop, TookMore, Stops}
+use Rattle.plan_texts.specs.Stops.{BeginsOrStops}
 use Rattle.run_ends.specs.Found.{IsFound}
 use Rattle.run_ends.proofs.Finding.{found_named, found_unread as unread, found_wanting as wanting, nothing-begun}
 use Rattle.plan_run.specs.Runs.{texts_of_command, IsWorkDone}
@@ -26,9 +26,8 @@ use Rattle.plan_run.specs.Found.{IsFoundBy, IsFoundFor}
 -- what a command about texts ensures is what was found
 pub found : (command : Command Word) (shelf : Told) (counts : Counts) (before now : ℕ) (result : Result Answer Stop)
     → IfOk result (λ answer. HoldsOfTexts shelf (texts_of_command command) (text_count (texts_of_command command)) (λ texts. IsWorkDone command texts answer.status answer.text.items))
-    → IfOk result (λ answer. Begun (text_count (texts_of_command command)) before now) → IfErr result (Stops (texts_of_command command) shelf before now)
-    → IfErr result (λ stop. IsReadStop stop → Rose counts.faults_before counts.faults_now) → IfErr result (TookMore counts.taken) → IsFoundBy command shelf counts before now result
-found command shelf counts before now result done begun stop rose more = found_named (fault_line faults.Usage) (IsWorkDone command) shelf counts (texts_of_command command) before now result done begun stop rose more
+    → BeginsOrStops (texts_of_command command) shelf counts before now (result_err result) → IsFoundBy command shelf counts before now result
+found command shelf counts before now result done ends = found_named (fault_line faults.Usage) (IsWorkDone command) shelf counts (texts_of_command command) before now result done ends
 
 -- no text was read
 none-read : (shelf : Told) → AreRead shelf empty_texts 0 empty_texts

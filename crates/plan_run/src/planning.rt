@@ -1,15 +1,16 @@
 //! The command that plans.
 
-ghost use Rattle.std.specs.Prelude.{◌≡◌, ◌≤◌, IfOk, IfErr};
+ghost use Rattle.std.specs.Prelude.{◌≡◌, IfOk};
 ghost use Rattle.std.specs.Arc.{arc_value};
-ghost use Rattle.plan_io.specs.Causes.{Rose};
+ghost use Rattle.std.specs.Result.{result_err};
 ghost use Rattle.proof_tree.specs.Cuts.{IsCutList};
 ghost use Rattle.proof_tree.specs.Spellings.{IsSpellable};
 ghost use Rattle.cert_format.specs.Grammar.{written_text, SpellsPlan};
 ghost use Rattle.command_words.specs.Words.{AreWorkers, IsBudget};
 ghost use Rattle.plan_texts.specs.Statuses.{status_of_plan};
-ghost use Rattle.plan_texts.specs.Texts.{Begun, two, HoldsOfTexts};
-ghost use Rattle.plan_texts.specs.Stops.{IsReadStop, TookMore, Stops};
+ghost use Rattle.plan_texts.specs.Texts.{two, HoldsOfTexts};
+ghost use Rattle.plan_texts.specs.Refusals.{counts_of};
+ghost use Rattle.plan_texts.specs.Stops.{BeginsOrStops};
 ghost use Rattle.plan_run.specs.Plans.{IsPlanned, IsPlanDone};
 
 use crate::searching::search;
@@ -98,7 +99,7 @@ fn planned<R: Threads + Wait + Sync, G: Gate>(
 }
 
 /// Reads a network text and a model text, and plans the network.
-#[tactic(auto, using(plan_texts::proofs::Begins::memory_after_two, crate::proofs::PlannedTexts::planned_texts))]
+#[tactic(auto, using(plan_texts::proofs::Begins::memory_after, crate::proofs::PlannedTexts::planned_texts))]
 pub fn plan<R: Threads + Wait + Sync, S: Shelf, G: Gate>(
     rt: &R,
     alloc: Global,
@@ -113,12 +114,9 @@ pub fn plan<R: Threads + Wait + Sync, S: Shelf, G: Gate>(
     requires budget { IsBudget budget }
     ensures done { IfOk result (λ answer. HoldsOfTexts (S.text shelf.old) (two network.now model.now) 2
         (λ texts. IsPlanDone budget texts answer.status answer.text.items)) }
-    ensures begun { IfOk result (λ _. Begun 2 (S.begins shelf.old) (S.begins shelf.new)) }
-    ensures stop { IfErr result (Stops (two network.now model.now) (S.text shelf.old)
-        (S.begins shelf.old) (S.begins shelf.new)) }
-    ensures read_fault { IfErr result (λ stop. IsReadStop stop → Rose (S.faults shelf.old) (S.faults shelf.new)) }
-    ensures too_long { IfErr result (TookMore (S.taken shelf.new)) }
-    ensures later { S.faults shelf.old ≤ S.faults shelf.new }
+    ensures stops { BeginsOrStops (two network.now model.now) (S.text shelf.old)
+        (counts_of (S.faults shelf.old) (S.faults shelf.new) (S.taken shelf.new))
+        (S.begins shelf.old) (S.begins shelf.new) (result_err result) }
 {
     let problem = match read_problem(alloc, network, model, shelf) {
         Ok(problem) => problem,

@@ -1,7 +1,9 @@
 -- How many texts were begun, and why a command about texts stops there.
-use Rattle.std.proofs.Common.{ℕ, ◌≡◌, ◌+◌, ◌≤◌, ◌<◌, ◌⊎◌, ◌^◌, List, Option, Some, None, refl, subst, arith, inl, inr}
+use Rattle.std.proofs.Common.{ℕ, ◌≡◌, ◌+◌, ◌≤◌, ◌<◌, ◌⊎◌, ◌^◌, List, Option, Some, None, Result, Ok, Err, refl, subst, arith, inl, inr}
+use Rattle.std.specs.Prelude.{IfErr}
+use Rattle.std.specs.Result.{result_err}
 use Rattle.std.proofs.lemmas.Bool.{cases_lt}
-use Rattle.plan_io.specs.Causes.{CountsUp}
+use Rattle.plan_io.specs.Causes.{Rose, CountsUp}
 use Rattle.plan_io.specs.declared.reading.ReadWhole.{ReadWhole}
 use Rattle.plan_io.specs.declared.reading.ReadWhole.TheVariants as read_faults
 use Rattle.plan_report.specs.declared.run_fault.FileKind.{FileKind}
@@ -10,9 +12,9 @@ use Rattle.plan_report.specs.declared.run_fault.RunFault.{RunFault}
 use Rattle.plan_report.specs.declared.run_fault.RunFault.TheVariants as faults
 use Rattle.plan_texts.specs.declared.stop.Stop.{Stop}
 use Rattle.plan_texts.specs.declared.stop.Stop.TheVariants as stops
-use Rattle.plan_texts.specs.Texts.{Name, Told, Texts, Begun, most_bytes, count_of, text_count, alone, two, three, AreRead}
-use Rattle.plan_texts.specs.Refusals.{AreRefused, IsRefusalOf, IsLastBegun, WasRead, name_of}
-use Rattle.plan_texts.specs.Stops.{stop_of_reading, IsUnread, IsTextStop, TookMore, IsStopCause, Stops}
+use Rattle.plan_texts.specs.Texts.{Name, Told, Texts, Begun, most_bytes, count_of, text_count, alone, AreRead}
+use Rattle.plan_texts.specs.Refusals.{AreRefused, IsRefusalOf, IsLastBegun, WasRead, name_of, Counts}
+use Rattle.plan_texts.specs.Stops.{stop_of_reading, IsUnread, IsReadStop, IsTextStop, TookMore, IsStopCause, Stops, BeginsOrStops}
 
 one-more : (before now : ℕ) → CountsUp before now → (before < 2 ^ 63) ⊎ (2 ^ 63 ≤ before) → Begun 1 before now
 one-more before now up (inl below) = let is : now ≡ before + 1 = up.below below in record { exact = λ room. is; later = omega arith; few = omega arith }
@@ -36,6 +38,19 @@ few-texts texts = omega (arith, few-of texts.network, few-of texts.model, few-of
   few-of : (text : Option (List ℕ)) → count_of text ≤ 1
   few-of None = omega arith
   few-of (Some text) = omega arith
+
+-- a count of faults that has risen since a later count has risen since this one
+pub rose-since : (first second third : ℕ) → first ≤ second → Rose second third → Rose first third
+rose-since first second third later rose = omega arith
+
+-- all texts of these names were begun
+pub all_begun : (names : Texts) (shelf : Told) (counts : Counts) (before now : ℕ) → Begun (text_count names) before now → counts.faults_before ≤ counts.faults_now → BeginsOrStops names shelf counts before now None
+all_begun names shelf counts before now begun later = record { begun = begun; stops = tt; read_fault = tt; too_long = tt; later = later }
+
+-- a command stops for a cause that the counts show
+pub stopped : (names : Texts) (shelf : Told) (counts : Counts) (before now : ℕ) (stop : Stop) → Stops names shelf before now stop → (IsReadStop stop → Rose counts.faults_before counts.faults_now) → TookMore counts.taken stop
+    → counts.faults_before ≤ counts.faults_now → BeginsOrStops names shelf counts before now (Some stop)
+stopped names shelf counts before now stop is rose more later = record { begun = tt; stops = is; read_fault = rose; too_long = more; later = later }
 
 -- ---- a text that does not come in
 
@@ -90,18 +105,28 @@ read-stop : (names : Texts) (shelf : Told) (number : ℕ) (texts : Texts) (stop 
 read-stop names shelf number texts (stops.Refused fault) read is = refusal names shelf number texts fault read is
 read-stop names shelf number texts stops.OutOfMemory read is = omega (arith, read.all)
 
+after-all : (names : Texts) (shelf : Told) (counts : Counts) (before now : ℕ) (texts : Texts) (stop : Stop) → BeginsOrStops names shelf counts before now None → IsTextStop texts stop → IsStopCause names shelf (text_count names) stop
+    → BeginsOrStops names shelf counts before now (Some stop)
+after-all names shelf counts before now texts stop all of_texts is = record {
+  begun = tt;
+  stops = record { begun = text_count names; rises = all.begun; few = omega arith; is = is };
+  read_fault = λ read. absurd (subst (λ (s : Stop). IsTextStop texts s) read.1 of_texts);
+  too_long = λ file long. absurd (subst (λ (s : Stop). IsTextStop texts s) long of_texts);
+  later = all.later;
+}
+
 -- where all named texts were read, a command stops for the cause for which they are refused
-pub texts_stop : (names : Texts) (shelf : Told) (number before now : ℕ) (texts : Texts) (stop : Stop) → AreRead shelf names number texts → Begun number before now → IsTextStop texts stop → Stops names shelf before now stop
-texts_stop names shelf number before now texts stop read begun is = record { begun = number; rises = begun; few = omega (arith, read.all); is = read-stop names shelf number texts stop read is }
+pub texts_stop : (names : Texts) (shelf : Told) (number : ℕ) (counts : Counts) (before now : ℕ) (texts : Texts) (stop : Stop) → AreRead shelf names number texts → BeginsOrStops names shelf counts before now None → IsTextStop texts stop
+    → BeginsOrStops names shelf counts before now (Some stop)
+texts_stop names shelf number counts before now texts stop read all is =
+    after-all names shelf counts before now texts stop all is (subst (λ (n : ℕ). IsStopCause names shelf n stop) read.all (read-stop names shelf number texts stop read is))
 
--- memory is wanting for the work
-pub memory_after_one : (plan : List ℕ) (shelf : Told) (before now : ℕ) → Begun 1 before now → Stops (alone plan) shelf before now stops.OutOfMemory
-memory_after_one plan shelf before now begun = record { begun = 1; rises = begun; few = omega arith; is = omega arith }
+-- the same of what comes of the texts
+pub texts_end : {A : Type 0} (names : Texts) (shelf : Told) (number : ℕ) (counts : Counts) (before now : ℕ) (texts : Texts) (result : Result A Stop) → AreRead shelf names number texts → BeginsOrStops names shelf counts before now None
+    → IfErr result (IsTextStop texts) → BeginsOrStops names shelf counts before now (result_err result)
+texts_end names shelf number counts before now texts (Ok made) read all is = all
+texts_end names shelf number counts before now texts (Err stop) read all is = texts_stop names shelf number counts before now texts stop read all is
 
--- a command that has begun its network and its model may stop for want of memory
-pub memory_after_two : (network model : List ℕ) (shelf : Told) (before now : ℕ) → Begun 2 before now → Stops (two network model) shelf before now stops.OutOfMemory
-memory_after_two network model shelf before now begun = record { begun = 2; rises = begun; few = omega arith; is = omega arith }
-
--- a command that has begun its network, its model and its plan may stop for want of memory
-pub memory_after_three : (network model plan : List ℕ) (shelf : Told) (before now : ℕ) → Begun 3 before now → Stops (three network model plan) shelf before now stops.OutOfMemory
-memory_after_three network model plan shelf before now begun = record { begun = 3; rises = begun; few = omega arith; is = omega arith }
+-- a command that has begun all its texts may stop for want of memory
+pub memory_after : (names : Texts) (shelf : Told) (counts : Counts) (before now : ℕ) → BeginsOrStops names shelf counts before now None → BeginsOrStops names shelf counts before now (Some stops.OutOfMemory)
+memory_after names shelf counts before now all = after-all names shelf counts before now names stops.OutOfMemory all tt (omega arith)

@@ -1,5 +1,6 @@
 -- Why a run stops where its texts are read, and what was found of them.
-use Rattle.std.specs.Prelude.{ℕ, ◌≡◌, ◌≢◌, ◌<◌, ◌≤◌, ◌⊎◌, length, IfSome}
+use Rattle.std.specs.Prelude.{ℕ, ◌≡◌, ◌≢◌, ◌<◌, ◌≤◌, ◌⊎◌, length, Option, IfSome, IfNone}
+use Rattle.plan_io.specs.Causes.{Rose}
 use Rattle.plan_io.specs.declared.reading.ReadWhole.{ReadWhole}
 use Rattle.plan_io.specs.declared.reading.ReadWhole.TheVariants as read
 use Rattle.plan_base.specs.declared.build_fault.BuildFault.TheVariants as build
@@ -26,7 +27,7 @@ use Rattle.plan_report.specs.declared.run_fault.RunFault.TheVariants as faults
 use Rattle.plan_texts.specs.declared.stop.Stop.{Stop}
 use Rattle.plan_texts.specs.declared.stop.Stop.TheVariants.{Refused, OutOfMemory}
 use Rattle.plan_texts.specs.Texts.{Text, Name, Told, Texts, Begun, most_bytes, text_count}
-use Rattle.plan_texts.specs.Refusals.{IsPlanFault, AreRefused, IsRefusalOf}
+use Rattle.plan_texts.specs.Refusals.{IsPlanFault, AreRefused, IsRefusalOf, Counts}
 
 -- where a text is not read by its grammar
 abbrev pub stop_of_text : FileKind → TextFault → Stop
@@ -119,3 +120,11 @@ pub record Stops (names : Texts) (shelf : Told) (before now : ℕ) (stop : Stop)
   pub rises : Begun begun before now
   pub few : begun ≤ text_count names
   pub is : IsStopCause names shelf begun stop
+
+-- a command begins all texts of these names, or it stops for a cause that the counts of the shelf show; the count of faults does not fall
+pub record BeginsOrStops (names : Texts) (shelf : Told) (counts : Counts) (before now : ℕ) (stop : Option Stop) : Type 0 where
+  pub begun : IfNone stop (Begun (text_count names) before now)
+  pub stops : IfSome stop (Stops names shelf before now)
+  pub read_fault : IfSome stop (λ why. IsReadStop why → Rose counts.faults_before counts.faults_now)
+  pub too_long : IfSome stop (TookMore counts.taken)
+  pub later : counts.faults_before ≤ counts.faults_now

@@ -1,14 +1,14 @@
 //! From texts on a shelf to the instance that is planned, and to a plan.
 
 ghost use Rattle.std.specs.Prelude.{◌≡◌, ◌≤◌, length, None, Some, IfOk, IfErr};
-ghost use Rattle.plan_io.specs.Causes.{Rose};
+ghost use Rattle.std.specs.Result.{result_err};
 ghost use Rattle.plan_base.specs.Facts.{IsInstance};
 ghost use Rattle.snd_network.specs.WellFormed.{IsWellFormed};
 ghost use Rattle.model_check.specs.Reading.{ReadsAs};
 ghost use Rattle.proof_tree.specs.Spellings.{IsSpellable};
-ghost use Rattle.plan_texts.specs.Texts.{Begun, alone, two, three, HoldsOfTexts};
-ghost use Rattle.plan_texts.specs.Refusals.{IsProblem, IsPlanAlone, HasFewSteps};
-ghost use Rattle.plan_texts.specs.Stops.{IsFileStop, IsProblemStop, IsTextStop, IsReadStop, TookMore, Stops};
+ghost use Rattle.plan_texts.specs.Texts.{alone, two, three, HoldsOfTexts};
+ghost use Rattle.plan_texts.specs.Refusals.{IsProblem, IsPlanAlone, HasFewSteps, counts_of};
+ghost use Rattle.plan_texts.specs.Stops.{IsFileStop, IsProblemStop, IsTextStop, BeginsOrStops};
 
 use crate::files::{model_of, network_of, plan_of};
 use crate::stop::{Stop, stop_of_check};
@@ -112,7 +112,7 @@ fn spelt_planned(alloc: Global, network: &[u8], model: &[u8], plan: &[u8]) -> Re
 /// - Errors: the first refusal of the texts in the order of their rules, a fault of the shelf, or want of memory.
 /// - Rule: docs/DEFINITIONS.md, "Runs".
 /// - Time: linear in the texts' bytes, and that of making the steps.
-#[tactic(auto, using(crate::proofs::Begins::texts_stop))]
+#[tactic(auto, using(crate::proofs::Begins::texts_end))]
 pub fn read_problem<S: Shelf>(
     alloc: Global,
     network: &str,
@@ -122,12 +122,9 @@ pub fn read_problem<S: Shelf>(
     ensures spelt { IfOk result (λ problem. HoldsOfTexts (S.text shelf.old) (two network.now model.now) 2
         (λ texts. IsProblem texts problem.network problem.inst None)) }
     ensures table { IfOk result (λ problem. problem.table ≡ problem.inst) }
-    ensures begun { IfOk result (λ _. Begun 2 (S.begins shelf.old) (S.begins shelf.new)) }
-    ensures stop { IfErr result (Stops (two network.now model.now) (S.text shelf.old)
-        (S.begins shelf.old) (S.begins shelf.new)) }
-    ensures read_fault { IfErr result (λ stop. IsReadStop stop → Rose (S.faults shelf.old) (S.faults shelf.new)) }
-    ensures too_long { IfErr result (TookMore (S.taken shelf.new)) }
-    ensures later { S.faults shelf.old ≤ S.faults shelf.new }
+    ensures stops { BeginsOrStops (two network.now model.now) (S.text shelf.old)
+        (counts_of (S.faults shelf.old) (S.faults shelf.new) (S.taken shelf.new))
+        (S.begins shelf.old) (S.begins shelf.new) (result_err result) }
 {
     let texts = match read_two(alloc, shelf, network, model) {
         Ok(texts) => texts,
@@ -142,7 +139,7 @@ pub fn read_problem<S: Shelf>(
 /// - Errors: the first refusal of the texts in the order of their rules, a fault of the shelf, or want of memory.
 /// - Rule: docs/DEFINITIONS.md, "Runs".
 /// - Time: linear in the texts' bytes, and that of making the steps.
-#[tactic(auto, using(crate::proofs::Begins::texts_stop))]
+#[tactic(auto, using(crate::proofs::Begins::texts_end))]
 pub fn read_planned<S: Shelf>(
     alloc: Global,
     network: &str,
@@ -154,12 +151,9 @@ pub fn read_planned<S: Shelf>(
         (λ texts. IsProblem texts planned.problem.network planned.problem.inst (Some planned.plan))) }
     ensures fits { IfOk result (λ planned. IsSpellable planned.plan) }
     ensures table { IfOk result (λ planned. planned.problem.table ≡ planned.problem.inst) }
-    ensures begun { IfOk result (λ _. Begun 3 (S.begins shelf.old) (S.begins shelf.new)) }
-    ensures stop { IfErr result (Stops (three network.now model.now plan.now) (S.text shelf.old)
-        (S.begins shelf.old) (S.begins shelf.new)) }
-    ensures read_fault { IfErr result (λ stop. IsReadStop stop → Rose (S.faults shelf.old) (S.faults shelf.new)) }
-    ensures too_long { IfErr result (TookMore (S.taken shelf.new)) }
-    ensures later { S.faults shelf.old ≤ S.faults shelf.new }
+    ensures stops { BeginsOrStops (three network.now model.now plan.now) (S.text shelf.old)
+        (counts_of (S.faults shelf.old) (S.faults shelf.new) (S.taken shelf.new))
+        (S.begins shelf.old) (S.begins shelf.new) (result_err result) }
 {
     let texts = match read_three(alloc, shelf, network, model, plan) {
         Ok(texts) => texts,

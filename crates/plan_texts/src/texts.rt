@@ -1,10 +1,12 @@
 //! How the texts of a command come in.
 
 ghost use Rattle.std.specs.Prelude.{◌≡◌, ◌≤◌, ◌<◌, ◌^◌, IfOk, IfErr};
+ghost use Rattle.std.specs.Result.{result_err};
 ghost use Rattle.plan_io.specs.Causes.{Rose};
 ghost use Rattle.plan_report.specs.declared.run_fault.FileKind.TheVariants as files;
 ghost use Rattle.plan_texts.specs.Texts.{Begun, most_bytes, alone, two, three, IsRead, AreRead};
-ghost use Rattle.plan_texts.specs.Stops.{IsUnread, IsReadStop, TookMore, Stops};
+ghost use Rattle.plan_texts.specs.Refusals.{counts_of};
+ghost use Rattle.plan_texts.specs.Stops.{IsUnread, IsReadStop, TookMore, BeginsOrStops};
 
 use crate::stop::{Stop, stop_of_reading};
 use cert_format::limits::MAX_PLAN_BYTES;
@@ -49,14 +51,12 @@ fn read_text<S: Shelf>(
 }
 
 /// The plan text of this name, which is read by itself.
-#[tactic(auto, using(crate::proofs::Begins::alone_unread))]
+#[tactic(auto, using(crate::proofs::Begins::all_begun, crate::proofs::Begins::stopped, crate::proofs::Begins::alone_unread))]
 pub fn read_alone<S: Shelf>(alloc: Global, shelf: &mut S, plan: &str) -> Result<Vec<u8>, Stop>
     ensures read { IfOk result (λ text. AreRead (S.text shelf.old) (alone plan.now) 1 (alone text.items)) }
-    ensures begun { IfOk result (λ _. Begun 1 (S.begins shelf.old) (S.begins shelf.new)) }
-    ensures stop { IfErr result (Stops (alone plan.now) (S.text shelf.old) (S.begins shelf.old) (S.begins shelf.new)) }
-    ensures read_fault { IfErr result (λ stop. IsReadStop stop → Rose (S.faults shelf.old) (S.faults shelf.new)) }
-    ensures too_long { IfErr result (TookMore (S.taken shelf.new)) }
-    ensures later { S.faults shelf.old ≤ S.faults shelf.new }
+    ensures stops { BeginsOrStops (alone plan.now) (S.text shelf.old)
+        (counts_of (S.faults shelf.old) (S.faults shelf.new) (S.taken shelf.new))
+        (S.begins shelf.old) (S.begins shelf.new) (result_err result) }
 {
     match read_text(alloc, shelf, plan, FileKind::Plan) {
         Ok(text) => Ok(text),
@@ -72,7 +72,7 @@ pub struct TwoTexts {
 }
 
 /// The texts of these names.
-#[tactic(auto, using(crate::proofs::Begins::network_unread))]
+#[tactic(auto, using(crate::proofs::Begins::stopped, crate::proofs::Begins::network_unread))]
 pub fn read_two<S: Shelf>(
     alloc: Global,
     shelf: &mut S,
@@ -81,12 +81,9 @@ pub fn read_two<S: Shelf>(
 ) -> Result<TwoTexts, Stop>
     ensures read { IfOk result (λ read. AreRead (S.text shelf.old) (two network.now model.now) 2
         (two read.network.items read.model.items)) }
-    ensures begun { IfOk result (λ _. Begun 2 (S.begins shelf.old) (S.begins shelf.new)) }
-    ensures stop { IfErr result (Stops (two network.now model.now) (S.text shelf.old)
-        (S.begins shelf.old) (S.begins shelf.new)) }
-    ensures read_fault { IfErr result (λ stop. IsReadStop stop → Rose (S.faults shelf.old) (S.faults shelf.new)) }
-    ensures too_long { IfErr result (TookMore (S.taken shelf.new)) }
-    ensures later { S.faults shelf.old ≤ S.faults shelf.new }
+    ensures stops { BeginsOrStops (two network.now model.now) (S.text shelf.old)
+        (counts_of (S.faults shelf.old) (S.faults shelf.new) (S.taken shelf.new))
+        (S.begins shelf.old) (S.begins shelf.new) (result_err result) }
 {
     let network = match read_text(alloc, shelf, network, FileKind::Network) {
         Ok(text) => text,
@@ -108,7 +105,7 @@ pub struct ThreeTexts {
 }
 
 /// The texts of these names.
-#[tactic(auto, using(crate::proofs::Begins::network_unread))]
+#[tactic(auto, using(crate::proofs::Begins::stopped, crate::proofs::Begins::network_unread))]
 pub fn read_three<S: Shelf>(
     alloc: Global,
     shelf: &mut S,
@@ -118,12 +115,9 @@ pub fn read_three<S: Shelf>(
 ) -> Result<ThreeTexts, Stop>
     ensures read { IfOk result (λ read. AreRead (S.text shelf.old) (three network.now model.now plan.now) 3
         (three read.network.items read.model.items read.plan.items)) }
-    ensures begun { IfOk result (λ _. Begun 3 (S.begins shelf.old) (S.begins shelf.new)) }
-    ensures stop { IfErr result (Stops (three network.now model.now plan.now) (S.text shelf.old)
-        (S.begins shelf.old) (S.begins shelf.new)) }
-    ensures read_fault { IfErr result (λ stop. IsReadStop stop → Rose (S.faults shelf.old) (S.faults shelf.new)) }
-    ensures too_long { IfErr result (TookMore (S.taken shelf.new)) }
-    ensures later { S.faults shelf.old ≤ S.faults shelf.new }
+    ensures stops { BeginsOrStops (three network.now model.now plan.now) (S.text shelf.old)
+        (counts_of (S.faults shelf.old) (S.faults shelf.new) (S.taken shelf.new))
+        (S.begins shelf.old) (S.begins shelf.new) (result_err result) }
 {
     let network = match read_text(alloc, shelf, network, FileKind::Network) {
         Ok(text) => text,

@@ -1,12 +1,13 @@
 //! Commands about texts that need no search.
 
-ghost use Rattle.std.specs.Prelude.{◌≡◌, ◌≤◌, IfOk, IfErr};
-ghost use Rattle.plan_io.specs.Causes.{Rose};
+ghost use Rattle.std.specs.Prelude.{◌≡◌, IfOk};
+ghost use Rattle.std.specs.Result.{result_err};
 ghost use Rattle.proof_tree.specs.Spellings.{IsSpellable};
 ghost use Rattle.plan_report.specs.Reports.{IsReadFrom};
-ghost use Rattle.plan_texts.specs.Texts.{Begun, alone, two, three, HoldsOfTexts};
+ghost use Rattle.plan_texts.specs.Texts.{alone, two, three, HoldsOfTexts};
 ghost use Rattle.plan_texts.specs.Answers.{IsCheck, IsVerdict, IsReport, IsRewritten, IsChecked, IsVerified, IsReported, IsUpgraded};
-ghost use Rattle.plan_texts.specs.Stops.{IsReadStop, TookMore, Stops};
+ghost use Rattle.plan_texts.specs.Refusals.{counts_of};
+ghost use Rattle.plan_texts.specs.Stops.{BeginsOrStops};
 
 use crate::answer::Answer;
 use crate::problem::{Planned, Problem, read_planned, read_problem, spelt_alone};
@@ -115,7 +116,7 @@ fn rewritten(alloc: Global, plan: &Plan) -> Result<Answer, AllocError>
 /// - Errors: the first refusal of the texts in the order of their rules, a fault of the shelf, or want of memory.
 /// - Rule: docs/DEFINITIONS.md, "Runs"; docs/FORMATS.md, "The line of `check`".
 /// - Time: linear in the texts' bytes, and that of making the steps.
-#[tactic(auto, using(crate::proofs::Begins::memory_after_two, crate::proofs::Answering::checked_texts))]
+#[tactic(auto, using(crate::proofs::Begins::memory_after, crate::proofs::Answering::checked_texts))]
 pub fn check<S: Shelf>(
     alloc: Global,
     network: &str,
@@ -124,12 +125,9 @@ pub fn check<S: Shelf>(
 ) -> Result<Answer, Stop>
     ensures done { IfOk result (λ answer. HoldsOfTexts (S.text shelf.old) (two network.now model.now) 2
         (λ texts. IsChecked texts answer.status answer.text.items)) }
-    ensures begun { IfOk result (λ _. Begun 2 (S.begins shelf.old) (S.begins shelf.new)) }
-    ensures stop { IfErr result (Stops (two network.now model.now) (S.text shelf.old)
-        (S.begins shelf.old) (S.begins shelf.new)) }
-    ensures read_fault { IfErr result (λ stop. IsReadStop stop → Rose (S.faults shelf.old) (S.faults shelf.new)) }
-    ensures too_long { IfErr result (TookMore (S.taken shelf.new)) }
-    ensures later { S.faults shelf.old ≤ S.faults shelf.new }
+    ensures stops { BeginsOrStops (two network.now model.now) (S.text shelf.old)
+        (counts_of (S.faults shelf.old) (S.faults shelf.new) (S.taken shelf.new))
+        (S.begins shelf.old) (S.begins shelf.new) (result_err result) }
 {
     let problem = match read_problem(alloc, network, model, shelf) {
         Ok(problem) => problem,
@@ -147,7 +145,7 @@ pub fn check<S: Shelf>(
 /// - Errors: the first refusal of the texts in the order of their rules, a fault of the shelf, or want of memory.
 /// - Rule: docs/DEFINITIONS.md, "Runs"; docs/FORMATS.md, "The line of `verify`".
 /// - Time: linear in the texts' bytes, and that of verifying the plan.
-#[tactic(auto, using(crate::proofs::Begins::memory_after_three, crate::proofs::Answering::verified_texts))]
+#[tactic(auto, using(crate::proofs::Begins::memory_after, crate::proofs::Answering::verified_texts))]
 pub fn verify_plan<S: Shelf>(
     alloc: Global,
     network: &str,
@@ -157,12 +155,9 @@ pub fn verify_plan<S: Shelf>(
 ) -> Result<Answer, Stop>
     ensures done { IfOk result (λ answer. HoldsOfTexts (S.text shelf.old) (three network.now model.now plan.now) 3
         (λ texts. IsVerified texts answer.status answer.text.items)) }
-    ensures begun { IfOk result (λ _. Begun 3 (S.begins shelf.old) (S.begins shelf.new)) }
-    ensures stop { IfErr result (Stops (three network.now model.now plan.now) (S.text shelf.old)
-        (S.begins shelf.old) (S.begins shelf.new)) }
-    ensures read_fault { IfErr result (λ stop. IsReadStop stop → Rose (S.faults shelf.old) (S.faults shelf.new)) }
-    ensures too_long { IfErr result (TookMore (S.taken shelf.new)) }
-    ensures later { S.faults shelf.old ≤ S.faults shelf.new }
+    ensures stops { BeginsOrStops (three network.now model.now plan.now) (S.text shelf.old)
+        (counts_of (S.faults shelf.old) (S.faults shelf.new) (S.taken shelf.new))
+        (S.begins shelf.old) (S.begins shelf.new) (result_err result) }
 {
     let planned = match read_planned(alloc, network, model, plan, shelf) {
         Ok(planned) => planned,
@@ -181,7 +176,7 @@ pub fn verify_plan<S: Shelf>(
 /// - Errors: the first refusal of the texts in the order of their rules, a fault of the shelf, or want of memory.
 /// - Rule: docs/DEFINITIONS.md, "Runs"; docs/FORMATS.md, "The text of `report`".
 /// - Time: linear in the texts' bytes, and that of verifying and telling the plan.
-#[tactic(auto, using(crate::proofs::Begins::memory_after_three, crate::proofs::Answering::read_from, crate::proofs::Answering::reported_texts))]
+#[tactic(auto, using(crate::proofs::Begins::memory_after, crate::proofs::Answering::read_from, crate::proofs::Answering::reported_texts))]
 pub fn report<S: Shelf>(
     alloc: Global,
     network: &str,
@@ -191,12 +186,9 @@ pub fn report<S: Shelf>(
 ) -> Result<Answer, Stop>
     ensures done { IfOk result (λ answer. HoldsOfTexts (S.text shelf.old) (three network.now model.now plan.now) 3
         (λ texts. IsReported texts answer.status answer.text.items)) }
-    ensures begun { IfOk result (λ _. Begun 3 (S.begins shelf.old) (S.begins shelf.new)) }
-    ensures stop { IfErr result (Stops (three network.now model.now plan.now) (S.text shelf.old)
-        (S.begins shelf.old) (S.begins shelf.new)) }
-    ensures read_fault { IfErr result (λ stop. IsReadStop stop → Rose (S.faults shelf.old) (S.faults shelf.new)) }
-    ensures too_long { IfErr result (TookMore (S.taken shelf.new)) }
-    ensures later { S.faults shelf.old ≤ S.faults shelf.new }
+    ensures stops { BeginsOrStops (three network.now model.now plan.now) (S.text shelf.old)
+        (counts_of (S.faults shelf.old) (S.faults shelf.new) (S.taken shelf.new))
+        (S.begins shelf.old) (S.begins shelf.new) (result_err result) }
 {
     let planned = match read_planned(alloc, network, model, plan, shelf) {
         Ok(planned) => planned,
@@ -215,15 +207,13 @@ pub fn report<S: Shelf>(
 /// - Errors: the first refusal of the text, a fault of the shelf, or want of memory.
 /// - Rule: docs/DEFINITIONS.md, "Runs"; docs/FORMATS.md, "Plan texts".
 /// - Time: linear in the bytes of both texts.
-#[tactic(auto, using(crate::proofs::Begins::memory_after_one, crate::proofs::Begins::texts_stop, crate::proofs::Answering::upgraded_texts))]
+#[tactic(auto, using(crate::proofs::Begins::memory_after, crate::proofs::Begins::texts_stop, crate::proofs::Answering::upgraded_texts))]
 pub fn upgrade<S: Shelf>(alloc: Global, plan: &str, shelf: &mut S) -> Result<Answer, Stop>
     ensures done { IfOk result (λ answer. HoldsOfTexts (S.text shelf.old) (alone plan.now) 1
         (λ texts. IsUpgraded texts answer.status answer.text.items)) }
-    ensures begun { IfOk result (λ _. Begun 1 (S.begins shelf.old) (S.begins shelf.new)) }
-    ensures stop { IfErr result (Stops (alone plan.now) (S.text shelf.old) (S.begins shelf.old) (S.begins shelf.new)) }
-    ensures read_fault { IfErr result (λ stop. IsReadStop stop → Rose (S.faults shelf.old) (S.faults shelf.new)) }
-    ensures too_long { IfErr result (TookMore (S.taken shelf.new)) }
-    ensures later { S.faults shelf.old ≤ S.faults shelf.new }
+    ensures stops { BeginsOrStops (alone plan.now) (S.text shelf.old)
+        (counts_of (S.faults shelf.old) (S.faults shelf.new) (S.taken shelf.new))
+        (S.begins shelf.old) (S.begins shelf.new) (result_err result) }
 {
     let text = match read_alone(alloc, shelf, plan) {
         Ok(text) => text,

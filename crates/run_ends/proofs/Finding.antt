@@ -1,6 +1,7 @@
 -- What a run found, from what the calls about its texts ensure.
 use Rattle.std.proofs.Common.{◌≡◌, ◌≤◌, ℕ, List, Option, Some, None, Result, Ok, Err, refl, arith}
 use Rattle.std.specs.Prelude.{IfOk, IfErr}
+use Rattle.std.specs.Result.{result_err}
 use Rattle.plan_io.specs.Causes.{Rose}
 use Rattle.plan_report.specs.declared.run_fault.RunFault.{RunFault}
 use Rattle.plan_report.specs.declared.run_fault.RunFault.TheVariants as faults
@@ -11,7 +12,7 @@ use Rattle.plan_texts.specs.declared.stop.Stop.{Stop}
 use Rattle.plan_texts.specs.declared.stop.Stop.TheVariants as stops
 use Rattle.plan_texts.specs.Texts.{Told, Texts, Begun, text_count, HoldsOfTexts}
 use Rattle.plan_texts.specs.Refusals.{Counts}
-use Rattle.plan_texts.specs.Stops.{IsReadStop, TookMore, Stops}
+use Rattle.plan_texts.specs.Stops.{IsReadStop, TookMore, Stops, BeginsOrStops}
 use Rattle.plan_texts.proofs.Answering.{shown}
 use Rattle.run_ends.specs.Ends.{IsUsage}
 use Rattle.run_ends.specs.Found.{IsShownStop, IsFound}
@@ -31,11 +32,10 @@ module _ (usage_line : List ℕ) (Done : Texts → Status → List ℕ → Type 
 
   -- what a call about named texts ensures is what was found
   pub found_named : (names : Texts) (before now : ℕ) (result : Result Answer Stop)
-      → IfOk result (λ answer. HoldsOfTexts shelf names (text_count names) (λ texts. Done texts answer.status answer.text.items)) → IfOk result (λ answer. Begun (text_count names) before now)
-      → IfErr result (Stops names shelf before now) → IfErr result (λ stop. IsReadStop stop → Rose counts.faults_before counts.faults_now) → IfErr result (TookMore counts.taken)
+      → IfOk result (λ answer. HoldsOfTexts shelf names (text_count names) (λ texts. Done texts answer.status answer.text.items)) → BeginsOrStops names shelf counts before now (result_err result)
       → IsFound usage_line Done (Some names) shelf counts before now result
-  found_named names before now (Ok answer) done begun stop rose more = record { begun = text_count names; rises = begun; few = omega arith; is = done; shown = tt }
-  found_named names before now (Err stop) done begun stops rose more = stopped names before now stop stops (shown-stop counts stop rose more)
+  found_named names before now (Ok answer) done ends = record { begun = text_count names; rises = ends.begun; few = omega arith; is = done; shown = tt }
+  found_named names before now (Err stop) done ends = stopped names before now stop ends.stops (shown-stop counts stop ends.read_fault ends.too_long)
 
   -- words that are not read begin no text
   pub found_usage : (before : ℕ) (answer : Answer) → IsUsage usage_line answer.status answer.text.items → IsFound usage_line Done None shelf counts before before (Ok answer)

@@ -1,12 +1,13 @@
 //! Tables, from words to a status and one text.
 
-ghost use Rattle.std.specs.Prelude.{◌≡◌, ◌≤◌, ◌⊎◌, map, string_bytes, IfOk, IfErr};
+ghost use Rattle.std.specs.Prelude.{◌≡◌, ◌≤◌, ◌⊎◌, map, string_bytes, IfOk};
+ghost use Rattle.std.specs.Result.{result_err};
 ghost use Rattle.plan_io.specs.Causes.{Rose};
 ghost use Rattle.proof_tree.specs.Spellings.{IsSpellable};
 ghost use Rattle.plan_report.specs.Reports.{IsReadFrom};
-ghost use Rattle.plan_texts.specs.Texts.{Begun, three, HoldsOfTexts};
+ghost use Rattle.plan_texts.specs.Texts.{three, HoldsOfTexts};
 ghost use Rattle.plan_texts.specs.Refusals.{counts_of};
-ghost use Rattle.plan_texts.specs.Stops.{IsReadStop, TookMore, Stops};
+ghost use Rattle.plan_texts.specs.Stops.{BeginsOrStops};
 ghost use Rattle.run_ends.specs.Ends.{IsOwnEnd};
 ghost use Rattle.run_ends.specs.Found.{IsFound};
 ghost use Rattle.text_runs.specs.VerifyRuns.{names_in, IsEndOfVerdict};
@@ -55,7 +56,7 @@ fn table_of(alloc: Global, problem: Problem, plan: Plan) -> Result<Answer, Alloc
 }
 
 /// Reads a network text, a model text and a plan text, and tells the plan by tables, once it is verified.
-#[tactic(auto, using(plan_texts::proofs::Begins::memory_after_three, plan_texts::proofs::Answering::read_from, crate::proofs::Telling::tabled_texts))]
+#[tactic(auto, using(plan_texts::proofs::Begins::memory_after, plan_texts::proofs::Answering::read_from, crate::proofs::Telling::tabled_texts))]
 fn table_plan<S: Shelf>(
     alloc: Global,
     network: &str,
@@ -65,12 +66,9 @@ fn table_plan<S: Shelf>(
 ) -> Result<Answer, Stop>
     ensures done { IfOk result (λ answer. HoldsOfTexts (S.text shelf.old) (three network.now model.now plan.now) 3
         (λ texts. IsTabled texts answer.status answer.text.items)) }
-    ensures begun { IfOk result (λ _. Begun 3 (S.begins shelf.old) (S.begins shelf.new)) }
-    ensures stop { IfErr result (Stops (three network.now model.now plan.now) (S.text shelf.old)
-        (S.begins shelf.old) (S.begins shelf.new)) }
-    ensures read_fault { IfErr result (λ stop. IsReadStop stop → Rose (S.faults shelf.old) (S.faults shelf.new)) }
-    ensures too_long { IfErr result (TookMore (S.taken shelf.new)) }
-    ensures later { S.faults shelf.old ≤ S.faults shelf.new }
+    ensures stops { BeginsOrStops (three network.now model.now plan.now) (S.text shelf.old)
+        (counts_of (S.faults shelf.old) (S.faults shelf.new) (S.taken shelf.new))
+        (S.begins shelf.old) (S.begins shelf.new) (result_err result) }
 {
     let planned = match read_planned(alloc, network, model, plan, shelf) {
         Ok(planned) => planned,

@@ -18,4 +18,4 @@ returns-in-Some-clause-found g c =
     let asked : Some (names, lit) ≡ asked_in (map string_bytes c.args.words.now) = search rules in
     found_asked (asked_in (map string_bytes c.args.words.now)) names lit shelf counts before now c.draw_plan.result asked
     (found_named picture_usage (IsDrawn lit) shelf counts names before now c.draw_plan.result
-    c.draw_plan.ensures.done c.draw_plan.ensures.begun c.draw_plan.ensures.stop c.draw_plan.ensures.read_fault c.draw_plan.ensures.too_long)
+    c.draw_plan.ensures.done c.draw_plan.ensures.stops)

@@ -17,4 +17,4 @@ returns-in-len3-clause-found g c =
     shelf counts before now c.table_plan.result c.in-len3.len_at_least c.in-len3.len_below c.network-item.is c.model-item.is c.plan-item.is
     c.as_str.ensures.value c.as_str-in-len3.ensures.value c.as_str-in-len3-2.ensures.value
     (found_named table_usage IsTabled shelf counts (three c.as_str.result.now c.as_str-in-len3.result.now c.as_str-in-len3-2.result.now) before now c.table_plan.result
-    c.table_plan.ensures.done c.table_plan.ensures.begun c.table_plan.ensures.stop c.table_plan.ensures.read_fault c.table_plan.ensures.too_long)
+    c.table_plan.ensures.done c.table_plan.ensures.stops)

@@ -18,4 +18,4 @@ returns-in-len3-clause-found g c =
     shelf counts before now c.verify_plan.result c.in-len3.len_at_least c.in-len3.len_below c.network-item.is c.model-item.is c.plan-item.is
     c.as_str.ensures.value c.as_str-in-len3.ensures.value c.as_str-in-len3-2.ensures.value
     (found_named verify_usage IsVerified shelf counts (three c.as_str.result.now c.as_str-in-len3.result.now c.as_str-in-len3-2.result.now) before now c.verify_plan.result
-    c.verify_plan.ensures.done c.verify_plan.ensures.begun c.verify_plan.ensures.stop c.verify_plan.ensures.read_fault c.verify_plan.ensures.too_long)
+    c.verify_plan.ensures.done c.verify_plan.ensures.stops)
