@@ -5,7 +5,7 @@ ghost use Rattle.std.specs.Arc.{arc_value};
 ghost use Rattle.command_words.specs.Words.{IsSampleKey};
 ghost use Rattle.plan_report.specs.Reports.{trial_line};
 ghost use Rattle.plan_texts.specs.Statuses.{status_of_plan};
-ghost use Rattle.plan_run.specs.Samples.{parts_of, IsSampled, IsTried, IsMade};
+ghost use Rattle.plan_run.specs.Samples.{parts_of_key, IsSampled, IsTried, IsMade};
 
 use crate::searching::search_alone;
 use command_words::{SampleKey, SampleWork};
@@ -54,7 +54,7 @@ fn try_on(
     table: StepTable,
 ) -> Result<Answer, AllocError>
     requires key { IsSampleKey key }
-    requires inst { arc_value inst.now ≡ parts_of key }
+    requires inst { arc_value inst.now ≡ parts_of_key key }
     requires table { table ≡ arc_value inst.now }
     ensures { IfOk result (λ answer. IsTried key answer.status answer.text.items) }
 {
