@@ -1,5 +1,5 @@
 -- Each arc has one weight, since a link has a step cost up to the top load, and one alone.
-use Rattle.std.proofs.Common.{◌≡◌, ℕ, zero, suc, ◌+◌, ◌*◌, ◌<◌, ◌≤◌, ◌⊎◌, inl, inr, [], ◌∷◌, length, slice_index_or, Option, Some, None, refl, sym, ap, ◌∙◌, arith, length-append}
+use Rattle.std.proofs.Common.{◌≡◌, ℕ, zero, suc, ◌+◌, ◌*◌, ◌<◌, ◌≤◌, ◌⊎◌, inl, inr, [], ◌∷◌, length, slice_index_or, Option, Some, None, refl, sym, subst, ap, ◌∙◌, arith, length-append}
 use Rattle.std.proofs.lemmas.List.{get_or_append_left, get_or_push}
 use Rattle.plan_base.specs.declared.parts.Parts.{Parts}
 use Rattle.plan_base.specs.Arcs.{link_at}
@@ -72,7 +72,7 @@ added-one p f q load None (Some b) ha hb = absurd (rise-not-too_much p f q load 
 added-one p f q load None None ha hb = refl
 
 -- what an arc weighs where a span of loads is looked at too
-abbrev IsFarOf : Parts → (ℕ → ℕ) → ℕ → ℕ → ℕ → Option ℕ → Type 0
+abbrev pub IsFarOf : Parts → (ℕ → ℕ) → ℕ → ℕ → ℕ → Option ℕ → Type 0
 IsFarOf p f q load span (Some weight) = IsShared p f q load span weight ⊎ IsAlone p f q load span weight
 IsFarOf p f q load span None = IsTooMuch p (with_more f q load) (link_of_place p q)
 
@@ -86,6 +86,10 @@ far-told : (p : Parts) (f : ℕ → ℕ) (q load far : ℕ) (weight : Option ℕ
 unfolding IsFarCost
 far-told p f q load far (Some weight) is = is
 far-told p f q load far None is = is
+
+-- what an arc weighs where a span of loads is looked at too that is as far as is looked
+pub far-span : (p : Parts) (f : ℕ → ℕ) (q load far span : ℕ) (weight : Option ℕ) → span ≡ span_of p (f q) load far → IsFarOf p f q load span weight → IsFarCost p f q load far weight
+far-span p f q load far span weight same is = far-told p f q load far weight (subst (λ (n : ℕ). IsFarOf p f q load n weight) same is)
 
 -- none where the load is too much for the arc's link
 pub far-none : (p : Parts) (f : ℕ → ℕ) (q load far : ℕ) → IsTooMuch p (with_more f q load) (link_of_place p q) → IsFarCost p f q load far None

@@ -1,14 +1,26 @@
 -- Step costs that are held beside links, with the loads that they are of.
-use Rattle.std.specs.Prelude.{ℕ, ◌≡◌, ◌<◌, ◌≤◌, max, true, List, length, slice_index_or}
+use Rattle.std.specs.Prelude.{ℕ, ◌≡◌, ◌<◌, ◌≤◌, min, max, true, List, length, slice_index_or}
 use Rattle.plan_base.specs.declared.parts.Parts.{Parts}
 use Rattle.plan_base.specs.Facts.{total_load}
 use Rattle.link_steps.specs.Costs.{IsStepCost}
 use Rattle.demand_routing.specs.declared.weights.Held.{Held}
+use Rattle.demand_routing.specs.declared.weights.Sides.{Sides}
+use Rattle.demand_routing.specs.Traffic.{other_of}
+
+-- what a place and the other place of its link have
+pub record AreSides (p : Parts) (f : ℕ → ℕ) (q : ℕ) (s : Sides) : Type 0 where
+  pub here : s.here ≡ f q
+  pub other : s.other ≡ other_of p f q
+
+-- the step cost of a link whose places carry this
+abbrev pub IsCostOfSides : Parts → ℕ → Sides → ℕ → Type 0
+IsCostOfSides p e s cost = IsStepCost p e (max s.here s.other) (min s.here s.other) cost
 
 -- the step cost of a link for these loads, which are at most the total load
 pub record IsCostHeld (p : Parts) (e : ℕ) (h : Held) : Type 0 where
-  pub within : max h.there h.back ≤ total_load p
-  pub cost : IsStepCost p e h.there h.back h.cost
+  pub order : h.smaller ≤ h.larger
+  pub within : h.larger ≤ total_load p
+  pub cost : IsStepCost p e h.larger h.smaller h.cost
 
 -- what is held for a link is its step cost, where something is held
 abbrev pub IsHeld : Parts → ℕ → Held → Type 0

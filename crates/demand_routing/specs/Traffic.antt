@@ -1,9 +1,9 @@
 -- What places carry and what arcs weigh while demands are rerouted. No public contract cites it.
-use Rattle.std.specs.Prelude.{ℕ, ◌≡◌, ◌<◌, ◌≤◌, ◌+◌, ◌*◌, ◌-◌, ◌/◌, ◌^◌, min, max, ◌⊎◌, List, Option, Some, None, length, slice_index, slice_index_or, ◌==◌, sum_by, if◌then◌else◌}
+use Rattle.std.specs.Prelude.{ℕ, ◌≡◌, ◌<◌, ◌≤◌, ◌+◌, ◌*◌, ◌-◌, ◌/◌, ◌%◌, ◌^◌, min, max, ◌⊎◌, List, Option, Some, None, length, slice_index, slice_index_or, ◌==◌, sum_by, if◌then◌else◌}
 use Rattle.std.specs.List.{count_by}
 use Rattle.plan_base.specs.declared.ids.ArcId.{ArcId}
 use Rattle.plan_base.specs.declared.parts.Parts.{Parts}
-use Rattle.plan_base.specs.Places.{places, place_of, link_of_place, there_of, back_of}
+use Rattle.plan_base.specs.Places.{is_two_way, places, place_of, link_of_place, there_of, back_of}
 use Rattle.plan_base.specs.Paths.{arc_at}
 use Rattle.plan_base.specs.Facts.{total_load}
 use Rattle.link_steps.specs.Costs.{CannotCarry, IsStepCost}
@@ -12,6 +12,10 @@ use Rattle.least_path.specs.Paths.{Weights}
 -- the loads of places with a load more on one of them
 abbrev pub with_more : (ℕ → ℕ) → ℕ → ℕ → ℕ → ℕ
 with_more loads q load i = if i == q then loads i + load else loads i
+
+-- what the other place of a place's link has, 0 where the link has one place
+abbrev pub other_of : Parts → (ℕ → ℕ) → ℕ → ℕ
+other_of p f q = if is_two_way p.orient then f (if q % 2 == 1 then q - 1 else q + 1) else 0
 
 -- the larger load of a link's places
 abbrev pub larger_of : Parts → (ℕ → ℕ) → ℕ → ℕ

@@ -1,61 +1,161 @@
 //! What arcs weigh while demands are laid.
 
-ghost use Rattle.std.specs.Prelude.{ℕ, ◌≡◌, true, false, ◌<◌, ◌≤◌, ◌+◌, ◌*◌, ◌/◌, min, max, length, slice_index, IfSome, IfNone};
+ghost use Rattle.std.specs.Prelude.{ℕ, ◌≡◌, true, false, ◌<◌, ◌≤◌, ◌+◌, ◌*◌, ◌-◌, ◌^◌, ◌/◌, min, max, length, slice_index, IfSome, IfNone};
 ghost use Rattle.std.specs.Option.{unwrap_or};
 ghost use Rattle.plan_base.specs.declared.parts.Parts.{Parts};
 ghost use Rattle.plan_base.specs.Facts.{IsInstance, total_load};
-ghost use Rattle.plan_base.specs.Places.{places, link_of_place, there_of, back_of};
+ghost use Rattle.plan_base.specs.Places.{places, link_of_place};
 ghost use Rattle.link_steps.specs.Costs.{CannotCarry, IsStepCost};
-ghost use Rattle.demand_routing.specs.Traffic.{with_more, IsTooMuch, IsCostOf, IsRise, IsAddedCost, span_of, IsFarCost, AreRises, HasTooMuch};
-ghost use Rattle.demand_routing.specs.Holding.{IsHeld, AreHeld};
+ghost use Rattle.demand_routing.specs.Traffic.{with_more, other_of, IsTooMuch, IsCostOf, IsRise, IsAddedCost, span_of, IsFarCost, AreRises, HasTooMuch};
+ghost use Rattle.demand_routing.specs.Holding.{AreSides, IsCostOfSides, IsHeld, AreHeld};
 
 use completions::{LINK_COST_BOUND, routing_cost};
 use least_path::Weigher;
-use link_steps::{PlacedCost, StepTable};
+use link_steps::StepTable;
 use plan_base::limits::{MAX_LINKS, MAX_PLACES, MAX_TOTAL_LOAD};
 use plan_base::{ArcId, Instance, LinkId, LinkLoads};
 
-/// The step cost of the loads of a link's places, in cost grains, and the place of its step, which is found at once where
-/// it lies near this one; None where the larger load is above the total load or no counts carry it.
+/// What a place and the other place of its link carry, in load grains.
+#[derive(Clone, Copy, Debug)]
+struct Sides {
+    here: u64,
+    /// 0 where the link has one place.
+    other: u64,
+}
+
+impl Sides {
+    /// The same with a load more here; None where that comes to more than a total.
+    fn raised(self, total: u64, load: u128) -> Option<Sides>
+        ensures here { IfSome result (λ raised. raised.here ≡ self.here + load) }
+        ensures other { IfSome result (λ raised. raised.other ≡ self.other) }
+        ensures within { IfSome result (λ raised. raised.here ≤ total) }
+        ensures none { IfNone result (total < self.here + load) }
+    {
+        let here = u128::from(self.here).saturating_add(load);
+        if here > u128::from(total) {
+            return None;
+        }
+        Some(Sides {
+            here: here as u64,
+            other: self.other,
+        })
+    }
+
+    /// The load that the link needs capacity for.
+    fn larger(self) -> u64
+        ensures { result ≡ max self.here self.other }
+    {
+        self.here.max(self.other)
+    }
+
+    fn smaller(self) -> u64
+        ensures { result ≡ min self.here self.other }
+    {
+        self.here.min(self.other)
+    }
+}
+
+/// What the other place of a place's link carries, 0 where the link has one place.
+fn other_load(inst: &Instance, loads: &[u128; MAX_PLACES], place: u32) -> u128
+    requires { place < places inst.now }
+    ensures { result ≡ other_of inst.now (slice_index loads.now) place }
+{
+    inst.lawful();
+    if !inst.orient().is_two_way() {
+        return 0;
+    }
+    if place % 2 == 1 {
+        loads[place as usize - 1]
+    } else {
+        loads[place as usize + 1]
+    }
+}
+
+/// What a place and the other place of its link carry; None where one of them carries more than the total load.
+fn sides_of(inst: &Instance, loads: &[u128; MAX_PLACES], place: u32) -> Option<Sides>
+    requires { place < places inst.now }
+    ensures sides { IfSome result (AreSides inst.now (slice_index loads.now) place) }
+    ensures within { IfSome result (λ sides. max sides.here sides.other ≤ total_load inst.now) }
+    ensures none { IfNone result (total_load inst.now < max (slice_index loads.now place) (other_of inst.now (slice_index loads.now) place)) }
+{
+    inst.lawful();
+    let total = u128::from(inst.total_load());
+    let here = loads[place as usize];
+    let other = other_load(inst, loads, place);
+    if here > total || other > total {
+        return None;
+    }
+    Some(Sides {
+        here: here as u64,
+        other: other as u64,
+    })
+}
+
+/// The step cost of loads on a link, in cost grains; the greatest number where no counts carry the larger one. Its step is
+/// looked for near a place, which becomes that of the step.
+fn least_cost(
+    inst: &Instance,
+    table: &StepTable,
+    link: LinkId,
+    larger: u64,
+    smaller: u64,
+    near: &mut u32,
+) -> u128
+    requires lawful { IsInstance inst.now }
+    requires table { table.now ≡ inst.now }
+    requires link { link.0 < length inst.now.links }
+    requires order { smaller ≤ larger }
+    requires total { larger ≤ total_load inst.now }
+    ensures some { result < 2 ^ 128 - 1 → IsStepCost inst.now link.0 larger smaller result }
+    ensures none { result ≡ 2 ^ 128 - 1 → CannotCarry inst.now link.0 larger }
+    ensures within { result < 2 ^ 128 - 1 → result ≤ LINK_COST_BOUND }
+{
+    let Some(modules) = table.at_near(link, larger, *near) else {
+        return u128::MAX;
+    };
+    *near = modules.place;
+    let loads = LinkLoads {
+        there: u128::from(larger),
+        back: u128::from(smaller),
+    };
+    routing_cost(inst, link, loads) + modules.cost
+}
+
+/// The step cost of a link for what its places carry, in cost grains; None where no counts carry the larger load. Its step
+/// is looked for near a place, which becomes that of the step.
+#[inline(always)]
 fn step_cost(
     inst: &Instance,
     table: &StepTable,
     link: LinkId,
-    loads: LinkLoads,
-    near: u32,
-) -> Option<PlacedCost>
+    sides: Sides,
+    near: &mut u32,
+) -> Option<u128>
     requires lawful { IsInstance inst.now }
     requires table { table.now ≡ inst.now }
     requires link { link.0 < length inst.now.links }
-    ensures load { IfSome result (λ _. max loads.there loads.back ≤ total_load inst.now) }
-    ensures some { IfSome result (λ found. IsStepCost inst.now link.0 loads.there loads.back found.cost) }
-    ensures none { IfNone result (max loads.there loads.back ≤ total_load inst.now → CannotCarry inst.now link.0 (max loads.there loads.back)) }
-    ensures within { IfSome result (λ found. found.cost ≤ LINK_COST_BOUND) }
+    requires total { max sides.here sides.other ≤ total_load inst.now }
+    ensures some { IfSome result (IsCostOfSides inst.now link.0 sides) }
+    ensures none { IfNone result (CannotCarry inst.now link.0 (max sides.here sides.other)) }
+    ensures within { IfSome result (λ cost. cost ≤ LINK_COST_BOUND) }
 {
-    let larger = loads.need();
-    if larger > u128::from(inst.total_load()) {
-        return None;
-    }
-    let modules = table.at_near(link, larger as u64, near)?;
-    Some(PlacedCost {
-        cost: routing_cost(inst, link, loads) + modules.cost,
-        place: modules.place,
-    })
+    let cost = least_cost(inst, table, link, sides.larger(), sides.smaller(), near);
+    if cost == u128::MAX { None } else { Some(cost) }
 }
 
 /// A step cost of a link that is held, and the loads of its places that it is of.
 #[derive(Clone, Copy, Debug)]
 pub struct Held {
-    /// Whether there is one.
-    pub known: bool,
-    /// In load grains.
-    pub there: u128,
-    /// In load grains.
-    pub back: u128,
     /// In cost grains.
     pub cost: u128,
+    /// In load grains.
+    pub larger: u64,
+    /// In load grains.
+    pub smaller: u64,
     /// The place of its step.
     pub place: u32,
+    /// Whether there is one.
+    pub known: bool,
 }
 
 impl Held {
@@ -64,11 +164,24 @@ impl Held {
         ensures { result.known ≡ false }
     {
         Held {
-            known: false,
-            there: 0,
-            back: 0,
             cost: 0,
+            larger: 0,
+            smaller: 0,
             place: 0,
+            known: false,
+        }
+    }
+
+    /// A step cost that is found for what a link's places carry.
+    fn of(sides: Sides, cost: u128, place: u32) -> Held
+        ensures { (p : Parts) (e : ℕ) → max sides.here sides.other ≤ total_load p → IsCostOfSides p e sides cost → IsHeld p e result }
+    {
+        Held {
+            cost,
+            larger: sides.larger(),
+            smaller: sides.smaller(),
+            place,
+            known: true,
         }
     }
 }
@@ -79,25 +192,23 @@ fn known_cost(
     table: &StepTable,
     helds: &[Held; MAX_LINKS],
     link: LinkId,
-    loads: LinkLoads,
-    near: u32,
-) -> Option<PlacedCost>
+    sides: Sides,
+    near: &mut u32,
+) -> Option<u128>
     requires lawful { IsInstance inst.now }
     requires table { table.now ≡ inst.now }
     requires helds { AreHeld inst.now helds.now }
     requires link { link.0 < length inst.now.links }
-    ensures load { IfSome result (λ _. max loads.there loads.back ≤ total_load inst.now) }
-    ensures some { IfSome result (λ found. IsStepCost inst.now link.0 loads.there loads.back found.cost) }
-    ensures none { IfNone result (max loads.there loads.back ≤ total_load inst.now → CannotCarry inst.now link.0 (max loads.there loads.back)) }
+    requires total { max sides.here sides.other ≤ total_load inst.now }
+    ensures some { IfSome result (IsCostOfSides inst.now link.0 sides) }
+    ensures none { IfNone result (CannotCarry inst.now link.0 (max sides.here sides.other)) }
 {
     let held = helds[link.0 as usize];
-    if held.known && held.there == loads.there && held.back == loads.back {
-        return Some(PlacedCost {
-            cost: held.cost,
-            place: held.place,
-        });
+    if held.known && held.larger == sides.larger() && held.smaller == sides.smaller() {
+        *near = held.place;
+        return Some(held.cost);
     }
-    step_cost(inst, table, link, loads, near)
+    step_cost(inst, table, link, sides, near)
 }
 
 /// Holds a step cost of a link, in place of the one that is held.
@@ -111,94 +222,28 @@ fn hold(inst: &Instance, helds: &mut [Held; MAX_LINKS], link: LinkId, held: Held
     }
 }
 
-/// The step cost of a link for what its places carry, in cost grains; None where the link cannot carry that. Its step is
-/// looked for near a place.
-fn held_cost(
-    inst: &Instance,
-    table: &StepTable,
-    helds: &[Held; MAX_LINKS],
-    loads: &[u128; MAX_PLACES],
-    link: LinkId,
-    near: u32,
-) -> Option<PlacedCost>
-    requires lawful { IsInstance inst.now }
-    requires table { table.now ≡ inst.now }
-    requires helds { AreHeld inst.now helds.now }
-    requires link { link.0 < length inst.now.links }
-    ensures some { IfSome result (λ found. IsCostOf inst.now (slice_index loads.now) link.0 found.cost) }
-    ensures none { IfNone result (IsTooMuch inst.now (slice_index loads.now) link.0) }
-{
-    let held = LinkLoads::of_link(inst, loads, link);
-    known_cost(inst, table, helds, link, held, near)
-}
-
-/// The loads of a place's link with a load more on that place, up to the greatest number.
-fn loads_with(inst: &Instance, loads: &[u128; MAX_PLACES], place: u32, load: u128) -> LinkLoads
-    requires { place < places inst.now }
-    ensures there { result.there ≡ min (there_of inst.now (with_more (slice_index loads.now) place load) (link_of_place inst.now place)) u128.MAX }
-    ensures back { result.back ≡ min (back_of inst.now (with_more (slice_index loads.now) place load) (link_of_place inst.now place)) u128.MAX }
-{
-    inst.lawful();
-    if !inst.orient().is_two_way() {
-        return LinkLoads {
-            there: loads[place as usize].saturating_add(load),
-            back: 0,
-        };
-    }
-    let mut held = LinkLoads::of_link(inst, loads, inst.link_of_place(place));
-    if place % 2 == 1 {
-        held.back = held.back.saturating_add(load);
-    } else {
-        held.there = held.there.saturating_add(load);
-    }
-    held
-}
-
 /// What the step cost of a place's link rises by where a load is added to the place, above what it costs now, in cost
-/// grains, and the place of its step then; None where the link cannot carry that.
-fn placed_rise(
-    inst: &Instance,
-    table: &StepTable,
-    loads: &[u128; MAX_PLACES],
-    place: u32,
-    before: PlacedCost,
-    load: u128,
-) -> Option<PlacedCost>
-    requires lawful { IsInstance inst.now }
-    requires table { table.now ≡ inst.now }
-    requires place { place < places inst.now }
-    requires before { IsCostOf inst.now (slice_index loads.now) (link_of_place inst.now place) before.cost }
-    ensures some { IfSome result (λ rise. IsRise inst.now (slice_index loads.now) place load rise.cost) }
-    ensures none { IfNone result (IsTooMuch inst.now (with_more (slice_index loads.now) place load) (link_of_place inst.now place)) }
-    ensures within { IfSome result (λ rise. rise.cost ≤ LINK_COST_BOUND) }
-{
-    let link = inst.link_of_place(place);
-    let more = loads_with(inst, loads, place, load);
-    let after = step_cost(inst, table, link, more, before.place)?;
-    Some(PlacedCost {
-        cost: after.cost.saturating_sub(before.cost),
-        place: after.place,
-    })
-}
-
-/// What `placed_rise` tells of costs.
+/// grains; None where the link cannot carry that. The step then is looked for near a place, which becomes its place.
 fn rise_above(
     inst: &Instance,
     table: &StepTable,
-    loads: &[u128; MAX_PLACES],
-    place: u32,
-    before: PlacedCost,
+    link: LinkId,
+    sides: Sides,
+    before: u128,
     load: u128,
+    near: &mut u32,
 ) -> Option<u128>
     requires lawful { IsInstance inst.now }
     requires table { table.now ≡ inst.now }
-    requires place { place < places inst.now }
-    requires before { IsCostOf inst.now (slice_index loads.now) (link_of_place inst.now place) before.cost }
-    ensures value { IsAddedCost inst.now (slice_index loads.now) place load result }
+    requires link { link.0 < length inst.now.links }
+    requires total { max sides.here sides.other ≤ total_load inst.now }
+    ensures value { (f : ℕ → ℕ) (q : ℕ) → link_of_place inst.now q ≡ link.0 → AreSides inst.now f q sides → IsCostOf inst.now f link.0 before → IsAddedCost inst.now f q load result }
+    ensures load { IfSome result (λ _. sides.here + load ≤ total_load inst.now) }
     ensures within { unwrap_or result 0 ≤ LINK_COST_BOUND }
 {
-    let rise = placed_rise(inst, table, loads, place, before, load)?;
-    Some(rise.cost)
+    let raised = sides.raised(inst.total_load(), load)?;
+    let after = step_cost(inst, table, link, raised, near)?;
+    Some(after.saturating_sub(before))
 }
 
 /// What the step cost of a place's link rises by where a load is added to the place, in cost grains; None where the link
@@ -219,9 +264,11 @@ fn added_cost(
     ensures value { IsAddedCost inst.now (slice_index loads.now) place load result }
     ensures within { unwrap_or result 0 ≤ LINK_COST_BOUND }
 {
+    let sides = sides_of(inst, loads, place)?;
     let link = inst.link_of_place(place);
-    let before = held_cost(inst, table, helds, loads, link, near)?;
-    rise_above(inst, table, loads, place, before, load)
+    let mut near = near;
+    let before = known_cost(inst, table, helds, link, sides, &mut near)?;
+    rise_above(inst, table, link, sides, before, load, &mut near)
 }
 
 /// Half of a load's share of what a span of loads costs, which is no shorter.
@@ -237,13 +284,14 @@ fn half_share(cost: u128, load: u128, span: u128) -> u128
 }
 
 /// How far more load is looked at on a place that carries so much and takes this load.
-fn span_of(inst: &Instance, carried: u128, load: u128, far: u128) -> u128
+fn span_of(inst: &Instance, carried: u64, load: u128, far: u128) -> u128
     requires within { carried + load ≤ total_load inst.now }
     ensures value { result ≡ span_of inst.now carried load far }
     ensures load { load ≤ result }
     ensures most { carried + result ≤ total_load inst.now }
 {
     let total = u128::from(inst.total_load());
+    let carried = u128::from(carried);
     (carried + load).saturating_add(far).min(total) - carried
 }
 
@@ -267,14 +315,16 @@ fn far_cost(
     ensures value { IsFarCost inst.now (slice_index loads.now) place load far result }
     ensures within { unwrap_or result 0 ≤ 2 * LINK_COST_BOUND }
 {
+    let sides = sides_of(inst, loads, place)?;
     let link = inst.link_of_place(place);
-    let before = held_cost(inst, table, helds, loads, link, near)?;
-    let rise = rise_above(inst, table, loads, place, before, load)?;
-    let span = span_of(inst, loads[place as usize], load, far);
+    let mut near = near;
+    let before = known_cost(inst, table, helds, link, sides, &mut near)?;
+    let rise = rise_above(inst, table, link, sides, before, load, &mut near)?;
+    let span = span_of(inst, sides.here, load, far);
     if span == 0 {
         return Some(rise);
     }
-    let Some(beyond) = rise_above(inst, table, loads, place, before, span) else {
+    let Some(beyond) = rise_above(inst, table, link, sides, before, span, &mut near) else {
         return Some(rise);
     };
     Some(rise / 2 + half_share(beyond, load, span))
@@ -384,22 +434,6 @@ impl Rise {
     }
 }
 
-/// A step cost that is found for these loads, to be held.
-fn found_cost(loads: LinkLoads, found: PlacedCost) -> Held
-    ensures known { result.known ≡ true }
-    ensures there { result.there ≡ loads.there }
-    ensures back { result.back ≡ loads.back }
-    ensures cost { result.cost ≡ found.cost }
-{
-    Held {
-        known: true,
-        there: loads.there,
-        back: loads.back,
-        cost: found.cost,
-        place: found.place,
-    }
-}
-
 /// What the step cost of a place's link rises by where a load is added to the place; None also where there is no such
 /// place. The step of what it carries is looked for near a place.
 fn rise_at(
@@ -422,15 +456,17 @@ fn rise_at(
     if place >= inst.places() {
         return None;
     }
+    let less = sides_of(inst, loads, place)?;
+    let more = less.raised(inst.total_load(), load)?;
     let link = inst.link_of_place(place);
-    let less = LinkLoads::of_link(inst, loads, link);
-    let more = loads_with(inst, loads, place, load);
-    let before = known_cost(inst, table, helds, link, less, near)?;
-    let after = known_cost(inst, table, helds, link, more, before.place)?;
+    let mut near = near;
+    let before = known_cost(inst, table, helds, link, less, &mut near)?;
+    let held = Held::of(less, before, near);
+    let after = known_cost(inst, table, helds, link, more, &mut near)?;
     Some(Rise {
-        cost: after.cost.saturating_sub(before.cost),
-        before: found_cost(less, before),
-        after: found_cost(more, after),
+        cost: after.saturating_sub(before),
+        before: held,
+        after: Held::of(more, after, near),
     })
 }
 
