@@ -93,9 +93,36 @@ impl Routing {
         self.laid[place] = true;
     }
 
+    /// Lays a demand that is off on the places of its path, where it is known what that adds.
+    fn put_back(&mut self, inst: &Instance, demand: DemandId, rise: u128)
+        requires demand { demand.0 < length inst.now.demands }
+        requires routing { IsRouting inst.now self.old }
+        requires off { is_marked self.old.laid.items demand.0 ≡ false }
+        requires rise { AreRises inst.now self.old.loads.value (demand_at inst.now demand.0).load (path_at (with_paths self.old.paths.items) demand.0) u128.MAX rise }
+        ensures routing { IsRouting inst.now self.new }
+        ensures paths { self.new.paths ≡ self.old.paths }
+        ensures on { is_marked self.new.laid.items demand.0 ≡ true }
+        ensures searches { self.new.searches ≡ self.old.searches }
+        ensures cost { IsCostWith inst.now self.old.loads.value (demand_at inst.now demand.0).load (path_at (with_paths self.new.paths.items) demand.0) self.old.cost self.new.cost }
+    {
+        inst.lawful();
+        let place = demand.0 as usize;
+        let load = inst.demand(demand).load;
+        let arcs = self.paths[place].as_slice();
+        add_load(inst, &mut self.loads, arcs, load);
+        self.cost = self.cost.saturating_add(rise);
+        self.laid[place] = true;
+    }
+
     /// Takes a demand off the places of its path, and tells what their step costs fall by, in cost grains. One that is off
-    /// stays so.
-    pub fn take_off(&mut self, inst: &Instance, table: &StepTable, demand: DemandId) -> Option<u128>
+    /// stays so. Where it may come back, the step costs with it stay held.
+    pub fn take_off(
+        &mut self,
+        inst: &Instance,
+        table: &StepTable,
+        demand: DemandId,
+        comes_back: bool,
+    ) -> Option<u128>
         requires table { table.now ≡ inst.now }
         requires demand { demand.0 < length inst.now.demands }
         requires routing { IsRouting inst.now self.old }
@@ -124,7 +151,7 @@ impl Routing {
             &mut self.helds,
             arcs,
             load,
-            false,
+            comes_back,
         );
         self.cost = self.cost.saturating_sub(fall.unwrap_or(0));
         self.laid[place] = false;
@@ -269,9 +296,12 @@ impl Routing {
         ensures no_fewer { self.old.searches ≤ self.new.searches }
         ensures one_more { self.new.searches ≤ self.old.searches + 1 }
     {
-        let own = self.take_off(inst, table, demand);
+        let own = self.take_off(inst, table, demand, true);
         let helps = self.take_cheaper(inst, table, demand, own)?;
-        self.put_on(inst, table, demand);
+        match own {
+            Some(rise) if !helps => self.put_back(inst, demand, rise),
+            _ => self.put_on(inst, table, demand),
+        }
         Ok(helps)
     }
 
@@ -293,7 +323,7 @@ impl Routing {
         ensures without { IfOk result (λ found. IsFalse found → IsCostWithout inst.now self.old demand.0 self.new.loads.value self.new.cost) }
         ensures stuck { IfOk result (λ found. IsFalse found → IsStuck inst.now) }
     {
-        let _fall = self.take_off(inst, table, demand);
+        let _fall = self.take_off(inst, table, demand, false);
         let found = self.take_cheaper(inst, table, demand, None)?;
         if found {
             self.put_on(inst, table, demand);
@@ -320,7 +350,7 @@ impl Routing {
         ensures cost { IfOk result (λ found. IsTrue found → IsMoved inst.now demand.0 self.old self.new) }
         ensures without { IfOk result (λ found. IsFalse found → IsCostWithout inst.now self.old demand.0 self.new.loads.value self.new.cost) }
     {
-        let _fall = self.take_off(inst, table, demand);
+        let _fall = self.take_off(inst, table, demand, false);
         let Some(_weight) = self.search_far(inst, table, demand, far)? else {
             return Ok(false);
         };
@@ -347,7 +377,7 @@ impl Routing {
         ensures cost { OnOk result (IsMoved inst.now demand.0 self.old self.new) }
         ensures path { OnOk result (self.new.paths.items ≡ slice_set self.old.paths.items demand.0 path.now) }
     {
-        let _fall = self.take_off(inst, table, demand);
+        let _fall = self.take_off(inst, table, demand, false);
         set_path(&mut self.paths, demand, path)?;
         self.put_on(inst, table, demand);
         Ok(())

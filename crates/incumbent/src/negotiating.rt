@@ -369,7 +369,7 @@ impl Negotiation {
             return Ok(false);
         }
         self.searches += 1;
-        let _fall = self.routing.take_off(inst, table, demand);
+        let _fall = self.routing.take_off(inst, table, demand, false);
         if !self.find(inst, demand)? {
             return Ok(false);
         }

@@ -159,7 +159,7 @@ fn destroy(inst: &Instance, table: &StepTable, group: &[DemandId], routing: &mut
     ensures routing { IsRouting inst.now routing.new }
 {
     for demand in group {
-        let _fall = routing.take_off(inst, table, *demand);
+        let _fall = routing.take_off(inst, table, *demand, false);
     }
 }
 
