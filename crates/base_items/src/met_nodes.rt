@@ -13,8 +13,8 @@ pub const NODE_BOUND: u32 = 512;
 /// A new walk takes a new stamp, so that nothing has to be cleared until the stamps run out.
 #[derive(Drop)]
 pub struct MetNodes {
-    stamps: [u32; 512],
-    stamp: u32,
+    stamps: [u8; 512],
+    stamp: u8,
 }
 
 impl Model for MetNodes {
@@ -69,7 +69,7 @@ impl MetNodes {
     fn forget(&mut self)
         ensures { (n : ℕ) → is_met self.new n ≡ false }
     {
-        if self.stamp == u32::MAX {
+        if self.stamp == u8::MAX {
             *self = MetNodes::new();
         } else {
             self.stamp += 1;
