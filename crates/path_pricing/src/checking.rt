@@ -60,9 +60,12 @@ impl Query<'_> {
         let link = self.inst.link(LinkId(number));
         let source = potentials[link.source.0 as usize];
         let target = potentials[link.target.0 as usize];
-        let there = self.price_at(ArcId(2 * number));
-        let back = self.price_at(ArcId(2 * number + 1));
-        !is_above(target, source, there) && !is_above(source, target, back)
+        // Only one of the two arcs rises.
+        if source <= target {
+            target - source <= self.price_at(ArcId(2 * number))
+        } else {
+            source - target <= self.price_at(ArcId(2 * number + 1))
+        }
     }
 
     /// Whether each arc of a link is forbidden, or rises by at most its price. On most links neither rises by more: what is
