@@ -1,16 +1,16 @@
 -- How many searches there are, when they are due, and what they leave.
-use Rattle.std.specs.Prelude.{ℕ, ◌≡◌, ◌<◌, ◌≤◌, ◌+◌, ◌-◌, ◌*◌, ◌/◌, ◌^◌, ◌==◌, ◌||◌, nat_lt, max, min, length, slice_get, Option, None, IfSome, IsSomeAnd, if◌then◌else◌}
+use Rattle.std.specs.Prelude.{ℕ, Bool, true, false, not, ◌≡◌, ◌<◌, ◌≤◌, ◌+◌, ◌-◌, ◌*◌, ◌/◌, ◌%◌, ◌^◌, ◌==◌, nat_lt, max, min, length, slice_get, Option, None, IfSome, IsSomeAnd, if◌then◌else◌}
 use Rattle.plan_base.specs.declared.parts.Parts.{Parts}
 use Rattle.plan_base.specs.declared.path.Design.{Design}
 use Rattle.plan_base.specs.Designs.{cost_of, IsGoodDesign}
 use Rattle.plan_base.specs.Facts.{total_load}
-use Rattle.incumbent.specs.declared.cooling.TheConstants.{WORK, MOST_SEARCHES, LEAST_SEARCHES, SEARCHES_A_DEMAND}
+use Rattle.incumbent.specs.declared.cooling.TheConstants.{WORK, WIDE_NODES, MOST_SEARCHES, LEAST_SEARCHES, SEARCHES_A_DEMAND}
 use Rattle.incumbent.specs.declared.ration.DesignSearch.{DesignSearch}
-use Rattle.incumbent.specs.declared.ration.TheConstants.{DUE, EARLIER, PARTS, MOST_SHARES, LATER_SHARES, MARGIN}
+use Rattle.incumbent.specs.declared.ration.TheConstants.{DUE, EARLIER, PARTS, LATER_PARTS, MOST_SHARES, LATER_SHARES, MARGIN}
 
--- how many steps one search may take, nodes by nodes and arcs
+-- how many steps one search may take, nodes by nodes and arcs; on wide networks more, as their paths are longer
 abbrev pub search_work : Parts → ℕ
-search_work p = p.nodes * p.nodes + 8 * length p.links
+search_work p = p.nodes * p.nodes * max p.nodes WIDE_NODES / WIDE_NODES + 8 * length p.links
 
 -- how many searches a network is worth: as many as the work allows and at least a few, but no more than its demands need
 abbrev pub search_limit : Parts → ℕ
@@ -24,17 +24,17 @@ due_of seats due = if seats == 1 then due else due / EARLIER
 abbrev pub IsDue : ℕ → ℕ → ℕ → Type 0
 IsDue seats place examined = IsSomeAnd (slice_get DUE place) (λ due. due_of seats due ≤ examined)
 
--- how many parts the first search of each of so many seats has: one seat makes it whole
-abbrev pub parts_of : ℕ → ℕ
-parts_of seats = if seats == 1 then 1 else PARTS
+-- a search has parts left once a seat has made so many: of several seats each makes some parts of the first one, and the others in as many parts; one seat makes each whole
+abbrev pub has_parts_left : ℕ → ℕ → Bool
+has_parts_left seats searches = if seats == 1 then false else (if nat_lt searches PARTS then true else not ((searches - PARTS) % LATER_PARTS == 0))
 
--- how many equal shares of the searches for paths there are, of which the next search spends one: only parts of the first search spend less than all, a later part a fourth of the first one
+-- how many equal shares of the searches for paths there are, of which the next search spends one: one seat spends all, of several a later part of the first search a fourth of its first part, and a part of another search a fourth of all
 abbrev pub shares_of : DesignSearch → ℕ
-shares_of s = if (s.seats == 1) || nat_lt 0 s.place then 1 else (if s.searches == 0 then min s.seats MOST_SHARES else LATER_SHARES * min s.seats MOST_SHARES)
+shares_of s = if s.seats == 1 then 1 else (if nat_lt 0 s.place then LATER_PARTS else (if s.searches == 0 then min s.seats MOST_SHARES else LATER_SHARES * min s.seats MOST_SHARES))
 
--- the place of the search that a seat makes after one at this place, once it has made so many: all make their parts of the first one, and the others are dealt out in turn
+-- the place of the search that a seat makes after one at this place, once it has made so many: all make their parts of the first one, and the others are dealt out in turn, each with all its parts
 abbrev pub next_place : ℕ → ℕ → ℕ → ℕ → ℕ
-next_place seat seats searches place = if nat_lt searches (parts_of seats) then place else min (if place == 0 then seat + 1 else place + seats) (2 ^ 32 - 1)
+next_place seat seats searches place = if has_parts_left seats searches then place else min (if place == 0 then seat + 1 else place + seats) (2 ^ 32 - 1)
 
 -- no design was asked for yet, at this seat of so many
 pub record IsOpening (number count : ℕ) (s : DesignSearch) : Type 0 where

@@ -17,6 +17,9 @@ const SEARCHES_A_DEMAND: u32 = 1_000;
 /// How many steps all searches may take, nodes by nodes and arcs.
 const WORK: u32 = 2_500_000_000;
 
+/// On networks of more nodes a search takes more steps than nodes by nodes, as paths have more arcs.
+const WIDE_NODES: u32 = 256;
+
 /// The first slack is the cost over so many times the count of demands.
 const COOL: u32 = 6;
 
@@ -34,7 +37,8 @@ fn search_limit(inst: &Instance) -> u32
     ensures most { result ≤ MOST_SEARCHES }
 {
     let nodes = inst.nodes();
-    let work = nodes * nodes + 8 * inst.links();
+    let wide = nodes.max(WIDE_NODES);
+    let work = nodes * nodes * wide / WIDE_NODES + 8 * inst.links();
     let worth = (WORK / work.max(1)).max(LEAST_SEARCHES);
     worth
         .min(SEARCHES_A_DEMAND * inst.demands())

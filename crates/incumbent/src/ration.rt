@@ -5,7 +5,7 @@ ghost use Rattle.plan_base.specs.Arcs.{demand_at};
 ghost use Rattle.plan_base.specs.Paths.{IsSimplePath};
 ghost use Rattle.plan_base.specs.Designs.{cost_of, IsDesign, KeepsLimits, IsGoodDesign};
 ghost use Rattle.completions.specs.Completions.{with_paths, ArePaths, HasOverfull};
-ghost use Rattle.incumbent.specs.Searches.{IsDue, IsOpening, IsCheaper, IsWorth, due_of, parts_of, shares_of, next_place, HasSearched, HasWaited};
+ghost use Rattle.incumbent.specs.Searches.{IsDue, IsOpening, IsCheaper, IsWorth, due_of, has_parts_left, shares_of, next_place, HasSearched, HasWaited};
 
 use crate::improving::improve_share;
 use crate::laying::lay_all;
@@ -23,8 +23,8 @@ const DUE: [u32; 7] = [0, 0, 4, 16, 64, 256, 1_024];
 /// worker's, and the others examine nodes meanwhile.
 const EARLIER: u32 = 2;
 
-/// How many seeds a seat has: one for each of its searches.
-const SEEDS: u32 = 7;
+/// How many seeds a seat has: one for each of its searches and their parts.
+const SEEDS: u32 = 64;
 
 /// How many parts of the first search each seat makes, where there are several seats.
 const PARTS: u32 = 2;
@@ -35,6 +35,9 @@ const MOST_SHARES: u32 = 8;
 
 /// A later part of the first search has so many times fewer searches for paths than its first part.
 const LATER_SHARES: u32 = 4;
+
+/// How many equal parts each search that is dealt out has, where there are several seats.
+const LATER_PARTS: u32 = 4;
 
 /// A search is spent on a dearer design than another one only where its cost, without one part in so many, is less.
 const MARGIN: u128 = 6;
@@ -51,9 +54,9 @@ const MOST_TRIES: u32 = 64;
 /// dearer, and each later one with the cheapest design so far, where one demand has another path.
 ///
 /// Where several search at once, each has a seat of its own, and may learn the cheapest design of all. They share the
-/// first search out, in two parts each: the second part goes on from the cheapest design. The other searches are dealt
-/// out: together the seats make each of them once. So that they go to different designs, searches at different seats
-/// draw differently, and the first part of seat 1 begins as the second search does.
+/// first search out, in two parts each. The other searches are dealt out: together the seats make each of them once, in
+/// four parts. Each part but the first goes on from the cheapest design. So that they go to different designs, searches at
+/// different seats draw differently, and the first part of seat 1 begins as the second search does.
 #[derive(Debug, Drop)]
 pub struct DesignSearch {
     /// The number of the seat.
@@ -70,11 +73,17 @@ pub struct DesignSearch {
     best: Option<Design>,
 }
 
-/// How many parts the first search of a seat has.
-fn parts_of(seats: u32) -> u32
-    ensures { result ≡ parts_of seats }
+/// Whether a search has parts left once a seat has made so many, of its parts and of others: one seat makes each whole.
+fn has_parts_left(seats: u32, searches: u32) -> bool
+    ensures { result ≡ has_parts_left seats searches }
 {
-    if seats == 1 { 1 } else { PARTS }
+    if seats == 1 {
+        return false;
+    }
+    if searches < PARTS {
+        return true;
+    }
+    (searches - PARTS) % LATER_PARTS != 0
 }
 
 /// How many nodes are examined when a search is due, of which one seat makes it at so many.
@@ -85,11 +94,11 @@ fn due_of(seats: u32, due: u32) -> u32
 }
 
 /// The place of the search that a seat makes after one at this place, once it has made so many: all seats make their
-/// parts of the first search, and the others are dealt out to them in turn.
+/// parts of the first search, and the others are dealt out to them in turn, each with all its parts.
 fn place_after(seat: u32, seats: u32, searches: u32, place: u32) -> u32
     ensures { result ≡ next_place seat seats searches place }
 {
-    if searches < parts_of(seats) {
+    if has_parts_left(seats, searches) {
         return place;
     }
     if place == 0 {
@@ -322,8 +331,11 @@ impl DesignSearch {
     fn shares(&self) -> u32
         ensures { result ≡ shares_of self.now }
     {
-        if self.seats == 1 || self.place > 0 {
+        if self.seats == 1 {
             return 1;
+        }
+        if self.place > 0 {
+            return LATER_PARTS;
         }
         let shares = self.seats.min(MOST_SHARES);
         if self.searches == 0 {
@@ -440,11 +452,11 @@ impl DesignSearch {
         requires paths { ArePaths inst.now paths.now }
         ensures { IfOk result (λ found. IfSome found (IsGoodDesign inst.now)) }
     {
+        if self.searches > 0 && has_parts_left(self.seats, self.searches) {
+            return self.copied_best(inst);
+        }
         if self.place > 1 {
             return self.varied_best(alloc, inst, table, paths);
-        }
-        if self.place == 0 && self.searches > 0 {
-            return self.copied_best(inst);
         }
         if self.begins_laid() {
             return self.laid_or_other(alloc, inst, table, paths);
