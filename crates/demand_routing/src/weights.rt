@@ -48,6 +48,7 @@ impl Sides {
         self.here.max(self.other)
     }
 
+    /// The other load of the link.
     fn smaller(self) -> u64
         ensures { result ≡ min self.here self.other }
     {
@@ -121,9 +122,17 @@ fn least_cost(
     routing_cost(inst, link, loads) + modules.cost
 }
 
+/// What `least_cost` gives, or None for the greatest number.
+fn carried_cost(cost: u128) -> Option<u128>
+    ensures same { IfSome result (λ carried. carried ≡ cost) }
+    ensures below { IfSome result (λ carried. carried < 2 ^ 128 - 1) }
+    ensures none { IfNone result (cost ≡ 2 ^ 128 - 1) }
+{
+    if cost == u128::MAX { None } else { Some(cost) }
+}
+
 /// The step cost of a link for what its places carry, in cost grains; None where no counts carry the larger load. Its step
 /// is looked for near a place, which becomes that of the step.
-#[inline(always)]
 fn step_cost(
     inst: &Instance,
     table: &StepTable,
@@ -140,7 +149,7 @@ fn step_cost(
     ensures within { IfSome result (λ cost. cost ≤ LINK_COST_BOUND) }
 {
     let cost = least_cost(inst, table, link, sides.larger(), sides.smaller(), near);
-    if cost == u128::MAX { None } else { Some(cost) }
+    carried_cost(cost)
 }
 
 /// A step cost of a link that is held, and the loads of its places that it is of.
@@ -204,11 +213,14 @@ fn known_cost(
     ensures none { IfNone result (CannotCarry inst.now link.0 (max sides.here sides.other)) }
 {
     let held = helds[link.0 as usize];
-    if held.known && held.larger == sides.larger() && held.smaller == sides.smaller() {
+    let larger = sides.larger();
+    let smaller = sides.smaller();
+    if held.known && held.larger == larger && held.smaller == smaller {
         *near = held.place;
         return Some(held.cost);
     }
-    step_cost(inst, table, link, sides, near)
+    let cost = least_cost(inst, table, link, larger, smaller, near);
+    carried_cost(cost)
 }
 
 /// Holds a step cost of a link, in place of the one that is held.
