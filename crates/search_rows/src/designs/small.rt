@@ -38,7 +38,7 @@ const PAIR: Small = Small {
 };
 
 /// How many nodes are examined whenever a seat is asked for a design: each search comes due at one of these askings, and
-/// none at those that stand just before them.
+/// none at those that stand just before them. Parts of a search follow at the next ones.
 const ASKINGS: [u32; 23] = [
     0, 0, 0, 1, 2, 3, 4, 7, 8, 15, 16, 31, 32, 63, 64, 127, 128, 255, 256, 511, 512, 1_023, 1_024,
 ];
