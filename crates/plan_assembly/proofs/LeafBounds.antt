@@ -1,10 +1,9 @@
--- The limits of a state: its cost, and the bounds of its open leaves, and how these bounds are priced.
-use Rattle.std.proofs.Common.{◌≡◌, ◌≢◌, ℕ, zero, suc, ◌+◌, ◌*◌, ◌^◌, ◌<◌, ◌≤◌, ◌⊎◌, inl, inr, Bool, true, false, List, length, set, length-set, get_or, slice_index, Option, Some, None, slice_get, IsTrue, refl, sym, ap, ap₂, subst, ◌∙◌, arith, ℤ, pos, mul-le-mul}
-use Rattle.std.specs.Prelude.{IsFalse, IsSome, IsSomeAnd, IfSome, IfOk, Result, Ok, Err, option_map, int_lt, if◌then◌else◌, ◌↔◌}
-use Rattle.std.proofs.lemmas.Int.{ints}
+-- The bounds of open leaves, how they are priced, and the cost of the best design.
+use Rattle.std.proofs.Common.{◌≡◌, ◌≢◌, ℕ, zero, suc, ◌+◌, ◌*◌, ◌^◌, ◌<◌, ◌≤◌, ◌⊎◌, inl, inr, Bool, true, false, List, length, set, length-set, get_or, slice_index, Option, Some, None, slice_get, IsTrue, refl, sym, ap, ap₂, subst, ◌∙◌, arith, ℤ, mul-le-mul}
+use Rattle.std.specs.Prelude.{IsFalse, IsSome, IfSome, IfOk, Result, Ok, Err, option_map, ◌↔◌}
 use Rattle.std.proofs.lemmas.List.{get_or_default, get_or_past, get_or-set_same, get_or-set_other}
 use Rattle.std.proofs.lemmas.List.Sums.{sum_by-le}
-use Rattle.std.proofs.lemmas.Option.{slice_get_within, slice_get-get_or}
+use Rattle.std.proofs.lemmas.Option.{slice_get-get_or}
 use Rattle.plan_base.specs.declared.parts.Parts.{Parts}
 use Rattle.plan_base.specs.declared.path.Design.{Design}
 use Rattle.plan_base.specs.declared.limits.TheConstants.{MAX_COUNT_COST, MAX_LINKS}
@@ -24,10 +23,9 @@ use Rattle.link_steps.specs.Ranges.{AreRanges}
 use Rattle.arc_restrict.specs.Prices.{AreWithinLimit, IsLeastPrice}
 use Rattle.proof_tree.specs.Regions.{Region}
 use Rattle.proof_tree.specs.declared.cuts.Cut.{Cut}
-use Rattle.proof_tree.specs.RatedEvidence.{rates_in, IsBoundAt}
+use Rattle.proof_tree.specs.RatedEvidence.{IsBoundAt}
 use Rattle.cut_table.specs.Numbers.{AreNumbers}
 use Rattle.proof_tree.specs.Plans.{IsStatedDesign}
-use Rattle.proof_tree.proofs.RatedUniqueness.{rated_bound-unique}
 use Rattle.bound_assembly.specs.Rounds.{RoundState, length_at, HasLength, left_in, with_length}
 use Rattle.bound_assembly.specs.RoundBounds.{AreShort, IsRoundBound}
 use Rattle.bound_assembly.specs.declared.limits.TheConstants.{MAX_PATH_LINKS}
@@ -36,106 +34,15 @@ use Rattle.bound_assembly.proofs.LeastLengths.{round_bound-bound}
 use Rattle.pool_machine.specs.declared.tree.Incumbent.{Incumbent}
 use Rattle.branch_tree.specs.declared.node.Fate.{Fate}
 use Rattle.branch_tree.specs.declared.node.Fate.TheVariants.{Undone, ClosedBy, DividedBy}
-use Rattle.pool_machine.specs.State.{Best, Node, State, region_of, cutoff_of, kept_by, kept_prices}
+use Rattle.pool_machine.specs.State.{Best, Node, State, region_of, kept_by, kept_prices}
 use Rattle.pool_machine.specs.Machine.{IsReachable}
 use Rattle.pool_machine.specs.Changes.{bound_in}
 use Rattle.pool_machine.specs.Nodes.{IsSoundBest}
 use Rattle.pool_nodes.specs.Grounds.{Kept, IsGroundOf, HasGrounds}
-use Rattle.pool_nodes.specs.Ranks.{lesser_of}
-use Rattle.plan_assembly.specs.PlanParts.{region_in, IsBoundOrNone, IsLeafBound, IsLeafBoundOrNone, IsLimitBelow, IsLeastBelow, IsLeastOrNone}
+use Rattle.plan_assembly.specs.PlanParts.{region_in, IsBoundOrNone, IsLeafBound, IsLeafBoundOrNone}
 use Rattle.pool_machine.proofs.Frames.{one_at, same_or_other}
 use Rattle.pool_machine.proofs.Replacing.{node_at}
 use Rattle.pool_machine.proofs.Runs.{IsReachable-sound}
-
--- The least of the limits
-
--- no node is before the first
-pub least-first : (s : State) → IsLeastOrNone s 0 (option_map (λ cost. pos cost) (cutoff_of s))
-least-first s = by_cost (cutoff_of s) refl
-  where
-    by_cost : (o : Option ℕ) → cutoff_of s ≡ o → IsLeastOrNone s 0 (option_map (λ cost. pos cost) o)
-    by_cost None is = λ bound limit. elim limit [
-      | inl cost ↦ subst (λ (o : Option ℕ). IsSomeAnd o (λ c. pos c ≡ bound)) is cost
-      | inr leaf ↦ let below = leaf.1 in absurd (omega arith)
-    ]
-    by_cost (Some cost) is = record {
-      is_limit = inl (subst (λ (o : Option ℕ). IsSomeAnd o (λ c. pos c ≡ pos cost)) (sym is) refl);
-      least = λ other limit. elim limit [
-        | inl same ↦ let e : pos cost ≡ other = subst (λ (o : Option ℕ). IsSomeAnd o (λ c. pos c ≡ other)) is same in omega (arith, ints)
-        | inr leaf ↦ let below = leaf.1 in absurd (omega arith)
-      ];
-    }
-
-below-or-here : (i n : ℕ) → i < n + 1 → (i < n) ⊎ (i ≡ n)
-below-or-here i n h = grind arith
-
-module _ (s : State) (n : ℕ) where
-  -- a limit below the next place is one below this place, or the node's own bound
-  limit-cases : (bound : ℤ) → IsLimitBelow s (n + 1) bound → IsLimitBelow s n bound ⊎ IsLeafBound s n bound
-  limit-cases bound limit = elim limit [
-    | inl cost ↦ inl (inl cost)
-    | inr leaf ↦ elim (below-or-here leaf.0 n leaf.1) [
-      | inl below ↦ inl (inr (leaf.0, below, leaf.2))
-      | inr here ↦ inr (subst (λ (i : ℕ). IsLeafBound s i bound) here leaf.2)
-    ]
-  ]
-
-  limit-more : (bound : ℤ) → IsLimitBelow s n bound → IsLimitBelow s (n + 1) bound
-  limit-more bound limit = elim limit [ inl cost ↦ inl cost | inr leaf ↦ inr (leaf.0, (let below = leaf.1 in omega arith), leaf.2) ]
-
-  limit-here : (bound : ℤ) → IsLeafBound s n bound → IsLimitBelow s (n + 1) bound
-  limit-here bound leaf = inr (n, omega arith, leaf)
-
-  one_leaf : (one other : ℤ) → IsLeafBound s n one → IsLeafBound s n other → one ≡ other
-  one_leaf one other x y =
-      let same = one_at s.nodes n y.node x.node y.is_node x.is_node in
-      let there : IsBoundAt s.problem s.cuts (region_of s.problem x.node) (kept_prices x.node) other =
-      subst (λ (node : Node). IsBoundAt s.problem s.cuts (region_of s.problem node) (kept_prices node) other) same y.is_bound in
-      rated_bound-unique s.problem s.cuts (region_of s.problem x.node) (kept_prices x.node) (rates_in s.problem (kept_prices x.node)) one other x.is_bound there
-
-  -- one node more
-  pub least-next : (least leaf : Option ℤ) → IsLeastOrNone s n least → IsLeafBoundOrNone s n leaf → IsLeastOrNone s (n + 1) (lesser_of least leaf)
-  least-next None None none no_leaf = λ bound limit. elim (limit-cases bound limit) [ inl below ↦ none bound below | inr here ↦ no_leaf bound here ]
-  least-next None (Some leaf) none is_leaf = record {
-    is_limit = limit-here leaf is_leaf;
-    least = λ other limit. elim (limit-cases other limit) [
-      | inl below ↦ absurd (none other below)
-      | inr here ↦ let same = one_leaf leaf other is_leaf here in omega (arith, ints)
-    ];
-  }
-  least-next (Some bound) None is no_leaf = record {
-    is_limit = limit-more bound is.is_limit;
-    least = λ other limit. elim (limit-cases other limit) [ inl below ↦ is.least other below | inr here ↦ absurd (no_leaf other here) ];
-  }
-  least-next (Some bound) (Some leaf) is is_leaf = by_cases (int_lt leaf bound) refl
-    where
-      by_cases : (b : Bool) → int_lt leaf bound ≡ b → IsLeastBelow s (n + 1) (if b then leaf else bound)
-      by_cases true less = record {
-        is_limit = limit-here leaf is_leaf;
-        least = λ other limit. elim (limit-cases other limit) [
-          | inl below ↦ let low = is.least other below in grind (arith, ints)
-          | inr here ↦ let same = one_leaf leaf other is_leaf here in omega (arith, ints)
-        ];
-      }
-      by_cases false more = record {
-        is_limit = limit-more bound is.is_limit;
-        least = λ other limit. elim (limit-cases other limit) [
-          | inl below ↦ is.least other below
-          | inr here ↦ let same = one_leaf leaf other is_leaf here in grind (arith, ints)
-        ];
-      }
-
-module _ (s : State) (count : ℕ) (all : length s.nodes ≤ count) where
-  limit-within : (bound : ℤ) → IsLimitBelow s count bound → IsLimitBelow s (length s.nodes) bound
-  limit-within bound limit = elim limit [ inl cost ↦ inl cost | inr leaf ↦ inr (leaf.0, slice_get_within s.nodes leaf.0 leaf.2.node leaf.2.is_node, leaf.2) ]
-
-  limit-past : (bound : ℤ) → IsLimitBelow s (length s.nodes) bound → IsLimitBelow s count bound
-  limit-past bound limit = elim limit [ inl cost ↦ inl cost | inr leaf ↦ inr (leaf.0, (let below = leaf.1 in omega arith), leaf.2) ]
-
-  -- all nodes
-  pub least-all : (found : Option ℤ) → IsLeastOrNone s count found → IsLeastOrNone s (length s.nodes) found
-  least-all None none = λ bound limit. none bound (limit-past bound limit)
-  least-all (Some bound) is = record { is_limit = limit-within bound is.is_limit; least = λ other limit. is.least other (limit-past other limit) }
 
 -- The bound of a leaf
 
@@ -199,6 +106,9 @@ module _ (s : State) (h : IsReachable s) (grounds : List (Option Kept)) (has : H
         }
 
 -- Pricing all demands
+
+below-or-here : (i n : ℕ) → i < n + 1 → (i < n) ⊎ (i ≡ n)
+below-or-here i n h = grind arith
 
 -- numbers as they have to be begin with prices
 pub numbers-prices : (p : Parts) (cuts : List Cut) (numbers : List ℕ) → AreNumbers p cuts numbers → ArePrices p numbers
@@ -304,9 +214,6 @@ priced-bound p cuts g prices round number (Some bound) all before none is =
 pub unpriced-bound : (p : Parts) (cuts : List Cut) (g : Region) (prices : List ℕ) (k : ℕ) → k < length p.demands → HasNoPath p g.forbidden k → IsBoundOrNone p cuts g prices None
 unpriced-bound p cuts g prices k within none = λ bound is. let least = is.are_least k within in none least.path least.permitted
 
--- how the least limit of a state begins at its cost and goes on node by node
-pub ruleset least_limits = (least-first, least-next)
-
 -- Costs
 
 modules-within : (f : ℕ → ℕ) (n : ℕ) → ((i : ℕ) → i < n → f i ≤ MAX_COUNT_COST) → sum_below f n ≤ n * MAX_COUNT_COST
@@ -382,6 +289,11 @@ module _ (s : State) (h : IsReachable s) (grounds : List (Option Kept)) (has : H
         -- the recorded bound of an open leaf that is read is its bound at its kept prices
         pub read-recorded : (bound : ℤ) → bound_in (Some node) ≡ Some bound → IsLeafBoundOrNone s n (Some bound)
         read-recorded = leaf-recorded s h grounds has n node node_there ground ground_there kept there
+
+        -- the same where nothing may be recorded
+        pub read-found : (found : Option ℤ) → found ≡ bound_in (Some node) → IfSome found (IsLeafBound s n)
+        read-found None same = tt
+        read-found (Some bound) same = read-recorded bound (sym same)
 
         -- where no bound is recorded, what the first prices give, bound or none, is so of the leaf
         pub read-priced : (found : Option ℤ) → bound_in (Some node) ≡ None → IsBoundOrNone s.problem s.cuts (region_in kept) node.first_prices found → IsLeafBoundOrNone s n found

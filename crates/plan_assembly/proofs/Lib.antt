@@ -8,3 +8,4 @@ pub mod PlanFits
 pub mod PlanBounds
 pub mod DonePlans
 pub mod LeafBounds
+pub mod LowLaws

@@ -1,6 +1,6 @@
 //! The least of the bounds of the open leaves and the cost of the best design.
 
-ghost use Rattle.std.specs.Prelude.{◌≡◌, ◌<◌, ◌^◌, length, option_map, pos, IfOk};
+ghost use Rattle.std.specs.Prelude.{◌≡◌, ◌<◌, ◌≤◌, ◌^◌, ◌+◌, ◌↔◌, length, option_map, pos, IfOk, IfSome, IsTrue};
 ghost use Rattle.link_steps.specs.Ranges.{AreRanges};
 ghost use Rattle.arc_restrict.specs.Rows.{forbids};
 ghost use Rattle.path_pricing.specs.Priced.{ArePrices};
@@ -8,8 +8,10 @@ ghost use Rattle.cut_table.specs.Numbers.{AreNumbers};
 ghost use Rattle.pool_machine.specs.State.{cutoff_of};
 ghost use Rattle.pool_machine.specs.Machine.{IsReachable};
 ghost use Rattle.pool_nodes.specs.SearchStates.{machine_state};
-ghost use Rattle.plan_assembly.specs.PlanParts.{region_in, IsAssembled, IsPriceOrNone, IsBoundOrNone, IsLeafBoundOrNone, IsLeastOrNone};
+ghost use Rattle.plan_assembly.specs.PlanParts.{region_in, IsAssembled, IsPriceOrNone, IsBoundOrNone, IsLeafBound, IsLeafBoundOrNone, IsLeastOrNone};
+ghost use Rattle.plan_assembly.specs.LeafLows.{AreLows, IsLow, IsNeedless, IsLimitOrNone, IsBegun, IsLesserOver};
 
+use crate::lows::{lowest_leaf, lows_of};
 use arc_restrict::Restriction;
 use bound_assembly::Round;
 use cut_table::CutTable;
@@ -131,9 +133,86 @@ fn leaf_bound(
     )
 }
 
+/// What is recorded of an open leaf, in cost grains. None for another node, and where nothing is.
+fn recorded_bound(state: &SearchState, number: usize) -> Option<i128>
+    requires assembled { IsAssembled state.now }
+    requires number { number < length state.now.nodes.items }
+    ensures { IfSome result (IsLeafBound (machine_state state.now) number) }
+{
+    let _plot = state.grounds[number].plot()?;
+    state.nodes[number].bound()
+}
+
+/// The least of what is recorded of open leaves and the cost of the best design, in cost grains.
+fn least_recorded(state: &SearchState) -> Option<i128>
+    requires { IsAssembled state.now }
+    ensures { IsBegun (machine_state state.now) result }
+{
+    let mut least = signed_cost(state);
+    for number in 0..state.nodes.as_slice().len() {
+        least = lesser(least, recorded_bound(state, number));
+    }
+    least
+}
+
+/// Whether a leaf need not be priced: its lower bound is not below the least bound so far.
+fn is_needless(low: Option<i128>, least: Option<i128>) -> bool
+    ensures { IsTrue result ↔ IsNeedless low least }
+{
+    match (low, least) {
+        (Some(low), Some(least)) => low >= least,
+        _ => false,
+    }
+}
+
+/// The lesser of the least bound so far and the bound of an open leaf, in cost grains. The leaf is priced only where its
+/// lower bound is below the least one so far.
+fn least_with(
+    state: &SearchState,
+    known: &KnownAbove,
+    number: usize,
+    low: Option<i128>,
+    least: Option<i128>,
+) -> Result<Option<i128>, AllocError>
+    requires assembled { IsAssembled state.now }
+    requires number { number < length state.now.nodes.items }
+    requires low { IsLow (machine_state state.now) number low }
+    requires limit { IsLimitOrNone (machine_state state.now) least }
+    ensures { IfOk result (IsLesserOver (machine_state state.now) number (number + 1) least) }
+{
+    if is_needless(low, least) {
+        return Ok(least);
+    }
+    Ok(lesser(least, leaf_bound(state, known, number)?))
+}
+
+/// The lesser of the least bound so far and the bounds of the open leaves from one number up to another, in cost grains.
+fn least_over(
+    state: &SearchState,
+    known: &KnownAbove,
+    lows: &[Option<i128>],
+    from: usize,
+    to: usize,
+    so_far: Option<i128>,
+) -> Result<Option<i128>, AllocError>
+    requires assembled { IsAssembled state.now }
+    requires lows { AreLows (machine_state state.now) lows.now }
+    requires to { to ≤ length state.now.nodes.items }
+    requires limit { IsLimitOrNone (machine_state state.now) so_far }
+    ensures { IfOk result (IsLesserOver (machine_state state.now) from to so_far) }
+{
+    let mut least = so_far;
+    for number in from..to {
+        least = least_with(state, known, number, lows[number], least)?;
+    }
+    Ok(least)
+}
+
 /// The least of the bounds of the open leaves and the cost of the best design, in cost grains; none where there
 /// is neither.
-#[tactic(auto, using(crate::proofs::LeafBounds::least_limits))]
+///
+/// - Time: linear in the nodes, beside the leaves that are priced: that with the least lower bound first, and each other one
+///   only where its own is below the least bound so far.
 pub(crate) fn least_bound(
     state: &SearchState,
     known: &KnownAbove,
@@ -141,9 +220,11 @@ pub(crate) fn least_bound(
     requires { IsAssembled state.now }
     ensures { IfOk result (IsLeastOrNone (machine_state state.now) (length state.now.nodes.items)) }
 {
-    let mut least = signed_cost(state);
-    for number in 0..state.nodes.as_slice().len() {
-        least = lesser(least, leaf_bound(state, known, number)?);
-    }
-    Ok(least)
+    let all = lows_of(state)?;
+    let lows = all.as_slice();
+    let first = lowest_leaf(state, lows);
+    let recorded = least_recorded(state);
+    let of_first = least_over(state, known, lows, first, first + 1, recorded)?;
+    let before = least_over(state, known, lows, 0, first, of_first)?;
+    least_over(state, known, lows, first + 1, lows.len(), before)
 }

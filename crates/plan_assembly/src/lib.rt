@@ -8,6 +8,7 @@
 #![tactic(auto)]
 
 mod bounds;
+mod lows;
 mod planning;
 mod records;
 
