@@ -53,8 +53,7 @@ abbrev pub AreCrossingRows : Parts → List Cut → List (List Crossing) → ℕ
 AreCrossingRows p cuts rows count = (q : ℕ) → q < count → slice_index_or rows q [] ≡ crossings_on p cuts q
 
 -- what a table keeps of an instance and a list of cuts
-pub record IsKept (p steps : Parts) (limit : ℕ) (cuts : List Cut) (rests : List ℕ) (rows : List (List Crossing)) : Type 0 where
-  pub steps_are : steps ≡ p
+pub record IsKept (p : Parts) (limit : ℕ) (cuts : List Cut) (rests : List ℕ) (rows : List (List Crossing)) : Type 0 where
   pub limit_is : limit ≡ price_limit p
   pub are_list : IsCutList p cuts
   pub are_rests : AreRests p cuts rests

@@ -39,7 +39,6 @@ pub struct PriceBounds {
 /// value takes time in them alone.
 #[derive(Debug, Drop)]
 pub struct CutTable {
-    inst: Instance,
     steps: StepTable,
     /// The price limit of the instance.
     limit: u128,
@@ -56,35 +55,29 @@ impl Model for CutTable {
 
     ghost Value = { CutProblem };
 
-    ghost view = { λ a. record { problem = a.inst; cuts = a.cuts } };
+    ghost view = { λ a. record { problem = a.steps; cuts = a.cuts } };
 
-    ghost invariant = { λ a. IsKept a.inst a.steps a.limit a.cuts a.rests.items a.rows.items };
+    ghost invariant = { λ a. IsKept a.steps a.limit a.cuts a.rests.items a.rows.items };
 }
 
 impl CutTable {
     /// The table of an instance and a list of cuts.
     ///
-    /// - Takes: the instance, of which it keeps a copy, and its step table; cuts of the instance, as `is_cut_list` of
-    ///   `proof_tree` wants them.
+    /// - Takes: the step table of the instance; cuts of the instance, as `is_cut_list` of `proof_tree` wants them.
     /// - Errors: want of memory alone.
     /// - Rule: docs/DEFINITIONS.md, "Cuts".
     /// - Time: for each cut linear in the demands and the places.
-    pub fn new(
-        alloc: Global,
-        inst: &Instance,
-        steps: StepTable,
-        cuts: Items<Cut>,
-    ) -> Result<CutTable, AllocError>
-        requires steps { steps ≡ inst.now }
-        requires cuts { IsCutList inst.now cuts }
-        ensures { IfOk result (λ table. table ≡ record { problem = inst.now; cuts = cuts }) }
+    pub fn new(alloc: Global, steps: StepTable, cuts: Items<Cut>) -> Result<CutTable, AllocError>
+        requires { IsCutList steps cuts }
+        ensures { IfOk result (λ table. table ≡ record { problem = steps; cuts = cuts }) }
     {
+        let inst = steps.instance();
+        let limit = inst.price_limit();
         let rests = rests_of(alloc, inst, cuts.as_slice())?;
         let rows = crossing_rows(alloc, inst, cuts.as_slice(), &rests)?;
         Ok(CutTable {
-            inst: inst.copy(alloc)?,
             steps,
-            limit: inst.price_limit(),
+            limit,
             cuts,
             rests,
             rows,
@@ -102,12 +95,20 @@ impl CutTable {
         ensures problem { self.new.problem ≡ self.old.problem }
         ensures cuts { OnOk result (self.new.cuts ≡ cuts) }
     {
-        let rests = rests_of(alloc, &self.inst, cuts.as_slice())?;
-        let rows = crossing_rows(alloc, &self.inst, cuts.as_slice(), &rests)?;
+        let inst = self.steps.instance();
+        let rests = rests_of(alloc, inst, cuts.as_slice())?;
+        let rows = crossing_rows(alloc, inst, cuts.as_slice(), &rests)?;
         self.cuts = cuts;
         self.rests = rests;
         self.rows = rows;
         Ok(())
+    }
+
+    /// The instance.
+    pub fn instance(&self) -> &Instance
+        ensures inst { result.now ≡ self.now.problem }
+    {
+        self.steps.instance()
     }
 
     /// The step table of the instance.
@@ -183,7 +184,7 @@ impl CutTable {
         ensures value { result ≡ crossing_rates self.now.problem self.now.cuts rates.now place }
         ensures within { result ≤ MAX_CUTS * MAX_PRICED_LOAD }
     {
-        rates_on(&self.inst, self.crossings(place), rates)
+        rates_on(self.instance(), self.crossings(place), rates)
     }
 
     /// Whether a place may have this price with these rates.
@@ -195,7 +196,7 @@ impl CutTable {
         ensures { IsTrue result ↔ IsRatedPrice self.now.problem self.now.cuts price rates.now place }
     {
         let rate = self.crossing_rate(rates, place);
-        price + rate <= self.limit && least_price(&self.inst, rate, place) <= price
+        price + rate <= self.limit && least_price(self.instance(), rate, place) <= price
     }
 
     /// Whether each place may have its price with these rates.
@@ -206,7 +207,8 @@ impl CutTable {
         requires rates_within { AreWithinLimit self.now.problem rates.now }
         ensures { IsTrue result ↔ ((q : ℕ) → q < places self.now.problem → IsRatedPrice self.now.problem self.now.cuts (slice_index prices.now q) rates.now q) }
     {
-        for place in 0..self.inst.places() {
+        let inst = self.instance();
+        for place in 0..inst.places() {
             if !self.is_lawful_at(prices[place as usize], rates, place) {
                 return false;
             }
@@ -223,14 +225,15 @@ impl CutTable {
     pub fn are_numbers(&self, numbers: &Prices) -> bool
         ensures { IsTrue result ↔ AreNumbers self.now.problem self.now.cuts numbers.now }
     {
+        let inst = self.instance();
         let list = numbers.as_slice();
-        if list.len() != self.inst.places() as usize + self.cuts.len() {
+        if list.len() != inst.places() as usize + self.cuts.len() {
             return false;
         }
-        if !are_within_limit(&self.inst, list) {
+        if !are_within_limit(inst, list) {
             return false;
         }
-        self.are_lawful(list, rates_of(&self.inst, list))
+        self.are_lawful(list, rates_of(inst, list))
     }
 
     /// The start prices of the places, and a rate of 0 for each cut.
@@ -258,7 +261,7 @@ impl CutTable {
         ensures value { result.now ≡ rates_in self.now.problem numbers.now }
         ensures len { length result.now ≡ length self.now.cuts }
     {
-        rates_of(&self.inst, numbers.as_slice())
+        rates_of(self.instance(), numbers.as_slice())
     }
 
     /// The prices of the places of a link.
@@ -269,7 +272,7 @@ impl CutTable {
         ensures back { result.back ≡ back_of self.now.problem (slice_index numbers.now) link.0 }
         ensures one_way { is_two_way self.now.problem.orient ≡ false → result.back ≡ 0 }
     {
-        prices_of_link(&self.inst, numbers.as_slice(), link)
+        prices_of_link(self.instance(), numbers.as_slice(), link)
     }
 
     /// Puts the cuts that the places of a link cross and whose rate is above 0, each with its rate, over what rows have.
@@ -279,9 +282,10 @@ impl CutTable {
         ensures there { rows.new.there ≡ used (rates_in self.now.problem numbers.now) (crossings_there self.now.problem self.now.cuts link.0) }
         ensures back { rows.new.back ≡ used (rates_in self.now.problem numbers.now) (crossings_back self.now.problem self.now.cuts link.0) }
     {
-        let _places = self.inst.places();
+        let inst = self.instance();
+        let _places = inst.places();
         let rates = self.rates_of(numbers);
-        if self.inst.orient().is_two_way() {
+        if inst.orient().is_two_way() {
             put_used(&mut rows.there, self.crossings(2 * link.0), rates);
             put_used(&mut rows.back, self.crossings(2 * link.0 + 1), rates);
         } else {
@@ -335,11 +339,12 @@ impl CutTable {
         requires numbers { AreNumbers self.now.problem self.now.cuts numbers.now }
         ensures { IsRatedTotal self.now.problem self.now.cuts ranges.now numbers.now (rates_in self.now.problem numbers.now) (length self.now.problem.links) result }
     {
+        let inst = self.instance();
         let mut rows = self.rated_rows();
         let mut total = 0;
-        for place in 0..self.inst.links() {
+        for place in 0..inst.links() {
             let link = LinkId(place);
-            let ranged = ranges.of_link(&self.inst, link);
+            let ranged = ranges.of_link(inst, link);
             total += self.link_value(link, ranged, numbers, &mut rows).value;
         }
         total
@@ -355,7 +360,7 @@ impl CutTable {
         ensures value { result ≡ cut_total self.now.problem self.now.cuts (rates_in self.now.problem numbers.now) }
         ensures within { result ≤ MAX_CUTS * MAX_PRICED_LOAD }
     {
-        cut_total(&self.inst, self.cuts(), &self.rests, self.rates_of(numbers))
+        cut_total(self.instance(), self.cuts(), &self.rests, self.rates_of(numbers))
     }
 
     /// What the price of a place may be beside the rates that the numbers have. Takes no memory.
@@ -372,7 +377,7 @@ impl CutTable {
     {
         let rate = self.crossing_rate(self.rates_of(numbers), place);
         PriceBounds {
-            least: least_price(&self.inst, rate, place),
+            least: least_price(self.instance(), rate, place),
             most: self.limit - rate,
         }
     }

@@ -103,6 +103,13 @@ impl StepTable {
         Ok(StepTable { inst, tables, ends })
     }
 
+    /// The instance that the table is of.
+    pub fn instance(&self) -> &Instance
+        ensures inst { result.now ≡ self.now }
+    {
+        &self.inst
+    }
+
     /// The least module cost of a load on a link, over all lawful counts of its modules. Takes no memory.
     ///
     /// - Takes: a link of the instance; a load of at most the total load, in load grains.
