@@ -34,19 +34,18 @@ pub fn routing_cost(inst: &Instance, link: LinkId, loads: LinkLoads) -> u128
 /// what the link needs.
 fn complete_link(
     alloc: Global,
-    inst: &Instance,
     table: &StepTable,
     link: LinkId,
     loads: LinkLoads,
 ) -> Result<Option<(u128, Items<u64>)>, AllocError>
-    requires lawful { IsInstance inst.now }
-    requires table { table.now ≡ inst.now }
-    requires link { link.0 < length inst.now.links }
-    requires need { max loads.there loads.back ≤ total_load inst.now }
-    ensures some { IfOk result (λ found. IfSome found (λ done. IsLinkCompletion inst.now link.0 loads.there loads.back done.0 done.1)) }
+    requires lawful { IsInstance table.now }
+    requires link { link.0 < length table.now.links }
+    requires need { max loads.there loads.back ≤ total_load table.now }
+    ensures some { IfOk result (λ found. IfSome found (λ done. IsLinkCompletion table.now link.0 loads.there loads.back done.0 done.1)) }
     ensures within { IfOk result (λ found. IfSome found (λ done. done.0 ≤ LINK_COST_BOUND)) }
-    ensures none { IfOk result (λ found. IfNone found (CannotCarry inst.now link.0 (max loads.there loads.back))) }
+    ensures none { IfOk result (λ found. IfNone found (CannotCarry table.now link.0 (max loads.there loads.back))) }
 {
+    let inst = table.instance();
     let need = loads.need() as u64;
     let Some(modules) = table.at(link, need) else {
         return Ok(None);
@@ -61,22 +60,21 @@ fn complete_link(
 /// counts of some link carry what it needs.
 fn complete_links(
     alloc: Global,
-    inst: &Instance,
     table: &StepTable,
     design: &Design,
 ) -> Result<Option<(u128, Items<Items<u64>>)>, AllocError>
-    requires table { table.now ≡ inst.now }
-    requires paths { ArePaths inst.now design.now.paths }
-    ensures some { IfOk result (λ found. IfSome found (λ done. AreCompletedTo inst.now design.now.paths (length inst.now.links) done.0 done.1)) }
-    ensures none { IfOk result (λ found. IfNone found (HasOverfull inst.now design.now.paths)) }
+    requires paths { ArePaths table.now design.now.paths }
+    ensures some { IfOk result (λ found. IfSome found (λ done. AreCompletedTo table.now design.now.paths (length table.now.links) done.0 done.1)) }
+    ensures none { IfOk result (λ found. IfNone found (HasOverfull table.now design.now.paths)) }
 {
+    let inst = table.instance();
     let loads = loads_of(inst, design);
     let mut all = Vec::new(alloc);
     let mut cost = 0;
     for place in 0..inst.links() {
         let link = LinkId(place);
         let held = LinkLoads::of_link(inst, &loads, link);
-        let Some((least, counts)) = complete_link(alloc, inst, table, link, held)? else {
+        let Some((least, counts)) = complete_link(alloc, table, link, held)? else {
             return Ok(None);
         };
         cost += least;
@@ -95,22 +93,20 @@ fn complete_links(
 /// - Time: linear in the arcs of all paths and in the counts of all links.
 pub fn complete(
     alloc: Global,
-    inst: &Instance,
     table: &StepTable,
     paths: Items<Path>,
 ) -> Result<Option<(u128, Design)>, AllocError>
-    requires table { table.now ≡ inst.now }
-    requires paths { ArePaths inst.now paths }
-    ensures some { IfOk result (λ found. IfSome found (λ done. IsCompletion inst.now paths done.0 done.1)) }
-    ensures counts { IfOk result (λ found. IfSome found (λ done. (e : ℕ) → e < length inst.now.links
-        → AreLeastCounts inst.now e (need inst.now done.1 e) (counts_at done.1 e))) }
-    ensures none { IfOk result (λ found. IfNone found (HasOverfull inst.now paths)) }
+    requires paths { ArePaths table.now paths }
+    ensures some { IfOk result (λ found. IfSome found (λ done. IsCompletion table.now paths done.0 done.1)) }
+    ensures counts { IfOk result (λ found. IfSome found (λ done. (e : ℕ) → e < length table.now.links
+        → AreLeastCounts table.now e (need table.now done.1 e) (counts_at done.1 e))) }
+    ensures none { IfOk result (λ found. IfNone found (HasOverfull table.now paths)) }
 {
     let mut design = Design {
         paths,
         counts: Items::new(alloc),
     };
-    let Some((cost, counts)) = complete_links(alloc, inst, table, &design)? else {
+    let Some((cost, counts)) = complete_links(alloc, table, &design)? else {
         return Ok(None);
     };
     design.counts = counts;
@@ -118,13 +114,12 @@ pub fn complete(
 }
 
 /// Whether some counts of a link carry what the loads of its places need.
-fn can_carry(inst: &Instance, table: &StepTable, link: LinkId, loads: LinkLoads) -> bool
-    requires lawful { IsInstance inst.now }
-    requires table { table.now ≡ inst.now }
-    requires link { link.0 < length inst.now.links }
-    requires need { max loads.there loads.back ≤ total_load inst.now }
-    ensures yes { IsTrue result → CanCarry inst.now link.0 (max loads.there loads.back) }
-    ensures no { IsFalse result → CannotCarry inst.now link.0 (max loads.there loads.back) }
+fn can_carry(table: &StepTable, link: LinkId, loads: LinkLoads) -> bool
+    requires lawful { IsInstance table.now }
+    requires link { link.0 < length table.now.links }
+    requires need { max loads.there loads.back ≤ total_load table.now }
+    ensures yes { IsTrue result → CanCarry table.now link.0 (max loads.there loads.back) }
+    ensures no { IsFalse result → CannotCarry table.now link.0 (max loads.there loads.back) }
 {
     table.at(link, loads.need() as u64).is_some()
 }
@@ -136,17 +131,17 @@ fn can_carry(inst: &Instance, table: &StepTable, link: LinkId, loads: LinkLoads)
 ///   read.
 /// - Rule: docs/METHOD.md, "Completions".
 /// - Time: linear in the arcs of all paths, and for each link the logarithm of the number of its steps.
-pub fn overfull_link(inst: &Instance, table: &StepTable, design: &Design) -> Option<LinkId>
-    requires table { table.now ≡ inst.now }
-    requires paths { ArePaths inst.now design.now.paths }
-    ensures some { IfSome result (λ link. IsFirstOverfull inst.now design.now.paths link.0) }
-    ensures none { IfNone result (CarryLoads inst.now design.now.paths (length inst.now.links)) }
+pub fn overfull_link(table: &StepTable, design: &Design) -> Option<LinkId>
+    requires paths { ArePaths table.now design.now.paths }
+    ensures some { IfSome result (λ link. IsFirstOverfull table.now design.now.paths link.0) }
+    ensures none { IfNone result (CarryLoads table.now design.now.paths (length table.now.links)) }
 {
+    let inst = table.instance();
     let loads = loads_of(inst, design);
     for place in 0..inst.links() {
         let link = LinkId(place);
         let held = LinkLoads::of_link(inst, &loads, link);
-        if !can_carry(inst, table, link, held) {
+        if !can_carry(table, link, held) {
             return Some(link);
         }
     }

@@ -31,19 +31,16 @@ fn are_paths(inst: &Instance, paths: &Items<Path>) -> bool
 /// - Errors: want of memory alone.
 pub(crate) fn laid_cost(
     alloc: Global,
-    inst: &Instance,
     steps: &StepTable,
     paths: &Items<Path>,
-) -> Result<Option<u128>, AllocError>
-    requires steps { steps.now ≡ inst.now }
-{
-    if !are_paths(inst, paths) {
+) -> Result<Option<u128>, AllocError> {
+    if !are_paths(steps.instance(), paths) {
         return Ok(None);
     }
-    let Some(laid) = lay_all(alloc, inst, steps, paths)? else {
+    let Some(laid) = lay_all(alloc, steps, paths)? else {
         return Ok(None);
     };
-    match complete(alloc, inst, steps, laid)? {
+    match complete(alloc, steps, laid)? {
         Some((cost, _design)) => Ok(Some(cost)),
         None => Ok(None),
     }

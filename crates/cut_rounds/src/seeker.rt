@@ -84,8 +84,7 @@ fn aim_of(
     let Some(paths) = first_columns(ground.alloc, ground.inst, columns)? else {
         return Ok(None);
     };
-    let steps = table.steps();
-    match laid_cost(ground.alloc, ground.inst, steps, &paths)? {
+    match laid_cost(ground.alloc, table.steps(), &paths)? {
         Some(cost) => Ok(Some(Aim {
             cost,
             unit: cost_unit(ground.inst),
@@ -237,7 +236,7 @@ pub fn found_cuts(
     ensures steps { IfOk result (λ found. found.0 ≡ inst.now) }
     ensures cuts { IfOk result (λ found. IsCutList inst.now found.1) }
 {
-    let mut table = CutTable::new(alloc, inst, steps, tested(alloc, inst, Vec::new(alloc)))?;
+    let mut table = CutTable::new(alloc, steps, tested(alloc, inst, Vec::new(alloc)))?;
     put_found(alloc, inst, &mut table, budget)?;
     let cuts = Items::from_vec(copy_of(alloc, table.cuts())?);
     Ok((table.into_steps(), cuts))

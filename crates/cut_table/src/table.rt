@@ -360,7 +360,12 @@ impl CutTable {
         ensures value { result ≡ cut_total self.now.problem self.now.cuts (rates_in self.now.problem numbers.now) }
         ensures within { result ≤ MAX_CUTS * MAX_PRICED_LOAD }
     {
-        cut_total(self.instance(), self.cuts(), &self.rests, self.rates_of(numbers))
+        cut_total(
+            self.instance(),
+            self.cuts(),
+            &self.rests,
+            self.rates_of(numbers),
+        )
     }
 
     /// What the price of a place may be beside the rates that the numbers have. Takes no memory.

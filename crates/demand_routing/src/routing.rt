@@ -60,17 +60,17 @@ impl Routing {
     }
 
     /// Lays a demand on the places of its path. One that is laid stays so.
-    pub fn put_on(&mut self, inst: &Instance, table: &StepTable, demand: DemandId)
-        requires table { table.now ≡ inst.now }
-        requires demand { demand.0 < length inst.now.demands }
-        requires routing { IsRouting inst.now self.old }
-        ensures routing { IsRouting inst.now self.new }
+    pub fn put_on(&mut self, table: &StepTable, demand: DemandId)
+        requires demand { demand.0 < length table.now.demands }
+        requires routing { IsRouting table.now self.old }
+        ensures routing { IsRouting table.now self.new }
         ensures paths { self.new.paths ≡ self.old.paths }
         ensures on { is_marked self.new.laid.items demand.0 ≡ true }
         ensures searches { self.new.searches ≡ self.old.searches }
-        ensures cost { is_marked self.old.laid.items demand.0 ≡ false → IsCostWith inst.now self.old.loads.value (demand_at inst.now demand.0).load (path_at (with_paths self.new.paths.items) demand.0) self.old.cost self.new.cost }
+        ensures cost { is_marked self.old.laid.items demand.0 ≡ false → IsCostWith table.now self.old.loads.value (demand_at table.now demand.0).load (path_at (with_paths self.new.paths.items) demand.0) self.old.cost self.new.cost }
         ensures laid { is_marked self.old.laid.items demand.0 ≡ true → self.new.cost ≡ self.old.cost }
     {
+        let inst = table.instance();
         inst.lawful();
         let place = demand.0 as usize;
         if self.laid[place] {
@@ -79,7 +79,6 @@ impl Routing {
         let load = inst.demand(demand).load;
         let arcs = self.paths[place].as_slice();
         let rise = rise_along(
-            inst,
             table,
             &self.loads,
             &mut self.nears,
@@ -118,23 +117,22 @@ impl Routing {
     /// stays so. Where it may come back, the step costs with it stay held.
     pub fn take_off(
         &mut self,
-        inst: &Instance,
         table: &StepTable,
         demand: DemandId,
         comes_back: bool,
     ) -> Option<u128>
-        requires table { table.now ≡ inst.now }
-        requires demand { demand.0 < length inst.now.demands }
-        requires routing { IsRouting inst.now self.old }
-        ensures routing { IsRouting inst.now self.new }
+        requires demand { demand.0 < length table.now.demands }
+        requires routing { IsRouting table.now self.old }
+        ensures routing { IsRouting table.now self.new }
         ensures paths { self.new.paths ≡ self.old.paths }
         ensures off { is_marked self.new.laid.items demand.0 ≡ false }
         ensures searches { self.new.searches ≡ self.old.searches }
         ensures cost { self.new.cost ≡ self.old.cost - unwrap_or result 0 }
-        ensures fall { IfSome result (λ fall. AreRises inst.now self.new.loads.value (demand_at inst.now demand.0).load (path_at (with_paths self.old.paths.items) demand.0) u128.MAX fall) }
-        ensures none { is_marked self.old.laid.items demand.0 ≡ true → IfNone result (HasTooMuch inst.now self.new.loads.value (demand_at inst.now demand.0).load (path_at (with_paths self.old.paths.items) demand.0)) }
-        ensures without { IsCostWithout inst.now self.old demand.0 self.new.loads.value self.new.cost }
+        ensures fall { IfSome result (λ fall. AreRises table.now self.new.loads.value (demand_at table.now demand.0).load (path_at (with_paths self.old.paths.items) demand.0) u128.MAX fall) }
+        ensures none { is_marked self.old.laid.items demand.0 ≡ true → IfNone result (HasTooMuch table.now self.new.loads.value (demand_at table.now demand.0).load (path_at (with_paths self.old.paths.items) demand.0)) }
+        ensures without { IsCostWithout table.now self.old demand.0 self.new.loads.value self.new.cost }
     {
+        let inst = table.instance();
         inst.lawful();
         let place = demand.0 as usize;
         if !self.laid[place] {
@@ -144,7 +142,6 @@ impl Routing {
         let arcs = self.paths[place].as_slice();
         remove_load(inst, &mut self.loads, arcs, load);
         let fall = rise_along(
-            inst,
             table,
             &self.loads,
             &mut self.nears,
@@ -163,27 +160,25 @@ impl Routing {
     #[tactic(auto, using(crate::proofs::WeighedLaws::added_count, crate::proofs::WeighedLaws::cheapest_way, crate::proofs::WeighedLaws::no_cheaper_way))]
     fn search(
         &mut self,
-        inst: &Instance,
         table: &StepTable,
         demand: DemandId,
         own: Option<u128>,
     ) -> Result<Option<u128>, AllocError>
-        requires table { table.now ≡ inst.now }
-        requires demand { demand.0 < length inst.now.demands }
-        requires routing { IsRouting inst.now self.old }
-        ensures routing { IsRouting inst.now self.new }
+        requires demand { demand.0 < length table.now.demands }
+        requires routing { IsRouting table.now self.old }
+        ensures routing { IsRouting table.now self.new }
         ensures same { HasSameRoutes self.old self.new }
         ensures searches { self.new.searches ≡ min (self.old.searches + 1) (2 ^ 32 - 1) }
         ensures no_fewer { self.old.searches ≤ self.new.searches }
         ensures cost { self.new.cost ≡ self.old.cost }
-        ensures cheapest { IfOk result (λ found. IfSome found (IsCheapestWay inst.now self.new.loads.value (demand_at inst.now demand.0) self.new.room)) }
+        ensures cheapest { IfOk result (λ found. IfSome found (IsCheapestWay table.now self.new.loads.value (demand_at table.now demand.0) self.new.room)) }
         ensures below { IfOk result (λ found. IfSome found (IsBelow own)) }
-        ensures none { IfOk result (λ found. IfNone found (HasNoCheaperWay inst.now self.new.loads.value (demand_at inst.now demand.0) own)) }
+        ensures none { IfOk result (λ found. IfNone found (HasNoCheaperWay table.now self.new.loads.value (demand_at table.now demand.0) own)) }
     {
+        let inst = table.instance();
         let demand = inst.demand(demand);
         self.searches = self.searches.saturating_add(1);
         let rises = Rises {
-            inst,
             table,
             loads: &self.loads,
             helds: &self.helds,
@@ -198,25 +193,23 @@ impl Routing {
     #[tactic(auto, using(crate::proofs::WeighedLaws::far_count, crate::proofs::WeighedLaws::least_way, crate::proofs::WeighedLaws::no_far_way))]
     fn search_far(
         &mut self,
-        inst: &Instance,
         table: &StepTable,
         demand: DemandId,
         far: u128,
     ) -> Result<Option<u128>, AllocError>
-        requires table { table.now ≡ inst.now }
-        requires demand { demand.0 < length inst.now.demands }
-        requires routing { IsRouting inst.now self.old }
-        ensures routing { IsRouting inst.now self.new }
+        requires demand { demand.0 < length table.now.demands }
+        requires routing { IsRouting table.now self.old }
+        ensures routing { IsRouting table.now self.new }
         ensures same { HasSameRoutes self.old self.new }
         ensures searches { self.new.searches ≡ min (self.old.searches + 1) (2 ^ 32 - 1) }
         ensures cost { self.new.cost ≡ self.old.cost }
-        ensures least { IfOk result (λ found. IfSome found (IsLeastWay inst.now self.new.loads.value (demand_at inst.now demand.0) far self.new.room)) }
-        ensures none { IfOk result (λ found. IfNone found (HasNoFarWay inst.now self.new.loads.value (demand_at inst.now demand.0) far)) }
+        ensures least { IfOk result (λ found. IfSome found (IsLeastWay table.now self.new.loads.value (demand_at table.now demand.0) far self.new.room)) }
+        ensures none { IfOk result (λ found. IfNone found (HasNoFarWay table.now self.new.loads.value (demand_at table.now demand.0) far)) }
     {
+        let inst = table.instance();
         let demand = inst.demand(demand);
         self.searches = self.searches.saturating_add(1);
         let rises = Rises {
-            inst,
             table,
             loads: &self.loads,
             helds: &self.helds,
@@ -249,16 +242,14 @@ impl Routing {
     #[tactic(auto, using(crate::proofs::WeighedLaws::cheapest_simple, crate::proofs::WeighedLaws::no_way))]
     fn take_cheaper(
         &mut self,
-        inst: &Instance,
         table: &StepTable,
         demand: DemandId,
         own: Option<u128>,
     ) -> Result<bool, AllocError>
-        requires table { table.now ≡ inst.now }
-        requires demand { demand.0 < length inst.now.demands }
-        requires routing { IsRouting inst.now self.old }
+        requires demand { demand.0 < length table.now.demands }
+        requires routing { IsRouting table.now self.old }
         requires off { is_marked self.old.laid.items demand.0 ≡ false }
-        ensures routing { IsRouting inst.now self.new }
+        ensures routing { IsRouting table.now self.new }
         ensures laid { self.new.laid ≡ self.old.laid }
         ensures loads { self.new.loads.value ≡ self.old.loads.value }
         ensures cost { self.new.cost ≡ self.old.cost }
@@ -266,13 +257,14 @@ impl Routing {
         ensures one_more { self.new.searches ≤ self.old.searches + 1 }
         ensures searches { IfNone own (self.new.searches ≡ min (self.old.searches + 1) (2 ^ 32 - 1)) }
         ensures kept { IfOk result (λ taken. IsFalse taken → self.new.paths ≡ self.old.paths) }
-        ensures cheaper { IfOk result (λ taken. IsTrue taken → IsCheaperWay inst.now self.new.loads.value (demand_at inst.now demand.0) own (path_at (with_paths self.new.paths.items) demand.0)) }
-        ensures none { IfOk result (λ taken. IsFalse taken → IfNone own (HasNoWay inst.now self.new.loads.value (demand_at inst.now demand.0))) }
+        ensures cheaper { IfOk result (λ taken. IsTrue taken → IsCheaperWay table.now self.new.loads.value (demand_at table.now demand.0) own (path_at (with_paths self.new.paths.items) demand.0)) }
+        ensures none { IfOk result (λ taken. IsFalse taken → IfNone own (HasNoWay table.now self.new.loads.value (demand_at table.now demand.0))) }
     {
+        let inst = table.instance();
         if let Some(0) = own {
             return Ok(false);
         }
-        let Some(_rise) = self.search(inst, table, demand, own)? else {
+        let Some(_rise) = self.search(table, demand, own)? else {
             return Ok(false);
         };
         self.take_path(inst, demand);
@@ -280,53 +272,42 @@ impl Routing {
     }
 
     /// Moves a demand to the path within its limit that raises the step costs least, where that is cheaper than its own.
-    pub fn reroute(
-        &mut self,
-        inst: &Instance,
-        table: &StepTable,
-        demand: DemandId,
-    ) -> Result<bool, AllocError>
-        requires table { table.now ≡ inst.now }
-        requires demand { demand.0 < length inst.now.demands }
-        requires routing { IsRouting inst.now self.old }
-        ensures routing { IsRouting inst.now self.new }
+    pub fn reroute(&mut self, table: &StepTable, demand: DemandId) -> Result<bool, AllocError>
+        requires demand { demand.0 < length table.now.demands }
+        requires routing { IsRouting table.now self.old }
+        ensures routing { IsRouting table.now self.new }
         ensures on { OnOk result (is_marked self.new.laid.items demand.0 ≡ true) }
-        ensures cost { OnOk result (IsMoved inst.now demand.0 self.old self.new) }
+        ensures cost { OnOk result (IsMoved table.now demand.0 self.old self.new) }
         ensures kept { IfOk result (λ helps. IsFalse helps → self.new.paths ≡ self.old.paths) }
         ensures no_fewer { self.old.searches ≤ self.new.searches }
         ensures one_more { self.new.searches ≤ self.old.searches + 1 }
     {
-        let own = self.take_off(inst, table, demand, true);
-        let helps = self.take_cheaper(inst, table, demand, own)?;
+        let inst = table.instance();
+        let own = self.take_off(table, demand, true);
+        let helps = self.take_cheaper(table, demand, own)?;
         match own {
             Some(rise) if !helps => self.put_back(inst, demand, rise),
-            _ => self.put_on(inst, table, demand),
+            _ => self.put_on(table, demand),
         }
         Ok(helps)
     }
 
     /// Lays a demand on the path within its limit that raises the step costs least, where there is one whose links can carry
     /// it.
-    pub fn lay_least(
-        &mut self,
-        inst: &Instance,
-        table: &StepTable,
-        demand: DemandId,
-    ) -> Result<bool, AllocError>
-        requires table { table.now ≡ inst.now }
-        requires demand { demand.0 < length inst.now.demands }
-        requires routing { IsRouting inst.now self.old }
-        ensures routing { IsRouting inst.now self.new }
+    pub fn lay_least(&mut self, table: &StepTable, demand: DemandId) -> Result<bool, AllocError>
+        requires demand { demand.0 < length table.now.demands }
+        requires routing { IsRouting table.now self.old }
+        ensures routing { IsRouting table.now self.new }
         ensures searches { self.new.searches ≡ min (self.old.searches + 1) (2 ^ 32 - 1) }
         ensures on { IfOk result (λ found. IsTrue found → is_marked self.new.laid.items demand.0 ≡ true) }
-        ensures cost { IfOk result (λ found. IsTrue found → IsMoved inst.now demand.0 self.old self.new) }
-        ensures without { IfOk result (λ found. IsFalse found → IsCostWithout inst.now self.old demand.0 self.new.loads.value self.new.cost) }
-        ensures stuck { IfOk result (λ found. IsFalse found → IsStuck inst.now) }
+        ensures cost { IfOk result (λ found. IsTrue found → IsMoved table.now demand.0 self.old self.new) }
+        ensures without { IfOk result (λ found. IsFalse found → IsCostWithout table.now self.old demand.0 self.new.loads.value self.new.cost) }
+        ensures stuck { IfOk result (λ found. IsFalse found → IsStuck table.now) }
     {
-        let _fall = self.take_off(inst, table, demand, false);
-        let found = self.take_cheaper(inst, table, demand, None)?;
+        let _fall = self.take_off(table, demand, false);
+        let found = self.take_cheaper(table, demand, None)?;
         if found {
-            self.put_on(inst, table, demand);
+            self.put_on(table, demand);
         }
         Ok(found)
     }
@@ -335,51 +316,48 @@ impl Routing {
     #[tactic(auto, using(crate::proofs::WeighedLaws::least_way_simple))]
     pub fn lay_far(
         &mut self,
-        inst: &Instance,
         table: &StepTable,
         demand: DemandId,
         far: u128,
     ) -> Result<bool, AllocError>
-        requires table { table.now ≡ inst.now }
-        requires demand { demand.0 < length inst.now.demands }
-        requires routing { IsRouting inst.now self.old }
-        ensures routing { IsRouting inst.now self.new }
+        requires demand { demand.0 < length table.now.demands }
+        requires routing { IsRouting table.now self.old }
+        ensures routing { IsRouting table.now self.new }
         ensures searches { self.new.searches ≡ min (self.old.searches + 1) (2 ^ 32 - 1) }
         ensures on { IfOk result (λ found. IsTrue found → is_marked self.new.laid.items demand.0 ≡ true) }
         ensures off { IfOk result (λ found. IsFalse found → is_marked self.new.laid.items demand.0 ≡ false) }
-        ensures cost { IfOk result (λ found. IsTrue found → IsMoved inst.now demand.0 self.old self.new) }
-        ensures without { IfOk result (λ found. IsFalse found → IsCostWithout inst.now self.old demand.0 self.new.loads.value self.new.cost) }
+        ensures cost { IfOk result (λ found. IsTrue found → IsMoved table.now demand.0 self.old self.new) }
+        ensures without { IfOk result (λ found. IsFalse found → IsCostWithout table.now self.old demand.0 self.new.loads.value self.new.cost) }
     {
-        let _fall = self.take_off(inst, table, demand, false);
-        let Some(_weight) = self.search_far(inst, table, demand, far)? else {
+        let inst = table.instance();
+        let _fall = self.take_off(table, demand, false);
+        let Some(_weight) = self.search_far(table, demand, far)? else {
             return Ok(false);
         };
         self.take_path(inst, demand);
-        self.put_on(inst, table, demand);
+        self.put_on(table, demand);
         Ok(true)
     }
 
     /// Lays a demand on this path, in place of its own.
     pub fn set_back(
         &mut self,
-        inst: &Instance,
         table: &StepTable,
         demand: DemandId,
         path: &Path,
     ) -> Result<(), AllocError>
-        requires table { table.now ≡ inst.now }
-        requires demand { demand.0 < length inst.now.demands }
-        requires routing { IsRouting inst.now self.old }
-        requires path { IsSimplePath inst.now (demand_at inst.now demand.0) path.now }
-        ensures routing { OnOk result (IsRouting inst.now self.new) }
+        requires demand { demand.0 < length table.now.demands }
+        requires routing { IsRouting table.now self.old }
+        requires path { IsSimplePath table.now (demand_at table.now demand.0) path.now }
+        ensures routing { OnOk result (IsRouting table.now self.new) }
         ensures searches { self.new.searches ≡ self.old.searches }
         ensures on { OnOk result (is_marked self.new.laid.items demand.0 ≡ true) }
-        ensures cost { OnOk result (IsMoved inst.now demand.0 self.old self.new) }
+        ensures cost { OnOk result (IsMoved table.now demand.0 self.old self.new) }
         ensures path { OnOk result (self.new.paths.items ≡ slice_set self.old.paths.items demand.0 path.now) }
     {
-        let _fall = self.take_off(inst, table, demand, false);
+        let _fall = self.take_off(table, demand, false);
         set_path(&mut self.paths, demand, path)?;
-        self.put_on(inst, table, demand);
+        self.put_on(table, demand);
         Ok(())
     }
 }

@@ -94,23 +94,16 @@ fn sides_of(inst: &Instance, loads: &[u128; MAX_PLACES], place: u32) -> Option<S
 
 /// The step cost of loads on a link, in cost grains; the greatest number where no counts carry the larger one. Its step is
 /// looked for near a place, which becomes that of the step.
-fn least_cost(
-    inst: &Instance,
-    table: &StepTable,
-    link: LinkId,
-    larger: u64,
-    smaller: u64,
-    near: &mut u32,
-) -> u128
-    requires lawful { IsInstance inst.now }
-    requires table { table.now ≡ inst.now }
-    requires link { link.0 < length inst.now.links }
+fn least_cost(table: &StepTable, link: LinkId, larger: u64, smaller: u64, near: &mut u32) -> u128
+    requires lawful { IsInstance table.now }
+    requires link { link.0 < length table.now.links }
     requires order { smaller ≤ larger }
-    requires total { larger ≤ total_load inst.now }
-    ensures some { result < 2 ^ 128 - 1 → IsStepCost inst.now link.0 larger smaller result }
-    ensures none { result ≡ 2 ^ 128 - 1 → CannotCarry inst.now link.0 larger }
+    requires total { larger ≤ total_load table.now }
+    ensures some { result < 2 ^ 128 - 1 → IsStepCost table.now link.0 larger smaller result }
+    ensures none { result ≡ 2 ^ 128 - 1 → CannotCarry table.now link.0 larger }
     ensures within { result < 2 ^ 128 - 1 → result ≤ LINK_COST_BOUND }
 {
+    let inst = table.instance();
     let Some(modules) = table.at_near(link, larger, *near) else {
         return u128::MAX;
     };
@@ -133,22 +126,15 @@ fn carried_cost(cost: u128) -> Option<u128>
 
 /// The step cost of a link for what its places carry, in cost grains; None where no counts carry the larger load. Its step
 /// is looked for near a place, which becomes that of the step.
-fn step_cost(
-    inst: &Instance,
-    table: &StepTable,
-    link: LinkId,
-    sides: Sides,
-    near: &mut u32,
-) -> Option<u128>
-    requires lawful { IsInstance inst.now }
-    requires table { table.now ≡ inst.now }
-    requires link { link.0 < length inst.now.links }
-    requires total { max sides.here sides.other ≤ total_load inst.now }
-    ensures some { IfSome result (IsCostOfSides inst.now link.0 sides) }
-    ensures none { IfNone result (CannotCarry inst.now link.0 (max sides.here sides.other)) }
+fn step_cost(table: &StepTable, link: LinkId, sides: Sides, near: &mut u32) -> Option<u128>
+    requires lawful { IsInstance table.now }
+    requires link { link.0 < length table.now.links }
+    requires total { max sides.here sides.other ≤ total_load table.now }
+    ensures some { IfSome result (IsCostOfSides table.now link.0 sides) }
+    ensures none { IfNone result (CannotCarry table.now link.0 (max sides.here sides.other)) }
     ensures within { IfSome result (λ cost. cost ≤ LINK_COST_BOUND) }
 {
-    let cost = least_cost(inst, table, link, sides.larger(), sides.smaller(), near);
+    let cost = least_cost(table, link, sides.larger(), sides.smaller(), near);
     carried_cost(cost)
 }
 
@@ -197,20 +183,18 @@ impl Held {
 
 /// What `step_cost` gives: the step cost that is held, where it is of these loads.
 fn known_cost(
-    inst: &Instance,
     table: &StepTable,
     helds: &[Held; MAX_LINKS],
     link: LinkId,
     sides: Sides,
     near: &mut u32,
 ) -> Option<u128>
-    requires lawful { IsInstance inst.now }
-    requires table { table.now ≡ inst.now }
-    requires helds { AreHeld inst.now helds.now }
-    requires link { link.0 < length inst.now.links }
-    requires total { max sides.here sides.other ≤ total_load inst.now }
-    ensures some { IfSome result (IsCostOfSides inst.now link.0 sides) }
-    ensures none { IfNone result (CannotCarry inst.now link.0 (max sides.here sides.other)) }
+    requires lawful { IsInstance table.now }
+    requires helds { AreHeld table.now helds.now }
+    requires link { link.0 < length table.now.links }
+    requires total { max sides.here sides.other ≤ total_load table.now }
+    ensures some { IfSome result (IsCostOfSides table.now link.0 sides) }
+    ensures none { IfNone result (CannotCarry table.now link.0 (max sides.here sides.other)) }
 {
     let held = helds[link.0 as usize];
     let larger = sides.larger();
@@ -219,7 +203,7 @@ fn known_cost(
         *near = held.place;
         return Some(held.cost);
     }
-    let cost = least_cost(inst, table, link, larger, smaller, near);
+    let cost = least_cost(table, link, larger, smaller, near);
     carried_cost(cost)
 }
 
@@ -237,7 +221,6 @@ fn hold(inst: &Instance, helds: &mut [Held; MAX_LINKS], link: LinkId, held: Held
 /// What the step cost of a place's link rises by where a load is added to the place, above what it costs now, in cost
 /// grains; None where the link cannot carry that. The step then is looked for near a place, which becomes its place.
 fn rise_above(
-    inst: &Instance,
     table: &StepTable,
     link: LinkId,
     sides: Sides,
@@ -245,23 +228,22 @@ fn rise_above(
     load: u128,
     near: &mut u32,
 ) -> Option<u128>
-    requires lawful { IsInstance inst.now }
-    requires table { table.now ≡ inst.now }
-    requires link { link.0 < length inst.now.links }
-    requires total { max sides.here sides.other ≤ total_load inst.now }
-    ensures value { (f : ℕ → ℕ) (q : ℕ) → link_of_place inst.now q ≡ link.0 → AreSides inst.now f q sides → IsCostOf inst.now f link.0 before → IsAddedCost inst.now f q load result }
-    ensures load { IfSome result (λ _. sides.here + load ≤ total_load inst.now) }
+    requires lawful { IsInstance table.now }
+    requires link { link.0 < length table.now.links }
+    requires total { max sides.here sides.other ≤ total_load table.now }
+    ensures value { (f : ℕ → ℕ) (q : ℕ) → link_of_place table.now q ≡ link.0 → AreSides table.now f q sides → IsCostOf table.now f link.0 before → IsAddedCost table.now f q load result }
+    ensures load { IfSome result (λ _. sides.here + load ≤ total_load table.now) }
     ensures within { unwrap_or result 0 ≤ LINK_COST_BOUND }
 {
+    let inst = table.instance();
     let raised = sides.raised(inst.total_load(), load)?;
-    let after = step_cost(inst, table, link, raised, near)?;
+    let after = step_cost(table, link, raised, near)?;
     Some(after.saturating_sub(before))
 }
 
 /// What the step cost of a place's link rises by where a load is added to the place, in cost grains; None where the link
 /// cannot carry that. The step of what it carries is looked for near a place.
 fn added_cost(
-    inst: &Instance,
     table: &StepTable,
     helds: &[Held; MAX_LINKS],
     loads: &[u128; MAX_PLACES],
@@ -269,18 +251,18 @@ fn added_cost(
     load: u128,
     near: u32,
 ) -> Option<u128>
-    requires lawful { IsInstance inst.now }
-    requires table { table.now ≡ inst.now }
-    requires helds { AreHeld inst.now helds.now }
-    requires place { place < places inst.now }
-    ensures value { IsAddedCost inst.now (slice_index loads.now) place load result }
+    requires lawful { IsInstance table.now }
+    requires helds { AreHeld table.now helds.now }
+    requires place { place < places table.now }
+    ensures value { IsAddedCost table.now (slice_index loads.now) place load result }
     ensures within { unwrap_or result 0 ≤ LINK_COST_BOUND }
 {
+    let inst = table.instance();
     let sides = sides_of(inst, loads, place)?;
     let link = inst.link_of_place(place);
     let mut near = near;
-    let before = known_cost(inst, table, helds, link, sides, &mut near)?;
-    rise_above(inst, table, link, sides, before, load, &mut near)
+    let before = known_cost(table, helds, link, sides, &mut near)?;
+    rise_above(table, link, sides, before, load, &mut near)
 }
 
 /// Half of a load's share of what a span of loads costs, which is no shorter.
@@ -311,7 +293,6 @@ fn span_of(inst: &Instance, carried: u64, load: u128, far: u128) -> u128
 /// of what it rises by where far more is added; the whole of the first where that is too much for the link.
 #[tactic(auto, unfolding(crate::specs::Traffic::IsFarCost))]
 fn far_cost(
-    inst: &Instance,
     table: &StepTable,
     helds: &[Held; MAX_LINKS],
     loads: &[u128; MAX_PLACES],
@@ -320,23 +301,23 @@ fn far_cost(
     far: u128,
     near: u32,
 ) -> Option<u128>
-    requires lawful { IsInstance inst.now }
-    requires table { table.now ≡ inst.now }
-    requires helds { AreHeld inst.now helds.now }
-    requires place { place < places inst.now }
-    ensures value { IsFarCost inst.now (slice_index loads.now) place load far result }
+    requires lawful { IsInstance table.now }
+    requires helds { AreHeld table.now helds.now }
+    requires place { place < places table.now }
+    ensures value { IsFarCost table.now (slice_index loads.now) place load far result }
     ensures within { unwrap_or result 0 ≤ 2 * LINK_COST_BOUND }
 {
+    let inst = table.instance();
     let sides = sides_of(inst, loads, place)?;
     let link = inst.link_of_place(place);
     let mut near = near;
-    let before = known_cost(inst, table, helds, link, sides, &mut near)?;
-    let rise = rise_above(inst, table, link, sides, before, load, &mut near)?;
+    let before = known_cost(table, helds, link, sides, &mut near)?;
+    let rise = rise_above(table, link, sides, before, load, &mut near)?;
     let span = span_of(inst, sides.here, load, far);
     if span == 0 {
         return Some(rise);
     }
-    let Some(beyond) = rise_above(inst, table, link, sides, before, span, &mut near) else {
+    let Some(beyond) = rise_above(table, link, sides, before, span, &mut near) else {
         return Some(rise);
     };
     Some(rise / 2 + half_share(beyond, load, span))
@@ -361,7 +342,6 @@ fn set_near(nears: &mut [u32; MAX_PLACES], place: u32, near: u32) {
 /// What arcs weigh where a load is laid: what the step cost of an arc's link rises by where it is added to the arc's place.
 #[derive(Drop)]
 pub struct Rises<'a> {
-    pub inst: &'a Instance,
     pub table: &'a StepTable,
     /// For each place, in load grains.
     pub loads: &'a [u128; MAX_PLACES],
@@ -378,17 +358,16 @@ impl Weigher for Rises<'_> {
     ghost use Rattle.demand_routing.specs.Holding.{AreHeld};
     ghost use Rattle.demand_routing.specs.Weighed.{added_costs};
 
-    ghost weights = { λ a. added_costs a.inst.now a.loads.now a.load };
+    ghost weights = { λ a. added_costs a.table.now a.loads.now a.load };
 
-    ghost fits = { λ a. (a.table.now ≡ a.inst.now) × AreHeld a.inst.now a.helds.now };
+    ghost fits = { λ a. AreHeld a.table.now a.helds.now };
 
     fn weight(&self, arc: ArcId) -> Option<u128> {
-        self.inst.lawful();
-        let place = self.inst.place(arc);
+        let inst = self.table.instance();
+        inst.lawful();
+        let place = inst.place(arc);
         let near = near_of(self.nears, place);
-        added_cost(
-            self.inst, self.table, self.helds, self.loads, place, self.load, near,
-        )
+        added_cost(self.table, self.helds, self.loads, place, self.load, near)
     }
 }
 
@@ -406,17 +385,17 @@ impl Weigher for FarRises<'_> {
     ghost use Rattle.demand_routing.specs.Holding.{AreHeld};
     ghost use Rattle.demand_routing.specs.Weighed.{far_costs};
 
-    ghost weights = { λ a. far_costs a.rises.inst.now a.rises.loads.now a.rises.load a.far };
+    ghost weights = { λ a. far_costs a.rises.table.now a.rises.loads.now a.rises.load a.far };
 
-    ghost fits = { λ a. (a.rises.table.now ≡ a.rises.inst.now) × AreHeld a.rises.inst.now a.rises.helds.now };
+    ghost fits = { λ a. AreHeld a.rises.table.now a.rises.helds.now };
 
     fn weight(&self, arc: ArcId) -> Option<u128> {
         let rises = &self.rises;
-        rises.inst.lawful();
-        let place = rises.inst.place(arc);
+        let inst = rises.table.instance();
+        inst.lawful();
+        let place = inst.place(arc);
         let near = near_of(rises.nears, place);
         far_cost(
-            rises.inst,
             rises.table,
             rises.helds,
             rises.loads,
@@ -449,7 +428,6 @@ impl Rise {
 /// What the step cost of a place's link rises by where a load is added to the place; None also where there is no such
 /// place. The step of what it carries is looked for near a place.
 fn rise_at(
-    inst: &Instance,
     table: &StepTable,
     helds: &[Held; MAX_LINKS],
     loads: &[u128; MAX_PLACES],
@@ -457,14 +435,14 @@ fn rise_at(
     load: u128,
     near: u32,
 ) -> Option<Rise>
-    requires table { table.now ≡ inst.now }
-    requires helds { AreHeld inst.now helds.now }
-    ensures value { IfSome result (λ rise. IsRise inst.now (slice_index loads.now) place load rise.cost) }
-    ensures within { IfSome result (λ _. place < places inst.now) }
-    ensures before { IfSome result (λ rise. IsHeld inst.now (link_of_place inst.now place) rise.before) }
-    ensures after { IfSome result (λ rise. IsHeld inst.now (link_of_place inst.now place) rise.after) }
-    ensures none { IfNone result (place < places inst.now → IsTooMuch inst.now (with_more (slice_index loads.now) place load) (link_of_place inst.now place)) }
+    requires helds { AreHeld table.now helds.now }
+    ensures value { IfSome result (λ rise. IsRise table.now (slice_index loads.now) place load rise.cost) }
+    ensures within { IfSome result (λ _. place < places table.now) }
+    ensures before { IfSome result (λ rise. IsHeld table.now (link_of_place table.now place) rise.before) }
+    ensures after { IfSome result (λ rise. IsHeld table.now (link_of_place table.now place) rise.after) }
+    ensures none { IfNone result (place < places table.now → IsTooMuch table.now (with_more (slice_index loads.now) place load) (link_of_place table.now place)) }
 {
+    let inst = table.instance();
     if place >= inst.places() {
         return None;
     }
@@ -472,9 +450,9 @@ fn rise_at(
     let more = less.raised(inst.total_load(), load)?;
     let link = inst.link_of_place(place);
     let mut near = near;
-    let before = known_cost(inst, table, helds, link, less, &mut near)?;
+    let before = known_cost(table, helds, link, less, &mut near)?;
     let held = Held::of(less, before, near);
-    let after = known_cost(inst, table, helds, link, more, &mut near)?;
+    let after = known_cost(table, helds, link, more, &mut near)?;
     Some(Rise {
         cost: after.saturating_sub(before),
         before: held,
@@ -487,7 +465,6 @@ fn rise_at(
 /// the path's places, which becomes that of the step once the load is laid, or once it is taken off; the step costs then
 /// are held.
 pub fn rise_along(
-    inst: &Instance,
     table: &StepTable,
     loads: &[u128; MAX_PLACES],
     nears: &mut [u32; MAX_PLACES],
@@ -496,17 +473,17 @@ pub fn rise_along(
     load: u128,
     laid: bool,
 ) -> Option<u128>
-    requires table { table.now ≡ inst.now }
-    requires helds { AreHeld inst.now helds.old }
-    ensures sum { IfSome result (AreRises inst.now loads.now load arcs.now u128.MAX) }
-    ensures none { IfNone result (HasTooMuch inst.now loads.now load arcs.now) }
-    ensures helds { AreHeld inst.now helds.new }
+    requires helds { AreHeld table.now helds.old }
+    ensures sum { IfSome result (AreRises table.now loads.now load arcs.now u128.MAX) }
+    ensures none { IfNone result (HasTooMuch table.now loads.now load arcs.now) }
+    ensures helds { AreHeld table.now helds.new }
 {
+    let inst = table.instance();
     let mut sum = 0u128;
     for arc in arcs {
         let place = inst.place(*arc);
         let near = near_of(nears, place);
-        let rise = rise_at(inst, table, helds, loads, place, load, near)?;
+        let rise = rise_at(table, helds, loads, place, load, near)?;
         let held = rise.held(laid);
         set_near(nears, place, held.place);
         hold(inst, helds, inst.link_of_place(place), held);

@@ -15,19 +15,18 @@ use std::alloc::{AllocError, Global};
 /// The paths of the cheapest design that a search from this one meets.
 fn searched(
     alloc: Global,
-    inst: &Instance,
     table: &StepTable,
     design: &Design,
     seed: u32,
     shares: u32,
 ) -> Result<Items<Path>, AllocError>
-    requires table { table.now ≡ inst.now }
-    requires design { IsDesign inst.now design.now }
-    ensures { IfOk result (ArePaths inst.now) }
+    requires design { IsDesign table.now design.now }
+    ensures { IfOk result (ArePaths table.now) }
 {
+    let inst = table.instance();
     let paths = roomy_copies(alloc, inst, design.paths.as_slice())?;
-    let mut rounds = Rounds::new(alloc, inst, table, paths, seed)?;
-    rounds.run(inst, table, shares)?;
+    let mut rounds = Rounds::new(alloc, table, paths, seed)?;
+    rounds.run(table, shares)?;
     Ok(rounds.into_best())
 }
 
@@ -59,52 +58,47 @@ fn cheaper(inst: &Instance, design: Design, completed: Option<(u128, Design)>) -
 ///   each link; on a large network at least 2,000.
 pub fn improve(
     alloc: Global,
-    inst: &Instance,
     table: &StepTable,
     design: Design,
 ) -> Result<(u128, Design), AllocError>
-    requires table { table.now ≡ inst.now }
-    requires design { IsGoodDesign inst.now design }
-    ensures good { IfOk result (λ better. IsGoodDesign inst.now better.1) }
-    ensures cost { IfOk result (λ better. better.0 ≡ cost_of inst.now better.1) }
-    ensures not_dearer { IfOk result (λ better. better.0 ≤ cost_of inst.now design) }
+    requires design { IsGoodDesign table.now design }
+    ensures good { IfOk result (λ better. IsGoodDesign table.now better.1) }
+    ensures cost { IfOk result (λ better. better.0 ≡ cost_of table.now better.1) }
+    ensures not_dearer { IfOk result (λ better. better.0 ≤ cost_of table.now design) }
 {
-    improve_seeded(alloc, inst, table, design, 0)
+    improve_seeded(alloc, table, design, 0)
 }
 
 /// As `improve`, with draws that begin with this seed.
 pub fn improve_seeded(
     alloc: Global,
-    inst: &Instance,
     table: &StepTable,
     design: Design,
     seed: u32,
 ) -> Result<(u128, Design), AllocError>
-    requires table { table.now ≡ inst.now }
-    requires design { IsGoodDesign inst.now design }
-    ensures good { IfOk result (λ better. IsGoodDesign inst.now better.1) }
-    ensures cost { IfOk result (λ better. better.0 ≡ cost_of inst.now better.1) }
-    ensures not_dearer { IfOk result (λ better. better.0 ≤ cost_of inst.now design) }
+    requires design { IsGoodDesign table.now design }
+    ensures good { IfOk result (λ better. IsGoodDesign table.now better.1) }
+    ensures cost { IfOk result (λ better. better.0 ≡ cost_of table.now better.1) }
+    ensures not_dearer { IfOk result (λ better. better.0 ≤ cost_of table.now design) }
 {
-    improve_share(alloc, inst, table, design, seed, 1)
+    improve_share(alloc, table, design, seed, 1)
 }
 
 /// As `improve_seeded`, with one of so many equal shares of its searches.
 pub(crate) fn improve_share(
     alloc: Global,
-    inst: &Instance,
     table: &StepTable,
     design: Design,
     seed: u32,
     shares: u32,
 ) -> Result<(u128, Design), AllocError>
-    requires table { table.now ≡ inst.now }
-    requires design { IsGoodDesign inst.now design }
-    ensures good { IfOk result (λ better. IsGoodDesign inst.now better.1) }
-    ensures cost { IfOk result (λ better. better.0 ≡ cost_of inst.now better.1) }
-    ensures not_dearer { IfOk result (λ better. better.0 ≤ cost_of inst.now design) }
+    requires design { IsGoodDesign table.now design }
+    ensures good { IfOk result (λ better. IsGoodDesign table.now better.1) }
+    ensures cost { IfOk result (λ better. better.0 ≡ cost_of table.now better.1) }
+    ensures not_dearer { IfOk result (λ better. better.0 ≤ cost_of table.now design) }
 {
-    let paths = searched(alloc, inst, table, &design, seed, shares)?;
-    let completed = complete(alloc, inst, table, paths)?;
+    let inst = table.instance();
+    let paths = searched(alloc, table, &design, seed, shares)?;
+    let completed = complete(alloc, table, paths)?;
     Ok(cheaper(inst, design, completed))
 }

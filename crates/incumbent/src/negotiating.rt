@@ -49,10 +49,10 @@ struct Toll {
 }
 
 /// What a load grain costs on a link that carries all it can, in shares of a cost grain.
-fn link_price(inst: &Instance, table: &StepTable, link: LinkId) -> u128
-    requires table { table.now ≡ inst.now }
-    requires link { link.0 < length inst.now.links }
+fn link_price(table: &StepTable, link: LinkId) -> u128
+    requires link { link.0 < length table.now.links }
 {
+    let inst = table.instance();
     let top = inst.top_load(link).min(inst.total_load());
     let modules = table.at(link, top).unwrap_or(0);
     let share = modules.saturating_mul(SHARES) / u128::from(top.max(1));
@@ -62,26 +62,25 @@ fn link_price(inst: &Instance, table: &StepTable, link: LinkId) -> u128
 }
 
 /// The mean of what a load grain costs on the links, in shares of a cost grain, at least 1.
-fn mean_price(inst: &Instance, table: &StepTable) -> u128
-    requires table { table.now ≡ inst.now }
+fn mean_price(table: &StepTable) -> u128
     ensures { 0 < result }
 {
+    let inst = table.instance();
     let mut sum = 0u128;
     for place in 0..inst.links() {
-        sum = sum.saturating_add(link_price(inst, table, LinkId(place)));
+        sum = sum.saturating_add(link_price(table, LinkId(place)));
     }
     (sum / u128::from(inst.links().max(1))).max(1)
 }
 
 /// What each link asks for in the first round, in order.
-fn first_tolls(alloc: Global, inst: &Instance, table: &StepTable) -> Result<Vec<Toll>, AllocError>
-    requires table { table.now ≡ inst.now }
-{
-    let mean = mean_price(inst, table);
+fn first_tolls(alloc: Global, table: &StepTable) -> Result<Vec<Toll>, AllocError> {
+    let inst = table.instance();
+    let mean = mean_price(table);
     let mut tolls = Vec::with_capacity(alloc, inst.links() as usize)?;
     for place in 0..inst.links() {
         let link = LinkId(place);
-        let price = link_price(inst, table, link).saturating_mul(MEAN_PRICE) / mean;
+        let price = link_price(table, link).saturating_mul(MEAN_PRICE) / mean;
         tolls.push(Toll {
             top: u128::from(inst.top_load(link)),
             price: price.clamp(1, MOST_MEANS * MEAN_PRICE),
@@ -315,18 +314,13 @@ fn empty_routing(alloc: Global, inst: &Instance, paths: &Items<Path>) -> Result<
 
 impl Negotiation {
     /// The negotiation before its first round: none of these paths is laid.
-    fn new(
-        alloc: Global,
-        inst: &Instance,
-        table: &StepTable,
-        paths: &Items<Path>,
-    ) -> Result<Negotiation, AllocError>
-        requires table { table.now ≡ inst.now }
-        requires paths { ArePaths inst.now paths.now }
-        ensures { IfOk result (λ negotiation. IsRouting inst.now negotiation.routing) }
+    fn new(alloc: Global, table: &StepTable, paths: &Items<Path>) -> Result<Negotiation, AllocError>
+        requires paths { ArePaths table.now paths.now }
+        ensures { IfOk result (λ negotiation. IsRouting table.now negotiation.routing) }
     {
+        let inst = table.instance();
         Ok(Negotiation {
-            tolls: first_tolls(alloc, inst, table)?,
+            tolls: first_tolls(alloc, table)?,
             pressure: FIRST_PRESSURE,
             searches: 0,
             weights: Vec::with_capacity(alloc, inst.arcs() as usize)?,
@@ -354,27 +348,21 @@ impl Negotiation {
     }
 
     /// Lays a demand on the path that asks least; false where there is none, or where the searches are spent.
-    fn lay(
-        &mut self,
-        inst: &Instance,
-        table: &StepTable,
-        demand: DemandId,
-    ) -> Result<bool, AllocError>
-        requires table { table.now ≡ inst.now }
-        requires demand { demand.0 < length inst.now.demands }
-        requires routing { IsRouting inst.now self.old.routing }
-        ensures routing { OnOk result (IsRouting inst.now self.new.routing) }
+    fn lay(&mut self, table: &StepTable, demand: DemandId) -> Result<bool, AllocError>
+        requires demand { demand.0 < length table.now.demands }
+        requires routing { IsRouting table.now self.old.routing }
+        ensures routing { OnOk result (IsRouting table.now self.new.routing) }
     {
+        let inst = table.instance();
         if self.searches >= MOST_SEARCHES {
             return Ok(false);
         }
         self.searches += 1;
-        let _fall = self.routing.take_off(inst, table, demand, false);
+        let _fall = self.routing.take_off(table, demand, false);
         if !self.find(inst, demand)? {
             return Ok(false);
         }
-        self.routing
-            .set_back(inst, table, demand, &self.scout.path)?;
+        self.routing.set_back(table, demand, &self.scout.path)?;
         Ok(true)
     }
 
@@ -390,20 +378,19 @@ impl Negotiation {
     /// links that carry more than they can; false where that cannot go on.
     fn go_round(
         &mut self,
-        inst: &Instance,
         table: &StepTable,
         order: &[(u128, u32)],
         is_first: bool,
     ) -> Result<bool, AllocError>
-        requires table { table.now ≡ inst.now }
-        requires order { All (λ key. key.1 < length inst.now.demands) order.now }
-        requires routing { IsRouting inst.now self.old.routing }
-        ensures routing { OnOk result (IsRouting inst.now self.new.routing) }
+        requires order { All (λ key. key.1 < length table.now.demands) order.now }
+        requires routing { IsRouting table.now self.old.routing }
+        ensures routing { OnOk result (IsRouting table.now self.new.routing) }
     {
+        let inst = table.instance();
         for (_size, place) in order {
             let demand = DemandId(*place);
             let is_moved = is_first || self.is_overfull(inst, demand);
-            if is_moved && !self.lay(inst, table, demand)? {
+            if is_moved && !self.lay(table, demand)? {
                 return Ok(false);
             }
         }
@@ -420,19 +407,14 @@ impl Negotiation {
     }
 
     /// Goes rounds until all links are left with what they can carry; false where no round leaves them so.
-    fn settle(
-        &mut self,
-        inst: &Instance,
-        table: &StepTable,
-        order: &[(u128, u32)],
-    ) -> Result<bool, AllocError>
-        requires table { table.now ≡ inst.now }
-        requires order { All (λ key. key.1 < length inst.now.demands) order.now }
-        requires routing { IsRouting inst.now self.old.routing }
-        ensures routing { OnOk result (IsRouting inst.now self.new.routing) }
+    fn settle(&mut self, table: &StepTable, order: &[(u128, u32)]) -> Result<bool, AllocError>
+        requires order { All (λ key. key.1 < length table.now.demands) order.now }
+        requires routing { IsRouting table.now self.old.routing }
+        ensures routing { OnOk result (IsRouting table.now self.new.routing) }
     {
+        let inst = table.instance();
         for round in 0..MOST_ROUNDS {
-            if !self.go_round(inst, table, order, round == 0)? {
+            if !self.go_round(table, order, round == 0)? {
                 return Ok(false);
             }
             if !self.raise(inst) {
@@ -453,18 +435,16 @@ impl Negotiation {
 /// Paths that are negotiated by rounds in this order. None as `negotiated`.
 fn negotiated_in_order(
     alloc: Global,
-    inst: &Instance,
     table: &StepTable,
     paths: &Items<Path>,
     order: &[(u128, u32)],
 ) -> Result<Option<Items<Path>>, AllocError>
-    requires table { table.now ≡ inst.now }
-    requires paths { ArePaths inst.now paths.now }
-    requires order { All (λ key. key.1 < length inst.now.demands) order.now }
-    ensures { IfOk result (λ found. IfSome found (ArePaths inst.now)) }
+    requires paths { ArePaths table.now paths.now }
+    requires order { All (λ key. key.1 < length table.now.demands) order.now }
+    ensures { IfOk result (λ found. IfSome found (ArePaths table.now)) }
 {
-    let mut negotiation = Negotiation::new(alloc, inst, table, paths)?;
-    let is_settled = negotiation.settle(inst, table, order)?;
+    let mut negotiation = Negotiation::new(alloc, table, paths)?;
+    let is_settled = negotiation.settle(table, order)?;
     let paths = negotiation.into_paths();
     Ok(if is_settled { Some(paths) } else { None })
 }
@@ -479,14 +459,13 @@ fn negotiated_in_order(
 /// - Time: at most 20,000 searches for a least path, in at most 128 rounds.
 pub fn negotiated(
     alloc: Global,
-    inst: &Instance,
     table: &StepTable,
     paths: &Items<Path>,
 ) -> Result<Option<Items<Path>>, AllocError>
-    requires table { table.now ≡ inst.now }
-    requires paths { ArePaths inst.now paths.now }
-    ensures paths { IfOk result (λ found. IfSome found (ArePaths inst.now)) }
+    requires paths { ArePaths table.now paths.now }
+    ensures paths { IfOk result (λ found. IfSome found (ArePaths table.now)) }
 {
+    let inst = table.instance();
     let order = largest_first(alloc, inst)?;
-    negotiated_in_order(alloc, inst, table, paths, order.as_slice())
+    negotiated_in_order(alloc, table, paths, order.as_slice())
 }

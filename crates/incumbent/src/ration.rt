@@ -111,18 +111,17 @@ fn place_after(seat: u32, seats: u32, searches: u32, place: u32) -> u32
 #[tactic(auto, using(crate::proofs::DesignLaws::good_completion))]
 fn completed(
     alloc: Global,
-    inst: &Instance,
     table: &StepTable,
     paths: &Items<Path>,
 ) -> Result<Option<Design>, AllocError>
-    requires table { table.now ≡ inst.now }
-    requires paths { ArePaths inst.now paths.now }
-    ensures good { IfOk result (λ found. IfSome found (IsGoodDesign inst.now)) }
+    requires paths { ArePaths table.now paths.now }
+    ensures good { IfOk result (λ found. IfSome found (IsGoodDesign table.now)) }
     ensures paths { IfOk result (λ found. IfSome found (λ design. design.paths ≡ paths.now)) }
-    ensures none { IfOk result (λ found. IfNone found (KeepsLimits inst.now (with_paths paths.now) → HasOverfull inst.now paths.now)) }
+    ensures none { IfOk result (λ found. IfNone found (KeepsLimits table.now (with_paths paths.now) → HasOverfull table.now paths.now)) }
 {
+    let inst = table.instance();
     let copy = roomy_copies(alloc, inst, paths.as_slice())?;
-    let Some((_cost, design)) = complete(alloc, inst, table, Items::from_vec(copy))? else {
+    let Some((_cost, design)) = complete(alloc, table, Items::from_vec(copy))? else {
         return Ok(None);
     };
     if check_design(inst, &design).is_err() {
@@ -134,16 +133,14 @@ fn completed(
 /// The cheapest design with paths that are negotiated, where that finds some.
 fn bargained(
     alloc: Global,
-    inst: &Instance,
     table: &StepTable,
     paths: &Items<Path>,
 ) -> Result<Option<Design>, AllocError>
-    requires table { table.now ≡ inst.now }
-    requires paths { ArePaths inst.now paths.now }
-    ensures { IfOk result (λ found. IfSome found (IsGoodDesign inst.now)) }
+    requires paths { ArePaths table.now paths.now }
+    ensures { IfOk result (λ found. IfSome found (IsGoodDesign table.now)) }
 {
-    match negotiated(alloc, inst, table, paths)? {
-        Some(found) => completed(alloc, inst, table, &found),
+    match negotiated(alloc, table, paths)? {
+        Some(found) => completed(alloc, table, &found),
         None => Ok(None),
     }
 }
@@ -152,22 +149,20 @@ fn bargained(
 /// where this is asked for, with paths that are negotiated.
 fn laid(
     alloc: Global,
-    inst: &Instance,
     table: &StepTable,
     paths: &Items<Path>,
     is_turn: bool,
 ) -> Result<Option<Design>, AllocError>
-    requires table { table.now ≡ inst.now }
-    requires paths { ArePaths inst.now paths.now }
-    ensures { IfOk result (λ found. IfSome found (IsGoodDesign inst.now)) }
+    requires paths { ArePaths table.now paths.now }
+    ensures { IfOk result (λ found. IfSome found (IsGoodDesign table.now)) }
 {
-    if let Some(laid) = lay_all(alloc, inst, table, paths)? {
-        if let Some(design) = completed(alloc, inst, table, &laid)? {
+    if let Some(laid) = lay_all(alloc, table, paths)? {
+        if let Some(design) = completed(alloc, table, &laid)? {
             return Ok(Some(design));
         }
     }
     if is_turn {
-        bargained(alloc, inst, table, paths)
+        bargained(alloc, table, paths)
     } else {
         Ok(None)
     }
@@ -197,46 +192,44 @@ fn exchanged(
 /// the same or above the demand's limit, or the links cannot carry them.
 fn completed_with(
     alloc: Global,
-    inst: &Instance,
     table: &StepTable,
     design: &Design,
     paths: &Items<Path>,
     demand: DemandId,
 ) -> Result<Option<Design>, AllocError>
-    requires table { table.now ≡ inst.now }
-    requires design { IsDesign inst.now design.now }
-    requires paths { ArePaths inst.now paths.now }
-    requires demand { demand.0 < length inst.now.demands }
-    ensures { IfOk result (λ found. IfSome found (IsGoodDesign inst.now)) }
+    requires design { IsDesign table.now design.now }
+    requires paths { ArePaths table.now paths.now }
+    requires demand { demand.0 < length table.now.demands }
+    ensures { IfOk result (λ found. IfSome found (IsGoodDesign table.now)) }
 {
+    let inst = table.instance();
     let place = demand.0 as usize;
     let path = &paths.as_slice()[place];
     if design.paths.as_slice()[place] == *path {
         return Ok(None);
     }
     let exchanged = exchanged(alloc, inst, design, demand, path)?;
-    completed(alloc, inst, table, &exchanged)
+    completed(alloc, table, &exchanged)
 }
 
 /// The cheapest design with the paths of a good one, where that of the first demand that differs and can be carried is
 /// the one among these.
 fn varied(
     alloc: Global,
-    inst: &Instance,
     table: &StepTable,
     design: &Design,
     paths: &Items<Path>,
     first: u32,
 ) -> Result<Option<Design>, AllocError>
-    requires table { table.now ≡ inst.now }
-    requires design { IsDesign inst.now design.now }
-    requires paths { ArePaths inst.now paths.now }
-    ensures { IfOk result (λ found. IfSome found (IsGoodDesign inst.now)) }
+    requires design { IsDesign table.now design.now }
+    requires paths { ArePaths table.now paths.now }
+    ensures { IfOk result (λ found. IfSome found (IsGoodDesign table.now)) }
 {
+    let inst = table.instance();
     let demands = inst.demands();
     for offset in 0..demands.min(MOST_TRIES) {
         let demand = DemandId((first % demands + offset) % demands);
-        if let Some(found) = completed_with(alloc, inst, table, design, paths, demand)? {
+        if let Some(found) = completed_with(alloc, table, design, paths, demand)? {
             return Ok(Some(found));
         }
     }
@@ -350,49 +343,46 @@ impl DesignSearch {
     fn fresh(
         &self,
         alloc: Global,
-        inst: &Instance,
         table: &StepTable,
         paths: &Items<Path>,
         is_laid_first: bool,
     ) -> Result<Option<Design>, AllocError>
-        requires table { table.now ≡ inst.now }
-        requires paths { ArePaths inst.now paths.now }
-        ensures { IfOk result (λ found. IfSome found (IsGoodDesign inst.now)) }
+        requires paths { ArePaths table.now paths.now }
+        ensures { IfOk result (λ found. IfSome found (IsGoodDesign table.now)) }
     {
         if is_laid_first {
-            if let Some(found) = laid(alloc, inst, table, paths, self.is_laying_turn())? {
+            if let Some(found) = laid(alloc, table, paths, self.is_laying_turn())? {
                 return Ok(Some(found));
             }
-            return completed(alloc, inst, table, paths);
+            return completed(alloc, table, paths);
         }
-        if let Some(found) = completed(alloc, inst, table, paths)? {
+        if let Some(found) = completed(alloc, table, paths)? {
             return Ok(Some(found));
         }
         if !self.is_laying_turn() {
             return Ok(None);
         }
-        laid(alloc, inst, table, paths, true)
+        laid(alloc, table, paths, true)
     }
 
     /// The cheapest design so far, where one demand has another path, one of these.
     fn varied_best(
         &self,
         alloc: Global,
-        inst: &Instance,
         table: &StepTable,
         paths: &Items<Path>,
     ) -> Result<Option<Design>, AllocError>
-        requires table { table.now ≡ inst.now }
-        requires paths { ArePaths inst.now paths.now }
-        ensures { IfOk result (λ found. IfSome found (IsGoodDesign inst.now)) }
+        requires paths { ArePaths table.now paths.now }
+        ensures { IfOk result (λ found. IfSome found (IsGoodDesign table.now)) }
     {
+        let inst = table.instance();
         let Some(best) = &self.best else {
             return Ok(None);
         };
         if check_design(inst, best).is_err() {
             return Ok(None);
         }
-        varied(alloc, inst, table, best, paths, self.asked)
+        varied(alloc, table, best, paths, self.asked)
     }
 
     /// A design with paths that are laid one by one, where a search from it is worth its time beside another design: in
@@ -401,17 +391,16 @@ impl DesignSearch {
     fn laid_or_other(
         &self,
         alloc: Global,
-        inst: &Instance,
         table: &StepTable,
         paths: &Items<Path>,
     ) -> Result<Option<Design>, AllocError>
-        requires table { table.now ≡ inst.now }
-        requires paths { ArePaths inst.now paths.now }
-        ensures { IfOk result (λ found. IfSome found (IsGoodDesign inst.now)) }
+        requires paths { ArePaths table.now paths.now }
+        ensures { IfOk result (λ found. IfSome found (IsGoodDesign table.now)) }
     {
-        let laid = self.fresh(alloc, inst, table, paths, true)?;
+        let inst = table.instance();
+        let laid = self.fresh(alloc, table, paths, true)?;
         if self.place == 0 {
-            let other = completed(alloc, inst, table, paths)?;
+            let other = completed(alloc, table, paths)?;
             return Ok(if is_worth(inst, &laid, &other) {
                 laid
             } else {
@@ -421,7 +410,7 @@ impl DesignSearch {
         if is_worth(inst, &laid, &self.best) {
             return Ok(laid);
         }
-        match self.varied_best(alloc, inst, table, paths)? {
+        match self.varied_best(alloc, table, paths)? {
             Some(varied) => Ok(Some(varied)),
             None => Ok(laid),
         }
@@ -444,24 +433,23 @@ impl DesignSearch {
     fn start(
         &self,
         alloc: Global,
-        inst: &Instance,
         table: &StepTable,
         paths: &Items<Path>,
     ) -> Result<Option<Design>, AllocError>
-        requires table { table.now ≡ inst.now }
-        requires paths { ArePaths inst.now paths.now }
-        ensures { IfOk result (λ found. IfSome found (IsGoodDesign inst.now)) }
+        requires paths { ArePaths table.now paths.now }
+        ensures { IfOk result (λ found. IfSome found (IsGoodDesign table.now)) }
     {
+        let inst = table.instance();
         if self.searches > 0 && has_parts_left(self.seats, self.searches) {
             return self.copied_best(inst);
         }
         if self.place > 1 {
-            return self.varied_best(alloc, inst, table, paths);
+            return self.varied_best(alloc, table, paths);
         }
         if self.begins_laid() {
-            return self.laid_or_other(alloc, inst, table, paths);
+            return self.laid_or_other(alloc, table, paths);
         }
-        self.fresh(alloc, inst, table, paths, false)
+        self.fresh(alloc, table, paths, false)
     }
 
     /// Holds a copy of the design, where it is cheaper than the one that is held: the later searches begin with it.
@@ -492,26 +480,25 @@ impl DesignSearch {
     pub fn next_design(
         &mut self,
         alloc: Global,
-        inst: &Instance,
         table: &StepTable,
         paths: &Items<Path>,
         examined: u32,
     ) -> Result<Option<Design>, AllocError>
-        requires table { table.now ≡ inst.now }
-        requires paths { ArePaths inst.now paths.now }
-        ensures good { IfOk result (λ found. IfSome found (IsGoodDesign inst.now)) }
+        requires paths { ArePaths table.now paths.now }
+        ensures good { IfOk result (λ found. IfSome found (IsGoodDesign table.now)) }
         ensures made { IfOk result (λ found. IfSome found (λ design. HasSearched self.old examined self.new)) }
         ensures waited { IfOk result (λ found. IfNone found (HasWaited self.old self.new)) }
-        ensures best { IfOk result (λ found. IfSome found (λ design. IsSomeAnd self.new.best (λ best. cost_of inst.now best ≤ cost_of inst.now design))) }
+        ensures best { IfOk result (λ found. IfSome found (λ design. IsSomeAnd self.new.best (λ best. cost_of table.now best ≤ cost_of table.now design))) }
         ensures asked { self.new.asked ≡ min (self.old.asked + 1) (2 ^ 32 - 1) }
         ensures seat { self.new.seat ≡ self.old.seat }
         ensures seats { self.new.seats ≡ self.old.seats }
     {
+        let inst = table.instance();
         self.asked = self.asked.saturating_add(1);
         if !self.is_due(examined) {
             return Ok(None);
         }
-        let Some(start) = self.start(alloc, inst, table, paths)? else {
+        let Some(start) = self.start(alloc, table, paths)? else {
             return Ok(None);
         };
         let shares = self.shares();
@@ -519,7 +506,7 @@ impl DesignSearch {
         self.place = place_after(self.seat, self.seats, self.searches, self.place);
         // No two searches share a seed, whichever seats they are of.
         let seed = self.seat.wrapping_mul(SEEDS).wrapping_add(self.searches);
-        let (_cost, design) = improve_share(alloc, inst, table, start, seed, shares)?;
+        let (_cost, design) = improve_share(alloc, table, start, seed, shares)?;
         self.learn(inst, &design)?;
         Ok(Some(design))
     }

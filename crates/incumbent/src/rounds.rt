@@ -37,34 +37,29 @@ pub struct Rounds {
 }
 
 /// Lays all demands on their paths.
-fn put_all_on(inst: &Instance, table: &StepTable, routing: &mut Routing)
-    requires table { table.now ≡ inst.now }
-    requires routing { IsRouting inst.now routing.old }
-    ensures routing { IsRouting inst.now routing.new }
+fn put_all_on(table: &StepTable, routing: &mut Routing)
+    requires routing { IsRouting table.now routing.old }
+    ensures routing { IsRouting table.now routing.new }
 {
+    let inst = table.instance();
     for place in 0..inst.demands() {
-        routing.put_on(inst, table, DemandId(place));
+        routing.put_on(table, DemandId(place));
     }
 }
 
 /// Reroutes each demand once where that helps, and tells behind how many demands it helped last, 0 where it helped none.
 /// Where it helps none of so many first ones, the others are passed over.
-fn reroute_each(
-    inst: &Instance,
-    table: &StepTable,
-    until: u32,
-    routing: &mut Routing,
-) -> Result<u32, AllocError>
-    requires table { table.now ≡ inst.now }
-    requires routing { IsRouting inst.now routing.old }
-    ensures routing { IsRouting inst.now routing.new }
+fn reroute_each(table: &StepTable, until: u32, routing: &mut Routing) -> Result<u32, AllocError>
+    requires routing { IsRouting table.now routing.old }
+    ensures routing { IsRouting table.now routing.new }
 {
+    let inst = table.instance();
     let mut last = 0;
     for place in 0..inst.demands() {
         if last == 0 && place >= until {
             break;
         }
-        if routing.reroute(inst, table, DemandId(place))? {
+        if routing.reroute(table, DemandId(place))? {
             last = place + 1;
         }
     }
@@ -72,14 +67,14 @@ fn reroute_each(
 }
 
 /// Reroutes the demands until none helps or all turns are spent.
-fn reroute_all(inst: &Instance, table: &StepTable, routing: &mut Routing) -> Result<(), AllocError>
-    requires table { table.now ≡ inst.now }
-    requires routing { IsRouting inst.now routing.old }
-    ensures routing { IsRouting inst.now routing.new }
+fn reroute_all(table: &StepTable, routing: &mut Routing) -> Result<(), AllocError>
+    requires routing { IsRouting table.now routing.old }
+    ensures routing { IsRouting table.now routing.new }
 {
+    let inst = table.instance();
     let mut until = inst.demands();
     for _turn in 0..MAX_TURNS {
-        until = reroute_each(inst, table, until, routing)?;
+        until = reroute_each(table, until, routing)?;
         if until == 0 {
             break;
         }
@@ -97,16 +92,14 @@ struct LastHelp {
 /// Reroutes each demand of a group once where that helps, and tells where it helped last. Where it helps none of so many
 /// first ones, the others are passed over.
 fn reroute_group(
-    inst: &Instance,
     table: &StepTable,
     group: &[DemandId],
     until: usize,
     routing: &mut Routing,
 ) -> Result<Option<LastHelp>, AllocError>
-    requires table { table.now ≡ inst.now }
-    requires routing { IsRouting inst.now routing.old }
-    requires group { AreDemands inst.now group.now }
-    ensures routing { IsRouting inst.now routing.new }
+    requires routing { IsRouting table.now routing.old }
+    requires group { AreDemands table.now group.now }
+    ensures routing { IsRouting table.now routing.new }
 {
     let mut last = None;
     let mut tried = 0usize;
@@ -115,7 +108,7 @@ fn reroute_group(
             break;
         }
         tried = tried.saturating_add(1);
-        if routing.reroute(inst, table, *demand)? {
+        if routing.reroute(table, *demand)? {
             last = Some(LastHelp {
                 places: tried,
                 searches: routing.searches,
@@ -127,21 +120,15 @@ fn reroute_group(
 
 /// Reroutes the demands of a group until none helps or all turns are spent. What was tried in vain since the last one that
 /// helped is not tried again, and counts as if it were.
-fn touch_up(
-    inst: &Instance,
-    table: &StepTable,
-    group: &[DemandId],
-    routing: &mut Routing,
-) -> Result<(), AllocError>
-    requires table { table.now ≡ inst.now }
-    requires routing { IsRouting inst.now routing.old }
-    requires group { AreDemands inst.now group.now }
-    ensures routing { IsRouting inst.now routing.new }
+fn touch_up(table: &StepTable, group: &[DemandId], routing: &mut Routing) -> Result<(), AllocError>
+    requires routing { IsRouting table.now routing.old }
+    requires group { AreDemands table.now group.now }
+    ensures routing { IsRouting table.now routing.new }
 {
     let mut until = group.len();
     let mut vain = 0u32;
     for _turn in 0..GROUP_TURNS {
-        let Some(last) = reroute_group(inst, table, group, until, routing)? else {
+        let Some(last) = reroute_group(table, group, until, routing)? else {
             routing.searches = routing.searches.saturating_add(vain);
             break;
         };
@@ -152,32 +139,29 @@ fn touch_up(
 }
 
 /// Takes the demands of a group off.
-fn destroy(inst: &Instance, table: &StepTable, group: &[DemandId], routing: &mut Routing)
-    requires table { table.now ≡ inst.now }
-    requires routing { IsRouting inst.now routing.old }
-    requires group { AreDemands inst.now group.now }
-    ensures routing { IsRouting inst.now routing.new }
+fn destroy(table: &StepTable, group: &[DemandId], routing: &mut Routing)
+    requires routing { IsRouting table.now routing.old }
+    requires group { AreDemands table.now group.now }
+    ensures routing { IsRouting table.now routing.new }
 {
     for demand in group {
-        let _fall = routing.take_off(inst, table, *demand, false);
+        let _fall = routing.take_off(table, *demand, false);
     }
 }
 
 /// Lays the demands of a group one by one, and tells whether each found a path.
 fn repair(
-    inst: &Instance,
     table: &StepTable,
     group: &[DemandId],
     far: u128,
     routing: &mut Routing,
 ) -> Result<bool, AllocError>
-    requires table { table.now ≡ inst.now }
-    requires routing { IsRouting inst.now routing.old }
-    requires group { AreDemands inst.now group.now }
-    ensures routing { IsRouting inst.now routing.new }
+    requires routing { IsRouting table.now routing.old }
+    requires group { AreDemands table.now group.now }
+    ensures routing { IsRouting table.now routing.new }
 {
     for demand in group {
-        if !routing.lay_far(inst, table, *demand, far)? {
+        if !routing.lay_far(table, *demand, far)? {
             return Ok(false);
         }
     }
@@ -214,41 +198,34 @@ fn is_laid_on(routing: &Routing, demand: DemandId, path: &Path) -> bool {
 
 /// Lays the demands of a group on their paths among these, in place of their own.
 fn set_group_back(
-    inst: &Instance,
     table: &StepTable,
     group: &[DemandId],
     paths: &[Path],
     routing: &mut Routing,
 ) -> Result<(), AllocError>
-    requires table { table.now ≡ inst.now }
-    requires group { AreDemands inst.now group.now }
-    requires paths { ArePaths inst.now paths.now }
-    requires routing { IsRouting inst.now routing.old }
-    ensures routing { OnOk result (IsRouting inst.now routing.new) }
+    requires group { AreDemands table.now group.now }
+    requires paths { ArePaths table.now paths.now }
+    requires routing { IsRouting table.now routing.old }
+    ensures routing { OnOk result (IsRouting table.now routing.new) }
 {
     for demand in group {
         let path = &paths[demand.0 as usize];
         if !is_laid_on(routing, *demand, path) {
-            routing.set_back(inst, table, *demand, path)?;
+            routing.set_back(table, *demand, path)?;
         }
     }
     Ok(())
 }
 
 /// These paths, laid and rerouted until no single reroute helps; none of its searches counts.
-fn first_routing(
-    alloc: Global,
-    inst: &Instance,
-    table: &StepTable,
-    paths: Vec<Path>,
-) -> Result<Routing, AllocError>
-    requires table { table.now ≡ inst.now }
-    requires paths { ArePaths inst.now paths.items }
-    ensures routing { IfOk result (IsRouting inst.now) }
+fn first_routing(alloc: Global, table: &StepTable, paths: Vec<Path>) -> Result<Routing, AllocError>
+    requires paths { ArePaths table.now paths.items }
+    ensures routing { IfOk result (IsRouting table.now) }
 {
+    let inst = table.instance();
     let mut routing = Routing::new(alloc, inst, paths)?;
-    put_all_on(inst, table, &mut routing);
-    reroute_all(inst, table, &mut routing)?;
+    put_all_on(table, &mut routing);
+    reroute_all(table, &mut routing)?;
     routing.searches = 0;
     Ok(routing)
 }
@@ -273,17 +250,16 @@ impl Rounds {
     /// The search that begins with these paths once no single reroute helps.
     pub(crate) fn new(
         alloc: Global,
-        inst: &Instance,
         table: &StepTable,
         paths: Vec<Path>,
         seed: u32,
     ) -> Result<Rounds, AllocError>
-        requires table { table.now ≡ inst.now }
-        requires paths { ArePaths inst.now paths.items }
-        ensures search { IfOk result (IsSearch inst.now) }
+        requires paths { ArePaths table.now paths.items }
+        ensures search { IfOk result (IsSearch table.now) }
     {
+        let inst = table.instance();
         let draws = Draws::new(&paths, seed);
-        let now = first_routing(alloc, inst, table, paths)?;
+        let now = first_routing(alloc, table, paths)?;
         let (accepted, best, group) = room_beside(alloc, inst, &now)?;
         Ok(Rounds {
             accepted,
@@ -311,18 +287,18 @@ impl Rounds {
     }
 
     /// Takes a group off and lays it again, and tells whether each demand found a path.
-    fn try_group(&mut self, inst: &Instance, table: &StepTable) -> Result<bool, AllocError>
-        requires table { table.now ≡ inst.now }
-        requires search { IsSearch inst.now self.old }
-        requires some { 0 < length inst.now.demands }
-        ensures search { OnOk result (IsSearch inst.now self.new) }
+    fn try_group(&mut self, table: &StepTable) -> Result<bool, AllocError>
+        requires search { IsSearch table.now self.old }
+        requires some { 0 < length table.now.demands }
+        ensures search { OnOk result (IsSearch table.now self.new) }
     {
+        let inst = table.instance();
         let far = self.draw_far(inst);
-        destroy(inst, table, &self.group, &mut self.now);
-        if !repair(inst, table, &self.group, far, &mut self.now)? {
+        destroy(table, &self.group, &mut self.now);
+        if !repair(table, &self.group, far, &mut self.now)? {
             return Ok(false);
         }
-        touch_up(inst, table, &self.group, &mut self.now)?;
+        touch_up(table, &self.group, &mut self.now)?;
         Ok(true)
     }
 
@@ -343,33 +319,20 @@ impl Rounds {
     }
 
     /// Gives the group the paths back that were accepted last.
-    fn take_back(&mut self, inst: &Instance, table: &StepTable) -> Result<(), AllocError>
-        requires table { table.now ≡ inst.now }
-        requires search { IsSearch inst.now self.old }
-        ensures search { OnOk result (IsSearch inst.now self.new) }
+    fn take_back(&mut self, table: &StepTable) -> Result<(), AllocError>
+        requires search { IsSearch table.now self.old }
+        ensures search { OnOk result (IsSearch table.now self.new) }
     {
-        set_group_back(
-            inst,
-            table,
-            &self.group,
-            &self.accepted.paths,
-            &mut self.now,
-        )
+        set_group_back(table, &self.group, &self.accepted.paths, &mut self.now)
     }
 
     /// One round, which takes at most so many demands off.
-    fn round(
-        &mut self,
-        inst: &Instance,
-        table: &StepTable,
-        cooling: &Cooling,
-        most: usize,
-    ) -> Result<(), AllocError>
-        requires table { table.now ≡ inst.now }
-        requires search { IsSearch inst.now self.old }
-        requires some { 0 < length inst.now.demands }
-        ensures search { OnOk result (IsSearch inst.now self.new) }
+    fn round(&mut self, table: &StepTable, cooling: &Cooling, most: usize) -> Result<(), AllocError>
+        requires search { IsSearch table.now self.old }
+        requires some { 0 < length table.now.demands }
+        ensures search { OnOk result (IsSearch table.now self.new) }
     {
+        let inst = table.instance();
         draw_group(
             inst,
             &self.now.paths,
@@ -377,55 +340,45 @@ impl Rounds {
             &mut self.draws,
             &mut self.group,
         )?;
-        if !self.try_group(inst, table)? {
-            return self.take_back(inst, table);
+        if !self.try_group(table)? {
+            return self.take_back(table);
         }
         let slack = cooling.slack(self.now.searches, self.draws.ones());
         if self.now.cost <= self.accepted.cost.saturating_add(slack) {
             self.accept(inst)
         } else {
-            self.take_back(inst, table)
+            self.take_back(table)
         }
     }
 
     /// Rounds until one of so many equal shares of the searches is spent.
-    fn spend_searches(
-        &mut self,
-        inst: &Instance,
-        table: &StepTable,
-        shares: u32,
-    ) -> Result<(), AllocError>
-        requires table { table.now ≡ inst.now }
-        requires search { IsSearch inst.now self.old }
-        requires some { 0 < length inst.now.demands }
-        ensures search { OnOk result (IsSearch inst.now self.new) }
+    fn spend_searches(&mut self, table: &StepTable, shares: u32) -> Result<(), AllocError>
+        requires search { IsSearch table.now self.old }
+        requires some { 0 < length table.now.demands }
+        ensures search { OnOk result (IsSearch table.now self.new) }
     {
+        let inst = table.instance();
         let cooling = Cooling::new(inst, self.now.cost, shares);
         let most = group_size(inst, cooling.limit());
         for _round in 0..cooling.limit() {
             if self.now.searches >= cooling.limit() {
                 break;
             }
-            self.round(inst, table, &cooling, most)?;
+            self.round(table, &cooling, most)?;
         }
         Ok(())
     }
 
     /// Rounds until one of so many equal shares of the searches is spent; none where there are no demands.
-    pub(crate) fn run(
-        &mut self,
-        inst: &Instance,
-        table: &StepTable,
-        shares: u32,
-    ) -> Result<(), AllocError>
-        requires table { table.now ≡ inst.now }
-        requires search { IsSearch inst.now self.old }
-        ensures search { OnOk result (IsSearch inst.now self.new) }
+    pub(crate) fn run(&mut self, table: &StepTable, shares: u32) -> Result<(), AllocError>
+        requires search { IsSearch table.now self.old }
+        ensures search { OnOk result (IsSearch table.now self.new) }
     {
+        let inst = table.instance();
         if inst.demands() == 0 {
             return Ok(());
         }
-        self.spend_searches(inst, table, shares)
+        self.spend_searches(table, shares)
     }
 
     /// The paths of the cheapest design met.

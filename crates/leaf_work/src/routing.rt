@@ -7,7 +7,7 @@ ghost use Rattle.incumbent.specs.Searches.{HasSearched, HasWaited};
 
 use incumbent::DesignSearch;
 use link_steps::StepTable;
-use plan_base::{Design, Instance, Items, Path};
+use plan_base::{Design, Items, Path};
 use std::alloc::{AllocError, Global};
 
 /// A design that a search finds, which begins with these paths or with the cheapest design so far.
@@ -17,18 +17,16 @@ use std::alloc::{AllocError, Global};
 /// - Errors: want of memory alone.
 pub fn new_design(
     alloc: Global,
-    inst: &Instance,
     table: &StepTable,
     paths: &Items<Path>,
     examined: u32,
     designs: &mut DesignSearch,
 ) -> Result<Option<Design>, AllocError>
-    requires table { table.now ≡ inst.now }
-    requires paths { ArePaths inst.now paths.now }
-    ensures good { IfOk result (λ found. IfSome found (λ design. IsGoodDesign inst.now design)) }
+    requires { ArePaths table.now paths.now }
+    ensures good { IfOk result (λ found. IfSome found (λ design. IsGoodDesign table.now design)) }
     ensures made { IfOk result (λ found. IfSome found (λ design. HasSearched designs.old examined designs.new)) }
     ensures waited { IfOk result (λ found. IfNone found (HasWaited designs.old designs.new)) }
-    ensures best { IfOk result (λ found. IfSome found (λ design. IsSomeAnd designs.new.best (λ best. cost_of inst.now best ≤ cost_of inst.now design))) }
+    ensures best { IfOk result (λ found. IfSome found (λ design. IsSomeAnd designs.new.best (λ best. cost_of table.now best ≤ cost_of table.now design))) }
 {
-    designs.next_design(alloc, inst, table, paths, examined)
+    designs.next_design(alloc, table, paths, examined)
 }

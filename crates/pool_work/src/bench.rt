@@ -140,18 +140,15 @@ impl<N: Search> Bench<N> {
     /// - Errors: want of memory alone.
     pub fn design(
         &mut self,
-        inst: &Instance,
         table: &StepTable,
         told: &Told<N>,
         paths: &Items<Path>,
     ) -> Result<Option<Design>, AllocError>
-        requires table { table.now ≡ inst.now }
-        requires paths { ArePaths inst.now paths.now }
-        ensures { IfOk result (λ found. IfSome found (IsGoodDesign inst.now)) }
+        requires { ArePaths table.now paths.now }
+        ensures { IfOk result (λ found. IfSome found (IsGoodDesign table.now)) }
     {
         new_design(
             self.alloc,
-            inst,
             table,
             paths,
             told.examined(),

@@ -211,7 +211,7 @@ fn found_design<N: Search, H: Office<N>, T: Wait>(
     ensures keeps { H.keeps seat.old seat.new }
 {
     let paths = start_paths(rt, alloc, hub, seat, told)?;
-    bench.design(&**hub.instance(), hub.table().steps(), told, &paths)
+    bench.design(hub.table().steps(), told, &paths)
 }
 
 /// Hands a design in, where the seat may make a further call.

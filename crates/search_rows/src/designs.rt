@@ -88,7 +88,7 @@ fn find_all(alloc: Global, problem: &Problem, start: &Design, seeds: u32) -> Opt
     };
     for seed in 0..seeds {
         let copy = start.copy().ok()?;
-        let (cost, design) = improve_seeded(alloc, &problem.inst, &problem.table, copy, seed).ok()?;
+        let (cost, design) = improve_seeded(alloc, &problem.table, copy, seed).ok()?;
         found.take(cost, design);
     }
     Some(found)
@@ -99,7 +99,7 @@ fn improved(alloc: Global, problem: &Problem, design: Design) -> Option<(u128, D
     requires { problem.now.table ≡ problem.now.inst }
 {
     let cost = check_design(&problem.inst, &design).ok()?;
-    let (better, design) = improve(alloc, &problem.inst, &problem.table, design).ok()?;
+    let (better, design) = improve(alloc, &problem.table, design).ok()?;
     if better > cost {
         return None;
     }
@@ -110,7 +110,7 @@ fn improved(alloc: Global, problem: &Problem, design: Design) -> Option<(u128, D
 fn found_from_start(alloc: Global, problem: &Problem, seeds: u32) -> Option<Found>
     requires { problem.now.table ≡ problem.now.inst }
 {
-    let start = start_design(alloc, &problem.inst, &problem.table)?;
+    let start = start_design(alloc, &problem.table)?;
     find_all(alloc, problem, &start, seeds)
 }
 

@@ -68,7 +68,7 @@ fn cutless_table(alloc: Global, inst: &Instance) -> Option<CutTable>
     ensures { IfSome result (λ table. table.problem ≡ inst.now) }
 {
     let steps = table_of(alloc, inst)?;
-    CutTable::new(alloc, inst, steps, Items::new(alloc)).ok()
+    CutTable::new(alloc, steps, Items::new(alloc)).ok()
 }
 
 /// Whether a step is what the twin found.
@@ -94,15 +94,8 @@ fn is_no_worse(step: &Step, found: &Found) -> bool {
 }
 
 /// Whether the step of a brief is what the twin found, and the better of it and an ascent no worse.
-fn steps_agree(
-    alloc: Global,
-    inst: &Instance,
-    table: &CutTable,
-    brief: &Brief,
-    found: &Found,
-) -> bool
-    requires { table.now.problem ≡ inst.now }
-{
+fn steps_agree(alloc: Global, table: &CutTable, brief: &Brief, found: &Found) -> bool {
+    let inst = table.instance();
     if !brief.fits(inst, table) {
         return false;
     }
@@ -121,8 +114,7 @@ fn steps_agree(
 fn all_agree(alloc: Global, inst: &Instance, brief: &Brief, found: &Found) -> bool {
     match cutless_table(alloc, inst) {
         Some(table) => {
-            steps_agree(alloc, inst, &table, brief, found)
-                && are_values(alloc, inst, &table, brief, found)
+            steps_agree(alloc, &table, brief, found) && are_values(alloc, &table, brief, found)
         }
         None => false,
     }

@@ -38,7 +38,7 @@ impl Pool {
         if let Some(link) = outside_link(&*self.state.problem, &**ranges, routing) {
             return Some(link);
         }
-        overfull_link(&*self.state.problem, self.state.table.steps(), routing)
+        overfull_link(self.state.table.steps(), routing)
     }
 
     /// Closes a node that leaves each demand one path: by a link that these paths overfill or of which they put a load
@@ -56,12 +56,7 @@ impl Pool {
             self.close(node, Reason::Shown(Evidence::Overfull { link }));
             return Ok(Examined::Overfull);
         }
-        let done = complete(
-            self.state.alloc,
-            &*self.state.problem,
-            self.state.table.steps(),
-            routing.paths,
-        )?;
+        let done = complete(self.state.alloc, self.state.table.steps(), routing.paths)?;
         let Some((_cost, design)) = done else {
             unreachable!();
         };

@@ -147,7 +147,7 @@ impl Pool {
         ensures opening { IfOk result (λ pool. IsOpeningState (arc_value inst) cuts budget pool) }
     {
         let _places = inst.places();
-        let cut_table = CutTable::new(alloc, &*inst, steps, cuts)?;
+        let cut_table = CutTable::new(alloc, steps, cuts)?;
         let prices = cut_table.start_numbers(alloc)?;
         let table = Arc::new(alloc, cut_table)?;
         let opening = opening_with(alloc, &*inst, &*table, prices)?;

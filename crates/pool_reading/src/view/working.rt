@@ -77,7 +77,6 @@ impl<'a> PoolView<'a> {
         let paths = self.start_paths(node, guide)?;
         leaf_work::new_design(
             self.state.alloc,
-            self.problem(),
             self.table().steps(),
             &paths,
             self.state.examined,

@@ -78,32 +78,21 @@ fn paths_of(alloc: Global, inst: &Instance, words: &[&str]) -> Option<Items<Path
 }
 
 /// What the cheapest design with these paths costs.
-fn completed_cost(
-    alloc: Global,
-    inst: &Instance,
-    table: &StepTable,
-    paths: Items<Path>,
-) -> Option<u128>
-    requires table { table.now ≡ inst.now }
-    requires paths { ArePaths inst.now paths }
+fn completed_cost(alloc: Global, table: &StepTable, paths: Items<Path>) -> Option<u128>
+    requires paths { ArePaths table.now paths }
 {
-    let (cost, _design) = complete(alloc, inst, table, paths).ok()??;
+    let inst = table.instance();
+    let (cost, _design) = complete(alloc, table, paths).ok()??;
     Some(cost)
 }
 
 /// Adds what one costs that is found from a design, and what the cheapest one with the paths of that costs, in units.
-fn tell_better(
-    alloc: Global,
-    inst: &Instance,
-    table: &StepTable,
-    design: Design,
-    text: &mut String,
-) -> Option<()>
-    requires table { table.now ≡ inst.now }
-    requires design { IsGoodDesign inst.now design }
+fn tell_better(alloc: Global, table: &StepTable, design: Design, text: &mut String) -> Option<()>
+    requires design { IsGoodDesign table.now design }
 {
-    let (better, design) = improve(alloc, inst, table, design).ok()?;
-    let again = completed_cost(alloc, inst, table, design.paths)?;
+    let inst = table.instance();
+    let (better, design) = improve(alloc, table, design).ok()?;
+    let again = completed_cost(alloc, table, design.paths)?;
     let (better, again) = (better / UNIT, again / UNIT);
     write!(text, ", improved {better}, completed {again}\n").ok()
 }
@@ -111,36 +100,33 @@ fn tell_better(
 /// Adds what a design costs, in units, and what is found from it.
 fn tell_design(
     alloc: Global,
-    inst: &Instance,
     table: &StepTable,
     cost: u128,
     design: Design,
     text: &mut String,
-) -> Option<()>
-    requires { table.now ≡ inst.now }
-{
+) -> Option<()> {
+    let inst = table.instance();
     check_design(inst, &design).ok()?;
     write!(text, " {}", cost / UNIT).ok()?;
-    tell_better(alloc, inst, table, design, text)
+    tell_better(alloc, table, design, text)
 }
 
 /// Adds what the cheapest design with the paths costs, in units, and what is found from it, or which link cannot carry the
 /// paths.
 fn tell_completed(
     alloc: Global,
-    inst: &Instance,
     table: &StepTable,
     paths: Items<Path>,
     text: &mut String,
 ) -> Option<()>
-    requires table { table.now ≡ inst.now }
-    requires paths { ArePaths inst.now paths }
+    requires paths { ArePaths table.now paths }
 {
+    let inst = table.instance();
     let counts = Items::new(alloc);
     let design = Design { paths, counts };
-    let overfull = overfull_link(inst, table, &design);
-    match (complete(alloc, inst, table, design.paths).ok()?, overfull) {
-        (Some((cost, design)), None) => tell_design(alloc, inst, table, cost, design, text),
+    let overfull = overfull_link(table, &design);
+    match (complete(alloc, table, design.paths).ok()?, overfull) {
+        (Some((cost, design)), None) => tell_design(alloc, table, cost, design, text),
         (None, Some(link)) => write!(text, " link {} is overfull\n", link.0).ok(),
         _ => None,
     }
@@ -149,17 +135,16 @@ fn tell_completed(
 /// Adds what the design costs, in units, that a seat finds when so many nodes are examined, if it finds one.
 fn tell_next(
     alloc: Global,
-    inst: &Instance,
     table: &StepTable,
     paths: &Items<Path>,
     designs: &mut DesignSearch,
     examined: u32,
     text: &mut String,
 ) -> Option<()>
-    requires table { table.now ≡ inst.now }
-    requires paths { ArePaths inst.now paths.now }
+    requires paths { ArePaths table.now paths.now }
 {
-    let found = designs.next_design(alloc, inst, table, paths, examined);
+    let inst = table.instance();
+    let found = designs.next_design(alloc, table, paths, examined);
     let Some(design) = found.ok()? else {
         return Some(());
     };
@@ -170,17 +155,15 @@ fn tell_next(
 /// Adds what each design costs that a seat finds, in units, and how many nodes are examined then.
 fn tell_searches(
     alloc: Global,
-    inst: &Instance,
     table: &StepTable,
     paths: &Items<Path>,
     designs: &mut DesignSearch,
     text: &mut String,
 ) -> Option<()>
-    requires table { table.now ≡ inst.now }
-    requires paths { ArePaths inst.now paths.now }
+    requires paths { ArePaths table.now paths.now }
 {
     for examined in ASKINGS {
-        tell_next(alloc, inst, table, paths, designs, examined, text)?;
+        tell_next(alloc, table, paths, designs, examined, text)?;
     }
     text.push_str("\n").ok()
 }
@@ -188,14 +171,12 @@ fn tell_searches(
 /// Adds the line of each seat.
 fn tell_seats(
     alloc: Global,
-    inst: &Instance,
     table: &StepTable,
     paths: &Items<Path>,
     small: Small,
     text: &mut String,
 ) -> Option<()>
-    requires table { table.now ≡ inst.now }
-    requires paths { ArePaths inst.now paths.now }
+    requires paths { ArePaths table.now paths.now }
 {
     for (seat, seats) in small.seats {
         if *seat >= *seats {
@@ -203,30 +184,23 @@ fn tell_seats(
         }
         let mut designs = DesignSearch::new(*seat, *seats);
         write!(text, "{}, seat {seat} of {seats}", small.name).ok()?;
-        tell_searches(alloc, inst, table, paths, &mut designs, text)?;
+        tell_searches(alloc, table, paths, &mut designs, text)?;
     }
     Some(())
 }
 
 /// Adds what these seats find for a network, and what is found from the cheapest design with its paths.
-fn tell_network(
-    alloc: Global,
-    inst: &Instance,
-    small: Small,
-    table: &StepTable,
-    text: &mut String,
-) -> Option<()>
-    requires { table.now ≡ inst.now }
-{
+fn tell_network(alloc: Global, small: Small, table: &StepTable, text: &mut String) -> Option<()> {
+    let inst = table.instance();
     let paths = paths_of(alloc, inst, small.paths)?;
-    tell_seats(alloc, inst, table, &paths, small, text)?;
+    tell_seats(alloc, table, &paths, small, text)?;
     write!(text, "{}:", small.name).ok()?;
-    tell_completed(alloc, inst, table, paths, text)
+    tell_completed(alloc, table, paths, text)
 }
 
 /// Adds the lines of a network.
 fn tell_lines(alloc: Global, inst: &Instance, small: Small, text: &mut String) -> Option<()> {
-    tell_network(alloc, inst, small, &table_of(alloc, inst)?, text)
+    tell_network(alloc, small, &table_of(alloc, inst)?, text)
 }
 
 /// Adds the lines of both networks.

@@ -64,9 +64,8 @@ fn least_paths(alloc: Global, inst: &Instance, weights: &[Option<u128>]) -> Opti
 }
 
 /// Counts with which each link carries all loads together.
-fn full_counts(alloc: Global, inst: &Instance, table: &StepTable) -> Option<Items<Items<u64>>>
-    requires { table.now ≡ inst.now }
-{
+fn full_counts(alloc: Global, table: &StepTable) -> Option<Items<Items<u64>>> {
+    let inst = table.instance();
     let mut counts = Vec::new(alloc);
     for place in 0..inst.links() {
         let of_link = table.counts(alloc, LinkId(place), inst.total_load()).ok()?;
@@ -81,13 +80,13 @@ fn start_paths(alloc: Global, inst: &Instance, table: &StepTable) -> Option<Item
 }
 
 /// A dear design with the least paths at the start prices.
-pub(crate) fn start_design(alloc: Global, inst: &Instance, table: &StepTable) -> Option<Design>
-    requires { table.now ≡ inst.now }
-    ensures { IfSome result (IsGoodDesign inst.now) }
+pub(crate) fn start_design(alloc: Global, table: &StepTable) -> Option<Design>
+    ensures { IfSome result (IsGoodDesign table.now) }
 {
+    let inst = table.instance();
     let design = Design {
         paths: start_paths(alloc, inst, table)?,
-        counts: full_counts(alloc, inst, table)?,
+        counts: full_counts(alloc, table)?,
     };
     if check_design(inst, &design).is_err() {
         return None;

@@ -91,16 +91,15 @@ fn have_columns(
 /// Whether the value and the gain of prices over the columns are what the twin found.
 fn both_agree(
     alloc: Global,
-    inst: &Instance,
     table: &CutTable,
     brief: &Brief,
     pool: &ColumnPool,
     found: &Found,
 ) -> Option<bool>
-    requires table { table.now.problem ≡ inst.now }
-    requires brief { IsBriefFor inst.now table.now.cuts brief.now.prices brief.now.ranges brief.now.columns }
-    requires columns { AreColumns inst.now pool.now }
+    requires brief { IsBriefFor table.now.problem table.now.cuts brief.now.prices brief.now.ranges brief.now.columns }
+    requires columns { AreColumns table.now.problem pool.now }
 {
+    let inst = table.instance();
     let restriction = Restriction::none(alloc, inst).ok()?;
     if !have_columns(alloc, inst, pool, &restriction).ok()? {
         return None;
@@ -127,20 +126,13 @@ fn both_agree(
 }
 
 /// Whether the value and the gain of the brief's prices are what the twin found.
-pub(crate) fn are_values(
-    alloc: Global,
-    inst: &Instance,
-    table: &CutTable,
-    brief: &Brief,
-    found: &Found,
-) -> bool
-    requires { table.now.problem ≡ inst.now }
-{
+pub(crate) fn are_values(alloc: Global, table: &CutTable, brief: &Brief, found: &Found) -> bool {
+    let inst = table.instance();
     if !brief.fits(inst, table) {
         return false;
     }
     match pool_of(alloc, inst, brief.columns.as_slice()) {
-        Ok(pool) => both_agree(alloc, inst, table, brief, &pool, found) == Some(true),
+        Ok(pool) => both_agree(alloc, table, brief, &pool, found) == Some(true),
         Err(_) => false,
     }
 }

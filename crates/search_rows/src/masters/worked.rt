@@ -90,15 +90,8 @@ fn raises(step: &Step, wanted: &[u128], value: i128) -> bool {
 }
 
 /// The step of a brief with a table, or the better of it and an ascent. None as `step_of`.
-fn step_with(
-    alloc: Global,
-    inst: &Instance,
-    table: &CutTable,
-    brief: &Brief,
-    is_best: bool,
-) -> Option<Step>
-    requires { table.now.problem ≡ inst.now }
-{
+fn step_with(alloc: Global, table: &CutTable, brief: &Brief, is_best: bool) -> Option<Step> {
+    let inst = table.instance();
     if !brief.fits(inst, table) {
         return None;
     }
@@ -111,7 +104,7 @@ fn step_with(
 /// The step of a brief, or the better of it and an ascent. None where the brief does not fit, and where memory is wanting.
 fn step_of(alloc: Global, inst: &Instance, brief: &Brief, is_best: bool) -> Option<Step> {
     let table = cutless_table(alloc, inst)?;
-    step_with(alloc, inst, &table, brief, is_best)
+    step_with(alloc, &table, brief, is_best)
 }
 
 /// Whether the step, and the better of it and an ascent, are as worked out.

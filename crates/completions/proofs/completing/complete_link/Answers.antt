@@ -22,7 +22,7 @@ returns-clause-some c =
     let counted = subst (λ (found : Option (List ℕ)). IfSome found (AreLeastCounts table e (max there back))) c.in-Some-2.is (rw c.need-need.ensures at c.in_ok-counts.ensures.least) in
     let in_shape = subst (λ (found : Option (List ℕ)). IfSome found (AreCountsInShape (link_at table e))) c.in-Some-2.is c.in_ok-counts.ensures.in_shape in
     let least = rw c.need-need.ensures at c.in-Some.ensures.least in
-    link-completed c.args.inst.now e there back c.routing_cost.result modules counts c.routing_cost.ensures.value
+    link-completed c.args.table.now e there back c.routing_cost.result modules counts c.routing_cost.ensures.value
     (subst (λ (p : Parts). IsLeastModuleCost p e (max there back) modules) c.requires.table least)
     (subst (λ (p : Parts). AreLeastCounts p e (max there back) counts) c.requires.table counted)
     (subst (λ (p : Parts). AreCountsInShape (link_at p e) counts) c.requires.table in_shape)

@@ -7,7 +7,7 @@ use Rattle.completions.proofs.completing.complete_links.Goals as goal
 
 pub returns-in_default-clause-none : goal.returns-in_default-clause-none
 returns-in_default-clause-none c =
-    let p = c.args.inst.now in
+    let p = c.args.table.now in
     let e = c.loop-place.place in
     let held : HasLoads p c.args.design.now e c.of_link-held.result.there c.of_link-held.result.back =
     loads-read p c.args.design.now e c.of_link-held.result.there c.of_link-held.result.back c.loads_of-loads.result c.links-place-end.ensures.lawful (omega arith) c.loads_of-loads.ensures.value c.of_link-held.ensures.there c.of_link-held.ensures.back in
@@ -16,7 +16,7 @@ returns-in_default-clause-none c =
 
 pub loop-place-preserved : goal.loop-place-preserved
 loop-place-preserved c =
-    let p = c.args.inst.now in
+    let p = c.args.table.now in
     let e = c.loop-place.place in
     let there = c.of_link-held.result.there in
     let back = c.of_link-held.result.back in
@@ -33,6 +33,6 @@ loop-place-preserved c =
 
 pub returns-clause-some : goal.returns-clause-some
 returns-clause-some c =
-    let p = c.args.inst.now in
+    let p = c.args.table.now in
     let all : c.loop-place.place ≡ length p.links = omega (arith, c.loop-place-test.false, c.loop-place.auto.place-end, c.links-place-end.ensures.value) in
     rw c.from_vec.ensures (subst (λ (n : ℕ). AreCompletedTo p c.args.design.now.paths n c.loop-place.cost c.loop-place.all.items) all c.loop-place.invariant.done)

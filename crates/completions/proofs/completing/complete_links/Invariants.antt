@@ -5,6 +5,6 @@ use Rattle.completions.proofs.completing.complete_links.Given as goal
 
 abbrev pub invariant-loop-place : goal.invariant-loop-place
 invariant-loop-place l = record {
-  done : AreCompletedTo l.inst l.design.paths l.place l.cost l.all.items;
+  done : AreCompletedTo l.table l.design.paths l.place l.cost l.all.items;
   within : l.cost ≤ l.place * LINK_COST_BOUND;
 }

@@ -6,7 +6,7 @@ use Rattle.completions.proofs.completing.overfull_link.Goals as goal
 
 pub returns-then-not-can_carry-clause-some : goal.returns-then-not-can_carry-clause-some
 returns-then-not-can_carry-clause-some c =
-    let p = c.args.inst.now in
+    let p = c.args.table.now in
     let e = c.loop-place.place in
     let there = c.of_link-held.result.there in
     let back = c.of_link-held.result.back in
@@ -17,7 +17,7 @@ returns-then-not-can_carry-clause-some c =
 
 pub loop-place-preserved : goal.loop-place-preserved
 loop-place-preserved c =
-    let p = c.args.inst.now in
+    let p = c.args.table.now in
     let e = c.loop-place.place in
     let there = c.of_link-held.result.there in
     let back = c.of_link-held.result.back in
@@ -34,5 +34,5 @@ loads_of-loads-requires-clause-simple c = c.requires.paths.simple
 
 pub returns-clause-none : goal.returns-clause-none
 returns-clause-none c =
-    let all : c.loop-place.place ≡ length c.args.inst.now.links = omega (arith, c.loop-place-test.false, c.loop-place.auto.place-end, c.links-place-end.ensures.value) in
-    subst (CarryLoads c.args.inst.now c.args.design.now.paths) all c.loop-place.invariant
+    let all : c.loop-place.place ≡ length c.args.table.now.links = omega (arith, c.loop-place-test.false, c.loop-place.auto.place-end, c.links-place-end.ensures.value) in
+    subst (CarryLoads c.args.table.now c.args.design.now.paths) all c.loop-place.invariant

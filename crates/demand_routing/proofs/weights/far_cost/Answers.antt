@@ -7,18 +7,18 @@ use Rattle.demand_routing.proofs.weights.far_cost.Goals as goal
 pub returns-in_err-sides-clause-value : goal.returns-in_err-sides-clause-value
 returns-in_err-sides-clause-value c =
     let f = slice_index c.args.loads.now in
-    rw c.from_residual.ensures (far-none c.args.inst.now f c.args.place c.args.load c.args.far (too_much-over c.args.inst.now f c.args.place c.args.load c.in_err-sides.ensures.none))
+    rw c.from_residual.ensures (far-none c.args.table.now f c.args.place c.args.load c.args.far (too_much-over c.args.table.now f c.args.place c.args.load c.in_err-sides.ensures.none))
 
 pub returns-in_err-before-clause-value : goal.returns-in_err-before-clause-value
 returns-in_err-before-clause-value c =
-    let p = c.args.inst.now in
+    let p = c.args.table.now in
     let f = slice_index c.args.loads.now in
     let none = rw c.link_of_place-link.ensures.value at c.in_err-before.ensures.none in
     rw c.from_residual-in_err-before.ensures (far-none p f c.args.place c.args.load c.args.far (too_much-sides p f c.args.place c.in_ok-sides.sides c.in_ok-sides.ensures.sides c.args.load none))
 
 pub returns-in_err-rise-clause-value : goal.returns-in_err-rise-clause-value
 returns-in_err-rise-clause-value c =
-    let p = c.args.inst.now in
+    let p = c.args.table.now in
     let f = slice_index c.args.loads.now in
     let link = c.link_of_place-link.ensures.value in
     let cost : IsCostOf p f c.link_of_place-link.result.0 c.in_ok-before.before = rw link (cost-sides p f c.args.place c.in_ok-sides.sides c.in_ok-sides.ensures.sides c.in_ok-before.before (rw link at c.in_ok-before.ensures.some)) in
@@ -26,7 +26,7 @@ returns-in_err-rise-clause-value c =
 
 pub returns-then-span-eq0-clause-value : goal.returns-then-span-eq0-clause-value
 returns-then-span-eq0-clause-value c =
-    let p = c.args.inst.now in
+    let p = c.args.table.now in
     let f = slice_index c.args.loads.now in
     let link = c.link_of_place-link.ensures.value in
     let sides = c.in_ok-sides.ensures.sides in
@@ -37,7 +37,7 @@ returns-then-span-eq0-clause-value c =
 
 pub returns-in_default-clause-value : goal.returns-in_default-clause-value
 returns-in_default-clause-value c =
-    let p = c.args.inst.now in
+    let p = c.args.table.now in
     let f = slice_index c.args.loads.now in
     let link = c.link_of_place-link.ensures.value in
     let sides = c.in_ok-sides.ensures.sides in
@@ -48,7 +48,7 @@ returns-in_default-clause-value c =
 
 pub returns-clause-value : goal.returns-clause-value
 returns-clause-value c =
-    let p = c.args.inst.now in
+    let p = c.args.table.now in
     let f = slice_index c.args.loads.now in
     let link = c.link_of_place-link.ensures.value in
     let sides = c.in_ok-sides.ensures.sides in

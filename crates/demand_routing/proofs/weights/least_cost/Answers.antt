@@ -10,7 +10,7 @@ returns-clause-some c = λ _.
     let routed = rw (c.from.ensures, c.from-2.ensures) at c.routing_cost.ensures.value in
     record {
       module_cost = modules;
-      is_least = subst (λ (n : ℕ). IsLeastModuleCost c.args.inst.now c.args.link.0 n modules) larger (subst (λ (p : Parts). IsLeastModuleCost p c.args.link.0 c.args.larger modules) c.requires.table c.in-Some.ensures.least);
+      is_least = subst (λ (n : ℕ). IsLeastModuleCost c.args.table.now c.args.link.0 n modules) larger (subst (λ (p : Parts). IsLeastModuleCost p c.args.link.0 c.args.larger modules) c.requires.table c.in-Some.ensures.least);
       is_sum = omega (arith, routed);
     }
 

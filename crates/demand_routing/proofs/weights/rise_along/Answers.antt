@@ -9,7 +9,7 @@ use Rattle.demand_routing.proofs.weights.rise_along.Goals as goal
 pub loop-arc-preserved : goal.loop-arc-preserved
 loop-arc-preserved c = record {
   held = c.hold.ensures;
-  are_rises = rises-next c.args.inst.now c.args.loads.now c.args.load 340282366920938463463374607431768211455 c.loop-arc.sum c.in_ok-rise.rise.cost c.saturating_add-sum.result c.loop-arc.arc-index c.args.arcs.now
+  are_rises = rises-next c.args.table.now c.args.loads.now c.args.load 340282366920938463463374607431768211455 c.loop-arc.sum c.in_ok-rise.rise.cost c.saturating_add-sum.result c.loop-arc.arc-index c.args.arcs.now
       (get_or c.args.arcs.now c.loop-arc.arc-index no_arc) (omega arith) refl c.loop-arc.invariant.are_rises (rw c.place-place.ensures.value at c.in_ok-rise.ensures.value) c.saturating_add-sum.ensures;
 }
 
@@ -18,5 +18,5 @@ returns-in_err-rise-clause-none c = rw c.from_residual.ensures record { place = 
 
 pub returns-clause-sum : goal.returns-clause-sum
 returns-clause-sum c =
-    subst (λ (arcs : List ArcId). AreRises c.args.inst.now c.args.loads.now c.args.load arcs 340282366920938463463374607431768211455 c.loop-arc.sum)
+    subst (λ (arcs : List ArcId). AreRises c.args.table.now c.args.loads.now c.args.load arcs 340282366920938463463374607431768211455 c.loop-arc.sum)
     (take_all c.loop-arc.arc-index c.args.arcs.now (omega arith)) c.loop-arc.invariant.are_rises

@@ -5,27 +5,27 @@ use Rattle.demand_routing.proofs.weights.rise_at.Goals as goal
 
 pub returns-in_err-less-clause-none : goal.returns-in_err-less-clause-none
 returns-in_err-less-clause-none c =
-    rw c.from_residual.ensures (λ within. too_much-over c.args.inst.now (slice_index c.args.loads.now) c.args.place c.args.load c.in_err-less.ensures.none)
+    rw c.from_residual.ensures (λ within. too_much-over c.args.table.now (slice_index c.args.loads.now) c.args.place c.args.load c.in_err-less.ensures.none)
 
 pub returns-in_err-more-clause-none : goal.returns-in_err-more-clause-none
 returns-in_err-more-clause-none c =
     rw c.from_residual-in_err-more.ensures (λ within.
-    too_much-above c.args.inst.now (slice_index c.args.loads.now) c.args.place c.in_ok-less.less c.in_ok-less.ensures.sides c.args.load (omega (arith, c.total_load.ensures.value, c.in_err-more.ensures.none)))
+    too_much-above c.args.table.now (slice_index c.args.loads.now) c.args.place c.in_ok-less.less c.in_ok-less.ensures.sides c.args.load (omega (arith, c.total_load.ensures.value, c.in_err-more.ensures.none)))
 
 pub returns-in_err-before-clause-none : goal.returns-in_err-before-clause-none
 returns-in_err-before-clause-none c =
     let none = rw c.link_of_place-link.ensures.value at c.in_err-before.ensures.none in
-    rw c.from_residual-in_err-before.ensures (λ within. too_much-sides c.args.inst.now (slice_index c.args.loads.now) c.args.place c.in_ok-less.less c.in_ok-less.ensures.sides c.args.load none)
+    rw c.from_residual-in_err-before.ensures (λ within. too_much-sides c.args.table.now (slice_index c.args.loads.now) c.args.place c.in_ok-less.less c.in_ok-less.ensures.sides c.args.load none)
 
 pub returns-in_err-after-clause-none : goal.returns-in_err-after-clause-none
 returns-in_err-after-clause-none c =
     let none = rw c.link_of_place-link.ensures.value at c.in_err-after.ensures.none in
     rw c.from_residual-in_err-after.ensures (λ within.
-    too_much-raised c.args.inst.now (slice_index c.args.loads.now) c.args.place c.in_ok-less.less c.in_ok-less.ensures.sides c.args.load c.in_ok-more.more c.in_ok-more.ensures.here c.in_ok-more.ensures.other none)
+    too_much-raised c.args.table.now (slice_index c.args.loads.now) c.args.place c.in_ok-less.less c.in_ok-less.ensures.sides c.args.load c.in_ok-more.more c.in_ok-more.ensures.here c.in_ok-more.ensures.other none)
 
 pub returns-clause-value : goal.returns-clause-value
 returns-clause-value c =
-    let p = c.args.inst.now in
+    let p = c.args.table.now in
     let f = slice_index c.args.loads.now in
     let less = c.in_ok-less in
     let more = c.in_ok-more in

@@ -2,4 +2,4 @@ use Rattle.demand_routing.specs.Routings.{IsRouting}
 use Rattle.incumbent.proofs.rounds.touch_up.Given as goal
 
 abbrev pub invariant-loop-turn : goal.invariant-loop-turn
-invariant-loop-turn l = IsRouting l.inst l.routing
+invariant-loop-turn l = IsRouting l.table l.routing

@@ -11,7 +11,7 @@ use Rattle.demand_routing.proofs.routing.Routing.put_on.Goals as goal
 
 pub returns-clause-routing : goal.returns-clause-routing
 returns-clause-routing c =
-    let p = c.args.inst.now in
+    let p = c.args.table.now in
     let k = c.args.demand.0 in
     let paths = c.args.self.now.paths.items in
     let laid = c.args.self.now.laid.items in

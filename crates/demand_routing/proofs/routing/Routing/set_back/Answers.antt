@@ -8,7 +8,7 @@ use Rattle.demand_routing.proofs.routing.Routing.set_back.Goals as goal
 
 pub put_on-requires-clause-routing : goal.put_on-requires-clause-routing
 put_on-requires-clause-routing c =
-    let p = c.args.inst.now in
+    let p = c.args.table.now in
     let k = c.args.demand.0 in
     let path = c.args.path.now in
     let are = c.take_off-fall.ensures.routing in

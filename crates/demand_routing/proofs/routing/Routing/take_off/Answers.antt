@@ -13,7 +13,7 @@ use Rattle.demand_routing.proofs.routing.Routing.take_off.Goals as goal
 
 pub returns-clause-without : goal.returns-clause-without
 returns-clause-without c =
-    let p = c.args.inst.now in
+    let p = c.args.table.now in
     let k = c.args.demand.0 in
     let paths = c.args.self.now.paths.items in
     let laid = c.args.self.now.laid.items in

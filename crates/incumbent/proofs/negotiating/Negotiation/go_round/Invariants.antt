@@ -2,4 +2,4 @@ use Rattle.demand_routing.specs.Routings.{IsRouting}
 use Rattle.incumbent.proofs.negotiating.Negotiation.go_round.Given as goal
 
 abbrev pub invariant-loop-size : goal.invariant-loop-size
-invariant-loop-size l = IsRouting l.inst l.self.routing
+invariant-loop-size l = IsRouting l.table l.self.routing
