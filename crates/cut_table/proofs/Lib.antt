@@ -1,5 +1,4 @@
 pub mod UsedRates
-pub mod SameWorths
 pub mod CrossingRows
 pub mod NoRates
 pub mod StartBounds

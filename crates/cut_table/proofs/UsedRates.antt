@@ -1,5 +1,6 @@
 -- The cuts of a row whose rates are above 0 are worth what all of them are.
 use Rattle.std.proofs.Common.{◌≡◌, ℕ, zero, suc, ◌+◌, ◌*◌, ◌<◌, ◌≤◌, Bool, true, false, List, [], ◌∷◌, ◌++◌, map, length, take, slice_index, All, if◌then◌else◌, refl, sym, ap, subst, ◌∙◌, arith}
+use Rattle.std.proofs.Math.Path.{fun_ext, subst₂}
 use Rattle.std.specs.Prelude.{nat_lt, slice_index_or}
 use Rattle.std.specs.List.{sum_by}
 use Rattle.std.proofs.lemmas.Bool.{ltb-false, lt-ltb, le-ltb}
@@ -8,12 +9,14 @@ use Rattle.std.proofs.lemmas.List.Elements.{All-nil, All-cons, All-head, All-tai
 use Rattle.std.proofs.lemmas.List.Sums.{sum_by-cons}
 use Rattle.plan_base.specs.declared.parts.Parts.{Parts}
 use Rattle.plan_base.specs.Arcs.{link_at}
-use Rattle.plan_base.specs.Places.{is_two_way}
+use Rattle.plan_base.specs.Places.{is_two_way, there_of, back_of}
 use Rattle.link_steps.specs.declared.rated.Rated.{Rated}
 use Rattle.link_steps.specs.Tallies.{part, worth, IsTally, no_rated, ArePlaceRates}
 use Rattle.proof_tree.specs.declared.cuts.Cut.{Cut}
-use Rattle.proof_tree.specs.Cuts.{place_crosses, batch_of, cut_at}
+use Rattle.proof_tree.specs.Cuts.{place_crosses, batch_of, cut_at, AreCuts}
 use Rattle.proof_tree.specs.RatedBounds.{with_rated, rated_before, rated_on, rated_there, rated_back}
+use Rattle.proof_tree.specs.RatedEvidence.{rates_in, AreLawfulNumbers}
+use Rattle.proof_tree.proofs.PlaceRates.{link_rates-lawful}
 use Rattle.cut_table.specs.declared.crossing.Crossing.{Crossing}
 use Rattle.cut_table.specs.Crossings.{with_crossing, crossings_before, crossings_on, crossings_there, crossings_back, rated_of, used}
 
@@ -29,11 +32,11 @@ rated-crossings p cuts rates q (suc n) =
     more false row list here same = same
 
 -- so for the first place of a link
-pub rated-there : (p : Parts) (cuts : List Cut) (rates : List ℕ) (e : ℕ) → map (rated_of rates) (crossings_there p cuts e) ≡ rated_there p cuts rates e
+rated-there : (p : Parts) (cuts : List Cut) (rates : List ℕ) (e : ℕ) → map (rated_of rates) (crossings_there p cuts e) ≡ rated_there p cuts rates e
 rated-there p cuts rates e = rated-crossings p cuts rates (if is_two_way p.orient then 2 * e else e) (length cuts)
 
 -- and for its second place
-pub rated-back : (p : Parts) (cuts : List Cut) (rates : List ℕ) (e : ℕ) → map (rated_of rates) (crossings_back p cuts e) ≡ rated_back p cuts rates e
+rated-back : (p : Parts) (cuts : List Cut) (rates : List ℕ) (e : ℕ) → map (rated_of rates) (crossings_back p cuts e) ≡ rated_back p cuts rates e
 rated-back p cuts rates e = by_cases (is_two_way p.orient)
   where
     by_cases : (b : Bool) → map (rated_of rates) (if b then crossings_on p cuts (2 * e + 1) else []) ≡ (if b then rated_on p cuts rates (2 * e + 1) else [])
@@ -69,7 +72,7 @@ used-All P rates (c ∷ row) all =
     more false rest = rest
 
 -- a price and rates that a place may have it may have without the rates of 0
-pub place_rates-used : (p : Parts) (e price : ℕ) (rates : List ℕ) (row : List Crossing) (rated : List Rated) → map (rated_of rates) row ≡ rated → ArePlaceRates p e price rated → ArePlaceRates p e price (used rates row)
+place_rates-used : (p : Parts) (e price : ℕ) (rates : List ℕ) (row : List Crossing) (rated : List Rated) → map (rated_of rates) row ≡ rated → ArePlaceRates p e price rated → ArePlaceRates p e price (used rates row)
 place_rates-used p e price rates row rated same are =
     let all = subst (λ (list : List Rated). ArePlaceRates p e price list) (sym same) are in
     let total = used-sum (λ (r : Rated). r.rate) (λ r none. none) rates row in
@@ -83,11 +86,33 @@ place_rates-used p e price rates row rated same are =
           (All-from_get_or (λ (r : Rated). 0 < r.rate → 1000 * (link_at p e).routing ≤ price) (map (rated_of rates) row) no_rated all.covers) i no_rated within;
     }
 
--- a load is worth the same without the rates of 0
-pub worth-used : (price : ℕ) (rates : List ℕ) (row : List Crossing) (rated : List Rated) → map (rated_of rates) row ≡ rated → (x : ℕ) → worth price (used rates row) x ≡ worth price rated x
-worth-used price rates row rated same x =
-    let counted = used-sum (λ (r : Rated). r.rate * part r.batch x) (λ r none. (let times : r.rate * part r.batch x ≡ 0 * part r.batch x = ap (λ (n : ℕ). n * part r.batch x) none in omega (arith, times))) rates row in
-    ap (λ (n : ℕ). price * x + n) counted ∙ ap (λ (list : List Rated). worth price list x) same
+-- loads are worth the same without the rates of 0
+worth-used : (price : ℕ) (rates : List ℕ) (row : List Crossing) (rated : List Rated) → map (rated_of rates) row ≡ rated → worth price (used rates row) ≡ worth price rated
+worth-used price rates row rated same = fun_ext at_load ∙ ap (worth price) same
+  where
+    at_load : (x : ℕ) → worth price (used rates row) x ≡ worth price (map (rated_of rates) row) x
+    at_load x =
+        let counted = used-sum (λ (r : Rated). r.rate * part r.batch x) (λ r none. (let times : r.rate * part r.batch x ≡ 0 * part r.batch x = ap (λ (n : ℕ). n * part r.batch x) none in omega (arith, times))) rates row in
+        ap (λ (n : ℕ). price * x + n) counted
+
+module _ (p : Parts) (cuts : List Cut) (numbers : List ℕ) (e : ℕ) where
+  -- the prices of a link's places and what is above 0 of their rates are as they have to be
+  pub used-lawful : AreCuts p cuts → AreLawfulNumbers p cuts numbers → e < length p.links
+      → ArePlaceRates p e (there_of p (slice_index numbers) e) (used (rates_in p numbers) (crossings_there p cuts e)) × ArePlaceRates p e (back_of p (slice_index numbers) e) (used (rates_in p numbers) (crossings_back p cuts e))
+  used-lawful are lawful below =
+      let all = link_rates-lawful p e cuts numbers (rates_in p numbers) are lawful below in (
+        place_rates-used p e (there_of p (slice_index numbers) e) (rates_in p numbers) (crossings_there p cuts e) (rated_there p cuts (rates_in p numbers) e) (rated-there p cuts (rates_in p numbers) e) all.there,
+        place_rates-used p e (back_of p (slice_index numbers) e) (rates_in p numbers) (crossings_back p cuts e) (rated_back p cuts (rates_in p numbers) e) (rated-back p cuts (rates_in p numbers) e) all.other,
+      )
+
+  -- what holds of what loads are worth by them holds by all rates
+  pub used-worths : (P : (ℕ → ℕ) → (ℕ → ℕ) → Type 0)
+      → P (worth (there_of p (slice_index numbers) e) (used (rates_in p numbers) (crossings_there p cuts e))) (worth (back_of p (slice_index numbers) e) (used (rates_in p numbers) (crossings_back p cuts e)))
+      → P (worth (there_of p (slice_index numbers) e) (rated_there p cuts (rates_in p numbers) e)) (worth (back_of p (slice_index numbers) e) (rated_back p cuts (rates_in p numbers) e))
+  used-worths P h =
+      subst₂ P
+      (worth-used (there_of p (slice_index numbers) e) (rates_in p numbers) (crossings_there p cuts e) (rated_there p cuts (rates_in p numbers) e) (rated-there p cuts (rates_in p numbers) e))
+      (worth-used (back_of p (slice_index numbers) e) (rates_in p numbers) (crossings_back p cuts e) (rated_back p cuts (rates_in p numbers) e) (rated-back p cuts (rates_in p numbers) e)) h
 
 -- how rates are put into a row of them
 used-push : (rates : List ℕ) (row : List Crossing) (c : Crossing) → used rates (row ++ (c ∷ [])) ≡ (if nat_lt 0 (slice_index rates c.number) then used rates row ++ (rated_of rates c ∷ []) else used rates row)

@@ -8,7 +8,7 @@ ghost use Rattle.link_steps.specs.Ranges.{AreRanges};
 ghost use Rattle.link_steps.specs.Values.{AreLinkRanges};
 ghost use Rattle.arc_restrict.specs.Prices.{AreWithinLimit};
 ghost use Rattle.proof_tree.specs.declared.limits.TheConstants.{MAX_CUTS};
-ghost use Rattle.proof_tree.specs.Cuts.{least_count, cut_at, IsCutList, AreRests};
+ghost use Rattle.proof_tree.specs.Cuts.{least_count, cut_at, IsCutList};
 ghost use Rattle.proof_tree.specs.RatedBounds.{crossing_rates, cut_total, IsRatedPrice, IsRatedTotal};
 ghost use Rattle.proof_tree.specs.RatedEvidence.{rates_in};
 ghost use Rattle.cut_table.specs.Numbers.{AreNumbers, AreStartNumbers, least_price_at, most_price_at};
