@@ -111,10 +111,6 @@ Leads b n g (Some st) = Reached st (with_byte st g b n) × (spelled (with_byte s
 step : (st : Stage) (g : Glyph) (b : ℕ) (n : Numeral) → Tells b g → Reached st n → Leads b n g (stage_after st g)
 step Start glyphs.Digit b n t r = rw r (record { digits = (t, tt); some = omega arith; point = refl; fraction = refl; power = refl }, refl)
 step Start glyphs.Dot b n t r = rw (r, t) (refl, refl)
-step Start glyphs.Letter b n t r = tt
-step Start glyphs.Plus b n t r = tt
-step Start glyphs.Minus b n t r = tt
-step Start glyphs.Other b n t r = tt
 step Whole glyphs.Digit b n t r = (
   record { digits = digits_push 10 n.whole b r.digits t; some = omega (arith, length-append n.whole (b ∷ [])); point = r.point; fraction = r.fraction; power = r.power },
   rw (r.point, r.fraction, r.power) (simp append-nil),
@@ -127,33 +123,19 @@ step Whole glyphs.Letter b n t r = (
   record { before = record { whole = r.digits; fraction = rw r.fraction tt; some = omega (arith, r.some); no_point = λ e. r.fraction }; mark = b; letter = t; power = refl; all = tt },
   rw (r.point, r.fraction, r.power) (simp append-nil),
 )
-step Whole glyphs.Plus b n t r = tt
-step Whole glyphs.Minus b n t r = tt
-step Whole glyphs.Other b n t r = tt
 step Point glyphs.Digit b n t r = rw r (record { whole = tt; fraction = (t, tt); some = omega arith; point = refl; power = refl }, refl)
-step Point glyphs.Dot b n t r = tt
-step Point glyphs.Letter b n t r = tt
-step Point glyphs.Plus b n t r = tt
-step Point glyphs.Minus b n t r = tt
-step Point glyphs.Other b n t r = tt
 step Fraction glyphs.Digit b n t r = (
   record { whole = r.whole; fraction = digits_push 10 n.fraction b r.fraction t; some = omega (arith, r.some, length-append n.fraction (b ∷ [])); point = r.point; power = r.power },
   rw (r.point, r.power) (simp (append-nil, append_assoc)),
 )
-step Fraction glyphs.Dot b n t r = tt
 step Fraction glyphs.Letter b n t r = (
   record { before = record { whole = r.whole; fraction = r.fraction; some = r.some; no_point = λ e. absurd (let p : true ≡ false = sym r.point ∙ e in cc) }; mark = b; letter = t; power = refl; all = tt },
   rw (r.point, r.power) (simp (append-nil, append_assoc)),
 )
-step Fraction glyphs.Plus b n t r = tt
-step Fraction glyphs.Minus b n t r = tt
-step Fraction glyphs.Other b n t r = tt
 step Mark glyphs.Digit b n t r = (
   (no_sign, b ∷ [], omega arith, record { before = record { whole = r.before.whole; fraction = r.before.fraction; some = r.before.some; no_point = r.before.no_point }; mark = r.mark; letter = r.letter; power = rw r.power refl; all = (t, tt) }),
   rw r.power (simp append_assoc),
 )
-step Mark glyphs.Dot b n t r = tt
-step Mark glyphs.Letter b n t r = tt
 step Mark glyphs.Plus b n t r = (
   (plus, record { before = record { whole = r.before.whole; fraction = r.before.fraction; some = r.before.some; no_point = r.before.no_point }; mark = r.mark; letter = r.letter; power = rw r.power refl; all = tt }),
   rw (r.power, t) (simp append_assoc),
@@ -162,16 +144,10 @@ step Mark glyphs.Minus b n t r = (
   (minus, record { before = record { whole = r.before.whole; fraction = r.before.fraction; some = r.before.some; no_point = r.before.no_point }; mark = r.mark; letter = r.letter; power = rw r.power refl; all = tt }),
   rw (r.power, t) (simp append_assoc),
 )
-step Mark glyphs.Other b n t r = tt
 step Signed glyphs.Digit b n t (sign, r) = (
   (sign, b ∷ [], omega arith, record { before = record { whole = r.before.whole; fraction = r.before.fraction; some = r.before.some; no_point = r.before.no_point }; mark = r.mark; letter = r.letter; power = rw r.power refl; all = (t, tt) }),
   rw r.power (simp (append-nil, append_assoc)),
 )
-step Signed glyphs.Dot b n t r = tt
-step Signed glyphs.Letter b n t r = tt
-step Signed glyphs.Plus b n t r = tt
-step Signed glyphs.Minus b n t r = tt
-step Signed glyphs.Other b n t r = tt
 step Power glyphs.Digit b n t (sign, digits, some, r) = (
   (
     sign,
@@ -181,11 +157,7 @@ step Power glyphs.Digit b n t (sign, digits, some, r) = (
   ),
   rw r.power (simp append_assoc),
 )
-step Power glyphs.Dot b n t r = tt
-step Power glyphs.Letter b n t r = tt
-step Power glyphs.Plus b n t r = tt
-step Power glyphs.Minus b n t r = tt
-step Power glyphs.Other b n t r = tt
+step s g b n t r = tt
 
 -- ---- many bytes
 
@@ -253,7 +225,7 @@ whole_as_it_is n h = record { more = []; to = n; spells = record { number = h; b
 with_zero : (n : Numeral) (sign : Sign) → HasPower n sign [] → Goes n
 with_zero n sign r = record {
   more = 48 ∷ [];
-  to = record { whole = n.whole; point = n.point; fraction = n.fraction; power = exponent r.mark sign (48 ∷ []) };
+  to = record n { power = exponent r.mark sign (48 ∷ []) };
   spells = record {
     number = record { whole = r.before.whole; fraction = r.before.fraction; some = r.before.some; no_point = r.before.no_point; power = (r.letter, omega arith, (omega arith, tt)) };
     bytes = rw r.power (simp (append-nil, append_assoc));

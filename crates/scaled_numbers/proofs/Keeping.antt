@@ -27,21 +27,21 @@ digit_is b g e f =
 
 -- a digit before the point keeps what the scan knows of the number
 pub keep_whole : (s : Scan) (d : Digits) (st : Stage) (n : Numeral) (b : ℕ) → n.fraction ≡ [] → digit_value b ≡ b - 48 → Holds d.core d.zeros (digits_value 10 (n.whole ++ n.fraction) * 10 + (b - 48)) → Sees s n
-    → Sees (record { stage = st; digits = d; places = s.places; power = s.power; negative = s.negative }) (in_whole glyphs.Digit b n)
+    → Sees (record s { stage = st; digits = d }) (in_whole glyphs.Digit b n)
 keep_whole s d st n b e v h r =
     let m : digits_value 10 ((n.whole ++ b ∷ []) ++ n.fraction) ≡ digits_value 10 (n.whole ++ n.fraction) * 10 + (b - 48) = rw (e, append-nil, append-nil, digits_value_push, v) refl in
     record { digits = rw m h; places = r.places; power = r.power; negative = r.negative }
 
 -- a digit behind the point keeps what the scan knows, with one place more
 pub keep_fraction : (s : Scan) (d : Digits) (st : Stage) (n : Numeral) (b : ℕ) → digit_value b ≡ b - 48 → Holds d.core d.zeros (digits_value 10 (n.whole ++ n.fraction) * 10 + (b - 48)) → Sees s n
-    → Sees (record { stage = st; digits = d; places = s.places + 1; power = s.power; negative = s.negative }) (in_fraction glyphs.Digit b n)
+    → Sees (record s { stage = st; digits = d; places = s.places + 1 }) (in_fraction glyphs.Digit b n)
 keep_fraction s d st n b v h r =
     let m : digits_value 10 (n.whole ++ (n.fraction ++ b ∷ [])) ≡ digits_value 10 (n.whole ++ n.fraction) * 10 + (b - 48) = rw (← append_assoc n.whole n.fraction (b ∷ []), digits_value_push, v) refl in
     record { digits = rw m h; places = omega (arith, r.places, length-append n.fraction (b ∷ [])); power = r.power; negative = r.negative }
 
 -- a digit of the exponent keeps what the scan knows, with the exponent capped
 pub keep_power : (s : Scan) (st : Stage) (n : Numeral) (b power : ℕ) → Expects Power n → digit_value b ≡ b - 48 → power ≡ min (s.power * 10 + (b - 48)) (10 ^ 9) → Sees s n
-    → Sees (record { stage = st; digits = s.digits; places = s.places; power = power; negative = s.negative }) (in_power glyphs.Digit b n)
+    → Sees (record s { stage = st; power = power }) (in_power glyphs.Digit b n)
 keep_power s st n b power (mark, sign, digits, e) v p r =
     let was : s.power ≡ min (digits_value 10 digits) (10 ^ 9) = r.power ∙ rw e refl in
     record { digits = r.digits; places = r.places; power = rw e (omega (arith, p, was, v, digits_value_push 10 digits b)); negative = rw e (r.negative ∙ rw e refl) }
@@ -54,47 +54,16 @@ ExpectsAt n (Some st) = Expects st n
 
 expects-at : (st : Stage) (g : Glyph) (n : Numeral) → Reached st n → ExpectsAt n (stage_after st g)
 expects-at Start glyphs.Digit n r = rw r refl
-expects-at Start glyphs.Dot n r = tt
-expects-at Start glyphs.Letter n r = tt
-expects-at Start glyphs.Plus n r = tt
-expects-at Start glyphs.Minus n r = tt
-expects-at Start glyphs.Other n r = tt
 expects-at Whole glyphs.Digit n r = r.fraction
-expects-at Whole glyphs.Dot n r = tt
 expects-at Whole glyphs.Letter n r = r.power
-expects-at Whole glyphs.Plus n r = tt
-expects-at Whole glyphs.Minus n r = tt
-expects-at Whole glyphs.Other n r = tt
 expects-at Point glyphs.Digit n r = tt
-expects-at Point glyphs.Dot n r = tt
-expects-at Point glyphs.Letter n r = tt
-expects-at Point glyphs.Plus n r = tt
-expects-at Point glyphs.Minus n r = tt
-expects-at Point glyphs.Other n r = tt
-expects-at Fraction glyphs.Digit n r = tt
-expects-at Fraction glyphs.Dot n r = tt
 expects-at Fraction glyphs.Letter n r = r.power
-expects-at Fraction glyphs.Plus n r = tt
-expects-at Fraction glyphs.Minus n r = tt
-expects-at Fraction glyphs.Other n r = tt
 expects-at Mark glyphs.Digit n r = (r.mark, no_sign, [], r.power)
-expects-at Mark glyphs.Dot n r = tt
-expects-at Mark glyphs.Letter n r = tt
 expects-at Mark glyphs.Plus n r = (r.mark, r.power)
 expects-at Mark glyphs.Minus n r = (r.mark, r.power)
-expects-at Mark glyphs.Other n r = tt
 expects-at Signed glyphs.Digit n (sign, r) = (r.mark, sign, [], r.power)
-expects-at Signed glyphs.Dot n r = tt
-expects-at Signed glyphs.Letter n r = tt
-expects-at Signed glyphs.Plus n r = tt
-expects-at Signed glyphs.Minus n r = tt
-expects-at Signed glyphs.Other n r = tt
 expects-at Power glyphs.Digit n (sign, digits, some, r) = (r.mark, sign, digits, r.power)
-expects-at Power glyphs.Dot n r = tt
-expects-at Power glyphs.Letter n r = tt
-expects-at Power glyphs.Plus n r = tt
-expects-at Power glyphs.Minus n r = tt
-expects-at Power glyphs.Other n r = tt
+expects-at s g n r = tt
 
 run-push : (bytes : List ℕ) (b : ℕ) (t : State) → run start bytes ≡ Some t → run start (bytes ++ b ∷ []) ≡ next t b
 unfolding run

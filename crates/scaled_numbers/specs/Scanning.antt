@@ -19,78 +19,28 @@ glyph_of b =
     if b == 43 then glyphs.Plus else
     if b == 45 then glyphs.Minus else glyphs.Other
 
--- the stage that a byte leads to where a number begins
-abbrev pub from_start : Glyph → Option Stage
-from_start glyphs.Digit = Some Whole
-from_start glyphs.Dot = Some Point
-from_start glyphs.Letter = None
-from_start glyphs.Plus = None
-from_start glyphs.Minus = None
-from_start glyphs.Other = None
-
--- the stage that a byte leads to in the digits before the point
-abbrev pub from_whole : Glyph → Option Stage
-from_whole glyphs.Digit = Some Whole
-from_whole glyphs.Dot = Some Fraction
-from_whole glyphs.Letter = Some Mark
-from_whole glyphs.Plus = None
-from_whole glyphs.Minus = None
-from_whole glyphs.Other = None
-
--- the stage that a byte leads to at a point with no digit before it
-abbrev pub from_point : Glyph → Option Stage
-from_point glyphs.Digit = Some Fraction
-from_point glyphs.Dot = None
-from_point glyphs.Letter = None
-from_point glyphs.Plus = None
-from_point glyphs.Minus = None
-from_point glyphs.Other = None
-
--- the stage that a byte leads to behind a point that digits stand around
-abbrev pub from_fraction : Glyph → Option Stage
-from_fraction glyphs.Digit = Some Fraction
-from_fraction glyphs.Dot = None
-from_fraction glyphs.Letter = Some Mark
-from_fraction glyphs.Plus = None
-from_fraction glyphs.Minus = None
-from_fraction glyphs.Other = None
-
--- the stage that a byte leads to at the exponent's letter
-abbrev pub from_mark : Glyph → Option Stage
-from_mark glyphs.Digit = Some Power
-from_mark glyphs.Dot = None
-from_mark glyphs.Letter = None
-from_mark glyphs.Plus = Some Signed
-from_mark glyphs.Minus = Some Signed
-from_mark glyphs.Other = None
-
--- the stage that a byte leads to in the exponent's digits, or at its sign
-abbrev pub from_power : Glyph → Option Stage
-from_power glyphs.Digit = Some Power
-from_power glyphs.Dot = None
-from_power glyphs.Letter = None
-from_power glyphs.Plus = None
-from_power glyphs.Minus = None
-from_power glyphs.Other = None
-
 -- the stage that a byte leads to, if a number may go on with it
 abbrev pub stage_after : Stage → Glyph → Option Stage
-stage_after Start g = from_start g
-stage_after Whole g = from_whole g
-stage_after Point g = from_point g
-stage_after Fraction g = from_fraction g
-stage_after Mark g = from_mark g
-stage_after Signed g = from_power g
-stage_after Power g = from_power g
+stage_after Start glyphs.Digit = Some Whole
+stage_after Start glyphs.Dot = Some Point
+stage_after Whole glyphs.Digit = Some Whole
+stage_after Whole glyphs.Dot = Some Fraction
+stage_after Whole glyphs.Letter = Some Mark
+stage_after Point glyphs.Digit = Some Fraction
+stage_after Fraction glyphs.Digit = Some Fraction
+stage_after Fraction glyphs.Letter = Some Mark
+stage_after Mark glyphs.Digit = Some Power
+stage_after Mark glyphs.Plus = Some Signed
+stage_after Mark glyphs.Minus = Some Signed
+stage_after Signed glyphs.Digit = Some Power
+stage_after Power glyphs.Digit = Some Power
+stage_after s g = None
 
 -- the sign that a byte is
 abbrev pub sign_of : Glyph → Sign
-sign_of glyphs.Digit = no_sign
-sign_of glyphs.Dot = no_sign
-sign_of glyphs.Letter = no_sign
 sign_of glyphs.Plus = plus
 sign_of glyphs.Minus = minus
-sign_of glyphs.Other = no_sign
+sign_of g = no_sign
 
 -- the exponent with a sign
 abbrev pub with_sign : Glyph → Exponent → Exponent
@@ -104,39 +54,28 @@ with_digit b (exponent mark sign digits) = exponent mark sign (digits ++ b ∷ [
 
 -- a digit before the point
 abbrev pub in_whole : Glyph → ℕ → Numeral → Numeral
-in_whole glyphs.Digit b n = record { whole = n.whole ++ b ∷ []; point = n.point; fraction = n.fraction; power = n.power }
-in_whole glyphs.Dot b n = n
-in_whole glyphs.Letter b n = n
-in_whole glyphs.Plus b n = n
-in_whole glyphs.Minus b n = n
-in_whole glyphs.Other b n = n
+in_whole glyphs.Digit b n = record n { whole = n.whole ++ b ∷ [] }
+in_whole g b n = n
 
 -- a digit of the fraction, or the point before it
 abbrev pub in_fraction : Glyph → ℕ → Numeral → Numeral
-in_fraction glyphs.Digit b n = record { whole = n.whole; point = n.point; fraction = n.fraction ++ b ∷ []; power = n.power }
-in_fraction glyphs.Dot b n = record { whole = n.whole; point = true; fraction = n.fraction; power = n.power }
-in_fraction glyphs.Letter b n = n
-in_fraction glyphs.Plus b n = n
-in_fraction glyphs.Minus b n = n
-in_fraction glyphs.Other b n = n
+in_fraction glyphs.Digit b n = record n { fraction = n.fraction ++ b ∷ [] }
+in_fraction glyphs.Dot b n = record n { point = true }
+in_fraction g b n = n
 
 -- a digit of the exponent
 abbrev pub in_power : Glyph → ℕ → Numeral → Numeral
-in_power glyphs.Digit b n = record { whole = n.whole; point = n.point; fraction = n.fraction; power = with_digit b n.power }
-in_power glyphs.Dot b n = n
-in_power glyphs.Letter b n = n
-in_power glyphs.Plus b n = n
-in_power glyphs.Minus b n = n
-in_power glyphs.Other b n = n
+in_power glyphs.Digit b n = record n { power = with_digit b n.power }
+in_power g b n = n
 
 -- the parts with one byte more, which leads to this stage
 abbrev pub with_byte : Stage → Glyph → ℕ → Numeral → Numeral
 with_byte Start g b n = n
 with_byte Whole g b n = in_whole g b n
-with_byte Point g b n = record { whole = n.whole; point = true; fraction = n.fraction; power = n.power }
+with_byte Point g b n = record n { point = true }
 with_byte Fraction g b n = in_fraction g b n
-with_byte Mark g b n = record { whole = n.whole; point = n.point; fraction = n.fraction; power = exponent b no_sign [] }
-with_byte Signed g b n = record { whole = n.whole; point = n.point; fraction = n.fraction; power = with_sign g n.power }
+with_byte Mark g b n = record n { power = exponent b no_sign [] }
+with_byte Signed g b n = record n { power = with_sign g n.power }
 with_byte Power g b n = in_power g b n
 
 -- what has been read: the stage, and the parts so far
@@ -167,13 +106,10 @@ start = (Start, nothing)
 
 -- a number may end at this stage
 abbrev pub is_last : Stage → Bool
-is_last Start = false
 is_last Whole = true
-is_last Point = false
 is_last Fraction = true
-is_last Mark = false
-is_last Signed = false
 is_last Power = true
+is_last s = false
 
 -- ---- the value
 
