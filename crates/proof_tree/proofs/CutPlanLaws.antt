@@ -27,7 +27,7 @@ use Rattle.proof_tree.specs.OneLink.{one_link}
 use Rattle.proof_tree.specs.WorkedCuts.{cut_of_a, cut_plan, without_cut, cut_numbers}
 use Rattle.proof_tree.proofs.TriangleLaws.{nothing_free, from_nothing}
 use Rattle.proof_tree.proofs.OpeningLaws.{count_of}
-use Rattle.proof_tree.proofs.OneLinkLaws.{two_modules-good, two_modules-cost, unit, permitted, also_permitted}
+use Rattle.proof_tree.proofs.OneLinkLaws.{two_modules-stated, unit, permitted, also_permitted}
 use Rattle.proof_tree.proofs.UnitLaws.{unit-unique}
 use Rattle.proof_tree.proofs.RatedUniqueness.{rated_bound-unique}
 
@@ -113,7 +113,7 @@ cut_plan-valid = record {
   sizes = record { nodes = refl; links = refl; demands = refl; both = refl };
   examined = refl;
   cuts = one_cut;
-  design = record { good = two_modules-good; cost_is = two_modules-cost };
+  design = two_modules-stated;
   tree = (closed, tt);
   status = record { design = refl; closed = refl; within_budget = lit≤ tt };
 }

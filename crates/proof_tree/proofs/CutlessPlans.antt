@@ -1,5 +1,5 @@
 -- Without cuts evidence and trees are what they are at prices alone.
-use Rattle.std.proofs.Common.{◌≡◌, ℕ, ◌+◌, ◌<◌, ◌≤◌, inl, inr, List, [], ◌∷◌, length, slice_index, Option, Some, None, sym, subst, arith}
+use Rattle.std.proofs.Common.{◌≡◌, ℕ, ◌+◌, ◌<◌, ◌≤◌, inl, inr, List, [], ◌∷◌, ◌++◌, length, slice_index, Option, Some, None, sym, subst, arith}
 use Rattle.std.specs.Prelude.{◌↔◌, ℤ}
 use Rattle.std.proofs.lemmas.List.{get_or_past}
 use Rattle.std.proofs.lemmas.List.Elements.{All-drop}
@@ -15,13 +15,13 @@ use Rattle.proof_tree.specs.declared.tree.TreeNode.{TreeNode}
 use Rattle.proof_tree.specs.declared.tree.TreeNode.TheVariants.{Split, Loads, Leaf}
 use Rattle.proof_tree.specs.declared.plan.Plan.{Plan}
 use Rattle.proof_tree.specs.Cuts.{IsCutList}
-use Rattle.proof_tree.specs.Regions.{Region, whole, with_arcs, up_to, above}
+use Rattle.proof_tree.specs.Regions.{Region, whole}
 use Rattle.proof_tree.specs.Evidence.{ClosedByBound, HasEvidence}
-use Rattle.proof_tree.specs.Trees.{AreValidTrees, IsValidTree}
+use Rattle.proof_tree.specs.Trees.{children_at, IsValidRecord, AreValidTrees, IsValidTree}
 use Rattle.proof_tree.specs.Bounds.{IsBound}
 use Rattle.proof_tree.specs.Plans.{stated_cost}
 use Rattle.proof_tree.specs.RatedEvidence.{rates_in, AreLawfulNumbers, IsBoundAt, ClosedByRatedBound, HasRatedEvidence}
-use Rattle.proof_tree.specs.RatedTrees.{AreRatedTrees, IsRatedTree}
+use Rattle.proof_tree.specs.RatedTrees.{IsRatedRecord, AreRatedTrees, IsRatedTree}
 use Rattle.proof_tree.proofs.CutlessBounds.{bound-without_cuts}
 
 -- prices within the limit are lawful without cuts
@@ -62,64 +62,41 @@ bound-closed_so p g numbers cost closed = record {
 }
 
 -- the evidence of a leaf is what it is at prices alone
-pub evidence-without : (p : Parts) (cost : Option ℕ) (g : Region) (evidence : Evidence) → HasEvidence p cost g evidence → HasRatedEvidence p [] cost g evidence
-evidence-without p None g (Bound numbers) h = h
-evidence-without p (Some c) g (Bound numbers) h = bound-closed p g numbers c h
-evidence-without p cost g Routed h = h
-evidence-without p cost g (Overfull link) h = h
-evidence-without p cost g (Cut id reached) h = h
-evidence-without p cost g (Far id) h = h
-evidence-without p cost g (Crowd prices) h = h
-evidence-without p cost g (Open numbers) h = lawful-without p numbers h
+pub evidence-without : (p : Parts) (cost : Option ℕ) (g : Region) (evidence : Evidence) → HasEvidence p cost g evidence ↔ HasRatedEvidence p [] cost g evidence
+evidence-without p None g (Bound numbers) = (λ h. h, λ h. h)
+evidence-without p (Some c) g (Bound numbers) = (bound-closed p g numbers c, bound-closed_so p g numbers c)
+evidence-without p cost g Routed = (λ h. h, λ h. h)
+evidence-without p cost g (Overfull link) = (λ h. h, λ h. h)
+evidence-without p cost g (Cut id reached) = (λ h. h, λ h. h)
+evidence-without p cost g (Far id) = (λ h. h, λ h. h)
+evidence-without p cost g (Crowd prices) = (λ h. h, λ h. h)
+evidence-without p cost g (Open numbers) = (lawful-without p numbers, λ h. h.prices_within)
 
--- what is evidence of a leaf without cuts is evidence at prices alone
-pub evidence-plain : (p : Parts) (cost : Option ℕ) (g : Region) (evidence : Evidence) → HasRatedEvidence p [] cost g evidence → HasEvidence p cost g evidence
-evidence-plain p None g (Bound numbers) h = h
-evidence-plain p (Some c) g (Bound numbers) h = bound-closed_so p g numbers c h
-evidence-plain p cost g Routed h = h
-evidence-plain p cost g (Overfull link) h = h
-evidence-plain p cost g (Cut id reached) h = h
-evidence-plain p cost g (Far id) h = h
-evidence-plain p cost g (Crowd prices) h = h
-evidence-plain p cost g (Open numbers) h = h.prices_within
+node-without : (p : Parts) (cost : Option ℕ) (g : Region) (node : TreeNode) → IsValidRecord p cost g node ↔ IsRatedRecord p [] cost g node
+node-without p cost g (Leaf evidence) = evidence-without p cost g evidence
+node-without p cost g (Split id node left right) = (λ h. h, λ h. h)
+node-without p cost g (Loads place load) = (λ h. h, λ h. h)
 
-trees-without : (p : Parts) (cost : Option ℕ) (gs : List Region) (records : List TreeNode) → AreValidTrees p cost gs records → AreRatedTrees p [] cost gs records
-trees-without p cost [] [] h = h
-trees-without p cost [] (record_here ∷ records) h = h
-trees-without p cost (g ∷ gs) [] h = h
-trees-without p cost (g ∷ gs) (Leaf evidence ∷ records) h = (evidence-without p cost g evidence h.0, trees-without p cost gs records h.1)
-trees-without p cost (g ∷ gs) (Split id node left right ∷ records) h = (h.0, trees-without p cost (with_arcs g id left ∷ with_arcs g id right ∷ gs) records h.1)
-trees-without p cost (g ∷ gs) (Loads place load ∷ records) h = (h.0, trees-without p cost (up_to g place load ∷ above g place load ∷ gs) records h.1)
-
-trees-plain : (p : Parts) (cost : Option ℕ) (gs : List Region) (records : List TreeNode) → AreRatedTrees p [] cost gs records → AreValidTrees p cost gs records
-trees-plain p cost [] [] h = h
-trees-plain p cost [] (record_here ∷ records) h = h
-trees-plain p cost (g ∷ gs) [] h = h
-trees-plain p cost (g ∷ gs) (Leaf evidence ∷ records) h = (evidence-plain p cost g evidence h.0, trees-plain p cost gs records h.1)
-trees-plain p cost (g ∷ gs) (Split id node left right ∷ records) h = (h.0, trees-plain p cost (with_arcs g id left ∷ with_arcs g id right ∷ gs) records h.1)
-trees-plain p cost (g ∷ gs) (Loads place load ∷ records) h = (h.0, trees-plain p cost (up_to g place load ∷ above g place load ∷ gs) records h.1)
+trees-without : (p : Parts) (cost : Option ℕ) (gs : List Region) (nodes : List TreeNode) → AreValidTrees p cost gs nodes ↔ AreRatedTrees p [] cost gs nodes
+trees-without p cost [] [] = (λ h. h, λ h. h)
+trees-without p cost [] (node ∷ nodes) = (λ h. h, λ h. h)
+trees-without p cost (g ∷ gs) [] = (λ h. h, λ h. h)
+trees-without p cost (g ∷ gs) (node ∷ nodes) =
+    let here = node-without p cost g node in
+    let rest = trees-without p cost (children_at g node ++ gs) nodes in
+    (λ h. (here.0 h.0, rest.0 h.1), λ h. (here.1 h.0, rest.1 h.1))
 
 -- a tree is valid without cuts exactly where it is at prices alone
-pub tree-without : (p : Parts) (cost : Option ℕ) (records : List TreeNode) → IsValidTree p cost records → IsRatedTree p [] cost records
-tree-without p cost records h = trees-without p cost (whole p ∷ []) records h
-
--- a tree that is valid without cuts is valid at prices alone
-pub tree-plain : (p : Parts) (cost : Option ℕ) (records : List TreeNode) → IsRatedTree p [] cost records → IsValidTree p cost records
-tree-plain p cost records h = trees-plain p cost (whole p ∷ []) records h
+pub tree-without : (p : Parts) (cost : Option ℕ) (nodes : List TreeNode) → IsValidTree p cost nodes ↔ IsRatedTree p [] cost nodes
+tree-without p cost nodes = trees-without p cost (whole p ∷ []) nodes
 
 -- so it is for the tree of a plan whose list of cuts is empty
 pub plan-without_cuts : (p : Parts) (plan : Plan) → plan.cuts ≡ [] → IsValidTree p (stated_cost plan) plan.tree ↔ IsRatedTree p plan.cuts (stated_cost plan) plan.tree
-plan-without_cuts p plan none = (
-  λ h. subst (λ (cuts : List LoadCut). IsRatedTree p cuts (stated_cost plan) plan.tree) (sym none) (tree-without p (stated_cost plan) plan.tree h),
-  λ h. tree-plain p (stated_cost plan) plan.tree (subst (λ (cuts : List LoadCut). IsRatedTree p cuts (stated_cost plan) plan.tree) none h),
-)
+plan-without_cuts p plan none = subst (λ (cuts : List LoadCut). IsValidTree p (stated_cost plan) plan.tree ↔ IsRatedTree p cuts (stated_cost plan) plan.tree) (sym none) (tree-without p (stated_cost plan) plan.tree)
 
 -- an open leaf of such a plan has the bound that it has at prices alone
 pub open-without : (p : Parts) (cuts : List LoadCut) (g : Region) (numbers : List ℕ) (bound : ℤ) → cuts ≡ [] → IsBound p g numbers bound ↔ IsBoundAt p cuts g numbers bound
-open-without p cuts g numbers bound none = (
-  λ h. subst (λ (list : List LoadCut). IsBoundAt p list g numbers bound) (sym none) ((bound-without_cuts p g numbers (rates_in p numbers) bound).0 h),
-  λ h. (bound-without_cuts p g numbers (rates_in p numbers) bound).1 (subst (λ (list : List LoadCut). IsBoundAt p list g numbers bound) none h),
-)
+open-without p cuts g numbers bound none = subst (λ (list : List LoadCut). IsBound p g numbers bound ↔ IsBoundAt p list g numbers bound) (sym none) (bound-without_cuts p g numbers (rates_in p numbers) bound)
 
 -- the empty list is a list of cuts
 pub no_cuts : (p : Parts) → IsCutList p []

@@ -5,6 +5,8 @@ pub mod SignedSums
 pub mod Duality
 pub mod Presence
 pub mod Claiming
+pub mod WorkedPaths
+pub mod WorkedPlans
 pub mod TriangleLaws
 pub mod Uniqueness
 pub mod TwoNodesLaws

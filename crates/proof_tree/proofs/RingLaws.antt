@@ -16,13 +16,12 @@ use Rattle.plan_base.specs.Paths.{IsSimplePath}
 use Rattle.plan_base.specs.Designs.{module_cost_with}
 use Rattle.plan_base.specs.DesignFaults.{step_fault, path_fault}
 use Rattle.plan_base.proofs.Bools.{and-first}
-use Rattle.plan_base.proofs.PathLaws.{IsSimplePath-path_fault}
 use Rattle.link_steps.specs.declared.rated.Rated.{Rated}
-use Rattle.link_steps.specs.Costs.{CarriesOn, IsLeastModuleCostOn, IsStepCostOn}
+use Rattle.link_steps.specs.Costs.{CarriesOn, IsLeastModuleCostOn, IsStepCostOn, IsStepCost}
 use Rattle.link_steps.specs.Ranges.{whole_ranges}
 use Rattle.link_steps.specs.Tallies.{part, worth}
 use Rattle.link_steps.specs.Values.{ranges_of_link, IsLinkValue, IsStartPrice}
-use Rattle.link_steps.specs.WorthValues.{net_value}
+use Rattle.link_steps.specs.WorthValues.{net_value, IsWorthValue}
 use Rattle.link_steps.proofs.TallyLaws.{tally-le}
 use Rattle.arc_restrict.specs.Restrictions.{none_forbidden, IsPermittedPath}
 use Rattle.arc_restrict.specs.Prices.{AreWithinLimit, price_of, IsLeastPrice}
@@ -33,33 +32,17 @@ use Rattle.proof_tree.specs.Bounds.{IsThousandthUp, IsOpeningBound}
 use Rattle.proof_tree.specs.RatedBounds.{crossing_rates, AreRatedPrices, IsRatedValue, IsRatedBound}
 use Rattle.proof_tree.specs.Triangle.{arc, link}
 use Rattle.proof_tree.specs.WorkedCuts.{one, ring, ring_cuts, ring_prices, ring_rates}
-use Rattle.proof_tree.proofs.TriangleLaws.{first_demand, nothing_free, one_module, nothing_left, from_nothing}
+use Rattle.proof_tree.proofs.WorkedPaths.{one_arc-permitted, below_four}
+use Rattle.proof_tree.proofs.TriangleLaws.{nothing_free, one_module, nothing_left, from_nothing}
 use Rattle.proof_tree.proofs.OpeningLaws.{le-div}
 
 -- Each demand may take the link between its ends.
 
-simple_0 : IsSimplePath ring (one 0 1) (arc 0 ∷ [])
-unfolding path_fault step_fault
-simple_0 = IsSimplePath-path_fault ring first_demand (one 0 1) (arc 0 ∷ []) refl
-
-simple_1 : IsSimplePath ring (one 1 2) (arc 2 ∷ [])
-unfolding path_fault step_fault
-simple_1 = IsSimplePath-path_fault ring first_demand (one 1 2) (arc 2 ∷ []) refl
-
-simple_2 : IsSimplePath ring (one 2 3) (arc 4 ∷ [])
-unfolding path_fault step_fault
-simple_2 = IsSimplePath-path_fault ring first_demand (one 2 3) (arc 4 ∷ []) refl
-
-simple_3 : IsSimplePath ring (one 3 0) (arc 6 ∷ [])
-unfolding path_fault step_fault
-simple_3 = IsSimplePath-path_fault ring first_demand (one 3 0) (arc 6 ∷ []) refl
-
 permitted : (k : ℕ) → k < 4 → IsPermittedPath ring none_forbidden k (arc (2 * k) ∷ [])
-permitted zero below = record { simple = simple_0; permitted = λ i d within. refl }
-permitted (suc zero) below = record { simple = simple_1; permitted = λ i d within. refl }
-permitted (suc (suc zero)) below = record { simple = simple_2; permitted = λ i d within. refl }
-permitted (suc (suc (suc zero))) below = record { simple = simple_3; permitted = λ i d within. refl }
-permitted (suc (suc (suc (suc k)))) below = absurd (omega arith)
+unfolding path_fault step_fault
+permitted = below_four (λ k. IsPermittedPath ring none_forbidden k (arc (2 * k) ∷ []))
+    (one_arc-permitted ring none_forbidden 0 0 refl refl) (one_arc-permitted ring none_forbidden 1 2 refl refl)
+    (one_arc-permitted ring none_forbidden 2 4 refl refl) (one_arc-permitted ring none_forbidden 3 6 refl refl)
 
 -- At the start prices.
 
@@ -67,11 +50,7 @@ abbrev start_prices : List ℕ
 start_prices = 1_250_000_000 ∷ 1_250_000_000 ∷ 1_250_000_000 ∷ 1_250_000_000 ∷ []
 
 start-at : (e : ℕ) → e < 4 → slice_index start_prices e ≡ 1_250_000_000
-start-at zero below = refl
-start-at (suc zero) below = refl
-start-at (suc (suc zero)) below = refl
-start-at (suc (suc (suc zero))) below = refl
-start-at (suc (suc (suc (suc e)))) below = absurd (omega arith)
+start-at = below_four (λ e. slice_index start_prices e ≡ 1_250_000_000) refl refl refl refl
 
 -- a path with an arc costs at least a link
 some_price : (k : Demand) (a : ArcId) (rest : List ArcId) → IsSimplePath ring k (a ∷ rest) → 1_250_000_000 ≤ price_of ring start_prices (a ∷ rest)
@@ -82,25 +61,16 @@ some_price k a rest simple =
 
 -- a demand's source is not its target
 apart : (k : ℕ) → k < 4 → (demand_at ring k).source.0 ≢ (demand_at ring k).target.0
-apart zero below same = absurd (let bad : 0 ≡ 1 = same in omega arith)
-apart (suc zero) below same = absurd (let bad : 1 ≡ 2 = same in omega arith)
-apart (suc (suc zero)) below same = absurd (let bad : 2 ≡ 3 = same in omega arith)
-apart (suc (suc (suc zero))) below same = absurd (let bad : 3 ≡ 0 = same in omega arith)
-apart (suc (suc (suc (suc k)))) below same = absurd (omega arith)
+apart = below_four (λ k. (demand_at ring k).source.0 ≢ (demand_at ring k).target.0)
+    (λ same. (let bad : 0 ≡ 1 = same in omega arith)) (λ same. (let bad : 1 ≡ 2 = same in omega arith))
+    (λ same. (let bad : 2 ≡ 3 = same in omega arith)) (λ same. (let bad : 3 ≡ 0 = same in omega arith))
 
 start_least : (k : ℕ) → k < 4 → (arcs : List ArcId) → IsPermittedPath ring none_forbidden k arcs → 1_250_000_000 ≤ price_of ring start_prices arcs
 start_least k below [] h = absurd (apart k below h.simple.ends_at_target)
 start_least k below (a ∷ rest) h = some_price (demand_at ring k) a rest h.simple
 
 start_least_price : (k : ℕ) → k < 4 → IsLeastPrice ring none_forbidden start_prices k 1_250_000_000
-start_least_price k below = record { path = arc (2 * k) ∷ []; permitted = permitted k below; attained = price k below; least = start_least k below }
-  where
-    price : (n : ℕ) → n < 4 → price_of ring start_prices (arc (2 * n) ∷ []) ≡ 1_250_000_000
-    price zero within = refl
-    price (suc zero) within = refl
-    price (suc (suc zero)) within = refl
-    price (suc (suc (suc zero))) within = refl
-    price (suc (suc (suc (suc n)))) within = absurd (omega arith)
+start_least_price k below = record { path = arc (2 * k) ∷ []; permitted = permitted k below; attained = below_four (λ n. price_of ring start_prices (arc (2 * n) ∷ []) ≡ 1_250_000_000) refl refl refl refl k below; least = start_least k below }
 
 -- up to the total load of 4 no load is worth more than a module
 full_worth : (source target load back c : ℕ) → load ≤ 4_000_000 → IsStepCostOn Any (link source target 5_000_000_000_000) load back c → 1_250_000_000 * load ≤ 1000 * c
@@ -111,11 +81,11 @@ full_worth source target (suc load) back c few is =
     omega (arith, dear, sum, few)
 
 start_value : (e : ℕ) → e < 4 → IsLinkValue ring e (ranges_of_link ring (whole_ranges ring) e) (slice_index start_prices e) 0 (pos 0)
-start_value zero below = nothing_left ring 0 1_250_000_000 _ (nothing_free 0 1 5_000_000_000_000) (from_nothing 4_000_000) (from_nothing 0) (λ x y c within is. full_worth 0 1 x y c within.few is)
-start_value (suc zero) below = nothing_left ring 1 1_250_000_000 _ (nothing_free 1 2 5_000_000_000_000) (from_nothing 4_000_000) (from_nothing 0) (λ x y c within is. full_worth 1 2 x y c within.few is)
-start_value (suc (suc zero)) below = nothing_left ring 2 1_250_000_000 _ (nothing_free 2 3 5_000_000_000_000) (from_nothing 4_000_000) (from_nothing 0) (λ x y c within is. full_worth 2 3 x y c within.few is)
-start_value (suc (suc (suc zero))) below = nothing_left ring 3 1_250_000_000 _ (nothing_free 3 0 5_000_000_000_000) (from_nothing 4_000_000) (from_nothing 0) (λ x y c within is. full_worth 3 0 x y c within.few is)
-start_value (suc (suc (suc (suc e)))) below = absurd (omega arith)
+start_value = below_four (λ e. IsLinkValue ring e (ranges_of_link ring (whole_ranges ring) e) (slice_index start_prices e) 0 (pos 0))
+    (nothing_left ring 0 1_250_000_000 _ (nothing_free 0 1 5_000_000_000_000) (from_nothing 4_000_000) (from_nothing 0) (λ x y c within is. full_worth 0 1 x y c within.few is))
+    (nothing_left ring 1 1_250_000_000 _ (nothing_free 1 2 5_000_000_000_000) (from_nothing 4_000_000) (from_nothing 0) (λ x y c within is. full_worth 1 2 x y c within.few is))
+    (nothing_left ring 2 1_250_000_000 _ (nothing_free 2 3 5_000_000_000_000) (from_nothing 4_000_000) (from_nothing 0) (λ x y c within is. full_worth 2 3 x y c within.few is))
+    (nothing_left ring 3 1_250_000_000 _ (nothing_free 3 0 5_000_000_000_000) (from_nothing 4_000_000) (from_nothing 0) (λ x y c within is. full_worth 3 0 x y c within.few is))
 
 five : IsThousandthUp (pos 5_000_000_000_000_000) (pos 5_000_000_000_000)
 five = record { reaches = omega (arith, ints); least = λ other h. omega (arith, ints) }
@@ -162,11 +132,7 @@ ring-opening = record {
 }
   where
     start : (e : ℕ) → e < 4 → IsStartPrice ring (link_at ring e) (slice_index start_prices e)
-    start zero below = start_price 0 1
-    start (suc zero) below = start_price 1 2
-    start (suc (suc zero)) below = start_price 2 3
-    start (suc (suc (suc zero))) below = start_price 3 0
-    start (suc (suc (suc (suc e)))) below = absurd (omega arith)
+    start = below_four (λ e. IsStartPrice ring (link_at ring e) (slice_index start_prices e)) (start_price 0 1) (start_price 1 2) (start_price 2 3) (start_price 3 0)
 
 -- With the cuts.
 
@@ -199,42 +165,25 @@ no_gain source target (suc load) back c is =
     module_worth : (w c : ℕ) → w ≤ 5_000_000_000_000_000 → 5_000_000_000_000 ≤ c → pos 0 ≤ℤ (pos (1000 * c) -ℤ pos (w + (0 * back + 0)))
     module_worth w c few dear = omega (arith, ints)
 
+-- where two cuts count a place and no load is worth more than it costs, the value of the link is nothing
+nothing_gained : (e : ℕ) → IsStepCost ring e 0 0 0 → ((load back c : ℕ) → IsStepCost ring e load back c → pos 0 ≤ℤ net_value (worth 0 (counted ∷ counted ∷ [])) (worth 0 []) load back c)
+    → IsWorthValue ring e (record { there = record { least = 0; most = 4_000_000 }; back = record { least = 0; most = 0 } }) 0 (counted ∷ counted ∷ []) 0 [] (pos 0)
+nothing_gained e free no_gain = record {
+  load = 0;
+  back = 0;
+  give = record { in_range = from_nothing 4_000_000; back_in_range = from_nothing 0; cost = 0; is_cost = free; attained = refl };
+  least = λ other other_back c in_range back_in_range is. no_gain other other_back c is;
+}
+
 rated_value : (e : ℕ) → e < 4 → IsRatedValue ring ring_cuts (whole_ranges ring) ring_prices ring_rates e (pos 0)
-rated_value zero below = record {
-  load = 0;
-  back = 0;
-  give = record { in_range = from_nothing 4_000_000; back_in_range = from_nothing 0; cost = 0; is_cost = nothing_free 0 1 5_000_000_000_000; attained = refl };
-  least = λ other other_back c in_range back_in_range is. no_gain 0 1 other other_back c is;
-}
-rated_value (suc zero) below = record {
-  load = 0;
-  back = 0;
-  give = record { in_range = from_nothing 4_000_000; back_in_range = from_nothing 0; cost = 0; is_cost = nothing_free 1 2 5_000_000_000_000; attained = refl };
-  least = λ other other_back c in_range back_in_range is. no_gain 1 2 other other_back c is;
-}
-rated_value (suc (suc zero)) below = record {
-  load = 0;
-  back = 0;
-  give = record { in_range = from_nothing 4_000_000; back_in_range = from_nothing 0; cost = 0; is_cost = nothing_free 2 3 5_000_000_000_000; attained = refl };
-  least = λ other other_back c in_range back_in_range is. no_gain 2 3 other other_back c is;
-}
-rated_value (suc (suc (suc zero))) below = record {
-  load = 0;
-  back = 0;
-  give = record { in_range = from_nothing 4_000_000; back_in_range = from_nothing 0; cost = 0; is_cost = nothing_free 3 0 5_000_000_000_000; attained = refl };
-  least = λ other other_back c in_range back_in_range is. no_gain 3 0 other other_back c is;
-}
-rated_value (suc (suc (suc (suc e)))) below = absurd (omega arith)
+rated_value = below_four (λ e. IsRatedValue ring ring_cuts (whole_ranges ring) ring_prices ring_rates e (pos 0))
+    (nothing_gained 0 (nothing_free 0 1 5_000_000_000_000) (no_gain 0 1))
+    (nothing_gained 1 (nothing_free 1 2 5_000_000_000_000) (no_gain 1 2))
+    (nothing_gained 2 (nothing_free 2 3 5_000_000_000_000) (no_gain 2 3))
+    (nothing_gained 3 (nothing_free 3 0 5_000_000_000_000) (no_gain 3 0))
 
 rated_least_price : (k : ℕ) → k < 4 → IsLeastPrice ring none_forbidden ring_prices k 0
-rated_least_price k below = record { path = arc (2 * k) ∷ []; permitted = permitted k below; attained = price k below; least = λ other h. omega arith }
-  where
-    price : (n : ℕ) → n < 4 → price_of ring ring_prices (arc (2 * n) ∷ []) ≡ 0
-    price zero within = refl
-    price (suc zero) within = refl
-    price (suc (suc zero)) within = refl
-    price (suc (suc (suc zero))) within = refl
-    price (suc (suc (suc (suc n)))) within = absurd (omega arith)
+rated_least_price k below = record { path = arc (2 * k) ∷ []; permitted = permitted k below; attained = below_four (λ n. price_of ring ring_prices (arc (2 * n) ∷ []) ≡ 0) refl refl refl refl k below; least = λ other h. omega arith }
 
 ten : IsThousandthUp (pos 10_000_000_000_000_000) (pos 10_000_000_000_000)
 ten = record { reaches = omega (arith, ints); least = λ other h. omega (arith, ints) }
@@ -257,18 +206,10 @@ ring-lawful = record { prices_within = four 0 (lit≤ tt); rates_within = four 1
         All-cons P price (price ∷ price ∷ price ∷ []) is (All-cons P price (price ∷ price ∷ []) is (All-cons P price (price ∷ []) is (All-cons P price [] is (All-nil P))))
 
     limit : (q : ℕ) → q < 4 → slice_index ring_prices q + crossing_rates ring ring_cuts ring_rates q ≤ price_limit ring
-    limit zero below = lit≤ tt
-    limit (suc zero) below = lit≤ tt
-    limit (suc (suc zero)) below = lit≤ tt
-    limit (suc (suc (suc zero))) below = lit≤ tt
-    limit (suc (suc (suc (suc q)))) below = absurd (omega arith)
+    limit = below_four (λ q. slice_index ring_prices q + crossing_rates ring ring_cuts ring_rates q ≤ price_limit ring) (lit≤ tt) (lit≤ tt) (lit≤ tt) (lit≤ tt)
 
     cover : (q : ℕ) → q < 4 → 0 < crossing_rates ring ring_cuts ring_rates q → 1000 * (link_at ring q).routing ≤ slice_index ring_prices q
-    cover zero below positive = lit≤ tt
-    cover (suc zero) below positive = lit≤ tt
-    cover (suc (suc zero)) below positive = lit≤ tt
-    cover (suc (suc (suc zero))) below positive = lit≤ tt
-    cover (suc (suc (suc (suc q)))) below positive = absurd (omega arith)
+    cover = below_four (λ q. 0 < crossing_rates ring ring_cuts ring_rates q → 1000 * (link_at ring q).routing ≤ slice_index ring_prices q) (λ positive. lit≤ tt) (λ positive. lit≤ tt) (λ positive. lit≤ tt) (λ positive. lit≤ tt)
 
 -- the cuts of the single nodes are cuts of the ring, not too many, and no two the same
 pub ring-cuts : IsCutList ring ring_cuts
@@ -283,11 +224,7 @@ ring-cuts = record { few = lit≤ tt; are_cuts = are_cuts; different = different
 
     -- the node of a cut is in no other one
     holds_own : (j : ℕ) → j < 4 → get_or (cut_at ring_cuts j).nodes j false ≡ true
-    holds_own zero below = refl
-    holds_own (suc zero) below = refl
-    holds_own (suc (suc zero)) below = refl
-    holds_own (suc (suc (suc zero))) below = refl
-    holds_own (suc (suc (suc (suc j)))) below = absurd (omega arith)
+    holds_own = below_four (λ j. get_or (cut_at ring_cuts j).nodes j false ≡ true) refl refl refl refl
 
     not_other : (i j : ℕ) → i < j → j < 4 → get_or (cut_at ring_cuts i).nodes j false ≡ false
     not_other zero zero less below = absurd (omega arith)

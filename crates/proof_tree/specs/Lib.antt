@@ -7,6 +7,7 @@ pub mod Shapes
 pub mod Trees
 pub mod Plans
 pub mod Spellings
+pub mod WorkedPlans
 pub mod Triangle
 pub mod TwoNodes
 pub mod OneLink
