@@ -6,6 +6,7 @@ use Rattle.std.proofs.lemmas.List.{length-append, get_or_append_left}
 use Rattle.plan_base.specs.declared.ids.ArcId.{ArcId}
 use Rattle.plan_base.specs.declared.parts.Parts.{Parts}
 use Rattle.plan_base.specs.declared.path.Design.{Design}
+use Rattle.plan_base.specs.declared.loads.LinkLoads.{LinkLoads}
 use Rattle.plan_base.specs.declared.limits.TheConstants.{MAX_ROUTING_COST, MAX_PLACES}
 use Rattle.plan_base.specs.Sums.{sum_below}
 use Rattle.plan_base.specs.Facts.{total_load, IsInstance}
@@ -62,36 +63,36 @@ module _ (p : Parts) (d other : Design) (e : ℕ) (within : e < length p.links) 
   carried-paths = rw (same_there, same_back) refl
 
 -- the loads of a link's places are those that a design's paths put on them
-pub record HasLoads (p : Parts) (d : Design) (e there back : ℕ) : Type 0 where
-  pub there_is : there ≡ there_of p (load_at p d) e
-  pub back_is : back ≡ back_of p (load_at p d) e
+pub record HasLoads (p : Parts) (d : Design) (e : ℕ) (held : LinkLoads) : Type 0 where
+  pub there_is : held.there ≡ there_of p (load_at p d) e
+  pub back_is : held.back ≡ back_of p (load_at p d) e
 
 -- they are read from a list
-pub loads-read : (p : Parts) (d : Design) (e there back : ℕ) (loads : List ℕ) → IsInstance p → e < length p.links → ((q : ℕ) → q < MAX_PLACES → slice_index loads q ≡ load_at p d q)
-    → there ≡ there_of p (slice_index loads) e → back ≡ back_of p (slice_index loads) e → HasLoads p d e there back
-loads-read p d e there back loads lawful within are there_is back_is =
+pub loads-read : (p : Parts) (d : Design) (e : ℕ) (held : LinkLoads) (loads : List ℕ) → IsInstance p → e < length p.links → ((q : ℕ) → q < MAX_PLACES → slice_index loads q ≡ load_at p d q)
+    → held.there ≡ there_of p (slice_index loads) e → held.back ≡ back_of p (slice_index loads) e → HasLoads p d e held
+loads-read p d e held loads lawful within are there_is back_is =
     let same : (q : ℕ) → q < places p → slice_index loads q ≡ load_at p d q = λ q below. are q (omega (arith, below, places-few p lawful)) in
     record {
       there_is = there_is ∙ there-same p (slice_index loads) (load_at p d) e within same;
       back_is = back_is ∙ back-same p (slice_index loads) (load_at p d) e within same;
     }
 
-module _ (p : Parts) (d : Design) (e there back : ℕ) (within : e < length p.links) (held : HasLoads p d e there back) where
-  needed : max there back ≡ need p (with_paths d.paths) e
+module _ (p : Parts) (d : Design) (e : ℕ) (loads : LinkLoads) (within : e < length p.links) (held : HasLoads p d e loads) where
+  needed : max loads.there loads.back ≡ need p (with_paths d.paths) e
   needed =
-      let read : max there back ≡ need p d e = rw (held.there_is, held.back_is) refl in
+      let read : max loads.there loads.back ≡ need p d e = rw (held.there_is, held.back_is) refl in
       read ∙ need-paths p d (with_paths d.paths) e within refl
 
   -- the link here is the first one that cannot carry what it needs
-  pub overfull-here : CannotCarry p e (max there back) → CarryLoads p d.paths e → IsFirstOverfull p d.paths e
+  pub overfull-here : CannotCarry p e (max loads.there loads.back) → CarryLoads p d.paths e → IsFirstOverfull p d.paths e
   overfull-here cannot before = record { within = within; overfull = subst (CannotCarry p e) needed cannot; before = before }
 
   -- some link cannot carry what it needs
-  pub overfull-found : CannotCarry p e (max there back) → HasOverfull p d.paths
+  pub overfull-found : CannotCarry p e (max loads.there loads.back) → HasOverfull p d.paths
   overfull-found cannot = record { link = e; within = within; overfull = subst (CannotCarry p e) needed cannot }
 
   -- the link here can carry what it needs too
-  pub carry-next : CanCarry p e (max there back) → CarryLoads p d.paths e → CarryLoads p d.paths (e + 1)
+  pub carry-next : CanCarry p e (max loads.there loads.back) → CarryLoads p d.paths e → CarryLoads p d.paths (e + 1)
   carry-next can before = λ other below.
       elim (before_or_last other e below) [
         | inl earlier ↦ before other earlier
@@ -141,9 +142,9 @@ AreCompletedTo-push p paths n cost more all counts before here =
     }
 
 -- one link more, completed for its loads in a design
-pub completed-more : (p : Parts) (d : Design) (n cost there back more : ℕ) (all : List (List ℕ)) (counts : List ℕ) → n < length p.links → HasLoads p d n there back → AreCompletedTo p d.paths n cost all
-    → IsLinkCompletion p n there back more counts → AreCompletedTo p d.paths (n + 1) (cost + more) (all ++ counts ∷ [])
-completed-more p d n cost there back more all counts within held before here =
+pub completed-more : (p : Parts) (d : Design) (n cost : ℕ) (loads : LinkLoads) (more : ℕ) (all : List (List ℕ)) (counts : List ℕ) → n < length p.links → HasLoads p d n loads → AreCompletedTo p d.paths n cost all
+    → IsLinkCompletion p n loads.there loads.back more counts → AreCompletedTo p d.paths (n + 1) (cost + more) (all ++ counts ∷ [])
+completed-more p d n cost loads more all counts within held before here =
     let there_is = held.there_is ∙ same_there p d (with_paths d.paths) n within refl in
     let back_is = held.back_is ∙ same_back p d (with_paths d.paths) n within refl in
     AreCompletedTo-push p d.paths n cost more all counts before (rw (there_is, back_is) at here)
