@@ -1,5 +1,4 @@
-use Rattle.std.proofs.Common.{ℕ, ◌≡◌, ◌<◌, ◌≤◌, max, Option, List, IfSome, IfNone, length, subst, arith}
-use Rattle.link_steps.specs.Costs.{CannotCarry}
+use Rattle.std.proofs.Common.{ℕ, ◌≡◌, ◌<◌, ◌≤◌, Option, List, IfSome, length, subst, arith}
 use Rattle.completions.specs.declared.completing.TheConstants.{LINK_COST_BOUND}
 use Rattle.completions.specs.Links.{IsLinkCompletion, AreCompletedTo}
 use Rattle.completions.proofs.CompletionLaws.{HasLoads, loads-read, overfull-found, completed-more}
@@ -7,15 +6,11 @@ use Rattle.completions.proofs.completing.complete_links.Goals as goal
 
 pub returns-in_default-clause-none : goal.returns-in_default-clause-none
 returns-in_default-clause-none c =
-    let p = c.args.table.now in
-    let e = c.loop-place.place in
-    let held = c.of_link-held.result in
     let within : c.loop-place.place < length c.args.table.now.links = omega (arith, rw c.instance-inst.ensures.inst at c.links-place-end.ensures.value) in
-    let loads : HasLoads p c.args.design.now e held =
-    loads-read c.args.table.now c.args.design.now e held c.loads_of-loads.result (rw c.instance-inst.ensures.inst at c.links-place-end.ensures.lawful) within
-    (rw c.instance-inst.ensures.inst at c.loads_of-loads.ensures.value) (rw c.instance-inst.ensures.inst at c.of_link-held.ensures.there) (rw c.instance-inst.ensures.inst at c.of_link-held.ensures.back) in
-    overfull-found p c.args.design.now e held within loads
-    (subst (λ (found : Option (ℕ × List ℕ)). IfNone found (CannotCarry p e (max held.there held.back))) c.in_default.is c.in_ok-least.ensures.none)
+    overfull-found c.args.table.now c.args.design.now c.loop-place.place c.of_link-held.result within
+    (loads-read c.args.table.now c.args.design.now c.loop-place.place c.of_link-held.result c.loads_of-loads.result (rw c.instance-inst.ensures.inst at c.links-place-end.ensures.lawful) within
+    (rw c.instance-inst.ensures.inst at c.loads_of-loads.ensures.value) (rw c.instance-inst.ensures.inst at c.of_link-held.ensures.there) (rw c.instance-inst.ensures.inst at c.of_link-held.ensures.back))
+    (rw c.in_default.is at c.in_ok-least.ensures.none)
 
 pub loop-place-preserved : goal.loop-place-preserved
 loop-place-preserved c =
