@@ -11,7 +11,7 @@ use Rattle.one_history.specs.Rules.{StageFits, Fits, Kept}
 use Rattle.one_history.specs.Steps.{Knowing, spent, joined, guest_of, with_seen, Learns, HasHeard}
 use Rattle.one_history.specs.Passes.{HasMet, HasTakenIn}
 use Rattle.one_history.proofs.ViewLists.{prefix_nil, total_set, each_set, held_set}
-use Rattle.one_history.proofs.Keeping.{idle_holds_none, idle_keeps, stranger_apart, apart_set, place_set, stays_apart}
+use Rattle.one_history.proofs.Keeping.{views_keep, idle_holds_none, idle_keeps, stranger_apart, apart_set, place_set, stays_apart}
 
 -- Joining two views keeps the rule, and what the one knows that took in the other.
 
@@ -30,26 +30,14 @@ module _ {D C : Type 0} (leads : Leading D C) (callers : ℕ) where
       let all_parts = k.parts in
       let f = k.each id v at in
       let g = k.each other w there in
-      record {
-        tickets = k.tickets;
-        serving = k.serving;
-        history = k.history;
-        order = k.order;
-        words = k.words;
-        draws = omega arith;
-        parts = omega arith;
-        legal = k.legal;
-        each = each_set (λ _ u. Fits k.tickets k.serving k.history u) vs other spent (record { seen = prefix_nil k.history; heard = prefix_nil k.history; own = tt; stage = tt })
-            (λ j u _ here. each_set (λ _ u. Fits k.tickets k.serving k.history u) s.views id both
-            (record { seen = f.seen; heard = g.seen; own = f.own; stage = subst (StageFits k.tickets k.serving k.history both) (sym idle) tt })
-            (λ j u _ here. k.each j u here) j u here);
-        apart = apart_set vs other spent
-            (apart_set s.views id both k.apart (stays_apart leads callers s k id v v.stage refl at))
-            (λ j u _ _. stranger_apart spent refl refl u);
-        held = λ t from below. held_set vs other w spent t at' (idle_keeps w.stage t idle') (held_set s.views id v both t at (λ has. has) (k.held t from below));
-        place = place_set leads k.serving k.history record { words = s.words; homes = s.homes; views = vs } s.words other w spent at' (idle_holds_none w.stage idle') (λ b. b)
-            (place_set leads k.serving k.history s s.words id v both at (idle_holds_none v.stage idle) (idle_holds_none v.stage idle) k.place);
-      }
+      views_keep leads callers s k record { words = s.words; homes = s.homes; views = set vs other spent } refl (omega arith) (omega arith)
+      (each_set (λ _ u. Fits k.tickets k.serving k.history u) vs other spent (record { seen = prefix_nil k.history; heard = prefix_nil k.history; own = tt; stage = tt })
+      (λ j u _ here. each_set (λ _ u. Fits k.tickets k.serving k.history u) s.views id both
+      (record { seen = f.seen; heard = g.seen; own = f.own; stage = subst (StageFits k.tickets k.serving k.history both) (sym idle) tt }) (λ j u _ here. k.each j u here) j u here))
+      (apart_set vs other spent (apart_set s.views id both k.apart (stays_apart leads callers s k id v v.stage refl at)) (λ j u _ _. stranger_apart spent refl refl u))
+      (λ t from below. held_set vs other w spent t at' (idle_keeps w.stage t idle') (held_set s.views id v both t at (λ has. has) (k.held t from below)))
+      (place_set leads k.serving k.history record { words = s.words; homes = s.homes; views = vs } s.words other w spent at' (idle_holds_none w.stage idle') (λ b. b)
+      (place_set leads k.serving k.history s s.words id v both at (idle_holds_none v.stage idle) (idle_holds_none v.stage idle) k.place))
 
 module _ {D C : Type 0} (leads : Leading D C) where
   -- what a pass knows that took in another and looked

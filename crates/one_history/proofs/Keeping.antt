@@ -1,4 +1,4 @@
-use Rattle.std.proofs.Common.{◌≡◌, ◌≢◌, ℕ, ◌+◌, Bool, List, [], ◌∷◌, ◌++◌, length, get_or, set, sum_by, ◌⊎◌, inl, inr, ⊎_elim, ap, sym, refl, subst, ◌∙◌, arith, Option, Some, None}
+use Rattle.std.proofs.Common.{◌≡◌, ◌≢◌, ℕ, ◌+◌, ◌<◌, ◌≤◌, Bool, List, [], ◌∷◌, ◌++◌, length, get_or, set, sum_by, ◌⊎◌, inl, inr, ⊎_elim, ap, sym, refl, subst, ◌∙◌, arith, Option, Some, None}
 use mathlib.Core.Logic.{dite}
 use mathlib.Core.Option.{none, some, some-injective}
 use native.Mathlib.Decide.{ℕ_discrete}
@@ -12,7 +12,7 @@ use Rattle.one_history.specs.declared.view.Stage.{Stage}
 use Rattle.one_history.specs.declared.view.Stage.TheVariants.{Idle, Holding}
 use Rattle.one_history.specs.declared.view.View.{View}
 use Rattle.one_history.specs.Histories.{Leading}
-use Rattle.one_history.specs.Rules.{TableState, RolesApart, ticket_of, TicketsApart, Apart, StageFits, HoldsSlot, raises, IsHome, IsOut, all_draws, Kept}
+use Rattle.one_history.specs.Rules.{TableState, RolesApart, ticket_of, TicketsApart, Apart, StageFits, Fits, IsHeld, HoldsSlot, raises, IsHome, IsOut, all_draws, Kept}
 use Rattle.one_history.specs.Steps.{Knowing, Learns}
 use Rattle.one_history.proofs.ViewLists.{at_end, total_set, each_set, each_snoc}
 
@@ -127,6 +127,15 @@ module _ {D C : Type 0} (leads : Leading D C) (serving : ℕ) (history : List (E
     stage = a.stage;
     long = a.long;
   }
+
+module _ {D C : Type 0} (leads : Leading D C) (callers : ℕ) (s : TableState D C) (k : Kept leads callers s) where
+  -- where the words stay, and with them the history, a table whose views fit it keeps the rule
+  pub views_keep : (after : TableState D C) → after.words ≡ s.words → k.tickets + sum_by (λ (v : View C). v.draws) after.views ≡ all_draws → sum_by (λ (v : View C). v.parts) after.views ≡ callers
+      → ((j : ℕ) (v : View C) → get_elem? after.views j ≡ some v → Fits k.tickets k.serving k.history v)
+      → ((i j : ℕ) (v w : View C) → i ≢ j → get_elem? after.views i ≡ some v → get_elem? after.views j ≡ some w → Apart v w)
+      → ((t : ℕ) → k.serving ≤ t → t < k.tickets → IsHeld after.views t) → IsHome leads k.serving k.history after ⊎ IsOut k.serving k.history after → Kept leads callers after
+  views_keep after words draws parts each apart held place =
+      record { tickets = k.tickets; serving = k.serving; history = k.history; order = k.order; words = words ∙ k.words; draws = draws; parts = parts; legal = k.legal; each = each; apart = apart; held = held; place = place }
 
 module _ {D C : Type 0} (leads : Leading D C) (callers : ℕ) (s : TableState D C) (k : Kept leads callers s) (id : ℕ) (v : View C) where
   -- what a caller has seen and heard of begins the history

@@ -12,7 +12,7 @@ use Rattle.one_history.specs.Histories.{Leading}
 use Rattle.one_history.specs.Rules.{TableState, ticket_of, StageFits, Fits, IsHome, IsOut, Kept}
 use Rattle.one_history.specs.Steps.{Knowing, with_seen, IsServed, Glances, LooksAt, Looks, Hears}
 use Rattle.one_history.proofs.ViewLists.{prefix_self, each_set, at_inside, held_set}
-use Rattle.one_history.proofs.Keeping.{any_step, GoesAt, idle_holds_none, apart_set, place_set, learned, holder_view, stays_apart, draws_stay, parts_stay}
+use Rattle.one_history.proofs.Keeping.{views_keep, any_step, GoesAt, idle_holds_none, apart_set, place_set, learned, holder_view, stays_apart, draws_stay, parts_stay}
 
 -- Looking which ticket is served keeps the rule.
 
@@ -28,20 +28,9 @@ module _ {D C : Type 0} (leads : Leading D C) (callers id : ℕ) (m : Knowing D 
       let v = m.0 in
       let w = with_seen v stage k.history in
       let f = k.each id v at in
-      record {
-        tickets = k.tickets;
-        serving = k.serving;
-        history = k.history;
-        order = k.order;
-        words = refl;
-        draws = draws_stay leads callers s k id v w refl at;
-        parts = parts_stay leads callers s k id v w refl at;
-        legal = k.legal;
-        each = each_set (λ _ u. Fits k.tickets k.serving k.history u) s.views id w (record { seen = prefix_self k.history; heard = f.heard; own = f.own; stage = fits }) (λ j u _ there. k.each j u there);
-        apart = apart_set s.views id w k.apart (stays_apart leads callers s k id v stage same at);
-        held = λ t from below. held_set s.views id v w t at (λ has. same ∙ has) (k.held t from below);
-        place = place;
-      }
+      views_keep leads callers s k (seen_all stage act) (sym k.words) (draws_stay leads callers s k id v w refl at) (parts_stay leads callers s k id v w refl at)
+      (each_set (λ _ u. Fits k.tickets k.serving k.history u) s.views id w (record { seen = prefix_self k.history; heard = f.heard; own = f.own; stage = fits }) (λ j u _ there. k.each j u there))
+      (apart_set s.views id w k.apart (stays_apart leads callers s k id v stage same at)) (λ t from below. held_set s.views id v w t at (λ has. same ∙ has) (k.held t from below)) place
 
   -- the ticket is served: the pass takes the slot
   served : get_elem? s.views id ≡ some m.0 → m.0.stage ≡ Waiting k.serving → IsHome leads k.serving k.history s

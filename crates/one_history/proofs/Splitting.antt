@@ -13,7 +13,7 @@ use Rattle.one_history.specs.Histories.{Leading, calls_by, OwnCalls}
 use Rattle.one_history.specs.Rules.{RolesApart, ticket_of, Apart, StageFits, Fits, Kept}
 use Rattle.one_history.specs.Steps.{made, next_role, maker_after, new_caller, guest_of}
 use Rattle.one_history.proofs.ViewLists.{prefix_nil, total_set, each_set, each_snoc, held_set, held_snoc}
-use Rattle.one_history.proofs.Keeping.{idle_holds_none, no_ticket, stranger_apart, apart_set, apart_snoc, place_set, place_snoc}
+use Rattle.one_history.proofs.Keeping.{views_keep, idle_holds_none, no_ticket, stranger_apart, apart_set, apart_snoc, place_set, place_snoc}
 
 -- Splitting a view keeps the rule.
 
@@ -42,20 +42,11 @@ module _ {D C : Type 0} (leads : Leading D C) (callers id : ℕ) (v : View C) wh
       let all_parts = k.parts in
       let parts = sum_by_push (λ (u : View C). u.parts) s.views w in
       let f = k.each id v at in
-      subst (λ vs. Kept leads callers record { words = s.words; homes = s.homes; views = vs ++ w ∷ [] }) (sym (set_again s.views id v at)) record {
-        tickets = k.tickets;
-        serving = k.serving;
-        history = k.history;
-        order = k.order;
-        words = k.words;
-        draws = omega arith;
-        parts = omega arith;
-        legal = k.legal;
-        each = each_snoc (λ u. Fits k.tickets k.serving k.history u) s.views w k.each (record { seen = f.seen; heard = prefix_nil k.history; own = tt; stage = tt });
-        apart = apart_snoc s.views w k.apart (λ j u _. stranger_apart w refl refl u);
-        held = λ t from below. held_snoc s.views w t (k.held t from below);
-        place = place_snoc leads k.serving k.history s w (λ b. b) k.place;
-      }
+      subst (λ vs. Kept leads callers record { words = s.words; homes = s.homes; views = vs ++ w ∷ [] }) (sym (set_again s.views id v at))
+      (views_keep leads callers s k record { words = s.words; homes = s.homes; views = s.views ++ w ∷ [] } refl (omega arith) (omega arith)
+      (each_snoc (λ u. Fits k.tickets k.serving k.history u) s.views w k.each (record { seen = f.seen; heard = prefix_nil k.history; own = tt; stage = tt }))
+      (apart_snoc s.views w k.apart (λ j u _. stranger_apart w refl refl u)) (λ t from below. held_snoc s.views w t (k.held t from below))
+      (place_snoc leads k.serving k.history s w (λ b. b) k.place))
 
   -- a part and draws for a new caller, of a number that no view has had yet
   pub new_callers : (m : ℕ) → v.role ≡ Maker m → v.stage ≡ Idle → 0 < v.parts → MAX_CALLS ≤ v.draws → Splits (Kept leads callers) id v (maker_after v) (new_caller v)
@@ -85,27 +76,18 @@ module _ {D C : Type 0} (leads : Leading D C) (callers id : ℕ) (v : View C) wh
       )
       (λ j u ne there. let l = newest m u.role (subst (λ z. RolesApart z u.role) role (k.apart id j v u (λ e. ne (sym e)) at there).0) in
       ((subst (λ z. RolesApart z u.role) (sym new_role) l.0, tt), (subst (λ z. RolesApart u.role z) (sym new_role) l.1, no_ticket (ticket_of u.stage)))) in
-      record {
-        tickets = k.tickets;
-        serving = k.serving;
-        history = k.history;
-        order = k.order;
-        words = k.words;
-        draws = omega arith;
-        parts = omega arith;
-        legal = k.legal;
-        each = each_snoc (λ u. Fits k.tickets k.serving k.history u) vs w
-            (each_set (λ _ u. Fits k.tickets k.serving k.history u) s.views id left
-            (record {
-              seen = f.seen;
-              heard = f.heard;
-              own = subst (λ r. OwnCalls k.history r v.mine) (sym left_role) (λ n le. none_yet n (omega arith));
-              stage = subst (StageFits k.tickets k.serving k.history left) (sym idle) tt;
-            })
-            (λ j u _ there. k.each j u there))
-            (record { seen = f.seen; heard = prefix_nil k.history; own = subst (λ r. OwnCalls k.history r []) (sym new_role) (none_yet m (le_refl m)); stage = tt });
-        apart = apart_snoc vs w (apart_set s.views id left k.apart left_apart) new_apart;
-        held = λ t from below. held_snoc vs w t (held_set s.views id v left t at (λ has. has) (k.held t from below));
-        place = place_snoc leads k.serving k.history record { words = s.words; homes = s.homes; views = vs } w (λ b. b)
-            (place_set leads k.serving k.history s s.words id v left at (idle_holds_none v.stage idle) (idle_holds_none v.stage idle) k.place);
-      }
+      views_keep leads callers s k record { words = s.words; homes = s.homes; views = vs ++ w ∷ [] } refl (omega arith) (omega arith)
+      (each_snoc (λ u. Fits k.tickets k.serving k.history u) vs w
+      (each_set (λ _ u. Fits k.tickets k.serving k.history u) s.views id left
+      (record {
+        seen = f.seen;
+        heard = f.heard;
+        own = subst (λ r. OwnCalls k.history r v.mine) (sym left_role) (λ n le. none_yet n (omega arith));
+        stage = subst (StageFits k.tickets k.serving k.history left) (sym idle) tt;
+      })
+      (λ j u _ there. k.each j u there))
+      (record { seen = f.seen; heard = prefix_nil k.history; own = subst (λ r. OwnCalls k.history r []) (sym new_role) (none_yet m (le_refl m)); stage = tt }))
+      (apart_snoc vs w (apart_set s.views id left k.apart left_apart) new_apart)
+      (λ t from below. held_snoc vs w t (held_set s.views id v left t at (λ has. has) (k.held t from below)))
+      (place_snoc leads k.serving k.history record { words = s.words; homes = s.homes; views = vs } w (λ b. b)
+      (place_set leads k.serving k.history s s.words id v left at (idle_holds_none v.stage idle) (idle_holds_none v.stage idle) k.place))

@@ -1,5 +1,8 @@
 //! The rule of the table, and what each step tells of it.
 
+ghost use Rattle.one_history.specs.Rules.{Kept};
+ghost use Rattle.one_history.specs.Steps.{Draws, Glances, Hears, Looks, Raises, Serves, guest_of, joined, maker, maker_after, new_caller, spent};
+
 use crate::meaning::{Meaning, Said};
 use crate::view::View;
 use atomic_table::{Join, Play, Split, TableRule};
@@ -11,9 +14,6 @@ pub struct Law<M> {
 }
 
 impl<D, C, M: Meaning<D, C>> TableRule<Option<D>, View<C>, u64> for Law<M> {
-    ghost use Rattle.one_history.specs.Rules.{Kept};
-    ghost use Rattle.one_history.specs.Steps.{maker};
-
     ghost holds = { λ callers. Kept M.leads callers };
 
     ghost first = { λ callers. maker callers };
@@ -23,8 +23,6 @@ impl<D, C, M: Meaning<D, C>> TableRule<Option<D>, View<C>, u64> for Law<M> {
 pub(crate) struct Draw;
 
 impl<D, C> Play<Option<D>, View<C>> for Draw {
-    ghost use Rattle.one_history.specs.Steps.{Draws};
-
     ghost then = { Draws };
 }
 
@@ -32,8 +30,6 @@ impl<D, C> Play<Option<D>, View<C>> for Draw {
 pub(crate) struct Glance;
 
 impl<D, C> Play<Option<D>, View<C>> for Glance {
-    ghost use Rattle.one_history.specs.Steps.{Glances};
-
     ghost then = { Glances };
 }
 
@@ -43,8 +39,6 @@ pub(crate) struct Look<M> {
 }
 
 impl<D, C, M: Meaning<D, C>> Play<Option<D>, View<C>> for Look<M> {
-    ghost use Rattle.one_history.specs.Steps.{Looks};
-
     ghost then = { Looks M.leads };
 }
 
@@ -54,8 +48,6 @@ pub(crate) struct Hear<M> {
 }
 
 impl<D, C, M: Meaning<D, C>> Play<Option<D>, View<C>> for Hear<M> {
-    ghost use Rattle.one_history.specs.Steps.{Hears};
-
     ghost then = { Hears M.leads };
 }
 
@@ -65,8 +57,6 @@ pub(crate) struct Raise<W> {
 }
 
 impl<D, C, W: Said<C>> Play<Option<D>, View<C>> for Raise<W> {
-    ghost use Rattle.one_history.specs.Steps.{Raises};
-
     ghost then = { Raises W.call };
 }
 
@@ -74,8 +64,6 @@ impl<D, C, W: Said<C>> Play<Option<D>, View<C>> for Raise<W> {
 pub(crate) struct Serve;
 
 impl<D, C> Play<Option<D>, View<C>> for Serve {
-    ghost use Rattle.one_history.specs.Steps.{Serves};
-
     ghost then = { Serves };
 }
 
@@ -83,8 +71,6 @@ impl<D, C> Play<Option<D>, View<C>> for Serve {
 pub(crate) struct NewCaller;
 
 impl<C> Split<View<C>> for NewCaller {
-    ghost use Rattle.one_history.specs.Steps.{maker_after, new_caller};
-
     ghost left = { maker_after };
 
     ghost right = { new_caller };
@@ -94,8 +80,6 @@ impl<C> Split<View<C>> for NewCaller {
 pub(crate) struct Copied;
 
 impl<C> Split<View<C>> for Copied {
-    ghost use Rattle.one_history.specs.Steps.{guest_of};
-
     ghost left = { λ v. v };
 
     ghost right = { guest_of };
@@ -105,8 +89,6 @@ impl<C> Split<View<C>> for Copied {
 pub(crate) struct Together;
 
 impl<C> Join<View<C>> for Together {
-    ghost use Rattle.one_history.specs.Steps.{joined, spent};
-
     ghost both = { joined };
 
     ghost spent = { spent };
