@@ -1,9 +1,9 @@
 -- The pieces of a text are those that are found from left to right.
-use Rattle.std.proofs.Common.{◌≡◌, ℕ, ◌+◌, ◌-◌, ◌<◌, ◌≤◌, Bool, true, false, cond, List, [], ◌∷◌, ◌++◌, length, take, drop, Option, Some, None, refl, sym, ap, subst, ◌∙◌, append_assoc, ◌⊎◌, inl, inr, arith, add-zero, zero-add}
+use Rattle.std.proofs.Common.{◌≡◌, ℕ, ◌+◌, ◌-◌, ◌<◌, ◌≤◌, Bool, true, false, cond, List, [], ◌∷◌, ◌++◌, length, take, drop, Option, Some, None, refl, sym, ap, subst, ◌∙◌, append_assoc, inl, inr, arith, add-zero, zero-add}
 use Rattle.std.specs.List.{All}
 use Rattle.std.proofs.lemmas.List.Elements.{All-nil, All-cons}
 use Rattle.std.specs.Option.{option_map}
-use Rattle.std.proofs.lemmas.Bool.{eqb-true}
+use Rattle.std.proofs.lemmas.Bool.{eqb-true, cases_Bool}
 use Rattle.std.proofs.lemmas.Option.{some_pair_parts}
 use Rattle.std.proofs.lemmas.List.{append-nil, drop_at, length-append, take_rest, nil_from_length}
 use Rattle.snd_lexer.specs.declared.token.Dialect.{Dialect}
@@ -17,7 +17,8 @@ use Rattle.snd_lexer.specs.Pieces.{front, behind, piece_by, first_piece, length_
 
 -- ---- runs
 
-front-run : (p : ℕ → Bool) (bytes after : List ℕ) → IsRun p bytes after → front p (bytes ++ after) ≡ bytes
+-- the longest run at the front of a text that has one
+pub front-run : (p : ℕ → Bool) (bytes after : List ℕ) → IsRun p bytes after → front p (bytes ++ after) ≡ bytes
 front-run p [] [] h = refl
 front-run p [] (b ∷ after) h = rw h.1 refl
 front-run p (b ∷ bytes) after h = rw h.0.0 (ap (λ (bs : List ℕ). b ∷ bs) (front-run p bytes after (h.0.1, h.1)))
@@ -27,23 +28,20 @@ behind-run p [] [] h = refl
 behind-run p [] (b ∷ after) h = rw h.1 refl
 behind-run p (b ∷ bytes) after h = rw h.0.0 (behind-run p bytes after (h.0.1, h.1))
 
--- a test, with how it went
-went : (x : Bool) → (x ≡ true) ⊎ (x ≡ false)
-went true = inl refl
-went false = inr refl
-
-front-behind : (p : ℕ → Bool) (bytes : List ℕ) → bytes ≡ front p bytes ++ behind p bytes
+-- a text is its longest run and what stands behind it
+pub front-behind : (p : ℕ → Bool) (bytes : List ℕ) → bytes ≡ front p bytes ++ behind p bytes
 front-behind p [] = refl
 front-behind p (b ∷ bytes) =
-    elim (went (p b)) [
+    elim (cases_Bool (p b)) [
       | inl h ↦ rw h (ap (λ (bs : List ℕ). b ∷ bs) (front-behind p bytes))
       | inr h ↦ rw h refl
     ]
 
-run-front : (p : ℕ → Bool) (bytes : List ℕ) → IsRun p (front p bytes) (behind p bytes)
+-- what is found at the front is a longest run
+pub run-front : (p : ℕ → Bool) (bytes : List ℕ) → IsRun p (front p bytes) (behind p bytes)
 run-front p [] = (tt, tt)
 run-front p (b ∷ bytes) =
-    elim (went (p b)) [
+    elim (cases_Bool (p b)) [
       | inl h ↦ rw h (let r = run-front p bytes in ((h, r.0), r.1))
       | inr h ↦ rw h (tt, h)
     ]
@@ -75,12 +73,7 @@ says d b = says-chain d b _ _ _ _ _ _ (λ e. e) (eqb-true b 35) (eqb-true b 40) 
 
 is-word : (c : Class) → is_word_class c ≡ true → c ≡ Word
 is-word Word e = refl
-is-word Blank e = absurd cc
-is-word Hash e = absurd cc
-is-word Open e = absurd cc
-is-word Close e = absurd cc
-is-word Equals e = absurd cc
-is-word Forbidden e = absurd cc
+is-word c e = absurd cc
 
 -- ---- one piece
 

@@ -1,5 +1,6 @@
 -- What it means that a text is cut into blanks, comments and tokens. lex of src/lexer.rt has it as its contract.
-use Rattle.std.specs.Prelude.{◌≡◌, ℕ, ◌+◌, ◌<◌, Bool, true, false, ◌||◌, not, nat_lt, ◌==◌, if◌then◌else◌, List, [], ◌∷◌, ◌++◌, length, slice_range, ◌≤◌, Option, Some, None, Result, Ok, Err}
+use Rattle.std.specs.Prelude.{◌≡◌, ℕ, ◌+◌, ◌<◌, Bool, true, false, ◌||◌, not, nat_lt, ◌==◌, if◌then◌else◌, List, [], ◌∷◌, ◌++◌, length, slice_range, ◌≤◌, Option, Some, None, Result, Ok, Err, Vec}
+use Rattle.std.specs.declared.alloc.Global.{Global}
 use Rattle.std.specs.List.{AllByRecursion}
 use Rattle.snd_lexer.specs.declared.token.Dialect.{Dialect}
 use Rattle.snd_lexer.specs.declared.token.Dialect.TheVariants.{Network, Model}
@@ -35,12 +36,7 @@ class_of d byte =
 -- it is the class of word bytes
 abbrev pub is_word_class : Class → Bool
 is_word_class Word = true
-is_word_class Blank = false
-is_word_class Hash = false
-is_word_class Open = false
-is_word_class Close = false
-is_word_class Equals = false
-is_word_class Forbidden = false
+is_word_class c = false
 
 -- it is a word byte
 abbrev pub is_word : Dialect → ℕ → Bool
@@ -152,12 +148,12 @@ IsAt at OutOfMemory = Unit {0}
 IsAt at (Control place) = place ≡ at
 
 -- the answer is these tokens, or want of memory
-abbrev pub OnlyTokens : Result (List Token) LexFault → List Token → Type 0
-OnlyTokens (Ok found) tokens = found ≡ tokens
+abbrev pub OnlyTokens : Result (Vec Token Global) LexFault → List Token → Type 0
+OnlyTokens (Ok found) tokens = found.items ≡ tokens
 OnlyTokens (Err fault) tokens = IsMemory fault
 
 -- the answer is a fault at this place, or want of memory
-abbrev pub OnlyStop : Result (List Token) LexFault → ℕ → Type 0
+abbrev pub OnlyStop : Result (Vec Token Global) LexFault → ℕ → Type 0
 OnlyStop (Ok found) at = ⊥
 OnlyStop (Err fault) at = IsAt at fault
 

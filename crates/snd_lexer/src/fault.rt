@@ -1,5 +1,8 @@
 //! Why a text cannot be cut.
 
+ghost use Rattle.std.specs.Prelude.{◌≡◌};
+ghost use Rattle.snd_lexer.specs.declared.fault.LexFault.TheVariants.{OutOfMemory};
+
 use std::alloc::AllocFailed;
 
 /// Why a text cannot be cut.
@@ -12,9 +15,6 @@ pub enum LexFault {
 }
 
 impl<T: Drop> From<AllocFailed<T>> for LexFault {
-    ghost use Rattle.std.specs.Prelude.{◌≡◌};
-    ghost use Rattle.snd_lexer.specs.declared.fault.LexFault.TheVariants.{OutOfMemory};
-
     ghost from_gives = { λ _ e. e ≡ OutOfMemory };
 
     fn from(_e: AllocFailed<T>) -> LexFault {

@@ -10,7 +10,7 @@ ghost use Rattle.snd_lexer.specs.Pieces.{front, first_piece, length_and_kind};
 
 use crate::class::{Class, classify};
 use crate::fault::LexFault;
-use crate::token::{Dialect, Token, TokenKind, Tokens};
+use crate::token::{Dialect, Token, TokenKind};
 use std::alloc::Global;
 
 /// The tokens of a text, in order, each with its places in it.
@@ -20,16 +20,16 @@ use std::alloc::Global;
 ///   place of the first such byte; `OutOfMemory` where the tokens find no memory.
 /// - Rule: docs/FORMATS.md, "Tokens of a text".
 /// - Time: linear in the bytes, one pass.
-pub fn lex(alloc: Global, text: &[u8], dialect: Dialect) -> Result<Tokens, LexFault>
+pub fn lex(alloc: Global, text: &[u8], dialect: Dialect) -> Result<Vec<Token>, LexFault>
     requires length { length text.now ≤ MAX_TEXT_BYTES }
     // These are the tokens of the text.
-    ensures cut { IfOk result (λ tokens. Lexes dialect text.now tokens) }
+    ensures cut { IfOk result (λ tokens. Lexes dialect text.now tokens.items) }
     // It has no other tokens, and where it has tokens they are the answer, unless memory runs out.
     ensures cut_only { (tokens : List Token) → Lexes dialect text.now tokens → OnlyTokens result tokens }
     // They are in order, and none is empty.
-    ensures spans { IfOk result (λ tokens. AreSpans 0 (length text.now) tokens) }
+    ensures spans { IfOk result (λ tokens. AreSpans 0 (length text.now) tokens.items) }
     // Each is a slice of the text.
-    ensures within { IfOk result (λ tokens. All (IsWithin (length text.now)) tokens) }
+    ensures within { IfOk result (λ tokens. All (IsWithin (length text.now)) tokens.items) }
     // Before this byte the text is cut, and it may stand in comments only.
     ensures control { IfErr result (λ fault. IsStop dialect text.now fault) }
     // Where there is such a byte, it is the answer, unless memory runs out.
@@ -50,7 +50,7 @@ pub fn lex(alloc: Global, text: &[u8], dialect: Dialect) -> Result<Tokens, LexFa
         }
         at += len;
     }
-    Ok(Tokens::from_vec(tokens))
+    Ok(tokens)
 }
 
 /// The length of the blank, comment or token at the front, and the token's kind.

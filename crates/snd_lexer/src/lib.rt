@@ -17,4 +17,4 @@ pub use fault::LexFault;
 pub use laws::{cut_once, shown_once, shows_bytes};
 pub use lexer::lex;
 pub use limits::MAX_TEXT_BYTES;
-pub use token::{Dialect, Token, TokenKind, Tokens};
+pub use token::{Dialect, Token, TokenKind};

@@ -45,6 +45,6 @@ ended_at text at b =
     let says : network b.ts ≡ stopped_at complaints.Ended (b.bad ∷ b.after) = b.says ∙ ap (λ (c : Complaint). stopped_at {A = Draft} c (b.bad ∷ b.after)) told.0 in
     let is_end : b.bad.is ≡ the_end = ends_network.at_end b.ts b.bad b.after says in
     let e = has-end dialects.Network network_header text b.ts b.tokens in
-    let last : b.bad ≡ e.last = last-end b.first.front e.before b.first.after b.bad e.last is_end e.no_end (sym b.first.whole ∙ e.whole) in
+    let last : b.bad ≡ e.last = last-end b.first.front e.front b.first.after b.bad e.last is_end e.before (sym b.first.whole ∙ e.whole) in
     let place : b.bad.at ≡ length text - length b.tokens.rest + length b.tokens.rest = ap (λ (t : Placed). t.at) last ∙ end_place dialects.Network network_header text b.ts b.tokens in
     omega (arith, told.1, place, rest_within network_header text b.tokens.rest b.tokens.header)

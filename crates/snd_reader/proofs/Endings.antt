@@ -5,7 +5,7 @@ use Rattle.scaled_numbers.specs.declared.fault.NumberFault.{NumberFault}
 use Rattle.scaled_numbers.specs.Scanning.{decimal_of}
 use Rattle.snd_reader.specs.declared.fault.Complaint.{Complaint}
 use Rattle.snd_reader.specs.declared.fault.Complaint.TheVariants.{Ended}
-use Rattle.snd_reader.specs.Readers.{Lexeme, word, open_bracket, close_bracket, equals_sign, the_end, Placed, Stopped, Reader, ◌>>=◌, done, bind, judged, token, turn, turns, items}
+use Rattle.snd_reader.specs.Readers.{Lexeme, word, the_end, Placed, Stopped, Reader, ◌>>=◌, done, bind, judged, token, turn, turns, items}
 use Rattle.snd_reader.specs.Tests.{open_test, close_test, equals_test, numbered, number_test}
 use Rattle.snd_reader.proofs.Lawful.{stopped_at, err-parts, apart}
 
@@ -79,19 +79,13 @@ module _ {S H : Type 0} (head : S → Placed → Result (Option H) Complaint) (b
 
 -- where an opening bracket is wanted, only the end of the text is told as ended too soon
 pub open-end : (l : Lexeme) → open_test l ≡ Err Ended → l ≡ the_end
-open-end (word bytes) e = absurd cc
-open-end open_bracket e = absurd cc
-open-end close_bracket e = absurd cc
-open-end equals_sign e = absurd cc
 open-end the_end e = refl
+open-end l e = absurd cc
 
 -- where a closing bracket is wanted, only the end of the text is told as ended too soon
 pub close-end : (l : Lexeme) → close_test l ≡ Err Ended → l ≡ the_end
-close-end (word bytes) e = absurd cc
-close-end open_bracket e = absurd cc
-close-end close_bracket e = absurd cc
-close-end equals_sign e = absurd cc
 close-end the_end e = refl
+close-end l e = absurd cc
 
 -- what is wrong with the number that a word spells is never that the text ends
 pub numbered-end : (o : Result ℕ NumberFault) → numbered o ≡ Err Ended → ⊥
@@ -101,15 +95,10 @@ numbered-end (Err f) e = cc
 -- where a number is wanted, only the end of the text is told as ended too soon
 pub number-end : (scale : ℕ) (l : Lexeme) → number_test scale l ≡ Err Ended → l ≡ the_end
 number-end scale (word bytes) e = absurd (numbered-end (decimal_of bytes scale) e)
-number-end scale open_bracket e = absurd cc
-number-end scale close_bracket e = absurd cc
-number-end scale equals_sign e = absurd cc
 number-end scale the_end e = refl
+number-end scale l e = absurd cc
 
 -- where an equals sign is wanted, only the end of the text is told as ended too soon
 pub equals-end : (l : Lexeme) → equals_test l ≡ Err Ended → l ≡ the_end
-equals-end (word bytes) e = absurd cc
-equals-end open_bracket e = absurd cc
-equals-end close_bracket e = absurd cc
-equals-end equals_sign e = absurd cc
 equals-end the_end e = refl
+equals-end l e = absurd cc

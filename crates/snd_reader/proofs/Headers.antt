@@ -1,36 +1,12 @@
 -- What stands behind the first line of a text.
-use Rattle.std.proofs.Common.{◌≡◌, ℕ, ◌≤◌, Bool, true, false, List, [], ◌∷◌, ◌++◌, length, drop, refl, sym, ap, ◌∙◌, ◌⊎◌, inl, inr, arith}
+use Rattle.std.proofs.Common.{◌≡◌, ℕ, ◌≤◌, true, false, List, [], ◌∷◌, ◌++◌, length, drop, refl, sym, ap, ◌∙◌, arith}
 use Rattle.std.specs.List.{AllByRecursion}
 use Rattle.std.proofs.lemmas.List.{drop_at, length-append}
 use Rattle.std.proofs.lemmas.Bool.{eqb-true}
 use Rattle.snd_lexer.specs.Pieces.{front, behind}
 use Rattle.snd_lexer.specs.Cutting.{EndsRun}
+use Rattle.snd_lexer.proofs.Cuts.{front-run, front-behind, run-front}
 use Rattle.snd_reader.specs.Header.{is_line_blank, ends_line, HasHeader}
-
-went : (x : Bool) → (x ≡ true) ⊎ (x ≡ false)
-went true = inl refl
-went false = inr refl
-
-front-behind : (p : ℕ → Bool) (bytes : List ℕ) → bytes ≡ front p bytes ++ behind p bytes
-front-behind p [] = refl
-front-behind p (b ∷ bytes) =
-    elim (went (p b)) [
-      | inl h ↦ rw h (ap (λ (bs : List ℕ). b ∷ bs) (front-behind p bytes))
-      | inr h ↦ rw h refl
-    ]
-
-all-front : (p : ℕ → Bool) (bytes : List ℕ) → AllByRecursion (λ b. p b ≡ true) (front p bytes)
-all-front p [] = tt
-all-front p (b ∷ bytes) =
-    elim (went (p b)) [
-      | inl h ↦ rw h (h, all-front p bytes)
-      | inr h ↦ rw h tt
-    ]
-
-front-run : (p : ℕ → Bool) (bytes after : List ℕ) → AllByRecursion (λ b. p b ≡ true) bytes → EndsRun p after → front p (bytes ++ after) ≡ bytes
-front-run p [] [] h k = refl
-front-run p [] (b ∷ after) h k = rw k refl
-front-run p (b ∷ bytes) after h k = rw h.0 (ap (λ (bs : List ℕ). b ∷ bs) (front-run p bytes after h.1 k))
 
 no-blank : (byte : ℕ) → byte ≡ 10 → is_line_blank byte ≡ false
 no-blank byte e = rw e refl
@@ -40,7 +16,7 @@ ends-run [] k = tt
 ends-run (b ∷ after) k = no-blank b (eqb-true b 10 k)
 
 front-all : (bytes after : List ℕ) → AllByRecursion (λ b. is_line_blank b ≡ true) bytes → ends_line after ≡ true → front is_line_blank (bytes ++ after) ≡ bytes
-front-all bytes after h k = front-run is_line_blank bytes after h (ends-run after k)
+front-all bytes after h k = front-run is_line_blank bytes after (h, ends-run after k)
 
 -- the line behind the header, without its blanks
 abbrev pub past : List ℕ → List ℕ
@@ -55,7 +31,7 @@ pub has_header : (header text line : List ℕ) → text ≡ header ++ line → e
 has_header header text line e k = record {
   blanks = front is_line_blank line;
   whole = e ∙ ap (λ (bs : List ℕ). header ++ bs) (past-is line);
-  are_blank = all-front is_line_blank line;
+  are_blank = (run-front is_line_blank line).0;
   line_ends = k;
 }
 

@@ -10,10 +10,10 @@ use Rattle.snd_lexer.specs.Cutting.{token_bytes}
 use Rattle.snd_reader.specs.declared.fault.Complaint.{Complaint}
 use Rattle.snd_reader.specs.declared.fault.Complaint.TheVariants as complaints
 use Rattle.snd_reader.specs.declared.fault.TextFault.{TextFault}
-use Rattle.snd_reader.specs.declared.fault.TextFault.TheVariants.{Header, Unexpected, Number, Twice, Unknown, Ended, LongId, Control, OutOfMemory}
+use Rattle.snd_reader.specs.declared.fault.TextFault.TheVariants.{Header, Unknown, Control, OutOfMemory}
 use Rattle.snd_reader.specs.Readers.{the_end, Placed, Reader, first_of}
 use Rattle.snd_reader.specs.Faults.{Blames, Fails, fault_at}
-use Rattle.snd_reader.specs.Tokens.{lexeme_of, place, placed}
+use Rattle.snd_reader.specs.Tokens.{lexeme_of, place}
 use Rattle.snd_reader.specs.Texts.{HasTokens, HasBad, IsFaultOf, IsCutFault}
 use Rattle.snd_reader.proofs.Lawful.{Lawful, apart, first_bad}
 use Rattle.snd_reader.proofs.Live.{IsMore, HasNoEnd, EndsLast, aligned, end_last_once}
@@ -28,14 +28,6 @@ placed-no-end : (base : ℕ) (text : List ℕ) (tokens : List Token) → HasNoEn
 placed-no-end base text [] = tt
 placed-no-end base text (t ∷ ts) = (token-more t.kind (token_bytes text t), placed-no-end base text ts)
 
--- the tokens of a text, and its end
-pub record HasEnd (ts : List Placed) : Type 0 where
-  pub before : List Placed
-  pub last : Placed
-  pub is_end : last.is ≡ the_end
-  pub no_end : HasNoEnd before
-  pub whole : ts ≡ before ++ last ∷ []
-
 kind-apart : (at : ℕ) (c : Complaint) → (Header ≡ fault_at at c → ⊥) × ((n : ℕ) → Control n ≡ fault_at at c → ⊥) × ((n : ℕ) → Unknown n ≡ fault_at at c → ⊥)
 kind-apart at (complaints.Unexpected w) = ((λ e. cc), (λ n e. cc), (λ n e. cc))
 kind-apart at (complaints.Number f) = ((λ e. cc), (λ n e. cc), (λ n e. cc))
@@ -45,14 +37,14 @@ kind-apart at complaints.Ended = ((λ e. cc), (λ n e. cc), (λ n e. cc))
 
 module _ (d : Dialect) (line : List ℕ) where
   -- the end of a text's tokens stands at the length of the text
-  pub has-end : (text : List ℕ) (ts : List Placed) → HasTokens d line text ts → HasEnd ts
+  pub has-end : (text : List ℕ) (ts : List Placed) → HasTokens d line text ts → EndsLast ts
   has-end text ts h =
       let base = length text - length h.rest in
       record {
-        before = map (place base h.rest) h.tokens;
+        front = map (place base h.rest) h.tokens;
         last = record { at = base + length h.rest; is = the_end };
         is_end = refl;
-        no_end = placed-no-end base h.rest h.tokens;
+        before = placed-no-end base h.rest h.tokens;
         whole = h.these;
       }
 
@@ -67,12 +59,7 @@ module _ (d : Dialect) (line : List ℕ) where
     cut_fault text OutOfMemory k = tt
     cut_fault text (Control at) k = k
     cut_fault text Header k = k
-    cut_fault text (Unknown at) k = absurd k
-    cut_fault text (Unexpected at w) k = absurd k
-    cut_fault text (Number at g) k = absurd k
-    cut_fault text (Twice at) k = absurd k
-    cut_fault text (Ended at) k = absurd k
-    cut_fault text (LongId at) k = absurd k
+    cut_fault text f k = absurd k
 
   module _ {A : Type 0} (F : List Placed → A → Type 0) (r : Reader A) (law : Lawful F r) (ends : (l : List Placed) (x : A) → F l x → EndsLast l) where
     -- what is read of a text reaches its end
@@ -81,9 +68,9 @@ module _ (d : Dialect) (line : List ℕ) where
         let k = law.takes ts x rest e in
         let last = has-end text ts h in
         let l = ends k.front x k.form in
-        let same : l.front ++ (l.last ∷ rest) ≡ last.before ++ last.last ∷ [] =
+        let same : l.front ++ (l.last ∷ rest) ≡ last.front ++ last.last ∷ [] =
         sym (append_assoc l.front (l.last ∷ []) rest) ∙ ap (λ (us : List Placed). us ++ rest) (sym l.whole) ∙ sym k.whole ∙ last.whole in
-        let none : rest ≡ [] = aligned l.front last.before rest l.last last.last l.is_end last.no_end same in
+        let none : rest ≡ [] = aligned l.front last.front rest l.last last.last l.is_end last.before same in
         let whole : ts ≡ k.front = k.whole ∙ ap (λ (us : List Placed). k.front ++ us) none ∙ append-nil k.front in
         subst (λ (us : List Placed). F us x) (sym whole) k.form
 
@@ -104,7 +91,7 @@ module _ (d : Dialect) (line : List ℕ) where
         by : (rest : List Placed) → r ts ≡ Err (b.complaint, rest) → f ≡ fault_at (first_of rest).at b.complaint → HasBad d line F r text f
         by [] e i =
             let k = has-end text ts h in
-            absurd (stops_at_token k.before k.last b.complaint k.is_end (ap r (sym k.whole) ∙ e))
+            absurd (stops_at_token k.front k.last b.complaint k.is_end (ap r (sym k.whole) ∙ e))
         by (t ∷ after) e i = record { ts = ts; tokens = h; bad = t; after = after; first = first_bad F r law ts b.complaint t after e; complaint = b.complaint; says = e; is = i }
 
     -- what stops the reading is a fault of the text
@@ -113,8 +100,4 @@ module _ (d : Dialect) (line : List ℕ) where
     bad_fault U text ts Header h b = absurd ((kind-apart (first_of b.rest).at b.complaint).0 b.is)
     bad_fault U text ts (Control at) h b = absurd ((kind-apart (first_of b.rest).at b.complaint).1 at b.is)
     bad_fault U text ts (Unknown at) h b = absurd ((kind-apart (first_of b.rest).at b.complaint).2 at b.is)
-    bad_fault U text ts (Unexpected at w) h b = has_bad text ts (Unexpected at w) h b
-    bad_fault U text ts (Number at g) h b = has_bad text ts (Number at g) h b
-    bad_fault U text ts (Twice at) h b = has_bad text ts (Twice at) h b
-    bad_fault U text ts (Ended at) h b = has_bad text ts (Ended at) h b
-    bad_fault U text ts (LongId at) h b = has_bad text ts (LongId at) h b
+    bad_fault U text ts f h b = has_bad text ts f h b

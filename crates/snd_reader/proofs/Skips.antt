@@ -1,9 +1,9 @@
 -- Skipping tokens with balanced brackets is lawful.
-use Rattle.std.proofs.Common.{◌≡◌, ℕ, zero, suc, List, [], ◌∷◌, ◌++◌, refl, sym, ap, subst}
+use Rattle.std.proofs.Common.{◌≡◌, ◌↔◌, ℕ, zero, suc, List, [], ◌∷◌, ◌++◌, refl, sym, ap, subst}
 use Rattle.std.specs.Prelude.{Result, Ok, Err}
 use Rattle.snd_reader.specs.declared.fault.Complaint.{Complaint}
 use Rattle.snd_reader.specs.declared.fault.Complaint.TheVariants.{Ended}
-use Rattle.snd_reader.specs.Readers.{Lexeme, word, open_bracket, close_bracket, equals_sign, the_end, Placed, Stopped}
+use Rattle.snd_reader.specs.Readers.{Lexeme, open_bracket, close_bracket, the_end, Placed, Stopped}
 use Rattle.snd_reader.specs.Forms.{Begins}
 use Rattle.snd_reader.proofs.Lawful.{Lawful, Taken, Stops, Local, read_as, stopped_at, ok-parts, err-parts, apart}
 use Rattle.snd_reader.proofs.Endings.{EndsAtEnd, not-there, here}
@@ -22,27 +22,13 @@ By ts Closed = ts ≡ []
 By ts (Deep d) = IsBalanced d ts
 By ts Over = ⊥
 
-by-depth : (depth : ℕ) (t : Placed) (ts : List Placed) → IsBalanced depth (t ∷ ts) → By ts (depth_at depth t.is)
-by-depth depth t ts h = by depth t.is h
+by-depth : (depth : ℕ) (t : Placed) (ts : List Placed) → IsBalanced depth (t ∷ ts) ↔ By ts (depth_at depth t.is)
+by-depth depth t ts = by depth t.is
   where
-    by : (depth : ℕ) (l : Lexeme) → IsBalanced depth (record { at = t.at; is = l } ∷ ts) → By ts (depth_at depth l)
-    by depth (word bytes) h = h
-    by depth open_bracket h = h
-    by zero close_bracket h = h
-    by (suc depth) close_bracket h = h
-    by depth equals_sign h = h
-    by depth the_end h = h
-
-from-depth : (depth : ℕ) (t : Placed) (ts : List Placed) → By ts (depth_at depth t.is) → IsBalanced depth (t ∷ ts)
-from-depth depth t ts h = from depth t.is h
-  where
-    from : (depth : ℕ) (l : Lexeme) → By ts (depth_at depth l) → IsBalanced depth (record { at = t.at; is = l } ∷ ts)
-    from depth (word bytes) h = h
-    from depth open_bracket h = h
-    from zero close_bracket h = h
-    from (suc depth) close_bracket h = h
-    from depth equals_sign h = h
-    from depth the_end h = h
+    by : (depth : ℕ) (l : Lexeme) → IsBalanced depth (record { at = t.at; is = l } ∷ ts) ↔ By ts (depth_at depth l)
+    by zero close_bracket = (λ h. h, λ h. h)
+    by (suc depth) close_bracket = (λ h. h, λ h. h)
+    by depth l = (λ h. h, λ h. h)
 
 closer : Placed
 closer = record { at = 0; is = close_bracket }
@@ -61,10 +47,10 @@ takes-by : (depth : ℕ) (t : Placed) (ts : List Placed) (x : Unit {0}) (rest : 
     → depth_at depth t.is ≡ u → skip_by (λ d. skip d ts) t ts u ≡ read_as x rest → Taken (Balanced depth) (t ∷ ts) x rest
 takes-by depth t ts x rest Closed later e r =
     let p = ok-parts tt x ts rest r in
-    record { front = t ∷ []; whole = ap (λ (us : List Placed). t ∷ us) p.1; form = from-depth depth t [] (subst (λ (u : Depth). By [] u) (sym e) refl) }
+    record { front = t ∷ []; whole = ap (λ (us : List Placed). t ∷ us) p.1; form = (by-depth depth t []).1 (subst (λ (u : Depth). By [] u) (sym e) refl) }
 takes-by depth t ts x rest (Deep d) later e r =
     let k = later d r in
-    record { front = t ∷ k.front; whole = ap (λ (us : List Placed). t ∷ us) k.whole; form = from-depth depth t k.front (subst (λ (u : Depth). By k.front u) (sym e) k.form) }
+    record { front = t ∷ k.front; whole = ap (λ (us : List Placed). t ∷ us) k.whole; form = (by-depth depth t k.front).1 (subst (λ (u : Depth). By k.front u) (sym e) k.form) }
 takes-by depth t ts x rest Over later e r = absurd cc
 
 takes : (ts : List Placed) (depth : ℕ) (x : Unit {0}) (rest : List Placed) → skip depth ts ≡ read_as x rest → Taken (Balanced depth) ts x rest
@@ -80,7 +66,7 @@ again-by depth t front rest Over later e h = absurd h
 
 again : (front : List Placed) (depth : ℕ) (rest : List Placed) → IsBalanced depth front → skip depth (front ++ rest) ≡ read_as tt rest
 again [] depth rest h = absurd h
-again (t ∷ front) depth rest h = again-by depth t front rest (depth_at depth t.is) (λ d k. again front d rest k) refl (by-depth depth t front h)
+again (t ∷ front) depth rest h = again-by depth t front rest (depth_at depth t.is) (λ d k. again front d rest k) refl ((by-depth depth t front).0 h)
 
 local-by : (depth : ℕ) (t : Placed) (front : List Placed) (d : ℕ) (c : Complaint) (rest : List Placed) → depth_at depth t.is ≡ Deep d → Local (skip d) front c rest → Local (skip depth) (t ∷ front) c rest
 local-by depth t front d c [] e alone = turn-ok depth t front (Deep d) (Err (c, [])) e alone
@@ -91,7 +77,7 @@ stops-by : (depth : ℕ) (t : Placed) (ts : List Placed) (c : Complaint) (rest :
 stops-by depth t ts c rest Closed later e r = absurd cc
 stops-by depth t ts c rest (Deep d) later e r =
     let k = later d r in
-    let more : IsBalanced depth (t ∷ (k.front ++ k.begun.0)) = from-depth depth t (k.front ++ k.begun.0) (subst (λ (u : Depth). By (k.front ++ k.begun.0) u) (sym e) k.begun.2) in
+    let more : IsBalanced depth (t ∷ (k.front ++ k.begun.0)) = (by-depth depth t (k.front ++ k.begun.0)).1 (subst (λ (u : Depth). By (k.front ++ k.begun.0) u) (sym e) k.begun.2) in
     record { front = t ∷ k.front; whole = ap (λ (us : List Placed). t ∷ us) k.whole; begun = (k.begun.0, tt, more); alone = local-by depth t k.front d c rest e k.alone }
 stops-by depth t ts c rest Over later e r =
     let p = err-parts (Unit {0}) Ended c (t ∷ ts) rest r in
@@ -119,20 +105,17 @@ balanced-no-end [] depth h = tt
 balanced-no-end (t ∷ ts) depth h = by depth t.is (λ d k. balanced-no-end ts d k) h
   where
     by : (depth : ℕ) (l : Lexeme) → ((d : ℕ) → IsBalanced d ts → HasNoEnd ts) → IsBalanced depth (record { at = t.at; is = l } ∷ ts) → IsMore l × HasNoEnd ts
-    by depth (word bytes) later h = (tt, later depth h)
     by depth open_bracket later h = (tt, later (suc depth) h)
     by zero close_bracket later h = (tt, subst HasNoEnd (sym h) tt)
-    by (suc depth) close_bracket later h = (tt, later depth h)
-    by depth equals_sign later h = (tt, later depth h)
     by depth the_end later h = absurd h
+    by (suc depth) close_bracket later h = (tt, later depth h)
+    by depth l later h = (tt, later depth h)
 
 over-end : (depth : ℕ) (l : Lexeme) → depth_at depth l ≡ Over → l ≡ the_end
-over-end depth (word bytes) e = absurd cc
-over-end depth open_bracket e = absurd cc
+over-end depth the_end e = refl
 over-end zero close_bracket e = absurd cc
 over-end (suc depth) close_bracket e = absurd cc
-over-end depth equals_sign e = absurd cc
-over-end depth the_end e = refl
+over-end depth l e = absurd cc
 
 skip-end : (ts : List Placed) (depth : ℕ) (t : Placed) (rest : List Placed) → skip depth ts ≡ stopped_at Ended (t ∷ rest) → t.is ≡ the_end
 unfolding skip

@@ -3,7 +3,7 @@ use Rattle.std.specs.Prelude.{◌≡◌, ℕ, List, Result, Ok, Err}
 use Rattle.snd_reader.specs.declared.fault.Complaint.{Complaint}
 use Rattle.snd_reader.specs.declared.fault.Complaint.TheVariants as complaints
 use Rattle.snd_reader.specs.declared.fault.TextFault.{TextFault}
-use Rattle.snd_reader.specs.declared.fault.TextFault.TheVariants.{Header, Unexpected, Number, Twice, Unknown, Ended, LongId, Control, OutOfMemory}
+use Rattle.snd_reader.specs.declared.fault.TextFault.TheVariants.{Unexpected, Number, Twice, Ended, LongId, OutOfMemory}
 use Rattle.snd_reader.specs.Readers.{Placed, Stopped, first_of}
 
 -- the fault of a text in which this is wrong with the token at a place
@@ -24,14 +24,7 @@ pub record Blames {Y : Type 0} (f : TextFault) (read : Result Y Stopped) : Type 
 -- reading stops so, where memory did not run out
 abbrev pub Fails : {Y : Type 0} → TextFault → Result Y Stopped → Type 0
 Fails OutOfMemory read = Unit {0}
-Fails Header read = Blames Header read
-Fails (Control at) read = Blames (Control at) read
-Fails (Unknown at) read = Blames (Unknown at) read
-Fails (Unexpected at w) read = Blames (Unexpected at w) read
-Fails (Number at f) read = Blames (Number at f) read
-Fails (Twice at) read = Blames (Twice at) read
-Fails (Ended at) read = Blames (Ended at) read
-Fails (LongId at) read = Blames (LongId at) read
+Fails f read = Blames f read
 
 -- the answer is what is read, or why reading stops
 abbrev pub Gives : {X Y : Type 0} → (X → Y) → Result X TextFault → Result Y Stopped → Type 0

@@ -10,35 +10,23 @@ use Rattle.snd_reader.specs.Readers.{Lexeme, word, open_bracket, close_bracket, 
 
 -- a token that cannot stand where something else is wanted; the end of the text is told as such
 abbrev pub refused : Wanted → Lexeme → Complaint
-refused w (word bytes) = Unexpected w
-refused w open_bracket = Unexpected w
-refused w close_bracket = Unexpected w
-refused w equals_sign = Unexpected w
 refused w the_end = Ended
+refused w l = Unexpected w
 
 -- an opening bracket
 abbrev pub open_test : Lexeme → Result (Unit {0}) Complaint
-open_test (word bytes) = Err (Unexpected wants.Open)
 open_test open_bracket = Ok tt
-open_test close_bracket = Err (Unexpected wants.Open)
-open_test equals_sign = Err (Unexpected wants.Open)
-open_test the_end = Err Ended
+open_test l = Err (refused wants.Open l)
 
 -- a closing bracket
 abbrev pub close_test : Lexeme → Result (Unit {0}) Complaint
-close_test (word bytes) = Err (Unexpected wants.Close)
-close_test open_bracket = Err (Unexpected wants.Close)
 close_test close_bracket = Ok tt
-close_test equals_sign = Err (Unexpected wants.Close)
-close_test the_end = Err Ended
+close_test l = Err (refused wants.Close l)
 
 -- an equals sign
 abbrev pub equals_test : Lexeme → Result (Unit {0}) Complaint
-equals_test (word bytes) = Err (Unexpected wants.Equals)
-equals_test open_bracket = Err (Unexpected wants.Equals)
-equals_test close_bracket = Err (Unexpected wants.Equals)
 equals_test equals_sign = Ok tt
-equals_test the_end = Err Ended
+equals_test l = Err (refused wants.Equals l)
 
 -- a number that was read, or what is wrong with it
 abbrev pub numbered : Result ℕ NumberFault → Result ℕ Complaint
@@ -48,7 +36,4 @@ numbered (Err f) = Err (Number f)
 -- a word that spells a number which is whole at the scale and below 10^12
 abbrev pub number_test : ℕ → Lexeme → Result ℕ Complaint
 number_test scale (word bytes) = numbered (decimal_of bytes scale)
-number_test scale open_bracket = Err (Unexpected wants.Number)
-number_test scale close_bracket = Err (Unexpected wants.Number)
-number_test scale equals_sign = Err (Unexpected wants.Number)
-number_test scale the_end = Err Ended
+number_test scale l = Err (refused wants.Number l)

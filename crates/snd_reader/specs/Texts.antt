@@ -5,7 +5,7 @@ use Rattle.snd_lexer.specs.declared.token.Token.{Token}
 use Rattle.snd_lexer.specs.Cutting.{Lexes, StopsAt}
 use Rattle.snd_reader.specs.declared.fault.Complaint.{Complaint}
 use Rattle.snd_reader.specs.declared.fault.TextFault.{TextFault}
-use Rattle.snd_reader.specs.declared.fault.TextFault.TheVariants.{Header, Unexpected, Number, Twice, Unknown, Ended, LongId, Control, OutOfMemory}
+use Rattle.snd_reader.specs.declared.fault.TextFault.TheVariants.{Header, Unknown, Control, OutOfMemory}
 use Rattle.snd_reader.specs.Readers.{Placed, Reader}
 use Rattle.snd_reader.specs.Forms.{IsFirstBad}
 use Rattle.snd_reader.specs.Faults.{fault_at}
@@ -51,23 +51,14 @@ IsFaultOf d line F read HasUnknown text Header = HasNoHeader line text
 IsFaultOf d line F read HasUnknown text (Control at) = HasControl d line text at
 IsFaultOf d line F read HasUnknown text (Unknown at) = HasUnknown text at
 IsFaultOf d line F read HasUnknown text OutOfMemory = Unit {0}
-IsFaultOf d line F read HasUnknown text (Unexpected at w) = HasBad d line F read text (Unexpected at w)
-IsFaultOf d line F read HasUnknown text (Number at f) = HasBad d line F read text (Number at f)
-IsFaultOf d line F read HasUnknown text (Twice at) = HasBad d line F read text (Twice at)
-IsFaultOf d line F read HasUnknown text (Ended at) = HasBad d line F read text (Ended at)
-IsFaultOf d line F read HasUnknown text (LongId at) = HasBad d line F read text (LongId at)
+IsFaultOf d line F read HasUnknown text f = HasBad d line F read text f
 
 -- the text has no tokens: its first line is not this one, or it cannot be cut, or memory runs out
 abbrev pub IsCutFault : Dialect → List ℕ → List ℕ → TextFault → Type 0
 IsCutFault d line text Header = HasNoHeader line text
 IsCutFault d line text (Control at) = HasControl d line text at
 IsCutFault d line text OutOfMemory = Unit {0}
-IsCutFault d line text (Unknown at) = ⊥
-IsCutFault d line text (Unexpected at w) = ⊥
-IsCutFault d line text (Number at f) = ⊥
-IsCutFault d line text (Twice at) = ⊥
-IsCutFault d line text (Ended at) = ⊥
-IsCutFault d line text (LongId at) = ⊥
+IsCutFault d line text f = ⊥
 
 -- ---- answers
 

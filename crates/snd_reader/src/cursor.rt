@@ -1,10 +1,5 @@
 //! Reading tokens one after the other.
 
-ghost use Rattle.std.specs.Prelude.{◌≡◌, ◌≤◌, ◌+◌, length};
-ghost use Rattle.std.specs.List.{All};
-ghost use Rattle.snd_lexer.specs.declared.limits.TheConstants.{MAX_TEXT_BYTES};
-ghost use Rattle.snd_lexer.specs.Cutting.{IsWithin};
-
 use crate::fault::{Complaint, TextFault};
 use crate::lexeme::Lexeme;
 use snd_lexer::{Token, TokenKind};
@@ -20,35 +15,28 @@ pub struct Cursor<'a> {
 }
 
 impl<'a> Model for Cursor<'a> {
-    ghost use Rattle.std.specs.Prelude.{List, [], cond, ◌≤◌, ◌+◌, length};
-    ghost use Rattle.std.specs.List.{All};
-    ghost use Rattle.snd_lexer.specs.declared.limits.TheConstants.{MAX_TEXT_BYTES};
-    ghost use Rattle.snd_lexer.specs.Cutting.{IsWithin};
+    ghost use Rattle.std.specs.Prelude.{List, [], cond};
     ghost use Rattle.snd_reader.specs.Readers.{Placed};
-    ghost use Rattle.snd_reader.specs.Tokens.{placed};
+    ghost use Rattle.snd_reader.specs.Tokens.{AreTokens, placed};
 
     ghost Value = { List Placed };
 
     ghost view = { λ c. cond c.is_over [] (placed c.base c.text.now c.tokens.now) };
 
-    ghost invariant = { λ c. (c.base + length c.text.now ≤ MAX_TEXT_BYTES) × All (IsWithin (length c.text.now)) c.tokens.now };
+    ghost invariant = { λ c. AreTokens c.base c.text.now c.tokens.now };
 }
 
 impl<'a> Cursor<'a> {
-    ghost use Rattle.std.specs.Prelude.{◌≡◌, ◌≤◌, ◌+◌, length, OnErr};
-    ghost use Rattle.std.specs.List.{All};
-    ghost use Rattle.snd_lexer.specs.declared.limits.TheConstants.{MAX_TEXT_BYTES};
-    ghost use Rattle.snd_lexer.specs.Cutting.{IsWithin};
+    ghost use Rattle.std.specs.Prelude.{◌≡◌, ◌≤◌, length, OnErr};
     ghost use Rattle.snd_reader.specs.Readers.{first_of, rest_of, judge, token};
     ghost use Rattle.snd_reader.specs.Tests.{open_test, close_test, equals_test, number_test};
-    ghost use Rattle.snd_reader.specs.Tokens.{placed};
+    ghost use Rattle.snd_reader.specs.Tokens.{AreTokens, placed};
     ghost use Rattle.snd_reader.specs.Faults.{Gives};
     ghost use Rattle.snd_reader.specs.Seen.{seen, IsShort};
 
     /// The tokens of a text that begins at the place `base` of the whole text.
     pub fn new(text: &'a [u8], tokens: &'a [Token], base: u32) -> Self
-        requires short { base + length text.now ≤ MAX_TEXT_BYTES }
-        requires within { All (IsWithin (length text.now)) tokens.now }
+        requires { AreTokens base text.now tokens.now }
         ensures { result ≡ placed base text.now tokens.now }
     {
         Cursor {

@@ -1,6 +1,7 @@
 //! Why a text is not read.
 
 ghost use Rattle.std.specs.Prelude.{◌≡◌};
+ghost use Rattle.snd_reader.specs.declared.fault.TextFault.TheVariants.{OutOfMemory};
 ghost use Rattle.snd_reader.specs.Faults.{fault_at};
 
 use scaled_numbers::NumberFault;
@@ -45,9 +46,6 @@ pub enum TextFault {
 }
 
 impl<T: Drop> From<AllocFailed<T>> for TextFault {
-    ghost use Rattle.std.specs.Prelude.{◌≡◌};
-    ghost use Rattle.snd_reader.specs.declared.fault.TextFault.TheVariants.{OutOfMemory};
-
     ghost from_gives = { λ _ e. e ≡ OutOfMemory };
 
     fn from(_e: AllocFailed<T>) -> TextFault {
@@ -56,9 +54,6 @@ impl<T: Drop> From<AllocFailed<T>> for TextFault {
 }
 
 impl From<AllocError> for TextFault {
-    ghost use Rattle.std.specs.Prelude.{◌≡◌};
-    ghost use Rattle.snd_reader.specs.declared.fault.TextFault.TheVariants.{OutOfMemory};
-
     ghost from_gives = { λ _ e. e ≡ OutOfMemory };
 
     fn from(_e: AllocError) -> TextFault {

@@ -7,7 +7,7 @@ ghost use Rattle.snd_reader.specs.Texts.{HasTokens, IsCutFault};
 use crate::cursor::Cursor;
 use crate::fault::TextFault;
 use crate::header::behind_header;
-use snd_lexer::{Dialect, LexFault, Tokens, lex};
+use snd_lexer::{Dialect, LexFault, Token, lex};
 use std::alloc::Global;
 use std::marker::Model;
 
@@ -15,23 +15,20 @@ use std::marker::Model;
 #[derive(Drop)]
 pub struct TokenText<'a> {
     rest: &'a [u8],
-    tokens: Tokens,
+    tokens: Vec<Token>,
     base: u32,
 }
 
 impl<'a> Model for TokenText<'a> {
-    ghost use Rattle.std.specs.Prelude.{List, ◌≤◌, ◌+◌, length};
-    ghost use Rattle.std.specs.List.{All};
-    ghost use Rattle.snd_lexer.specs.declared.limits.TheConstants.{MAX_TEXT_BYTES};
-    ghost use Rattle.snd_lexer.specs.Cutting.{IsWithin};
+    ghost use Rattle.std.specs.Prelude.{List};
     ghost use Rattle.snd_reader.specs.Readers.{Placed};
-    ghost use Rattle.snd_reader.specs.Tokens.{placed};
+    ghost use Rattle.snd_reader.specs.Tokens.{AreTokens, placed};
 
     ghost Value = { List Placed };
 
-    ghost view = { λ t. placed t.base t.rest.now t.tokens };
+    ghost view = { λ t. placed t.base t.rest.now t.tokens.items };
 
-    ghost invariant = { λ t. (t.base + length t.rest.now ≤ MAX_TEXT_BYTES) × All (IsWithin (length t.rest.now)) t.tokens };
+    ghost invariant = { λ t. AreTokens t.base t.rest.now t.tokens.items };
 }
 
 impl<'a> TokenText<'a> {

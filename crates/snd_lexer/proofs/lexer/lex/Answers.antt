@@ -1,4 +1,4 @@
-use Rattle.std.proofs.Common.{◌+◌, length, ◌++◌, ap, subst, ◌∙◌, arith}
+use Rattle.std.proofs.Common.{◌+◌, length, ◌++◌, ap, subst, arith}
 use Rattle.std.specs.Prelude.{Option}
 use Rattle.std.proofs.lemmas.List.{append-nil, take_rest, length-drop}
 use Rattle.snd_lexer.specs.declared.token.TokenKind.{TokenKind}
@@ -30,16 +30,16 @@ loop-at-preserved c =
     }
 
 pub returns-clause-cut : goal.returns-clause-cut
-returns-clause-cut c = rw c.from_vec.ensures (lexed _ _ _ _ c.loop-at.invariant.cut c.loop-at-test.false)
+returns-clause-cut c = lexed _ _ _ _ c.loop-at.invariant.cut c.loop-at-test.false
 
 pub returns-clause-cut_only : goal.returns-clause-cut_only
-returns-clause-cut_only c = λ tokens l. c.from_vec.ensures ∙ only_tokens _ _ _ _ (lexed _ _ _ _ c.loop-at.invariant.cut c.loop-at-test.false) l
+returns-clause-cut_only c = λ tokens l. only_tokens _ _ _ _ (lexed _ _ _ _ c.loop-at.invariant.cut c.loop-at-test.false) l
 
 pub returns-clause-control_only : goal.returns-clause-control_only
 returns-clause-control_only c = λ at s. not_both _ _ _ _ (lexed _ _ _ _ c.loop-at.invariant.cut c.loop-at-test.false) s
 
 pub returns-clause-spans : goal.returns-clause-spans
-returns-clause-spans c = rw c.from_vec.ensures (spans _ _ _ (lexed _ _ _ _ c.loop-at.invariant.cut c.loop-at-test.false))
+returns-clause-spans c = spans _ _ _ (lexed _ _ _ _ c.loop-at.invariant.cut c.loop-at-test.false)
 
 pub returns-clause-within : goal.returns-clause-within
-returns-clause-within c = rw c.from_vec.ensures (within _ _ _ (lexed _ _ _ _ c.loop-at.invariant.cut c.loop-at-test.false))
+returns-clause-within c = within _ _ _ (lexed _ _ _ _ c.loop-at.invariant.cut c.loop-at-test.false)
