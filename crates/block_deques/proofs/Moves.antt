@@ -99,6 +99,11 @@ takes_one port v some_part [] items views a b k at = absurd (omega arith)
 takes_one port v some_part (x ∷ []) items views a b k at = takes_first port v some_part x items views k at
 takes_one port v some_part (x ∷ y ∷ ys) items views a b k at = absurd (omega arith)
 
+-- where the deque stays what it is, hands that fit it keep the rule
+row_stays : (items : List Block) (views after : List Hand) (k : Kept items views) → ((h : Block → ℕ) → total (λ v. weigh h v.taken + weigh h v.joined) after ≡ weigh h k.front) → total (λ v. v.parts) after ≡ all_parts
+    → ((port : ℕ) (v : Hand) → get_elem? after port ≡ some v → Fits k.writer (length k.front) (k.front ++ items) port v) → Kept items after
+row_stays items views after k weights parts each = record { writer = k.writer; front = k.front; numbered = k.numbered; weights = weights; parts = parts; each = each }
+
 -- a new thief has a part
 pub forks : (port : ℕ) (v : Hand) → 1 < v.parts → Forks Kept port v (owner_after v) thief
 forks port v more items views k at =
@@ -107,20 +112,15 @@ forks port v more items views k at =
     let mine = k.each port v at in
     let parts = total_set (λ u. u.parts) views port v w at in
     let parts' = total_snoc (λ u. u.parts) vs thief in
-    let old = k.parts in record {
-      writer = k.writer;
-      front = k.front;
-      numbered = k.numbered;
-      weights = λ h.
-          let s = total_set (λ u. weigh h u.taken + weigh h u.joined) views port v w at in
-          let t = total_snoc (λ u. weigh h u.taken + weigh h u.joined) vs thief in
-          let o = k.weights h in omega arith;
-      parts = omega arith;
-      each = λ j u e. ⊎_elim
-          (λ there. each_set (Fits k.writer (length k.front) (k.front ++ items)) views port w (mine.0, mine.1, (λ none. absurd (omega arith))) (λ j u _ there. k.each j u there) j u there)
-          (λ (is : thief ≡ u). subst (λ (z : Hand). Fits k.writer (length k.front) (k.front ++ items) j z) is ((λ o. absurd (true≢false (sym o))), tt, (λ none. (refl, refl))))
-          (at_snoc vs thief u j e);
-    }
+    let old = k.parts in row_stays items views (vs ++ thief ∷ []) k
+    (λ h. let s = total_set (λ u. weigh h u.taken + weigh h u.joined) views port v w at in
+    let t = total_snoc (λ u. weigh h u.taken + weigh h u.joined) vs thief in
+    let o = k.weights h in omega arith)
+    (omega arith)
+    (λ j u e. ⊎_elim
+    (λ there. each_set (Fits k.writer (length k.front) (k.front ++ items)) views port w (mine.0, mine.1, (λ none. absurd (omega arith))) (λ j u _ there. k.each j u there) j u there)
+    (λ (is : thief ≡ u). subst (λ (z : Hand). Fits k.writer (length k.front) (k.front ++ items) j z) is ((λ o. absurd (true≢false (sym o))), tt, (λ none. (refl, refl))))
+    (at_snoc vs thief u j e))
 
 -- one pass takes in another
 pub merges : (port : ℕ) (v : Hand) (other : ℕ) (u : Hand) → 0 < v.parts → Merges Kept port v other u (both v u) spent_hand
@@ -130,18 +130,13 @@ merges port v other u some_part items views k at ne at' =
     let mine = k.each port v at in
     let parts = total_set (λ z. z.parts) views port v w at in
     let parts' = total_set (λ z. z.parts) vs other u spent_hand at' in
-    let old = k.parts in record {
-      writer = k.writer;
-      front = k.front;
-      numbered = k.numbered;
-      weights = λ h.
-          let s = total_set (λ z. weigh h z.taken + weigh h z.joined) views port v w at in
-          let t = total_set (λ z. weigh h z.taken + weigh h z.joined) vs other u spent_hand at' in
-          let o = k.weights h in omega (arith, weigh-append h v.joined (u.taken ++ u.joined), weigh-append h u.taken u.joined);
-      parts = omega arith;
-      each = each_set (Fits k.writer (length k.front) (k.front ++ items)) vs other spent_hand ((λ o. absurd (true≢false (sym o))), tt, (λ none. (refl, refl)))
-          (λ j z _ there. each_set (Fits k.writer (length k.front) (k.front ++ items)) views port w (mine.0, mine.1, (λ none. absurd (omega arith))) (λ j z _ there. k.each j z there) j z there);
-    }
+    let old = k.parts in row_stays items views (set vs other spent_hand) k
+    (λ h. let s = total_set (λ z. weigh h z.taken + weigh h z.joined) views port v w at in
+    let t = total_set (λ z. weigh h z.taken + weigh h z.joined) vs other u spent_hand at' in
+    let o = k.weights h in omega (arith, weigh-append h v.joined (u.taken ++ u.joined), weigh-append h u.taken u.joined))
+    (omega arith)
+    (each_set (Fits k.writer (length k.front) (k.front ++ items)) vs other spent_hand ((λ o. absurd (true≢false (sym o))), tt, (λ none. (refl, refl)))
+    (λ j z _ there. each_set (Fits k.writer (length k.front) (k.front ++ items)) views port w (mine.0, mine.1, (λ none. absurd (omega arith))) (λ j z _ there. k.each j z there) j z there))
 
 -- who has every part knows what was taken of it
 least : (f : Hand → ℕ) (vs : List Hand) (i : ℕ) (v : Hand) → get_elem? vs i ≡ some v → f v ≤ total f vs
