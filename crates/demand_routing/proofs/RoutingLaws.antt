@@ -70,21 +70,25 @@ module _ (p : Parts) (paths : List (List ArcId)) (laid : List Bool) (loads new :
   share : (q : ℕ) → q < MAX_PLACES → arcs_along p q arcs * load ≡ load_from p (with_paths paths) q k
   share q below = rw (is_load, is_path) (from-along p (with_paths paths) q k inst (are.simple k within) below)
 
-  -- a demand is laid
-  pub loads-on : is_marked laid k ≡ false → ((q : ℕ) → q < MAX_PLACES → slice_index new q ≡ min (slice_index loads q + arcs_along p q arcs * load) 340282366920938463463374607431768211455) → AreLoads p paths (set laid k true) new
+  loads-on : is_marked laid k ≡ false → ((q : ℕ) → q < MAX_PLACES → slice_index new q ≡ min (slice_index loads q + arcs_along p q arcs * load) 340282366920938463463374607431768211455) → AreLoads p paths (set laid k true) new
   loads-on off step = λ q below.
       let change = laid-change p paths laid q k true within in
       let old : laid_on p paths laid q k ≡ 0 = rw off refl in
       let now : laid_on p paths (set laid k true) q k ≡ load_from p (with_paths paths) q k = rw (get_or-set_same laid k true false (omega arith)) refl in
       omega (arith, change, old, now, share q below, before q below, step q below, laid-within p paths (set laid k true) q inst)
 
-  -- a demand is taken off
-  pub loads-off : is_marked laid k ≡ true → ((q : ℕ) → q < MAX_PLACES → slice_index new q ≡ slice_index loads q - arcs_along p q arcs * load) → AreLoads p paths (set laid k false) new
+  loads-off : is_marked laid k ≡ true → ((q : ℕ) → q < MAX_PLACES → slice_index new q ≡ slice_index loads q - arcs_along p q arcs * load) → AreLoads p paths (set laid k false) new
   loads-off on step = λ q below.
       let change = laid-change p paths laid q k false within in
       let old : laid_on p paths laid q k ≡ load_from p (with_paths paths) q k = rw on refl in
       let now : laid_on p paths (set laid k false) q k ≡ 0 = rw (get_or-set_same laid k false false (omega arith)) refl in
       omega (arith, change, old, now, share q below, before q below, step q below)
+
+  -- a demand is laid or taken off
+  pub loads-changed : (mark : Bool) → is_marked laid k ≡ (if mark then false else true) → ((q : ℕ) → q < MAX_PLACES → slice_index new q
+      ≡ (if mark then min (slice_index loads q + arcs_along p q arcs * load) 340282366920938463463374607431768211455 else slice_index loads q - arcs_along p q arcs * load)) → AreLoads p paths (set laid k mark) new
+  loads-changed true off step = loads-on off step
+  loads-changed false on step = loads-off on step
 
 load_from-same : (p : Parts) (d other : Design) (q k : ℕ) → path_at d k ≡ path_at other k → load_from p d q k ≡ load_from p other q k
 unfolding load_from

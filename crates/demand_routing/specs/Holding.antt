@@ -2,8 +2,10 @@
 use Rattle.std.specs.Prelude.{ℕ, ◌≡◌, ◌<◌, ◌≤◌, min, max, true, List, length, slice_index_or}
 use Rattle.plan_base.specs.declared.parts.Parts.{Parts}
 use Rattle.plan_base.specs.Facts.{total_load}
+use Rattle.plan_base.specs.Places.{link_of_place}
 use Rattle.link_steps.specs.Costs.{IsStepCost}
 use Rattle.demand_routing.specs.declared.weights.Held.{Held}
+use Rattle.demand_routing.specs.declared.weights.Known.{Known}
 use Rattle.demand_routing.specs.declared.weights.Sides.{Sides}
 use Rattle.demand_routing.specs.Traffic.{other_of}
 
@@ -29,3 +31,11 @@ IsHeld p e h = h.known ≡ true → IsCostHeld p e h
 -- so for each link
 abbrev pub AreHeld : Parts → List Held → Type 0
 AreHeld p helds = (e : ℕ) (other : Held) → e < length helds → IsHeld p e (slice_index_or helds e other)
+
+-- the link of a place, what its places carry, at most the total load each, and the step cost of that
+pub record IsKnown (p : Parts) (f : ℕ → ℕ) (k : Known) : Type 0 where
+  pub link : k.link.0 ≡ link_of_place p k.place
+  pub exists : k.link.0 < length p.links
+  pub sides : AreSides p f k.place k.sides
+  pub within : max k.sides.here k.sides.other ≤ total_load p
+  pub cost : IsCostOfSides p (link_of_place p k.place) k.sides k.cost

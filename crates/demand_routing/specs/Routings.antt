@@ -6,6 +6,7 @@ use Rattle.plan_base.specs.declared.parts.Demand.{Demand}
 use Rattle.plan_base.specs.declared.parts.Parts.{Parts}
 use Rattle.plan_base.specs.declared.limits.TheConstants.{MAX_PLACES}
 use Rattle.plan_base.specs.Arcs.{demand_at}
+use Rattle.plan_base.specs.Paths.{IsSimplePath}
 use Rattle.plan_base.specs.Places.{places}
 use Rattle.plan_base.specs.Sums.{sum_below}
 use Rattle.plan_base.specs.Designs.{path_at, load_from}
@@ -41,17 +42,25 @@ pub record HasSameRoutes (r s : Routing) : Type 0 where
   pub laid : r.laid ≡ s.laid
   pub loads : r.loads.value ≡ s.loads.value
 
--- the cost after a load is laid on a path, where places carry these loads without it: the cost before and what the arcs of the path add, up to the greatest number; that number where a link cannot carry the load
-pub record IsCostWith (p : Parts) (loads : List ℕ) (load : ℕ) (arcs : List ArcId) (before after : ℕ) : Type 0 where
+-- a simple path from the source of the demand of this number to its target
+abbrev pub IsPathOf : Parts → ℕ → List ArcId → Type 0
+IsPathOf p k arcs = IsSimplePath p (demand_at p k) arcs
+
+-- what the arcs of a demand's path add together where its load comes to these loads; none where a link cannot carry that
+abbrev pub IsRiseOf : Parts → List ℕ → List (List ArcId) → ℕ → Option ℕ → Type 0
+IsRiseOf p loads paths k rise = IsRiseAlong p loads (demand_at p k).load (path_at (with_paths paths) k) rise
+
+-- the cost after a demand is laid on its path, where places carry these loads without it: the cost before and what the arcs of the path add, up to the greatest number; that number where a link cannot carry the load
+pub record IsCostWith (p : Parts) (loads : List ℕ) (paths : List (List ArcId)) (k before after : ℕ) : Type 0 where
   pub rise : Option ℕ
-  pub is_rise : IsRiseAlong p loads load arcs rise
+  pub is_rise : IsRiseOf p loads paths k rise
   pub is_cost : after ≡ min (before + unwrap_or rise (2 ^ 128 - 1)) (2 ^ 128 - 1)
 
 -- the loads and the cost without a demand: the cost less what the arcs of its path add to these loads, where it is laid and their links can carry that
 pub record IsCostWithout (p : Parts) (r : Routing) (k : ℕ) (loads : List ℕ) (cost : ℕ) : Type 0 where
   pub fall : Option ℕ
   pub are_loads : AreLoads p r.paths.items (slice_set r.laid.items k false) loads
-  pub is_fall : is_marked r.laid.items k ≡ true → IsRiseAlong p loads (demand_at p k).load (path_at (with_paths r.paths.items) k) fall
+  pub is_fall : is_marked r.laid.items k ≡ true → IsRiseOf p loads r.paths.items k fall
   pub no_fall : is_marked r.laid.items k ≡ false → fall ≡ None
   pub is_cost : cost ≡ r.cost - unwrap_or fall 0
 
@@ -60,7 +69,7 @@ pub record IsMoved (p : Parts) (k : ℕ) (before after : Routing) : Type 0 where
   pub loads : List ℕ
   pub cost : ℕ
   pub without : IsCostWithout p before k loads cost
-  pub laid : IsCostWith p loads (demand_at p k).load (path_at (with_paths after.paths.items) k) cost after.cost
+  pub laid : IsCostWith p loads after.paths.items k cost after.cost
 
 -- a path of the demand within its limit that raises the step costs by so much where its load comes to what the places carry, and none within it raises them by less
 pub record IsCheapestWay (p : Parts) (loads : List ℕ) (k : Demand) (arcs : List ArcId) (rise : ℕ) : Type 0 where

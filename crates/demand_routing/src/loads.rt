@@ -27,7 +27,7 @@ fn remove_at(loads: &mut [u128; MAX_PLACES], place: usize, load: u128)
 }
 
 /// Adds a load to the places of a path, once for each arc.
-pub fn add_load(inst: &Instance, loads: &mut [u128; MAX_PLACES], arcs: &[ArcId], load: u128)
+fn add_load(inst: &Instance, loads: &mut [u128; MAX_PLACES], arcs: &[ArcId], load: u128)
     ensures { (q : ℕ) → q < MAX_PLACES → slice_index loads.new q
         ≡ min (slice_index loads.old q + arcs_along inst.now q arcs.now * load) u128.MAX }
 {
@@ -37,11 +37,30 @@ pub fn add_load(inst: &Instance, loads: &mut [u128; MAX_PLACES], arcs: &[ArcId],
 }
 
 /// Takes a load from the places of a path, once for each arc.
-pub fn remove_load(inst: &Instance, loads: &mut [u128; MAX_PLACES], arcs: &[ArcId], load: u128)
+fn remove_load(inst: &Instance, loads: &mut [u128; MAX_PLACES], arcs: &[ArcId], load: u128)
     ensures { (q : ℕ) → q < MAX_PLACES → slice_index loads.new q
         ≡ slice_index loads.old q - arcs_along inst.now q arcs.now * load }
 {
     for arc in arcs {
         remove_at(loads, inst.place(*arc) as usize, load);
+    }
+}
+
+/// Adds a load to the places of a path, or takes it from them.
+pub fn change_load(
+    inst: &Instance,
+    loads: &mut [u128; MAX_PLACES],
+    arcs: &[ArcId],
+    load: u128,
+    laid: bool,
+)
+    ensures { (q : ℕ) → q < MAX_PLACES → slice_index loads.new q
+        ≡ (if laid then min (slice_index loads.old q + arcs_along inst.now q arcs.now * load) u128.MAX
+        else slice_index loads.old q - arcs_along inst.now q arcs.now * load) }
+{
+    if laid {
+        add_load(inst, loads, arcs, load);
+    } else {
+        remove_load(inst, loads, arcs, load);
     }
 }

@@ -1,18 +1,16 @@
 //! Paths of all demands, what the places carry and what the links cost with them.
 
-ghost use Rattle.std.specs.Prelude.{ℕ, ◌≡◌, ◌<◌, ◌≤◌, ◌+◌, ◌-◌, ◌^◌, min, true, false, length, slice_set, IfOk, OnOk, IfSome, IfNone, IsTrue, IsFalse};
+ghost use Rattle.std.specs.Prelude.{ℕ, ◌≡◌, ◌<◌, ◌≤◌, ◌+◌, ◌-◌, ◌^◌, min, true, false, if◌then◌else◌, Some, None, length, slice_set, IfOk, OnOk, IfSome, IfNone, IsTrue, IsFalse};
 ghost use Rattle.std.specs.Option.{unwrap_or};
 ghost use Rattle.plan_base.specs.Arcs.{demand_at};
 ghost use Rattle.plan_base.specs.Designs.{path_at};
-ghost use Rattle.plan_base.specs.Paths.{IsSimplePath};
 ghost use Rattle.least_path.specs.Paths.{IsBelow};
 ghost use Rattle.completions.specs.Completions.{ArePaths, with_paths};
-ghost use Rattle.demand_routing.specs.Routings.{IsRouting, HasSameRoutes, IsCheapestWay, IsCheaperWay, IsLeastWay, HasNoWay, HasNoCheaperWay, HasNoFarWay, IsStuck, IsCostWith, IsCostWithout, IsMoved, is_marked};
-ghost use Rattle.demand_routing.specs.Traffic.{AreRises, HasTooMuch};
+ghost use Rattle.demand_routing.specs.Routings.{IsRouting, HasSameRoutes, IsPathOf, IsRiseOf, IsCheapestWay, IsCheaperWay, IsLeastWay, HasNoWay, HasNoCheaperWay, HasNoFarWay, IsStuck, IsCostWith, IsCostWithout, IsMoved, is_marked};
 
 use crate::copies::set_path;
 use crate::limits::LimitedRoom;
-use crate::loads::{add_load, remove_load};
+use crate::loads::change_load;
 use crate::weights::{FarRises, Held, Rises, rise_along};
 use link_steps::StepTable;
 use plan_base::limits::{MAX_LINKS, MAX_PLACES};
@@ -59,6 +57,70 @@ impl Routing {
         })
     }
 
+    /// Lays a demand that is off on the places of its path, or takes one that is laid off them. The cost stays what it is.
+    fn mark(&mut self, table: &StepTable, demand: DemandId, laid: bool)
+        requires demand { demand.0 < length table.now.demands }
+        requires routing { IsRouting table.now self.old }
+        requires other { is_marked self.old.laid.items demand.0 ≡ (if laid then false else true) }
+        ensures routing { IsRouting table.now self.new }
+        ensures paths { self.new.paths ≡ self.old.paths }
+        ensures laid { self.new.laid.items ≡ slice_set self.old.laid.items demand.0 laid }
+        ensures searches { self.new.searches ≡ self.old.searches }
+        ensures cost { self.new.cost ≡ self.old.cost }
+    {
+        let inst = table.instance();
+        inst.lawful();
+        let place = demand.0 as usize;
+        let load = inst.demand(demand).load;
+        change_load(
+            inst,
+            &mut self.loads,
+            self.paths[place].as_slice(),
+            load,
+            laid,
+        );
+        self.laid[place] = laid;
+    }
+
+    /// What the step costs rise by where the load of a demand comes to what the places of its path carry, in cost grains;
+    /// None where a link cannot carry that. The step costs with the load are held, or those without it.
+    fn rise(&mut self, table: &StepTable, demand: DemandId, with_load: bool) -> Option<u128>
+        requires demand { demand.0 < length table.now.demands }
+        requires routing { IsRouting table.now self.old }
+        ensures routing { IsRouting table.now self.new }
+        ensures same { HasSameRoutes self.old self.new }
+        ensures searches { self.new.searches ≡ self.old.searches }
+        ensures cost { self.new.cost ≡ self.old.cost }
+        ensures rise { IsRiseOf table.now self.new.loads.value self.new.paths.items demand.0 result }
+    {
+        let load = table.instance().demand(demand).load;
+        rise_along(
+            table,
+            &self.loads,
+            &mut self.nears,
+            &mut self.helds,
+            self.paths[demand.0 as usize].as_slice(),
+            load,
+            with_load,
+        )
+    }
+
+    /// Lays a demand that is off on the places of its path, where it is known what the step costs rise by.
+    fn lay(&mut self, table: &StepTable, demand: DemandId, rise: Option<u128>)
+        requires demand { demand.0 < length table.now.demands }
+        requires routing { IsRouting table.now self.old }
+        requires off { is_marked self.old.laid.items demand.0 ≡ false }
+        requires rise { IsRiseOf table.now self.old.loads.value self.old.paths.items demand.0 rise }
+        ensures routing { IsRouting table.now self.new }
+        ensures paths { self.new.paths ≡ self.old.paths }
+        ensures on { is_marked self.new.laid.items demand.0 ≡ true }
+        ensures searches { self.new.searches ≡ self.old.searches }
+        ensures cost { IsCostWith table.now self.old.loads.value self.new.paths.items demand.0 self.old.cost self.new.cost }
+    {
+        self.mark(table, demand, true);
+        self.cost = self.cost.saturating_add(rise.unwrap_or(u128::MAX));
+    }
+
     /// Lays a demand on the places of its path. One that is laid stays so.
     pub fn put_on(&mut self, table: &StepTable, demand: DemandId)
         requires demand { demand.0 < length table.now.demands }
@@ -67,50 +129,14 @@ impl Routing {
         ensures paths { self.new.paths ≡ self.old.paths }
         ensures on { is_marked self.new.laid.items demand.0 ≡ true }
         ensures searches { self.new.searches ≡ self.old.searches }
-        ensures cost { is_marked self.old.laid.items demand.0 ≡ false → IsCostWith table.now self.old.loads.value (demand_at table.now demand.0).load (path_at (with_paths self.new.paths.items) demand.0) self.old.cost self.new.cost }
+        ensures cost { is_marked self.old.laid.items demand.0 ≡ false → IsCostWith table.now self.old.loads.value self.new.paths.items demand.0 self.old.cost self.new.cost }
         ensures laid { is_marked self.old.laid.items demand.0 ≡ true → self.new.cost ≡ self.old.cost }
     {
-        let inst = table.instance();
-        inst.lawful();
-        let place = demand.0 as usize;
-        if self.laid[place] {
+        if self.laid[demand.0 as usize] {
             return;
         }
-        let load = inst.demand(demand).load;
-        let arcs = self.paths[place].as_slice();
-        let rise = rise_along(
-            table,
-            &self.loads,
-            &mut self.nears,
-            &mut self.helds,
-            arcs,
-            load,
-            true,
-        );
-        add_load(inst, &mut self.loads, arcs, load);
-        self.cost = self.cost.saturating_add(rise.unwrap_or(u128::MAX));
-        self.laid[place] = true;
-    }
-
-    /// Lays a demand that is off on the places of its path, where it is known what that adds.
-    fn put_back(&mut self, inst: &Instance, demand: DemandId, rise: u128)
-        requires demand { demand.0 < length inst.now.demands }
-        requires routing { IsRouting inst.now self.old }
-        requires off { is_marked self.old.laid.items demand.0 ≡ false }
-        requires rise { AreRises inst.now self.old.loads.value (demand_at inst.now demand.0).load (path_at (with_paths self.old.paths.items) demand.0) u128.MAX rise }
-        ensures routing { IsRouting inst.now self.new }
-        ensures paths { self.new.paths ≡ self.old.paths }
-        ensures on { is_marked self.new.laid.items demand.0 ≡ true }
-        ensures searches { self.new.searches ≡ self.old.searches }
-        ensures cost { IsCostWith inst.now self.old.loads.value (demand_at inst.now demand.0).load (path_at (with_paths self.new.paths.items) demand.0) self.old.cost self.new.cost }
-    {
-        inst.lawful();
-        let place = demand.0 as usize;
-        let load = inst.demand(demand).load;
-        let arcs = self.paths[place].as_slice();
-        add_load(inst, &mut self.loads, arcs, load);
-        self.cost = self.cost.saturating_add(rise);
-        self.laid[place] = true;
+        let rise = self.rise(table, demand, true);
+        self.lay(table, demand, rise);
     }
 
     /// Takes a demand off the places of its path, and tells what their step costs fall by, in cost grains. One that is off
@@ -128,30 +154,16 @@ impl Routing {
         ensures off { is_marked self.new.laid.items demand.0 ≡ false }
         ensures searches { self.new.searches ≡ self.old.searches }
         ensures cost { self.new.cost ≡ self.old.cost - unwrap_or result 0 }
-        ensures fall { IfSome result (λ fall. AreRises table.now self.new.loads.value (demand_at table.now demand.0).load (path_at (with_paths self.old.paths.items) demand.0) u128.MAX fall) }
-        ensures none { is_marked self.old.laid.items demand.0 ≡ true → IfNone result (HasTooMuch table.now self.new.loads.value (demand_at table.now demand.0).load (path_at (with_paths self.old.paths.items) demand.0)) }
+        ensures fall { IfSome result (λ fall. IsRiseOf table.now self.new.loads.value self.new.paths.items demand.0 (Some fall)) }
+        ensures none { is_marked self.old.laid.items demand.0 ≡ true → IfNone result (IsRiseOf table.now self.new.loads.value self.new.paths.items demand.0 None) }
         ensures without { IsCostWithout table.now self.old demand.0 self.new.loads.value self.new.cost }
     {
-        let inst = table.instance();
-        inst.lawful();
-        let place = demand.0 as usize;
-        if !self.laid[place] {
+        if !self.laid[demand.0 as usize] {
             return None;
         }
-        let load = inst.demand(demand).load;
-        let arcs = self.paths[place].as_slice();
-        remove_load(inst, &mut self.loads, arcs, load);
-        let fall = rise_along(
-            table,
-            &self.loads,
-            &mut self.nears,
-            &mut self.helds,
-            arcs,
-            load,
-            comes_back,
-        );
+        self.mark(table, demand, false);
+        let fall = self.rise(table, demand, comes_back);
         self.cost = self.cost.saturating_sub(fall.unwrap_or(0));
-        self.laid[place] = false;
         fall
     }
 
@@ -221,19 +233,18 @@ impl Routing {
     }
 
     /// Gives a demand that is off the path in the room.
-    fn take_path(&mut self, inst: &Instance, demand: DemandId)
-        requires demand { demand.0 < length inst.now.demands }
-        requires routing { IsRouting inst.now self.old }
+    fn take_path(&mut self, table: &StepTable, demand: DemandId)
+        requires demand { demand.0 < length table.now.demands }
+        requires routing { IsRouting table.now self.old }
         requires off { is_marked self.old.laid.items demand.0 ≡ false }
-        requires simple { IsSimplePath inst.now (demand_at inst.now demand.0) self.old.room }
-        ensures routing { IsRouting inst.now self.new }
+        requires simple { IsPathOf table.now demand.0 self.old.room }
+        ensures routing { IsRouting table.now self.new }
         ensures laid { self.new.laid ≡ self.old.laid }
         ensures loads { self.new.loads.value ≡ self.old.loads.value }
         ensures searches { self.new.searches ≡ self.old.searches }
         ensures cost { self.new.cost ≡ self.old.cost }
         ensures path { path_at (with_paths self.new.paths.items) demand.0 ≡ self.old.room }
     {
-        inst.lawful();
         self.room.swap(&mut self.paths[demand.0 as usize]);
     }
 
@@ -260,14 +271,13 @@ impl Routing {
         ensures cheaper { IfOk result (λ taken. IsTrue taken → IsCheaperWay table.now self.new.loads.value (demand_at table.now demand.0) own (path_at (with_paths self.new.paths.items) demand.0)) }
         ensures none { IfOk result (λ taken. IsFalse taken → IfNone own (HasNoWay table.now self.new.loads.value (demand_at table.now demand.0))) }
     {
-        let inst = table.instance();
         if let Some(0) = own {
             return Ok(false);
         }
         let Some(_rise) = self.search(table, demand, own)? else {
             return Ok(false);
         };
-        self.take_path(inst, demand);
+        self.take_path(table, demand);
         Ok(true)
     }
 
@@ -282,11 +292,10 @@ impl Routing {
         ensures no_fewer { self.old.searches ≤ self.new.searches }
         ensures one_more { self.new.searches ≤ self.old.searches + 1 }
     {
-        let inst = table.instance();
         let own = self.take_off(table, demand, true);
         let helps = self.take_cheaper(table, demand, own)?;
         match own {
-            Some(rise) if !helps => self.put_back(inst, demand, rise),
+            Some(_) if !helps => self.lay(table, demand, own),
             _ => self.put_on(table, demand),
         }
         Ok(helps)
@@ -329,12 +338,11 @@ impl Routing {
         ensures cost { IfOk result (λ found. IsTrue found → IsMoved table.now demand.0 self.old self.new) }
         ensures without { IfOk result (λ found. IsFalse found → IsCostWithout table.now self.old demand.0 self.new.loads.value self.new.cost) }
     {
-        let inst = table.instance();
         let _fall = self.take_off(table, demand, false);
         let Some(_weight) = self.search_far(table, demand, far)? else {
             return Ok(false);
         };
-        self.take_path(inst, demand);
+        self.take_path(table, demand);
         self.put_on(table, demand);
         Ok(true)
     }
@@ -348,7 +356,7 @@ impl Routing {
     ) -> Result<(), AllocError>
         requires demand { demand.0 < length table.now.demands }
         requires routing { IsRouting table.now self.old }
-        requires path { IsSimplePath table.now (demand_at table.now demand.0) path.now }
+        requires path { IsPathOf table.now demand.0 path.now }
         ensures routing { OnOk result (IsRouting table.now self.new) }
         ensures searches { self.new.searches ≡ self.old.searches }
         ensures on { OnOk result (is_marked self.new.laid.items demand.0 ≡ true) }

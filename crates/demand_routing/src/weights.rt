@@ -7,7 +7,7 @@ ghost use Rattle.plan_base.specs.Facts.{IsInstance, total_load};
 ghost use Rattle.plan_base.specs.Places.{places, link_of_place};
 ghost use Rattle.link_steps.specs.Costs.{CannotCarry, IsStepCost};
 ghost use Rattle.demand_routing.specs.Traffic.{with_more, other_of, IsTooMuch, IsCostOf, IsRise, IsAddedCost, span_of, IsFarCost, AreRises, HasTooMuch};
-ghost use Rattle.demand_routing.specs.Holding.{AreSides, IsCostOfSides, IsHeld, AreHeld};
+ghost use Rattle.demand_routing.specs.Holding.{AreSides, IsCostOfSides, IsHeld, AreHeld, IsKnown};
 
 use completions::{LINK_COST_BOUND, routing_cost};
 use least_path::Weigher;
@@ -218,53 +218,6 @@ fn hold(inst: &Instance, helds: &mut [Held; MAX_LINKS], link: LinkId, held: Held
     }
 }
 
-/// What the step cost of a place's link rises by where a load is added to the place, above what it costs now, in cost
-/// grains; None where the link cannot carry that. The step then is looked for near a place, which becomes its place.
-fn rise_above(
-    table: &StepTable,
-    link: LinkId,
-    sides: Sides,
-    before: u128,
-    load: u128,
-    near: &mut u32,
-) -> Option<u128>
-    requires lawful { IsInstance table.now }
-    requires link { link.0 < length table.now.links }
-    requires total { max sides.here sides.other ≤ total_load table.now }
-    ensures value { (f : ℕ → ℕ) (q : ℕ) → link_of_place table.now q ≡ link.0 → AreSides table.now f q sides → IsCostOf table.now f link.0 before → IsAddedCost table.now f q load result }
-    ensures load { IfSome result (λ _. sides.here + load ≤ total_load table.now) }
-    ensures within { unwrap_or result 0 ≤ LINK_COST_BOUND }
-{
-    let inst = table.instance();
-    let raised = sides.raised(inst.total_load(), load)?;
-    let after = step_cost(table, link, raised, near)?;
-    Some(after.saturating_sub(before))
-}
-
-/// What the step cost of a place's link rises by where a load is added to the place, in cost grains; None where the link
-/// cannot carry that. The step of what it carries is looked for near a place.
-fn added_cost(
-    table: &StepTable,
-    helds: &[Held; MAX_LINKS],
-    loads: &[u128; MAX_PLACES],
-    place: u32,
-    load: u128,
-    near: u32,
-) -> Option<u128>
-    requires lawful { IsInstance table.now }
-    requires helds { AreHeld table.now helds.now }
-    requires place { place < places table.now }
-    ensures value { IsAddedCost table.now (slice_index loads.now) place load result }
-    ensures within { unwrap_or result 0 ≤ LINK_COST_BOUND }
-{
-    let inst = table.instance();
-    let sides = sides_of(inst, loads, place)?;
-    let link = inst.link_of_place(place);
-    let mut near = near;
-    let before = known_cost(table, helds, link, sides, &mut near)?;
-    rise_above(table, link, sides, before, load, &mut near)
-}
-
 /// Half of a load's share of what a span of loads costs, which is no shorter.
 fn half_share(cost: u128, load: u128, span: u128) -> u128
     requires cost { cost ≤ LINK_COST_BOUND }
@@ -275,52 +228,6 @@ fn half_share(cost: u128, load: u128, span: u128) -> u128
     ensures within { result ≤ LINK_COST_BOUND }
 {
     (cost / 131_072) * (load * 65_536 / span)
-}
-
-/// How far more load is looked at on a place that carries so much and takes this load.
-fn span_of(inst: &Instance, carried: u64, load: u128, far: u128) -> u128
-    requires within { carried + load ≤ total_load inst.now }
-    ensures value { result ≡ span_of inst.now carried load far }
-    ensures load { load ≤ result }
-    ensures most { carried + result ≤ total_load inst.now }
-{
-    let total = u128::from(inst.total_load());
-    let carried = u128::from(carried);
-    (carried + load).saturating_add(far).min(total) - carried
-}
-
-/// Half of what the step cost of a place's link rises by where a load is added to the place, and half of the load's share
-/// of what it rises by where far more is added; the whole of the first where that is too much for the link.
-#[tactic(auto, unfolding(crate::specs::Traffic::IsFarCost))]
-fn far_cost(
-    table: &StepTable,
-    helds: &[Held; MAX_LINKS],
-    loads: &[u128; MAX_PLACES],
-    place: u32,
-    load: u128,
-    far: u128,
-    near: u32,
-) -> Option<u128>
-    requires lawful { IsInstance table.now }
-    requires helds { AreHeld table.now helds.now }
-    requires place { place < places table.now }
-    ensures value { IsFarCost table.now (slice_index loads.now) place load far result }
-    ensures within { unwrap_or result 0 ≤ 2 * LINK_COST_BOUND }
-{
-    let inst = table.instance();
-    let sides = sides_of(inst, loads, place)?;
-    let link = inst.link_of_place(place);
-    let mut near = near;
-    let before = known_cost(table, helds, link, sides, &mut near)?;
-    let rise = rise_above(table, link, sides, before, load, &mut near)?;
-    let span = span_of(inst, sides.here, load, far);
-    if span == 0 {
-        return Some(rise);
-    }
-    let Some(beyond) = rise_above(table, link, sides, before, span, &mut near) else {
-        return Some(rise);
-    };
-    Some(rise / 2 + half_share(beyond, load, span))
 }
 
 /// The place where the step of what a place carries is looked for first.
@@ -353,8 +260,132 @@ pub struct Rises<'a> {
     pub load: u128,
 }
 
+/// What is known of a place: its link, what the link's places carry, and the step cost of that.
+#[derive(Clone, Copy, Debug)]
+struct Known {
+    place: u32,
+    link: LinkId,
+    sides: Sides,
+    /// In cost grains.
+    cost: u128,
+    /// The place of its step.
+    near: u32,
+}
+
+impl Rises<'_> {
+    /// What is known of a place; None where its link cannot carry that. Its step is looked for near the place's.
+    fn known(&self, place: u32) -> Option<Known>
+        requires helds { AreHeld self.now.table.now self.now.helds.now }
+        requires place { place < places self.now.table.now }
+        ensures place { IfSome result (λ known. known.place ≡ place) }
+        ensures known { IfSome result (IsKnown self.now.table.now (slice_index self.now.loads.now)) }
+        ensures none { IfNone result ((load : ℕ) → IsTooMuch self.now.table.now (with_more (slice_index self.now.loads.now) place load) (link_of_place self.now.table.now place)) }
+    {
+        let inst = self.table.instance();
+        inst.lawful();
+        let sides = sides_of(inst, self.loads, place)?;
+        let link = inst.link_of_place(place);
+        let mut near = near_of(self.nears, place);
+        let cost = known_cost(self.table, self.helds, link, sides, &mut near)?;
+        Some(Known {
+            place,
+            link,
+            sides,
+            cost,
+            near,
+        })
+    }
+
+    /// What the step cost of a place's link rises by where a load is added to the place, in cost grains; None where the
+    /// link cannot carry that. The step then is looked for near a place, which becomes its place.
+    fn rise_above(&self, known: Known, load: u128, near: &mut u32) -> Option<u128>
+        requires { IsKnown self.now.table.now (slice_index self.now.loads.now) known }
+        ensures value { IsAddedCost self.now.table.now (slice_index self.now.loads.now) known.place load result }
+        ensures load { IfSome result (λ _. known.sides.here + load ≤ total_load self.now.table.now) }
+        ensures within { unwrap_or result 0 ≤ LINK_COST_BOUND }
+    {
+        let inst = self.table.instance();
+        inst.lawful();
+        let raised = known.sides.raised(inst.total_load(), load)?;
+        let after = step_cost(self.table, known.link, raised, near)?;
+        Some(after.saturating_sub(known.cost))
+    }
+
+    /// What the step cost of a place's link rises by where the load is added to the place, in cost grains; None where the
+    /// link cannot carry that.
+    fn added_cost(&self, place: u32) -> Option<u128>
+        requires helds { AreHeld self.now.table.now self.now.helds.now }
+        requires place { place < places self.now.table.now }
+        ensures value { IsAddedCost self.now.table.now (slice_index self.now.loads.now) place self.now.load result }
+        ensures within { unwrap_or result 0 ≤ LINK_COST_BOUND }
+    {
+        let known = self.known(place)?;
+        let mut near = known.near;
+        self.rise_above(known, self.load, &mut near)
+    }
+
+    /// How far more load is looked at on a place that can take the load.
+    fn span(&self, known: Known, far: u128) -> u128
+        requires known { IsKnown self.now.table.now (slice_index self.now.loads.now) known }
+        requires within { known.sides.here + self.now.load ≤ total_load self.now.table.now }
+        ensures value { result ≡ span_of self.now.table.now (slice_index self.now.loads.now known.place) self.now.load far }
+        ensures load { self.now.load ≤ result }
+        ensures small { self.now.load ≤ MAX_TOTAL_LOAD }
+    {
+        let total = u128::from(self.table.instance().total_load());
+        let carried = u128::from(known.sides.here);
+        (carried + self.load).saturating_add(far).min(total) - carried
+    }
+
+    /// Half of what the step cost of a place's link rises by where the load is added to the place, and half of the load's
+    /// share of what it rises by where far more is added; the whole of the first where that is too much for the link.
+    fn far_cost(&self, place: u32, far: u128) -> Option<u128>
+        requires helds { AreHeld self.now.table.now self.now.helds.now }
+        requires place { place < places self.now.table.now }
+        ensures value { IsFarCost self.now.table.now (slice_index self.now.loads.now) place self.now.load far result }
+        ensures within { unwrap_or result 0 ≤ 2 * LINK_COST_BOUND }
+    {
+        let known = self.known(place)?;
+        let mut near = known.near;
+        let rise = self.rise_above(known, self.load, &mut near)?;
+        let span = self.span(known, far);
+        if span == 0 {
+            return Some(rise);
+        }
+        let Some(beyond) = self.rise_above(known, span, &mut near) else {
+            return Some(rise);
+        };
+        Some(rise / 2 + half_share(beyond, self.load, span))
+    }
+
+    /// What the step cost of a place's link rises by where the load is added to the place; None also where there is no
+    /// such place.
+    fn rise_at(&self, place: u32) -> Option<Rise>
+        requires { AreHeld self.now.table.now self.now.helds.now }
+        ensures value { IfSome result (λ rise. IsRise self.now.table.now (slice_index self.now.loads.now) place self.now.load rise.cost) }
+        ensures within { IfSome result (λ _. place < places self.now.table.now) }
+        ensures before { IfSome result (λ rise. IsHeld self.now.table.now (link_of_place self.now.table.now place) rise.before) }
+        ensures after { IfSome result (λ rise. IsHeld self.now.table.now (link_of_place self.now.table.now place) rise.after) }
+        ensures none { IfNone result (place < places self.now.table.now → IsTooMuch self.now.table.now (with_more (slice_index self.now.loads.now) place self.now.load) (link_of_place self.now.table.now place)) }
+    {
+        let inst = self.table.instance();
+        inst.lawful();
+        if place >= inst.places() {
+            return None;
+        }
+        let known = self.known(place)?;
+        let more = known.sides.raised(inst.total_load(), self.load)?;
+        let mut near = known.near;
+        let after = known_cost(self.table, self.helds, known.link, more, &mut near)?;
+        Some(Rise {
+            cost: after.saturating_sub(known.cost),
+            before: Held::of(known.sides, known.cost, known.near),
+            after: Held::of(more, after, near),
+        })
+    }
+}
+
 impl Weigher for Rises<'_> {
-    ghost use Rattle.std.specs.Prelude.{◌≡◌};
     ghost use Rattle.demand_routing.specs.Holding.{AreHeld};
     ghost use Rattle.demand_routing.specs.Weighed.{added_costs};
 
@@ -363,11 +394,7 @@ impl Weigher for Rises<'_> {
     ghost fits = { λ a. AreHeld a.table.now a.helds.now };
 
     fn weight(&self, arc: ArcId) -> Option<u128> {
-        let inst = self.table.instance();
-        inst.lawful();
-        let place = inst.place(arc);
-        let near = near_of(self.nears, place);
-        added_cost(self.table, self.helds, self.loads, place, self.load, near)
+        self.added_cost(self.table.instance().place(arc))
     }
 }
 
@@ -381,7 +408,6 @@ pub struct FarRises<'a> {
 }
 
 impl Weigher for FarRises<'_> {
-    ghost use Rattle.std.specs.Prelude.{◌≡◌, ◌≤◌};
     ghost use Rattle.demand_routing.specs.Holding.{AreHeld};
     ghost use Rattle.demand_routing.specs.Weighed.{far_costs};
 
@@ -390,20 +416,8 @@ impl Weigher for FarRises<'_> {
     ghost fits = { λ a. AreHeld a.rises.table.now a.rises.helds.now };
 
     fn weight(&self, arc: ArcId) -> Option<u128> {
-        let rises = &self.rises;
-        let inst = rises.table.instance();
-        inst.lawful();
-        let place = inst.place(arc);
-        let near = near_of(rises.nears, place);
-        far_cost(
-            rises.table,
-            rises.helds,
-            rises.loads,
-            place,
-            rises.load,
-            self.far,
-            near,
-        )
+        let place = self.rises.table.instance().place(arc);
+        self.rises.far_cost(place, self.far)
     }
 }
 
@@ -423,41 +437,6 @@ impl Rise {
     {
         if laid { self.after } else { self.before }
     }
-}
-
-/// What the step cost of a place's link rises by where a load is added to the place; None also where there is no such
-/// place. The step of what it carries is looked for near a place.
-fn rise_at(
-    table: &StepTable,
-    helds: &[Held; MAX_LINKS],
-    loads: &[u128; MAX_PLACES],
-    place: u32,
-    load: u128,
-    near: u32,
-) -> Option<Rise>
-    requires helds { AreHeld table.now helds.now }
-    ensures value { IfSome result (λ rise. IsRise table.now (slice_index loads.now) place load rise.cost) }
-    ensures within { IfSome result (λ _. place < places table.now) }
-    ensures before { IfSome result (λ rise. IsHeld table.now (link_of_place table.now place) rise.before) }
-    ensures after { IfSome result (λ rise. IsHeld table.now (link_of_place table.now place) rise.after) }
-    ensures none { IfNone result (place < places table.now → IsTooMuch table.now (with_more (slice_index loads.now) place load) (link_of_place table.now place)) }
-{
-    let inst = table.instance();
-    if place >= inst.places() {
-        return None;
-    }
-    let less = sides_of(inst, loads, place)?;
-    let more = less.raised(inst.total_load(), load)?;
-    let link = inst.link_of_place(place);
-    let mut near = near;
-    let before = known_cost(table, helds, link, less, &mut near)?;
-    let held = Held::of(less, before, near);
-    let after = known_cost(table, helds, link, more, &mut near)?;
-    Some(Rise {
-        cost: after.saturating_sub(before),
-        before: held,
-        after: Held::of(more, after, near),
-    })
 }
 
 /// What the step costs of a path's links rise by where this load is added to what its places carry, in cost grains, up to
@@ -482,8 +461,14 @@ pub fn rise_along(
     let mut sum = 0u128;
     for arc in arcs {
         let place = inst.place(*arc);
-        let near = near_of(nears, place);
-        let rise = rise_at(table, helds, loads, place, load, near)?;
+        let rises = Rises {
+            table,
+            loads,
+            helds,
+            nears,
+            load,
+        };
+        let rise = rises.rise_at(place)?;
         let held = rise.held(laid);
         set_near(nears, place, held.place);
         hold(inst, helds, inst.link_of_place(place), held);

@@ -1,5 +1,4 @@
 use Rattle.std.proofs.Common.{max, ◌≡◌, ℕ, subst, arith}
-use Rattle.plan_base.specs.declared.parts.Parts.{Parts}
 use Rattle.link_steps.specs.Costs.{IsLeastModuleCost}
 use Rattle.demand_routing.proofs.weights.least_cost.Goals as goal
 
@@ -7,10 +6,10 @@ pub returns-clause-some : goal.returns-clause-some
 returns-clause-some c = λ _.
     let modules = c.in-Some.modules.cost in
     let larger : c.args.larger ≡ max c.args.larger c.args.smaller = omega (arith, c.requires.order) in
-    let routed = rw (c.from.ensures, c.from-2.ensures) at c.routing_cost.ensures.value in
+    let routed = rw (c.from.ensures, c.from-2.ensures, c.instance-inst.ensures.inst) at c.routing_cost.ensures.value in
     record {
       module_cost = modules;
-      is_least = subst (λ (n : ℕ). IsLeastModuleCost c.args.table.now c.args.link.0 n modules) larger (subst (λ (p : Parts). IsLeastModuleCost p c.args.link.0 c.args.larger modules) c.requires.table c.in-Some.ensures.least);
+      is_least = subst (λ (n : ℕ). IsLeastModuleCost c.args.table.now c.args.link.0 n modules) larger c.in-Some.ensures.least;
       is_sum = omega (arith, routed);
     }
 

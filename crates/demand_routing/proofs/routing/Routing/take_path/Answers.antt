@@ -7,7 +7,7 @@ use Rattle.demand_routing.proofs.routing.Routing.take_path.Goals as goal
 
 pub returns-clause-routing : goal.returns-clause-routing
 returns-clause-routing c =
-    let p = c.args.inst.now in
+    let p = c.args.table.now in
     let k = c.args.demand.0 in
     let paths = c.args.self.now.paths.items in
     let are = c.requires.routing in
