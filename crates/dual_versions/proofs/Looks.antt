@@ -24,7 +24,7 @@ some_tables : (before : List Entries) (t : Entries) → 0 < length (before ++ t 
 some_tables before t = omega (arith, length-append before (t ∷ []))
 
 -- what a reader sees when it enters goes on from what it saw
-pub sees : (v w u : View) (x : Table) (seen : List Entries) → Entered v x x w → u ≡ w → seen ≡ v.seen → Sees seen u.seen
+sees : (v w u : View) (x : Table) (seen : List Entries) → Entered v x x w → u ≡ w → seen ≡ v.seen → Sees seen u.seen
 sees v w u x seen e same is =
     let whole : u.seen ≡ e.before ++ shown_entries x.rows.items ∷ [] = ap (λ (y : View). y.seen) (same ∙ e.all) in (
       subst (λ (l : List Entries). 0 < length l) (sym whole) (some_tables e.before (shown_entries x.rows.items)),
@@ -32,10 +32,15 @@ sees v w u x seen e same is =
     )
 
 -- what a reader reads of a slot is the entry of the newest table that it has seen
-pub reads : (v w u : View) (x t : Table) (slot : ℕ) → Entered v x x w → u ≡ w → t ≡ x → entry_at slot u.seen ≡ slice_index_or (shown_entries t.rows.items) slot None
+reads : (v w u : View) (x t : Table) (slot : ℕ) → Entered v x x w → u ≡ w → t ≡ x → entry_at slot u.seen ≡ slice_index_or (shown_entries t.rows.items) slot None
 reads v w u x t slot e same is =
     ap (λ (l : List Entries). slice_index_or (last_of l) slot None) (ap (λ (y : View). y.seen) (same ∙ e.all))
     ∙ (ap (λ (l : Entries). slice_index_or l slot None) (last_of_more e.before (shown_entries x.rows.items)) ∙ ap (λ (y : Table). slice_index_or (shown_entries y.rows.items) slot None) (sym is))
+
+-- both of what is read in a table while it is shown
+pub shown_there : (v w u : View) (x t : Table) (seen : List Entries) (slot : ℕ) → Entered v x x w → u ≡ w → t ≡ x → seen ≡ v.seen
+    → Sees seen u.seen × (entry_at slot u.seen ≡ slice_index_or (shown_entries t.rows.items) slot None)
+shown_there v w u x t seen slot e same is was = (sees v w u x seen e same was, reads v w u x t slot e same is)
 
 -- a beginning of a beginning is a beginning
 pub begins_trans : (a b c : List Entries) → Begins a b → Begins b c → Begins a c

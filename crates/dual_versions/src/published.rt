@@ -26,9 +26,8 @@ impl Published {
         ensures { IfOk result (λ copy. copy ≡ self.now) }
     {
         Ok(Published {
-            node: self.node,
-            version: self.version,
             prices: self.prices.copy()?,
+            ..*self
         })
     }
 }

@@ -73,6 +73,7 @@ impl BoardReader {
     }
 
     /// As `read`.
+    #[tactic(auto, using(crate::proofs::Moves::enters))]
     fn look(self, slot: usize) -> (BoardReader, Result<Option<Published>, AllocError>)
         ensures later { (result.0 ≡ self) ⊎ Sees self result.0 }
         ensures entry { IfOk result.1 (λ entry. Sees self result.0 × (entry ≡ entry_at slot result.0)) }
@@ -91,6 +92,7 @@ impl BoardReader {
     }
 
     /// As `shows`.
+    #[tactic(auto, using(crate::proofs::Moves::enters))]
     fn compare(self, slot: usize, what: &Published) -> (BoardReader, Result<bool, AllocError>)
         ensures later { (result.0 ≡ self) ⊎ Sees self result.0 }
         ensures entry { IfOk result.1 (λ shows. Sees self result.0 × (IsTrue shows ↔ (entry_at slot result.0 ≡ Some what.now))) }

@@ -1,14 +1,8 @@
 use Rattle.std.proofs.Common.{sym, ◌∙◌}
-use Rattle.dual_versions.proofs.Moves.{enters}
-use Rattle.dual_versions.proofs.Looks.{sees, reads}
+use Rattle.dual_versions.proofs.Looks.{shown_there}
 use Rattle.dual_versions.proofs.reader.BoardReader.compare.Goals as goal
-
-pub enter_as-requires : goal.enter_as-requires
-enter_as-requires c = enters _ _ c.self.invariant.0
 
 pub returns-in-Ok-clause-entry : goal.returns-in-Ok-clause-entry
 returns-in-Ok-clause-entry c =
-    let e = c.in-Ok.ensures.1 in
-    let same = c.leave-reader.ensures.1 in
-    let read = reads _ _ _ _ c.get-table.result.now c.args.slot e same c.get-table.ensures in
-    (sees _ _ _ _ c.args.self e same (sym c.self.view_is), ((λ yes. read ∙ c.has-has.ensures.0 yes), (λ is. c.has-has.ensures.1 (sym read ∙ is))))
+    let there = shown_there _ _ _ _ _ c.args.self c.args.slot c.in-Ok.ensures.1 c.leave-reader.ensures.1 c.get-table.ensures (sym c.self.view_is) in
+    (there.0, ((λ yes. there.1 ∙ c.has-has.ensures.0 yes), (λ is. c.has-has.ensures.1 (sym there.1 ∙ is))))
