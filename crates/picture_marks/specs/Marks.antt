@@ -102,36 +102,30 @@ unfoldable pub classes : Option Traffic → List ℕ
 classes None = codes "unused"
 classes (Some on) = shade on.need on.capacity ++ new_word on.new ++ light_word on.light
 
--- the load of a link's other place, behind its word, where it has one
-unfoldable pub back_text : Option ℕ → List ℕ
-back_text None = []
-back_text (Some back) = codes " back " ++ grains_text back LOAD_SCALE
+-- a word and the load of a link's other place, where it has one
+unfoldable pub back_text : List ℕ → Option ℕ → List ℕ
+back_text word None = []
+back_text word (Some back) = word ++ grains_text back LOAD_SCALE
 
 -- what is told of a link of this name
 unfoldable pub title : List ℕ → Option Traffic → List ℕ
 title name None = escaped name
 title name (Some on) =
-    escaped name ++ codes " load " ++ grains_text on.load LOAD_SCALE ++ back_text on.back
+    escaped name ++ codes " load " ++ grains_text on.load LOAD_SCALE ++ back_text (codes " back ") on.back
     ++ codes " capacity " ++ grains_text on.capacity LOAD_SCALE ++ codes " new " ++ grains_text on.new LOAD_SCALE
-
--- the load of a link's other place behind a plus, where it has one
-unfoldable pub back_figure : Option ℕ → List ℕ
-back_figure None = []
-back_figure (Some back) = 43 ∷ grains_text back LOAD_SCALE
 
 -- the figures of a link: its load or its two loads, and its capacity; nothing where there is no design
 unfoldable pub figures : Option Traffic → List ℕ
 figures None = []
-figures (Some on) = grains_text on.load LOAD_SCALE ++ back_figure on.back ++ 47 ∷ grains_text on.capacity LOAD_SCALE
+figures (Some on) = grains_text on.load LOAD_SCALE ++ back_text (codes "+") on.back ++ 47 ∷ grains_text on.capacity LOAD_SCALE
 
 -- how a link of this width is drawn
 unfoldable pub stroke_text : Option Traffic → ℕ → List ℕ
 stroke_text traffic width = codes "<path class='link " ++ classes traffic ++ codes "' stroke-width='" ++ decimal width
 
 -- the line of a link between the marks of its ends
-unfoldable pub curve_text : Parts → Looks → ℕ → List ℕ
-curve_text p looks e =
-    spot_text (node_look looks (link_at p e).source.0).at ++ codes " Q" ++ spot_text (link_look looks e).bend ++ spot_text (node_look looks (link_at p e).target.0).at
+unfoldable pub curve_text : Spot → Spot → Spot → List ℕ
+curve_text from bend to = spot_text from ++ codes " Q" ++ spot_text bend ++ spot_text to
 
 -- what is told of a link of this name, and the end of its mark
 unfoldable pub hover_text : List ℕ → Option Traffic → List ℕ
@@ -140,4 +134,5 @@ hover_text name traffic = codes "'><title>" ++ title name traffic ++ codes "</ti
 -- the mark of the link of this number, with this name
 abbrev pub link_text : List ℕ → Parts → Looks → Option Traffic → ℕ → List ℕ
 link_text name p looks traffic e =
-    stroke_text traffic (link_look looks e).width ++ codes "' d='M" ++ curve_text p looks e ++ hover_text name traffic
+    stroke_text traffic (link_look looks e).width ++ codes "' d='M"
+    ++ curve_text (node_look looks (link_at p e).source.0).at (link_look looks e).bend (node_look looks (link_at p e).target.0).at ++ hover_text name traffic

@@ -5,7 +5,7 @@ ghost use Rattle.plan_base.specs.Facts.{IsInstance};
 ghost use Rattle.plan_base.specs.Places.{is_two_way, there_of, back_of};
 ghost use Rattle.plan_base.specs.Designs.{load_at, IsGoodDesign};
 ghost use Rattle.mark_places.specs.Places.{HasLooks};
-ghost use Rattle.picture_marks.specs.Marks.{spot_text, label_text, end_word, circle_text, node_text, shade, light_word, light_on, traffic_on, new_word, classes, back_text, title, back_figure, figures, stroke_text, curve_text, hover_text, link_text};
+ghost use Rattle.picture_marks.specs.Marks.{spot_text, label_text, end_word, circle_text, node_text, shade, light_word, light_on, traffic_on, new_word, classes, back_text, title, figures, stroke_text, curve_text, hover_text, link_text};
 
 use crate::escapes::push_escaped;
 use itoa::Buffer;
@@ -236,18 +236,16 @@ fn push_classes(text: &mut Vec<u8>, traffic: Option<Traffic>) -> Result<(), Allo
     }
 }
 
-/// Writes the load of a link's other place, behind its word, where it has one.
+/// Writes a word and the load of a link's other place, where it has one.
 #[tactic(auto, unfolding(crate::specs::Marks::back_text))]
-fn push_back(text: &mut Vec<u8>, back: Option<u128>) -> Result<(), AllocError>
-    ensures { OnOk result (text.new.items ≡ text.old.items ++ back_text back) }
+fn push_back(text: &mut Vec<u8>, word: &[u8], back: Option<u128>) -> Result<(), AllocError>
+    ensures { OnOk result (text.new.items ≡ text.old.items ++ back_text word.now back) }
 {
-    match back {
-        Some(load) => {
-            text.extend_from_slice(b" back ")?;
-            write_grains(load, LOAD_SCALE, text)
-        }
-        None => Ok(()),
-    }
+    let Some(load) = back else {
+        return Ok(());
+    };
+    text.extend_from_slice(word)?;
+    write_grains(load, LOAD_SCALE, text)
 }
 
 /// Writes what is told of a link of this name.
@@ -260,25 +258,11 @@ fn push_title(text: &mut Vec<u8>, name: &[u8], traffic: Option<Traffic>) -> Resu
         Some(traffic) => {
             text.extend_from_slice(b" load ")?;
             write_grains(traffic.load, LOAD_SCALE, text)?;
-            push_back(text, traffic.back)?;
+            push_back(text, b" back ", traffic.back)?;
             text.extend_from_slice(b" capacity ")?;
             write_grains(traffic.capacity, LOAD_SCALE, text)?;
             text.extend_from_slice(b" new ")?;
             write_grains(traffic.new, LOAD_SCALE, text)
-        }
-        None => Ok(()),
-    }
-}
-
-/// Writes the load of a link's other place behind a plus, where it has one.
-#[tactic(auto, unfolding(crate::specs::Marks::back_figure))]
-fn push_back_figure(text: &mut Vec<u8>, back: Option<u128>) -> Result<(), AllocError>
-    ensures { OnOk result (text.new.items ≡ text.old.items ++ back_figure back) }
-{
-    match back {
-        Some(load) => {
-            text.push(b'+')?;
-            write_grains(load, LOAD_SCALE, text)
         }
         None => Ok(()),
     }
@@ -296,7 +280,7 @@ pub fn push_figures(text: &mut Vec<u8>, traffic: Option<Traffic>) -> Result<(), 
     match traffic {
         Some(traffic) => {
             write_grains(traffic.load, LOAD_SCALE, text)?;
-            push_back_figure(text, traffic.back)?;
+            push_back(text, b"+", traffic.back)?;
             text.push(b'/')?;
             write_grains(traffic.capacity, LOAD_SCALE, text)
         }
@@ -304,25 +288,15 @@ pub fn push_figures(text: &mut Vec<u8>, traffic: Option<Traffic>) -> Result<(), 
     }
 }
 
-/// Writes the line of a link of this number between the marks of its ends.
+/// Writes the line of a link between the marks of its ends.
 #[tactic(auto, unfolding(crate::specs::Marks::curve_text))]
-fn push_curve(
-    text: &mut Vec<u8>,
-    inst: &Instance,
-    looks: &Looks,
-    id: LinkId,
-) -> Result<(), AllocError>
-    requires lawful { IsInstance inst.now }
-    requires link { id.0 < length inst.now.links }
-    requires looks { HasLooks looks.now inst.now.nodes (length inst.now.links) }
-    ensures { OnOk result (text.new.items ≡ text.old.items ++ curve_text inst.now looks.now id.0) }
+fn push_curve(text: &mut Vec<u8>, from: Spot, bend: Spot, to: Spot) -> Result<(), AllocError>
+    ensures { OnOk result (text.new.items ≡ text.old.items ++ curve_text from bend to) }
 {
-    let link = inst.link(id);
-    let nodes = looks.nodes.as_slice();
-    push_spot(text, nodes[link.source.0 as usize].at)?;
+    push_spot(text, from)?;
     text.extend_from_slice(b" Q")?;
-    push_spot(text, looks.links.as_slice()[id.0 as usize].bend)?;
-    push_spot(text, nodes[link.target.0 as usize].at)
+    push_spot(text, bend)?;
+    push_spot(text, to)
 }
 
 /// Writes how a link of this width is drawn.
@@ -365,8 +339,13 @@ pub fn push_link(
     requires looks { HasLooks looks.now inst.now.nodes (length inst.now.links) }
     ensures { OnOk result (text.new.items ≡ text.old.items ++ link_text name.now inst.now looks.now traffic id.0) }
 {
-    push_stroke(text, traffic, looks.links.as_slice()[id.0 as usize].width)?;
+    let link = inst.link(id);
+    let nodes = looks.nodes.as_slice();
+    let from = nodes[link.source.0 as usize].at;
+    let to = nodes[link.target.0 as usize].at;
+    let look = &looks.links.as_slice()[id.0 as usize];
+    push_stroke(text, traffic, look.width)?;
     text.extend_from_slice(b"' d='M")?;
-    push_curve(text, inst, looks, id)?;
+    push_curve(text, from, look.bend, to)?;
     push_hover(text, name, traffic)
 }
