@@ -12,13 +12,19 @@ use Rattle.plan_base.proofs.Bools.{and-first}
 use Rattle.plan_base.proofs.PathLaws.{length-IsSimplePath}
 use Rattle.arc_restrict.specs.Restrictions.{Forbidden, IsPermittedPath, HasNoPath}
 use Rattle.arc_restrict.specs.Prices.{price_of, AreWithinLimit, IsLeastPrice}
-use Rattle.verifier_paths.specs.Labels.{label_at, may_take, is_omitted, IsAtMost, IsWay, AreLeast}
+use Rattle.verifier_paths.specs.declared.rounds.Ways.{Ways}
+use Rattle.verifier_paths.specs.Kept.{forbidden_by}
+use Rattle.verifier_paths.specs.Labels.{label_at, may_take, open_arcs, is_omitted, IsAtMost, IsWay, AreLeast}
 use Rattle.verifier_paths.proofs.Ways.{MeetOnce, route_of_way, simple_of_way, way-all, way_of_simple}
 use Rattle.verifier_paths.proofs.Rounding.{TakesArcs, price-few}
 
 -- what may be taken is an arc
 pub takes_arcs : (p : Parts) (r : Forbidden) (k : ℕ) (out : Option ArcId) → TakesArcs p (may_take p r k out)
 takes_arcs p r k out a taken = and-first (is_arc p a) _ taken
+
+-- so is what ways may take
+pub open_are_arcs : (ways : Ways) → TakesArcs ways.inst.now (open_arcs ways)
+open_are_arcs ways = takes_arcs ways.inst.now (forbidden_by ways.forbidden.now) ways.demand.0 ways.left_out
 
 three : (a b c : Bool) → (a && (not b && not c)) ≡ true → (b ≡ false) × (c ≡ false)
 three true false false h = (refl, refl)

@@ -149,14 +149,11 @@ has_second p r k path within path_is second = record {
 
 -- ---- what a search answers
 
--- a search that found nothing has shown what nothing stands for
-pub none_if : {A : Type 0} (found : Option A) (P : Type 0) → false ≡ is_some found → IfNone found P → P
-none_if None P none h = h
-none_if (Some a) P none h = absurd (let bad : false ≡ true = none in cc)
-
--- one place more of which no path leaves out the arc
-pub none_more : (p : Parts) (r : Forbidden) (k : ℕ) (path : List ArcId) (n : ℕ) → HasNoneWithout p r k path n → ((i : ℕ) → i < n → HasNoneWithout p r k path i) → (i : ℕ) → i < n + 1 → HasNoneWithout p r k path i
-none_more p r k path n here before i below = elim (before_or_at i n below) [
+-- one place more of which no path leaves out the arc, where none was found
+pub none_more : (p : Parts) (r : Forbidden) (k : ℕ) (path : List ArcId) (n : ℕ) (found : Option (List ArcId)) → false ≡ is_some found → IfNone found (HasNoneWithout p r k path n)
+    → ((i : ℕ) → i < n → HasNoneWithout p r k path i) → (i : ℕ) → i < n + 1 → HasNoneWithout p r k path i
+none_more p r k path n (Some others) none here before i below = absurd (let bad : false ≡ true = none in cc)
+none_more p r k path n None none here before i below = elim (before_or_at i n below) [
   | inl earlier ↦ before i earlier
   | inr is ↦ subst (HasNoneWithout p r k path) (sym is) here
 ]

@@ -7,6 +7,8 @@ use Rattle.plan_base.specs.Places.{place_of}
 use Rattle.plan_base.specs.declared.limits.TheConstants.{MAX_PRICED_LOAD}
 use Rattle.verifier_paths.specs.declared.limits.TheConstants.{MAX_WAY_ARCS}
 use Rattle.arc_restrict.specs.Restrictions.{Forbidden}
+use Rattle.verifier_paths.specs.declared.rounds.Ways.{Ways}
+use Rattle.verifier_paths.specs.Kept.{forbidden_by}
 
 -- the arc is the one that is left out
 abbrev pub is_omitted : Option ArcId → ArcId → Bool
@@ -16,6 +18,10 @@ is_omitted (Some out) a = out.0 == a.0
 -- the arc exists, is not forbidden to the demand, and is not left out
 abbrev pub may_take : Parts → Forbidden → ℕ → Option ArcId → ArcId → Bool
 may_take p r k left_out a = is_arc p a && (not (r k a) && not (is_omitted left_out a))
+
+-- the arcs that these ways may take
+abbrev pub open_arcs : Ways → ArcId → Bool
+open_arcs ways = may_take ways.inst.now (forbidden_by ways.forbidden.now) ways.demand.0 ways.left_out
 
 -- the price that is known of a node
 abbrev pub label_at : List (Option ℕ) → ℕ → Option ℕ

@@ -9,7 +9,7 @@ ghost use Rattle.arc_restrict.specs.Restrictions.{HasNoPath, IsFewest};
 ghost use Rattle.arc_restrict.specs.Prices.{price_of, AreWithinLimit, IsLeastPrice};
 ghost use Rattle.verifier_paths.specs.declared.limits.TheConstants.{MAX_WAY_ARCS};
 ghost use Rattle.verifier_paths.specs.Kept.{forbidden_by};
-ghost use Rattle.verifier_paths.specs.Labels.{label_at, may_take, AreLeast, AreSmall, IsRelaxed, AreOffered, HasOffered, Leaves, LeavesBelow, lower_of, first_labels};
+ghost use Rattle.verifier_paths.specs.Labels.{label_at, open_arcs, AreLeast, AreSmall, IsRelaxed, AreOffered, HasOffered, Leaves, LeavesBelow, lower_of, first_labels};
 ghost use Rattle.verifier_paths.specs.OnlyPaths.{AreOnes};
 
 use crate::marks::Forbidden;
@@ -29,7 +29,7 @@ pub(crate) struct Ways<'a> {
 impl Ways<'_> {
     /// Whether the arc exists and may be taken.
     pub(crate) fn may_take(&self, arc: ArcId) -> bool
-        ensures { result ≡ may_take self.now.inst.now (forbidden_by self.now.forbidden.now) self.now.demand.0 self.now.left_out arc }
+        ensures { result ≡ open_arcs self.now arc }
     {
         self.inst.is_arc(arc)
             && !self.forbidden.forbids(self.demand, arc)
@@ -60,9 +60,7 @@ fn relax_arc(
     requires old { length old.now ≡ ways.now.inst.now.nodes }
     requires small { AreSmall old.now }
     requires new { length new.old.items ≡ ways.now.inst.now.nodes }
-    ensures relaxed { IsRelaxed ways.now.inst.now
-        (may_take ways.now.inst.now (forbidden_by ways.now.forbidden.now) ways.now.demand.0 ways.now.left_out)
-        prices.now old.now arc new.old.items new.new.items }
+    ensures relaxed { IsRelaxed ways.now.inst.now (open_arcs ways.now) prices.now old.now arc new.old.items new.new.items }
     ensures count { length new.new.items ≡ length new.old.items }
 {
     if !ways.may_take(arc) {
@@ -88,9 +86,7 @@ fn relax_from(
     requires old { length old.now ≡ ways.now.inst.now.nodes }
     requires small { AreSmall old.now }
     requires new { length new.old.items ≡ ways.now.inst.now.nodes }
-    ensures { AreOffered ways.now.inst.now
-        (may_take ways.now.inst.now (forbidden_by ways.now.forbidden.now) ways.now.demand.0 ways.now.left_out)
-        prices.now old.now (Leaves ways.now.inst.now node.0) new.old.items new.new.items }
+    ensures { AreOffered ways.now.inst.now (open_arcs ways.now) prices.now old.now (Leaves ways.now.inst.now node.0) new.old.items new.new.items }
 {
     ways.inst.lawful();
     for arc in ways.inst.leaving(node) {
@@ -121,13 +117,9 @@ fn relax_all(
     requires earlier { length earlier.now ≡ ways.now.inst.now.nodes }
     requires old { length old.now ≡ ways.now.inst.now.nodes }
     requires small { AreSmall old.now }
-    requires offered { HasOffered ways.now.inst.now
-        (may_take ways.now.inst.now (forbidden_by ways.now.forbidden.now) ways.now.demand.0 ways.now.left_out)
-        prices.now earlier.now old.now }
+    requires offered { HasOffered ways.now.inst.now (open_arcs ways.now) prices.now earlier.now old.now }
     requires same { new.old.items ≡ old.now }
-    ensures { AreOffered ways.now.inst.now
-        (may_take ways.now.inst.now (forbidden_by ways.now.forbidden.now) ways.now.demand.0 ways.now.left_out)
-        prices.now old.now (LeavesBelow ways.now.inst.now ways.now.inst.now.nodes) old.now new.new.items }
+    ensures { AreOffered ways.now.inst.now (open_arcs ways.now) prices.now old.now (LeavesBelow ways.now.inst.now ways.now.inst.now.nodes) old.now new.new.items }
 {
     for node in 0..ways.inst.nodes() {
         if is_changed(earlier, old, NodeId(node)) {
@@ -180,9 +172,7 @@ pub(crate) fn least_prices(
     requires count { places ways.now.inst.now ≤ length prices.now }
     requires limit { AreWithinLimit ways.now.inst.now prices.now }
     ensures lawful { IsInstance ways.now.inst.now }
-    ensures least { IfOk result (λ labels. AreLeast ways.now.inst.now
-        (may_take ways.now.inst.now (forbidden_by ways.now.forbidden.now) ways.now.demand.0 ways.now.left_out)
-        (price_of ways.now.inst.now prices.now) (demand_at ways.now.inst.now ways.now.demand.0).source.0 labels.items) }
+    ensures least { IfOk result (λ labels. AreLeast ways.now.inst.now (open_arcs ways.now) (price_of ways.now.inst.now prices.now) (demand_at ways.now.inst.now ways.now.demand.0).source.0 labels.items) }
 {
     ways.inst.lawful();
     let nodes = ways.inst.nodes();

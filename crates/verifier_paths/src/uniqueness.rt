@@ -6,7 +6,7 @@ ghost use Rattle.plan_base.specs.Facts.{IsInstance};
 ghost use Rattle.plan_base.specs.Arcs.{demand_at};
 ghost use Rattle.arc_restrict.specs.Restrictions.{IsPermittedPath, IsOnlyPath};
 ghost use Rattle.verifier_paths.specs.Kept.{forbidden_by};
-ghost use Rattle.verifier_paths.specs.Labels.{may_take, label_at};
+ghost use Rattle.verifier_paths.specs.Labels.{open_arcs, label_at};
 ghost use Rattle.verifier_paths.specs.OnlyPaths.{HavePaths, HasSecond, IsOnlyPaths, ArePathsTo, AreOnlyTo, IsStep, IsStepBack, IsPathOf, AreOnes, AreFewestArcs};
 
 use crate::marks::Forbidden;
@@ -28,9 +28,7 @@ pub enum OnlyPaths {
 /// Whether the arc may be taken to the node, from one with so many steps.
 fn is_step(ways: &Ways, labels: &[Option<u128>], arc: ArcId, here: NodeId, steps: u128) -> bool
     requires nodes { length labels.now ≡ ways.now.inst.now.nodes }
-    ensures { IsTrue result ↔ IsStep ways.now.inst.now
-        (may_take ways.now.inst.now (forbidden_by ways.now.forbidden.now) ways.now.demand.0 ways.now.left_out)
-        labels.now here.0 steps arc }
+    ensures { IsTrue result ↔ IsStep ways.now.inst.now (open_arcs ways.now) labels.now here.0 steps arc }
 {
     ways.may_take(arc)
         && ways.inst.head(arc) == here
@@ -40,9 +38,7 @@ fn is_step(ways: &Ways, labels: &[Option<u128>], arc: ArcId, here: NodeId, steps
 /// An arc that may be taken to the node from one that is one arc nearer to the source.
 fn step_back(ways: &Ways, labels: &[Option<u128>], here: NodeId, steps: u128) -> Option<ArcId>
     requires nodes { length labels.now ≡ ways.now.inst.now.nodes }
-    ensures { IsStepBack ways.now.inst.now
-        (may_take ways.now.inst.now (forbidden_by ways.now.forbidden.now) ways.now.demand.0 ways.now.left_out)
-        labels.now here.0 steps result }
+    ensures { IsStepBack ways.now.inst.now (open_arcs ways.now) labels.now here.0 steps result }
 {
     for number in 0..ways.inst.arcs() {
         let arc = ArcId(number);
@@ -71,14 +67,11 @@ fn arcs_back(
     steps: u128,
 ) -> Result<Vec<ArcId>, AllocError>
     requires lawful { IsInstance ways.now.inst.now }
-    requires labels { AreFewestArcs ways.now.inst.now
-        (may_take ways.now.inst.now (forbidden_by ways.now.forbidden.now) ways.now.demand.0 ways.now.left_out)
-        (demand_at ways.now.inst.now ways.now.demand.0).source.0 labels.now }
+    requires labels { AreFewestArcs ways.now.inst.now (open_arcs ways.now) (demand_at ways.now.inst.now ways.now.demand.0).source.0 labels.now }
     requires target { target ≡ (demand_at ways.now.inst.now ways.now.demand.0).target }
     requires node { target.0 < ways.now.inst.now.nodes }
     requires steps { label_at labels.now target.0 ≡ Some steps }
-    ensures { IfOk result (λ arcs. IsPathOf ways.now.inst.now
-        (may_take ways.now.inst.now (forbidden_by ways.now.forbidden.now) ways.now.demand.0 ways.now.left_out) ways.now.demand.0 (reverse arcs.items)) }
+    ensures { IfOk result (λ arcs. IsPathOf ways.now.inst.now (open_arcs ways.now) ways.now.demand.0 (reverse arcs.items)) }
 {
     let mut arcs = Vec::new(alloc);
     let mut here = target;
@@ -100,10 +93,8 @@ fn arcs_back(
 fn find_path(alloc: Global, ways: &Ways, ones: &[u128]) -> Result<Option<Path>, AllocError>
     requires demand { ways.now.demand.0 < length ways.now.inst.now.demands }
     requires ones { AreOnes ways.now.inst.now ones.now }
-    ensures path { IfOk result (λ found. IfSome found (IsPathOf ways.now.inst.now
-        (may_take ways.now.inst.now (forbidden_by ways.now.forbidden.now) ways.now.demand.0 ways.now.left_out) ways.now.demand.0)) }
-    ensures none { IfOk result (λ found. IfNone found ((arcs : List AnyArc) → IsPathOf ways.now.inst.now
-        (may_take ways.now.inst.now (forbidden_by ways.now.forbidden.now) ways.now.demand.0 ways.now.left_out) ways.now.demand.0 arcs → ⊥)) }
+    ensures path { IfOk result (λ found. IfSome found (IsPathOf ways.now.inst.now (open_arcs ways.now) ways.now.demand.0)) }
+    ensures none { IfOk result (λ found. IfNone found ((arcs : List AnyArc) → IsPathOf ways.now.inst.now (open_arcs ways.now) ways.now.demand.0 arcs → ⊥)) }
 {
     let target = ways.inst.demand(ways.demand).target;
     let labels = least_prices(alloc, ways, ones)?;

@@ -1,6 +1,5 @@
 use Rattle.std.proofs.Common.{◌≡◌, ◌+◌, ℕ, List, Option, ap, sym, arith, subst, rules}
-use Rattle.verifier_paths.specs.Kept.{forbidden_by}
-use Rattle.verifier_paths.specs.Labels.{may_take, AreOffered, LeavesBelow}
+use Rattle.verifier_paths.specs.Labels.{open_arcs, AreOffered, LeavesBelow}
 use Rattle.verifier_paths.proofs.Offers.{offered-none, offered-node, offered-over}
 use Rattle.verifier_paths.proofs.rounds.relax_all.Goals as goal
 use Rattle.verifier_paths.proofs.rounds.relax_all.Goals.{then-is_changed, else-is_changed}
@@ -8,14 +7,14 @@ use Rattle.verifier_paths.proofs.rounds.relax_all.Goals.{then-is_changed, else-i
 pub loop-node-init : goal.loop-node-init
 loop-node-init c =
     let p = c.args.ways.now.inst.now in
-    let takes = may_take p (forbidden_by c.args.ways.now.forbidden.now) c.args.ways.now.demand.0 c.args.ways.now.left_out in
+    let takes = open_arcs c.args.ways.now in
     subst (λ (xs : List (Option ℕ)). AreOffered p takes c.args.prices.now c.args.old.now (LeavesBelow p 0) c.args.old.now xs) (sym c.requires.same)
     (offered-none p takes c.args.prices.now c.args.old.now c.args.old.now (LeavesBelow p 0) (λ a below. omega (arith, below)))
 
 pub loop-node-preserved : goal.loop-node-preserved
 loop-node-preserved c =
     let p = c.args.ways.now.inst.now in
-    let takes = may_take p (forbidden_by c.args.ways.now.forbidden.now) c.args.ways.now.demand.0 c.args.ways.now.left_out in
+    let takes = open_arcs c.args.ways.now in
     let prices = c.args.prices.now in
     let old = c.args.old.now in
     let n = c.loop-node.node in
@@ -29,6 +28,6 @@ loop-node-preserved c =
 pub returns : goal.returns
 returns c =
     let p = c.args.ways.now.inst.now in
-    let takes = may_take p (forbidden_by c.args.ways.now.forbidden.now) c.args.ways.now.demand.0 c.args.ways.now.left_out in
+    let takes = open_arcs c.args.ways.now in
     let end : c.loop-node.node ≡ p.nodes = search rules in
     subst (λ (n : ℕ). AreOffered p takes c.args.prices.now c.args.old.now (LeavesBelow p n) c.args.old.now c.loop-node.new.items) end c.loop-node.invariant

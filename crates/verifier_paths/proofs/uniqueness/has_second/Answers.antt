@@ -1,17 +1,13 @@
 use Rattle.std.proofs.Common.{◌≡◌, false, arith, length, ◌≤◌, rules}
 use Rattle.std.specs.Option.{is_some}
 use Rattle.verifier_paths.specs.Kept.{forbidden_by}
-use Rattle.verifier_paths.proofs.LeftOut.{HasNoneWithout, none_if, none_more, only_of_left_out}
+use Rattle.verifier_paths.proofs.LeftOut.{none_more, only_of_left_out}
 use Rattle.verifier_paths.proofs.uniqueness.has_second.Goals as goal
 
 pub loop-arc-preserved : goal.loop-arc-preserved
 loop-arc-preserved c =
-    let p = c.args.inst.now in
-    let r = forbidden_by c.args.forbidden.now in
-    let k = c.args.demand.0 in
-    let path = c.args.path.now in
     let none : false ≡ is_some c.in_ok-find_path.field-0 = search rules in
-    none_more p r k path c.loop-arc.arc-index (none_if c.in_ok-find_path.field-0 (HasNoneWithout p r k path c.loop-arc.arc-index) none c.in_ok-find_path.ensures.none) c.loop-arc.invariant
+    none_more c.args.inst.now (forbidden_by c.args.forbidden.now) c.args.demand.0 c.args.path.now c.loop-arc.arc-index c.in_ok-find_path.field-0 none c.in_ok-find_path.ensures.none c.loop-arc.invariant
 
 pub returns-clause-no : goal.returns-clause-no
 returns-clause-no c =
