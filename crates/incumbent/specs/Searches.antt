@@ -4,6 +4,7 @@ use Rattle.plan_base.specs.declared.parts.Parts.{Parts}
 use Rattle.plan_base.specs.declared.path.Design.{Design}
 use Rattle.plan_base.specs.Designs.{cost_of, IsGoodDesign}
 use Rattle.plan_base.specs.Facts.{total_load}
+use Rattle.completions.specs.Links.{IsPriced}
 use Rattle.incumbent.specs.declared.cooling.TheConstants.{WORK, WIDE_NODES, MOST_SEARCHES, LEAST_SEARCHES, SEARCHES_A_DEMAND}
 use Rattle.incumbent.specs.declared.ration.DesignSearch.{DesignSearch}
 use Rattle.incumbent.specs.declared.ration.TheConstants.{DUE, EARLIER, PARTS, LATER_PARTS, MOST_SHARES, LATER_SHARES, MARGIN}
@@ -69,3 +70,8 @@ IsWorth p design other = IsSomeAnd design (λ design. IsGoodDesign p design → 
 -- how far more load is looked at: 2, 4, 8 or 16 times the mean load of a demand, as drawn, in load grains
 abbrev pub far_load : Parts → ℕ → ℕ
 far_load p draw = 2 ^ (draw + 1) * max (total_load p / length p.demands) 1
+
+-- a feasible design in shape, with its cost, which is no more than that of the design that was searched from, in cost grains
+pub record IsImproved (p : Parts) (design : Design) (found : ℕ × Design) : Type 0 where
+  pub priced : IsPriced p found
+  pub not_dearer : found.0 ≤ cost_of p design

@@ -1,9 +1,9 @@
 //! A cheaper design by single reroutes.
 
-ghost use Rattle.std.specs.Prelude.{◌≡◌, ◌<◌, ◌≤◌, IfOk, IfSome};
+ghost use Rattle.std.specs.Prelude.{◌≤◌, IfOk, IfSome};
 ghost use Rattle.plan_base.specs.Designs.{cost_of, IsDesign, IsGoodDesign};
 ghost use Rattle.completions.specs.Completions.{ArePaths};
-ghost use Rattle.completions.specs.Links.{IsPriced};
+ghost use Rattle.incumbent.specs.Searches.{IsImproved};
 
 use crate::rounds::Rounds;
 use completions::complete;
@@ -33,8 +33,7 @@ fn searched(
 /// The completed design where there is a good one that costs less, else the design itself, with its cost in cost grains.
 fn cheaper(inst: &Instance, design: Design, completed: Option<(u128, Design)>) -> (u128, Design)
     requires { IsGoodDesign inst.now design }
-    ensures priced { IsPriced inst.now result }
-    ensures not_dearer { result.0 ≤ cost_of inst.now design }
+    ensures improved { IsImproved inst.now design result }
     ensures least { IfSome completed (λ found. IsGoodDesign inst.now found.1 → result.0 ≤ cost_of inst.now found.1) }
 {
     let kept = check_design(inst, &design).unwrap();
@@ -62,9 +61,7 @@ pub fn improve(
     design: Design,
 ) -> Result<(u128, Design), AllocError>
     requires design { IsGoodDesign table.now design }
-    ensures good { IfOk result (λ better. IsGoodDesign table.now better.1) }
-    ensures cost { IfOk result (λ better. better.0 ≡ cost_of table.now better.1) }
-    ensures not_dearer { IfOk result (λ better. better.0 ≤ cost_of table.now design) }
+    ensures { IfOk result (IsImproved table.now design) }
 {
     improve_seeded(alloc, table, design, 0)
 }
@@ -77,9 +74,7 @@ pub fn improve_seeded(
     seed: u32,
 ) -> Result<(u128, Design), AllocError>
     requires design { IsGoodDesign table.now design }
-    ensures good { IfOk result (λ better. IsGoodDesign table.now better.1) }
-    ensures cost { IfOk result (λ better. better.0 ≡ cost_of table.now better.1) }
-    ensures not_dearer { IfOk result (λ better. better.0 ≤ cost_of table.now design) }
+    ensures { IfOk result (IsImproved table.now design) }
 {
     improve_share(alloc, table, design, seed, 1)
 }
@@ -93,9 +88,7 @@ pub(crate) fn improve_share(
     shares: u32,
 ) -> Result<(u128, Design), AllocError>
     requires design { IsGoodDesign table.now design }
-    ensures good { IfOk result (λ better. IsGoodDesign table.now better.1) }
-    ensures cost { IfOk result (λ better. better.0 ≡ cost_of table.now better.1) }
-    ensures not_dearer { IfOk result (λ better. better.0 ≤ cost_of table.now design) }
+    ensures { IfOk result (IsImproved table.now design) }
 {
     let inst = table.instance();
     let paths = searched(alloc, table, &design, seed, shares)?;

@@ -224,28 +224,6 @@ impl Scout {
         })
     }
 
-    /// Finds a path of least weight from the demand's source to its target, where there is one.
-    #[tactic(auto, using(crate::proofs::ScoutLaws::least_simple))]
-    fn find_any(
-        &mut self,
-        inst: &Instance,
-        weights: &[Option<u128>],
-        demand: &Demand,
-    ) -> Result<bool, AllocError>
-        requires weights { AreWeights inst.now weights.now }
-        requires demand { IsDemand inst.now.nodes demand.now }
-        ensures { IfOk result (λ found. IsTrue found → IsSimplePath inst.now demand.now self.new.path) }
-    {
-        let Some(_weight) = self
-            .room
-            .search(inst, weights, demand.source, demand.target)?
-        else {
-            return Ok(false);
-        };
-        self.room.swap(&mut self.path);
-        Ok(true)
-    }
-
     /// Finds a path of least weight among those of at most so many arcs, where there is one.
     #[tactic(auto, using(crate::proofs::ScoutLaws::least_within_simple))]
     fn find_within(
@@ -271,6 +249,7 @@ impl Scout {
     }
 
     /// Finds a path of least weight among those that keep the demand's limit, where there is one.
+    #[tactic(auto, using(crate::proofs::ScoutLaws::least_simple))]
     fn find(
         &mut self,
         inst: &Instance,
@@ -281,10 +260,17 @@ impl Scout {
         requires demand { IsDemand inst.now.nodes demand.now }
         ensures { IfOk result (λ found. IsTrue found → IsSimplePath inst.now demand.now self.new.path) }
     {
-        match demand.hops {
-            Some(hops) => self.find_within(inst, weights, demand, hops),
-            None => self.find_any(inst, weights, demand),
+        if let Some(hops) = demand.hops {
+            return self.find_within(inst, weights, demand, hops);
         }
+        let Some(_weight) = self
+            .room
+            .search(inst, weights, demand.source, demand.target)?
+        else {
+            return Ok(false);
+        };
+        self.room.swap(&mut self.path);
+        Ok(true)
     }
 }
 
@@ -423,13 +409,6 @@ impl Negotiation {
         }
         Ok(false)
     }
-
-    /// The paths, whether they are laid or not.
-    fn into_paths(self) -> Items<Path>
-        ensures { result ≡ self.routing.paths.items }
-    {
-        Items::from_vec(self.routing.paths)
-    }
 }
 
 /// Paths that are negotiated by rounds in this order. None as `negotiated`.
@@ -444,9 +423,10 @@ fn negotiated_in_order(
     ensures { IfOk result (λ found. IfSome found (ArePaths table.now)) }
 {
     let mut negotiation = Negotiation::new(alloc, table, paths)?;
-    let is_settled = negotiation.settle(table, order)?;
-    let paths = negotiation.into_paths();
-    Ok(if is_settled { Some(paths) } else { None })
+    if !negotiation.settle(table, order)? {
+        return Ok(None);
+    }
+    Ok(Some(Items::from_vec(negotiation.routing.paths)))
 }
 
 /// Paths that are negotiated: in each round demands are laid one by one on the paths that ask least, the largest loads

@@ -49,6 +49,14 @@ const LAYING_TURN: u32 = 16;
 /// How many demands are tried for another path at most.
 const MOST_TRIES: u32 = 64;
 
+/// Paths that a design may have: one simple path for each demand, in order, and the step table of their instance.
+#[derive(Clone, Copy)]
+struct Candidate<'a> {
+    alloc: Global,
+    table: &'a StepTable,
+    paths: &'a Items<Path>,
+}
+
 /// Searches for better designs, each of which takes some tenths of a second: so there are few of them. The first one
 /// begins with the paths that it is given, the second one with paths that are laid one by one, where these are not much
 /// dearer, and each later one with the cheapest design so far, where one demand has another path.
@@ -109,19 +117,15 @@ fn place_after(seat: u32, seats: u32, searches: u32, place: u32) -> u32
 
 /// The cheapest design with these paths, where they keep the limits of their demands and the links can carry them.
 #[tactic(auto, using(crate::proofs::DesignLaws::good_completion))]
-fn completed(
-    alloc: Global,
-    table: &StepTable,
-    paths: &Items<Path>,
-) -> Result<Option<Design>, AllocError>
-    requires paths { ArePaths table.now paths.now }
-    ensures good { IfOk result (λ found. IfSome found (IsGoodDesign table.now)) }
-    ensures paths { IfOk result (λ found. IfSome found (λ design. design.paths ≡ paths.now)) }
-    ensures none { IfOk result (λ found. IfNone found (KeepsLimits table.now (with_paths paths.now) → HasOverfull table.now paths.now)) }
+fn completed(from: &Candidate) -> Result<Option<Design>, AllocError>
+    requires { ArePaths from.now.table.now from.now.paths.now }
+    ensures good { IfOk result (λ found. IfSome found (IsGoodDesign from.now.table.now)) }
+    ensures paths { IfOk result (λ found. IfSome found (λ design. design.paths ≡ from.now.paths.now)) }
+    ensures none { IfOk result (λ found. IfNone found (KeepsLimits from.now.table.now (with_paths from.now.paths.now) → HasOverfull from.now.table.now from.now.paths.now)) }
 {
-    let inst = table.instance();
-    let copy = roomy_copies(alloc, inst, paths.as_slice())?;
-    let Some((_cost, design)) = complete(alloc, table, Items::from_vec(copy))? else {
+    let inst = from.table.instance();
+    let copy = roomy_copies(from.alloc, inst, from.paths.as_slice())?;
+    let Some((_cost, design)) = complete(from.alloc, from.table, Items::from_vec(copy))? else {
         return Ok(None);
     };
     if check_design(inst, &design).is_err() {
@@ -131,41 +135,35 @@ fn completed(
 }
 
 /// The cheapest design with paths that are negotiated, where that finds some.
-fn bargained(
-    alloc: Global,
-    table: &StepTable,
-    paths: &Items<Path>,
-) -> Result<Option<Design>, AllocError>
-    requires paths { ArePaths table.now paths.now }
-    ensures { IfOk result (λ found. IfSome found (IsGoodDesign table.now)) }
+fn bargained(from: &Candidate) -> Result<Option<Design>, AllocError>
+    requires { ArePaths from.now.table.now from.now.paths.now }
+    ensures { IfOk result (λ found. IfSome found (IsGoodDesign from.now.table.now)) }
 {
-    match negotiated(alloc, table, paths)? {
-        Some(found) => completed(alloc, table, &found),
+    match negotiated(from.alloc, from.table, from.paths)? {
+        Some(paths) => completed(&Candidate {
+            paths: &paths,
+            ..*from
+        }),
         None => Ok(None),
     }
 }
 
 /// The cheapest design with paths that are laid one by one, where each demand finds one and the design is good; else,
 /// where this is asked for, with paths that are negotiated.
-fn laid(
-    alloc: Global,
-    table: &StepTable,
-    paths: &Items<Path>,
-    is_turn: bool,
-) -> Result<Option<Design>, AllocError>
-    requires paths { ArePaths table.now paths.now }
-    ensures { IfOk result (λ found. IfSome found (IsGoodDesign table.now)) }
+fn laid(from: &Candidate, is_turn: bool) -> Result<Option<Design>, AllocError>
+    requires { ArePaths from.now.table.now from.now.paths.now }
+    ensures { IfOk result (λ found. IfSome found (IsGoodDesign from.now.table.now)) }
 {
-    if let Some(laid) = lay_all(alloc, table, paths)? {
-        if let Some(design) = completed(alloc, table, &laid)? {
+    if let Some(paths) = lay_all(from.alloc, from.table, from.paths)? {
+        let laid = Candidate {
+            paths: &paths,
+            ..*from
+        };
+        if let Some(design) = completed(&laid)? {
             return Ok(Some(design));
         }
     }
-    if is_turn {
-        bargained(alloc, table, paths)
-    } else {
-        Ok(None)
-    }
+    if is_turn { bargained(from) } else { Ok(None) }
 }
 
 /// The paths of a design, where that of a demand is another one.
@@ -191,45 +189,39 @@ fn exchanged(
 /// The cheapest design with the paths of a good one, where that of a demand is the one among these; None where it is
 /// the same or above the demand's limit, or the links cannot carry them.
 fn completed_with(
-    alloc: Global,
-    table: &StepTable,
+    from: &Candidate,
     design: &Design,
-    paths: &Items<Path>,
     demand: DemandId,
 ) -> Result<Option<Design>, AllocError>
-    requires design { IsDesign table.now design.now }
-    requires paths { ArePaths table.now paths.now }
-    requires demand { demand.0 < length table.now.demands }
-    ensures { IfOk result (λ found. IfSome found (IsGoodDesign table.now)) }
+    requires design { IsDesign from.now.table.now design.now }
+    requires paths { ArePaths from.now.table.now from.now.paths.now }
+    requires demand { demand.0 < length from.now.table.now.demands }
+    ensures { IfOk result (λ found. IfSome found (IsGoodDesign from.now.table.now)) }
 {
-    let inst = table.instance();
+    let inst = from.table.instance();
     let place = demand.0 as usize;
-    let path = &paths.as_slice()[place];
+    let path = &from.paths.as_slice()[place];
     if design.paths.as_slice()[place] == *path {
         return Ok(None);
     }
-    let exchanged = exchanged(alloc, inst, design, demand, path)?;
-    completed(alloc, table, &exchanged)
+    let paths = exchanged(from.alloc, inst, design, demand, path)?;
+    completed(&Candidate {
+        paths: &paths,
+        ..*from
+    })
 }
 
 /// The cheapest design with the paths of a good one, where that of the first demand that differs and can be carried is
 /// the one among these.
-fn varied(
-    alloc: Global,
-    table: &StepTable,
-    design: &Design,
-    paths: &Items<Path>,
-    first: u32,
-) -> Result<Option<Design>, AllocError>
-    requires design { IsDesign table.now design.now }
-    requires paths { ArePaths table.now paths.now }
-    ensures { IfOk result (λ found. IfSome found (IsGoodDesign table.now)) }
+fn varied(from: &Candidate, design: &Design, first: u32) -> Result<Option<Design>, AllocError>
+    requires design { IsDesign from.now.table.now design.now }
+    requires paths { ArePaths from.now.table.now from.now.paths.now }
+    ensures { IfOk result (λ found. IfSome found (IsGoodDesign from.now.table.now)) }
 {
-    let inst = table.instance();
-    let demands = inst.demands();
+    let demands = from.table.instance().demands();
     for offset in 0..demands.min(MOST_TRIES) {
         let demand = DemandId((first % demands + offset) % demands);
-        if let Some(found) = completed_with(alloc, table, design, paths, demand)? {
+        if let Some(found) = completed_with(from, design, demand)? {
             return Ok(Some(found));
         }
     }
@@ -340,67 +332,51 @@ impl DesignSearch {
 
     /// A design to begin with: that of these paths and that of paths laid one by one, in this order or the other one.
     /// Paths are negotiated at laying turns alone.
-    fn fresh(
-        &self,
-        alloc: Global,
-        table: &StepTable,
-        paths: &Items<Path>,
-        is_laid_first: bool,
-    ) -> Result<Option<Design>, AllocError>
-        requires paths { ArePaths table.now paths.now }
-        ensures { IfOk result (λ found. IfSome found (IsGoodDesign table.now)) }
+    fn fresh(&self, from: &Candidate, is_laid_first: bool) -> Result<Option<Design>, AllocError>
+        requires { ArePaths from.now.table.now from.now.paths.now }
+        ensures { IfOk result (λ found. IfSome found (IsGoodDesign from.now.table.now)) }
     {
         if is_laid_first {
-            if let Some(found) = laid(alloc, table, paths, self.is_laying_turn())? {
+            if let Some(found) = laid(from, self.is_laying_turn())? {
                 return Ok(Some(found));
             }
-            return completed(alloc, table, paths);
+            return completed(from);
         }
-        if let Some(found) = completed(alloc, table, paths)? {
+        if let Some(found) = completed(from)? {
             return Ok(Some(found));
         }
         if !self.is_laying_turn() {
             return Ok(None);
         }
-        laid(alloc, table, paths, true)
+        laid(from, true)
     }
 
     /// The cheapest design so far, where one demand has another path, one of these.
-    fn varied_best(
-        &self,
-        alloc: Global,
-        table: &StepTable,
-        paths: &Items<Path>,
-    ) -> Result<Option<Design>, AllocError>
-        requires paths { ArePaths table.now paths.now }
-        ensures { IfOk result (λ found. IfSome found (IsGoodDesign table.now)) }
+    fn varied_best(&self, from: &Candidate) -> Result<Option<Design>, AllocError>
+        requires { ArePaths from.now.table.now from.now.paths.now }
+        ensures { IfOk result (λ found. IfSome found (IsGoodDesign from.now.table.now)) }
     {
-        let inst = table.instance();
+        let inst = from.table.instance();
         let Some(best) = &self.best else {
             return Ok(None);
         };
         if check_design(inst, best).is_err() {
             return Ok(None);
         }
-        varied(alloc, table, best, paths, self.asked)
+        varied(from, best, self.asked)
     }
 
     /// A design with paths that are laid one by one, where a search from it is worth its time beside another design: in
     /// the first search that of these paths, and later the cheapest one so far. Else that other one, which is varied
     /// where it was searched from.
-    fn laid_or_other(
-        &self,
-        alloc: Global,
-        table: &StepTable,
-        paths: &Items<Path>,
-    ) -> Result<Option<Design>, AllocError>
-        requires paths { ArePaths table.now paths.now }
-        ensures { IfOk result (λ found. IfSome found (IsGoodDesign table.now)) }
+    fn laid_or_other(&self, from: &Candidate) -> Result<Option<Design>, AllocError>
+        requires { ArePaths from.now.table.now from.now.paths.now }
+        ensures { IfOk result (λ found. IfSome found (IsGoodDesign from.now.table.now)) }
     {
-        let inst = table.instance();
-        let laid = self.fresh(alloc, table, paths, true)?;
+        let inst = from.table.instance();
+        let laid = self.fresh(from, true)?;
         if self.place == 0 {
-            let other = completed(alloc, table, paths)?;
+            let other = completed(from)?;
             return Ok(if is_worth(inst, &laid, &other) {
                 laid
             } else {
@@ -410,7 +386,7 @@ impl DesignSearch {
         if is_worth(inst, &laid, &self.best) {
             return Ok(laid);
         }
-        match self.varied_best(alloc, table, paths)? {
+        match self.varied_best(from)? {
             Some(varied) => Ok(Some(varied)),
             None => Ok(laid),
         }
@@ -430,26 +406,21 @@ impl DesignSearch {
     }
 
     /// The design that the next search begins with.
-    fn start(
-        &self,
-        alloc: Global,
-        table: &StepTable,
-        paths: &Items<Path>,
-    ) -> Result<Option<Design>, AllocError>
-        requires paths { ArePaths table.now paths.now }
-        ensures { IfOk result (λ found. IfSome found (IsGoodDesign table.now)) }
+    fn start(&self, from: &Candidate) -> Result<Option<Design>, AllocError>
+        requires { ArePaths from.now.table.now from.now.paths.now }
+        ensures { IfOk result (λ found. IfSome found (IsGoodDesign from.now.table.now)) }
     {
-        let inst = table.instance();
+        let inst = from.table.instance();
         if self.searches > 0 && has_parts_left(self.seats, self.searches) {
             return self.copied_best(inst);
         }
         if self.place > 1 {
-            return self.varied_best(alloc, table, paths);
+            return self.varied_best(from);
         }
         if self.begins_laid() {
-            return self.laid_or_other(alloc, table, paths);
+            return self.laid_or_other(from);
         }
-        self.fresh(alloc, table, paths, false)
+        self.fresh(from, false)
     }
 
     /// Holds a copy of the design, where it is cheaper than the one that is held: the later searches begin with it.
@@ -493,12 +464,16 @@ impl DesignSearch {
         ensures seat { self.new.seat ≡ self.old.seat }
         ensures seats { self.new.seats ≡ self.old.seats }
     {
-        let inst = table.instance();
         self.asked = self.asked.saturating_add(1);
         if !self.is_due(examined) {
             return Ok(None);
         }
-        let Some(start) = self.start(alloc, table, paths)? else {
+        let from = Candidate {
+            alloc,
+            table,
+            paths,
+        };
+        let Some(start) = self.start(&from)? else {
             return Ok(None);
         };
         let shares = self.shares();
@@ -507,7 +482,7 @@ impl DesignSearch {
         // No two searches share a seed, whichever seats they are of.
         let seed = self.seat.wrapping_mul(SEEDS).wrapping_add(self.searches);
         let (_cost, design) = improve_share(alloc, table, start, seed, shares)?;
-        self.learn(inst, &design)?;
+        self.learn(table.instance(), &design)?;
         Ok(Some(design))
     }
 }
