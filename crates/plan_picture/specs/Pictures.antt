@@ -41,6 +41,18 @@ group Bidirected = codes "<g class='bidirected'>\n"
 abbrev pub HasLoads : Parts → Option (ℕ × Design) → List ℕ → Type 0
 HasLoads p design loads = IfSome design (λ stated. (q : ℕ) → q < MAX_PLACES → slice_index loads q ≡ load_at p stated.1 q)
 
+-- a plan with its network and its instance, and the number of the demand whose path is lit, if one is
+pub record Lit : Type 0 where
+  pub net : NetworkFile
+  pub parts : Parts
+  pub plan : Plan
+  pub demand : Option ℕ
+
+-- a plan and the places of its marks
+pub record Drawn : Type 0 where
+  pub of : Lit
+  pub looks : Looks
+
 -- the traffic on a link of a plan's design, where it has one
 abbrev pub traffic_of : Parts → Option (ℕ × Design) → Option ℕ → ℕ → Option Traffic
 traffic_of p None lit e = None

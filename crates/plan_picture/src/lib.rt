@@ -7,10 +7,11 @@
 #![tactic(auto)]
 
 mod coordinates;
+mod drawing;
 mod lit;
+mod lit_plan;
 mod names;
 mod picture;
 mod sites;
-mod traffic;
 
 pub use picture::picture_text;

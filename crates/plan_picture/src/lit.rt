@@ -1,15 +1,14 @@
 //! What a picture tells of the demand whose path is lit.
 
-ghost use Rattle.std.specs.Prelude.{◌≡◌, ◌<◌, ◌++◌, length, option_map, OnOk, IfSome};
-ghost use Rattle.proof_tree.specs.Plans.{IsValidPlan};
-ghost use Rattle.plan_report.specs.Reports.{HasNames};
+ghost use Rattle.std.specs.Prelude.{◌≡◌, ◌<◌, ◌++◌, length, OnOk};
+ghost use Rattle.plan_report.specs.Reports.{demand_name};
 ghost use Rattle.plan_picture.specs.Pictures.{path_words, link_words, limit_text, count_text, path_text, lit_text};
 
+use crate::lit_plan::LitPlan;
 use picture_marks::push_escaped;
-use plan_base::{DemandId, Instance};
-use plan_report::push_number;
+use plan_base::DemandId;
+use plan_report::{NamedPlan, demand_name, push_number};
 use proof_tree::Plan;
-use snd_network::NetworkFile;
 use std::alloc::AllocError;
 
 /// What stands before the name of the demand that is to be lit: whether the plan has a path of it.
@@ -49,64 +48,39 @@ fn push_limit(text: &mut Vec<u8>, hops: Option<u64>, arcs: u64) -> Result<(), Al
 
 /// Writes how many links the path of the demand has in the plan and how many it may have, where it has a limit.
 #[tactic(auto, unfolding(crate::specs::Pictures::count_text))]
-fn push_count(
-    text: &mut Vec<u8>,
-    inst: &Instance,
-    plan: &Plan,
-    demand: DemandId,
-) -> Result<(), AllocError>
-    requires valid { IsValidPlan inst.now plan.now }
-    requires demand { demand.0 < length inst.now.demands }
-    ensures { OnOk result (text.new.items ≡ text.old.items ++ count_text inst.now plan.now.design demand.0) }
+fn push_count(text: &mut Vec<u8>, named: &NamedPlan, demand: DemandId) -> Result<(), AllocError>
+    requires { demand.0 < length named.now.parts.demands }
+    ensures { OnOk result (text.new.items ≡ text.old.items ++ count_text named.now.parts named.now.plan.design demand.0) }
 {
-    match &plan.design {
+    match &named.plan().design {
         None => Ok(()),
         Some((_, design)) => {
             let arcs = design.paths.as_slice()[demand.0 as usize].as_slice();
-            push_limit(text, inst.demand(demand).hops, arcs.len() as u64)
+            push_limit(text, named.inst().demand(demand).hops, arcs.len() as u64)
         }
     }
 }
 
 /// Writes whose path is lit and how long it may be, or that the plan has none.
-fn push_path_name(
-    text: &mut Vec<u8>,
-    inst: &Instance,
-    plan: &Plan,
-    demand: DemandId,
-    name: &[u8],
-) -> Result<(), AllocError>
-    requires valid { IsValidPlan inst.now plan.now }
-    requires demand { demand.0 < length inst.now.demands }
-    ensures { OnOk result (text.new.items ≡ text.old.items ++ path_text inst.now plan.now.design name.now demand.0) }
+fn push_path_name(text: &mut Vec<u8>, named: &NamedPlan, demand: DemandId) -> Result<(), AllocError>
+    requires { demand.0 < length named.now.parts.demands }
+    ensures { OnOk result (text.new.items
+        ≡ text.old.items ++ path_text named.now.parts named.now.plan.design (demand_name named.now.net demand.0) demand.0) }
 {
     text.extend_from_slice(b"<text class='legend' x='60' y='820'>")?;
-    text.extend_from_slice(path_words(plan))?;
-    push_escaped(text, name)?;
-    push_count(text, inst, plan, demand)?;
+    text.extend_from_slice(path_words(named.plan()))?;
+    push_escaped(text, demand_name(named.net(), demand))?;
+    push_count(text, named, demand)?;
     text.extend_from_slice(b"</text>\n")?;
     Ok(())
 }
 
 /// Writes what is told of the demand that is to be lit.
-pub fn push_lit(
-    text: &mut Vec<u8>,
-    net: &NetworkFile,
-    inst: &Instance,
-    plan: &Plan,
-    lit: Option<DemandId>,
-) -> Result<(), AllocError>
-    requires names { HasNames net.now inst.now }
-    requires valid { IsValidPlan inst.now plan.now }
-    requires lit { IfSome lit (λ k. k.0 < length inst.now.demands) }
-    ensures { OnOk result (text.new.items ≡ text.old.items
-        ++ lit_text net.now inst.now plan.now.design (option_map (λ k. k.0) lit)) }
+pub fn push_lit(text: &mut Vec<u8>, plan: &LitPlan) -> Result<(), AllocError>
+    ensures { OnOk result (text.new.items ≡ text.old.items ++ lit_text plan.now.net plan.now.parts plan.now.plan.design plan.now.demand) }
 {
-    match lit {
+    match plan.lit() {
         None => Ok(()),
-        Some(demand) => {
-            let record = &net.demands.as_slice()[demand.0 as usize];
-            push_path_name(text, inst, plan, demand, record.name.as_slice())
-        }
+        Some(demand) => push_path_name(text, plan.named(), demand),
     }
 }

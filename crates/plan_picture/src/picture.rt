@@ -2,19 +2,18 @@
 
 ghost use Rattle.std.specs.Prelude.{◌≡◌, ◌<◌, ◌++◌, length, option_map, OnOk, IfOk, IfSome, None};
 ghost use Rattle.proof_tree.specs.Plans.{IsValidPlan};
-ghost use Rattle.plan_report.specs.Reports.{IsReadFrom, HasNames};
-ghost use Rattle.mark_places.specs.Places.{HasLooks};
-ghost use Rattle.plan_picture.specs.Pictures.{HasLoads, ends_at, is_end, node_mark, node_marks, link_mark, link_marks, link_label, link_labels, figures_at, link_figures, all_figures, encoding, head, group, claim_text, body_text, IsPicture};
+ghost use Rattle.plan_report.specs.Reports.{IsReadFrom};
+ghost use Rattle.plan_picture.specs.Pictures.{ends_at, is_end, node_mark, node_marks, link_mark, link_marks, link_label, link_labels, figures_at, link_figures, all_figures, encoding, head, group, claim_text, body_text, IsPicture};
 
+use crate::drawing::Drawing;
 use crate::lit::push_lit;
+use crate::lit_plan::{LitPlan, loads_of_plan};
 use crate::names::are_utf8;
 use crate::sites::looks_of_plan;
-use crate::traffic::{loads_of_plan, traffic_of};
-use mark_places::{Looks, Spot};
+use mark_places::Spot;
 use picture_marks::{push_figures, push_label, push_link, push_node};
-use plan_base::limits::MAX_PLACES;
-use plan_base::{DemandId, Instance, LinkId, Orient};
-use plan_report::trial_line;
+use plan_base::{DemandId, Instance, LinkId, NodeId, Orient};
+use plan_report::{NamedPlan, link_name, node_name, trial_line};
 use proof_tree::Plan;
 use snd_network::NetworkFile;
 use std::alloc::{AllocError, Global};
@@ -129,127 +128,83 @@ fn is_end(inst: &Instance, lit: Option<DemandId>, node: u32) -> bool
 
 /// Writes the mark of the node of this number.
 #[tactic(auto, unfolding(crate::specs::Pictures::node_mark))]
-fn push_node_at(
-    text: &mut Vec<u8>,
-    net: &NetworkFile,
-    inst: &Instance,
-    lit: Option<DemandId>,
-    looks: &Looks,
-    node: u32,
-) -> Result<(), AllocError>
-    requires node { node < length net.now.nodes }
-    requires lit { IfSome lit (λ k. k.0 < length inst.now.demands) }
-    requires looks { length looks.now.nodes ≡ length net.now.nodes }
-    ensures { OnOk result (text.new.items ≡ text.old.items
-        ++ node_mark net.now inst.now (option_map (λ k. k.0) lit) looks.now node) }
+fn push_node_at(text: &mut Vec<u8>, drawing: &Drawing, node: u32) -> Result<(), AllocError>
+    requires { node < drawing.now.of.parts.nodes }
+    ensures { OnOk result (text.new.items
+        ≡ text.old.items ++ node_mark drawing.now.of.net drawing.now.of.parts drawing.now.of.demand drawing.now.looks node) }
 {
-    let place = node as usize;
-    let name = net.nodes.as_slice()[place].name.as_slice();
-    push_node(
-        text,
-        name,
-        is_end(inst, lit, node),
-        looks.nodes.as_slice()[place],
-    )
+    let plan = drawing.plan();
+    let named = plan.named();
+    let name = node_name(named.net(), NodeId(node));
+    let look = drawing.looks().nodes.as_slice()[node as usize];
+    push_node(text, name, is_end(named.inst(), plan.lit(), node), look)
 }
 
 /// Writes the marks of the nodes.
 #[tactic(auto, using(plan_report::proofs::Counted::counted_more))]
-fn push_nodes(
-    text: &mut Vec<u8>,
-    net: &NetworkFile,
-    inst: &Instance,
-    lit: Option<DemandId>,
-    looks: &Looks,
-) -> Result<(), AllocError>
-    requires nodes { length net.now.nodes ≡ inst.now.nodes }
-    requires lit { IfSome lit (λ k. k.0 < length inst.now.demands) }
-    requires looks { length looks.now.nodes ≡ inst.now.nodes }
-    ensures { OnOk result (text.new.items ≡ text.old.items
-        ++ node_marks net.now inst.now (option_map (λ k. k.0) lit) looks.now inst.now.nodes) }
+fn push_nodes(text: &mut Vec<u8>, drawing: &Drawing) -> Result<(), AllocError>
+    ensures { OnOk result (text.new.items
+        ≡ text.old.items ++ node_marks drawing.now.of.net drawing.now.of.parts drawing.now.of.demand drawing.now.looks drawing.now.of.parts.nodes) }
 {
-    for node in 0..inst.nodes() {
-        push_node_at(text, net, inst, lit, looks, node)?;
+    for node in 0..drawing.plan().named().inst().nodes() {
+        push_node_at(text, drawing, node)?;
     }
     Ok(())
 }
 
 /// Writes the mark of the link of this number.
 #[tactic(auto, unfolding(crate::specs::Pictures::link_mark))]
-fn push_link_at(
-    text: &mut Vec<u8>,
-    net: &NetworkFile,
-    inst: &Instance,
-    plan: &Plan,
-    lit: Option<DemandId>,
-    looks: &Looks,
-    loads: &[u128; MAX_PLACES],
-    id: LinkId,
-) -> Result<(), AllocError>
-    requires names { HasNames net.now inst.now }
-    requires valid { IsValidPlan inst.now plan.now }
-    requires lit { IfSome lit (λ k. k.0 < length inst.now.demands) }
-    requires looks { HasLooks looks.now inst.now.nodes (length inst.now.links) }
-    requires loads { HasLoads inst.now plan.now.design loads.now }
-    requires link { id.0 < length inst.now.links }
-    ensures { OnOk result (text.new.items ≡ text.old.items
-        ++ link_mark net.now inst.now plan.now.design (option_map (λ k. k.0) lit) looks.now id.0) }
+fn push_link_at(text: &mut Vec<u8>, drawing: &Drawing, id: LinkId) -> Result<(), AllocError>
+    requires { id.0 < length drawing.now.of.parts.links }
+    ensures { OnOk result (text.new.items
+        ≡ text.old.items ++ link_mark drawing.now.of.net drawing.now.of.parts drawing.now.of.plan.design drawing.now.of.demand drawing.now.looks id.0) }
 {
-    inst.lawful();
-    let name = net.links.as_slice()[id.0 as usize].name.as_slice();
-    let traffic = traffic_of(inst, plan, lit, id, loads);
-    push_link(text, name, inst, looks, traffic, id)
+    let plan = drawing.plan();
+    let named = plan.named();
+    let name = link_name(named.net(), id);
+    named.inst().lawful();
+    push_link(
+        text,
+        name,
+        named.inst(),
+        drawing.looks(),
+        plan.traffic(id),
+        id,
+    )
 }
 
 /// Writes the marks of the links.
 #[tactic(auto, using(plan_report::proofs::Counted::counted_more))]
-fn push_links(
-    text: &mut Vec<u8>,
-    net: &NetworkFile,
-    inst: &Instance,
-    plan: &Plan,
-    lit: Option<DemandId>,
-    looks: &Looks,
-    loads: &[u128; MAX_PLACES],
-) -> Result<(), AllocError>
-    requires names { HasNames net.now inst.now }
-    requires valid { IsValidPlan inst.now plan.now }
-    requires lit { IfSome lit (λ k. k.0 < length inst.now.demands) }
-    requires looks { HasLooks looks.now inst.now.nodes (length inst.now.links) }
-    requires loads { HasLoads inst.now plan.now.design loads.now }
-    ensures { OnOk result (text.new.items ≡ text.old.items
-        ++ link_marks net.now inst.now plan.now.design (option_map (λ k. k.0) lit) looks.now (length inst.now.links)) }
+fn push_links(text: &mut Vec<u8>, drawing: &Drawing) -> Result<(), AllocError>
+    ensures { OnOk result (text.new.items
+        ≡ text.old.items ++ link_marks drawing.now.of.net drawing.now.of.parts drawing.now.of.plan.design drawing.now.of.demand drawing.now.looks
+        (length drawing.now.of.parts.links)) }
 {
-    for place in 0..inst.links() {
-        push_link_at(text, net, inst, plan, lit, looks, loads, LinkId(place))?;
+    for place in 0..drawing.plan().named().inst().links() {
+        push_link_at(text, drawing, LinkId(place))?;
     }
     Ok(())
 }
 
 /// Writes the name of the link of this number, at its place.
 #[tactic(auto, unfolding(crate::specs::Pictures::link_label))]
-fn push_link_label(
-    text: &mut Vec<u8>,
-    net: &NetworkFile,
-    looks: &Looks,
-    place: usize,
-) -> Result<(), AllocError>
-    requires link { place < length net.now.links }
-    requires looks { length looks.now.links ≡ length net.now.links }
-    ensures { OnOk result (text.new.items ≡ text.old.items ++ link_label net.now looks.now place) }
+fn push_link_label(text: &mut Vec<u8>, drawing: &Drawing, id: LinkId) -> Result<(), AllocError>
+    requires { id.0 < length drawing.now.of.parts.links }
+    ensures { OnOk result (text.new.items ≡ text.old.items ++ link_label drawing.now.of.net drawing.now.looks id.0) }
 {
-    let name = net.links.as_slice()[place].name.as_slice();
-    push_label(text, b"name", looks.links.as_slice()[place].label, name)
+    let name = link_name(drawing.plan().named().net(), id);
+    let look = &drawing.looks().links.as_slice()[id.0 as usize];
+    push_label(text, b"name", look.label, name)
 }
 
 /// Writes the names of the links.
 #[tactic(auto, using(plan_report::proofs::Counted::counted_more))]
-fn push_link_labels(text: &mut Vec<u8>, net: &NetworkFile, looks: &Looks) -> Result<(), AllocError>
-    requires { length looks.now.links ≡ length net.now.links }
-    ensures { OnOk result (text.new.items ≡ text.old.items ++ link_labels net.now looks.now (length net.now.links)) }
+fn push_link_labels(text: &mut Vec<u8>, drawing: &Drawing) -> Result<(), AllocError>
+    ensures { OnOk result (text.new.items
+        ≡ text.old.items ++ link_labels drawing.now.of.net drawing.now.looks (length drawing.now.of.parts.links)) }
 {
-    for place in 0..net.links.len() {
-        push_link_label(text, net, looks, place)?;
+    for place in 0..drawing.plan().named().inst().links() {
+        push_link_label(text, drawing, LinkId(place))?;
     }
     Ok(())
 }
@@ -270,72 +225,39 @@ fn push_figures_at(text: &mut Vec<u8>, spot: Option<Spot>, figures: &[u8]) -> Re
 fn push_link_figures(
     text: &mut Vec<u8>,
     room: &mut Vec<u8>,
-    inst: &Instance,
-    plan: &Plan,
-    lit: Option<DemandId>,
-    looks: &Looks,
-    loads: &[u128; MAX_PLACES],
+    drawing: &Drawing,
     id: LinkId,
 ) -> Result<(), AllocError>
-    requires valid { IsValidPlan inst.now plan.now }
-    requires lit { IfSome lit (λ k. k.0 < length inst.now.demands) }
-    requires looks { HasLooks looks.now inst.now.nodes (length inst.now.links) }
-    requires loads { HasLoads inst.now plan.now.design loads.now }
-    requires link { id.0 < length inst.now.links }
-    ensures { OnOk result (text.new.items ≡ text.old.items
-        ++ link_figures inst.now plan.now.design (option_map (λ k. k.0) lit) looks.now id.0) }
+    requires { id.0 < length drawing.now.of.parts.links }
+    ensures { OnOk result (text.new.items
+        ≡ text.old.items ++ link_figures drawing.now.of.parts drawing.now.of.plan.design drawing.now.of.demand drawing.now.looks id.0) }
 {
     room.clear();
-    push_figures(room, traffic_of(inst, plan, lit, id, loads))?;
-    let spot = looks.links.as_slice()[id.0 as usize].figures;
+    push_figures(room, drawing.plan().traffic(id))?;
+    let spot = drawing.looks().links.as_slice()[id.0 as usize].figures;
     push_figures_at(text, spot, room.as_slice())
 }
 
 /// Writes the figures of the links.
 #[tactic(auto, using(plan_report::proofs::Counted::counted_more))]
-fn push_all_figures(
-    alloc: Global,
-    text: &mut Vec<u8>,
-    inst: &Instance,
-    plan: &Plan,
-    lit: Option<DemandId>,
-    looks: &Looks,
-    loads: &[u128; MAX_PLACES],
-) -> Result<(), AllocError>
-    requires valid { IsValidPlan inst.now plan.now }
-    requires lit { IfSome lit (λ k. k.0 < length inst.now.demands) }
-    requires looks { HasLooks looks.now inst.now.nodes (length inst.now.links) }
-    requires loads { HasLoads inst.now plan.now.design loads.now }
-    ensures { OnOk result (text.new.items ≡ text.old.items
-        ++ all_figures inst.now plan.now.design (option_map (λ k. k.0) lit) looks.now (length inst.now.links)) }
+fn push_all_figures(alloc: Global, text: &mut Vec<u8>, drawing: &Drawing) -> Result<(), AllocError>
+    ensures { OnOk result (text.new.items
+        ≡ text.old.items ++ all_figures drawing.now.of.parts drawing.now.of.plan.design drawing.now.of.demand drawing.now.looks
+        (length drawing.now.of.parts.links)) }
 {
     let mut room = Vec::new(alloc);
-    for place in 0..inst.links() {
-        push_link_figures(
-            text,
-            &mut room,
-            inst,
-            plan,
-            lit,
-            looks,
-            loads,
-            LinkId(place),
-        )?;
+    for place in 0..drawing.plan().named().inst().links() {
+        push_link_figures(text, &mut room, drawing, LinkId(place))?;
     }
     Ok(())
 }
 
 /// Writes the claim of a plan: its line without its first word.
 #[tactic(auto, using(crate::proofs::Claims::long_line))]
-fn push_claim(
-    alloc: Global,
-    text: &mut Vec<u8>,
-    inst: &Instance,
-    plan: &Plan,
-) -> Result<(), AllocError>
-    ensures { OnOk result (text.new.items ≡ text.old.items ++ claim_text inst.now plan.now) }
+fn push_claim(alloc: Global, text: &mut Vec<u8>, named: &NamedPlan) -> Result<(), AllocError>
+    ensures { OnOk result (text.new.items ≡ text.old.items ++ claim_text named.now.parts named.now.plan) }
 {
-    let line = trial_line(alloc, inst, plan)?;
+    let line = trial_line(alloc, named.inst(), named.plan())?;
     let (_, claim) = line.as_slice().split_at(FIRST_WORD);
     text.extend_from_slice(b"<text class='legend' x='60' y='845'>")?;
     text.extend_from_slice(claim)?;
@@ -344,30 +266,19 @@ fn push_claim(
 }
 
 /// Writes the marks of a picture and its end.
-fn push_body(
-    alloc: Global,
-    text: &mut Vec<u8>,
-    net: &NetworkFile,
-    inst: &Instance,
-    plan: &Plan,
-    lit: Option<DemandId>,
-    looks: &Looks,
-) -> Result<(), AllocError>
-    requires read { IsReadFrom net.now inst.now }
-    requires valid { IsValidPlan inst.now plan.now }
-    requires lit { IfSome lit (λ k. k.0 < length inst.now.demands) }
-    requires looks { HasLooks looks.now inst.now.nodes (length inst.now.links) }
-    ensures { OnOk result (text.new.items ≡ text.old.items
-        ++ body_text net.now inst.now plan.now (option_map (λ k. k.0) lit) looks.now) }
+fn push_body(alloc: Global, text: &mut Vec<u8>, drawing: &Drawing) -> Result<(), AllocError>
+    ensures { OnOk result (text.new.items
+        ≡ text.old.items ++ body_text drawing.now.of.net drawing.now.of.parts drawing.now.of.plan drawing.now.of.demand drawing.now.looks) }
 {
-    let loads = loads_of_plan(inst, plan);
-    push_group(text, inst.orient())?;
-    push_links(text, net, inst, plan, lit, looks, &loads)?;
-    push_link_labels(text, net, looks)?;
-    push_all_figures(alloc, text, inst, plan, lit, looks, &loads)?;
-    push_nodes(text, net, inst, lit, looks)?;
-    push_lit(text, net, inst, plan, lit)?;
-    push_claim(alloc, text, inst, plan)?;
+    let plan = drawing.plan();
+    let named = plan.named();
+    push_group(text, named.inst().orient())?;
+    push_links(text, drawing)?;
+    push_link_labels(text, drawing)?;
+    push_all_figures(alloc, text, drawing)?;
+    push_nodes(text, drawing)?;
+    push_lit(text, plan)?;
+    push_claim(alloc, text, named)?;
     text.extend_from_slice(KEYS)?;
     Ok(())
 }
@@ -393,8 +304,11 @@ pub fn picture_text(
     ensures { IfOk result (λ text. IsPicture net.now inst.now plan.now (option_map (λ k. k.0) lit) text.items) }
 {
     let mut text = Vec::new(alloc);
-    let looks = looks_of_plan(alloc, net, inst, plan)?;
+    let named = NamedPlan::new(net, inst, plan);
+    let loads = loads_of_plan(&named);
+    let lit_plan = LitPlan::new(&named, &loads, lit);
+    let looks = looks_of_plan(alloc, &lit_plan)?;
     push_head(&mut text, are_utf8(net))?;
-    push_body(alloc, &mut text, net, inst, plan, lit, &looks)?;
+    push_body(alloc, &mut text, &Drawing::new(&lit_plan, &looks))?;
     Ok(text)
 }

@@ -1,16 +1,13 @@
 //! What is to be placed of a plan, and where it stands.
 
 ghost use Rattle.std.specs.Prelude.{◌≡◌, length, IfOk};
-ghost use Rattle.proof_tree.specs.Plans.{IsValidPlan};
-ghost use Rattle.plan_report.specs.Reports.{IsReadFrom};
 ghost use Rattle.mark_places.specs.Places.{HasLooks};
 
 use crate::coordinates::coordinates_of;
-use crate::traffic::{loads_of_plan, traffic_of};
+use crate::lit_plan::LitPlan;
 use mark_places::{Looks, Site, Span, looks_of};
 use picture_marks::{Traffic, push_figures};
-use plan_base::{Instance, LinkId};
-use proof_tree::Plan;
+use plan_base::LinkId;
 use snd_network::NetworkFile;
 use std::alloc::{AllocError, Global};
 
@@ -45,15 +42,11 @@ fn drawn_of(room: &mut Vec<u8>, traffic: Option<Traffic>) -> Result<Drawn, Alloc
 }
 
 /// What is drawn of each link.
-fn all_drawn(alloc: Global, inst: &Instance, plan: &Plan) -> Result<Vec<Drawn>, AllocError>
-    requires { IsValidPlan inst.now plan.now }
-{
-    let loads = loads_of_plan(inst, plan);
+fn all_drawn(alloc: Global, plan: &LitPlan) -> Result<Vec<Drawn>, AllocError> {
     let mut room = Vec::new(alloc);
     let mut all = Vec::new(alloc);
-    for place in 0..inst.links() {
-        let traffic = traffic_of(inst, plan, None, LinkId(place), &loads);
-        all.push(drawn_of(&mut room, traffic)?)?;
+    for place in 0..plan.named().inst().links() {
+        all.push(drawn_of(&mut room, plan.traffic(LinkId(place)))?)?;
     }
     Ok(all)
 }
@@ -111,18 +104,17 @@ fn spans_of(alloc: Global, net: &NetworkFile, all: &[Drawn]) -> Result<Vec<Span>
 }
 
 /// Where the marks of a plan stand.
-pub fn looks_of_plan(
-    alloc: Global,
-    net: &NetworkFile,
-    inst: &Instance,
-    plan: &Plan,
-) -> Result<Looks, AllocError>
-    requires read { IsReadFrom net.now inst.now }
-    requires valid { IsValidPlan inst.now plan.now }
-    ensures { IfOk result (λ looks. HasLooks looks inst.now.nodes (length inst.now.links)) }
+pub fn looks_of_plan(alloc: Global, plan: &LitPlan) -> Result<Looks, AllocError>
+    ensures { IfOk result (λ looks. HasLooks looks plan.now.parts.nodes (length plan.now.parts.links)) }
 {
-    let drawn = all_drawn(alloc, inst, plan)?;
-    let sites = sites_of(alloc, net)?;
-    let spans = spans_of(alloc, net, drawn.as_slice())?;
-    looks_of(alloc, sites.as_slice(), spans.as_slice(), inst.orient())
+    let named = plan.named();
+    let drawn = all_drawn(alloc, plan)?;
+    let sites = sites_of(alloc, named.net())?;
+    let spans = spans_of(alloc, named.net(), drawn.as_slice())?;
+    looks_of(
+        alloc,
+        sites.as_slice(),
+        spans.as_slice(),
+        named.inst().orient(),
+    )
 }

@@ -16,3 +16,6 @@ module _ (p : Parts) (d : Design) (loads : List ℕ) (lawful : IsInstance p) (ar
   -- that of its other place
   pub back-load : (e : ℕ) → e < length p.links → back_of p (slice_index loads) e ≡ back_of p (load_at p d) e
   back-load e within = back-same p (slice_index loads) (load_at p d) e within (λ q inside. are q (omega (arith, inside, places-few p lawful)))
+
+-- what a link's places carry
+pub ruleset place_loads = (there-load, back-load)

@@ -10,6 +10,9 @@
 
 mod check_lines;
 mod fault_lines;
+mod named_design;
+mod named_plan;
+mod names;
 mod numbers;
 mod reports;
 mod run_fault;
@@ -18,8 +21,11 @@ mod verdict_lines;
 
 pub use check_lines::{LOAD_SCALE, check_line};
 pub use fault_lines::fault_line;
+pub use named_design::NamedDesign;
+pub use named_plan::NamedPlan;
+pub use names::{demand_name, link_name, node_name};
 pub use numbers::{push_number, push_numbers};
-pub use reports::{link_cost, push_way, report_text};
+pub use reports::{push_way, report_text};
 pub use run_fault::{FileKind, RunFault};
 pub use trial_lines::trial_line;
 pub use verdict_lines::{COST_SCALE, push_signed, status_word, verdict_line};

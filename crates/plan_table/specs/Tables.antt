@@ -164,9 +164,13 @@ design_tables net p (Some design) =
 
 -- ---- evidence
 
+-- a name behind a blank, where it is one of those that are told
+abbrev pub told_word : Bool → List ℕ → List ℕ
+told_word is_told name = if is_told then 32 ∷ name else []
+
 -- the name of the node of this number behind a blank, where it is reached
 abbrev pub reached_word : NetworkFile → List Bool → ℕ → List ℕ
-reached_word net reached n = if slice_index_or reached n false then 32 ∷ node_name net n else []
+reached_word net reached n = told_word (slice_index_or reached n false) (node_name net n)
 
 -- the names of the nodes that are reached, each behind a blank
 abbrev pub reached_words : NetworkFile → List Bool → ℕ → List ℕ
@@ -178,7 +182,7 @@ has_price p prices e = nat_lt 0 (there_of p (slice_index prices) e) || nat_lt 0 
 
 -- the name of the link of this number behind a blank, where it has a price
 abbrev pub priced_word : NetworkFile → Parts → List ℕ → ℕ → List ℕ
-priced_word net p prices e = if has_price p prices e then 32 ∷ link_name net e else []
+priced_word net p prices e = told_word (has_price p prices e) (link_name net e)
 
 -- the names of the links that have a price, each behind a blank
 abbrev pub priced_words : NetworkFile → Parts → List ℕ → ℕ → List ℕ
@@ -242,13 +246,9 @@ range_head net p record_ q = codes "range," ++ decimal record_ ++ 44 ∷ field (
 unfoldable pub range_fields : LoadRange → List ℕ
 range_fields range = 44 ∷ load_text range.least ++ 44 ∷ load_text range.most
 
--- the line of the range of a place
-abbrev pub range_line : NetworkFile → Parts → ℕ → ℕ → LoadRange → List ℕ
-range_line net p record_ q range = range_head net p record_ q ++ range_fields range ++ codes "\n"
-
 -- the line of the range of a place, where it has not all loads
 abbrev pub range_row : NetworkFile → Parts → ℕ → List LoadRange → ℕ → List ℕ
-range_row net p record_ ranges q = if is_whole p (range_at ranges q) q then [] else range_line net p record_ q (range_at ranges q)
+range_row net p record_ ranges q = if is_whole p (range_at ranges q) q then [] else range_head net p record_ q ++ range_fields (range_at ranges q) ++ codes "\n"
 
 -- the lines of the ranges of so many places
 abbrev pub range_rows : NetworkFile → Parts → ℕ → List LoadRange → ℕ → List ℕ

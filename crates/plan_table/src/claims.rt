@@ -3,12 +3,10 @@
 ghost use Rattle.std.specs.Prelude.{◌≡◌, ◌<◌, ◌≤◌, ◌^◌, ◌*◌, ◌++◌, ◌∷◌, Some, None, OnOk, IfSome, pos, ◌≤ℤ◌, ◌<ℤ◌};
 ghost use Rattle.std.specs.Int.{div_ceil};
 ghost use Rattle.link_steps.specs.Unit.{IsUnit};
-ghost use Rattle.proof_tree.specs.Plans.{IsValidPlan};
 ghost use Rattle.plan_table.specs.Tables.{used_text, gap_text, rounded_up, claimed_bound, cost_field, gap_field, bound_fields, plan_names, plan_row, plan_table};
 
 use crate::fields::push_digits;
-use plan_base::Instance;
-use plan_report::{COST_SCALE, push_signed, status_word};
+use plan_report::{COST_SCALE, NamedPlan, push_signed, status_word};
 use proof_tree::{Plan, PlanStatus};
 use scaled_numbers::write_grains;
 use std::alloc::AllocError;
@@ -161,17 +159,12 @@ fn push_row(text: &mut Vec<u8>, plan: &Plan, unit: u128) -> Result<(), AllocErro
 }
 
 /// Writes the table of what a valid plan claims, at the unit of costs.
-pub fn push_plan(
-    text: &mut Vec<u8>,
-    inst: &Instance,
-    plan: &Plan,
-    unit: u128,
-) -> Result<(), AllocError>
-    requires valid { IsValidPlan inst.now plan.now }
-    requires unit { IsUnit inst.now unit }
-    ensures { OnOk result (text.new.items ≡ text.old.items ++ plan_table unit plan.now) }
+pub fn push_plan(text: &mut Vec<u8>, named: &NamedPlan, unit: u128) -> Result<(), AllocError>
+    requires { IsUnit named.now.parts unit }
+    ensures { OnOk result (text.new.items ≡ text.old.items ++ plan_table unit named.now.plan) }
 {
-    inst.lawful();
+    let plan = named.plan();
+    named.inst().lawful();
     text.extend_from_slice(plan_names())?;
     push_row(text, plan, unit)?;
     Ok(())

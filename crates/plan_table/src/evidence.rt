@@ -2,73 +2,41 @@
 
 ghost use Rattle.std.specs.Prelude.{◌≡◌, ◌<◌, ◌++◌, ◌∷◌, false, length, slice_index, slice_index_or, OnOk};
 ghost use Rattle.plan_base.specs.Places.{there_of, back_of};
-ghost use Rattle.plan_report.specs.Reports.{node_name, link_name, demand_name};
-ghost use Rattle.plan_table.specs.Tables.{reached_word, reached_words, has_price, priced_word, priced_words, evidence_line, evidence_row, record_row, record_rows};
+ghost use Rattle.plan_table.specs.Tables.{told_word, reached_words, has_price, priced_words, evidence_line, evidence_row, record_row, record_rows};
 
 use crate::fields::{parted, push_digits, push_field};
-use plan_base::{DemandId, Instance, LinkId, NodeId, Prices};
+use crate::rows::Rows;
+use plan_base::{Instance, LinkId, NodeId, Prices};
+use plan_report::{NamedPlan, demand_name, link_name, node_name};
 use proof_tree::{Evidence, TreeNode};
-use snd_network::NetworkFile;
 use std::alloc::AllocError;
 
-/// The name of a node; nothing where there is no such node.
-fn node_name(net: &NetworkFile, id: NodeId) -> &[u8]
-    ensures { result.now ≡ node_name net.now id.0 }
+/// Writes a name behind a blank, where it is one of those that are told.
+fn push_if_told(words: &mut Vec<u8>, is_told: bool, name: &[u8]) -> Result<(), AllocError>
+    ensures { OnOk result (words.new.items ≡ words.old.items ++ told_word is_told name.now) }
 {
-    match net.nodes.as_slice().get(id.0 as usize) {
-        Some(node) => node.name.as_slice(),
-        None => &[],
-    }
-}
-
-/// The name of a link; nothing where there is no such link.
-pub fn link_name(net: &NetworkFile, id: LinkId) -> &[u8]
-    ensures { result.now ≡ link_name net.now id.0 }
-{
-    match net.links.as_slice().get(id.0 as usize) {
-        Some(link) => link.name.as_slice(),
-        None => &[],
-    }
-}
-
-/// The name of a demand; nothing where there is no such demand.
-fn demand_name(net: &NetworkFile, id: DemandId) -> &[u8]
-    ensures { result.now ≡ demand_name net.now id.0 }
-{
-    match net.demands.as_slice().get(id.0 as usize) {
-        Some(demand) => demand.name.as_slice(),
-        None => &[],
-    }
-}
-
-/// Writes the name of a node behind a blank, where it is reached.
-fn push_if_reached(
-    words: &mut Vec<u8>,
-    net: &NetworkFile,
-    reached: &[bool],
-    place: u32,
-) -> Result<(), AllocError>
-    ensures { OnOk result (words.new.items ≡ words.old.items ++ reached_word net.now reached.now place) }
-{
-    if reached.get(place as usize).copied().unwrap_or(false) {
+    if is_told {
         words.push(b' ')?;
-        return words.extend_from_slice(node_name(net, NodeId(place)));
+        return words.extend_from_slice(name);
     }
     Ok(())
 }
 
+/// Whether a node is reached.
+fn is_reached(reached: &[bool], place: u32) -> bool
+    ensures { result ≡ slice_index_or reached.now place false }
+{
+    reached.get(place as usize).copied().unwrap_or(false)
+}
+
 /// Writes the names of the nodes that are reached, each behind a blank.
 #[tactic(auto, using(plan_report::proofs::Counted::counted_more))]
-fn push_reached(
-    words: &mut Vec<u8>,
-    net: &NetworkFile,
-    inst: &Instance,
-    reached: &[bool],
-) -> Result<(), AllocError>
-    ensures { OnOk result (words.new.items ≡ words.old.items ++ reached_words net.now reached.now inst.now.nodes) }
+fn push_reached(words: &mut Vec<u8>, named: &NamedPlan, reached: &[bool]) -> Result<(), AllocError>
+    ensures { OnOk result (words.new.items ≡ words.old.items ++ reached_words named.now.net reached.now named.now.parts.nodes) }
 {
-    for place in 0..inst.nodes() {
-        push_if_reached(words, net, reached, place)?;
+    for place in 0..named.inst().nodes() {
+        let name = node_name(named.net(), NodeId(place));
+        push_if_told(words, is_reached(reached, place), name)?;
     }
     Ok(())
 }
@@ -94,36 +62,15 @@ fn has_price(inst: &Instance, prices: &Prices, id: LinkId) -> bool
     }
 }
 
-/// Writes the name of a link behind a blank, where it has a price.
-fn push_if_priced(
-    words: &mut Vec<u8>,
-    net: &NetworkFile,
-    inst: &Instance,
-    prices: &Prices,
-    id: LinkId,
-) -> Result<(), AllocError>
-    requires { id.0 < length inst.now.links }
-    ensures { OnOk result (words.new.items ≡ words.old.items ++ priced_word net.now inst.now prices.now id.0) }
-{
-    if has_price(inst, prices, id) {
-        words.push(b' ')?;
-        return words.extend_from_slice(link_name(net, id));
-    }
-    Ok(())
-}
-
 /// Writes the names of the links that have a price, each behind a blank.
 #[tactic(auto, using(plan_report::proofs::Counted::counted_more))]
-fn push_priced(
-    words: &mut Vec<u8>,
-    net: &NetworkFile,
-    inst: &Instance,
-    prices: &Prices,
-) -> Result<(), AllocError>
-    ensures { OnOk result (words.new.items ≡ words.old.items ++ priced_words net.now inst.now prices.now (length inst.now.links)) }
+fn push_priced(words: &mut Vec<u8>, named: &NamedPlan, prices: &Prices) -> Result<(), AllocError>
+    ensures { OnOk result (words.new.items ≡ words.old.items ++ priced_words named.now.net named.now.parts prices.now (length named.now.parts.links)) }
 {
-    for place in 0..inst.links() {
-        push_if_priced(words, net, inst, prices, LinkId(place))?;
+    for place in 0..named.inst().links() {
+        let id = LinkId(place);
+        let name = link_name(named.net(), id);
+        push_if_told(words, has_price(named.inst(), prices, id), name)?;
     }
     Ok(())
 }
@@ -153,30 +100,31 @@ fn push_line(
 
 /// Writes the line of a record, where it is a leaf that is closed without a cost. The room for words is written over.
 fn push_record(
-    text: &mut Vec<u8>,
-    words: &mut Vec<u8>,
-    net: &NetworkFile,
-    inst: &Instance,
+    rows: &mut Rows,
+    named: &NamedPlan,
     place: u64,
     node: &TreeNode,
 ) -> Result<(), AllocError>
-    ensures { OnOk result (text.new.items ≡ text.old.items ++ evidence_row net.now inst.now place node.now) }
+    ensures { OnOk result (rows.new.text.items ≡ rows.old.text.items ++ evidence_row named.now.net named.now.parts place node.now) }
 {
+    let Rows { text, words } = rows;
     words.clear();
     match node {
         TreeNode::Leaf(Evidence::Overfull { link }) => {
-            push_line(text, place, b"OVERFULL", b"", b"", link_name(net, *link))
+            let name = link_name(named.net(), *link);
+            push_line(text, place, b"OVERFULL", b"", b"", name)
         }
         TreeNode::Leaf(Evidence::Cut { demand, reached }) => {
-            push_reached(words, net, inst, reached.as_slice())?;
-            let nodes = parted(words.as_slice());
-            push_line(text, place, b"CUT", demand_name(net, *demand), nodes, b"")
+            push_reached(words, named, reached.as_slice())?;
+            let name = demand_name(named.net(), *demand);
+            push_line(text, place, b"CUT", name, parted(words.as_slice()), b"")
         }
         TreeNode::Leaf(Evidence::Far { demand }) => {
-            push_line(text, place, b"FAR", demand_name(net, *demand), b"", b"")
+            let name = demand_name(named.net(), *demand);
+            push_line(text, place, b"FAR", name, b"", b"")
         }
         TreeNode::Leaf(Evidence::Crowd(prices)) => {
-            push_priced(words, net, inst, prices)?;
+            push_priced(words, named, prices)?;
             push_line(text, place, b"CROWD", b"", b"", parted(words.as_slice()))
         }
         _ => Ok(()),
@@ -185,33 +133,22 @@ fn push_record(
 
 /// Writes the line of the record at this place.
 #[tactic(auto, unfolding(crate::specs::Tables::record_row))]
-fn push_record_at(
-    text: &mut Vec<u8>,
-    words: &mut Vec<u8>,
-    net: &NetworkFile,
-    inst: &Instance,
-    nodes: &[TreeNode],
-    place: usize,
-) -> Result<(), AllocError>
-    requires { place < length nodes.now }
-    ensures { OnOk result (text.new.items ≡ text.old.items ++ record_row net.now inst.now nodes.now place) }
+fn push_record_at(rows: &mut Rows, named: &NamedPlan, place: usize) -> Result<(), AllocError>
+    requires { place < length named.now.plan.tree }
+    ensures { OnOk result (rows.new.text.items ≡ rows.old.text.items ++ record_row named.now.net named.now.parts named.now.plan.tree place) }
 {
-    push_record(text, words, net, inst, place as u64, &nodes[place])
+    let node = &named.plan().tree.nodes()[place];
+    push_record(rows, named, place as u64, node)
 }
 
 /// Writes the lines of the records.
 #[tactic(auto, using(plan_report::proofs::Counted::counted_more))]
-pub fn push_records(
-    text: &mut Vec<u8>,
-    words: &mut Vec<u8>,
-    net: &NetworkFile,
-    inst: &Instance,
-    nodes: &[TreeNode],
-) -> Result<(), AllocError>
-    ensures { OnOk result (text.new.items ≡ text.old.items ++ record_rows net.now inst.now nodes.now (length nodes.now)) }
+pub fn push_records(rows: &mut Rows, named: &NamedPlan) -> Result<(), AllocError>
+    ensures { OnOk result (rows.new.text.items
+        ≡ rows.old.text.items ++ record_rows named.now.net named.now.parts named.now.plan.tree (length named.now.plan.tree)) }
 {
-    for place in 0..nodes.len() {
-        push_record_at(text, words, net, inst, nodes, place)?;
+    for place in 0..named.plan().tree.nodes().len() {
+        push_record_at(rows, named, place)?;
     }
     Ok(())
 }

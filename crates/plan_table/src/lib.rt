@@ -14,6 +14,7 @@ mod fields;
 pub mod laws;
 mod links;
 mod ranges;
+mod rows;
 mod tables;
 
 pub use tables::table_text;

@@ -1,17 +1,13 @@
 //! The table of links.
 
-ghost use Rattle.std.specs.Prelude.{ℕ, ◌≡◌, ◌<◌, ◌++◌, ◌∷◌, max, length, slice_index, OnOk};
-ghost use Rattle.plan_base.specs.Facts.{IsInstance};
-ghost use Rattle.plan_base.specs.Places.{there_of, back_of};
-ghost use Rattle.plan_base.specs.Designs.{load_at, IsGoodDesign};
-ghost use Rattle.plan_report.specs.Reports.{HasNames};
+ghost use Rattle.std.specs.Prelude.{◌≡◌, ◌<◌, ◌++◌, ◌∷◌, length, OnOk};
 ghost use Rattle.plan_table.specs.Tables.{ends_fields, link_head, back_field, capacity_fields, traffic_fields, link_row, link_rows};
 
 use crate::claims::push_used;
 use crate::fields::{parted, push_field};
-use plan_base::limits::MAX_PLACES;
-use plan_base::{Design, Instance, LinkId, LinkLoads, NodeId, capacity_with};
-use plan_report::{COST_SCALE, LOAD_SCALE, link_cost, push_numbers};
+use crate::rows::Rows;
+use plan_base::{Instance, LinkId, NodeId};
+use plan_report::{COST_SCALE, LOAD_SCALE, NamedDesign, link_name, node_name, push_numbers};
 use scaled_numbers::write_grains;
 use snd_network::NetworkFile;
 use std::alloc::AllocError;
@@ -23,32 +19,22 @@ pub fn push_ends(
     source: NodeId,
     target: NodeId,
 ) -> Result<(), AllocError>
-    requires source { source.0 < length net.now.nodes }
-    requires target { target.0 < length net.now.nodes }
     ensures { OnOk result (text.new.items ≡ text.old.items ++ ends_fields net.now source target) }
 {
-    let nodes = net.nodes.as_slice();
-    push_field(text, nodes[source.0 as usize].name.as_slice())?;
-    push_field(text, nodes[target.0 as usize].name.as_slice())
+    push_field(text, node_name(net, source))?;
+    push_field(text, node_name(net, target))
 }
 
 /// Writes the name of a link and those of its ends.
 #[tactic(auto, unfolding(crate::specs::Tables::link_head))]
-fn push_head(
-    text: &mut Vec<u8>,
-    net: &NetworkFile,
-    inst: &Instance,
-    id: LinkId,
-) -> Result<(), AllocError>
-    requires names { HasNames net.now inst.now }
-    requires nodes { length net.now.nodes ≡ inst.now.nodes }
-    requires link { id.0 < length inst.now.links }
-    ensures { OnOk result (text.new.items ≡ text.old.items ++ link_head net.now inst.now id.0) }
+fn push_head(text: &mut Vec<u8>, named: &NamedDesign, id: LinkId) -> Result<(), AllocError>
+    requires { id.0 < length named.now.parts.links }
+    ensures { OnOk result (text.new.items ≡ text.old.items ++ link_head named.now.net named.now.parts id.0) }
 {
-    let link = inst.link(id);
+    let link = named.inst().link(id);
     text.extend_from_slice(b"link")?;
-    push_field(text, net.links.as_slice()[id.0 as usize].name.as_slice())?;
-    push_ends(text, net, link.source, link.target)
+    push_field(text, link_name(named.net(), id))?;
+    push_ends(text, named.net(), link.source, link.target)
 }
 
 /// Writes the load of a link's other place, where it has one.
@@ -65,102 +51,59 @@ fn push_back(text: &mut Vec<u8>, inst: &Instance, load: u128) -> Result<(), Allo
 
 /// Writes what is installed on a link. The room for words is written over.
 #[tactic(auto, unfolding(crate::specs::Tables::capacity_fields))]
-fn push_capacity(
-    text: &mut Vec<u8>,
-    words: &mut Vec<u8>,
-    inst: &Instance,
-    design: &Design,
-    id: LinkId,
-) -> Result<(), AllocError>
-    requires link { id.0 < length inst.now.links }
-    requires good { IsGoodDesign inst.now design.now }
-    ensures { OnOk result (text.new.items ≡ text.old.items ++ capacity_fields inst.now design.now id.0) }
+fn push_capacity(rows: &mut Rows, named: &NamedDesign, id: LinkId) -> Result<(), AllocError>
+    requires { id.0 < length named.now.parts.links }
+    ensures { OnOk result (rows.new.text.items ≡ rows.old.text.items ++ capacity_fields named.now.parts named.now.design id.0) }
 {
-    let link = inst.link(id);
-    let counts = design.counts.as_slice()[id.0 as usize].as_slice();
+    let Rows { text, words } = rows;
     text.push(b',')?;
-    write_grains(u128::from(link.pre), LOAD_SCALE, text)?;
+    write_grains(u128::from(named.inst().link(id).pre), LOAD_SCALE, text)?;
     words.clear();
-    push_numbers(words, counts)?;
+    push_numbers(words, named.counts(id))?;
     text.push(b',')?;
     text.extend_from_slice(parted(words.as_slice()))?;
     text.push(b',')?;
-    write_grains(capacity_with(link, counts), LOAD_SCALE, text)
+    write_grains(named.capacity(id), LOAD_SCALE, text)
 }
 
-/// Writes the loads of a link's places, which are these, and how much of its capacity is used.
+/// Writes the loads of a link's places, and how much of its capacity is used.
 #[tactic(auto, using(crate::proofs::Stated::need_small), unfolding(crate::specs::Tables::traffic_fields))]
-fn push_traffic(
-    text: &mut Vec<u8>,
-    inst: &Instance,
-    design: &Design,
-    id: LinkId,
-    loads: LinkLoads,
-) -> Result<(), AllocError>
-    requires lawful { IsInstance inst.now }
-    requires link { id.0 < length inst.now.links }
-    requires good { IsGoodDesign inst.now design.now }
-    requires there { loads.there ≡ there_of inst.now (load_at inst.now design.now) id.0 }
-    requires back { loads.back ≡ back_of inst.now (load_at inst.now design.now) id.0 }
-    ensures { OnOk result (text.new.items ≡ text.old.items ++ traffic_fields inst.now design.now id.0) }
+fn push_traffic(text: &mut Vec<u8>, named: &NamedDesign, id: LinkId) -> Result<(), AllocError>
+    requires { id.0 < length named.now.parts.links }
+    ensures { OnOk result (text.new.items ≡ text.old.items ++ traffic_fields named.now.parts named.now.design id.0) }
 {
-    let counts = design.counts.as_slice()[id.0 as usize].as_slice();
+    let loads = named.link_loads(id);
     text.push(b',')?;
     write_grains(loads.there, LOAD_SCALE, text)?;
     text.push(b',')?;
-    push_back(text, inst, loads.back)?;
+    push_back(text, named.inst(), loads.back)?;
     text.push(b',')?;
-    push_used(text, loads.need(), capacity_with(inst.link(id), counts))
+    named.inst().lawful();
+    push_used(text, loads.need(), named.capacity(id))
 }
 
-/// Writes the line of a link with the loads of its places, which are these.
-fn push_link(
-    text: &mut Vec<u8>,
-    words: &mut Vec<u8>,
-    net: &NetworkFile,
-    inst: &Instance,
-    design: &Design,
-    id: LinkId,
-    loads: LinkLoads,
-) -> Result<(), AllocError>
-    requires lawful { IsInstance inst.now }
-    requires names { HasNames net.now inst.now }
-    requires nodes { length net.now.nodes ≡ inst.now.nodes }
-    requires link { id.0 < length inst.now.links }
-    requires good { IsGoodDesign inst.now design.now }
-    requires there { loads.there ≡ there_of inst.now (load_at inst.now design.now) id.0 }
-    requires back { loads.back ≡ back_of inst.now (load_at inst.now design.now) id.0 }
-    ensures { OnOk result (text.new.items ≡ text.old.items ++ link_row net.now inst.now design.now id.0) }
+/// Writes the line of a link. The room for words is written over.
+fn push_link(rows: &mut Rows, named: &NamedDesign, id: LinkId) -> Result<(), AllocError>
+    requires { id.0 < length named.now.parts.links }
+    ensures { OnOk result (rows.new.text.items ≡ rows.old.text.items ++ link_row named.now.net named.now.parts named.now.design id.0) }
 {
-    push_head(text, net, inst, id)?;
-    push_capacity(text, words, inst, design, id)?;
-    push_traffic(text, inst, design, id, loads)?;
-    text.push(b',')?;
-    write_grains(link_cost(inst, design, id, loads), COST_SCALE, text)?;
-    text.push(b'\n')?;
+    push_head(&mut rows.text, named, id)?;
+    push_capacity(rows, named, id)?;
+    push_traffic(&mut rows.text, named, id)?;
+    rows.text.push(b',')?;
+    write_grains(named.link_cost(id), COST_SCALE, &mut rows.text)?;
+    rows.text.push(b'\n')?;
     Ok(())
 }
 
 /// Writes the lines of the links.
 #[tactic(auto, using(plan_report::proofs::Counted::counted_more))]
-pub fn push_links(
-    text: &mut Vec<u8>,
-    words: &mut Vec<u8>,
-    net: &NetworkFile,
-    inst: &Instance,
-    design: &Design,
-    loads: &[u128; MAX_PLACES],
-) -> Result<(), AllocError>
-    requires names { HasNames net.now inst.now }
-    requires nodes { length net.now.nodes ≡ inst.now.nodes }
-    requires good { IsGoodDesign inst.now design.now }
-    requires loads { (q : ℕ) → q < MAX_PLACES → slice_index loads.now q ≡ load_at inst.now design.now q }
-    ensures { OnOk result (text.new.items ≡ text.old.items ++ link_rows net.now inst.now design.now (length inst.now.links)) }
+pub fn push_links(rows: &mut Rows, named: &NamedDesign) -> Result<(), AllocError>
+    ensures { OnOk result (rows.new.text.items
+        ≡ rows.old.text.items ++ link_rows named.now.net named.now.parts named.now.design (length named.now.parts.links)) }
 {
-    for place in 0..inst.links() {
-        let link = LinkId(place);
-        let link_loads = LinkLoads::of_link(inst, loads, link);
-        push_link(text, words, net, inst, design, link, link_loads)?;
+    for place in 0..named.inst().links() {
+        push_link(rows, named, LinkId(place))?;
     }
     Ok(())
 }

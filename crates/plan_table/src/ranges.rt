@@ -4,20 +4,16 @@ ghost use Rattle.std.specs.Prelude.{◌≡◌, ◌<◌, ◌+◌, ◌++◌, ◌�
 ghost use Rattle.plan_base.specs.Places.{places};
 ghost use Rattle.link_steps.specs.Ranges.{range_at, ends_at, begins_at, with_range};
 ghost use Rattle.proof_tree.specs.Regions.{whole};
-ghost use Rattle.proof_tree.specs.Plans.{stated_cost};
-ghost use Rattle.proof_tree.specs.RatedTrees.{IsRatedTree};
 ghost use Rattle.plan_table.specs.Pending.{IsDivisible, children_last};
-ghost use Rattle.plan_table.specs.Tables.{is_whole, is_back_place, place_ends, range_head, range_fields, range_line, range_row, range_rows, leaf_ranges, tree_ranges};
+ghost use Rattle.plan_table.specs.Tables.{is_whole, is_back_place, place_ends, range_head, range_fields, range_row, range_rows, leaf_ranges, tree_ranges};
 
-use crate::evidence::link_name;
 use crate::fields::{push_digits, push_field};
 use crate::links::push_ends;
 use link_steps::{LoadRange, Ranges};
 use plan_base::Instance;
-use plan_report::LOAD_SCALE;
-use proof_tree::{Plan, TreeNode};
+use plan_report::{LOAD_SCALE, NamedPlan, link_name};
+use proof_tree::TreeNode;
 use scaled_numbers::write_grains;
-use snd_network::NetworkFile;
 use std::alloc::{AllocError, Global};
 
 /// Whether the range of the place has all its loads.
@@ -36,41 +32,38 @@ fn is_back_place(inst: &Instance, place: u32) -> bool
 }
 
 /// Writes the names of the ends of a place's link, each behind a comma, in the order in which the place leads.
-fn push_place_ends(
-    text: &mut Vec<u8>,
-    net: &NetworkFile,
-    inst: &Instance,
-    place: u32,
-) -> Result<(), AllocError>
-    requires nodes { length net.now.nodes ≡ inst.now.nodes }
-    requires place { place < places inst.now }
-    ensures { OnOk result (text.new.items ≡ text.old.items ++ place_ends net.now inst.now place) }
+fn push_place_ends(text: &mut Vec<u8>, named: &NamedPlan, place: u32) -> Result<(), AllocError>
+    requires { place < places named.now.parts }
+    ensures { OnOk result (text.new.items ≡ text.old.items ++ place_ends named.now.net named.now.parts place) }
 {
-    let link = inst.link(inst.link_of_place(place));
-    if is_back_place(inst, place) {
-        push_ends(text, net, link.target, link.source)
+    let link = named.inst().link(named.inst().link_of_place(place));
+    if is_back_place(named.inst(), place) {
+        push_ends(text, named.net(), link.target, link.source)
     } else {
-        push_ends(text, net, link.source, link.target)
+        push_ends(text, named.net(), link.source, link.target)
     }
+}
+
+/// A record of a plan's tree with the ranges that it has.
+#[derive(Drop)]
+struct RangedRecord<'a> {
+    named: &'a NamedPlan<'a>,
+    /// Its place in the tree.
+    index: u64,
+    ranges: &'a Ranges,
 }
 
 /// Writes the place of a record in the tree, and the names of a place's link and of its ends.
 #[tactic(auto, unfolding(crate::specs::Tables::range_head))]
-fn push_head(
-    text: &mut Vec<u8>,
-    net: &NetworkFile,
-    inst: &Instance,
-    index: u64,
-    place: u32,
-) -> Result<(), AllocError>
-    requires nodes { length net.now.nodes ≡ inst.now.nodes }
-    requires place { place < places inst.now }
-    ensures { OnOk result (text.new.items ≡ text.old.items ++ range_head net.now inst.now index place) }
+fn push_head(text: &mut Vec<u8>, at: &RangedRecord, place: u32) -> Result<(), AllocError>
+    requires { place < places at.now.named.now.parts }
+    ensures { OnOk result (text.new.items ≡ text.old.items ++ range_head at.now.named.now.net at.now.named.now.parts at.now.index place) }
 {
     text.extend_from_slice(b"range,")?;
-    push_digits(text, index)?;
-    push_field(text, link_name(net, inst.link_of_place(place)))?;
-    push_place_ends(text, net, inst, place)
+    push_digits(text, at.index)?;
+    let link = at.named.inst().link_of_place(place);
+    push_field(text, link_name(at.named.net(), link))?;
+    push_place_ends(text, at.named, place)
 }
 
 /// Writes the least and the most load of a range.
@@ -84,81 +77,44 @@ fn push_fields(text: &mut Vec<u8>, range: LoadRange) -> Result<(), AllocError>
     write_grains(u128::from(range.most), LOAD_SCALE, text)
 }
 
-/// Writes the line of the range of a place, at the leaf whose record has this place in the tree.
-fn push_line(
-    text: &mut Vec<u8>,
-    net: &NetworkFile,
-    inst: &Instance,
-    index: u64,
-    place: u32,
-    range: LoadRange,
-) -> Result<(), AllocError>
-    requires nodes { length net.now.nodes ≡ inst.now.nodes }
-    requires place { place < places inst.now }
-    ensures { OnOk result (text.new.items ≡ text.old.items ++ range_line net.now inst.now index place range) }
+/// Writes the line of the range of a place, where it has not all loads.
+fn push_if_cut(text: &mut Vec<u8>, at: &RangedRecord, place: u32) -> Result<(), AllocError>
+    requires count { length at.now.ranges.now ≡ places at.now.named.now.parts }
+    requires place { place < places at.now.named.now.parts }
+    ensures { OnOk result (text.new.items
+        ≡ text.old.items ++ range_row at.now.named.now.net at.now.named.now.parts at.now.index at.now.ranges.now place) }
 {
-    push_head(text, net, inst, index, place)?;
+    let range = at.ranges.at(place);
+    if is_whole(at.named.inst(), range, place) {
+        return Ok(());
+    }
+    push_head(text, at, place)?;
     push_fields(text, range)?;
     text.push(b'\n')?;
     Ok(())
 }
 
-/// Writes the line of the range of a place, where it has not all loads.
-fn push_if_cut(
-    text: &mut Vec<u8>,
-    net: &NetworkFile,
-    inst: &Instance,
-    index: u64,
-    ranges: &Ranges,
-    place: u32,
-) -> Result<(), AllocError>
-    requires nodes { length net.now.nodes ≡ inst.now.nodes }
-    requires count { length ranges.now ≡ places inst.now }
-    requires place { place < places inst.now }
-    ensures { OnOk result (text.new.items ≡ text.old.items ++ range_row net.now inst.now index ranges.now place) }
-{
-    let range = ranges.at(place);
-    if is_whole(inst, range, place) {
-        Ok(())
-    } else {
-        push_line(text, net, inst, index, place, range)
-    }
-}
-
 /// Writes the lines of the ranges of a leaf.
 #[tactic(auto, using(plan_report::proofs::Counted::counted_more))]
-fn push_places(
-    text: &mut Vec<u8>,
-    net: &NetworkFile,
-    inst: &Instance,
-    index: u64,
-    ranges: &Ranges,
-) -> Result<(), AllocError>
-    requires nodes { length net.now.nodes ≡ inst.now.nodes }
-    requires count { length ranges.now ≡ places inst.now }
-    ensures { OnOk result (text.new.items ≡ text.old.items ++ range_rows net.now inst.now index ranges.now (places inst.now)) }
+fn push_places(text: &mut Vec<u8>, at: &RangedRecord) -> Result<(), AllocError>
+    requires { length at.now.ranges.now ≡ places at.now.named.now.parts }
+    ensures { OnOk result (text.new.items
+        ≡ text.old.items ++ range_rows at.now.named.now.net at.now.named.now.parts at.now.index at.now.ranges.now (places at.now.named.now.parts)) }
 {
-    for place in 0..inst.places() {
-        push_if_cut(text, net, inst, index, ranges, place)?;
+    for place in 0..at.named.inst().places() {
+        push_if_cut(text, at, place)?;
     }
     Ok(())
 }
 
-/// Writes the lines of a record with these ranges, where it is a leaf.
-fn push_leaf(
-    text: &mut Vec<u8>,
-    net: &NetworkFile,
-    inst: &Instance,
-    index: u64,
-    ranges: &Ranges,
-    node: &TreeNode,
-) -> Result<(), AllocError>
-    requires nodes { length net.now.nodes ≡ inst.now.nodes }
-    requires count { length ranges.now ≡ places inst.now }
-    ensures { OnOk result (text.new.items ≡ text.old.items ++ leaf_ranges net.now inst.now index ranges.now node.now) }
+/// Writes the lines of a record, where it is a leaf.
+fn push_leaf(text: &mut Vec<u8>, at: &RangedRecord, node: &TreeNode) -> Result<(), AllocError>
+    requires { length at.now.ranges.now ≡ places at.now.named.now.parts }
+    ensures { OnOk result (text.new.items
+        ≡ text.old.items ++ leaf_ranges at.now.named.now.net at.now.named.now.parts at.now.index at.now.ranges.now node.now) }
 {
     match node {
-        TreeNode::Leaf(_) => push_places(text, net, inst, index, ranges),
+        TreeNode::Leaf(_) => push_places(text, at),
         TreeNode::Split { .. } | TreeNode::Loads { .. } => Ok(()),
     }
 }
@@ -217,31 +173,29 @@ fn add_children(
     }
 }
 
-/// Writes the lines of the ranges of all leaves of a valid plan's tree.
+/// Writes the lines of the ranges of all leaves of a plan's tree.
 ///
 /// - Errors: want of memory alone.
 /// - Time: linear in the places for each record.
-pub fn push_ranges(
-    alloc: Global,
-    text: &mut Vec<u8>,
-    net: &NetworkFile,
-    inst: &Instance,
-    plan: &Plan,
-) -> Result<(), AllocError>
-    requires nodes { length net.now.nodes ≡ inst.now.nodes }
-    requires valid { IsRatedTree inst.now plan.now.cuts (stated_cost plan.now) plan.now.tree }
-    ensures { OnOk result (text.new.items ≡ text.old.items ++ tree_ranges net.now inst.now 0 (whole inst.now ∷ []) plan.now.tree) }
+pub fn push_ranges(alloc: Global, text: &mut Vec<u8>, named: &NamedPlan) -> Result<(), AllocError>
+    ensures { OnOk result (text.new.items
+        ≡ text.old.items ++ tree_ranges named.now.net named.now.parts 0 (whole named.now.parts ∷ []) named.now.plan.tree) }
 {
-    let nodes = plan.tree.nodes();
+    let nodes = named.plan().tree.nodes();
     let mut pending = Vec::new(alloc);
-    pending.push(Ranges::whole(alloc, inst)?)?;
+    pending.push(Ranges::whole(alloc, named.inst())?)?;
     for index in 0..nodes.len() {
         let ranges = match pending.pop() {
             Some(ranges) => ranges,
             None => return Ok(()),
         };
         let node = &nodes[index];
-        push_leaf(text, net, inst, index as u64, &ranges, node)?;
+        let at = RangedRecord {
+            named,
+            index: index as u64,
+            ranges: &ranges,
+        };
+        push_leaf(text, &at, node)?;
         add_children(&mut pending, ranges, node)?;
     }
     Ok(())

@@ -1,8 +1,8 @@
 //! The text of a plan's tables.
 
-ghost use Rattle.std.specs.Prelude.{◌≡◌, ◌++◌, length, OnOk, IfOk};
+ghost use Rattle.std.specs.Prelude.{◌≡◌, ◌++◌, OnOk, IfOk};
 ghost use Rattle.proof_tree.specs.Plans.{IsValidPlan};
-ghost use Rattle.plan_report.specs.Reports.{IsReadFrom, HasNames};
+ghost use Rattle.plan_report.specs.Reports.{IsReadFrom};
 ghost use Rattle.plan_table.specs.Tables.{link_names, demand_names, evidence_names, range_names, titled, design_tables, evidence_table, range_table, IsTableText};
 
 use crate::claims::push_plan;
@@ -10,8 +10,10 @@ use crate::demands::push_demands;
 use crate::evidence::push_records;
 use crate::links::push_links;
 use crate::ranges::push_ranges;
+use crate::rows::Rows;
 use link_steps::cost_unit;
 use plan_base::{Instance, loads_of};
+use plan_report::{NamedDesign, NamedPlan};
 use proof_tree::{Plan, PlanStatus};
 use snd_network::NetworkFile;
 use std::alloc::{AllocError, Global};
@@ -41,44 +43,31 @@ fn evidence_names() -> &'static [u8]
 }
 
 /// Writes the tables of a plan's design, where it has one.
-fn push_design(
-    text: &mut Vec<u8>,
-    words: &mut Vec<u8>,
-    net: &NetworkFile,
-    inst: &Instance,
-    plan: &Plan,
-) -> Result<(), AllocError>
-    requires names { HasNames net.now inst.now }
-    requires nodes { length net.now.nodes ≡ inst.now.nodes }
-    requires valid { IsValidPlan inst.now plan.now }
-    ensures { OnOk result (text.new.items ≡ text.old.items ++ design_tables net.now inst.now plan.now.design) }
+fn push_design(rows: &mut Rows, named: &NamedPlan) -> Result<(), AllocError>
+    ensures { OnOk result (rows.new.text.items ≡ rows.old.text.items ++ design_tables named.now.net named.now.parts named.now.plan.design) }
 {
-    match &plan.design {
+    match &named.plan().design {
         Some((_, design)) => {
-            let loads = loads_of(inst, design);
-            text.extend_from_slice(link_names())?;
-            push_links(text, words, net, inst, design, &loads)?;
-            text.extend_from_slice(demand_names())?;
-            push_demands(text, words, net, inst, design)
+            let loads = loads_of(named.inst(), design);
+            let named = NamedDesign::new(named, design, &loads);
+            rows.text.extend_from_slice(link_names())?;
+            push_links(rows, &named)?;
+            rows.text.extend_from_slice(demand_names())?;
+            push_demands(rows, &named)
         }
         None => Ok(()),
     }
 }
 
 /// Writes the table of the evidence of a plan that says that there is no design.
-fn push_evidence(
-    text: &mut Vec<u8>,
-    words: &mut Vec<u8>,
-    net: &NetworkFile,
-    inst: &Instance,
-    plan: &Plan,
-) -> Result<(), AllocError>
-    ensures { OnOk result (text.new.items ≡ text.old.items ++ evidence_table net.now inst.now plan.now.status plan.now.tree) }
+fn push_evidence(rows: &mut Rows, named: &NamedPlan) -> Result<(), AllocError>
+    ensures { OnOk result (rows.new.text.items
+        ≡ rows.old.text.items ++ evidence_table named.now.net named.now.parts named.now.plan.status named.now.plan.tree) }
 {
-    match plan.status {
+    match named.plan().status {
         PlanStatus::Infeasible => {
-            text.extend_from_slice(evidence_names())?;
-            push_records(text, words, net, inst, plan.tree.nodes())
+            rows.text.extend_from_slice(evidence_names())?;
+            push_records(rows, named)
         }
         PlanStatus::Optimal | PlanStatus::Undecided => Ok(()),
     }
@@ -103,25 +92,16 @@ fn push_titled(text: &mut Vec<u8>, names: &[u8], lines: &[u8]) -> Result<(), All
     text.extend_from_slice(lines)
 }
 
-/// Writes the table of the ranges of the leaves of a plan that says that there is no design. The room for words is written
-/// over.
-fn push_range_table(
-    alloc: Global,
-    text: &mut Vec<u8>,
-    words: &mut Vec<u8>,
-    net: &NetworkFile,
-    inst: &Instance,
-    plan: &Plan,
-) -> Result<(), AllocError>
-    requires nodes { length net.now.nodes ≡ inst.now.nodes }
-    requires valid { IsValidPlan inst.now plan.now }
-    ensures { OnOk result (text.new.items ≡ text.old.items ++ range_table net.now inst.now plan.now.status plan.now.tree) }
+/// Writes the table of the ranges of the leaves of a plan that says that there is no design.
+fn push_range_table(alloc: Global, rows: &mut Rows, named: &NamedPlan) -> Result<(), AllocError>
+    ensures { OnOk result (rows.new.text.items
+        ≡ rows.old.text.items ++ range_table named.now.net named.now.parts named.now.plan.status named.now.plan.tree) }
 {
-    match plan.status {
+    match named.plan().status {
         PlanStatus::Infeasible => {
-            words.clear();
-            push_ranges(alloc, words, net, inst, plan)?;
-            push_titled(text, range_names(), words.as_slice())
+            rows.words.clear();
+            push_ranges(alloc, &mut rows.words, named)?;
+            push_titled(&mut rows.text, range_names(), rows.words.as_slice())
         }
         PlanStatus::Optimal | PlanStatus::Undecided => Ok(()),
     }
@@ -146,11 +126,11 @@ pub fn table_text(
     requires valid { IsValidPlan inst.now plan.now }
     ensures { IfOk result (λ text. IsTableText net.now inst.now plan.now text.items) }
 {
-    let mut text = Vec::new(alloc);
-    let mut words = Vec::new(alloc);
-    push_plan(&mut text, inst, plan, cost_unit(inst))?;
-    push_design(&mut text, &mut words, net, inst, plan)?;
-    push_evidence(&mut text, &mut words, net, inst, plan)?;
-    push_range_table(alloc, &mut text, &mut words, net, inst, plan)?;
-    Ok(text)
+    let named = NamedPlan::new(net, inst, plan);
+    let mut rows = Rows::new(alloc);
+    push_plan(&mut rows.text, &named, cost_unit(inst))?;
+    push_design(&mut rows, &named)?;
+    push_evidence(&mut rows, &named)?;
+    push_range_table(alloc, &mut rows, &named)?;
+    Ok(rows.text)
 }

@@ -4,4 +4,4 @@ use Rattle.plan_report.proofs.reports.push_demands.Given as goal
 
 -- the lines of the demands before this one are written
 abbrev pub invariant-loop-place : goal.invariant-loop-place
-invariant-loop-place l = l.text.items ≡ l.initial.text.items ++ demand_report l.net l.design l.place
+invariant-loop-place l = l.text.items ≡ l.initial.text.items ++ demand_report l.named.net l.named.design l.place

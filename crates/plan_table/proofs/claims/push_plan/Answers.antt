@@ -3,10 +3,10 @@ use Rattle.plan_table.proofs.Stated.{cost_small, bound_below}
 use Rattle.plan_table.proofs.claims.push_plan.Goals as goal
 
 pub push_row-requires-clause-unit : goal.push_row-requires-clause-unit
-push_row-requires-clause-unit c = unit-positive c.args.inst.now c.args.unit c.requires.unit
+push_row-requires-clause-unit c = unit-positive c.args.named.now.parts c.args.unit c.requires
 
 pub push_row-requires-clause-small : goal.push_row-requires-clause-small
-push_row-requires-clause-small c = cost_small c.args.inst.now c.args.plan.now c.lawful.ensures c.requires.valid
+push_row-requires-clause-small c = cost_small c.args.named.now.parts c.plan-plan.result.now c.lawful.ensures c.plan-plan.ensures.valid
 
 pub push_row-requires-clause-below : goal.push_row-requires-clause-below
-push_row-requires-clause-below c = bound_below c.args.inst.now c.args.plan.now c.args.unit c.requires.valid c.requires.unit
+push_row-requires-clause-below c = bound_below c.args.named.now.parts c.args.named.now.plan c.args.unit c.plan-plan.ensures.valid c.requires

@@ -9,10 +9,10 @@ use Rattle.plan_table.proofs.ranges.push_ranges.Goals as goal
 
 pub loop-index-preserved : goal.loop-index-preserved
 loop-index-preserved c =
-    let net = c.args.net.now in
-    let p = c.args.inst.now in
-    let cuts = c.args.plan.now.cuts in
-    let cost = stated_cost c.args.plan.now in
+    let net = c.args.named.now.net in
+    let p = c.args.named.now.parts in
+    let cuts = c.args.named.now.plan.cuts in
+    let cost = stated_cost c.args.named.now.plan in
     let i = c.loop-index.index in
     let nodes = c.nodes-nodes.result.now in
     let all = c.args.text.now.items ++ tree_ranges net p 0 (whole p ∷ []) nodes in
@@ -23,18 +23,18 @@ loop-index-preserved c =
 
 pub returns-in-None : goal.returns-in-None
 returns-in-None c =
-    let net = c.args.net.now in
-    let p = c.args.inst.now in
+    let net = c.args.named.now.net in
+    let p = c.args.named.now.parts in
     let none : c.loop-index.pending.items ≡ [] = search (rules, nil_from_length) in
-    none_pending net p c.args.plan.now.cuts
-    (stated_cost c.args.plan.now) c.loop-index.index c.loop-index.pending.items (drop c.loop-index.index c.nodes-nodes.result.now) c.loop-index.text.items (c.args.text.now.items ++ tree_ranges net p 0 (whole p ∷ []) c.nodes-nodes.result.now) c.loop-index.invariant none
+    none_pending net p c.args.named.now.plan.cuts
+    (stated_cost c.args.named.now.plan) c.loop-index.index c.loop-index.pending.items (drop c.loop-index.index c.nodes-nodes.result.now) c.loop-index.text.items (c.args.text.now.items ++ tree_ranges net p 0 (whole p ∷ []) c.nodes-nodes.result.now) c.loop-index.invariant none
     ∙ ap (λ (ns : List TreeNode). c.args.text.now.items ++ tree_ranges net p 0 (whole p ∷ []) ns) c.nodes-nodes.ensures.value
 
 pub returns : goal.returns
 returns c =
-    let net = c.args.net.now in
-    let p = c.args.inst.now in
+    let net = c.args.named.now.net in
+    let p = c.args.named.now.parts in
     let ended : length c.nodes-nodes.result.now ≤ c.loop-index.index = search rules in
-    no_records net p c.args.plan.now.cuts
-    (stated_cost c.args.plan.now) c.loop-index.index c.loop-index.pending.items c.nodes-nodes.result.now c.loop-index.text.items (c.args.text.now.items ++ tree_ranges net p 0 (whole p ∷ []) c.nodes-nodes.result.now) c.loop-index.invariant ended
+    no_records net p c.args.named.now.plan.cuts
+    (stated_cost c.args.named.now.plan) c.loop-index.index c.loop-index.pending.items c.nodes-nodes.result.now c.loop-index.text.items (c.args.text.now.items ++ tree_ranges net p 0 (whole p ∷ []) c.nodes-nodes.result.now) c.loop-index.invariant ended
     ∙ ap (λ (ns : List TreeNode). c.args.text.now.items ++ tree_ranges net p 0 (whole p ∷ []) ns) c.nodes-nodes.ensures.value

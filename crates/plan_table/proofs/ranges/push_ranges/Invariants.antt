@@ -7,4 +7,4 @@ use Rattle.plan_table.proofs.ranges.push_ranges.Given as goal
 
 -- the lines of the records before this one are written
 abbrev pub invariant-loop-index : goal.invariant-loop-index
-invariant-loop-index l = IsLeft l.net l.inst l.plan.cuts (stated_cost l.plan) l.index l.pending.items (drop l.index l.nodes) l.text.items (l.fn.text.items ++ tree_ranges l.net l.inst 0 (whole l.inst ∷ []) l.nodes)
+invariant-loop-index l = IsLeft l.named.net l.named.parts l.named.plan.cuts (stated_cost l.named.plan) l.index l.pending.items (drop l.index l.nodes) l.text.items (l.fn.text.items ++ tree_ranges l.named.net l.named.parts 0 (whole l.named.parts ∷ []) l.nodes)
