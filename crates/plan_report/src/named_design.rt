@@ -89,7 +89,8 @@ impl<'a> NamedDesign<'a> {
     /// How often each module of a link is installed.
     pub fn counts(&self, id: LinkId) -> &'a [u64]
         requires { id.0 < length self.now.parts.links }
-        ensures { result.now ≡ counts_at self.now.design id.0 }
+        ensures value { result.now ≡ counts_at self.now.design id.0 }
+        ensures good { IsGoodDesign self.now.parts self.now.design }
     {
         self.design.counts.as_slice()[id.0 as usize].as_slice()
     }
