@@ -58,37 +58,32 @@ module _ (p : Parts) (cuts : List Cut) (ranges : List LoadRange) (choices : Choi
   abbrev this : Best
   this = record { divisor = widest * 2 ^ n; value = value }
 
+  -- this trial is the best, where its value is above what no trial before has more than
+  this-best : (held : ℤ) → ((i : ℕ) (other : List ℕ) (v : ℤ) → i < n → IsTrial p cuts ranges choices numbers i other → IsRestrictedValue p cuts ranges choices other v → v ≤ℤ held) → held <ℤ value → old <ℤ value
+      → IsBestOf p cuts ranges choices numbers old widest (n + 1) this
+  this-best held before more greater = record {
+    j = n;
+    within = omega arith;
+    divisor = refl;
+    trial = trial;
+    is_trial = is_trial;
+    is_new = is_value;
+    greater = greater;
+    greatest = upto (λ v. v ≤ℤ value) (λ i other v below t is. lt-le v value (le-lt v held value (before i other v below t is) more)) (same-le value value refl);
+    first = λ i other v below t is. le-lt v held value (before i other v below t is) more;
+  }
+
   -- with one trial more, the best is the better of the best so far and this trial
   pub tried-next : (best : Option Best) → AreTried p cuts ranges choices numbers old widest n best → AreTried p cuts ranges choices numbers old widest (n + 1) (better_of old best this)
   tried-next None h = by (int_lt old value) refl
     where
       by : (b : Bool) → int_lt old value ≡ b → AreTried p cuts ranges choices numbers old widest (n + 1) (if b then Some this else None)
-      by true more = record {
-        j = n;
-        within = omega arith;
-        divisor = refl;
-        trial = trial;
-        is_trial = is_trial;
-        is_new = is_value;
-        greater = int_lt-true old value more;
-        greatest = upto (λ v. v ≤ℤ value) (λ i other v below t is. lt-le v value (le-lt v old value (h i other v below t is) (int_lt-true old value more))) (same-le value value refl);
-        first = λ i other v below t is. le-lt v old value (h i other v below t is) (int_lt-true old value more);
-      }
+      by true more = this-best old h (int_lt-true old value more) (int_lt-true old value more)
       by false less = upto (λ v. v ≤ℤ old) h (int_lt-false old value less)
   tried-next (Some best) h = by (int_lt best.value value) refl
     where
       by : (b : Bool) → int_lt best.value value ≡ b → IsBestOf p cuts ranges choices numbers old widest (n + 1) (if b then this else best)
-      by true more = record {
-        j = n;
-        within = omega arith;
-        divisor = refl;
-        trial = trial;
-        is_trial = is_trial;
-        is_new = is_value;
-        greater = lt-lt old best.value value h.greater (int_lt-true best.value value more);
-        greatest = upto (λ v. v ≤ℤ value) (λ i other v below t is. lt-le v value (le-lt v best.value value (h.greatest i other v below t is) (int_lt-true best.value value more))) (same-le value value refl);
-        first = λ i other v below t is. le-lt v best.value value (h.greatest i other v below t is) (int_lt-true best.value value more);
-      }
+      by true more = (let above = int_lt-true best.value value more in this-best best.value h.greatest above (lt-lt old best.value value h.greater above))
       by false less = record {
         j = h.j;
         within = (let w = h.within in omega arith);
