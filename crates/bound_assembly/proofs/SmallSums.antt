@@ -35,7 +35,7 @@ pub loads-le : (p : Parts) (n : ℕ) → n ≤ length p.demands → sum_below (�
 loads-le p n within = omega (arith, loads-taken p n within, sum_by-take-le (λ (k : Demand). k.load) p.demands n)
 
 -- a length is at most the greatest
-length-le : (p : Parts) (lengths : List (Option ℕ)) (k : ℕ) → AreShort p lengths → k < length lengths → length_of lengths k ≤ MAX_PATH_LINKS * price_limit p
+pub length-le : (p : Parts) (lengths : List (Option ℕ)) (k : ℕ) → AreShort p lengths → k < length lengths → length_of lengths k ≤ MAX_PATH_LINKS * price_limit p
 length-le p lengths k short within = by_cases (length_at lengths k) refl (short k None within)
   where
     by_cases : (found : Option ℕ) → length_at lengths k ≡ found → IfSome (length_at lengths k) (λ price. price ≤ MAX_PATH_LINKS * price_limit p) → length_of lengths k ≤ MAX_PATH_LINKS * price_limit p
@@ -48,17 +48,26 @@ priced_limit-le p =
     let most : price_limit p * total_load p ≤ price_limit p * max (total_load p) 1 = mul-le-mul_left (price_limit p) (let le : total_load p ≤ max (total_load p) 1 = omega arith in le) in
     omega (arith, most, div-mul-le_self (MAX_PRICED_LOAD) (max (total_load p) 1))
 
--- loads times lengths of the first demands
-pub priced-within : (p : Parts) (lengths : List (Option ℕ)) (n : ℕ) → AreShort p lengths → length lengths ≡ length p.demands → n ≤ length p.demands
-    → sum_below (λ k. (demand_at p k).load * length_of lengths k) n ≤ MAX_PATH_LINKS * MAX_PRICED_LOAD
-priced-within p lengths n short same within =
+-- loads times what the first demands pay at most for a load grain
+pub priced_within : (p : Parts) (q : ℕ → ℕ) (n : ℕ) → n ≤ length p.demands → ((k : ℕ) → k < n → q k ≤ MAX_PATH_LINKS * price_limit p) → sum_below (λ k. (demand_at p k).load * q k) n ≤ MAX_PATH_LINKS * MAX_PRICED_LOAD
+priced_within p q n within small =
     let cap : ℕ = MAX_PATH_LINKS * price_limit p in
-    let each = sum_below-le (λ k. (demand_at p k).load * length_of lengths k) (λ k. cap * (demand_at p k).load) n (λ i below.
-    (let product : (demand_at p i).load * length_of lengths i ≤ (demand_at p i).load * cap = mul-le-mul_left (demand_at p i).load (length-le p lengths i short (omega arith)) in
+    let each = sum_below-le (λ k. (demand_at p k).load * q k) (λ k. cap * (demand_at p k).load) n (λ i below.
+    (let product : (demand_at p i).load * q i ≤ (demand_at p i).load * cap = mul-le-mul_left (demand_at p i).load (small i below) in
     omega (arith, product))) in
     let times = sum_below-times cap (λ k. (demand_at p k).load) n in
     let whole : cap * sum_below (λ k. (demand_at p k).load) n ≤ cap * total_load p = mul-le-mul_left cap (loads-le p n within) in
     omega (arith, each, times, whole, priced_limit-le p)
+
+-- a product of the first demands' sum adds to no more than that
+pub priced_next : (p : Parts) (q : ℕ → ℕ) (k load paid total : ℕ) → k < length p.demands → ((i : ℕ) → i < k + 1 → q i ≤ MAX_PATH_LINKS * price_limit p) → total ≡ sum_below (λ i. (demand_at p i).load * q i) k → load ≡ (demand_at p k).load → paid ≡ q k
+    → total + load * paid ≤ MAX_PATH_LINKS * MAX_PRICED_LOAD
+priced_next p q k load paid total below small sum is_load is_paid = rw (is_load, is_paid) (omega (arith, sum, priced_within p q (suc k) (omega arith) (λ i before. small i (omega arith))))
+
+-- so for lengths
+pub lengths_next : (p : Parts) (lengths : List (Option ℕ)) (k load paid total : ℕ) → AreShort p lengths → length lengths ≡ length p.demands → k < length lengths → total ≡ sum_below (λ i. (demand_at p i).load * length_of lengths i) k
+    → load ≡ (demand_at p k).load → paid ≡ length_of lengths k → total + load * paid ≤ MAX_PATH_LINKS * MAX_PRICED_LOAD
+lengths_next p lengths k load paid total short same below sum is_load is_paid = priced_next p (length_of lengths) k load paid total (omega (arith, below, same)) (λ i before. length-le p lengths i short (omega arith)) sum is_load is_paid
 
 -- the thousandth of the three sums is the bound
 pub round_bound : (p : Parts) (cuts : List Cut) (ranges : List LoadRange) (numbers : List ℕ) (lengths : List (Option ℕ)) (total bound : ℤ) → left_in lengths ≡ 0 → length lengths ≡ length p.demands

@@ -16,3 +16,4 @@ mod totals;
 
 pub use crowds::is_crowded;
 pub use round::Round;
+pub use totals::total_of;

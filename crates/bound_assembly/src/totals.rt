@@ -31,7 +31,7 @@ pub fn price_total(inst: &Instance, lengths: &[Option<u128>]) -> u128
 }
 
 /// The three sums together, in thousandths of a cost grain.
-fn total_of(priced: u128, counted: u128, values: i128) -> i128
+pub fn total_of(priced: u128, counted: u128, values: i128) -> i128
     requires priced { priced ≤ MAX_PATH_LINKS * MAX_PRICED_LOAD }
     requires counted { counted ≤ MAX_CUTS * MAX_PRICED_LOAD }
     requires not_above { values ≤ℤ pos (MAX_LINKS * MAX_PRICED_LOAD) }

@@ -1,6 +1,6 @@
 -- Prices of paths and their sums are small.
 use Rattle.std.proofs.Common.{◌≡◌, ℕ, ◌*◌, ◌/◌, ◌^◌, ◌<◌, ◌≤◌, ◌-◌, min, max, List, [], ◌∷◌, length, slice_index, All, arith}
-use Rattle.std.proofs.Math.Nat.{mul-le-mul, mul-le-mul_left, mul-le-mul_right, le-div_iff_mul-le}
+use Rattle.std.proofs.Math.Nat.{mul-le-mul, mul-le-mul_right, le-div_iff_mul-le}
 use Rattle.std.proofs.lemmas.List.Sums.{sum_by-cons}
 use Rattle.std.proofs.lemmas.List.{get_or_past}
 use Rattle.std.proofs.lemmas.Bool.{cases_lt}
@@ -9,16 +9,14 @@ use Rattle.plan_base.specs.declared.ids.ArcId.{ArcId}
 use Rattle.plan_base.specs.declared.parts.Parts.{Parts}
 use Rattle.plan_base.specs.declared.limits.TheConstants.{MAX_PRICED_LOAD}
 use Rattle.plan_base.specs.Facts.{price_limit, total_load, IsInstance}
-use Rattle.plan_base.specs.Sums.{sum_below}
 use Rattle.plan_base.specs.Arcs.{demand_at, no_demand}
 use Rattle.plan_base.specs.Places.{place_of}
 use Rattle.plan_base.specs.Paths.{IsSimplePath}
-use Rattle.plan_base.proofs.SumsBelow.{sum_below-le, sum_below-times}
 use Rattle.plan_base.proofs.PathLaws.{length-IsSimplePath}
 use Rattle.plan_base.proofs.PriceLaws.{price_limit_le}
 use Rattle.arc_restrict.specs.Prices.{price_of, AreWithinLimit}
 use Rattle.bound_assembly.specs.declared.limits.TheConstants.{MAX_PATH_LINKS}
-use Rattle.bound_assembly.proofs.SmallSums.{loads-le, priced_limit-le}
+use Rattle.bound_assembly.proofs.SmallSums.{priced_limit-le}
 
 -- a price that is read is within the limit
 pub price-le : (prices : List ℕ) (limit e : ℕ) → All (λ price. price ≤ limit) prices → slice_index prices e ≤ limit
@@ -46,17 +44,6 @@ path-le p k prices arcs inst within all simple =
 pub price_along-whole : (p : Parts) (k : ℕ) (prices : List ℕ) (arcs : List ArcId) (price : ℕ) → IsInstance p → k < length p.demands → AreWithinLimit p prices → IsSimplePath p (demand_at p k) arcs → price ≡ min (price_of p prices arcs) (2 ^ 128 - 1) → price ≡ price_of p prices arcs
 price_along-whole p k prices arcs price inst within all simple is =
     omega (arith, is, path-le p k prices arcs inst within all simple, price_limit_le p)
-
--- loads times prices of paths of the first demands
-pub priced_within : (p : Parts) (q : ℕ → ℕ) (n : ℕ) → n ≤ length p.demands → ((k : ℕ) → k < n → q k ≤ MAX_PATH_LINKS * price_limit p) → sum_below (λ k. (demand_at p k).load * q k) n ≤ MAX_PATH_LINKS * MAX_PRICED_LOAD
-priced_within p q n within small =
-    let cap : ℕ = MAX_PATH_LINKS * price_limit p in
-    let each = sum_below-le (λ k. (demand_at p k).load * q k) (λ k. cap * (demand_at p k).load) n (λ i below.
-    (let product : (demand_at p i).load * q i ≤ (demand_at p i).load * cap = mul-le-mul_left (demand_at p i).load (small i below) in
-    omega (arith, product))) in
-    let times = sum_below-times cap (λ k. (demand_at p k).load) n in
-    let whole : cap * sum_below (λ k. (demand_at p k).load) n ≤ cap * total_load p = mul-le-mul_left cap (loads-le p n within) in
-    omega (arith, each, times, whole, priced_limit-le p)
 
 one-le-div : (n d : ℕ) → 0 < d → d ≤ n → 1 ≤ n / d
 one-le-div n d some most = (le-div_iff_mul-le some).1 (omega arith)

@@ -1,11 +1,10 @@
 //! The restricted value of numbers.
 
-ghost use Rattle.std.specs.Prelude.{◌≡◌, ◌<◌, ◌≤◌, ◌+◌, ◌*◌, length, pos, ◌+ℤ◌, ◌-ℤ◌, ◌≤ℤ◌};
-ghost use Rattle.plan_base.specs.declared.limits.TheConstants.{MAX_LINKS, MAX_PRICED_LOAD};
+ghost use Rattle.std.specs.Prelude.{◌≡◌, ◌≤◌, ◌*◌};
+ghost use Rattle.plan_base.specs.declared.limits.TheConstants.{MAX_PRICED_LOAD};
 ghost use Rattle.link_steps.specs.Ranges.{AreRanges};
 ghost use Rattle.arc_restrict.specs.Rows.{forbids};
 ghost use Rattle.arc_restrict.specs.Prices.{AreWithinLimit};
-ghost use Rattle.proof_tree.specs.declared.limits.TheConstants.{MAX_CUTS};
 ghost use Rattle.proof_tree.specs.Bounds.{price_total};
 ghost use Rattle.cut_table.specs.Numbers.{AreNumbers};
 ghost use Rattle.bound_assembly.specs.declared.limits.TheConstants.{MAX_PATH_LINKS};
@@ -16,6 +15,7 @@ ghost use Rattle.master_step.specs.Choosing.{allowed_of, IsSource};
 
 use crate::source::Source;
 use arc_restrict::Restriction;
+use bound_assembly::total_of;
 use column_pool::ColumnPool;
 use cut_table::CutTable;
 use link_steps::Ranges;
@@ -36,17 +36,6 @@ fn column_total(inst: &Instance, prices: &Prices, source: &Source<'_>) -> u128
         total += inst.demand(demand).load * price;
     }
     total
-}
-
-/// The three sums together, in thousandths of a cost grain.
-fn total_of(priced: u128, counted: u128, values: i128) -> i128
-    requires priced { priced ≤ MAX_PATH_LINKS * MAX_PRICED_LOAD }
-    requires counted { counted ≤ MAX_CUTS * MAX_PRICED_LOAD }
-    requires not_above { values ≤ℤ pos (MAX_LINKS * MAX_PRICED_LOAD) }
-    requires bounded { (pos 0 -ℤ pos (MAX_LINKS * (2 * MAX_PRICED_LOAD))) ≤ℤ values }
-    ensures { result ≡ (pos (priced + counted) +ℤ values) }
-{
-    (priced + counted) as i128 + values
 }
 
 /// The restricted value of numbers over the columns of a source, in thousandths of a cost grain.
