@@ -3,7 +3,6 @@
 ghost use Rattle.std.specs.Prelude.{◌≡◌, ◌↔◌, ◌<◌, length, IfOk, IfSome, IsTrue};
 ghost use Rattle.link_steps.specs.Ranges.{AreRanges};
 ghost use Rattle.column_pool.specs.Columns.{columns_at};
-ghost use Rattle.column_pool.specs.Briefs.{IsBriefFor};
 ghost use Rattle.cut_table.specs.Numbers.{AreNumbers};
 ghost use Rattle.master_step.specs.Columns.{HasColumns};
 ghost use Rattle.master_step.specs.Ascents.{HaveSizes};
@@ -12,7 +11,7 @@ use crate::seeker::Ground;
 use column_pool::{Brief, ColumnPool};
 use cut_table::{CutTable, SeenLoads};
 use link_steps::Ranges;
-use master_step::{Averages, ascend_from, averaged_seen};
+use master_step::{Averages, NodeMaster, ascend_from, averaged_seen};
 use plan_base::{BranchId, DemandId, Instance, Items, Path, Prices};
 use std::alloc::{AllocError, Global};
 
@@ -94,20 +93,16 @@ fn brief_of(
 /// The better of two passes of ascent: from what an averaged ascent found, and from the numbers that are held.
 fn passed(
     alloc: Global,
-    inst: &Instance,
-    table: &CutTable,
-    brief: &Brief,
+    node: &NodeMaster<'_>,
     found: &Prices,
     held: &Prices,
 ) -> Result<(Prices, i128), AllocError>
-    requires table { table.now.problem ≡ inst.now }
-    requires brief { IsBriefFor inst.now table.now.cuts brief.now.prices brief.now.ranges brief.now.columns }
-    requires columns { HasColumns inst.now (columns_at brief.now.columns) }
-    requires found { AreNumbers inst.now table.now.cuts found.now }
-    requires held { AreNumbers inst.now table.now.cuts held.now }
+    requires columns { HasColumns node.now.inst.now (columns_at node.now.brief.now.columns) }
+    requires found { AreNumbers node.now.inst.now node.now.table.now.cuts found.now }
+    requires held { AreNumbers node.now.inst.now node.now.table.now.cuts held.now }
 {
-    let one = ascend_from(alloc, inst, table, brief, found)?;
-    let other = ascend_from(alloc, inst, table, brief, held)?;
+    let one = ascend_from(alloc, node, found)?;
+    let other = ascend_from(alloc, node, held)?;
     Ok(if one.new >= other.new {
         (one.prices, one.new)
     } else {
@@ -136,8 +131,9 @@ fn rise_by(
         return Ok(None);
     }
     seen.clear();
-    let found = averaged_seen(alloc, inst, table, brief, aim.goal(), seen)?;
-    let (numbers, value) = passed(alloc, inst, table, brief, &found.prices, held)?;
+    let node = NodeMaster { inst, table, brief };
+    let found = averaged_seen(alloc, &node, aim.goal(), seen)?;
+    let (numbers, value) = passed(alloc, &node, &found.prices, held)?;
     Ok(Some(Risen {
         numbers,
         value,

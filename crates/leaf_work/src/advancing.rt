@@ -12,7 +12,7 @@ use crate::dividing::split_of;
 use branch_tree::LoadSplit;
 use column_pool::Brief;
 use cut_table::CutTable;
-use master_step::{AveragedStep, Step, averaged_step, crowd_prices};
+use master_step::{AveragedStep, NodeMaster, Step, averaged_step, crowd_prices};
 use plan_base::{Instance, LinkId, Prices};
 use std::alloc::{AllocError, Global};
 
@@ -73,7 +73,8 @@ pub fn next_step(
             split: None,
         });
     }
-    let AveragedStep { step, averages } = averaged_step(alloc, inst, table, brief)?;
+    let node = NodeMaster { inst, table, brief };
+    let AveragedStep { step, averages } = averaged_step(alloc, &node)?;
     let split = split_of(inst, table.steps(), &brief.ranges, &averages);
     let prices = match step {
         Step::Raised {

@@ -6,18 +6,18 @@ ghost use Rattle.link_steps.specs.Ranges.{AreRanges};
 ghost use Rattle.arc_restrict.specs.Rows.{forbids};
 ghost use Rattle.cut_table.specs.Numbers.{AreNumbers};
 ghost use Rattle.column_pool.specs.Columns.{columns_at, permitted_at, AreColumns};
-ghost use Rattle.column_pool.specs.Briefs.{IsBriefFor};
 ghost use Rattle.master_step.specs.Columns.{HasColumns, IsFirstBare};
 ghost use Rattle.master_step.specs.Outcomes.{IsStepOf, HasGain, HasStalled};
 ghost use Rattle.master_step.specs.Choosing.{allowed_of};
 ghost use Rattle.master_step.specs.Climbing.{IsMaster};
 
 use crate::climbing::Master;
+use crate::node_master::NodeMaster;
 use crate::rows::{Room, Rows};
 use crate::source::Source;
 use crate::step::Step;
 use arc_restrict::Restriction;
-use column_pool::{Brief, ColumnPool};
+use column_pool::ColumnPool;
 use cut_table::CutTable;
 use link_steps::Ranges;
 use plan_base::{DemandId, Instance, Items, Path, Prices};
@@ -62,29 +62,22 @@ fn raise(alloc: Global, master: &Master<'_>) -> Result<Step, AllocError>
 /// has its value, and down where they put less, in proportion to the gap, as far as the rates permit, which stay; each trial
 /// after the first moves half as far.
 ///
-/// - Takes: the instance and its table; a brief that fits it.
 /// - Gives: `Raised` with the first trial of greatest value; `Same` where none has more; `Bare` exactly where a demand has
 ///   no column, with the first such demand.
 /// - Errors: want of memory alone.
 /// - Rule: docs/METHOD.md, "Master step".
 /// - Time: 26 times the arcs of all columns, and as often one link value for each link.
-pub fn advance(
-    alloc: Global,
-    inst: &Instance,
-    table: &CutTable,
-    brief: &Brief,
-) -> Result<Step, AllocError>
-    requires table { table.now.problem ≡ inst.now }
-    requires brief { IsBriefFor inst.now table.now.cuts brief.now.prices brief.now.ranges brief.now.columns }
-    ensures { IfOk result (IsStepOf inst.now table.now.cuts brief.now.ranges (columns_at brief.now.columns) brief.now.prices) }
+pub fn advance(alloc: Global, node: &NodeMaster<'_>) -> Result<Step, AllocError>
+    ensures { IfOk result (IsStepOf node.now.inst.now node.now.table.now.cuts node.now.brief.now.ranges (columns_at node.now.brief.now.columns) node.now.brief.now.prices) }
 {
+    let brief = node.brief;
     let lists = brief.columns.as_slice();
-    if let Some(demand) = first_bare(inst, lists) {
+    if let Some(demand) = first_bare(node.inst, lists) {
         return Ok(Step::Bare { demand });
     }
     let master = Master {
-        inst,
-        table,
+        inst: node.inst,
+        table: node.table,
         ranges: &brief.ranges,
         prices: &brief.prices,
         source: Source::Lists(lists),

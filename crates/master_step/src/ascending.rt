@@ -5,7 +5,6 @@ ghost use Rattle.plan_base.specs.Facts.{price_limit};
 ghost use Rattle.plan_base.specs.Places.{is_two_way, places};
 ghost use Rattle.link_steps.specs.Ranges.{AreRanges};
 ghost use Rattle.column_pool.specs.Columns.{columns_at};
-ghost use Rattle.column_pool.specs.Briefs.{IsBriefFor};
 ghost use Rattle.master_step.specs.Columns.{HasColumns};
 ghost use Rattle.cut_table.specs.Numbers.{AreNumbers, IsPriceWithin};
 ghost use Rattle.master_step.specs.Ascents.{IsAscent};
@@ -15,15 +14,15 @@ use crate::crossings::Crossings;
 use crate::gaps::greatest_price;
 use crate::hull::{Hull, Point};
 use crate::leaving::{Ends, other_place};
+use crate::node_master::NodeMaster;
 use crate::rating::moved_rates;
 use crate::searching::first_not_rising;
 use crate::share::Share;
 use crate::source::Source;
 use crate::valuing::value_of;
-use column_pool::Brief;
 use cut_table::{CutTable, PriceBounds};
 use link_steps::{LinkRanges, LinkValue, Ranges, StepTable};
-use plan_base::{Instance, Items, LinkId, Path, Prices};
+use plan_base::{Instance, LinkId, Prices};
 use std::alloc::{AllocError, Global};
 
 /// How many times the greatest price a price may become.
@@ -327,24 +326,24 @@ fn move_place(
 /// The numbers after each place whose link may carry load had its own price moved once, in the order of the places.
 fn moved_prices(
     alloc: Global,
-    inst: &Instance,
-    table: &CutTable,
-    ranges: &Ranges,
+    node: &NodeMaster<'_>,
     ends: &Ends,
     prices: &Prices,
-    lists: &[Items<Path>],
 ) -> Result<Prices, AllocError>
-    requires table { table.now.problem ≡ inst.now }
-    requires ranges { AreRanges inst.now ranges.now }
-    requires prices { AreNumbers inst.now table.now.cuts prices.now }
-    requires lists { length lists.now ≡ length inst.now.demands }
-    ensures { IfOk result (AreNumbers inst.now table.now.cuts) }
+    requires { AreNumbers node.now.inst.now node.now.table.now.cuts prices.now }
+    ensures { IfOk result (AreNumbers node.now.inst.now node.now.table.now.cuts) }
 {
+    let (inst, table, ranges) = (node.inst, node.table, &node.brief.ranges);
     let greatest = greatest_price(inst, prices).saturating_mul(MOST_TIMES);
     let mut moved = prices.copy()?;
     let mut pass = Pass {
         most: inst.price_limit().min(greatest),
-        crossings: Crossings::new(alloc, inst, lists, prices.as_slice())?,
+        crossings: Crossings::new(
+            alloc,
+            inst,
+            node.brief.columns.as_slice(),
+            prices.as_slice(),
+        )?,
         share: Share::new(alloc),
         hull: Hull::new(alloc),
     };
@@ -357,23 +356,14 @@ fn moved_prices(
 }
 
 /// The numbers after one pass over the prices, and where there are cuts one over the rates.
-fn moved_numbers(
-    alloc: Global,
-    inst: &Instance,
-    table: &CutTable,
-    ranges: &Ranges,
-    from: &Prices,
-    lists: &[Items<Path>],
-) -> Result<Prices, AllocError>
-    requires table { table.now.problem ≡ inst.now }
-    requires ranges { AreRanges inst.now ranges.now }
-    requires prices { AreNumbers inst.now table.now.cuts from.now }
-    requires lists { length lists.now ≡ length inst.now.demands }
-    ensures { IfOk result (AreNumbers inst.now table.now.cuts) }
+fn moved_numbers(alloc: Global, node: &NodeMaster<'_>, from: &Prices) -> Result<Prices, AllocError>
+    requires { AreNumbers node.now.inst.now node.now.table.now.cuts from.now }
+    ensures { IfOk result (AreNumbers node.now.inst.now node.now.table.now.cuts) }
 {
-    let mut ends = Ends::new(alloc, inst, table, ranges)?;
+    let (inst, table, ranges) = (node.inst, node.table, &node.brief.ranges);
+    let mut ends = Ends::new(alloc, node)?;
     ends.weigh_all(inst, table, ranges, from.as_slice());
-    let moved = moved_prices(alloc, inst, table, ranges, &ends, from, lists)?;
+    let moved = moved_prices(alloc, node, &ends, from)?;
     if table.count() == 0 {
         Ok(moved)
     } else {
@@ -395,29 +385,22 @@ pub struct Ascent {
 
 /// One pass of ascent from the prices and rates of a brief.
 ///
-/// - Takes: the instance and its table; a brief that fits it, with a column for each demand.
+/// - Takes: a node whose brief has a column for each demand.
 /// - Gives: what `ascend_from` gives.
 /// - Errors: want of memory alone.
 /// - Rule: docs/METHOD.md, "Restricted value".
 /// - Time: that of `ascend_from`.
-pub fn ascend(
-    alloc: Global,
-    inst: &Instance,
-    table: &CutTable,
-    brief: &Brief,
-) -> Result<Ascent, AllocError>
-    requires table { table.now.problem ≡ inst.now }
-    requires brief { IsBriefFor inst.now table.now.cuts brief.now.prices brief.now.ranges brief.now.columns }
-    requires columns { HasColumns inst.now (columns_at brief.now.columns) }
-    ensures { IfOk result (IsAscent inst.now table.now.cuts brief.now.ranges (columns_at brief.now.columns) brief.now.prices) }
+pub fn ascend(alloc: Global, node: &NodeMaster<'_>) -> Result<Ascent, AllocError>
+    requires columns { HasColumns node.now.inst.now (columns_at node.now.brief.now.columns) }
+    ensures { IfOk result (IsAscent node.now.inst.now node.now.table.now.cuts node.now.brief.now.ranges (columns_at node.now.brief.now.columns) node.now.brief.now.prices) }
 {
-    ascend_from(alloc, inst, table, brief, &brief.prices)
+    ascend_from(alloc, node, &node.brief.prices)
 }
 
 /// One pass of ascent: moves the price of each place in turn to where the restricted value is greatest under the ranges and
 /// over the columns of a brief, with all other numbers as they are by then, and as far as the rates permit.
 ///
-/// - Takes: the instance and its table; a brief that fits it, with a column for each demand; prices and rates that fit it.
+/// - Takes: a node whose brief has a column for each demand; prices and rates that fit it.
 /// - Gives: prices and rates that fit the instance; their restricted value is at least that of the given ones.
 /// - Errors: want of memory alone.
 /// - Rule: docs/METHOD.md, "Restricted value".
@@ -425,21 +408,17 @@ pub fn ascend(
 ///   what the search for its price asks of them.
 pub fn ascend_from(
     alloc: Global,
-    inst: &Instance,
-    table: &CutTable,
-    brief: &Brief,
+    node: &NodeMaster<'_>,
     from: &Prices,
 ) -> Result<Ascent, AllocError>
-    requires table { table.now.problem ≡ inst.now }
-    requires brief { IsBriefFor inst.now table.now.cuts brief.now.prices brief.now.ranges brief.now.columns }
-    requires columns { HasColumns inst.now (columns_at brief.now.columns) }
-    requires from { AreNumbers inst.now table.now.cuts from.now }
-    ensures { IfOk result (IsAscent inst.now table.now.cuts brief.now.ranges (columns_at brief.now.columns) from.now) }
+    requires columns { HasColumns node.now.inst.now (columns_at node.now.brief.now.columns) }
+    requires from { AreNumbers node.now.inst.now node.now.table.now.cuts from.now }
+    ensures { IfOk result (IsAscent node.now.inst.now node.now.table.now.cuts node.now.brief.now.ranges (columns_at node.now.brief.now.columns) from.now) }
 {
-    let lists = brief.columns.as_slice();
+    let (inst, table, ranges) = (node.inst, node.table, &node.brief.ranges);
+    let lists = node.brief.columns.as_slice();
     let source = Source::Lists(lists);
-    let ranges = &brief.ranges;
-    let prices = moved_numbers(alloc, inst, table, ranges, from, lists)?;
+    let prices = moved_numbers(alloc, node, from)?;
     let old = value_of(inst, table, ranges, from, &source);
     let new = value_of(inst, table, ranges, &prices, &source);
     if new < old {

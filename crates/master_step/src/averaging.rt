@@ -2,21 +2,18 @@
 
 ghost use Rattle.std.specs.Prelude.{◌≡◌, ◌<◌, ◌≤◌, ◌+◌, length, IfOk};
 ghost use Rattle.plan_base.specs.Places.{places};
-ghost use Rattle.link_steps.specs.Ranges.{AreRanges};
-ghost use Rattle.column_pool.specs.Briefs.{IsBriefFor};
 ghost use Rattle.cut_table.specs.Numbers.{AreNumbers};
 ghost use Rattle.master_step.specs.Ascents.{HaveSizes};
 
 use crate::ascending::put_price;
 use crate::choice::number_at;
-use crate::counts::{Count, Counts, rates_on};
+use crate::counts::rates_on;
 use crate::limits::{MAX_CUT_TURNS, MAX_TURNS};
-use crate::means::{Averages, Mean, mean_at};
+use crate::means::{Averages, mean_at};
+use crate::node_master::NodeMaster;
 use crate::pace::Pace;
 use crate::work::{Parts, Work, parted, take_turn};
-use column_pool::Brief;
 use cut_table::{CutTable, PriceBounds, SeenLoads};
-use link_steps::Ranges;
 use plan_base::{Instance, Prices};
 use std::alloc::{AllocError, Global};
 
@@ -42,14 +39,16 @@ fn keep_better(
     }
 }
 
-/// How far numbers move: that with the widest gap by the most, others in proportion to their gaps.
+/// How far the best numbers move: that with the widest gap by the most, others in proportion to their gaps.
 #[derive(Clone, Copy)]
-struct Move {
+struct Move<'a> {
+    best: &'a Prices,
+    work: &'a Work,
     most: u128,
     widest: u64,
 }
 
-impl Move {
+impl Move<'_> {
     /// A number moved by its gap.
     fn apply(self, number: u128, gap: u64, rises: bool) -> u128 {
         let step = self.most.saturating_mul(u128::from(gap)) / u128::from(self.widest.max(1));
@@ -60,17 +59,18 @@ impl Move {
         }
     }
 
-    /// A price moved as its averages ask for.
-    fn of_price(self, mean: Mean, price: u128) -> u128 {
-        self.apply(
-            price,
-            mean.gap(price),
-            mean.column_load() > mean.value_load(),
-        )
+    /// The best price of a place, moved as its averages ask for.
+    fn price(self, place: u32) -> u128 {
+        let price = number_at(self.best.as_slice(), place as usize);
+        let mean = mean_at(self.work.means.as_slice(), place as usize);
+        let rises = mean.column_load() > mean.value_load();
+        self.apply(price, mean.gap(price), rises)
     }
 
-    /// A rate moved as what its cut counts on average asks for.
-    fn of_rate(self, count: Count, rate: u128) -> u128 {
+    /// The best rate of a cut, which stands there among the numbers, moved as what the cut counts on average asks for.
+    fn rate(self, at: u32, number: u32) -> u128 {
+        let rate = number_at(self.best.as_slice(), at as usize);
+        let count = self.work.counts.at(number as usize);
         self.apply(rate, count.gap(rate), count.is_short())
     }
 }
@@ -85,44 +85,26 @@ fn bounded(bounds: PriceBounds, price: u128) -> u128
 }
 
 /// Writes the best prices, each moved, over those of the last turn, as far as the rates permit.
-fn move_prices(
-    inst: &Instance,
-    table: &CutTable,
-    best: &Prices,
-    means: &[Mean],
-    by: Move,
-    trial: &mut Prices,
-)
+fn move_prices(inst: &Instance, table: &CutTable, by: Move<'_>, trial: &mut Prices)
     requires table { table.now.problem ≡ inst.now }
     requires trial { AreNumbers inst.now table.now.cuts trial.old }
     ensures { AreNumbers inst.now table.now.cuts trial.new }
 {
     for place in 0..inst.places() {
-        let price = number_at(best.as_slice(), place as usize);
-        let moved = by.of_price(mean_at(means, place as usize), price);
         let bounds = table.price_bounds(trial, place);
-        put_price(inst, table, trial, place, bounded(bounds, moved));
+        put_price(inst, table, trial, place, bounded(bounds, by.price(place)));
     }
 }
 
 /// Writes the best rates, each moved, over those of the last turn: none above the most.
-fn put_rates(
-    inst: &Instance,
-    table: &CutTable,
-    best: &Prices,
-    counts: &Counts,
-    by: Move,
-    most: u128,
-    trial: &mut Prices,
-)
+fn put_rates(inst: &Instance, table: &CutTable, by: Move<'_>, most: u128, trial: &mut Prices)
     requires { length trial.old ≡ places inst.now + length table.now.cuts }
     ensures { length trial.new ≡ length trial.old }
 {
     let places = inst.places();
     for number in 0..table.count() {
-        let rate = number_at(best.as_slice(), (places + number) as usize);
-        let moved = by.of_rate(counts.at(number as usize), rate);
-        trial.put(places + number, moved.min(most));
+        let at = places + number;
+        trial.put(at, by.rate(at, number).min(most));
     }
 }
 
@@ -138,14 +120,7 @@ fn price_beside(inst: &Instance, place: u32, rates: u128, limit: u128, price: u1
 }
 
 /// Writes the best prices, each moved, over those of the last turn, beside the rates that the turn has.
-fn put_prices(
-    inst: &Instance,
-    table: &CutTable,
-    best: &Prices,
-    means: &[Mean],
-    by: Move,
-    trial: &mut Prices,
-)
+fn put_prices(inst: &Instance, table: &CutTable, by: Move<'_>, trial: &mut Prices)
     requires table { table.now.problem ≡ inst.now }
     requires trial { length trial.old ≡ places inst.now + length table.now.cuts }
     ensures { length trial.new ≡ length trial.old }
@@ -154,32 +129,24 @@ fn put_prices(
     for place in 0..inst.places() {
         let (_, rates) = parted(trial.as_slice(), inst.places() as usize);
         let beside = rates_on(table.crossings(place), rates);
-        let price = number_at(best.as_slice(), place as usize);
-        let moved = by.of_price(mean_at(means, place as usize), price);
-        trial.put(place, price_beside(inst, place, beside, limit, moved));
+        let price = price_beside(inst, place, beside, limit, by.price(place));
+        trial.put(place, price);
     }
 }
 
 /// Writes the best numbers, each moved, over those of the last turn; where they are then not as they have to be, the best
 /// ones as they are.
-fn move_numbers(
-    inst: &Instance,
-    table: &CutTable,
-    best: &Prices,
-    work: &Work,
-    by: Move,
-    trial: &mut Prices,
-)
+fn move_numbers(inst: &Instance, table: &CutTable, by: Move<'_>, trial: &mut Prices)
     requires table { table.now.problem ≡ inst.now }
-    requires best { AreNumbers inst.now table.now.cuts best.now }
+    requires best { AreNumbers inst.now table.now.cuts by.best.now }
     requires trial { AreNumbers inst.now table.now.cuts trial.old }
     ensures { AreNumbers inst.now table.now.cuts trial.new }
 {
     let most = inst.price_limit() / RATE_SHARE;
-    put_rates(inst, table, best, &work.counts, by, most, trial);
-    put_prices(inst, table, best, work.means.as_slice(), by, trial);
+    put_rates(inst, table, by, most, trial);
+    put_prices(inst, table, by, trial);
     if !table.are_numbers(trial) {
-        trial.set_to(best);
+        trial.set_to(by.best);
     }
 }
 
@@ -203,11 +170,16 @@ fn move_on(
         Some(asked) if widest > 0 => {
             let most = work.move_of(best.as_slice(), widest, asked);
             let most = most.min(inst.price_limit());
-            let by = Move { most, widest };
+            let by = Move {
+                best,
+                work,
+                most,
+                widest,
+            };
             if table.count() == 0 {
-                move_prices(inst, table, best, work.means.as_slice(), by, trial);
+                move_prices(inst, table, by, trial);
             } else {
-                move_numbers(inst, table, best, work, by, trial);
+                move_numbers(inst, table, by, trial);
             }
             true
         }
@@ -241,25 +213,22 @@ fn parts_of(table: &CutTable, turn: u32) -> Parts {
 
 /// Puts the best numbers of the ascent over those that it begins with. Loads are noted in the last half of the turns.
 fn climb(
-    inst: &Instance,
-    table: &CutTable,
-    ranges: &Ranges,
+    node: &NodeMaster<'_>,
     goal: i128,
     best: &mut Prices,
     trial: &mut Prices,
     seen: &mut SeenLoads,
     work: &mut Work,
 )
-    requires table { table.now.problem ≡ inst.now }
-    requires are_ranges { AreRanges inst.now ranges.now }
-    requires best { AreNumbers inst.now table.now.cuts best.old }
-    requires trial { AreNumbers inst.now table.now.cuts trial.old }
-    ensures { AreNumbers inst.now table.now.cuts best.new }
+    requires best { AreNumbers node.now.inst.now node.now.table.now.cuts best.old }
+    requires trial { AreNumbers node.now.inst.now node.now.table.now.cuts trial.old }
+    ensures { AreNumbers node.now.inst.now node.now.table.now.cuts best.new }
 {
+    let (inst, table) = (node.inst, node.table);
     let turns = turns_of(table);
     let mut pace = Pace::new();
     for turn in 0..turns {
-        let value = take_turn(inst, table, ranges, trial, parts_of(table, turn), work);
+        let value = take_turn(node, trial, parts_of(table, turn), work);
         if turn >= turns / 2 {
             work.note_values(inst, seen);
         }
@@ -284,8 +253,8 @@ pub struct AveragedAscent {
 /// gives its link its value, and down where they put less, and the best rates up where the cuts count less of it on average
 /// than at least, and down where they count more, by as much as would take the restricted value towards the goal.
 ///
-/// - Takes: the instance and its table; a brief that fits it; the goal, in thousandths of a cost grain; room for the loads
-///   that give the links their values, which are noted in the last half of the turns that there may be.
+/// - Takes: the goal, in thousandths of a cost grain; room for the loads that give the links their values, which are noted
+///   in the last half of the turns that there may be.
 /// - Gives: the best prices and rates that it met, those of the brief among them, which fit the instance.
 /// - Errors: want of memory alone.
 /// - Rule: docs/METHOD.md, "Master step".
@@ -293,49 +262,38 @@ pub struct AveragedAscent {
 ///   and as often one link value for each link and a look at the cuts that each place crosses.
 pub fn averaged_seen(
     alloc: Global,
-    inst: &Instance,
-    table: &CutTable,
-    brief: &Brief,
+    node: &NodeMaster<'_>,
     goal: i128,
     seen: &mut SeenLoads,
 ) -> Result<AveragedAscent, AllocError>
-    requires table { table.now.problem ≡ inst.now }
-    requires brief { IsBriefFor inst.now table.now.cuts brief.now.prices brief.now.ranges brief.now.columns }
-    ensures prices { IfOk result (λ averaged. AreNumbers inst.now table.now.cuts averaged.prices) }
-    ensures sizes { IfOk result (λ averaged. HaveSizes inst.now averaged.averages) }
+    ensures prices { IfOk result (λ averaged. AreNumbers node.now.inst.now node.now.table.now.cuts averaged.prices) }
+    ensures sizes { IfOk result (λ averaged. HaveSizes node.now.inst.now averaged.averages) }
 {
-    let mut work = Work::new(alloc, inst, table, brief)?;
-    let mut best = brief.prices.copy()?;
-    let mut trial = brief.prices.copy()?;
-    let ranges = &brief.ranges;
-    climb(
-        inst, table, ranges, goal, &mut best, &mut trial, seen, &mut work,
-    );
+    let mut work = Work::new(alloc, node)?;
+    let mut best = node.brief.prices.copy()?;
+    let mut trial = node.brief.prices.copy()?;
+    climb(node, goal, &mut best, &mut trial, seen, &mut work);
     Ok(AveragedAscent {
         prices: best,
-        averages: work.averages(alloc, inst)?,
+        averages: work.averages(alloc, node.inst)?,
     })
 }
 
 /// The averaged ascent, of which no loads are noted.
 ///
-/// - Takes: the instance and its table; a brief that fits it; the goal, in thousandths of a cost grain.
+/// - Takes: the goal, in thousandths of a cost grain.
 /// - Gives: what `averaged_seen` gives.
 /// - Errors: want of memory alone.
 /// - Rule: docs/METHOD.md, "Master step".
 /// - Time: that of `averaged_seen`.
 pub fn averaged(
     alloc: Global,
-    inst: &Instance,
-    table: &CutTable,
-    brief: &Brief,
+    node: &NodeMaster<'_>,
     goal: i128,
 ) -> Result<AveragedAscent, AllocError>
-    requires table { table.now.problem ≡ inst.now }
-    requires brief { IsBriefFor inst.now table.now.cuts brief.now.prices brief.now.ranges brief.now.columns }
-    ensures prices { IfOk result (λ averaged. AreNumbers inst.now table.now.cuts averaged.prices) }
-    ensures sizes { IfOk result (λ averaged. HaveSizes inst.now averaged.averages) }
+    ensures prices { IfOk result (λ averaged. AreNumbers node.now.inst.now node.now.table.now.cuts averaged.prices) }
+    ensures sizes { IfOk result (λ averaged. HaveSizes node.now.inst.now averaged.averages) }
 {
-    let mut seen = SeenLoads::new(alloc, inst, 0)?;
-    averaged_seen(alloc, inst, table, brief, goal, &mut seen)
+    let mut seen = SeenLoads::new(alloc, node.inst, 0)?;
+    averaged_seen(alloc, node, goal, &mut seen)
 }

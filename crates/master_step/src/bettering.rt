@@ -2,7 +2,6 @@
 
 ghost use Rattle.std.specs.Prelude.{◌≡◌, IfOk, IfSome};
 ghost use Rattle.column_pool.specs.Columns.{columns_at};
-ghost use Rattle.column_pool.specs.Briefs.{IsBriefFor};
 ghost use Rattle.master_step.specs.Columns.{HasColumns};
 ghost use Rattle.master_step.specs.Restricted.{IsRestrictedValue};
 ghost use Rattle.cut_table.specs.Numbers.{AreNumbers};
@@ -12,10 +11,9 @@ use crate::advancing::advance;
 use crate::ascending::{Ascent, ascend, ascend_from};
 use crate::averaging::averaged;
 use crate::means::Averages;
+use crate::node_master::NodeMaster;
 use crate::step::Step;
-use column_pool::Brief;
-use cut_table::CutTable;
-use plan_base::{Instance, Prices};
+use plan_base::Prices;
 use std::alloc::{AllocError, Global};
 
 /// The least restricted value that shows that no design costs less than this, where costs are multiples of a unit, all in
@@ -36,29 +34,22 @@ struct Risen {
 
 /// One pass of ascent: from the best prices of an averaged ascent where the brief has a design to be better than, else from
 /// those of the brief.
-fn rise(
-    alloc: Global,
-    inst: &Instance,
-    table: &CutTable,
-    brief: &Brief,
-) -> Result<Risen, AllocError>
-    requires table { table.now.problem ≡ inst.now }
-    requires brief { IsBriefFor inst.now table.now.cuts brief.now.prices brief.now.ranges brief.now.columns }
-    requires columns { HasColumns inst.now (columns_at brief.now.columns) }
-    ensures numbers { IfOk result (λ risen. AreNumbers inst.now table.now.cuts risen.ascent.prices) }
-    ensures sizes { IfOk result (λ risen. IfSome risen.averages (HaveSizes inst.now)) }
-    ensures value { IfOk result (λ risen. IsRestrictedValue inst.now table.now.cuts brief.now.ranges (columns_at brief.now.columns) risen.ascent.prices risen.ascent.new) }
+fn rise(alloc: Global, node: &NodeMaster<'_>) -> Result<Risen, AllocError>
+    requires columns { HasColumns node.now.inst.now (columns_at node.now.brief.now.columns) }
+    ensures numbers { IfOk result (λ risen. AreNumbers node.now.inst.now node.now.table.now.cuts risen.ascent.prices) }
+    ensures sizes { IfOk result (λ risen. IfSome risen.averages (HaveSizes node.now.inst.now)) }
+    ensures value { IfOk result (λ risen. IsRestrictedValue node.now.inst.now node.now.table.now.cuts node.now.brief.now.ranges (columns_at node.now.brief.now.columns) risen.ascent.prices risen.ascent.new) }
 {
-    match brief.incumbent {
+    match node.brief.incumbent {
         None => Ok(Risen {
-            ascent: ascend(alloc, inst, table, brief)?,
+            ascent: ascend(alloc, node)?,
             averages: None,
         }),
         Some(cost) => {
-            let goal = goal_of(cost, brief.unit);
-            let found = averaged(alloc, inst, table, brief, goal)?;
+            let goal = goal_of(cost, node.brief.unit);
+            let found = averaged(alloc, node, goal)?;
             Ok(Risen {
-                ascent: ascend_from(alloc, inst, table, brief, &found.prices)?,
+                ascent: ascend_from(alloc, node, &found.prices)?,
                 averages: Some(found.averages),
             })
         }
@@ -113,35 +104,27 @@ fn raise_or_same(value: i128, risen: Risen) -> AveragedStep
 /// The better of the master step and one pass of ascent, which begins with an averaged ascent where the brief tells what a
 /// design costs.
 ///
-/// - Takes: the instance and its table; a brief that fits it.
 /// - Gives: `Raised` with prices and rates whose restricted value is more than that of the brief's, and at least what the
 ///   master step raises it to; `Same` only where the master step gains nothing; `Bare` exactly where a demand has no
 ///   column, with the first such demand.
 /// - Errors: want of memory alone.
 /// - Rule: docs/METHOD.md, "Master step".
 /// - Time: that of `advance`, of `averaged` and of `ascend_from`.
-pub fn averaged_step(
-    alloc: Global,
-    inst: &Instance,
-    table: &CutTable,
-    brief: &Brief,
-) -> Result<AveragedStep, AllocError>
-    requires table { table.now.problem ≡ inst.now }
-    requires brief { IsBriefFor inst.now table.now.cuts brief.now.prices brief.now.ranges brief.now.columns }
-    ensures step { IfOk result (λ found. IsBestStepOf inst.now table.now.cuts brief.now.ranges (columns_at brief.now.columns) brief.now.prices found.step) }
-    ensures sizes { IfOk result (λ found. IfSome found.averages (HaveSizes inst.now)) }
+pub fn averaged_step(alloc: Global, node: &NodeMaster<'_>) -> Result<AveragedStep, AllocError>
+    ensures step { IfOk result (λ found. IsBestStepOf node.now.inst.now node.now.table.now.cuts node.now.brief.now.ranges (columns_at node.now.brief.now.columns) node.now.brief.now.prices found.step) }
+    ensures sizes { IfOk result (λ found. IfSome found.averages (HaveSizes node.now.inst.now)) }
 {
-    match advance(alloc, inst, table, brief)? {
+    match advance(alloc, node)? {
         Step::Bare { demand } => Ok(AveragedStep {
             step: Step::Bare { demand },
             averages: None,
         }),
         Step::Raised { prices, old, new } => {
-            let risen = rise(alloc, inst, table, brief)?;
+            let risen = rise(alloc, node)?;
             Ok(better_raise(prices, old, new, risen))
         }
         Step::Same { value } => {
-            let risen = rise(alloc, inst, table, brief)?;
+            let risen = rise(alloc, node)?;
             Ok(raise_or_same(value, risen))
         }
     }
@@ -149,20 +132,12 @@ pub fn averaged_step(
 
 /// The step of `averaged_step`.
 ///
-/// - Takes: the instance and its table; a brief that fits it.
 /// - Errors: want of memory alone.
 /// - Rule: docs/METHOD.md, "Master step".
 /// - Time: that of `averaged_step`.
-pub fn best_step(
-    alloc: Global,
-    inst: &Instance,
-    table: &CutTable,
-    brief: &Brief,
-) -> Result<Step, AllocError>
-    requires table { table.now.problem ≡ inst.now }
-    requires brief { IsBriefFor inst.now table.now.cuts brief.now.prices brief.now.ranges brief.now.columns }
-    ensures { IfOk result (IsBestStepOf inst.now table.now.cuts brief.now.ranges (columns_at brief.now.columns) brief.now.prices) }
+pub fn best_step(alloc: Global, node: &NodeMaster<'_>) -> Result<Step, AllocError>
+    ensures { IfOk result (IsBestStepOf node.now.inst.now node.now.table.now.cuts node.now.brief.now.ranges (columns_at node.now.brief.now.columns) node.now.brief.now.prices) }
 {
-    let AveragedStep { step, .. } = averaged_step(alloc, inst, table, brief)?;
+    let AveragedStep { step, .. } = averaged_step(alloc, node)?;
     Ok(step)
 }

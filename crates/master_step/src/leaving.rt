@@ -7,6 +7,7 @@ ghost use Rattle.plan_base.specs.Places.{is_two_way, places};
 use crate::choice::number_at;
 use crate::counts::{counted, least_counted};
 use crate::hull::{Hull, Point};
+use crate::node_master::NodeMaster;
 use crate::work::parted;
 use cut_table::{Crossing, CutTable};
 use link_steps::limits::MAX_STEPS;
@@ -181,17 +182,10 @@ impl PlaceEnds {
     }
 
     /// Adds the ends of the steps that the ranges of a place's link meet.
-    fn meet(
-        &mut self,
-        inst: &Instance,
-        table: &CutTable,
-        ranges: &Ranges,
-        place: u32,
-    ) -> Result<(), AllocError>
-        requires table { table.now.problem ≡ inst.now }
-        requires place { place < places inst.now }
-        requires ranges { length ranges.now ≡ places inst.now }
+    fn meet(&mut self, node: &NodeMaster<'_>, place: u32) -> Result<(), AllocError>
+        requires { place < places node.now.inst.now }
     {
+        let (inst, ranges) = (node.inst, &node.brief.ranges);
         let LoadRange {
             mut least,
             mut most,
@@ -202,7 +196,7 @@ impl PlaceEnds {
         }
         let most = most.min(inst.total_load());
         let link = inst.link_of_place(place);
-        self.fill(table.steps(), link, LoadRange { least, most })?;
+        self.fill(node.table.steps(), link, LoadRange { least, most })?;
         self.worths.resize(self.ends.len(), 0)?;
         Ok(())
     }
@@ -286,26 +280,19 @@ pub(crate) struct Ends {
 }
 
 impl Ends {
-    /// Those under these ranges; nothing is weighed yet.
+    /// Those under the ranges of a node; nothing is weighed yet.
     ///
     /// - Errors: want of memory alone.
     /// - Time: for each place the ends times the cuts that cross it.
-    pub(crate) fn new(
-        alloc: Global,
-        inst: &Instance,
-        table: &CutTable,
-        ranges: &Ranges,
-    ) -> Result<Ends, AllocError>
-        requires table { table.now.problem ≡ inst.now }
-        requires ranges { length ranges.now ≡ places inst.now }
-    {
+    pub(crate) fn new(alloc: Global, node: &NodeMaster<'_>) -> Result<Ends, AllocError> {
+        let (inst, table, ranges) = (node.inst, node.table, &node.brief.ranges);
         let mut places = Vec::new(alloc);
         let mut room = MOST_COUNTS;
         if table.count() > 0 {
             for place in 0..inst.places() {
                 let mut ends = PlaceEnds::new(alloc);
                 if is_crossed(inst, table, place) {
-                    ends.meet(inst, table, ranges, place)?;
+                    ends.meet(node, place)?;
                 }
                 let row = table.crossings(place);
                 let kept = ends.keep_counts(ranges.at(place), row, room)?;

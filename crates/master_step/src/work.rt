@@ -1,8 +1,6 @@
 //! What the turns of an averaged ascent work on.
 
 ghost use Rattle.std.specs.Prelude.{◌≡◌, ◌<◌, length, IfOk};
-ghost use Rattle.plan_base.specs.Places.{places};
-ghost use Rattle.link_steps.specs.Ranges.{AreRanges};
 ghost use Rattle.cut_table.specs.Numbers.{AreNumbers};
 ghost use Rattle.master_step.specs.Ascents.{HaveSizes};
 
@@ -10,9 +8,9 @@ use crate::choice::{Choices, number_at, put_at};
 use crate::counts::Counts;
 use crate::leaving::{Ends, Found};
 use crate::means::{Averages, Mean, moved_mean, recent_loads};
-use column_pool::Brief;
+use crate::node_master::NodeMaster;
 use cut_table::{CutTable, RatedRows, SeenLoads};
-use link_steps::{LinkValue, Ranges};
+use link_steps::LinkValue;
 use plan_base::{Instance, Items, LinkId, LinkPrices, Prices};
 use std::alloc::{AllocError, Global};
 
@@ -80,27 +78,20 @@ fn module_cost(found: LinkValue, priced: LinkPrices, routing: u64) -> u128 {
 }
 
 impl Work {
-    /// The work of an ascent over the columns of a brief.
+    /// The work of an ascent over the columns of a node.
     ///
     /// - Errors: want of memory alone.
-    pub(crate) fn new(
-        alloc: Global,
-        inst: &Instance,
-        table: &CutTable,
-        brief: &Brief,
-    ) -> Result<Work, AllocError>
-        requires table { table.now.problem ≡ inst.now }
-        requires ranges { length brief.now.ranges ≡ places inst.now }
-    {
+    pub(crate) fn new(alloc: Global, node: &NodeMaster<'_>) -> Result<Work, AllocError> {
+        let (inst, table) = (node.inst, node.table);
         let places = inst.places() as usize;
         Ok(Work {
-            choices: Choices::new(alloc, inst, brief.columns.as_slice())?,
+            choices: Choices::new(alloc, inst, node.brief.columns.as_slice())?,
             column_loads: vec![in alloc; 0; places]?,
             value_loads: vec![in alloc; 0; places]?,
             means: vec![in alloc; Mean::none(); places]?,
             counts: Counts::new(alloc, inst, table)?,
             costs: vec![in alloc; 0; inst.links() as usize]?,
-            ends: Ends::new(alloc, inst, table, &brief.ranges)?,
+            ends: Ends::new(alloc, node)?,
             rows: table.rated_rows(),
         })
     }
@@ -217,21 +208,14 @@ impl Work {
 }
 
 /// What gives a link its value at these numbers, where no cut that crosses it has a rate.
-fn unrated(
-    inst: &Instance,
-    table: &CutTable,
-    ranges: &Ranges,
-    numbers: &Prices,
-    link: LinkId,
-    rows: &mut RatedRows,
-) -> Found
-    requires table { table.now.problem ≡ inst.now }
-    requires are_ranges { AreRanges inst.now ranges.now }
-    requires numbers { AreNumbers inst.now table.now.cuts numbers.now }
-    requires link { link.0 < length inst.now.links }
+fn unrated(node: &NodeMaster<'_>, numbers: &Prices, link: LinkId, rows: &mut RatedRows) -> Found
+    requires numbers { AreNumbers node.now.inst.now node.now.table.now.cuts numbers.now }
+    requires link { link.0 < length node.now.inst.now.links }
 {
+    let inst = node.inst;
     let is_two_way = inst.orient().is_two_way();
-    let value = table.link_value(link, ranges.of_link(inst, link), numbers, rows);
+    let ranged = node.brief.ranges.of_link(inst, link);
+    let value = node.table.link_value(link, ranged, numbers, rows);
     let priced = prices_of(numbers.as_slice(), is_two_way, link.0 as usize);
     Found {
         value,
@@ -241,18 +225,10 @@ fn unrated(
 
 /// Writes the loads that give the links their values at these numbers, and gives the sum of the values, in thousandths of a
 /// cost grain.
-fn fill_values(
-    inst: &Instance,
-    table: &CutTable,
-    ranges: &Ranges,
-    numbers: &Prices,
-    recent: u128,
-    work: &mut Work,
-) -> i128
-    requires table { table.now.problem ≡ inst.now }
-    requires are_ranges { AreRanges inst.now ranges.now }
-    requires numbers { AreNumbers inst.now table.now.cuts numbers.now }
+fn fill_values(node: &NodeMaster<'_>, numbers: &Prices, recent: u128, work: &mut Work) -> i128
+    requires { AreNumbers node.now.inst.now node.now.table.now.cuts numbers.now }
 {
+    let (inst, table, ranges) = (node.inst, node.table, &node.brief.ranges);
     let is_two_way = inst.orient().is_two_way();
     let has_cuts = table.count() > 0;
     let mut total: i128 = 0;
@@ -266,7 +242,7 @@ fn fill_values(
         };
         let found = match rated {
             Some(found) => found,
-            None => unrated(inst, table, ranges, numbers, link, &mut work.rows),
+            None => unrated(node, numbers, link, &mut work.rows),
         };
         work.put_value(is_two_way, number as usize, found, recent);
         total = total.saturating_add(found.value.value);
@@ -277,20 +253,17 @@ fn fill_values(
 /// Moves the averages towards what columns and values put on the places at these numbers, and towards what the cuts count of
 /// it, and gives the restricted value, in thousandths of a cost grain.
 pub(crate) fn take_turn(
-    inst: &Instance,
-    table: &CutTable,
-    ranges: &Ranges,
+    node: &NodeMaster<'_>,
     numbers: &Prices,
     parts: Parts,
     work: &mut Work,
 ) -> i128
-    requires table { table.now.problem ≡ inst.now }
-    requires are_ranges { AreRanges inst.now ranges.now }
-    requires numbers { AreNumbers inst.now table.now.cuts numbers.now }
+    requires { AreNumbers node.now.inst.now node.now.table.now.cuts numbers.now }
 {
-    let values = fill_values(inst, table, ranges, numbers, parts.recent, work);
+    let table = node.table;
+    let values = fill_values(node, numbers, parts.recent, work);
     if table.count() > 0 {
-        work.count_values(inst, table);
+        work.count_values(node.inst, table);
     }
     let loads = work.column_loads.as_mut_slice();
     let priced = work.choices.fill(numbers.as_slice(), loads);

@@ -19,7 +19,7 @@ use column_pool::Brief;
 use columns::are_values;
 use cut_table::CutTable;
 use made::{made_brief, made_instance};
-use master_step::{Step, advance, best_step};
+use master_step::{NodeMaster, Step, advance, best_step};
 use plan_base::{Instance, Items, Orient};
 use row_draws::Draws;
 use row_networks::table_of;
@@ -99,12 +99,13 @@ fn steps_agree(alloc: Global, table: &CutTable, brief: &Brief, found: &Found) ->
     if !brief.fits(inst, table) {
         return false;
     }
-    let step_agrees = match advance(alloc, inst, table, brief) {
+    let node = NodeMaster { inst, table, brief };
+    let step_agrees = match advance(alloc, &node) {
         Ok(step) => is_step(&step, found),
         Err(_) => false,
     };
     step_agrees
-        && match best_step(alloc, inst, table, brief) {
+        && match best_step(alloc, &node) {
             Ok(best) => is_no_worse(&best, found),
             Err(_) => false,
         }

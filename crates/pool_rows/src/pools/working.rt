@@ -4,7 +4,7 @@ use super::telling::tell_progress;
 use crate::calling::{first_number, tell_answer};
 use column_pool::Brief;
 use dual_versions::Published;
-use master_step::{Step, advance};
+use master_step::{NodeMaster, Step, advance};
 use path_pricing::{Priced, price};
 use plan_base::{BranchId, DemandId, Prices};
 use pool_core::{Closing, Examined, Gather, Offer, Offered, Pool, Publish, Settle, Task};
@@ -96,7 +96,7 @@ fn raised(alloc: Global, pool: &Pool, brief: &Brief) -> Option<Option<Prices>> {
     if !brief.fits(inst, table) {
         return None;
     }
-    match advance(alloc, inst, table, brief).ok()? {
+    match advance(alloc, &NodeMaster { inst, table, brief }).ok()? {
         Step::Raised { prices, .. } => Some(Some(prices)),
         _ => Some(None),
     }

@@ -6,7 +6,7 @@ use super::cutless_table;
 use column_pool::Brief;
 use cut_table::CutTable;
 use link_steps::Ranges;
-use master_step::{Step, advance, best_step, crowd_prices};
+use master_step::{NodeMaster, Step, advance, best_step, crowd_prices};
 use plan_base::{
     ArcId, BranchId, CountLaw, Demand, Instance, Items, Link, Module, NodeId, Orient, Parts, Path,
     Prices,
@@ -95,10 +95,11 @@ fn step_with(alloc: Global, table: &CutTable, brief: &Brief, is_best: bool) -> O
     if !brief.fits(inst, table) {
         return None;
     }
+    let node = NodeMaster { inst, table, brief };
     if is_best {
-        return best_step(alloc, inst, table, brief).ok();
+        return best_step(alloc, &node).ok();
     }
-    advance(alloc, inst, table, brief).ok()
+    advance(alloc, &node).ok()
 }
 
 /// The step of a brief, or the better of it and an ascent. None where the brief does not fit, and where memory is wanting.

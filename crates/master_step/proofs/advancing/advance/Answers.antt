@@ -9,19 +9,19 @@ use Rattle.master_step.proofs.advancing.advance.Goals as goal
 
 pub raise-requires : goal.raise-requires
 raise-requires c =
-    let p = c.args.inst.now in
+    let p = c.args.node.now.inst.now in
     let lists = c.as_slice-lists.result in
     let has : HasColumns p (columns_at lists.now) = c.in_default.ensures.none in
     record {
-      table = c.requires.table;
-      are_numbers = c.requires.brief.are_numbers;
-      are_ranges = c.requires.brief.are_ranges;
-      source = lists-source p lists (c.as_slice-lists.ensures.len ∙ c.requires.brief.list_count)
-          (subst (λ (columns : Columns). AreAllPaths p columns (length p.demands)) (sym c.as_slice-lists.ensures.value) c.requires.brief.paths);
+      table = c.args.node.now.table_fits;
+      are_numbers = c.args.node.now.brief_fits.are_numbers;
+      are_ranges = c.args.node.now.brief_fits.are_ranges;
+      source = lists-source p lists (c.as_slice-lists.ensures.len ∙ c.args.node.now.brief_fits.list_count)
+          (subst (λ (columns : Columns). AreAllPaths p columns (length p.demands)) (sym c.as_slice-lists.ensures.value) c.args.node.now.brief_fits.paths);
       columns = subst (HasColumns p) (sym (lists-allowed lists)) has;
     }
 
 pub returns : goal.returns
 returns c =
-    subst (λ (choices : Choices). IfOk c.raise.result (IsStepOf c.args.inst.now c.args.table.now.cuts c.args.brief.now.ranges choices c.args.brief.now.prices))
+    subst (λ (choices : Choices). IfOk c.raise.result (IsStepOf c.args.node.now.inst.now c.args.node.now.table.now.cuts c.args.node.now.brief.now.ranges choices c.args.node.now.brief.now.prices))
     (lists-allowed c.as_slice-lists.result ∙ ap columns_at c.as_slice-lists.ensures.value) c.raise.ensures
