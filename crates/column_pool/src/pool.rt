@@ -20,10 +20,9 @@ pub struct ColumnPool {
 }
 
 impl Model for ColumnPool {
-    ghost use Rattle.std.specs.Prelude.{List};
-    ghost use Rattle.plan_base.specs.declared.ids.ArcId.{ArcId};
+    ghost use Rattle.column_pool.specs.Columns.{Columns};
 
-    ghost Value = { List (List (List ArcId)) };
+    ghost Value = { Columns };
 
     ghost view = { λ a. a.rows.items };
 }
