@@ -5,11 +5,13 @@ use Rattle.plan_base.specs.declared.parts.Parts.{Parts}
 use Rattle.plan_base.specs.Arcs.{demand_at}
 use Rattle.plan_base.specs.Paths.{IsSimplePath}
 use Rattle.arc_restrict.specs.Rows.{forbids}
+pub use Rattle.arc_restrict.specs.Prices.{AreWithinLimit}
 use Rattle.column_pool.specs.Columns.{columns_at, is_permitted}
 use Rattle.master_step.specs.declared.source.Source.{Source}
 use Rattle.master_step.specs.declared.source.Source.TheVariants.{Lists, Pool}
 use Rattle.master_step.specs.declared.source.Least.{Least}
 use Rattle.master_step.specs.Columns.{least_column, least_price}
+pub use Rattle.master_step.specs.Columns.{HasColumns}
 
 -- how many demands there are lists for
 abbrev pub list_count : Source → ℕ

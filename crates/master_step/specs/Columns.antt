@@ -4,6 +4,8 @@ use Rattle.std.specs.List.{fold}
 use Rattle.plan_base.specs.declared.ids.ArcId.{ArcId}
 use Rattle.plan_base.specs.declared.parts.Parts.{Parts}
 use Rattle.arc_restrict.specs.Prices.{price_of}
+pub use Rattle.arc_restrict.specs.Rows.{forbids}
+pub use Rattle.column_pool.specs.Columns.{columns_at, permitted_at, AreColumns}
 
 -- for the demand of each number the columns that it chooses among, in order
 abbrev pub Choices : Type 0

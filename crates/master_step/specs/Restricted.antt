@@ -3,10 +3,12 @@ use Rattle.std.specs.Prelude.{ℕ, ◌≡◌, ◌+◌, List, length, ℤ, pos, �
 use Rattle.plan_base.specs.declared.parts.Parts.{Parts}
 use Rattle.plan_base.specs.Sums.{int_sum_below}
 use Rattle.link_steps.specs.declared.range.LoadRange.{LoadRange}
+pub use Rattle.link_steps.specs.Ranges.{AreRanges}
 use Rattle.proof_tree.specs.declared.cuts.Cut.{Cut}
 use Rattle.proof_tree.specs.Bounds.{price_total}
 use Rattle.proof_tree.specs.RatedBounds.{AreRatedValues, cut_total}
 use Rattle.proof_tree.specs.RatedEvidence.{rates_in}
+pub use Rattle.cut_table.specs.Numbers.{AreNumbers}
 use Rattle.master_step.specs.Columns.{Choices, least_price, HasColumns}
 
 -- the sum of loads times the prices of least columns over the demands, of rates times what their cuts count at least, and of

@@ -2,11 +2,8 @@
 
 ghost use Rattle.std.specs.Prelude.{◌≡◌, ◌<◌, ◌+◌, length, Option, Some, None, IfOk, IfSome, IfNone};
 ghost use Rattle.plan_base.specs.Places.{places};
-ghost use Rattle.link_steps.specs.Ranges.{AreRanges};
-ghost use Rattle.arc_restrict.specs.Rows.{forbids};
-ghost use Rattle.cut_table.specs.Numbers.{AreNumbers};
-ghost use Rattle.column_pool.specs.Columns.{columns_at, permitted_at, AreColumns};
-ghost use Rattle.master_step.specs.Columns.{HasColumns, IsFirstBare};
+ghost use Rattle.master_step.specs.Columns.{forbids, columns_at, permitted_at, AreColumns, HasColumns, IsFirstBare};
+ghost use Rattle.master_step.specs.Restricted.{AreRanges, AreNumbers};
 ghost use Rattle.master_step.specs.Outcomes.{IsStepOf, HasGain, HasStalled};
 ghost use Rattle.master_step.specs.Choosing.{allowed_of};
 ghost use Rattle.master_step.specs.Climbing.{IsMaster};
@@ -68,16 +65,17 @@ fn raise(alloc: Global, master: &Master<'_>) -> Result<Step, AllocError>
 /// - Rule: docs/METHOD.md, "Master step".
 /// - Time: 26 times the arcs of all columns, and as often one link value for each link.
 pub fn advance(alloc: Global, node: &NodeMaster<'_>) -> Result<Step, AllocError>
-    ensures { IfOk result (IsStepOf node.now.inst.now node.now.table.now.cuts node.now.brief.now.ranges (columns_at node.now.brief.now.columns) node.now.brief.now.prices) }
+    ensures { IfOk result (IsStepOf node.now.table.now.problem node.now.table.now.cuts node.now.brief.now.ranges (columns_at node.now.brief.now.columns) node.now.brief.now.prices) }
 {
-    let brief = node.brief;
+    let (table, brief) = (node.table, node.brief);
+    let inst = table.instance();
     let lists = brief.columns.as_slice();
-    if let Some(demand) = first_bare(node.inst, lists) {
+    if let Some(demand) = first_bare(inst, lists) {
         return Ok(Step::Bare { demand });
     }
     let master = Master {
-        inst: node.inst,
-        table: node.table,
+        inst,
+        table,
         ranges: &brief.ranges,
         prices: &brief.prices,
         source: Source::Lists(lists),

@@ -1,12 +1,11 @@
 //! The ascent: each place's own price in turn, to the best that it can be.
 
-ghost use Rattle.std.specs.Prelude.{◌≡◌, ◌<◌, ◌≤◌, false, length, slice_index, IfOk};
+ghost use Rattle.std.specs.Prelude.{◌≡◌, ◌<◌, ◌≤◌, false, length, IfOk};
 ghost use Rattle.plan_base.specs.Facts.{price_limit};
 ghost use Rattle.plan_base.specs.Places.{is_two_way, places};
-ghost use Rattle.link_steps.specs.Ranges.{AreRanges};
-ghost use Rattle.column_pool.specs.Columns.{columns_at};
-ghost use Rattle.master_step.specs.Columns.{HasColumns};
-ghost use Rattle.cut_table.specs.Numbers.{AreNumbers, IsPriceWithin};
+ghost use Rattle.master_step.specs.Columns.{columns_at, HasColumns};
+ghost use Rattle.master_step.specs.Restricted.{AreRanges, AreNumbers};
+ghost use Rattle.cut_table.specs.Numbers.{IsPriceWithin};
 ghost use Rattle.master_step.specs.Ascents.{IsAscent};
 ghost use Rattle.master_step.specs.Climbing.{IsTurn};
 
@@ -154,13 +153,13 @@ fn is_back(inst: &Instance, place: u32) -> bool
 }
 
 /// The price of the other place of a place's link, and 0 where it has none.
-fn other_price(inst: &Instance, table: &CutTable, prices: &Prices, place: u32) -> u128
-    requires place { place < places inst.now }
-    requires prices { AreNumbers inst.now table.now.cuts prices.now }
-    ensures within { result ≤ price_limit inst.now }
-    ensures one_way { is_two_way inst.now.orient ≡ false → result ≡ 0 }
+fn other_price(table: &CutTable, prices: &Prices, place: u32) -> u128
+    requires place { place < places table.now.problem }
+    requires prices { AreNumbers table.now.problem table.now.cuts prices.now }
+    ensures within { result ≤ price_limit table.now.problem }
+    ensures one_way { is_two_way table.now.problem.orient ≡ false → result ≡ 0 }
 {
-    match other_place(inst, place) {
+    match other_place(table.instance(), place) {
         Some(other) => prices.as_slice()[other as usize],
         None => 0,
     }
@@ -181,45 +180,31 @@ fn bounds_of(bounds: PriceBounds, most: u128) -> PriceBounds
 }
 
 /// The turn of a place, whose price becomes at most this.
-fn turn_of(
-    inst: &Instance,
-    table: &CutTable,
-    ranges: &Ranges,
-    prices: &Prices,
-    place: u32,
-    most: u128,
-) -> Turn
-    requires table { table.now.problem ≡ inst.now }
-    requires place { place < places inst.now }
-    requires ranges { AreRanges inst.now ranges.now }
-    requires prices { AreNumbers inst.now table.now.cuts prices.now }
-    ensures turn { IsTurn inst.now result }
-    ensures least { IsPriceWithin inst.now table.now.cuts prices.now place result.bounds.least }
-    ensures most { IsPriceWithin inst.now table.now.cuts prices.now place result.bounds.most }
+fn turn_of(table: &CutTable, ranges: &Ranges, prices: &Prices, place: u32, most: u128) -> Turn
+    requires place { place < places table.now.problem }
+    requires ranges { AreRanges table.now.problem ranges.now }
+    requires prices { AreNumbers table.now.problem table.now.cuts prices.now }
+    ensures turn { IsTurn table.now.problem result }
+    ensures least { IsPriceWithin table.now.problem table.now.cuts prices.now place result.bounds.least }
+    ensures most { IsPriceWithin table.now.problem table.now.cuts prices.now place result.bounds.most }
 {
+    let inst = table.instance();
     let link = inst.link_of_place(place);
     Turn {
         link,
         ranges: ranges.of_link(inst, link),
         is_back: is_back(inst, place),
-        other: other_price(inst, table, prices, place),
+        other: other_price(table, prices, place),
         bounds: bounds_of(table.price_bounds(prices, place), most),
     }
 }
 
 /// Puts the price of a place.
-pub(crate) fn put_price(
-    inst: &Instance,
-    table: &CutTable,
-    prices: &mut Prices,
-    place: u32,
-    price: u128,
-)
-    requires table { table.now.problem ≡ inst.now }
-    requires place { place < places inst.now }
-    requires prices { AreNumbers inst.now table.now.cuts prices.old }
-    requires price { IsPriceWithin inst.now table.now.cuts prices.old place price }
-    ensures { AreNumbers inst.now table.now.cuts prices.new }
+pub(crate) fn put_price(table: &CutTable, prices: &mut Prices, place: u32, price: u128)
+    requires place { place < places table.now.problem }
+    requires prices { AreNumbers table.now.problem table.now.cuts prices.old }
+    requires price { IsPriceWithin table.now.problem table.now.cuts prices.old place price }
+    ensures { AreNumbers table.now.problem table.now.cuts prices.new }
 {
     prices.put(place, price);
 }
@@ -297,7 +282,6 @@ impl Pass {
 
 /// Moves the price of a place to where it is worth most, if that is more than what it is worth now.
 fn move_place(
-    inst: &Instance,
     table: &CutTable,
     ranges: &Ranges,
     ends: &Ends,
@@ -305,20 +289,20 @@ fn move_place(
     moved: &mut Prices,
     place: u32,
 ) -> Result<(), AllocError>
-    requires table { table.now.problem ≡ inst.now }
-    requires ranges { AreRanges inst.now ranges.now }
-    requires place { place < places inst.now }
-    requires prices { AreNumbers inst.now table.now.cuts moved.old }
-    ensures { AreNumbers inst.now table.now.cuts moved.new }
+    requires ranges { AreRanges table.now.problem ranges.now }
+    requires place { place < places table.now.problem }
+    requires prices { AreNumbers table.now.problem table.now.cuts moved.old }
+    ensures { AreNumbers table.now.problem table.now.cuts moved.new }
 {
-    let turn = turn_of(inst, table, ranges, moved, place, pass.most);
+    let inst = table.instance();
+    let turn = turn_of(table, ranges, moved, place, pass.most);
     let price = moved.as_slice()[place as usize];
     let is_rated = pass.look(inst, ranges, ends, moved, place, price)?;
     let seeker = pass.seeker(inst, table.steps(), turn, is_rated);
     let best = seeker.best_price(price);
     if seeker.worth(best) > seeker.worth(price) {
         pass.crossings.move_price(place, price, best);
-        put_price(inst, table, moved, place, best);
+        put_price(table, moved, place, best);
     }
     Ok(())
 }
@@ -330,10 +314,11 @@ fn moved_prices(
     ends: &Ends,
     prices: &Prices,
 ) -> Result<Prices, AllocError>
-    requires { AreNumbers node.now.inst.now node.now.table.now.cuts prices.now }
-    ensures { IfOk result (AreNumbers node.now.inst.now node.now.table.now.cuts) }
+    requires { AreNumbers node.now.table.now.problem node.now.table.now.cuts prices.now }
+    ensures { IfOk result (AreNumbers node.now.table.now.problem node.now.table.now.cuts) }
 {
-    let (inst, table, ranges) = (node.inst, node.table, &node.brief.ranges);
+    let (table, ranges) = (node.table, &node.brief.ranges);
+    let inst = table.instance();
     let greatest = greatest_price(inst, prices).saturating_mul(MOST_TIMES);
     let mut moved = prices.copy()?;
     let mut pass = Pass {
@@ -349,7 +334,7 @@ fn moved_prices(
     };
     for place in 0..inst.places() {
         if inst.top_load(inst.link_of_place(place)) > 0 {
-            move_place(inst, table, ranges, ends, &mut pass, &mut moved, place)?;
+            move_place(table, ranges, ends, &mut pass, &mut moved, place)?;
         }
     }
     Ok(moved)
@@ -357,17 +342,17 @@ fn moved_prices(
 
 /// The numbers after one pass over the prices, and where there are cuts one over the rates.
 fn moved_numbers(alloc: Global, node: &NodeMaster<'_>, from: &Prices) -> Result<Prices, AllocError>
-    requires { AreNumbers node.now.inst.now node.now.table.now.cuts from.now }
-    ensures { IfOk result (AreNumbers node.now.inst.now node.now.table.now.cuts) }
+    requires { AreNumbers node.now.table.now.problem node.now.table.now.cuts from.now }
+    ensures { IfOk result (AreNumbers node.now.table.now.problem node.now.table.now.cuts) }
 {
-    let (inst, table, ranges) = (node.inst, node.table, &node.brief.ranges);
+    let (table, ranges) = (node.table, &node.brief.ranges);
     let mut ends = Ends::new(alloc, node)?;
-    ends.weigh_all(inst, table, ranges, from.as_slice());
+    ends.weigh_all(table, ranges, from.as_slice());
     let moved = moved_prices(alloc, node, &ends, from)?;
     if table.count() == 0 {
         Ok(moved)
     } else {
-        moved_rates(alloc, inst, table, ranges, &mut ends, &moved)
+        moved_rates(alloc, table, ranges, &mut ends, &moved)
     }
 }
 
@@ -391,8 +376,8 @@ pub struct Ascent {
 /// - Rule: docs/METHOD.md, "Restricted value".
 /// - Time: that of `ascend_from`.
 pub fn ascend(alloc: Global, node: &NodeMaster<'_>) -> Result<Ascent, AllocError>
-    requires columns { HasColumns node.now.inst.now (columns_at node.now.brief.now.columns) }
-    ensures { IfOk result (IsAscent node.now.inst.now node.now.table.now.cuts node.now.brief.now.ranges (columns_at node.now.brief.now.columns) node.now.brief.now.prices) }
+    requires columns { HasColumns node.now.table.now.problem (columns_at node.now.brief.now.columns) }
+    ensures { IfOk result (IsAscent node.now.table.now.problem node.now.table.now.cuts node.now.brief.now.ranges (columns_at node.now.brief.now.columns) node.now.brief.now.prices) }
 {
     ascend_from(alloc, node, &node.brief.prices)
 }
@@ -411,11 +396,12 @@ pub fn ascend_from(
     node: &NodeMaster<'_>,
     from: &Prices,
 ) -> Result<Ascent, AllocError>
-    requires columns { HasColumns node.now.inst.now (columns_at node.now.brief.now.columns) }
-    requires from { AreNumbers node.now.inst.now node.now.table.now.cuts from.now }
-    ensures { IfOk result (IsAscent node.now.inst.now node.now.table.now.cuts node.now.brief.now.ranges (columns_at node.now.brief.now.columns) from.now) }
+    requires columns { HasColumns node.now.table.now.problem (columns_at node.now.brief.now.columns) }
+    requires from { AreNumbers node.now.table.now.problem node.now.table.now.cuts from.now }
+    ensures { IfOk result (IsAscent node.now.table.now.problem node.now.table.now.cuts node.now.brief.now.ranges (columns_at node.now.brief.now.columns) from.now) }
 {
-    let (inst, table, ranges) = (node.inst, node.table, &node.brief.ranges);
+    let (table, ranges) = (node.table, &node.brief.ranges);
+    let inst = table.instance();
     let lists = node.brief.columns.as_slice();
     let source = Source::Lists(lists);
     let prices = moved_numbers(alloc, node, from)?;

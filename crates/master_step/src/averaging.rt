@@ -22,17 +22,10 @@ use std::alloc::{AllocError, Global};
 pub(crate) const RATE_SHARE: u128 = 512;
 
 /// Keeps the prices of a turn where its value is better than that of all before.
-fn keep_better(
-    inst: &Instance,
-    table: &CutTable,
-    value: i128,
-    trial: &Prices,
-    pace: &mut Pace,
-    best: &mut Prices,
-)
-    requires trial { AreNumbers inst.now table.now.cuts trial.now }
-    requires best { AreNumbers inst.now table.now.cuts best.old }
-    ensures { AreNumbers inst.now table.now.cuts best.new }
+fn keep_better(table: &CutTable, value: i128, trial: &Prices, pace: &mut Pace, best: &mut Prices)
+    requires trial { AreNumbers table.now.problem table.now.cuts trial.now }
+    requires best { AreNumbers table.now.problem table.now.cuts best.old }
+    ensures { AreNumbers table.now.problem table.now.cuts best.new }
 {
     if pace.take(value) {
         best.set_to(trial);
@@ -85,23 +78,22 @@ fn bounded(bounds: PriceBounds, price: u128) -> u128
 }
 
 /// Writes the best prices, each moved, over those of the last turn, as far as the rates permit.
-fn move_prices(inst: &Instance, table: &CutTable, by: Move<'_>, trial: &mut Prices)
-    requires table { table.now.problem ≡ inst.now }
-    requires trial { AreNumbers inst.now table.now.cuts trial.old }
-    ensures { AreNumbers inst.now table.now.cuts trial.new }
+fn move_prices(table: &CutTable, by: Move<'_>, trial: &mut Prices)
+    requires trial { AreNumbers table.now.problem table.now.cuts trial.old }
+    ensures { AreNumbers table.now.problem table.now.cuts trial.new }
 {
-    for place in 0..inst.places() {
+    for place in 0..table.instance().places() {
         let bounds = table.price_bounds(trial, place);
-        put_price(inst, table, trial, place, bounded(bounds, by.price(place)));
+        put_price(table, trial, place, bounded(bounds, by.price(place)));
     }
 }
 
 /// Writes the best rates, each moved, over those of the last turn: none above the most.
-fn put_rates(inst: &Instance, table: &CutTable, by: Move<'_>, most: u128, trial: &mut Prices)
-    requires { length trial.old ≡ places inst.now + length table.now.cuts }
+fn put_rates(table: &CutTable, by: Move<'_>, most: u128, trial: &mut Prices)
+    requires { length trial.old ≡ places table.now.problem + length table.now.cuts }
     ensures { length trial.new ≡ length trial.old }
 {
-    let places = inst.places();
+    let places = table.instance().places();
     for number in 0..table.count() {
         let at = places + number;
         trial.put(at, by.rate(at, number).min(most));
@@ -120,11 +112,11 @@ fn price_beside(inst: &Instance, place: u32, rates: u128, limit: u128, price: u1
 }
 
 /// Writes the best prices, each moved, over those of the last turn, beside the rates that the turn has.
-fn put_prices(inst: &Instance, table: &CutTable, by: Move<'_>, trial: &mut Prices)
-    requires table { table.now.problem ≡ inst.now }
-    requires trial { length trial.old ≡ places inst.now + length table.now.cuts }
+fn put_prices(table: &CutTable, by: Move<'_>, trial: &mut Prices)
+    requires trial { length trial.old ≡ places table.now.problem + length table.now.cuts }
     ensures { length trial.new ≡ length trial.old }
 {
+    let inst = table.instance();
     let limit = inst.price_limit();
     for place in 0..inst.places() {
         let (_, rates) = parted(trial.as_slice(), inst.places() as usize);
@@ -136,15 +128,14 @@ fn put_prices(inst: &Instance, table: &CutTable, by: Move<'_>, trial: &mut Price
 
 /// Writes the best numbers, each moved, over those of the last turn; where they are then not as they have to be, the best
 /// ones as they are.
-fn move_numbers(inst: &Instance, table: &CutTable, by: Move<'_>, trial: &mut Prices)
-    requires table { table.now.problem ≡ inst.now }
-    requires best { AreNumbers inst.now table.now.cuts by.best.now }
-    requires trial { AreNumbers inst.now table.now.cuts trial.old }
-    ensures { AreNumbers inst.now table.now.cuts trial.new }
+fn move_numbers(table: &CutTable, by: Move<'_>, trial: &mut Prices)
+    requires best { AreNumbers table.now.problem table.now.cuts by.best.now }
+    requires trial { AreNumbers table.now.problem table.now.cuts trial.old }
+    ensures { AreNumbers table.now.problem table.now.cuts trial.new }
 {
-    let most = inst.price_limit() / RATE_SHARE;
-    put_rates(inst, table, by, most, trial);
-    put_prices(inst, table, by, trial);
+    let most = table.instance().price_limit() / RATE_SHARE;
+    put_rates(table, by, most, trial);
+    put_prices(table, by, trial);
     if !table.are_numbers(trial) {
         trial.set_to(by.best);
     }
@@ -152,7 +143,6 @@ fn move_numbers(inst: &Instance, table: &CutTable, by: Move<'_>, trial: &mut Pri
 
 /// Moves the numbers, or tells that no move is asked for.
 fn move_on(
-    inst: &Instance,
     table: &CutTable,
     goal: i128,
     pace: &Pace,
@@ -160,16 +150,15 @@ fn move_on(
     work: &Work,
     trial: &mut Prices,
 ) -> bool
-    requires table { table.now.problem ≡ inst.now }
-    requires best { AreNumbers inst.now table.now.cuts best.now }
-    requires trial { AreNumbers inst.now table.now.cuts trial.old }
-    ensures { AreNumbers inst.now table.now.cuts trial.new }
+    requires best { AreNumbers table.now.problem table.now.cuts best.now }
+    requires trial { AreNumbers table.now.problem table.now.cuts trial.old }
+    ensures { AreNumbers table.now.problem table.now.cuts trial.new }
 {
     let widest = work.widest(best.as_slice());
     match pace.asked(goal) {
         Some(asked) if widest > 0 => {
             let most = work.move_of(best.as_slice(), widest, asked);
-            let most = most.min(inst.price_limit());
+            let most = most.min(table.instance().price_limit());
             let by = Move {
                 best,
                 work,
@@ -177,9 +166,9 @@ fn move_on(
                 widest,
             };
             if table.count() == 0 {
-                move_prices(inst, table, by, trial);
+                move_prices(table, by, trial);
             } else {
-                move_numbers(inst, table, by, trial);
+                move_numbers(table, by, trial);
             }
             true
         }
@@ -220,20 +209,20 @@ fn climb(
     seen: &mut SeenLoads,
     work: &mut Work,
 )
-    requires best { AreNumbers node.now.inst.now node.now.table.now.cuts best.old }
-    requires trial { AreNumbers node.now.inst.now node.now.table.now.cuts trial.old }
-    ensures { AreNumbers node.now.inst.now node.now.table.now.cuts best.new }
+    requires best { AreNumbers node.now.table.now.problem node.now.table.now.cuts best.old }
+    requires trial { AreNumbers node.now.table.now.problem node.now.table.now.cuts trial.old }
+    ensures { AreNumbers node.now.table.now.problem node.now.table.now.cuts best.new }
 {
-    let (inst, table) = (node.inst, node.table);
+    let table = node.table;
     let turns = turns_of(table);
     let mut pace = Pace::new();
     for turn in 0..turns {
         let value = take_turn(node, trial, parts_of(table, turn), work);
         if turn >= turns / 2 {
-            work.note_values(inst, seen);
+            work.note_values(table.instance(), seen);
         }
-        keep_better(inst, table, value, trial, &mut pace, best);
-        if !move_on(inst, table, goal, &pace, best, work, trial) {
+        keep_better(table, value, trial, &mut pace, best);
+        if !move_on(table, goal, &pace, best, work, trial) {
             return;
         }
     }
@@ -266,8 +255,8 @@ pub fn averaged_seen(
     goal: i128,
     seen: &mut SeenLoads,
 ) -> Result<AveragedAscent, AllocError>
-    ensures prices { IfOk result (λ averaged. AreNumbers node.now.inst.now node.now.table.now.cuts averaged.prices) }
-    ensures sizes { IfOk result (λ averaged. HaveSizes node.now.inst.now averaged.averages) }
+    ensures prices { IfOk result (λ averaged. AreNumbers node.now.table.now.problem node.now.table.now.cuts averaged.prices) }
+    ensures sizes { IfOk result (λ averaged. HaveSizes node.now.table.now.problem averaged.averages) }
 {
     let mut work = Work::new(alloc, node)?;
     let mut best = node.brief.prices.copy()?;
@@ -275,7 +264,7 @@ pub fn averaged_seen(
     climb(node, goal, &mut best, &mut trial, seen, &mut work);
     Ok(AveragedAscent {
         prices: best,
-        averages: work.averages(alloc, node.inst)?,
+        averages: work.averages(alloc, node.table.instance())?,
     })
 }
 
@@ -291,9 +280,9 @@ pub fn averaged(
     node: &NodeMaster<'_>,
     goal: i128,
 ) -> Result<AveragedAscent, AllocError>
-    ensures prices { IfOk result (λ averaged. AreNumbers node.now.inst.now node.now.table.now.cuts averaged.prices) }
-    ensures sizes { IfOk result (λ averaged. HaveSizes node.now.inst.now averaged.averages) }
+    ensures prices { IfOk result (λ averaged. AreNumbers node.now.table.now.problem node.now.table.now.cuts averaged.prices) }
+    ensures sizes { IfOk result (λ averaged. HaveSizes node.now.table.now.problem averaged.averages) }
 {
-    let mut seen = SeenLoads::new(alloc, node.inst, 0)?;
+    let mut seen = SeenLoads::new(alloc, node.table.instance(), 0)?;
     averaged_seen(alloc, node, goal, &mut seen)
 }

@@ -1,10 +1,8 @@
 //! The better of the master step and the ascent.
 
 ghost use Rattle.std.specs.Prelude.{◌≡◌, IfOk, IfSome};
-ghost use Rattle.column_pool.specs.Columns.{columns_at};
-ghost use Rattle.master_step.specs.Columns.{HasColumns};
-ghost use Rattle.master_step.specs.Restricted.{IsRestrictedValue};
-ghost use Rattle.cut_table.specs.Numbers.{AreNumbers};
+ghost use Rattle.master_step.specs.Columns.{columns_at, HasColumns};
+ghost use Rattle.master_step.specs.Restricted.{AreNumbers, IsRestrictedValue};
 ghost use Rattle.master_step.specs.Ascents.{HaveSizes, IsBestStepOf, raised_or, same_or};
 
 use crate::advancing::advance;
@@ -35,10 +33,10 @@ struct Risen {
 /// One pass of ascent: from the best prices of an averaged ascent where the brief has a design to be better than, else from
 /// those of the brief.
 fn rise(alloc: Global, node: &NodeMaster<'_>) -> Result<Risen, AllocError>
-    requires columns { HasColumns node.now.inst.now (columns_at node.now.brief.now.columns) }
-    ensures numbers { IfOk result (λ risen. AreNumbers node.now.inst.now node.now.table.now.cuts risen.ascent.prices) }
-    ensures sizes { IfOk result (λ risen. IfSome risen.averages (HaveSizes node.now.inst.now)) }
-    ensures value { IfOk result (λ risen. IsRestrictedValue node.now.inst.now node.now.table.now.cuts node.now.brief.now.ranges (columns_at node.now.brief.now.columns) risen.ascent.prices risen.ascent.new) }
+    requires columns { HasColumns node.now.table.now.problem (columns_at node.now.brief.now.columns) }
+    ensures numbers { IfOk result (λ risen. AreNumbers node.now.table.now.problem node.now.table.now.cuts risen.ascent.prices) }
+    ensures sizes { IfOk result (λ risen. IfSome risen.averages (HaveSizes node.now.table.now.problem)) }
+    ensures value { IfOk result (λ risen. IsRestrictedValue node.now.table.now.problem node.now.table.now.cuts node.now.brief.now.ranges (columns_at node.now.brief.now.columns) risen.ascent.prices risen.ascent.new) }
 {
     match node.brief.incumbent {
         None => Ok(Risen {
@@ -111,8 +109,8 @@ fn raise_or_same(value: i128, risen: Risen) -> AveragedStep
 /// - Rule: docs/METHOD.md, "Master step".
 /// - Time: that of `advance`, of `averaged` and of `ascend_from`.
 pub fn averaged_step(alloc: Global, node: &NodeMaster<'_>) -> Result<AveragedStep, AllocError>
-    ensures step { IfOk result (λ found. IsBestStepOf node.now.inst.now node.now.table.now.cuts node.now.brief.now.ranges (columns_at node.now.brief.now.columns) node.now.brief.now.prices found.step) }
-    ensures sizes { IfOk result (λ found. IfSome found.averages (HaveSizes node.now.inst.now)) }
+    ensures step { IfOk result (λ found. IsBestStepOf node.now.table.now.problem node.now.table.now.cuts node.now.brief.now.ranges (columns_at node.now.brief.now.columns) node.now.brief.now.prices found.step) }
+    ensures sizes { IfOk result (λ found. IfSome found.averages (HaveSizes node.now.table.now.problem)) }
 {
     match advance(alloc, node)? {
         Step::Bare { demand } => Ok(AveragedStep {
@@ -136,7 +134,7 @@ pub fn averaged_step(alloc: Global, node: &NodeMaster<'_>) -> Result<AveragedSte
 /// - Rule: docs/METHOD.md, "Master step".
 /// - Time: that of `averaged_step`.
 pub fn best_step(alloc: Global, node: &NodeMaster<'_>) -> Result<Step, AllocError>
-    ensures { IfOk result (IsBestStepOf node.now.inst.now node.now.table.now.cuts node.now.brief.now.ranges (columns_at node.now.brief.now.columns) node.now.brief.now.prices) }
+    ensures { IfOk result (IsBestStepOf node.now.table.now.problem node.now.table.now.cuts node.now.brief.now.ranges (columns_at node.now.brief.now.columns) node.now.brief.now.prices) }
 {
     let AveragedStep { step, .. } = averaged_step(alloc, node)?;
     Ok(step)

@@ -6,7 +6,6 @@ use crate::choice::number_at;
 use crate::means::{FINE, moved_mean, whole_load};
 use cut_table::{Crossing, CutTable};
 use link_steps::Batch;
-use plan_base::Instance;
 use std::alloc::{AllocError, Global};
 
 /// What the gaps of cuts are multiplied by beside those of places.
@@ -83,11 +82,7 @@ impl Counts {
     /// Nothing is counted yet.
     ///
     /// - Errors: want of memory alone.
-    pub(crate) fn new(
-        alloc: Global,
-        inst: &Instance,
-        table: &CutTable,
-    ) -> Result<Counts, AllocError> {
+    pub(crate) fn new(alloc: Global, table: &CutTable) -> Result<Counts, AllocError> {
         let mut rows = Vec::new(alloc);
         for number in 0..table.count() {
             rows.push(Count {
@@ -99,7 +94,7 @@ impl Counts {
         let places = if table.count() == 0 {
             0
         } else {
-            inst.places() as usize
+            table.instance().places() as usize
         };
         Ok(Counts {
             rows,

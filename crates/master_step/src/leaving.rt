@@ -69,10 +69,10 @@ fn first_place(inst: &Instance, link: LinkId) -> u32
 }
 
 /// Whether a cut crosses a place or the other place of its link.
-fn is_crossed(inst: &Instance, table: &CutTable, place: u32) -> bool
-    requires table { table.now.problem ≡ inst.now }
-    requires place { place < places inst.now }
+fn is_crossed(table: &CutTable, place: u32) -> bool
+    requires place { place < places table.now.problem }
 {
+    let inst = table.instance();
     if !table.crossings(place).is_empty() {
         return true;
     }
@@ -183,9 +183,9 @@ impl PlaceEnds {
 
     /// Adds the ends of the steps that the ranges of a place's link meet.
     fn meet(&mut self, node: &NodeMaster<'_>, place: u32) -> Result<(), AllocError>
-        requires { place < places node.now.inst.now }
+        requires { place < places node.now.table.now.problem }
     {
-        let (inst, ranges) = (node.inst, &node.brief.ranges);
+        let (inst, ranges) = (node.table.instance(), &node.brief.ranges);
         let LoadRange {
             mut least,
             mut most,
@@ -285,13 +285,13 @@ impl Ends {
     /// - Errors: want of memory alone.
     /// - Time: for each place the ends times the cuts that cross it.
     pub(crate) fn new(alloc: Global, node: &NodeMaster<'_>) -> Result<Ends, AllocError> {
-        let (inst, table, ranges) = (node.inst, node.table, &node.brief.ranges);
+        let (table, ranges) = (node.table, &node.brief.ranges);
         let mut places = Vec::new(alloc);
         let mut room = MOST_COUNTS;
         if table.count() > 0 {
-            for place in 0..inst.places() {
+            for place in 0..table.instance().places() {
                 let mut ends = PlaceEnds::new(alloc);
-                if is_crossed(inst, table, place) {
+                if is_crossed(table, place) {
                     ends.meet(node, place)?;
                 }
                 let row = table.crossings(place);
@@ -314,16 +314,10 @@ impl Ends {
     }
 
     /// Weighs the counted grains of all places at the rates of these numbers.
-    pub(crate) fn weigh_all(
-        &mut self,
-        inst: &Instance,
-        table: &CutTable,
-        ranges: &Ranges,
-        numbers: &[u128],
-    )
-        requires table { table.now.problem ≡ inst.now }
-        requires ranges { length ranges.now ≡ places inst.now }
+    pub(crate) fn weigh_all(&mut self, table: &CutTable, ranges: &Ranges, numbers: &[u128])
+        requires ranges { length ranges.now ≡ places table.now.problem }
     {
+        let inst = table.instance();
         let (_, rates) = parted(numbers, inst.places() as usize);
         for place in 0..inst.places() {
             self.weigh(table, ranges, rates, place);
@@ -411,16 +405,15 @@ impl Ends {
     /// What gives a link its value at these numbers, which are weighed for it; None where no cut that crosses it has a rate.
     pub(crate) fn found(
         &mut self,
-        inst: &Instance,
         table: &CutTable,
         ranges: &Ranges,
         numbers: &[u128],
         link: LinkId,
     ) -> Option<Found>
-        requires table { table.now.problem ≡ inst.now }
-        requires ranges { length ranges.now ≡ places inst.now }
-        requires link { link.0 < length inst.now.links }
+        requires ranges { length ranges.now ≡ places table.now.problem }
+        requires link { link.0 < length table.now.problem.links }
     {
+        let inst = table.instance();
         let place = first_place(inst, link);
         let other = other_place(inst, place);
         let (prices, rates) = parted(numbers, inst.places() as usize);

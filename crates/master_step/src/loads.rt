@@ -5,13 +5,10 @@ ghost use Rattle.plan_base.specs.declared.limits.TheConstants.{MAX_TOTAL_LOAD};
 ghost use Rattle.plan_base.specs.Facts.{total_load};
 ghost use Rattle.plan_base.specs.Places.{is_two_way, places, there_of, back_of};
 ghost use Rattle.plan_base.specs.Paths.{uses_place};
-ghost use Rattle.link_steps.specs.Ranges.{AreRanges};
 ghost use Rattle.plan_base.specs.Walks.{HasPlacesOnce};
-ghost use Rattle.arc_restrict.specs.Prices.{AreWithinLimit};
-ghost use Rattle.cut_table.specs.Numbers.{AreNumbers};
-ghost use Rattle.master_step.specs.Columns.{HasColumns};
+ghost use Rattle.master_step.specs.Restricted.{AreRanges, AreNumbers};
 ghost use Rattle.master_step.specs.Trials.{column_load, AreValueLoads};
-ghost use Rattle.master_step.specs.Choosing.{allowed_of, IsSource};
+ghost use Rattle.master_step.specs.Choosing.{allowed_of, AreWithinLimit, HasColumns, IsSource};
 
 use crate::source::Source;
 use cut_table::CutTable;

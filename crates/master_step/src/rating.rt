@@ -2,8 +2,7 @@
 
 ghost use Rattle.std.specs.Prelude.{◌≡◌, ◌<◌, length, IfOk};
 ghost use Rattle.plan_base.specs.Places.{places};
-ghost use Rattle.link_steps.specs.Ranges.{AreRanges};
-ghost use Rattle.cut_table.specs.Numbers.{AreNumbers};
+ghost use Rattle.master_step.specs.Restricted.{AreRanges, AreNumbers};
 
 use crate::averaging::RATE_SHARE;
 use crate::choice::number_at;
@@ -44,7 +43,6 @@ fn placed_in(row: &[Crossing], number: u32) -> Option<Placed> {
 
 /// Weighs the counted grains of all places after the rate of a cut moved.
 fn weigh_moved(
-    inst: &Instance,
     table: &CutTable,
     ranges: &Ranges,
     ends: &mut Ends,
@@ -52,13 +50,12 @@ fn weigh_moved(
     old: u128,
     new: u128,
 )
-    requires table { table.now.problem ≡ inst.now }
-    requires ranges { length ranges.now ≡ places inst.now }
+    requires ranges { length ranges.now ≡ places table.now.problem }
 {
     if old == new {
         return;
     }
-    for place in 0..inst.places() {
+    for place in 0..table.instance().places() {
         if let Some(Placed { at, crossing }) = placed_in(table.crossings(place), number) {
             ends.move_rate(ranges.at(place), place, at, crossing, old, new);
         }
@@ -113,17 +110,16 @@ impl RateHulls {
     fn fill(
         &mut self,
         alloc: Global,
-        inst: &Instance,
         table: &CutTable,
         ranges: &Ranges,
         ends: &Ends,
         numbers: &Prices,
         number: u32,
     ) -> Result<(), AllocError>
-        requires table { table.now.problem ≡ inst.now }
-        requires ranges { length ranges.now ≡ places inst.now }
+        requires ranges { length ranges.now ≡ places table.now.problem }
         requires number { number < length table.now.cuts }
     {
+        let inst = table.instance();
         self.count = 0;
         self.least = table.least_count(number);
         for place in 0..inst.places() {
@@ -161,15 +157,8 @@ impl RateHulls {
 
 /// The most that the rate of a cut may become beside the prices of the places that cross it and their other rates, where it
 /// is 0 in the numbers; none where one of these prices is below a thousand routing costs.
-fn room_of(
-    inst: &Instance,
-    table: &CutTable,
-    numbers: &[u128],
-    number: u32,
-    most: u128,
-) -> Option<u128>
-    requires { table.now.problem ≡ inst.now }
-{
+fn room_of(table: &CutTable, numbers: &[u128], number: u32, most: u128) -> Option<u128> {
+    let inst = table.instance();
     let limit = inst.price_limit();
     let (prices, rates) = parted(numbers, inst.places() as usize);
     let mut room = most;
@@ -197,7 +186,6 @@ fn put_number(numbers: &mut Prices, place: u32, number: u128) {
 /// Moves the rate of a cut to where it is worth most.
 fn move_rate(
     alloc: Global,
-    inst: &Instance,
     table: &CutTable,
     ranges: &Ranges,
     ends: &mut Ends,
@@ -206,19 +194,18 @@ fn move_rate(
     hulls: &mut RateHulls,
     moved: &mut Prices,
 ) -> Result<(), AllocError>
-    requires table { table.now.problem ≡ inst.now }
-    requires ranges { length ranges.now ≡ places inst.now }
+    requires ranges { length ranges.now ≡ places table.now.problem }
     requires number { number < length table.now.cuts }
 {
-    let at = inst.places().saturating_add(number);
+    let at = table.instance().places().saturating_add(number);
     let rate = number_at(moved.as_slice(), at as usize);
     put_number(moved, at, 0);
-    let best = match room_of(inst, table, moved.as_slice(), number, most) {
+    let best = match room_of(table, moved.as_slice(), number, most) {
         Some(room) => {
-            weigh_moved(inst, table, ranges, ends, number, rate, 0);
-            hulls.fill(alloc, inst, table, ranges, ends, moved, number)?;
+            weigh_moved(table, ranges, ends, number, rate, 0);
+            hulls.fill(alloc, table, ranges, ends, moved, number)?;
             let best = hulls.best(rate, room);
-            weigh_moved(inst, table, ranges, ends, number, 0, best);
+            weigh_moved(table, ranges, ends, number, 0, best);
             best
         }
         None => rate,
@@ -229,30 +216,29 @@ fn move_rate(
 
 /// The numbers after each rate was moved once, in the order of the list.
 ///
-/// - Takes: the instance and its table; ranges of its places, and the ends under these, weighed at the rates of the numbers;
+/// - Takes: a table; ranges of its instance's places, and the ends under these, weighed at the rates of the numbers;
 ///   numbers that fit the instance.
 /// - Errors: want of memory alone.
 /// - Rule: docs/METHOD.md, "Restricted value".
 pub(crate) fn moved_rates(
     alloc: Global,
-    inst: &Instance,
     table: &CutTable,
     ranges: &Ranges,
     ends: &mut Ends,
     from: &Prices,
 ) -> Result<Prices, AllocError>
-    requires table { table.now.problem ≡ inst.now }
-    requires ranges { AreRanges inst.now ranges.now }
-    requires from { AreNumbers inst.now table.now.cuts from.now }
-    ensures { IfOk result (AreNumbers inst.now table.now.cuts) }
+    requires ranges { AreRanges table.now.problem ranges.now }
+    requires from { AreNumbers table.now.problem table.now.cuts from.now }
+    ensures { IfOk result (AreNumbers table.now.problem table.now.cuts) }
 {
+    let inst = table.instance();
     let greatest = greatest_price(inst, from).saturating_mul(MOST_TIMES);
     let most = greatest.min(inst.price_limit() / RATE_SHARE);
     let mut moved = from.copy()?;
     let mut hulls = RateHulls::new(alloc);
     for number in 0..table.count() {
         move_rate(
-            alloc, inst, table, ranges, ends, number, most, &mut hulls, &mut moved,
+            alloc, table, ranges, ends, number, most, &mut hulls, &mut moved,
         )?;
     }
     if table.are_numbers(&moved) {

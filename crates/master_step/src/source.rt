@@ -4,10 +4,9 @@ ghost use Rattle.std.specs.Prelude.{◌≡◌, ◌<◌, ◌≤◌, ◌*◌, ◌+
 ghost use Rattle.plan_base.specs.Facts.{price_limit};
 ghost use Rattle.plan_base.specs.Arcs.{demand_at};
 ghost use Rattle.plan_base.specs.Paths.{IsSimplePath};
-ghost use Rattle.arc_restrict.specs.Prices.{AreWithinLimit};
 ghost use Rattle.bound_assembly.specs.declared.limits.TheConstants.{MAX_PATH_LINKS};
-ghost use Rattle.master_step.specs.Columns.{least_column, least_price, HasColumns};
-ghost use Rattle.master_step.specs.Choosing.{list_count, all_of, is_allowed, allowed_of, IsSource, IsLeastOf, cheaper_of};
+ghost use Rattle.master_step.specs.Columns.{least_column, least_price};
+ghost use Rattle.master_step.specs.Choosing.{list_count, all_of, is_allowed, allowed_of, AreWithinLimit, HasColumns, IsSource, IsLeastOf, cheaper_of};
 
 use arc_restrict::{Restriction, price_along};
 use column_pool::ColumnPool;

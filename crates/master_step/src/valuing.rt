@@ -2,16 +2,11 @@
 
 ghost use Rattle.std.specs.Prelude.{◌≡◌, ◌≤◌, ◌*◌};
 ghost use Rattle.plan_base.specs.declared.limits.TheConstants.{MAX_PRICED_LOAD};
-ghost use Rattle.link_steps.specs.Ranges.{AreRanges};
-ghost use Rattle.arc_restrict.specs.Rows.{forbids};
-ghost use Rattle.arc_restrict.specs.Prices.{AreWithinLimit};
 ghost use Rattle.proof_tree.specs.Bounds.{price_total};
-ghost use Rattle.cut_table.specs.Numbers.{AreNumbers};
 ghost use Rattle.bound_assembly.specs.declared.limits.TheConstants.{MAX_PATH_LINKS};
-ghost use Rattle.column_pool.specs.Columns.{permitted_at, AreColumns};
-ghost use Rattle.master_step.specs.Columns.{least_price, HasColumns};
-ghost use Rattle.master_step.specs.Restricted.{IsRestrictedValue};
-ghost use Rattle.master_step.specs.Choosing.{allowed_of, IsSource};
+ghost use Rattle.master_step.specs.Columns.{forbids, permitted_at, AreColumns, least_price};
+ghost use Rattle.master_step.specs.Restricted.{AreRanges, AreNumbers, IsRestrictedValue};
+ghost use Rattle.master_step.specs.Choosing.{allowed_of, AreWithinLimit, HasColumns, IsSource};
 
 use crate::source::Source;
 use arc_restrict::Restriction;

@@ -82,14 +82,15 @@ impl Work {
     ///
     /// - Errors: want of memory alone.
     pub(crate) fn new(alloc: Global, node: &NodeMaster<'_>) -> Result<Work, AllocError> {
-        let (inst, table) = (node.inst, node.table);
+        let table = node.table;
+        let inst = table.instance();
         let places = inst.places() as usize;
         Ok(Work {
             choices: Choices::new(alloc, inst, node.brief.columns.as_slice())?,
             column_loads: vec![in alloc; 0; places]?,
             value_loads: vec![in alloc; 0; places]?,
             means: vec![in alloc; Mean::none(); places]?,
-            counts: Counts::new(alloc, inst, table)?,
+            counts: Counts::new(alloc, table)?,
             costs: vec![in alloc; 0; inst.links() as usize]?,
             ends: Ends::new(alloc, node)?,
             rows: table.rated_rows(),
@@ -119,9 +120,8 @@ impl Work {
     }
 
     /// Counts the loads that give the links their values.
-    fn count_values(&mut self, inst: &Instance, table: &CutTable)
-        requires { table.now.problem ≡ inst.now }
-    {
+    fn count_values(&mut self, table: &CutTable) {
+        let inst = table.instance();
         for place in 0..inst.places() {
             let load = number_at(self.value_loads.as_slice(), place as usize);
             let load = u64::try_from(load).unwrap_or(u64::MAX);
@@ -209,10 +209,10 @@ impl Work {
 
 /// What gives a link its value at these numbers, where no cut that crosses it has a rate.
 fn unrated(node: &NodeMaster<'_>, numbers: &Prices, link: LinkId, rows: &mut RatedRows) -> Found
-    requires numbers { AreNumbers node.now.inst.now node.now.table.now.cuts numbers.now }
-    requires link { link.0 < length node.now.inst.now.links }
+    requires numbers { AreNumbers node.now.table.now.problem node.now.table.now.cuts numbers.now }
+    requires link { link.0 < length node.now.table.now.problem.links }
 {
-    let inst = node.inst;
+    let inst = node.table.instance();
     let is_two_way = inst.orient().is_two_way();
     let ranged = node.brief.ranges.of_link(inst, link);
     let value = node.table.link_value(link, ranged, numbers, rows);
@@ -226,17 +226,17 @@ fn unrated(node: &NodeMaster<'_>, numbers: &Prices, link: LinkId, rows: &mut Rat
 /// Writes the loads that give the links their values at these numbers, and gives the sum of the values, in thousandths of a
 /// cost grain.
 fn fill_values(node: &NodeMaster<'_>, numbers: &Prices, recent: u128, work: &mut Work) -> i128
-    requires { AreNumbers node.now.inst.now node.now.table.now.cuts numbers.now }
+    requires { AreNumbers node.now.table.now.problem node.now.table.now.cuts numbers.now }
 {
-    let (inst, table, ranges) = (node.inst, node.table, &node.brief.ranges);
+    let (table, ranges) = (node.table, &node.brief.ranges);
+    let inst = table.instance();
     let is_two_way = inst.orient().is_two_way();
     let has_cuts = table.count() > 0;
     let mut total: i128 = 0;
     for number in 0..inst.links() {
         let link = LinkId(number);
         let rated = if has_cuts {
-            work.ends
-                .found(inst, table, ranges, numbers.as_slice(), link)
+            work.ends.found(table, ranges, numbers.as_slice(), link)
         } else {
             None
         };
@@ -258,12 +258,12 @@ pub(crate) fn take_turn(
     parts: Parts,
     work: &mut Work,
 ) -> i128
-    requires { AreNumbers node.now.inst.now node.now.table.now.cuts numbers.now }
+    requires { AreNumbers node.now.table.now.problem node.now.table.now.cuts numbers.now }
 {
     let table = node.table;
     let values = fill_values(node, numbers, parts.recent, work);
     if table.count() > 0 {
-        work.count_values(node.inst, table);
+        work.count_values(table);
     }
     let loads = work.column_loads.as_mut_slice();
     let priced = work.choices.fill(numbers.as_slice(), loads);

@@ -1,4 +1,4 @@
-use Rattle.std.proofs.Common.{length, sym, ap, subst, ◌∙◌}
+use Rattle.std.proofs.Common.{length, refl, sym, ap, subst, ◌∙◌}
 use Rattle.std.specs.Prelude.{IfOk}
 use Rattle.column_pool.specs.Columns.{Columns, columns_at}
 use Rattle.column_pool.specs.Briefs.{AreAllPaths}
@@ -9,19 +9,22 @@ use Rattle.master_step.proofs.advancing.advance.Goals as goal
 
 pub raise-requires : goal.raise-requires
 raise-requires c =
-    let p = c.args.node.now.inst.now in
+    let node = c.args.node.now in
+    let p = node.table.now.problem in
     let lists = c.as_slice-lists.result in
-    let has : HasColumns p (columns_at lists.now) = c.in_default.ensures.none in
-    record {
-      table = c.args.node.now.table_fits;
-      are_numbers = c.args.node.now.brief_fits.are_numbers;
-      are_ranges = c.args.node.now.brief_fits.are_ranges;
-      source = lists-source p lists (c.as_slice-lists.ensures.len ∙ c.args.node.now.brief_fits.list_count)
-          (subst (λ (columns : Columns). AreAllPaths p columns (length p.demands)) (sym c.as_slice-lists.ensures.value) c.args.node.now.brief_fits.paths);
+    let has : HasColumns p (columns_at lists.now) = rw c.instance-inst.ensures.inst at c.in_default.ensures.none in
+    rw c.instance-inst.ensures.inst (record {
+      table = refl;
+      are_numbers = node.brief_fits.are_numbers;
+      are_ranges = node.brief_fits.are_ranges;
+      source = lists-source p lists (c.as_slice-lists.ensures.len ∙ node.brief_fits.list_count)
+          (subst (λ (columns : Columns). AreAllPaths p columns (length p.demands)) (sym c.as_slice-lists.ensures.value) node.brief_fits.paths);
       columns = subst (HasColumns p) (sym (lists-allowed lists)) has;
-    }
+    })
 
 pub returns : goal.returns
 returns c =
-    subst (λ (choices : Choices). IfOk c.raise.result (IsStepOf c.args.node.now.inst.now c.args.node.now.table.now.cuts c.args.node.now.brief.now.ranges choices c.args.node.now.brief.now.prices))
-    (lists-allowed c.as_slice-lists.result ∙ ap columns_at c.as_slice-lists.ensures.value) c.raise.ensures
+    let p = c.args.node.now.table.now.problem in
+    let raised = rw c.instance-inst.ensures.inst at c.raise.ensures in
+    subst (λ (choices : Choices). IfOk c.raise.result (IsStepOf p c.args.node.now.table.now.cuts c.args.node.now.brief.now.ranges choices c.args.node.now.brief.now.prices))
+    (lists-allowed c.as_slice-lists.result ∙ ap columns_at c.as_slice-lists.ensures.value) raised

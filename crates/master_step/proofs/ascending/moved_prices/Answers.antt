@@ -5,6 +5,6 @@ use Rattle.master_step.proofs.ascending.moved_prices.Goals as goal
 
 pub loop-place-preserved : goal.loop-place-preserved
 loop-place-preserved c = elim c.if-top_load-gt0.branch [
-  | then-top_load-gt0+in_ok-move_place w ↦ subst (AreNumbers c.args.node.now.inst.now c.args.node.now.table.now.cuts) (sym w.moved-is) w.move_place.ensures
-  | else-top_load-gt0 w ↦ subst (AreNumbers c.args.node.now.inst.now c.args.node.now.table.now.cuts) (sym w.moved-is) c.loop-place.invariant
+  | then-top_load-gt0+in_ok-move_place w ↦ subst (AreNumbers c.args.node.now.table.now.problem c.args.node.now.table.now.cuts) (sym w.moved-is) w.move_place.ensures
+  | else-top_load-gt0 w ↦ subst (AreNumbers c.args.node.now.table.now.problem c.args.node.now.table.now.cuts) (sym w.moved-is) c.loop-place.invariant
 ]

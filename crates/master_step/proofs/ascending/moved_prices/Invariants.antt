@@ -2,4 +2,4 @@ use Rattle.cut_table.specs.Numbers.{AreNumbers}
 use Rattle.master_step.proofs.ascending.moved_prices.Given as goal
 
 abbrev pub invariant-loop-place : goal.invariant-loop-place
-invariant-loop-place l = AreNumbers l.inst l.table.cuts l.moved
+invariant-loop-place l = AreNumbers l.table.problem l.table.cuts l.moved
