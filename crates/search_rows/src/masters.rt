@@ -99,7 +99,7 @@ fn steps_agree(alloc: Global, table: &CutTable, brief: &Brief, found: &Found) ->
     if !brief.fits(inst, table) {
         return false;
     }
-    let node = NodeMaster { inst, table, brief };
+    let node = NodeMaster { table, brief };
     let step_agrees = match advance(alloc, &node) {
         Ok(step) => is_step(&step, found),
         Err(_) => false,

@@ -96,7 +96,7 @@ fn raised(alloc: Global, pool: &Pool, brief: &Brief) -> Option<Option<Prices>> {
     if !brief.fits(inst, table) {
         return None;
     }
-    match advance(alloc, &NodeMaster { inst, table, brief }).ok()? {
+    match advance(alloc, &NodeMaster { table, brief }).ok()? {
         Step::Raised { prices, .. } => Some(Some(prices)),
         _ => Some(None),
     }

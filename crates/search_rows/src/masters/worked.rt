@@ -95,7 +95,7 @@ fn step_with(alloc: Global, table: &CutTable, brief: &Brief, is_best: bool) -> O
     if !brief.fits(inst, table) {
         return None;
     }
-    let node = NodeMaster { inst, table, brief };
+    let node = NodeMaster { table, brief };
     if is_best {
         return best_step(alloc, &node).ok();
     }
