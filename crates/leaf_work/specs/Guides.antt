@@ -2,7 +2,7 @@
 use Rattle.std.specs.Prelude.{ℕ, List, Option, None, Some}
 use Rattle.incumbent.specs.declared.ration.DesignSearch.{DesignSearch}
 use Rattle.path_pricing.specs.declared.priced.Priced.{Priced}
-use Rattle.leaf_work.specs.Entries.{entry_at}
+pub use Rattle.leaf_work.specs.Entries.{entry_at}
 
 -- for each demand what it found, where it is known
 abbrev pub Finds : Type 0

@@ -1,5 +1,6 @@
 pub mod Advances
 pub mod Entries
 pub mod Guides
+pub mod LeastPaths
 pub mod Lending
 pub mod Limits

@@ -73,7 +73,7 @@ pub fn next_step(
             split: None,
         });
     }
-    let node = NodeMaster { inst, table, brief };
+    let node = NodeMaster { table, brief };
     let AveragedStep { step, averages } = averaged_step(alloc, &node)?;
     let split = split_of(inst, table.steps(), &brief.ranges, &averages);
     let prices = match step {

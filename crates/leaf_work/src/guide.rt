@@ -1,15 +1,11 @@
 //! What a search goes by beside its state. Whoever takes what it keeps tests it anew.
 
 ghost use Rattle.std.specs.Prelude.{ℕ, ◌≡◌, ◌≢◌, ◌<◌, [], Some, None, length, IfOk, OnOk, option_map};
-ghost use Rattle.std.specs.Arc.{arc_value};
 ghost use Rattle.std.specs.Borrow.{sem};
 ghost use Rattle.incumbent.specs.Searches.{IsOpening};
-ghost use Rattle.leaf_work.specs.Entries.{entry_at};
-ghost use Rattle.leaf_work.specs.Guides.{known_in};
+ghost use Rattle.leaf_work.specs.Guides.{entry_at, known_in};
 ghost use Rattle.leaf_work.specs.Lending.{LendsDesigns};
-ghost use Rattle.arc_restrict.specs.Rows.{forbids};
-ghost use Rattle.path_pricing.specs.Priced.{ArePrices, IsPriced};
-ghost use Rattle.path_pricing.specs.Faults.{priced_fault};
+ghost use Rattle.leaf_work.specs.LeastPaths.{arc_value, forbids, ArePrices, IsPriced, priced_fault};
 
 use crate::known::{Known, KnownAbove};
 use crate::pricing::still_shown;

@@ -1,16 +1,13 @@
 //! What a demand finds under prices, at a restriction: tried from what is known, or found anew.
 
 ghost use Rattle.std.specs.Prelude.{◌≡◌, ◌<◌, None, length, IfOk, IfSome};
-ghost use Rattle.std.specs.Arc.{arc_value};
-ghost use Rattle.arc_restrict.specs.Rows.{forbids};
-ghost use Rattle.path_pricing.specs.Priced.{ArePrices, IsPriced};
-ghost use Rattle.path_pricing.specs.Faults.{priced_fault};
+ghost use Rattle.leaf_work.specs.LeastPaths.{arc_value, forbids, ArePrices, IsPriced, priced_fault};
 
 use crate::trees::Trees;
 use arc_restrict::{Restriction, price_along};
 use path_pricing::{Priced, check_priced};
 use plan_base::{DemandId, Instance, Prices};
-use std::alloc::{AllocError, Global};
+use std::alloc::AllocError;
 use std::sync::Arc;
 
 /// Whether a known path has its length under these prices too: a look at few places, before each arc is tested.

@@ -1,6 +1,6 @@
 //! Designs for the paths of a round.
 
-ghost use Rattle.std.specs.Prelude.{◌≡◌, ◌≤◌, IfOk, IfSome, IfNone, IsSomeAnd};
+ghost use Rattle.std.specs.Prelude.{◌≤◌, IfOk, IfSome, IfNone, IsSomeAnd};
 ghost use Rattle.plan_base.specs.Designs.{cost_of, IsGoodDesign};
 ghost use Rattle.completions.specs.Completions.{ArePaths};
 ghost use Rattle.incumbent.specs.Searches.{HasSearched, HasWaited};

@@ -1,10 +1,7 @@
 //! The trees of least paths under the prices of one version, one for each source whose demands asked.
 
 ghost use Rattle.std.specs.Prelude.{◌≡◌, ◌<◌, None, length, IfOk};
-ghost use Rattle.std.specs.Arc.{arc_value};
-ghost use Rattle.arc_restrict.specs.Rows.{forbids};
-ghost use Rattle.path_pricing.specs.Priced.{ArePrices, IsPriced};
-ghost use Rattle.path_pricing.specs.Faults.{priced_fault};
+ghost use Rattle.leaf_work.specs.LeastPaths.{arc_value, forbids, ArePrices, IsPriced, priced_fault};
 
 use arc_restrict::Restriction;
 use path_pricing::{Priced, SourceTree, price};

@@ -1,15 +1,11 @@
 use Rattle.std.proofs.Common.{ap, sym, ◌∙◌, option_map}
 use Rattle.std.specs.Arc.{arc_value}
 use Rattle.leaf_work.specs.Entries.{entry_at}
-use Rattle.leaf_work.proofs.EntryLaws.{entry_at_map}
+use Rattle.leaf_work.proofs.EntryLaws.{entry_at_map, entry_kept}
 use Rattle.leaf_work.proofs.known.KnownAbove.take.Goals as goal
 
 pub returns-clause-others : goal.returns-clause-others
-returns-clause-others c k other =
-    entry_at_map arc_value c.take_out.new.entries.items k
-    ∙ ap (option_map arc_value) (c.take_out.ensures.others k other)
-    ∙ sym (entry_at_map arc_value c.self.inside.nodes.items k)
-    ∙ ap (λ xs. entry_at xs k) c.self.view_is
+returns-clause-others c k other = entry_kept arc_value c.self.inside.nodes.items c.take_out.new.entries.items _ k c.self.view_is (c.take_out.ensures.others k other)
 
 pub returns-clause-forgotten : goal.returns-clause-forgotten
 returns-clause-forgotten c = entry_at_map arc_value c.take_out.new.entries.items c.args.node.0 ∙ ap (option_map arc_value) c.take_out.ensures.missing
