@@ -1,6 +1,6 @@
 //! What a design costs, which tells an ascent how far to go.
 
-ghost use Rattle.std.specs.Prelude.{◌≡◌, ◌↔◌, ◌<◌, length, IsTrue};
+ghost use Rattle.std.specs.Prelude.{◌<◌, IsTrue};
 ghost use Rattle.completions.specs.Completions.{ArePaths};
 
 use completions::complete;

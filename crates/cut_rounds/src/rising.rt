@@ -1,7 +1,6 @@
 //! The ascent at a region, with the loads that it sees.
 
-ghost use Rattle.std.specs.Prelude.{◌≡◌, ◌↔◌, ◌<◌, length, IfOk, IfSome, IsTrue};
-ghost use Rattle.link_steps.specs.Ranges.{AreRanges};
+ghost use Rattle.std.specs.Prelude.{◌≡◌, ◌<◌, length, IfOk, IfSome, IsTrue};
 ghost use Rattle.column_pool.specs.Columns.{columns_at};
 ghost use Rattle.cut_table.specs.Numbers.{AreNumbers};
 ghost use Rattle.master_step.specs.Columns.{HasColumns};
@@ -97,9 +96,9 @@ fn passed(
     found: &Prices,
     held: &Prices,
 ) -> Result<(Prices, i128), AllocError>
-    requires columns { HasColumns node.now.inst.now (columns_at node.now.brief.now.columns) }
-    requires found { AreNumbers node.now.inst.now node.now.table.now.cuts found.now }
-    requires held { AreNumbers node.now.inst.now node.now.table.now.cuts held.now }
+    requires columns { HasColumns node.now.table.now.problem (columns_at node.now.brief.now.columns) }
+    requires found { AreNumbers node.now.table.now.problem node.now.table.now.cuts found.now }
+    requires held { AreNumbers node.now.table.now.problem node.now.table.now.cuts held.now }
 {
     let one = ascend_from(alloc, node, found)?;
     let other = ascend_from(alloc, node, held)?;
@@ -131,7 +130,7 @@ fn rise_by(
         return Ok(None);
     }
     seen.clear();
-    let node = NodeMaster { inst, table, brief };
+    let node = NodeMaster { table, brief };
     let found = averaged_seen(alloc, &node, aim.goal(), seen)?;
     let (numbers, value) = passed(alloc, &node, &found.prices, held)?;
     Ok(Some(Risen {

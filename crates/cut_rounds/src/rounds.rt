@@ -1,7 +1,6 @@
 //! Rounds at the whole region: prices and rates rise, and cuts are found that the loads seen violate.
 
 ghost use Rattle.std.specs.Prelude.{◌≡◌, length, OnOk};
-ghost use Rattle.proof_tree.specs.Cuts.{IsCutList};
 ghost use Rattle.cut_table.specs.Numbers.{AreNumbers};
 
 use crate::bounding::bound_at;
@@ -13,25 +12,25 @@ use column_pool::ColumnPool;
 use cut_table::{CutTable, SeenLoads};
 use plan_base::Prices;
 use proof_tree::Cut;
-use std::alloc::{AllocError, Global};
+use std::alloc::AllocError;
 
 /// Where the rounds stand.
 #[derive(Drop)]
 pub(crate) struct Standing {
     /// The numbers that the next round begins with.
-    pub(crate) numbers: Prices,
+    numbers: Prices,
     /// Those of the greatest bound.
     pub(crate) best: Prices,
     /// The greatest bound, in cost grains.
-    pub(crate) bound: i128,
+    bound: i128,
     /// The bound at the start prices, in cost grains.
-    pub(crate) plain: i128,
+    plain: i128,
     /// For each cut for how many rounds it has had no rate.
-    pub(crate) idle: Vec<u32>,
+    idle: Vec<u32>,
     /// The greatest restricted value that an ascent came to, in cost grains.
-    pub(crate) value: i128,
+    value: i128,
     /// How many rounds have gone.
-    pub(crate) rounds: u32,
+    rounds: u32,
 }
 
 /// Nine tenths of each price, or as much as the rates beside it ask for, and the rates as they are.
@@ -57,23 +56,6 @@ fn renewed(
 ) -> Result<Prices, AllocError> {
     let kept = marked_numbers(ground.alloc, ground.inst, numbers, marks)?;
     widened(ground.alloc, ground.inst, &kept, count)
-}
-
-/// For how many rounds each marked cut has had no rate, and 0 for each cut that is new.
-fn renewed_idle(
-    alloc: Global,
-    idle: &[u32],
-    marks: &[bool],
-    count: u32,
-) -> Result<Vec<u32>, AllocError> {
-    let mut kept = Vec::new(alloc);
-    for (number, rounds) in idle.iter().enumerate() {
-        if is_marked(marks, number) {
-            kept.push(*rounds)?;
-        }
-    }
-    kept.resize(count as usize, 0)?;
-    Ok(kept)
 }
 
 impl Standing {
@@ -146,11 +128,28 @@ impl Standing {
         Ok(marks)
     }
 
+    /// For how many rounds each marked cut has had no rate, and 0 for each cut that is new.
+    fn renewed_idle(
+        &self,
+        ground: Ground<'_>,
+        marks: &[bool],
+        count: u32,
+    ) -> Result<Vec<u32>, AllocError> {
+        let mut kept = Vec::new(ground.alloc);
+        for (number, rounds) in self.idle.iter().enumerate() {
+            if is_marked(marks, number) {
+                kept.push(*rounds)?;
+            }
+        }
+        kept.resize(count as usize, 0)?;
+        Ok(kept)
+    }
+
     /// Lets go of what is known of the cuts that are not marked, and makes room for as many as there are now.
     fn renew(&mut self, ground: Ground<'_>, marks: &[bool], count: u32) -> Result<(), AllocError> {
         self.numbers = renewed(ground, &self.numbers, marks, count)?;
         self.best = renewed(ground, &self.best, marks, count)?;
-        self.idle = renewed_idle(ground.alloc, &self.idle, marks, count)?;
+        self.idle = self.renewed_idle(ground, marks, count)?;
         Ok(())
     }
 }

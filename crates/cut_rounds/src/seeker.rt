@@ -138,30 +138,8 @@ fn opened(
     Ok(Some((Standing::at(ground, start, bound)?, aim)))
 }
 
-/// Puts the cuts in the table that rounds and the short search behind them find.
-fn find_from(
-    ground: Ground<'_>,
-    table: &mut CutTable,
-    budget: u32,
-    aim: Aim,
-    columns: &mut ColumnPool,
-    sight: &mut Sight,
-    standing: &mut Standing,
-) -> Result<(), AllocError>
-    requires table { table.old.problem ≡ ground.inst.now }
-    requires count { length columns.old ≡ length ground.inst.now.demands }
-    ensures { table.new.problem ≡ table.old.problem }
-{
-    let (rounds, tried) = effort_of(budget);
-    go_rounds(ground, table, rounds, aim, columns, sight, standing)?;
-    if table.count() == 0 {
-        return Ok(());
-    }
-    let mut nodes = first_nodes(ground, standing.best.copy()?)?;
-    try_nodes(ground, table, tried, aim, columns, sight, &mut nodes)
-}
-
-/// Puts the cuts in the table that are found with these columns, where the search for cuts may begin.
+/// Puts the cuts in the table that rounds and the short search behind them find with these columns, where the search for
+/// cuts may begin.
 fn seek_with(
     ground: Ground<'_>,
     table: &mut CutTable,
@@ -176,15 +154,21 @@ fn seek_with(
         return Ok(());
     };
     let mut sight = Sight::new(ground, table)?;
-    find_from(
+    let (rounds, tried) = effort_of(budget);
+    go_rounds(
         ground,
         table,
-        budget,
+        rounds,
         aim,
         columns,
         &mut sight,
         &mut standing,
-    )
+    )?;
+    if table.count() == 0 {
+        return Ok(());
+    }
+    let mut nodes = first_nodes(ground, standing.best.copy()?)?;
+    try_nodes(ground, table, tried, aim, columns, &mut sight, &mut nodes)
 }
 
 /// Puts the cuts in the table that are found.
