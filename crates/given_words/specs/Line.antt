@@ -1,5 +1,5 @@
 -- The command lines that are handed to clap, in clap's words, and what it reads by them. No public clause cites this module.
-use Rattle.std.specs.Prelude.{List, [], ◌∷◌, ◌++◌, Option, Some, None, true, codes, map}
+use Rattle.std.specs.Prelude.{List, [], ◌∷◌, ◌++◌, Option, Some, None, Bool, true, false, codes, map}
 use Rattle.clap.specs.Words.{App, Row, Rule, Text, Kinds, matches_of, fault_of, new_app, new_rule}
 use Rattle.clap.specs.Simple.{on_top}
 
@@ -10,6 +10,11 @@ option_rule id = record (new_rule id) { long = Some id }
 -- a name that is needed
 abbrev pub name_rule : Text → Rule
 name_rule id = record (new_rule id) { required = true }
+
+-- a name, or else an option
+abbrev pub rule_for : Bool → Text → Rule
+rule_for true = name_rule
+rule_for false = option_rule
 
 -- a line with no words for help or the version, over the words behind the command
 abbrev pub bare_app : App

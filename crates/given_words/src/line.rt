@@ -1,8 +1,8 @@
 //! A command line as clap knows it.
 
-ghost use Rattle.std.specs.Prelude.{◌≡◌, ◌<◌, ◌^◌, IfOk, codes, map, length};
-ghost use Rattle.clap.specs.Words.{app_of, with_rule};
-ghost use Rattle.given_words.specs.Line.{bare_app, line_app, with_rules, option_rule, name_rule};
+ghost use Rattle.std.specs.Prelude.{◌≡◌, ◌<◌, ◌^◌, IfOk, false, map, length};
+ghost use Rattle.clap.specs.Words.{app_of, rule_of};
+ghost use Rattle.given_words.specs.Line.{bare_app, line_app, with_rules, rule_for};
 
 use clap::{Arg, Command};
 use std::alloc::{AllocError, Global};
@@ -17,44 +17,30 @@ fn bare_line<'a>(alloc: Global) -> Command<'a>
         .disable_version_flag(true)
 }
 
-/// The line with one option more, which has a value.
-fn with_option<'a>(alloc: Global, line: Command<'a>, id: &'a str) -> Result<Command<'a>, AllocError>
-    ensures { IfOk result (λ c. app_of c ≡ with_rule (app_of line.entry) (option_rule id.entry.now)) }
+/// A name that is needed, or an option that has a value.
+fn argument<'a>(alloc: Global, id: &'a str, is_name: bool) -> Arg<'a>
+    ensures rule { rule_of result ≡ rule_for is_name id.entry.now }
+    ensures own { result.global ≡ false }
 {
-    line.arg(Arg::new(alloc, id).long(id))
-}
-
-/// The line with one name more, which is needed.
-fn with_name<'a>(alloc: Global, line: Command<'a>, id: &'a str) -> Result<Command<'a>, AllocError>
-    ensures { IfOk result (λ c. app_of c ≡ with_rule (app_of line.entry) (name_rule id.entry.now)) }
-{
-    line.arg(Arg::new(alloc, id).required(true))
-}
-
-/// The line with these options more, in turn.
-fn with_options<'a>(
-    alloc: Global,
-    mut line: Command<'a>,
-    options: &[&'a str],
-) -> Result<Command<'a>, AllocError>
-    ensures { IfOk result (λ c. app_of c ≡ with_rules (app_of line.entry) (map option_rule (map (λ id. id.now) options.now))) }
-{
-    for id in options {
-        line = with_option(alloc, line, id)?;
+    let arg = Arg::new(alloc, id);
+    if is_name {
+        arg.required(true)
+    } else {
+        arg.long(id)
     }
-    Ok(line)
 }
 
-/// The line with these names more, in turn.
-fn with_names<'a>(
+/// The line with these names or options more, in turn.
+fn with_arguments<'a>(
     alloc: Global,
     mut line: Command<'a>,
-    names: &[&'a str],
+    ids: &[&'a str],
+    are_names: bool,
 ) -> Result<Command<'a>, AllocError>
-    ensures { IfOk result (λ c. app_of c ≡ with_rules (app_of line.entry) (map name_rule (map (λ id. id.now) names.now))) }
+    ensures { IfOk result (λ c. app_of c ≡ with_rules (app_of line.entry) (map (rule_for are_names) (map (λ id. id.now) ids.now))) }
 {
-    for id in names {
-        line = with_name(alloc, line, id)?;
+    for id in ids {
+        line = line.arg(argument(alloc, id, are_names))?;
     }
     Ok(line)
 }
@@ -68,6 +54,6 @@ pub fn line_of<'a>(
     ensures line { IfOk result (λ c. app_of c ≡ line_app (map (λ id. id.now) names.now) (map (λ id. id.now) options.now)) }
     ensures few { length names.now < 2 ^ 63 }
 {
-    let line = with_options(alloc, bare_line(alloc), options)?;
-    with_names(alloc, line, names)
+    let line = with_arguments(alloc, bare_line(alloc), options, false)?;
+    with_arguments(alloc, line, names, true)
 }
