@@ -1,8 +1,9 @@
 -- What holds of an instance and a list of cuts, where both are read behind references.
-use Rattle.std.proofs.Common.{◌≡◌, List, sym, ap, subst}
+use Rattle.std.proofs.Common.{◌≡◌, List, sym, ap, subst, ◌∙◌}
 use Rattle.plan_base.specs.declared.parts.Parts.{Parts}
 use Rattle.proof_tree.specs.declared.cuts.Cut.{Cut}
 use Rattle.cut_table.specs.Numbers.{CutProblem}
+use Rattle.pool_machine.specs.State.{State}
 
 -- what is so of the one instance and list is so of equal ones
 pub of_equal : (P : Parts → List Cut → Type 0) (p q : Parts) (xs ys : List Cut) → p ≡ q → xs ≡ ys → P p xs → P q ys
@@ -15,3 +16,7 @@ as_read P p q kept read is same h = of_equal P p q kept.cuts read.cuts (sym is) 
 -- what is read is so of what is kept
 pub as_kept : (P : Parts → List Cut → Type 0) (p q : Parts) (kept read : CutProblem) → q ≡ p → read ≡ kept → P q read.cuts → P p kept.cuts
 as_kept P p q kept read is same h = of_equal P q p read.cuts kept.cuts is (ap (λ (t : CutProblem). t.cuts) same) h
+
+-- the steps that are read of a pool's table are those of its instance
+pub steps-problem : (s now : State) (kept read : CutProblem) (steps : Parts) → s ≡ now → read ≡ kept → kept.problem ≡ s.problem → steps ≡ read.problem → steps ≡ now.problem
+steps-problem s now kept read steps is same table_is told = told ∙ (ap (λ (t : CutProblem). t.problem) same ∙ (table_is ∙ ap (λ (x : State). x.problem) is))

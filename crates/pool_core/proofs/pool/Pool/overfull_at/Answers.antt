@@ -12,6 +12,7 @@ use Rattle.pool_core.specs.contracts.pool.Pool.{the_view}
 use Rattle.pool_core.specs.Routes.{IsOverfullAt, AreCarriedAt}
 use Rattle.pool_core.proofs.KeptRanges.{leaf-within, leaf-some, leaf-ranges}
 use Rattle.pool_core.proofs.Valuing.{some_then, none_then}
+use Rattle.pool_core.proofs.ReadTables.{steps-problem}
 use Rattle.pool_core.proofs.RoutedPool.{paths-are, outside-found, overfull-found, carried-found}
 use Rattle.pool_core.proofs.pool.Pool.overfull_at.Goals as goal
 
@@ -56,11 +57,11 @@ returns-in-Some-clause-some c =
     (subst (λ (xs : List LoadRange). HasOutside c.deref.result.now xs c.args.routing.now.paths c.in-Some.link.0) same c.in-Some.ensures.some) in
     subst (λ (x : State). IsOverfullAt x c.args.node c.in-Some.link) c.self.view_is (outside-found s c.args.node c.args.routing.now.paths at c.in-Some.link out)
 
-pub overfull_link-requires-clause-paths : goal.overfull_link-requires-clause-paths
-overfull_link-requires-clause-paths c =
+pub overfull_link-requires : goal.overfull_link-requires
+overfull_link-requires c =
     let s = the_view c.self.inside in
     let at : HasOnlyPaths s c.args.node c.args.routing.now.paths = subst (λ (x : State). HasOnlyPaths x c.args.node c.args.routing.now.paths) (sym c.self.view_is) c.requires in
-    subst (λ (p : Parts). ArePaths p c.args.routing.now.paths) (sym c.deref-3.ensures) (paths-are s c.args.node c.args.routing.now.paths at)
+    record { paths = subst (λ (p : Parts). ArePaths p c.args.routing.now.paths) (sym (steps-problem s s _ _ _ refl c.deref-3.ensures c.self.invariant.kept.table_is c.steps.ensures)) (paths-are s c.args.node c.args.routing.now.paths at) }
 
 pub returns-clause-some : goal.returns-clause-some
 returns-clause-some c =
@@ -68,7 +69,7 @@ returns-clause-some c =
     let at : HasOnlyPaths s c.args.node c.args.routing.now.paths = subst (λ (x : State). HasOnlyPaths x c.args.node c.args.routing.now.paths) (sym c.self.view_is) c.requires in
     some_then c.overfull_link.result _ _
     (λ link first. subst (λ (x : State). IsOverfullAt x c.args.node link) c.self.view_is
-    (overfull-found s c.args.node c.args.routing.now.paths at link (subst (λ (p : Parts). IsFirstOverfull p c.args.routing.now.paths link.0) c.deref-3.ensures first)))
+    (overfull-found s c.args.node c.args.routing.now.paths at link (subst (λ (p : Parts). IsFirstOverfull p c.args.routing.now.paths link.0) (steps-problem s s _ _ _ refl c.deref-3.ensures c.self.invariant.kept.table_is c.steps.ensures) first)))
     c.overfull_link.ensures.some
 
 pub returns-clause-none : goal.returns-clause-none
@@ -83,5 +84,5 @@ returns-clause-none c =
     (subst (λ (xs : List LoadRange). AreInside c.deref.result.now xs c.args.routing.now.paths (places c.deref.result.now)) same c.in_default.ensures.none) in
     none_then c.overfull_link.result _ _
     (λ carry. subst (λ (x : State). AreCarriedAt x c.args.node c.args.routing.now.paths) c.self.view_is
-    (carried-found s c.args.node c.args.routing.now.paths at (subst (λ (p : Parts). CarryLoads p c.args.routing.now.paths (length p.links)) c.deref-3.ensures carry) inside))
+    (carried-found s c.args.node c.args.routing.now.paths at (subst (λ (p : Parts). CarryLoads p c.args.routing.now.paths (length p.links)) (steps-problem s s _ _ _ refl c.deref-3.ensures c.self.invariant.kept.table_is c.steps.ensures) carry) inside))
     c.overfull_link.ensures.none
