@@ -81,7 +81,6 @@ fn paths_of(alloc: Global, inst: &Instance, words: &[&str]) -> Option<Items<Path
 fn completed_cost(alloc: Global, table: &StepTable, paths: Items<Path>) -> Option<u128>
     requires paths { ArePaths table.now paths }
 {
-    let inst = table.instance();
     let (cost, _design) = complete(alloc, table, paths).ok()??;
     Some(cost)
 }
@@ -90,7 +89,6 @@ fn completed_cost(alloc: Global, table: &StepTable, paths: Items<Path>) -> Optio
 fn tell_better(alloc: Global, table: &StepTable, design: Design, text: &mut String) -> Option<()>
     requires design { IsGoodDesign table.now design }
 {
-    let inst = table.instance();
     let (better, design) = improve(alloc, table, design).ok()?;
     let again = completed_cost(alloc, table, design.paths)?;
     let (better, again) = (better / UNIT, again / UNIT);
@@ -121,7 +119,6 @@ fn tell_completed(
 ) -> Option<()>
     requires paths { ArePaths table.now paths }
 {
-    let inst = table.instance();
     let counts = Items::new(alloc);
     let design = Design { paths, counts };
     let overfull = overfull_link(table, &design);

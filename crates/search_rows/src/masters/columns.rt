@@ -105,23 +105,9 @@ fn both_agree(
         return None;
     }
     let mut room = Room::new(alloc, inst, table).ok()?;
-    let value = value(
-        inst,
-        table,
-        &brief.ranges,
-        &brief.prices,
-        pool,
-        &restriction,
-    );
-    let gain = gain(
-        inst,
-        table,
-        &brief.ranges,
-        &brief.prices,
-        pool,
-        &restriction,
-        &mut room,
-    );
+    let (ranges, prices) = (&brief.ranges, &brief.prices);
+    let value = value(inst, table, ranges, prices, pool, &restriction);
+    let gain = gain(inst, table, ranges, prices, pool, &restriction, &mut room);
     Some(value == found.old && gain == found.new)
 }
 
