@@ -1,7 +1,7 @@
 //! A question about a network.
 
-use plan_base::{Instance, Path};
-use row_networks::path_of;
+use plan_base::{Instance, Path, Prices};
+use row_networks::{path_of, prices_of};
 use std::alloc::Global;
 
 /// The network that is asked about, and the row: its words, from 0 on, are the kind of the question, the name of the
@@ -37,5 +37,10 @@ impl<'a> Question<'a> {
     /// The path of the word of a place.
     pub(crate) fn path(self, place: usize) -> Option<Path> {
         path_of(self.alloc, word_at(self.row, place))
+    }
+
+    /// The prices of the word of a place.
+    pub(crate) fn prices(self, place: usize) -> Option<Prices> {
+        Some(Prices::from_vec(prices_of(self.alloc, word_at(self.row, place))?))
     }
 }

@@ -1,12 +1,11 @@
 //! Least paths within a limit on arcs, and the fewest arcs of a path.
 
-use crate::asking::{Question, word_at};
+use crate::asking::Question;
 use crate::restricting::restriction_at;
 use crate::searching::{Asked, found_within};
 use crate::telling::{tell_number, tell_path};
 use hop_pricing::{Within, fewest};
-use plan_base::{DemandId, Prices};
-use row_networks::prices_of;
+use plan_base::DemandId;
 
 /// Adds the fewest arcs of a permitted path, or that none is permitted.
 fn tell_count(fewest: Option<u32>, text: &mut String) -> Option<()> {
@@ -18,14 +17,9 @@ fn tell_count(fewest: Option<u32>, text: &mut String) -> Option<()> {
 
 /// Adds a least path of a demand within a limit and its price, or the fewest arcs where none is within it.
 pub(crate) fn tell_within(question: Question<'_>, text: &mut String) -> Option<()> {
-    let Question { alloc, inst, row } = question;
-    let prices = Prices::from_vec(prices_of(alloc, word_at(row, 3))?);
-    let asked = Asked {
-        alloc,
-        inst,
-        prices: &prices,
-        restriction: &restriction_at(question, 5)?,
-    };
+    let prices = question.prices(3)?;
+    let restriction = restriction_at(question, 5)?;
+    let asked = Asked::of(question, &prices, &restriction);
     match found_within(asked, DemandId(question.number(2)), question.amount(4))? {
         Within::Path { path, length } => {
             tell_path(&path, text)?;

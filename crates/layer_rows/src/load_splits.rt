@@ -29,24 +29,6 @@ fn tell_answer(
     write!(text, " {answer:?}").ok()
 }
 
-/// Splits the root at a load of a place, once more, and then its left child at another load, and adds what is answered.
-fn tell_answers(
-    inst: &Instance,
-    branch: &mut Branch,
-    first: LoadSplit,
-    second: LoadSplit,
-    text: &mut String,
-) -> Option<()>
-    requires first { first.place < places inst.now }
-    requires second { second.place < places inst.now }
-    requires of { IsTreeOf inst.now branch.old }
-    ensures { IsTreeOf inst.now branch.new }
-{
-    tell_answer(inst, branch, BranchId(0), first, text)?;
-    tell_answer(inst, branch, BranchId(0), first, text)?;
-    tell_answer(inst, branch, BranchId(1), second, text)
-}
-
 /// The ranges of a node.
 fn ranges_of(inst: &Instance, branch: &Branch, node: BranchId) -> Option<Ranges>
     requires node { node.0 < length branch.now }
@@ -80,7 +62,8 @@ fn tell_nodes(inst: &Instance, branch: &Branch, text: &mut String) -> Option<()>
     write!(text, ", {} open", branch.open_count()).ok()
 }
 
-/// Adds what three splits are answered, the nodes, and the records of the tree.
+/// Splits the root at a load of a place, once more, and then its left child at another load, and adds what is answered, the
+/// nodes, and the records of the tree.
 fn tell_tree(
     alloc: Global,
     inst: &Instance,
@@ -92,7 +75,9 @@ fn tell_tree(
     requires second { second.place < places inst.now }
 {
     let mut branch = root_of(alloc)?;
-    tell_answers(inst, &mut branch, first, second, text)?;
+    tell_answer(inst, &mut branch, BranchId(0), first, text)?;
+    tell_answer(inst, &mut branch, BranchId(0), first, text)?;
+    tell_answer(inst, &mut branch, BranchId(1), second, text)?;
     tell_nodes(inst, &branch, text)?;
     tell_records(branch, text)
 }

@@ -1,14 +1,13 @@
 //! Least paths, and what a restriction allows and leaves.
 
-use crate::asking::{Question, word_at};
+use crate::asking::Question;
 use crate::restricting::restriction_at;
 use crate::searching::{Asked, Body, length_of, searched};
 use crate::steps::start_of;
 use crate::telling::{tell_number, tell_path, tell_reached};
 use arc_restrict::Restriction;
 use path_pricing::Priced;
-use plan_base::{ArcId, DemandId, Prices};
-use row_networks::prices_of;
+use plan_base::{ArcId, DemandId};
 use second_path::{Determined, determine};
 
 /// Adds the arcs of a least path and its price, or for each node whether it is reached.
@@ -24,14 +23,9 @@ fn tell_priced(priced: &Priced, text: &mut String) -> Option<()> {
 
 /// Adds a least path of a demand and its price, or for each node whether it is reached.
 pub(crate) fn tell_price(question: Question<'_>, body: Body, text: &mut String) -> Option<()> {
-    let Question { alloc, inst, row } = question;
-    let prices = Prices::from_vec(prices_of(alloc, word_at(row, 3))?);
-    let asked = Asked {
-        alloc,
-        inst,
-        prices: &prices,
-        restriction: &restriction_at(question, 4)?,
-    };
+    let prices = question.prices(3)?;
+    let restriction = restriction_at(question, 4)?;
+    let asked = Asked::of(question, &prices, &restriction);
     tell_priced(&searched(asked, DemandId(question.number(2)), body)?, text)
 }
 
@@ -55,13 +49,9 @@ fn tell_all(asked: Asked<'_>, text: &mut String) -> Option<()> {
 /// Adds the least price of each demand at the start prices.
 pub(crate) fn tell_least(question: Question<'_>, text: &mut String) -> Option<()> {
     let Question { alloc, inst, .. } = question;
-    let asked = Asked {
-        alloc,
-        inst,
-        prices: &start_of(alloc, inst)?,
-        restriction: &Restriction::none(alloc, inst).ok()?,
-    };
-    tell_all(asked, text)
+    let prices = start_of(alloc, inst)?;
+    let none = Restriction::none(alloc, inst).ok()?;
+    tell_all(Asked::of(question, &prices, &none), text)
 }
 
 /// Adds of which demand there is no path, or the first of which there are two, or that there is one of each.

@@ -1,5 +1,6 @@
 //! Least paths by both searches, and those within a limit.
 
+use crate::asking::Question;
 use arc_restrict::Restriction;
 use hop_pricing::{Within, least_within};
 use path_pricing::{Priced, check_priced, price, price_slow};
@@ -13,6 +14,22 @@ pub(crate) struct Asked<'a> {
     pub(crate) inst: &'a Instance,
     pub(crate) prices: &'a Prices,
     pub(crate) restriction: &'a Restriction,
+}
+
+impl<'a> Asked<'a> {
+    /// The same at these prices and under this restriction, of the network of a question.
+    pub(crate) fn of(
+        question: Question<'a>,
+        prices: &'a Prices,
+        restriction: &'a Restriction,
+    ) -> Asked<'a> {
+        Asked {
+            alloc: question.alloc,
+            inst: question.inst,
+            prices,
+            restriction,
+        }
+    }
 }
 
 /// How a least path is searched: by `price` or by `price_slow`.

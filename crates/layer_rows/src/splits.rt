@@ -89,26 +89,8 @@ pub(crate) fn tell_records(branch: Branch, text: &mut String) -> Option<()> {
     write!(text, ": {:?}", branch.into_tree().ok()?.nodes()).ok()
 }
 
-/// Adds what three splits at two paths of the demand are answered, the nodes, and the records of the tree.
-fn tell_tree(
-    alloc: Global,
-    inst: &Instance,
-    demand: DemandId,
-    first: &Path,
-    second: &Path,
-    text: &mut String,
-) -> Option<()>
-    requires demand { demand.0 < length inst.now.demands }
-    requires first { IsSimplePath inst.now (demand_at inst.now demand.0) first.now }
-    requires second { IsSimplePath inst.now (demand_at inst.now demand.0) second.now }
-{
-    let mut branch = root_of(alloc)?;
-    tell_answers(inst, &mut branch, demand, first, second, text)?;
-    tell_nodes(inst, &branch, text)?;
-    tell_records(branch, text)
-}
-
-/// Adds what becomes of a tree whose root is split at two paths of a demand.
+/// Adds what becomes of a tree whose root is split at two paths of a demand: what three splits are answered, the nodes, and
+/// the records.
 pub(crate) fn tell_split(question: Question<'_>, text: &mut String) -> Option<()> {
     let Question { alloc, inst, .. } = question;
     let first = question.path(3)?;
@@ -118,7 +100,10 @@ pub(crate) fn tell_split(question: Question<'_>, text: &mut String) -> Option<()
         && is_simple_path(inst, demand, &first)
         && is_simple_path(inst, demand, &second)
     {
-        return tell_tree(alloc, inst, demand, &first, &second, text);
+        let mut branch = root_of(alloc)?;
+        tell_answers(inst, &mut branch, demand, &first, &second, text)?;
+        tell_nodes(inst, &branch, text)?;
+        return tell_records(branch, text);
     }
     None
 }

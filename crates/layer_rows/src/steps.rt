@@ -46,51 +46,6 @@ pub(crate) fn tell_unit(question: Question<'_>, text: &mut String) -> Option<()>
     tell_number("", cost_unit(question.inst), text)
 }
 
-/// Adds the least module cost of a load on a link, counts of modules that carry it at that cost, or where a step ends below
-/// it.
-fn tell_load(
-    table: &StepTable,
-    link: LinkId,
-    load: u64,
-    question: Question<'_>,
-    text: &mut String,
-) -> Option<()>
-    requires link { link.0 < length table.now.links }
-    requires load { load ≤ total_load table.now }
-{
-    if word_at(question.row, 0) == "cost" {
-        return write!(text, " {:?}", table.at(link, load)).ok();
-    }
-    if word_at(question.row, 0) == "below" {
-        return write!(text, " {:?}", table.step_below(link, load)).ok();
-    }
-    let counts = table.counts(question.alloc, link, load).ok()??;
-    write!(text, " {:?}", counts.as_slice()).ok()
-}
-
-/// Adds where a step of a link ends first from one load to below another.
-fn tell_end(
-    table: &StepTable,
-    link: LinkId,
-    question: Question<'_>,
-    text: &mut String,
-) -> Option<()>
-    requires table { table.now ≡ question.inst.now }
-    requires link { link.0 < length table.now.links }
-{
-    let least = question.amount(3);
-    let most = question.amount(4);
-    if most > question.inst.total_load() {
-        return None;
-    }
-    write!(
-        text,
-        " {:?}",
-        table.first_step_end(link, LoadRange { least, most })
-    )
-    .ok()
-}
-
 /// The price of the link's other place, 0 where it has one place.
 fn back_price(question: Question<'_>) -> u128
     ensures { is_two_way question.entry.inst.now.orient ≡ false → result ≡ 0 }
@@ -132,29 +87,70 @@ fn ranges_of(question: Question<'_>) -> Option<Ranges>
     }
 }
 
-/// Adds the link value of the prices of a link's places over its ranges, and the first loads that have it.
-fn tell_value(
-    table: &StepTable,
+/// A link that a question is about, and the steps of all links.
+#[derive(Clone, Copy)]
+struct OnLink<'a> {
+    question: Question<'a>,
+    table: &'a StepTable,
     link: LinkId,
-    price: u128,
-    question: Question<'_>,
-    text: &mut String,
-) -> Option<()>
-    requires table { table.now ≡ question.inst.now }
-    requires link { link.0 < length table.now.links }
-    requires price { price ≤ price_limit table.now }
-{
-    let back = back_price(question);
-    if back > question.inst.price_limit() {
-        return None;
+}
+
+impl OnLink<'_> {
+    /// Adds the least module cost of a load, counts of modules that carry it at that cost, or where a step ends below it.
+    fn tell_load(self, load: u64, text: &mut String) -> Option<()>
+        requires link { self.link.0 < length self.table.now.links }
+        requires load { load ≤ total_load self.table.now }
+    {
+        let OnLink {
+            question,
+            table,
+            link,
+        } = self;
+        if word_at(question.row, 0) == "cost" {
+            return write!(text, " {:?}", table.at(link, load)).ok();
+        }
+        if word_at(question.row, 0) == "below" {
+            return write!(text, " {:?}", table.step_below(link, load)).ok();
+        }
+        let counts = table.counts(question.alloc, link, load).ok()??;
+        write!(text, " {:?}", counts.as_slice()).ok()
     }
-    let ranges = ranges_of(question)?.of_link(question.inst, link);
-    let found = table.link_value(link, ranges, price, back);
-    write!(text, " {} at {}", found.value, found.load).ok()?;
-    if question.inst.orient().is_two_way() {
-        write!(text, " back {}", found.back).ok()?;
+
+    /// Adds where a step ends first from one load to below another.
+    fn tell_end(self, text: &mut String) -> Option<()>
+        requires table { self.table.now ≡ self.question.inst.now }
+        requires link { self.link.0 < length self.table.now.links }
+    {
+        let least = self.question.amount(3);
+        let most = self.question.amount(4);
+        if most > self.question.inst.total_load() {
+            return None;
+        }
+        let end = self
+            .table
+            .first_step_end(self.link, LoadRange { least, most });
+        write!(text, " {end:?}").ok()
     }
-    Some(())
+
+    /// Adds the link value of the prices of the link's places over its ranges, and the first loads that have it.
+    fn tell_value(self, price: u128, text: &mut String) -> Option<()>
+        requires table { self.table.now ≡ self.question.inst.now }
+        requires link { self.link.0 < length self.table.now.links }
+        requires price { price ≤ price_limit self.table.now }
+    {
+        let inst = self.question.inst;
+        let back = back_price(self.question);
+        if back > inst.price_limit() {
+            return None;
+        }
+        let ranges = ranges_of(self.question)?.of_link(inst, self.link);
+        let found = self.table.link_value(self.link, ranges, price, back);
+        write!(text, " {} at {}", found.value, found.load).ok()?;
+        if inst.orient().is_two_way() {
+            write!(text, " back {}", found.back).ok()?;
+        }
+        Some(())
+    }
 }
 
 /// Adds the answer to a question about a load or a price on a link.
@@ -167,13 +163,18 @@ fn tell_amount(table: &StepTable, question: Question<'_>, text: &mut String) -> 
     if link.0 >= question.inst.links() {
         return None;
     }
+    let on_link = OnLink {
+        question,
+        table,
+        link,
+    };
     match word_at(question.row, 0) {
         "value" | "ranged" if price <= question.inst.price_limit() => {
-            tell_value(table, link, price, question, text)
+            on_link.tell_value(price, text)
         }
-        "end" => tell_end(table, link, question, text),
+        "end" => on_link.tell_end(text),
         "cost" | "counts" | "below" if amount <= question.inst.total_load() => {
-            tell_load(table, link, amount, question, text)
+            on_link.tell_load(amount, text)
         }
         _ => None,
     }
