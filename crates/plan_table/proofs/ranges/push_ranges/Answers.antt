@@ -1,6 +1,7 @@
 use Rattle.std.proofs.Common.{◌≡◌, ◌≤◌, ◌<◌, ◌+◌, ◌∷◌, [], ◌++◌, ◌∙◌, length, drop, ap, List, rules}
 use Rattle.std.proofs.lemmas.List.{nil_from_length}
 use Rattle.proof_tree.specs.declared.tree.TreeNode.{TreeNode}
+use Rattle.proof_tree.specs.declared.plan.Plan.{Plan}
 use Rattle.proof_tree.specs.Regions.{whole}
 use Rattle.proof_tree.specs.Plans.{stated_cost}
 use Rattle.plan_table.specs.Tables.{tree_ranges}
@@ -28,7 +29,7 @@ returns-in-None c =
     let none : c.loop-index.pending.items ≡ [] = search (rules, nil_from_length) in
     none_pending net p c.args.named.now.plan.cuts
     (stated_cost c.args.named.now.plan) c.loop-index.index c.loop-index.pending.items (drop c.loop-index.index c.nodes-nodes.result.now) c.loop-index.text.items (c.args.text.now.items ++ tree_ranges net p 0 (whole p ∷ []) c.nodes-nodes.result.now) c.loop-index.invariant none
-    ∙ ap (λ (ns : List TreeNode). c.args.text.now.items ++ tree_ranges net p 0 (whole p ∷ []) ns) c.nodes-nodes.ensures.value
+    ∙ ap (λ (ns : List TreeNode). c.args.text.now.items ++ tree_ranges net p 0 (whole p ∷ []) ns) (c.nodes-nodes.ensures.value ∙ ap (λ (plan : Plan). plan.tree) c.plan.ensures.value)
 
 pub returns : goal.returns
 returns c =
@@ -37,4 +38,4 @@ returns c =
     let ended : length c.nodes-nodes.result.now ≤ c.loop-index.index = search rules in
     no_records net p c.args.named.now.plan.cuts
     (stated_cost c.args.named.now.plan) c.loop-index.index c.loop-index.pending.items c.nodes-nodes.result.now c.loop-index.text.items (c.args.text.now.items ++ tree_ranges net p 0 (whole p ∷ []) c.nodes-nodes.result.now) c.loop-index.invariant ended
-    ∙ ap (λ (ns : List TreeNode). c.args.text.now.items ++ tree_ranges net p 0 (whole p ∷ []) ns) c.nodes-nodes.ensures.value
+    ∙ ap (λ (ns : List TreeNode). c.args.text.now.items ++ tree_ranges net p 0 (whole p ∷ []) ns) (c.nodes-nodes.ensures.value ∙ ap (λ (plan : Plan). plan.tree) c.plan.ensures.value)
