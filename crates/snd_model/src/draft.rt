@@ -92,31 +92,15 @@ impl Draft {
     pub fn file(self) -> Option<ModelFile>
         ensures { option_map settings_of result ≡ cond (is_complete self) (Some self) None }
     {
-        let (Some(demand), Some(link), Some(capacity), Some(fixed_charge)) = (
-            self.demand,
-            self.link,
-            self.capacity,
-            self.fixed_charge,
-        ) else {
-            return None;
-        };
-        let (Some(routing), Some(path), Some(hop), Some(survivability)) = (
-            self.routing,
-            self.path,
-            self.hop,
-            self.survivability,
-        ) else {
-            return None;
-        };
         Some(ModelFile {
-            demand,
-            link,
-            capacity,
-            fixed_charge,
-            routing,
-            path,
-            hop,
-            survivability,
+            demand: self.demand?,
+            link: self.link?,
+            capacity: self.capacity?,
+            fixed_charge: self.fixed_charge?,
+            routing: self.routing?,
+            path: self.path?,
+            hop: self.hop?,
+            survivability: self.survivability?,
         })
     }
 }
