@@ -5,7 +5,7 @@ use Rattle.std.specs.List.{find}
 use Rattle.std.specs.Cmp.Lexicographic.{pointwise, bytes_decides}
 use Rattle.snd_reader.specs.declared.fault.Complaint.{Complaint}
 use Rattle.snd_reader.specs.declared.fault.Complaint.TheVariants.{Ended}
-use Rattle.snd_reader.specs.Readers.{Lexeme, word, open_bracket, close_bracket, equals_sign, the_end, Placed}
+use Rattle.snd_reader.specs.Readers.{Lexeme, word, equals_sign, the_end, Placed}
 use Rattle.snd_reader.specs.Tests.{equals_test}
 use Rattle.snd_model.specs.declared.keys.Key.{Key}
 use Rattle.snd_model.specs.declared.setting.Setting.{Setting}
@@ -13,18 +13,15 @@ use Rattle.snd_model.specs.declared.draft.Draft.{Draft}
 use Rattle.snd_model.specs.Table.{all_keys, key_word, key_named, setting_named}
 use Rattle.snd_model.specs.Grammar.{has_setting, is_complete, IsValueWord, BeginsPair}
 use Rattle.snd_model.specs.Tests.{once, key_begun, key_head, valued, value_test}
-use Rattle.snd_model.proofs.Tabled.{key-found}
+use Rattle.snd_model.proofs.Tabled.{of_key}
 
 -- the test of an equals sign finds exactly these good
 pub equals_same : (t : Placed) (u : Unit {0}) → (equals_test t.is ≡ Ok u) ↔ (t.is ≡ equals_sign)
 equals_same t u = (into t.is, λ e. ap equals_test e)
   where
     into : (l : Lexeme) → equals_test l ≡ Ok u → l ≡ equals_sign
-    into (word bytes) e = absurd cc
-    into open_bracket e = absurd cc
-    into close_bracket e = absurd cc
     into equals_sign e = refl
-    into the_end e = absurd cc
+    into l e = absurd cc
 
 value-into : (k : Key) (t : Placed) (l : Lexeme) (s : Setting) → t.is ≡ l → value_test k l ≡ Ok s → IsValueWord k t s
 value-into k t (word bytes) s h e = by (setting_named k bytes) refl e
@@ -32,10 +29,7 @@ value-into k t (word bytes) s h e = by (setting_named k bytes) refl e
     by : (o : Option Setting) → setting_named k bytes ≡ o → valued o ≡ Ok s → IsValueWord k t s
     by None n e = absurd cc
     by (Some u) n e = let same : u ≡ s = cc in (bytes, h, n ∙ ap (λ (v : Setting). Some v) same)
-value-into k t open_bracket s h e = absurd cc
-value-into k t close_bracket s h e = absurd cc
-value-into k t equals_sign s h e = absurd cc
-value-into k t the_end s h e = absurd cc
+value-into k t l s h e = absurd cc
 
 value-back : (k : Key) (t : Placed) (s : Setting) → IsValueWord k t s → value_test k t.is ≡ Ok s
 value-back k t s (bytes, h, n) = ap (value_test k) h ∙ ap valued n
@@ -73,19 +67,17 @@ key-into d t (word bytes) x h e = by (key_named bytes) refl x e
     by : (o : Option Key) → key_named bytes ≡ o → (x : Option Key) → key_begun d o ≡ Ok x → BeginsPair d t x
     by None n x e = absurd cc
     by (Some k) n x e = by-once k (has_setting d k) n refl x e
-key-into d t open_bracket x h e = absurd cc
-key-into d t close_bracket x h e = absurd cc
-key-into d t equals_sign x h e = absurd cc
 key-into d t the_end x h e = by (is_complete d) refl x e
   where
     by : (b : Bool) → is_complete d ≡ b → (x : Option Key) → ending b ≡ Ok x → BeginsPair d t x
     by true complete None e = (h, complete)
     by true complete (Some k) e = absurd cc
     by false complete x e = absurd cc
+key-into d t l x h e = absurd cc
 
 key-back : (d : Draft) (t : Placed) (x : Option Key) → BeginsPair d t x → key_head d t.is ≡ Ok x
 key-back d t None (h, complete) = ap (key_head d) h ∙ ap ending complete
-key-back d t (Some k) (h, new) = ap (key_head d) h ∙ ap (key_begun d) (key-found k) ∙ ap (λ (b : Bool). once b k) new
+key-back d t (Some k) (h, new) = ap (key_head d) h ∙ ap (key_begun d) (of_key k).0 ∙ ap (λ (b : Bool). once b k) new
 
 -- in a key's place the test finds exactly the words of keys without a value, and the end of the text where each has one
 pub key_same : (d : Draft) (t : Placed) (x : Option Key) → (key_head d t.is ≡ Ok x) ↔ BeginsPair d t x

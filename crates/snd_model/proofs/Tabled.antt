@@ -14,17 +14,6 @@ use Rattle.snd_model.specs.declared.values.HopModel.TheVariants as hops
 use Rattle.snd_model.specs.declared.values.SurvivabilityModel.TheVariants as survivals
 use Rattle.snd_model.specs.Table.{key_word, key_of, spelling, key_named, setting_named}
 
--- the word of a key names that key
-pub key-found : (k : Key) → key_named (key_word k) ≡ Some k
-key-found keys.Demand = refl
-key-found keys.Link = refl
-key-found keys.Capacity = refl
-key-found keys.FixedCharge = refl
-key-found keys.Routing = refl
-key-found keys.Path = refl
-key-found keys.Hop = refl
-key-found keys.Survivability = refl
-
 -- the spelling of a value names that value in the row of its key
 pub setting-found : (s : Setting) → setting_named (key_of s) (spelling s) ≡ Some s
 setting-found (Demand demands.Undirected) = refl
@@ -62,13 +51,13 @@ some_setting keys.Path = Path paths.All
 some_setting keys.Hop = Hop hops.No
 some_setting keys.Survivability = Survivability survivals.No
 
--- the setting that is chosen for a key has that key
-pub some-key : (k : Key) → key_of (some_setting k) ≡ k
-some-key keys.Demand = refl
-some-key keys.Link = refl
-some-key keys.Capacity = refl
-some-key keys.FixedCharge = refl
-some-key keys.Routing = refl
-some-key keys.Path = refl
-some-key keys.Hop = refl
-some-key keys.Survivability = refl
+-- the word of a key names that key, and the setting that is chosen for a key has that key
+pub of_key : (k : Key) → (key_named (key_word k) ≡ Some k) × (key_of (some_setting k) ≡ k)
+of_key keys.Demand = (refl, refl)
+of_key keys.Link = (refl, refl)
+of_key keys.Capacity = (refl, refl)
+of_key keys.FixedCharge = (refl, refl)
+of_key keys.Routing = (refl, refl)
+of_key keys.Path = (refl, refl)
+of_key keys.Hop = (refl, refl)
+of_key keys.Survivability = (refl, refl)

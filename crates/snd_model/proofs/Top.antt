@@ -42,10 +42,7 @@ IsOther (Control at) = Unit {0}
 IsOther (Unknown at) = Unit {0}
 IsOther (Number at f) = Unit {0}
 IsOther (LongId at) = Unit {0}
-IsOther OutOfMemory = ⊥
-IsOther (Unexpected at w) = ⊥
-IsOther (Twice at) = ⊥
-IsOther (Ended at) = ⊥
+IsOther f = ⊥
 
 plain-apart : (at : ℕ) (c : Complaint) → IsPlain c → IsOther (fault_at at c) → ⊥
 plain-apart at (complaints.Unexpected w) h k = k
@@ -60,23 +57,14 @@ no-other ts f b k = plain-apart (first_of b.rest).at b.complaint (plain_pairs ts
 -- what stops the reading is a fault of the text
 pub bad_fault : (text : List ℕ) (ts : List Placed) (f : TextFault) → HasTokens dialects.Model model_header text ts → Fails f (pairs ts) → IsFault text f
 bad_fault text ts OutOfMemory h b = tt
-bad_fault text ts Header h b = absurd (no-other ts Header b tt)
-bad_fault text ts (Control at) h b = absurd (no-other ts (Control at) b tt)
-bad_fault text ts (Unknown at) h b = absurd (no-other ts (Unknown at) b tt)
-bad_fault text ts (Number at g) h b = absurd (no-other ts (Number at g) b tt)
-bad_fault text ts (LongId at) h b = absurd (no-other ts (LongId at) b tt)
 bad_fault text ts (Unexpected at w) h b = has-bad text ts (Unexpected at w) h b
 bad_fault text ts (Twice at) h b = has-bad text ts (Twice at) h b
 bad_fault text ts (Ended at) h b = has-bad text ts (Ended at) h b
+bad_fault text ts f h b = absurd (no-other ts f b tt)
 
 -- a text without tokens has a fault
 pub cut_fault : (text : List ℕ) (f : TextFault) → IsCutFault dialects.Model model_header text f → IsFault text f
 cut_fault text OutOfMemory k = tt
 cut_fault text (Control at) k = k
 cut_fault text Header k = k
-cut_fault text (Unknown at) k = absurd k
-cut_fault text (Unexpected at w) k = absurd k
-cut_fault text (Number at g) k = absurd k
-cut_fault text (Twice at) k = absurd k
-cut_fault text (Ended at) k = absurd k
-cut_fault text (LongId at) k = absurd k
+cut_fault text f k = absurd k

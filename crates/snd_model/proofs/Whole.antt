@@ -36,7 +36,7 @@ use Rattle.snd_model.specs.Grammar.{no_settings, settings_of, and_setting, has_s
 use Rattle.snd_model.specs.Tests.{valued, value_test}
 use Rattle.snd_model.specs.Reading.{equals, value, key_turn, pair, pairs}
 use Rattle.snd_model.proofs.Agree.{equals_same, value_same, key_same}
-use Rattle.snd_model.proofs.Tabled.{setting-found, some_setting, some-key}
+use Rattle.snd_model.proofs.Tabled.{setting-found, some_setting, of_key}
 
 -- this token at place 0
 abbrev pub sample : Lexeme → Placed
@@ -65,7 +65,7 @@ live_value : (k : Key) → Live (IsToken (IsValueWord k)) (value k)
 live_value k =
     let s = some_setting k in
     live_such (λ t. value_test k t.is) (IsValueWord k) (value_same k)
-    (live_token (λ t. value_test k t.is) (sample (word (spelling s))) s (subst (λ (key : Key). value_test key (word (spelling s)) ≡ Ok s) (some-key k) (good_value s)) (λ t e. rw e refl) (λ t e. value-end k t.is e))
+    (live_token (λ t. value_test k t.is) (sample (word (spelling s))) s (subst (λ (key : Key). value_test key (word (spelling s)) ≡ Ok s) (of_key k).1 (good_value s)) (λ t e. rw e refl) (λ t e. value-end k t.is e))
 
 -- a pair behind its key is read lawfully and never past the end of the text
 pub live_pair : (d : Draft) (k : Key) → Live (PairForm d k) (pair d k)

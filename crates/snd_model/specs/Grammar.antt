@@ -42,14 +42,14 @@ settings_of file = record {
 
 -- one setting more
 abbrev pub and_setting : Draft → Setting → Draft
-and_setting d (Demand v) = record { demand = Some v; link = d.link; capacity = d.capacity; fixed_charge = d.fixed_charge; routing = d.routing; path = d.path; hop = d.hop; survivability = d.survivability }
-and_setting d (Link v) = record { demand = d.demand; link = Some v; capacity = d.capacity; fixed_charge = d.fixed_charge; routing = d.routing; path = d.path; hop = d.hop; survivability = d.survivability }
-and_setting d (Capacity v) = record { demand = d.demand; link = d.link; capacity = Some v; fixed_charge = d.fixed_charge; routing = d.routing; path = d.path; hop = d.hop; survivability = d.survivability }
-and_setting d (FixedCharge v) = record { demand = d.demand; link = d.link; capacity = d.capacity; fixed_charge = Some v; routing = d.routing; path = d.path; hop = d.hop; survivability = d.survivability }
-and_setting d (Routing v) = record { demand = d.demand; link = d.link; capacity = d.capacity; fixed_charge = d.fixed_charge; routing = Some v; path = d.path; hop = d.hop; survivability = d.survivability }
-and_setting d (Path v) = record { demand = d.demand; link = d.link; capacity = d.capacity; fixed_charge = d.fixed_charge; routing = d.routing; path = Some v; hop = d.hop; survivability = d.survivability }
-and_setting d (Hop v) = record { demand = d.demand; link = d.link; capacity = d.capacity; fixed_charge = d.fixed_charge; routing = d.routing; path = d.path; hop = Some v; survivability = d.survivability }
-and_setting d (Survivability v) = record { demand = d.demand; link = d.link; capacity = d.capacity; fixed_charge = d.fixed_charge; routing = d.routing; path = d.path; hop = d.hop; survivability = Some v }
+and_setting d (Demand v) = record d { demand = Some v }
+and_setting d (Link v) = record d { link = Some v }
+and_setting d (Capacity v) = record d { capacity = Some v }
+and_setting d (FixedCharge v) = record d { fixed_charge = Some v }
+and_setting d (Routing v) = record d { routing = Some v }
+and_setting d (Path v) = record d { path = Some v }
+and_setting d (Hop v) = record d { hop = Some v }
+and_setting d (Survivability v) = record d { survivability = Some v }
 
 -- the key has a value
 abbrev pub has_setting : Draft → Key → Bool

@@ -3,7 +3,7 @@ use Rattle.std.specs.Prelude.{◌≤◌, ℕ, List, length, codes}
 use Rattle.snd_lexer.specs.declared.limits.TheConstants.{MAX_TEXT_BYTES}
 use Rattle.snd_lexer.specs.declared.token.Dialect.TheVariants as dialects
 use Rattle.snd_reader.specs.declared.fault.TextFault.{TextFault}
-use Rattle.snd_reader.specs.declared.fault.TextFault.TheVariants.{Header, Unexpected, Number, Twice, Unknown, Ended, LongId, Control, OutOfMemory}
+use Rattle.snd_reader.specs.declared.fault.TextFault.TheVariants.{Header, Unexpected, Twice, Ended, Control, OutOfMemory}
 use Rattle.snd_reader.specs.Readers.{Placed}
 use Rattle.snd_reader.specs.Texts.{HasTokens, HasNoHeader, HasControl, HasBad}
 use Rattle.snd_model.specs.declared.file.ModelFile.{ModelFile}
@@ -36,6 +36,4 @@ IsFault text (Unexpected at w) = HasBad dialects.Model model_header ModelForm pa
 IsFault text (Twice at) = HasBad dialects.Model model_header ModelForm pairs text (Twice at)
 IsFault text (Ended at) = HasBad dialects.Model model_header ModelForm pairs text (Ended at)
 IsFault text OutOfMemory = Unit {0}
-IsFault text (Number at f) = ⊥
-IsFault text (Unknown at) = ⊥
-IsFault text (LongId at) = ⊥
+IsFault text f = ⊥

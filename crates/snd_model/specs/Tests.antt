@@ -4,7 +4,8 @@ use Rattle.snd_reader.specs.declared.fault.Wanted.{Wanted}
 use Rattle.snd_reader.specs.declared.fault.Wanted.TheVariants as wants
 use Rattle.snd_reader.specs.declared.fault.Complaint.{Complaint}
 use Rattle.snd_reader.specs.declared.fault.Complaint.TheVariants.{Unexpected, Twice, Ended}
-use Rattle.snd_reader.specs.Readers.{Lexeme, word, open_bracket, close_bracket, equals_sign, the_end}
+use Rattle.snd_reader.specs.Readers.{Lexeme, word, the_end}
+use Rattle.snd_reader.specs.Tests.{refused}
 use Rattle.snd_model.specs.declared.keys.Key.{Key}
 use Rattle.snd_model.specs.declared.setting.Setting.{Setting}
 use Rattle.snd_model.specs.declared.draft.Draft.{Draft}
@@ -28,10 +29,8 @@ key_begun d (Some k) = once (has_setting d k) k
 -- A pair begins with its key, and the text may end where each key has a value.
 abbrev pub key_head : Draft → Lexeme → Result (Option Key) Complaint
 key_head d (word bytes) = key_begun d (key_named bytes)
-key_head d open_bracket = Err (Unexpected (wanted_next d))
-key_head d close_bracket = Err (Unexpected (wanted_next d))
-key_head d equals_sign = Err (Unexpected (wanted_next d))
 key_head d the_end = if is_complete d then Ok None else Err Ended
+key_head d l = Err (Unexpected (wanted_next d))
 
 -- a word in a value's place
 abbrev pub valued : Option Setting → Result Setting Complaint
@@ -41,7 +40,4 @@ valued (Some s) = Ok s
 -- a spelling of a value of this key
 abbrev pub value_test : Key → Lexeme → Result Setting Complaint
 value_test k (word bytes) = valued (setting_named k bytes)
-value_test k open_bracket = Err (Unexpected wants.Value)
-value_test k close_bracket = Err (Unexpected wants.Value)
-value_test k equals_sign = Err (Unexpected wants.Value)
-value_test k the_end = Err Ended
+value_test k l = Err (refused wants.Value l)
