@@ -11,6 +11,10 @@ use Rattle.branch_tree.specs.declared.node.Fate.TheVariants.{Undone, ClosedBy, D
 use Rattle.branch_tree.specs.declared.node.BranchNode.{BranchNode}
 use Rattle.branch_tree.specs.Branches.{tree_node_at, limits_at, left_limit, right_limit}
 
+-- the nodes of a search tree, in the order of their making
+abbrev pub Nodes : Type 0
+Nodes = List BranchNode
+
 -- the record of a split
 abbrev pub split_record : Divider → TreeNode
 split_record (divider.Arcs d) = record_of.Split d.demand d.at d.left d.right

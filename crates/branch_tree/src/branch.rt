@@ -93,11 +93,9 @@ pub struct Branch {
 }
 
 impl Model for Branch {
-    ghost use Rattle.std.specs.Prelude.{List};
-    ghost use Rattle.branch_tree.specs.declared.node.BranchNode.{BranchNode};
-    ghost use Rattle.branch_tree.specs.Records.{AreNodes};
+    ghost use Rattle.branch_tree.specs.Records.{Nodes, AreNodes};
 
-    ghost Value = { List BranchNode };
+    ghost Value = { Nodes };
 
     ghost view = { λ a. a.nodes.items };
 

@@ -4,7 +4,7 @@ ghost use Rattle.std.specs.Prelude.{◌≡◌};
 ghost use Rattle.branch_tree.specs.declared.split_fault.SplitFault.TheVariants.{OutOfMemory};
 ghost use Rattle.branch_tree.specs.declared.split_fault.LoadFault.TheVariants as load_fault;
 
-use std::alloc::{AllocError, AllocFailed};
+use std::alloc::AllocError;
 
 /// The first fault of a split, or want of memory.
 #[derive(Clone, Copy, Debug, PartialEq, Eq)]
@@ -26,14 +26,6 @@ impl From<AllocError> for SplitFault {
     ghost from_gives = { λ _ e. e ≡ OutOfMemory };
 
     fn from(_e: AllocError) -> SplitFault {
-        SplitFault::OutOfMemory
-    }
-}
-
-impl<T: Drop> From<AllocFailed<T>> for SplitFault {
-    ghost from_gives = { λ _ e. e ≡ OutOfMemory };
-
-    fn from(_e: AllocFailed<T>) -> SplitFault {
         SplitFault::OutOfMemory
     }
 }
