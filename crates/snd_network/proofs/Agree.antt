@@ -16,7 +16,7 @@ use Rattle.scaled_numbers.proofs.Deciding.{reads, faults}
 use Rattle.snd_reader.specs.declared.fault.Complaint.{Complaint}
 use Rattle.snd_reader.specs.declared.fault.Complaint.TheVariants.{Unexpected, Twice, LongId, Ended}
 use Rattle.snd_reader.specs.declared.fault.Wanted.TheVariants as wants
-use Rattle.snd_reader.specs.Readers.{Lexeme, word, open_bracket, close_bracket, equals_sign, the_end, Placed}
+use Rattle.snd_reader.specs.Readers.{Lexeme, word, open_bracket, close_bracket, the_end, Placed}
 use Rattle.snd_reader.specs.Tests.{open_test, close_test, numbered, number_test}
 use Rattle.snd_reader.specs.Names.{is_among}
 use Rattle.snd_network.specs.declared.draft.End.{End}
@@ -41,22 +41,16 @@ pub open_same : (t : Placed) (u : Unit {0}) → (open_test t.is ≡ Ok u) ↔ (t
 open_same t u = (into t.is, λ e. ap open_test e)
   where
     into : (l : Lexeme) → open_test l ≡ Ok u → l ≡ open_bracket
-    into (word bytes) e = absurd cc
     into open_bracket e = refl
-    into close_bracket e = absurd cc
-    into equals_sign e = absurd cc
-    into the_end e = absurd cc
+    into l e = absurd cc
 
 -- the test of a closing bracket finds exactly these good
 pub close_same : (t : Placed) (u : Unit {0}) → (close_test t.is ≡ Ok u) ↔ (t.is ≡ close_bracket)
 close_same t u = (into t.is, λ e. ap close_test e)
   where
     into : (l : Lexeme) → close_test l ≡ Ok u → l ≡ close_bracket
-    into (word bytes) e = absurd cc
-    into open_bracket e = absurd cc
     into close_bracket e = refl
-    into equals_sign e = absurd cc
-    into the_end e = absurd cc
+    into l e = absurd cc
 
 -- ---- numbers
 
@@ -73,10 +67,7 @@ numbered-into bytes scale n (Err f) d e = absurd cc
 
 number-into : (scale : ℕ) (t : Placed) (l : Lexeme) (n : ℕ) → t.is ≡ l → number_test scale l ≡ Ok n → IsNumeral scale t n
 number-into scale t (word bytes) n h e = (bytes, h, numbered-into bytes scale n (decimal_of bytes scale) refl e)
-number-into scale t open_bracket n h e = absurd cc
-number-into scale t close_bracket n h e = absurd cc
-number-into scale t equals_sign n h e = absurd cc
-number-into scale t the_end n h e = absurd cc
+number-into scale t l n h e = absurd cc
 
 number-back : (scale : ℕ) (t : Placed) (n : ℕ) → IsNumeral scale t n → number_test scale t.is ≡ Ok n
 number-back scale t n (bytes, h, k) = ap (number_test scale) h ∙ ap numbered (reads_as bytes scale n k)
@@ -105,10 +96,7 @@ end-into t (word bytes) e h a = by (nat_lt MAX_NAME_BYTES (length bytes)) refl a
     by false n a =
         let same : end_of t.at bytes ≡ e = cc in
         subst (λ (d : End). IsEndName t d) same (h, refl, ltb-false MAX_NAME_BYTES (length bytes) n)
-end-into t open_bracket e h a = absurd cc
-end-into t close_bracket e h a = absurd cc
-end-into t equals_sign e h a = absurd cc
-end-into t the_end e h a = absurd cc
+end-into t l e h a = absurd cc
 
 end-back : (t : Placed) (e : End) → IsEndName t e → end_test t ≡ Ok e
 end-back t e (h, place, short) = ap (end_at t.at) h ∙ ap (end_by t.at e.name) (short_name e.name short) ∙ ap (λ (at : ℕ). found_end at e.name) place
@@ -185,10 +173,7 @@ coordinate-into t (word bytes) x h e = by (checked_coordinate bytes) refl e
     by : (r : Result (Unit {0}) Complaint) → checked_coordinate bytes ≡ r → kept bytes r ≡ Ok x → IsSignedWord t x
     by (Ok u) d e = let same : bytes ≡ x = cc in subst (IsSignedWord t) same (h, checked-into bytes u d)
     by (Err c) d e = absurd cc
-coordinate-into t open_bracket x h e = absurd cc
-coordinate-into t close_bracket x h e = absurd cc
-coordinate-into t equals_sign x h e = absurd cc
-coordinate-into t the_end x h e = absurd cc
+coordinate-into t l x h e = absurd cc
 
 coordinate-back : (t : Placed) (x : List ℕ) → IsSignedWord t x → coordinate_test t.is ≡ Ok x
 coordinate-back t x (h, s) = ap coordinate_test h ∙ ap (kept x) (checked-back x s)
@@ -212,10 +197,7 @@ hops-into t (word bytes) x h e = by (pointwise nat_eq bytes (codes "UNLIMITED"))
     by false other (Ok m) d None e = absurd cc
     by false other (Ok m) d (Some n) e = let same : m ≡ n = cc in number-into 0 t (word bytes) n h (d ∙ ap (λ (k : ℕ). Ok k) same)
     by false other (Err c) d x e = absurd cc
-hops-into t open_bracket x h e = absurd cc
-hops-into t close_bracket x h e = absurd cc
-hops-into t equals_sign x h e = absurd cc
-hops-into t the_end x h e = absurd cc
+hops-into t l x h e = absurd cc
 
 abbrev hops_by : List ℕ → Bool → Result (Option ℕ) Complaint
 hops_by bytes b = if b then Ok None else limited (number_test 0 (word bytes))
@@ -240,11 +222,9 @@ module-into modules t (word bytes) x h e = by (number_test 6 (word bytes)) refl 
     by (Ok m) d None e = absurd cc
     by (Ok m) d (Some n) e = let same : m ≡ n = cc in number-into 6 t (word bytes) n h (d ∙ ap (λ (k : ℕ). Ok k) same)
     by (Err c) d x e = absurd cc
-module-into modules t open_bracket x h e = absurd cc
 module-into modules t close_bracket None h e = h
 module-into modules t close_bracket (Some n) h e = absurd cc
-module-into modules t equals_sign x h e = absurd cc
-module-into modules t the_end x h e = absurd cc
+module-into modules t l x h e = absurd cc
 
 module-back : (modules : List (ℕ × ℕ)) (t : Placed) (x : Option ℕ) → BeginsModule modules t x → module_head t.is ≡ Ok x
 module-back modules t None h = ap module_head h
@@ -274,11 +254,9 @@ item-into {T} s t (word bytes) x h e = by (checked_name s.names bytes) refl x e
     by (Ok u) c None e = absurd cc
     by (Ok u) c (Some name) e = let same : bytes ≡ name = cc in subst (λ (b : List ℕ). BeginsItem s t (Some b)) same (h, checked-new s.names bytes u c)
     by (Err y) c x e = absurd cc
-item-into s t open_bracket x h e = absurd cc
 item-into s t close_bracket None h e = h
 item-into s t close_bracket (Some name) h e = absurd cc
-item-into s t equals_sign x h e = absurd cc
-item-into s t the_end x h e = absurd cc
+item-into s t l x h e = absurd cc
 
 item-back : {T : Type 0} (s : Table (Named T)) (t : Placed) (x : Option (List ℕ)) → BeginsItem s t x → list_head s.names t.is ≡ Ok x
 item-back s t None h = ap (list_head s.names) h
@@ -308,8 +286,7 @@ node-into s t open_bracket x h e = by (is_some s.pending) refl x e
     by false waits x e = absurd cc
 node-into s t close_bracket None h e = h
 node-into s t close_bracket (Some i) h e = absurd cc
-node-into s t equals_sign x h e = absurd cc
-node-into s t the_end x h e = absurd cc
+node-into s t l x h e = absurd cc
 
 node-back : (s : NodeList) (t : Placed) (x : Option NodeItem) → BeginsNode s t x → node_head s t.is ≡ Ok x
 node-back s t None h = ap (node_head s) h
@@ -358,15 +335,13 @@ section-into d t (word bytes) x h e = by (section_named bytes) refl x e
     by : (s : Option Section) → section_named bytes ≡ s → (x : Option Section) → section_begun d s ≡ Ok x → BeginsSection d t x
     by None n x e = absurd cc
     by (Some k) n x e = by-once k (has_section d k) n refl x e
-section-into d t open_bracket x h e = absurd cc
-section-into d t close_bracket x h e = absurd cc
-section-into d t equals_sign x h e = absurd cc
 section-into d t the_end x h e = by (is_complete d) refl x e
   where
     by : (b : Bool) → is_complete d ≡ b → (x : Option Section) → ending b ≡ Ok x → BeginsSection d t x
     by true complete None e = (h, complete)
     by true complete (Some k) e = absurd cc
     by false complete x e = absurd cc
+section-into d t l x h e = absurd cc
 
 section-back : (d : Draft) (t : Placed) (x : Option Section) → BeginsSection d t x → section_head d t.is ≡ Ok x
 section-back d t None (h, complete) = ap (section_head d) h ∙ ap ending complete

@@ -8,7 +8,7 @@ use Rattle.scaled_numbers.specs.Scanning.{decimal_of}
 use Rattle.snd_reader.specs.declared.fault.Complaint.{Complaint}
 use Rattle.snd_reader.specs.declared.fault.Complaint.TheVariants.{Unexpected, Twice, LongId, Ended}
 use Rattle.snd_reader.specs.declared.fault.Wanted.TheVariants as wants
-use Rattle.snd_reader.specs.Readers.{Lexeme, word, open_bracket, close_bracket, equals_sign, the_end}
+use Rattle.snd_reader.specs.Readers.{Lexeme, word, open_bracket, the_end}
 use Rattle.snd_reader.specs.Tests.{numbered}
 use Rattle.snd_network.specs.declared.draft.NodeItem.{NodeItem}
 use Rattle.snd_network.specs.declared.draft.NodeItem.TheVariants as node_items
@@ -26,10 +26,8 @@ end-end at (word bytes) e = absurd (by (nat_lt MAX_NAME_BYTES (length bytes)) e)
     by : (long : Bool) → end_by at bytes (if long then Err LongId else Ok tt) ≡ Err Ended → ⊥
     by true e = cc
     by false e = cc
-end-end at open_bracket e = absurd cc
-end-end at close_bracket e = absurd cc
-end-end at equals_sign e = absurd cc
 end-end at the_end e = refl
+end-end at l e = absurd cc
 
 -- where an item of a list or its Close is wanted, only the end of the text is told as ended too soon
 pub list-end : (names : List (List ℕ)) (l : Lexeme) → list_head names l ≡ Err Ended → l ≡ the_end
@@ -39,10 +37,8 @@ list-end names (word bytes) e = absurd (by (nat_lt MAX_NAME_BYTES (length bytes)
     by true old e = cc
     by false true e = cc
     by false false e = cc
-list-end names open_bracket e = absurd cc
-list-end names close_bracket e = absurd cc
-list-end names equals_sign e = absurd cc
 list-end names the_end e = refl
+list-end names l e = absurd cc
 
 -- what a bracket is in the nodes, by whether a name waits
 abbrev opened : Bool → Result (Option NodeItem) Complaint
@@ -61,9 +57,8 @@ node-end s open_bracket e = absurd (by (is_some s.pending) e)
     by : (b : Bool) → opened b ≡ Err Ended → ⊥
     by true e = cc
     by false e = cc
-node-end s close_bracket e = absurd cc
-node-end s equals_sign e = absurd cc
 node-end s the_end e = refl
+node-end s l e = absurd cc
 
 -- where a module or a Close is wanted, only the end of the text is told as ended too soon
 pub module-end : (l : Lexeme) → module_head l ≡ Err Ended → l ≡ the_end
@@ -72,10 +67,8 @@ module-end (word bytes) e = absurd (by (decimal_of bytes 6) e)
     by : (o : Result ℕ NumberFault) → module_begun (numbered o) ≡ Err Ended → ⊥
     by (Ok n) e = cc
     by (Err f) e = cc
-module-end open_bracket e = absurd cc
-module-end close_bracket e = absurd cc
-module-end equals_sign e = absurd cc
 module-end the_end e = refl
+module-end l e = absurd cc
 
 sized-end : (before : ℕ) (bytes : List ℕ) (o : Result ℕ NumberFault) → kept bytes (sized before o) ≡ Err Ended → ⊥
 sized-end before bytes (Ok n) e = cc
@@ -94,10 +87,8 @@ kept-end (byte ∷ bytes) e = by (is_sign byte) e
 -- where a coordinate is wanted, only the end of the text is told as ended too soon
 pub coordinate-end : (l : Lexeme) → coordinate_test l ≡ Err Ended → l ≡ the_end
 coordinate-end (word bytes) e = absurd (kept-end bytes e)
-coordinate-end open_bracket e = absurd cc
-coordinate-end close_bracket e = absurd cc
-coordinate-end equals_sign e = absurd cc
 coordinate-end the_end e = refl
+coordinate-end l e = absurd cc
 
 -- where a hop limit is wanted, only the end of the text is told as ended too soon
 pub hops-end : (l : Lexeme) → hops_test l ≡ Err Ended → l ≡ the_end
@@ -107,10 +98,8 @@ hops-end (word bytes) e = absurd (by (pointwise nat_eq bytes (codes "UNLIMITED")
     by true o e = cc
     by false (Ok n) e = cc
     by false (Err f) e = cc
-hops-end open_bracket e = absurd cc
-hops-end close_bracket e = absurd cc
-hops-end equals_sign e = absurd cc
 hops-end the_end e = refl
+hops-end l e = absurd cc
 
 -- where a section is wanted, only the end of the text is told as ended too soon
 pub section-end : (d : Draft) (l : Lexeme) → section_head d l ≡ Err Ended → l ≡ the_end
@@ -123,7 +112,5 @@ section-end d (word bytes) e = absurd (by-section (section_named bytes) e)
     by-section : (o : Option Section) → section_begun d o ≡ Err Ended → ⊥
     by-section None e = cc
     by-section (Some k) e = by-once (has_section d k) k e
-section-end d open_bracket e = absurd cc
-section-end d close_bracket e = absurd cc
-section-end d equals_sign e = absurd cc
 section-end d the_end e = refl
+section-end d l e = absurd cc

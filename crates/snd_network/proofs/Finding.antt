@@ -15,10 +15,10 @@ use Rattle.snd_network.specs.declared.draft.Named.{Named}
 use Rattle.snd_network.specs.declared.draft.Table.{Table}
 use Rattle.snd_network.specs.declared.draft.Draft.{Draft}
 use Rattle.snd_reader.specs.declared.fault.TextFault.{TextFault}
-use Rattle.snd_reader.specs.declared.fault.TextFault.TheVariants.{Header, Unexpected, Number, Twice, Unknown, Ended, LongId, Control, OutOfMemory}
+use Rattle.snd_reader.specs.declared.fault.TextFault.TheVariants.{Unknown, OutOfMemory}
 use Rattle.snd_network.specs.Steps.{IsUnknown}
 use Rattle.snd_reader.specs.Names.{number_of}
-use Rattle.snd_network.specs.Ends.{node_id, IsNode, IsLinkOf, IsDemandOf, AreAllOf, IsFileOf, names_of, rows_of, link_ends, demand_ends, all_ends, first_unknown}
+use Rattle.snd_network.specs.Ends.{node_id, IsNode, IsLinkOf, IsDemandOf, AreAllOf, IsFileOf, names_of, rows_of, ends_of, link_ends, demand_ends, all_ends, first_unknown}
 
 -- ---- ends that are all known
 
@@ -33,34 +33,32 @@ known names e n h = by (number_of names e.name) h
 pub first_known : (names : List (List ℕ)) (e : End) (es : List End) (n : NodeId) → IsNode names e n → first_unknown names (e ∷ es) ≡ first_unknown names es
 first_known names e es n h = rw (known names e n h) refl
 
--- the ends of links that have their nodes are passed over in the search for the first unknown end
-pub links_known : (names : List (List ℕ)) (ls : List (Named LinkDraft)) (rs : List LinkRecord) → AreAllOf (IsLinkOf names) ls rs → (more : List End) → first_unknown names (link_ends ls ++ more) ≡ first_unknown names more
-links_known names [] [] h more = refl
-links_known names [] (r ∷ rs) h more = absurd h
-links_known names (l ∷ ls) [] h more = absurd h
-links_known names (l ∷ ls) (r ∷ rs) h more =
-    first_known names l.part.source (l.part.target ∷ (link_ends ls ++ more)) r.source h.0.source
-    ∙ first_known names l.part.target (link_ends ls ++ more) r.target h.0.target
-    ∙ links_known names ls rs h.1 more
+-- known ends are passed over in the search for the first unknown end
+pub known-behind : (names : List (List ℕ)) (es more : List End) → first_unknown names es ≡ None → first_unknown names (es ++ more) ≡ first_unknown names more
+known-behind names [] more h = refl
+known-behind names (e ∷ es) more h = by (is_some (number_of names e.name)) (λ k. known-behind names es more k) h
+  where
+    by : (b : Bool) → (first_unknown names es ≡ None → first_unknown names (es ++ more) ≡ first_unknown names more) → (if b then first_unknown names es else Some e.at) ≡ None → (if b then first_unknown names (es ++ more) else Some e.at) ≡ first_unknown names more
+    by true later h = later h
+    by false later h = absurd cc
 
--- the ends of demands that have their nodes are passed over in the search for the first unknown end
-pub demands_known : (names : List (List ℕ)) (ds : List (Named DemandDraft)) (rs : List DemandRecord) → AreAllOf (IsDemandOf names) ds rs → (more : List End) → first_unknown names (demand_ends ds ++ more) ≡ first_unknown names more
-demands_known names [] [] h more = refl
-demands_known names [] (r ∷ rs) h more = absurd h
-demands_known names (d ∷ ds) [] h more = absurd h
-demands_known names (d ∷ ds) (r ∷ rs) h more =
-    first_known names d.part.source (d.part.target ∷ (demand_ends ds ++ more)) r.source h.0.source
-    ∙ first_known names d.part.target (demand_ends ds ++ more) r.target h.0.target
-    ∙ demands_known names ds rs h.1 more
+-- the two ends of a link or demand are known where they are nodes
+pub two_known : (names : List (List ℕ)) (d e : End) (m n : NodeId) → IsNode names d m → IsNode names e n → first_unknown names (d ∷ e ∷ []) ≡ None
+two_known names d e m n h k = first_known names d (e ∷ []) m h ∙ first_known names e [] n k
+
+ends-known : {T R : Type 0} (two : T → End × End) (names : List (List ℕ)) (Is : Named T → R → Type 0) → ((x : Named T) (r : R) → Is x r → first_unknown names (ends_of two (x ∷ [])) ≡ None)
+    → (xs : List (Named T)) (rs : List R) → AreAllOf Is xs rs → first_unknown names (ends_of two xs) ≡ None
+ends-known two names Is one [] rs h = refl
+ends-known two names Is one (x ∷ xs) [] h = absurd h
+ends-known two names Is one (x ∷ xs) (r ∷ rs) h = known-behind names (ends_of two (x ∷ [])) (ends_of two xs) (one x r h.0) ∙ ends-known two names Is one xs rs h.1
 
 -- a file leaves no end unknown
 pub none_unknown : (d : Draft) (file : NetworkFile) → IsFileOf d file → first_unknown (names_of d.nodes) (all_ends d) ≡ None
 none_unknown d file h =
     let names = names_of d.nodes in
-    let last : demand_ends (rows_of d.demands) ++ [] ≡ demand_ends (rows_of d.demands) = append-nil (demand_ends (rows_of d.demands)) in
-    links_known names (rows_of d.links) file.links h.links (demand_ends (rows_of d.demands))
-    ∙ ap (first_unknown names) (sym last)
-    ∙ demands_known names (rows_of d.demands) file.demands h.demands []
+    known-behind names (ends_of link_ends (rows_of d.links)) (ends_of demand_ends (rows_of d.demands))
+    (ends-known link_ends names (IsLinkOf names) (λ l r k. two_known names l.part.source l.part.target r.source r.target k.source k.target) (rows_of d.links) file.links h.links)
+    ∙ ends-known demand_ends names (IsDemandOf names) (λ l r k. two_known names l.part.source l.part.target r.source r.target k.source k.target) (rows_of d.demands) file.demands h.demands
 
 -- ---- one file
 
@@ -75,16 +73,10 @@ link-of name source target pre pre_cost routing setup modules = record { name = 
 
 one-link : (names : List (List ℕ)) (l : Named LinkDraft) (a b : LinkRecord) → IsLinkOf names l a → IsLinkOf names l b → a ≡ b
 one-link names l a b h k =
-    let name : a.name ≡ b.name = h.name ∙ sym k.name in
-    let source : a.source ≡ b.source = one-node names l.part.source a.source b.source h.source k.source in
-    let target : a.target ≡ b.target = one-node names l.part.target a.target b.target h.target k.target in
-    let pre : a.pre ≡ b.pre = h.pre ∙ sym k.pre in
-    let pre_cost : a.pre_cost ≡ b.pre_cost = h.pre_cost ∙ sym k.pre_cost in
-    let routing : a.routing ≡ b.routing = h.routing ∙ sym k.routing in
-    let setup : a.setup ≡ b.setup = h.setup ∙ sym k.setup in
-    let modules : a.modules ≡ b.modules = h.modules ∙ sym k.modules in
+    let source = one-node names l.part.source a.source b.source h.source k.source in
+    let target = one-node names l.part.target a.target b.target h.target k.target in
     let same : link-of a.name a.source a.target a.pre a.pre_cost a.routing a.setup a.modules ≡ link-of b.name b.source b.target b.pre b.pre_cost b.routing b.setup b.modules =
-    rw (name, source, target, pre, pre_cost, routing, setup, modules) refl in
+    rw (h.name ∙ sym k.name, source, target, h.pre ∙ sym k.pre, h.pre_cost ∙ sym k.pre_cost, h.routing ∙ sym k.routing, h.setup ∙ sym k.setup, h.modules ∙ sym k.modules) refl in
     same
 
 abbrev demand-of : List ℕ → NodeId → NodeId → ℕ → ℕ → Option ℕ → DemandRecord
@@ -92,13 +84,10 @@ demand-of name source target unit value hops = record { name = name; source = so
 
 one-demand : (names : List (List ℕ)) (d : Named DemandDraft) (a b : DemandRecord) → IsDemandOf names d a → IsDemandOf names d b → a ≡ b
 one-demand names d a b h k =
-    let name : a.name ≡ b.name = h.name ∙ sym k.name in
-    let source : a.source ≡ b.source = one-node names d.part.source a.source b.source h.source k.source in
-    let target : a.target ≡ b.target = one-node names d.part.target a.target b.target h.target k.target in
-    let unit : a.unit ≡ b.unit = h.unit ∙ sym k.unit in
-    let value : a.value ≡ b.value = h.value ∙ sym k.value in
-    let hops : a.hops ≡ b.hops = h.hops ∙ sym k.hops in
-    let same : demand-of a.name a.source a.target a.unit a.value a.hops ≡ demand-of b.name b.source b.target b.unit b.value b.hops = rw (name, source, target, unit, value, hops) refl in
+    let source = one-node names d.part.source a.source b.source h.source k.source in
+    let target = one-node names d.part.target a.target b.target h.target k.target in
+    let same : demand-of a.name a.source a.target a.unit a.value a.hops ≡ demand-of b.name b.source b.target b.unit b.value b.hops =
+    rw (h.name ∙ sym k.name, source, target, h.unit ∙ sym k.unit, h.value ∙ sym k.value, h.hops ∙ sym k.hops) refl in
     same
 
 one-list : {A B : Type 0} (Is : A → B → Type 0) → ((x : A) (y z : B) → Is x y → Is x z → y ≡ z) → (xs : List A) (ys zs : List B) → AreAllOf Is xs ys → AreAllOf Is xs zs → ys ≡ zs
@@ -142,92 +131,31 @@ unknown-more names (e ∷ es) more at h = by (is_some (number_of names e.name)) 
     by true later h = later h
     by false later h = h
 
-link_ends-append : (a b : List (Named LinkDraft)) → link_ends (a ++ b) ≡ link_ends a ++ link_ends b
-link_ends-append [] b = refl
-link_ends-append (l ∷ a) b = ap (λ (es : List End). l.part.source ∷ l.part.target ∷ es) (link_ends-append a b)
+-- the ends of items and of more items
+pub ends-append : {T : Type 0} (two : T → End × End) (xs ys : List (Named T)) → ends_of two (xs ++ ys) ≡ ends_of two xs ++ ends_of two ys
+ends-append two [] ys = refl
+ends-append two (x ∷ xs) ys = ap (λ (es : List End). (two x.part).0 ∷ (two x.part).1 ∷ es) (ends-append two xs ys)
 
-demand_ends-append : (a b : List (Named DemandDraft)) → demand_ends (a ++ b) ≡ demand_ends a ++ demand_ends b
-demand_ends-append [] b = refl
-demand_ends-append (d ∷ a) b = ap (λ (es : List End). d.part.source ∷ d.part.target ∷ es) (demand_ends-append a b)
+-- a fault of looking up ends is one of others, where their first unknown end is the same
+pub unknown_by : (names : List (List ℕ)) (es fs : List End) (f : TextFault) → ((at : ℕ) → first_unknown names es ≡ Some at → first_unknown names fs ≡ Some at) → IsUnknown names es f → IsUnknown names fs f
+unknown_by names es fs (Unknown at) same u = same at u
+unknown_by names es fs OutOfMemory same u = tt
+unknown_by names es fs f same u = absurd u
 
-link-unknown : (names : List (List ℕ)) (ls rest : List (Named LinkDraft)) (rs : List LinkRecord) (l : Named LinkDraft) (f : TextFault) → AreAllOf (IsLinkOf names) ls rs → IsUnknown names (l.part.source ∷ l.part.target ∷ []) f → IsUnknown names (link_ends (ls ++ l ∷ rest)) f
-link-unknown names ls rest rs l (Unknown at) h u =
-    ap (first_unknown names) (link_ends-append ls (l ∷ rest)) ∙ links_known names ls rs h (link_ends (l ∷ rest)) ∙ unknown-more names (l.part.source ∷ l.part.target ∷ []) (link_ends rest) at u
-link-unknown names ls rest rs l OutOfMemory h u = tt
-link-unknown names ls rest rs l Header h u = absurd u
-link-unknown names ls rest rs l (Control at) h u = absurd u
-link-unknown names ls rest rs l (Unexpected at w) h u = absurd u
-link-unknown names ls rest rs l (Number at g) h u = absurd u
-link-unknown names ls rest rs l (Twice at) h u = absurd u
-link-unknown names ls rest rs l (Ended at) h u = absurd u
-link-unknown names ls rest rs l (LongId at) h u = absurd u
-
-demand-unknown : (names : List (List ℕ)) (ds rest : List (Named DemandDraft)) (rs : List DemandRecord) (d : Named DemandDraft) (f : TextFault) → AreAllOf (IsDemandOf names) ds rs → IsUnknown names (d.part.source ∷ d.part.target ∷ []) f → IsUnknown names (demand_ends (ds ++ d ∷ rest)) f
-demand-unknown names ds rest rs d (Unknown at) h u =
-    ap (first_unknown names) (demand_ends-append ds (d ∷ rest)) ∙ demands_known names ds rs h (demand_ends (d ∷ rest)) ∙ unknown-more names (d.part.source ∷ d.part.target ∷ []) (demand_ends rest) at u
-demand-unknown names ds rest rs d OutOfMemory h u = tt
-demand-unknown names ds rest rs d Header h u = absurd u
-demand-unknown names ds rest rs d (Control at) h u = absurd u
-demand-unknown names ds rest rs d (Unexpected at w) h u = absurd u
-demand-unknown names ds rest rs d (Number at g) h u = absurd u
-demand-unknown names ds rest rs d (Twice at) h u = absurd u
-demand-unknown names ds rest rs d (Ended at) h u = absurd u
-demand-unknown names ds rest rs d (LongId at) h u = absurd u
-
--- the source or the target is the unknown one
-pub source_unknown : (names : List (List ℕ)) (e : End) (more : List End) (f : TextFault) → IsUnknown names (e ∷ []) f → IsUnknown names (e ∷ more) f
-source_unknown names e more (Unknown at) u = unknown-more names (e ∷ []) more at u
-source_unknown names e more OutOfMemory u = tt
-source_unknown names e more Header u = absurd u
-source_unknown names e more (Control at) u = absurd u
-source_unknown names e more (Unexpected at w) u = absurd u
-source_unknown names e more (Number at g) u = absurd u
-source_unknown names e more (Twice at) u = absurd u
-source_unknown names e more (Ended at) u = absurd u
-source_unknown names e more (LongId at) u = absurd u
-
--- a fault of looking up some ends is also one with an end in front that is a node
-pub target_unknown : (names : List (List ℕ)) (e : End) (es : List End) (n : NodeId) (f : TextFault) → IsNode names e n → IsUnknown names es f → IsUnknown names (e ∷ es) f
-target_unknown names e es n (Unknown at) h u = first_known names e es n h ∙ u
-target_unknown names e es n OutOfMemory h u = tt
-target_unknown names e es n Header h u = absurd u
-target_unknown names e es n (Control at) h u = absurd u
-target_unknown names e es n (Unexpected at w) h u = absurd u
-target_unknown names e es n (Number at g) h u = absurd u
-target_unknown names e es n (Twice at) h u = absurd u
-target_unknown names e es n (Ended at) h u = absurd u
-target_unknown names e es n (LongId at) h u = absurd u
-
--- unknown among the ends of links, or of demands behind known links
+-- a fault of looking up some ends is also one with more ends behind them
 pub more_unknown : (names : List (List ℕ)) (es more : List End) (f : TextFault) → IsUnknown names es f → IsUnknown names (es ++ more) f
-more_unknown names es more (Unknown at) u = unknown-more names es more at u
-more_unknown names es more OutOfMemory u = tt
-more_unknown names es more Header u = absurd u
-more_unknown names es more (Control at) u = absurd u
-more_unknown names es more (Unexpected at w) u = absurd u
-more_unknown names es more (Number at g) u = absurd u
-more_unknown names es more (Twice at) u = absurd u
-more_unknown names es more (Ended at) u = absurd u
-more_unknown names es more (LongId at) u = absurd u
+more_unknown names es more f u = unknown_by names es (es ++ more) f (λ at k. unknown-more names es more at k) u
 
--- a fault of looking up some ends is also one with the ends of links in front that have their nodes
-pub behind_links : (names : List (List ℕ)) (ls : List (Named LinkDraft)) (rs : List LinkRecord) (more : List End) (f : TextFault) → AreAllOf (IsLinkOf names) ls rs → IsUnknown names more f → IsUnknown names (link_ends ls ++ more) f
-behind_links names ls rs more (Unknown at) h u = links_known names ls rs h more ∙ u
-behind_links names ls rs more OutOfMemory h u = tt
-behind_links names ls rs more Header h u = absurd u
-behind_links names ls rs more (Control at) h u = absurd u
-behind_links names ls rs more (Unexpected at w) h u = absurd u
-behind_links names ls rs more (Number at g) h u = absurd u
-behind_links names ls rs more (Twice at) h u = absurd u
-behind_links names ls rs more (Ended at) h u = absurd u
-behind_links names ls rs more (LongId at) h u = absurd u
+-- a fault of looking up some ends is also one with known ends in front of them
+pub behind_known : (names : List (List ℕ)) (es more : List End) (f : TextFault) → first_unknown names es ≡ None → IsUnknown names more f → IsUnknown names (es ++ more) f
+behind_known names es more f h u = unknown_by names more (es ++ more) f (λ at k. known-behind names es more h ∙ k) u
 
 -- ---- sections that are there
 
-all-ends : (d : Draft) (links : Table (Named LinkDraft)) (demands : Table (Named DemandDraft)) → d.links ≡ Some links → d.demands ≡ Some demands → all_ends d ≡ link_ends links.rows ++ demand_ends demands.rows
+all-ends : (d : Draft) (links : Table (Named LinkDraft)) (demands : Table (Named DemandDraft)) → d.links ≡ Some links → d.demands ≡ Some demands → all_ends d ≡ ends_of link_ends links.rows ++ ends_of demand_ends demands.rows
 all-ends d links demands l k =
-    ap (λ (o : Option (Table (Named LinkDraft))). link_ends (rows_of o) ++ demand_ends (rows_of d.demands)) l
-    ∙ ap (λ (o : Option (Table (Named DemandDraft))). link_ends links.rows ++ demand_ends (rows_of o)) k
+    ap (λ (o : Option (Table (Named LinkDraft))). ends_of link_ends (rows_of o) ++ ends_of demand_ends (rows_of d.demands)) l
+    ∙ ap (λ (o : Option (Table (Named DemandDraft))). ends_of link_ends links.rows ++ ends_of demand_ends (rows_of o)) k
 
 in-draft : (d : Draft) (nodes : Table NodeRecord) (es : List End) (f : TextFault) → d.nodes ≡ Some nodes → all_ends d ≡ es → IsUnknown nodes.names es f → IsUnknown (names_of d.nodes) (all_ends d) f
 in-draft d nodes es f n e u =
@@ -236,29 +164,34 @@ in-draft d nodes es f n e u =
 
 -- an unknown end of the links
 pub links_unknown : (d : Draft) (nodes : Table NodeRecord) (links : Table (Named LinkDraft)) (demands : Table (Named DemandDraft)) (ls : List (Named LinkDraft)) (f : TextFault)
-    → d.nodes ≡ Some nodes → d.links ≡ Some links → d.demands ≡ Some demands → ls ≡ links.rows → IsUnknown nodes.names (link_ends ls) f → IsUnknown (names_of d.nodes) (all_ends d) f
+    → d.nodes ≡ Some nodes → d.links ≡ Some links → d.demands ≡ Some demands → ls ≡ links.rows → IsUnknown nodes.names (ends_of link_ends ls) f → IsUnknown (names_of d.nodes) (all_ends d) f
 links_unknown d nodes links demands ls f n l k e u =
-    in-draft d nodes (link_ends links.rows ++ demand_ends demands.rows) f n (all-ends d links demands l k)
-    (more_unknown nodes.names (link_ends links.rows) (demand_ends demands.rows) f (subst (λ (rows : List (Named LinkDraft)). IsUnknown nodes.names (link_ends rows) f) e u))
+    in-draft d nodes (ends_of link_ends links.rows ++ ends_of demand_ends demands.rows) f n (all-ends d links demands l k)
+    (more_unknown nodes.names (ends_of link_ends links.rows) (ends_of demand_ends demands.rows) f (subst (λ (rows : List (Named LinkDraft)). IsUnknown nodes.names (ends_of link_ends rows) f) e u))
 
 -- an unknown end of the demands, where those of the links are known
-pub demands_unknown : (d : Draft) (nodes : Table NodeRecord) (links : Table (Named LinkDraft)) (demands : Table (Named DemandDraft)) (ls : List (Named LinkDraft)) (rs : List LinkRecord) (ds : List (Named DemandDraft)) (f : TextFault)
-    → d.nodes ≡ Some nodes → d.links ≡ Some links → d.demands ≡ Some demands → ls ≡ links.rows → ds ≡ demands.rows → AreAllOf (IsLinkOf nodes.names) ls rs → IsUnknown nodes.names (demand_ends ds) f → IsUnknown (names_of d.nodes) (all_ends d) f
-demands_unknown d nodes links demands ls rs ds f n l k e i h u =
-    in-draft d nodes (link_ends links.rows ++ demand_ends demands.rows) f n (all-ends d links demands l k)
-    (behind_links nodes.names links.rows rs (demand_ends demands.rows) f (subst (λ (rows : List (Named LinkDraft)). AreAllOf (IsLinkOf nodes.names) rows rs) e h)
-    (subst (λ (rows : List (Named DemandDraft)). IsUnknown nodes.names (demand_ends rows) f) i u))
+pub demands_unknown : (d : Draft) (nodes : Table NodeRecord) (links : Table (Named LinkDraft)) (demands : Table (Named DemandDraft)) (ls : List (Named LinkDraft)) (ds : List (Named DemandDraft)) (f : TextFault)
+    → d.nodes ≡ Some nodes → d.links ≡ Some links → d.demands ≡ Some demands → ls ≡ links.rows → ds ≡ demands.rows → first_unknown nodes.names (ends_of link_ends ls) ≡ None → IsUnknown nodes.names (ends_of demand_ends ds) f → IsUnknown (names_of d.nodes) (all_ends d) f
+demands_unknown d nodes links demands ls ds f n l k e i h u =
+    in-draft d nodes (ends_of link_ends links.rows ++ ends_of demand_ends demands.rows) f n (all-ends d links demands l k)
+    (behind_known nodes.names (ends_of link_ends links.rows) (ends_of demand_ends demands.rows) f (subst (λ (rows : List (Named LinkDraft)). first_unknown nodes.names (ends_of link_ends rows) ≡ None) e h)
+    (subst (λ (rows : List (Named DemandDraft)). IsUnknown nodes.names (ends_of demand_ends rows) f) i u))
+
+-- the next of what is left
+pub taken_next : {A : Type 0} (whole taken left rest : List A) (x : A) → whole ≡ taken ++ left → left ≡ x ∷ rest → whole ≡ taken ++ x ∷ rest
+taken_next {A} whole taken left rest x e h = e ∙ ap (λ (xs : List A). taken ++ xs) h
 
 -- nothing is left
 pub all_taken : {A : Type 0} (whole taken left : List A) → whole ≡ taken ++ left → length left ≡ 0 → whole ≡ taken
 all_taken {A} whole taken left e n = e ∙ ap (λ (xs : List A). taken ++ xs) (nil_from_length left n) ∙ append-nil taken
 
--- a fault of looking up a link's ends is one of all links, where those before it have their nodes
-pub link_unknown : (names : List (List ℕ)) (whole links rest : List (Named LinkDraft)) (rs : List LinkRecord) (one : Named LinkDraft) (f : TextFault)
-    → whole ≡ links ++ one ∷ rest → AreAllOf (IsLinkOf names) links rs → IsUnknown names (one.part.source ∷ one.part.target ∷ []) f → IsUnknown names (link_ends whole) f
-link_unknown names whole links rest rs one f e h u = subst (λ (rows : List (Named LinkDraft)). IsUnknown names (link_ends rows) f) (sym e) (link-unknown names links rest rs one f h u)
+-- the ends of one item more are known where they are
+pub known_more : {T : Type 0} (two : T → End × End) (names : List (List ℕ)) (xs : List (Named T)) (x : Named T) → first_unknown names (ends_of two xs) ≡ None → first_unknown names (ends_of two (x ∷ [])) ≡ None → first_unknown names (ends_of two (xs ++ x ∷ [])) ≡ None
+known_more two names xs x h k = ap (first_unknown names) (ends-append two xs (x ∷ [])) ∙ known-behind names (ends_of two xs) (ends_of two (x ∷ [])) h ∙ k
 
--- a fault of looking up a demand's ends is one of all demands, where those before it have their nodes
-pub demand_unknown : (names : List (List ℕ)) (whole demands rest : List (Named DemandDraft)) (rs : List DemandRecord) (one : Named DemandDraft) (f : TextFault)
-    → whole ≡ demands ++ one ∷ rest → AreAllOf (IsDemandOf names) demands rs → IsUnknown names (one.part.source ∷ one.part.target ∷ []) f → IsUnknown names (demand_ends whole) f
-demand_unknown names whole demands rest rs one f e h u = subst (λ (rows : List (Named DemandDraft)). IsUnknown names (demand_ends rows) f) (sym e) (demand-unknown names demands rest rs one f h u)
+-- a fault of looking up an item's ends is one of all items, where the ends of those before it are known
+pub item_unknown : {T : Type 0} (two : T → End × End) (names : List (List ℕ)) (whole xs rest : List (Named T)) (x : Named T) (f : TextFault)
+    → whole ≡ xs ++ x ∷ rest → first_unknown names (ends_of two xs) ≡ None → IsUnknown names (ends_of two (x ∷ [])) f → IsUnknown names (ends_of two whole) f
+item_unknown two names whole xs rest x f e h u =
+    subst (λ (es : List End). IsUnknown names es f) (sym (ap (ends_of two) e ∙ ends-append two xs (x ∷ rest)))
+    (behind_known names (ends_of two xs) (ends_of two (x ∷ rest)) f h (more_unknown names (ends_of two (x ∷ [])) (ends_of two rest) f u))

@@ -1,6 +1,11 @@
 -- The readers of the parts of a network are lawful, and each can be finished.
-use Rattle.std.proofs.Common.{◌≡◌, ℕ, List, [], ◌∷◌, ◌++◌, Some, None, refl}
-use Rattle.std.specs.Prelude.{Ok, codes}
+use Rattle.std.proofs.Common.{◌≡◌, ◌≤◌, ℕ, List, [], ◌∷◌, ◌++◌, length, Some, None, refl}
+use Rattle.std.specs.Prelude.{Result, Ok, Err, OnOk, codes}
+use Rattle.snd_reader.specs.declared.fault.TextFault.{TextFault}
+use Rattle.snd_reader.specs.Faults.{Gives}
+use Rattle.snd_reader.proofs.Loops.{not_longer}
+use Rattle.snd_network.specs.declared.draft.LinkDraft.{LinkDraft}
+use Rattle.snd_network.specs.declared.draft.DemandDraft.{DemandDraft}
 use Rattle.scaled_numbers.specs.Scanning.{decimal_of, run}
 use Rattle.snd_reader.specs.Readers.{Lexeme, word, open_bracket, close_bracket, Placed, Reader, done}
 use Rattle.snd_reader.specs.Forms.{IsNothing, Items}
@@ -164,6 +169,20 @@ live_demand =
     live_bind _ _ _ _ live_grains (λ value.
     live_bind _ _ _ _ live_hops (λ hops.
     live_done (demand_with x unit value hops)))))
+
+-- ---- what is left
+
+gives-shorter : {A : Type 0} (F : List Placed → A → Type 0) (r : Reader A) → Live F r → (ts after : List Placed) (result : Result A TextFault) → Gives (λ x. (x, after)) result (r ts) → OnOk result (length after ≤ length ts)
+gives-shorter F r live ts after (Ok x) g = not_longer F r live.law x ts after g
+gives-shorter F r live ts after (Err f) g = tt
+
+-- a link that is read leaves no more tokens than there were
+pub link_shorter : (ts after : List Placed) (result : Result LinkDraft TextFault) → Gives (λ x. (x, after)) result (link ts) → OnOk result (length after ≤ length ts)
+link_shorter ts after result g = gives-shorter LinkForm link live_link ts after result g
+
+-- a demand that is read leaves no more tokens than there were
+pub demand_shorter : (ts after : List Placed) (result : Result DemandDraft TextFault) → Gives (λ x. (x, after)) result (demand ts) → OnOk result (length after ≤ length ts)
+demand_shorter ts after result g = gives-shorter DemandForm demand live_demand ts after result g
 
 -- ---- lists of named things
 

@@ -3,7 +3,7 @@ use Rattle.std.proofs.Common.{ℕ, List}
 use Rattle.std.specs.Prelude.{Result, Ok, Err, IfOk, IfErr}
 use Rattle.snd_lexer.specs.declared.token.Dialect.TheVariants as dialects
 use Rattle.snd_reader.specs.declared.fault.TextFault.{TextFault}
-use Rattle.snd_reader.specs.declared.fault.TextFault.TheVariants.{Header, Unexpected, Number, Twice, Unknown, Ended, LongId, Control, OutOfMemory}
+use Rattle.snd_reader.specs.declared.fault.TextFault.TheVariants.{Unknown, OutOfMemory}
 use Rattle.snd_reader.specs.Readers.{Placed}
 use Rattle.snd_reader.specs.Faults.{Gives}
 use Rattle.snd_reader.specs.Texts.{HasTokens, IsCutFault}
@@ -25,13 +25,7 @@ cut_fault text f k = texts.cut_fault dialects.Network network_header NetworkForm
 unknown_fault : (text : List ℕ) (d : Draft) (f : TextFault) → SpellsDraft text d → IsUnknown (names_of d.nodes) (all_ends d) f → IsFault text f
 unknown_fault text d OutOfMemory h k = tt
 unknown_fault text d (Unknown at) h k = record { draft = d; spelt = h; first = k }
-unknown_fault text d Header h k = absurd k
-unknown_fault text d (Control at) h k = absurd k
-unknown_fault text d (Unexpected at w) h k = absurd k
-unknown_fault text d (Number at g) h k = absurd k
-unknown_fault text d (Twice at) h k = absurd k
-unknown_fault text d (Ended at) h k = absurd k
-unknown_fault text d (LongId at) h k = absurd k
+unknown_fault text d f h k = absurd k
 
 -- what is found is spelt
 pub spelt_network : (text : List ℕ) (d : Draft) (result : Result NetworkFile TextFault) → SpellsDraft text d → IfOk result (IsFileOf d) → IfOk result (SpellsNetwork text)

@@ -64,19 +64,22 @@ pub record IsFileOf (d : Draft) (file : NetworkFile) : Type 0 where
   pub links : AreAllOf (IsLinkOf (names_of d.nodes)) (rows_of d.links) file.links
   pub demands : AreAllOf (IsDemandOf (names_of d.nodes)) (rows_of d.demands) file.demands
 
--- the ends in the order in which they are looked up: the source before the target
-abbrev pub link_ends : List (Named LinkDraft) → List End
-link_ends [] = []
-link_ends (l ∷ ls) = l.part.source ∷ l.part.target ∷ link_ends ls
+-- the two ends of a link
+abbrev pub link_ends : LinkDraft → End × End
+link_ends l = (l.source, l.target)
 
--- the ends of demands in the order in which they are looked up
-abbrev pub demand_ends : List (Named DemandDraft) → List End
-demand_ends [] = []
-demand_ends (d ∷ ds) = d.part.source ∷ d.part.target ∷ demand_ends ds
+-- the two ends of a demand
+abbrev pub demand_ends : DemandDraft → End × End
+demand_ends d = (d.source, d.target)
+
+-- the ends of items in the order in which they are looked up: the source before the target
+abbrev pub ends_of : {T : Type 0} → (T → End × End) → List (Named T) → List End
+ends_of two [] = []
+ends_of two (x ∷ xs) = (two x.part).0 ∷ (two x.part).1 ∷ ends_of two xs
 
 -- all ends, those of links before those of demands
 abbrev pub all_ends : Draft → List End
-all_ends d = link_ends (rows_of d.links) ++ demand_ends (rows_of d.demands)
+all_ends d = ends_of link_ends (rows_of d.links) ++ ends_of demand_ends (rows_of d.demands)
 
 -- the place of the first end that is no node
 abbrev pub first_unknown : List (List ℕ) → List End → Option ℕ

@@ -1,7 +1,7 @@
 -- Steps of the readers' loops. No public clause cites this module.
 use Rattle.std.specs.Prelude.{◌≡◌, ℕ, false, List, Some, Result, Ok, Err}
 use Rattle.snd_reader.specs.declared.fault.TextFault.{TextFault}
-use Rattle.snd_reader.specs.declared.fault.TextFault.TheVariants.{Header, Unexpected, Number, Twice, Unknown, Ended, LongId, Control, OutOfMemory}
+use Rattle.snd_reader.specs.declared.fault.TextFault.TheVariants.{Unknown, OutOfMemory}
 use Rattle.snd_network.specs.declared.draft.NodeItem.{NodeItem}
 use Rattle.snd_network.specs.declared.draft.NodeItem.TheVariants as node_items
 use Rattle.snd_network.specs.declared.draft.End.{End}
@@ -22,10 +22,4 @@ Makes new (Err f) wanted = f ≡ OutOfMemory
 abbrev pub IsUnknown : List (List ℕ) → List End → TextFault → Type 0
 IsUnknown names ends (Unknown at) = first_unknown names ends ≡ Some at
 IsUnknown names ends OutOfMemory = Unit {0}
-IsUnknown names ends Header = ⊥
-IsUnknown names ends (Control at) = ⊥
-IsUnknown names ends (Unexpected at w) = ⊥
-IsUnknown names ends (Number at f) = ⊥
-IsUnknown names ends (Twice at) = ⊥
-IsUnknown names ends (Ended at) = ⊥
-IsUnknown names ends (LongId at) = ⊥
+IsUnknown names ends f = ⊥

@@ -7,8 +7,8 @@ use Rattle.scaled_numbers.specs.Scanning.{decimal_of}
 use Rattle.snd_reader.specs.declared.fault.Wanted.TheVariants as wants
 use Rattle.snd_reader.specs.declared.fault.Complaint.{Complaint}
 use Rattle.snd_reader.specs.declared.fault.Complaint.TheVariants.{Unexpected, Number, Twice, Ended}
-use Rattle.snd_reader.specs.Readers.{Lexeme, word, open_bracket, close_bracket, equals_sign, the_end, Placed}
-use Rattle.snd_reader.specs.Tests.{number_test}
+use Rattle.snd_reader.specs.Readers.{Lexeme, word, open_bracket, close_bracket, the_end, Placed}
+use Rattle.snd_reader.specs.Tests.{refused, number_test}
 use Rattle.snd_network.specs.declared.draft.End.{End}
 use Rattle.snd_network.specs.declared.draft.NodeItem.{NodeItem}
 use Rattle.snd_network.specs.declared.draft.NodeItem.TheVariants as node_items
@@ -28,10 +28,7 @@ end_by at bytes (Err c) = Err c
 -- the end of a link or demand
 abbrev pub end_at : ℕ → Lexeme → Result End Complaint
 end_at at (word bytes) = end_by at bytes (checked_length bytes)
-end_at at open_bracket = Err (Unexpected wants.Name)
-end_at at close_bracket = Err (Unexpected wants.Name)
-end_at at equals_sign = Err (Unexpected wants.Name)
-end_at at the_end = Err Ended
+end_at at l = Err (refused wants.Name l)
 
 -- the end of a link or demand, with its place
 abbrev pub end_test : Placed → Result End Complaint
@@ -47,10 +44,8 @@ named bytes (Err c) = Err c
 -- a name that is new among these begins an item, and a Close ends the list
 abbrev pub list_head : List (List ℕ) → Lexeme → Result (Option (List ℕ)) Complaint
 list_head names (word bytes) = named bytes (checked_name names bytes)
-list_head names open_bracket = Err (Unexpected wants.Name)
 list_head names close_bracket = Ok None
-list_head names equals_sign = Err (Unexpected wants.Name)
-list_head names the_end = Err Ended
+list_head names l = Err (refused wants.Name l)
 
 -- the name with which a node begins
 abbrev pub node_named : List ℕ → Result (Unit {0}) Complaint → Result (Option NodeItem) Complaint
@@ -62,8 +57,7 @@ abbrev pub node_head : NodeList → Lexeme → Result (Option NodeItem) Complain
 node_head s (word bytes) = node_named bytes (checked_name s.names bytes)
 node_head s open_bracket = if is_some s.pending then Ok (Some node_items.Place) else Err (Unexpected wants.Name)
 node_head s close_bracket = Ok None
-node_head s equals_sign = Err (Unexpected wants.Name)
-node_head s the_end = Err Ended
+node_head s l = Err (refused wants.Name l)
 
 -- ---- numbers
 
@@ -75,10 +69,8 @@ module_begun (Err c) = Err c
 -- what a token is between modules
 abbrev pub module_head : Lexeme → Result (Option ℕ) Complaint
 module_head (word bytes) = module_begun (number_test 6 (word bytes))
-module_head open_bracket = Err (Unexpected wants.Number)
 module_head close_bracket = Ok None
-module_head equals_sign = Err (Unexpected wants.Number)
-module_head the_end = Err Ended
+module_head l = Err (refused wants.Number l)
 
 -- it is `+` or `-`
 abbrev pub is_sign : ℕ → Bool
@@ -104,10 +96,7 @@ kept bytes (Err c) = Err c
 -- a coordinate is kept as its word
 abbrev pub coordinate_test : Lexeme → Result (List ℕ) Complaint
 coordinate_test (word bytes) = kept bytes (checked_coordinate bytes)
-coordinate_test open_bracket = Err (Unexpected wants.Number)
-coordinate_test close_bracket = Err (Unexpected wants.Number)
-coordinate_test equals_sign = Err (Unexpected wants.Number)
-coordinate_test the_end = Err Ended
+coordinate_test l = Err (refused wants.Number l)
 
 -- a hop limit, in links
 abbrev pub limited : Result ℕ Complaint → Result (Option ℕ) Complaint
@@ -117,10 +106,7 @@ limited (Err c) = Err c
 -- the word `UNLIMITED`, or the most links of a path
 abbrev pub hops_test : Lexeme → Result (Option ℕ) Complaint
 hops_test (word bytes) = if pointwise nat_eq bytes (codes "UNLIMITED") then Ok None else limited (number_test 0 (word bytes))
-hops_test open_bracket = Err (Unexpected wants.Number)
-hops_test close_bracket = Err (Unexpected wants.Number)
-hops_test equals_sign = Err (Unexpected wants.Number)
-hops_test the_end = Err Ended
+hops_test l = Err (refused wants.Number l)
 
 -- ---- sections
 
@@ -158,7 +144,5 @@ is_complete d = is_some d.nodes && is_some d.links && is_some d.demands
 -- A section begins with its name, and the text may end where the three sections are there.
 abbrev pub section_head : Draft → Lexeme → Result (Option Section) Complaint
 section_head d (word bytes) = section_begun d (section_named bytes)
-section_head d open_bracket = Err (Unexpected wants.Section)
-section_head d close_bracket = Err (Unexpected wants.Section)
-section_head d equals_sign = Err (Unexpected wants.Section)
 section_head d the_end = if is_complete d then Ok None else Err Ended
+section_head d l = Err (Unexpected wants.Section)

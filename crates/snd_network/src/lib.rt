@@ -10,6 +10,7 @@ mod file;
 pub mod laws;
 mod limits;
 mod lists;
+mod part;
 mod readers;
 mod reading;
 mod record;

@@ -1,17 +1,18 @@
 //! Readers of the lists of a network text.
 
-ghost use Rattle.std.specs.Prelude.{◌≡◌, false};
+ghost use Rattle.std.specs.Prelude.{◌≡◌, ◌≤◌, false, length, OnOk};
 ghost use Rattle.snd_reader.specs.Readers.{token};
 ghost use Rattle.snd_reader.specs.Faults.{Gives};
 ghost use Rattle.snd_reader.specs.Names.{is_among};
 ghost use Rattle.snd_network.specs.Tests.{list_head};
 ghost use Rattle.snd_network.specs.Grammar.{and_named, and_row, with_last};
-ghost use Rattle.snd_network.specs.Reading.{node_turn, node_place, node_item, node_list, nodes, link, demand, list_item, list_of};
+ghost use Rattle.snd_network.specs.Reading.{node_turn, node_place, node_item, node_list, nodes, list_item, list_of};
 ghost use Rattle.snd_network.specs.Steps.{IsNewItem, Makes};
 
-use crate::draft::{DemandDraft, LinkDraft, Named, NodeItem, NodeList, Table};
+use crate::draft::{Named, NodeItem, NodeList, Table};
 use crate::file::NodeRecord;
-use crate::readers::{coordinate, demand, link};
+use crate::part::Part;
+use crate::readers::coordinate;
 use crate::verdicts::{name_of, node_item_of};
 use snd_reader::{Cursor, Name, Names, Rows, TextFault};
 use std::alloc::Global;
@@ -38,7 +39,7 @@ fn node_name(list: &mut NodeList, alloc: Global, name: Name) -> Result<(), TextF
 }
 
 /// The place of the last name.
-#[tactic(auto, unfolding(crate::specs::Reading::node_place))]
+#[tactic(auto, using(snd_reader::proofs::Faults::through), unfolding(crate::specs::Reading::node_place))]
 fn node_place(cursor: &mut Cursor<'_>, alloc: Global, list: &mut NodeList) -> Result<(), TextFault>
     ensures gives { Gives (λ _. (list.new, cursor.new)) result (node_place list.old cursor.old) }
 {
@@ -133,70 +134,37 @@ fn push_named<T: Drop>(
     Ok(())
 }
 
-/// A link more.
-#[tactic(auto, unfolding(crate::specs::Reading::list_item))]
-fn link_item(
+/// An item more, whose name is read.
+#[tactic(auto, using(snd_reader::proofs::Faults::through), unfolding(crate::specs::Reading::list_item))]
+fn list_item<P: Part>(
     cursor: &mut Cursor<'_>,
     alloc: Global,
-    table: &mut Table<Named<LinkDraft>>,
+    table: &mut Table<Named<P>>,
     name: Name,
 ) -> Result<(), TextFault>
     requires { is_among table.old.names name ≡ false }
-    ensures gives { Gives (λ _. (table.new, cursor.new)) result (list_item link table.old name cursor.old) }
+    ensures gives { Gives (λ _. (table.new, cursor.new)) result (list_item P.reading table.old name cursor.old) }
+    ensures shorter { OnOk result (length cursor.new ≤ length cursor.old) }
 {
-    let part = link(cursor, alloc)?;
+    let part = P::read(cursor, alloc)?;
     push_named(table, alloc, name, part)
 }
 
-/// Links with different names, up to the bracket that closes them.
-pub(crate) fn links(
+/// Items with different names, up to the bracket that closes them.
+pub(crate) fn list_of<P: Part>(
     cursor: &mut Cursor<'_>,
     alloc: Global,
-) -> Result<Table<Named<LinkDraft>>, TextFault>
-    ensures gives { Gives (λ x. (x, cursor.new)) result (list_of link cursor.old) }
+) -> Result<Table<Named<P>>, TextFault>
+    ensures gives { Gives (λ x. (x, cursor.new)) result (list_of P.reading cursor.old) }
 {
     let mut table = Table {
         names: Names::new(alloc),
         rows: Rows::new(alloc),
     };
-    'links: loop {
+    'items: loop {
         let Some(name) = next_name(cursor, alloc, &table.names)? else {
             return Ok(table);
         };
-        link_item(cursor, alloc, &mut table, name)?;
-    }
-}
-
-/// A demand more.
-#[tactic(auto, unfolding(crate::specs::Reading::list_item))]
-fn demand_item(
-    cursor: &mut Cursor<'_>,
-    alloc: Global,
-    table: &mut Table<Named<DemandDraft>>,
-    name: Name,
-) -> Result<(), TextFault>
-    requires { is_among table.old.names name ≡ false }
-    ensures gives { Gives (λ _. (table.new, cursor.new)) result (list_item demand table.old name cursor.old) }
-{
-    let part = demand(cursor, alloc)?;
-    push_named(table, alloc, name, part)
-}
-
-/// Demands with different names, up to the bracket that closes them.
-pub(crate) fn demands(
-    cursor: &mut Cursor<'_>,
-    alloc: Global,
-) -> Result<Table<Named<DemandDraft>>, TextFault>
-    ensures gives { Gives (λ x. (x, cursor.new)) result (list_of demand cursor.old) }
-{
-    let mut table = Table {
-        names: Names::new(alloc),
-        rows: Rows::new(alloc),
-    };
-    'demands: loop {
-        let Some(name) = next_name(cursor, alloc, &table.names)? else {
-            return Ok(table);
-        };
-        demand_item(cursor, alloc, &mut table, name)?;
+        list_item(cursor, alloc, &mut table, name)?;
     }
 }

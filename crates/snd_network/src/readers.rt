@@ -71,6 +71,7 @@ fn modules(cursor: &mut Cursor<'_>, alloc: Global) -> Result<Items<(u64, u64)>, 
 }
 
 /// The two ends of a link or demand, in brackets.
+#[tactic(auto, using(snd_reader::proofs::Faults::through), unfolding(crate::specs::Reading::ends))]
 fn ends(cursor: &mut Cursor<'_>, alloc: Global) -> Result<(End, End), TextFault>
     ensures gives { Gives (λ x. (x, cursor.new)) result (ends cursor.old) }
 {
@@ -83,6 +84,7 @@ fn ends(cursor: &mut Cursor<'_>, alloc: Global) -> Result<(End, End), TextFault>
 
 /// The pre-installed capacity of a link with its cost, what routing and setting up cost, and the bracket
 /// before the modules.
+#[tactic(auto, using(snd_reader::proofs::Faults::through), unfolding(crate::specs::Reading::costs))]
 fn costs(cursor: &mut Cursor<'_>) -> Result<(u64, u64, u64, u64), TextFault>
     ensures gives { Gives (λ x. (x, cursor.new)) result (costs cursor.old) }
 {
@@ -95,6 +97,7 @@ fn costs(cursor: &mut Cursor<'_>) -> Result<(u64, u64, u64, u64), TextFault>
 }
 
 /// A link behind its name.
+#[tactic(auto, using(snd_reader::proofs::Faults::through), unfolding(crate::specs::Reading::link))]
 pub(crate) fn link(cursor: &mut Cursor<'_>, alloc: Global) -> Result<LinkDraft, TextFault>
     ensures gives { Gives (λ x. (x, cursor.new)) result (link cursor.old) }
 {
@@ -113,6 +116,7 @@ pub(crate) fn link(cursor: &mut Cursor<'_>, alloc: Global) -> Result<LinkDraft, 
 }
 
 /// A demand behind its name.
+#[tactic(auto, using(snd_reader::proofs::Faults::through), unfolding(crate::specs::Reading::demand))]
 pub(crate) fn demand(cursor: &mut Cursor<'_>, alloc: Global) -> Result<DemandDraft, TextFault>
     ensures gives { Gives (λ x. (x, cursor.new)) result (demand cursor.old) }
 {

@@ -7,12 +7,13 @@ ghost use Rattle.snd_network.specs.Tests.{is_complete};
 ghost use Rattle.snd_network.specs.Reading.{section_turn, section, network};
 
 use crate::draft::{Draft, Section};
-use crate::lists::{demands, links, nodes};
+use crate::lists::{list_of, nodes};
 use crate::verdicts::section_of;
 use snd_reader::{Cursor, TextFault, skip};
 use std::alloc::Global;
 
 /// A section behind its name.
+#[tactic(auto, using(snd_reader::proofs::Faults::through, crate::proofs::Opened::section_opens), unfolding(crate::specs::Reading::section))]
 fn section(
     cursor: &mut Cursor<'_>,
     alloc: Global,
@@ -24,8 +25,8 @@ fn section(
     cursor.open()?;
     match kind {
         Section::Nodes => draft.nodes = Some(nodes(cursor, alloc)?),
-        Section::Links => draft.links = Some(links(cursor, alloc)?),
-        Section::Demands => draft.demands = Some(demands(cursor, alloc)?),
+        Section::Links => draft.links = Some(list_of(cursor, alloc)?),
+        Section::Demands => draft.demands = Some(list_of(cursor, alloc)?),
         Section::Meta => {
             skip(cursor)?;
             draft.has_meta = true;

@@ -20,10 +20,8 @@ pub nodes-smaller : goal.nodes-smaller
 nodes-smaller c = turn_shorter node_turn node_item NodeForm live_node c.nodes.list c.node_item.new.list c.in-Some.item c.nodes.cursor c.next_node.new.cursor c.node_item.new.cursor (rw c.in-Some.is at c.in_ok-item.ensures.gives) c.in_ok-node_item.ensures.gives
 
 pub nodes-preserved : goal.nodes-preserved
-nodes-preserved c =
-    let head = rw c.in-Some.is at c.in_ok-item.ensures.gives in
-    let shorter = turn_shorter node_turn node_item NodeForm live_node c.nodes.list c.node_item.new.list c.in-Some.item c.nodes.cursor c.next_node.new.cursor c.node_item.new.cursor head c.in_ok-node_item.ensures.gives in
-    goes_on node_turn node_item (node_list c.args.cursor.now) c.nodes.list c.node_item.new.list c.nodes.cursor c.next_node.new.cursor c.node_item.new.cursor c.in-Some.item c.nodes.invariant head c.in_ok-node_item.ensures.gives shorter
+nodes-preserved c = goes_on node_turn node_item (node_list c.args.cursor.now)
+    c.nodes.list c.node_item.new.list c.nodes.cursor c.next_node.new.cursor c.node_item.new.cursor c.in-Some.item c.nodes.invariant (rw c.in-Some.is at c.in_ok-item.ensures.gives) c.in_ok-node_item.ensures.gives (nodes-smaller c)
 
 pub returns-in_err-node_item : goal.returns-in_err-node_item
 returns-in_err-node_item c =

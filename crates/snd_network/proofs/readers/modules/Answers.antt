@@ -22,10 +22,8 @@ pairs-smaller c = turn_shorter module_turn module_item ModuleForm live_module c.
     c.in-Some.capacity c.pairs.cursor c.next_capacity.new.cursor c.module_item.new.cursor (rw c.in-Some.is at c.in_ok-capacity.ensures.gives) c.in_ok-module_item.ensures.gives
 
 pub pairs-preserved : goal.pairs-preserved
-pairs-preserved c =
-    let head = rw c.in-Some.is at c.in_ok-capacity.ensures.gives in
-    let shorter = turn_shorter module_turn module_item ModuleForm live_module c.pairs.modules.items c.module_item.new.modules.items c.in-Some.capacity c.pairs.cursor c.next_capacity.new.cursor c.module_item.new.cursor head c.in_ok-module_item.ensures.gives in
-    goes_on module_turn module_item (modules c.args.cursor.now) c.pairs.modules.items c.module_item.new.modules.items c.pairs.cursor c.next_capacity.new.cursor c.module_item.new.cursor c.in-Some.capacity c.pairs.invariant head c.in_ok-module_item.ensures.gives shorter
+pairs-preserved c = goes_on module_turn module_item (modules c.args.cursor.now)
+    c.pairs.modules.items c.module_item.new.modules.items c.pairs.cursor c.next_capacity.new.cursor c.module_item.new.cursor c.in-Some.capacity c.pairs.invariant (rw c.in-Some.is at c.in_ok-capacity.ensures.gives) c.in_ok-module_item.ensures.gives (pairs-smaller c)
 
 pub returns-in_err-module_item : goal.returns-in_err-module_item
 returns-in_err-module_item c =

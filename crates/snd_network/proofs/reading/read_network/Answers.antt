@@ -15,20 +15,15 @@ returns-in_err-draft-clause-fault_only c =
     let p = err_from_is_err_and c.from_residual.result c.from_residual.ensures.1 in
     rw (p.1, p.2) (only_fault c.args.text.now (Err _) tt c.in_err-draft.ensures.fault)
 
-pub returns-clause-value_only : goal.returns-clause-value_only
-returns-clause-value_only c =
+pub returns : goal.returns
+returns c =
     let text = c.args.text.now in
-    let draft = c.in_ok-draft.draft in
-    let spelt = c.in_ok-draft.ensures.value in
-    only_file text c.file_of.result (spelt_network text draft c.file_of.result spelt c.file_of.ensures.found) (unknown_told text draft c.file_of.result spelt c.file_of.ensures.unknown)
-
-pub returns-clause-fault_only : goal.returns-clause-fault_only
-returns-clause-fault_only c =
-    let text = c.args.text.now in
-    let draft = c.in_ok-draft.draft in
-    let spelt = c.in_ok-draft.ensures.value in
-    only_fault text c.file_of.result (spelt_network text draft c.file_of.result spelt c.file_of.ensures.found) (unknown_told text draft c.file_of.result spelt c.file_of.ensures.unknown)
-
-pub returns-clause-formed : goal.returns-clause-formed
-returns-clause-formed c =
-    read_formed c.args.text.now c.file_of.result c.requires.length (spelt_network c.args.text.now c.in_ok-draft.draft c.file_of.result c.in_ok-draft.ensures.value c.file_of.ensures.found)
+    let spelt = spelt_network text c.in_ok-draft.draft c.file_of.result c.in_ok-draft.ensures.value c.file_of.ensures.found in
+    let told = unknown_told text c.in_ok-draft.draft c.file_of.result c.in_ok-draft.ensures.value c.file_of.ensures.unknown in
+    record {
+      value = spelt;
+      value_only = only_file text c.file_of.result spelt told;
+      formed = read_formed text c.file_of.result c.requires.length spelt;
+      fault = told;
+      fault_only = only_fault text c.file_of.result spelt told;
+    }

@@ -14,7 +14,7 @@ pub returns-in_err-demands-clause-unknown : goal.returns-in_err-demands-clause-u
 returns-in_err-demands-clause-unknown c =
     let there = c.in-Some-Some-Some in
     let p = err_from_is_err_and c.from_residual-in_err-demands.result c.from_residual-in_err-demands.ensures.1 in
-    rw (p.1, p.2) (demands_unknown c.args.draft there.nodes there.links there.demands _ c.in_ok-links.links _ _ there.is-0 there.is-1 there.is-2 c.into_vec.ensures c.into_vec-2.ensures c.in_ok-links.ensures.found c.in_err-demands.ensures.unknown)
+    rw (p.1, p.2) (demands_unknown c.args.draft there.nodes there.links there.demands _ _ _ there.is-0 there.is-1 there.is-2 c.into_vec.ensures c.into_vec-2.ensures c.in_ok-links.ensures.known c.in_err-demands.ensures.unknown)
 
 pub returns-clause-found : goal.returns-clause-found
 returns-clause-found c =

@@ -20,10 +20,8 @@ pub sections-smaller : goal.sections-smaller
 sections-smaller c = turn_shorter section_turn section SectionForm live_section c.sections.draft c.section.new.draft c.in-Some.kind c.sections.cursor c.next_section.new.cursor c.section.new.cursor (rw c.in-Some.is at c.in_ok-kind.ensures.gives) c.in_ok-section.ensures.gives
 
 pub sections-preserved : goal.sections-preserved
-sections-preserved c =
-    let head = rw c.in-Some.is at c.in_ok-kind.ensures.gives in
-    let shorter = turn_shorter section_turn section SectionForm live_section c.sections.draft c.section.new.draft c.in-Some.kind c.sections.cursor c.next_section.new.cursor c.section.new.cursor head c.in_ok-section.ensures.gives in
-    goes_on section_turn section (network c.args.cursor.now) c.sections.draft c.section.new.draft c.sections.cursor c.next_section.new.cursor c.section.new.cursor c.in-Some.kind c.sections.invariant head c.in_ok-section.ensures.gives shorter
+sections-preserved c = goes_on section_turn section (network c.args.cursor.now)
+    c.sections.draft c.section.new.draft c.sections.cursor c.next_section.new.cursor c.section.new.cursor c.in-Some.kind c.sections.invariant (rw c.in-Some.is at c.in_ok-kind.ensures.gives) c.in_ok-section.ensures.gives (sections-smaller c)
 
 pub returns-in_err-section-clause-gives : goal.returns-in_err-section-clause-gives
 returns-in_err-section-clause-gives c =
