@@ -28,27 +28,17 @@ place_of keys.Path = 5
 place_of keys.Hop = 6
 place_of keys.Survivability = 7
 
-at_place : (key : Key) → get_or all_keys (place_of key) keys.Demand ≡ key
+-- each key stands in its place
+in_place : (key : Key) → (place_of key < length all_keys) × (get_or all_keys (place_of key) keys.Demand ≡ key)
 unfolding place_of
-at_place keys.Demand = refl
-at_place keys.Link = refl
-at_place keys.Capacity = refl
-at_place keys.FixedCharge = refl
-at_place keys.Routing = refl
-at_place keys.Path = refl
-at_place keys.Hop = refl
-at_place keys.Survivability = refl
-
-place_within : (key : Key) → place_of key < length all_keys
-unfolding place_of
-place_within keys.Demand = omega arith
-place_within keys.Link = omega arith
-place_within keys.Capacity = omega arith
-place_within keys.FixedCharge = omega arith
-place_within keys.Routing = omega arith
-place_within keys.Path = omega arith
-place_within keys.Hop = omega arith
-place_within keys.Survivability = omega arith
+in_place keys.Demand = (omega arith, refl)
+in_place keys.Link = (omega arith, refl)
+in_place keys.Capacity = (omega arith, refl)
+in_place keys.FixedCharge = (omega arith, refl)
+in_place keys.Routing = (omega arith, refl)
+in_place keys.Path = (omega arith, refl)
+in_place keys.Hop = (omega arith, refl)
+in_place keys.Survivability = (omega arith, refl)
 
 -- the test of a value, by its result
 planned_from_none : (m : ModelFile) (key : Key) (b : Bool) → is_planned (setting_of m key) ≡ b → outside_fault m key ≡ None → is_planned (setting_of m key) ≡ true
@@ -83,7 +73,7 @@ found_by m key e false is found =
 planned_all : (m : ModelFile) → value_fault m ≡ None → AreAllPlanned m
 unfolding value_fault
 planned_all m none key =
-    none_outside m key (sym (ap (outside_fault m) (at_place key)) ∙ first_in-none (λ _ k. outside_fault m k) all_keys none (place_of key) keys.Demand (place_within key))
+    none_outside m key (sym (ap (outside_fault m) (in_place key).1) ∙ first_in-none (λ _ k. outside_fault m k) all_keys none (place_of key) keys.Demand (in_place key).0)
 
 all_planned : (m : ModelFile) → AreAllPlanned m → value_fault m ≡ None
 unfolding value_fault

@@ -1,6 +1,7 @@
 //! Why two files stand for no instance that can be planned.
 
 ghost use Rattle.std.specs.Prelude.{◌≡◌};
+ghost use Rattle.model_check.specs.declared.fault.CheckFault.TheVariants.{OutOfMemory};
 ghost use Rattle.model_check.specs.Telling.{as_check_fault};
 
 use plan_base::BuildFault;
@@ -35,9 +36,6 @@ impl From<BuildFault> for CheckFault {
 }
 
 impl From<AllocError> for CheckFault {
-    ghost use Rattle.std.specs.Prelude.{◌≡◌};
-    ghost use Rattle.model_check.specs.declared.fault.CheckFault.TheVariants.{OutOfMemory};
-
     ghost from_gives = { λ _ e. e ≡ OutOfMemory };
 
     fn from(_e: AllocError) -> CheckFault {
