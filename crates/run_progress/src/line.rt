@@ -1,6 +1,7 @@
 //! The words of the line.
 
 ghost use Rattle.std.specs.Prelude.{◌≡◌, ◌++◌, decimal, OnOk, IfOk};
+ghost use Rattle.scaled_numbers.specs.Canonical.{grains_text};
 ghost use Rattle.run_progress.specs.Lines.{best_cost_text, search_bound_text, time_text, search_text, standing_text, progress_text};
 
 use itoa::Buffer;
@@ -18,15 +19,20 @@ fn push_number(text: &mut Vec<u8>, number: u64) -> Result<(), AllocError>
     text.extend_from_slice(Buffer::new().format(number).as_bytes())
 }
 
+/// Writes words and a cost, in the unit of a network file.
+fn push_amount(text: &mut Vec<u8>, words: &[u8], amount: u128) -> Result<(), AllocError>
+    ensures { OnOk result (text.new.items ≡ text.old.items ++ words.now ++ grains_text amount COST_SCALE) }
+{
+    text.extend_from_slice(words)?;
+    write_grains(amount, COST_SCALE, text)
+}
+
 /// Writes the cost of the best design, in the unit of a network file, or that there is no design.
 fn push_cost(text: &mut Vec<u8>, cost: Option<u128>) -> Result<(), AllocError>
     ensures { OnOk result (text.new.items ≡ text.old.items ++ best_cost_text cost) }
 {
     match cost {
-        Some(cost) => {
-            text.extend_from_slice(b"best cost ")?;
-            write_grains(cost, COST_SCALE, text)
-        }
+        Some(cost) => push_amount(text, b"best cost ", cost),
         None => text.extend_from_slice(b"no design yet"),
     }
 }
@@ -36,10 +42,7 @@ fn push_bound(text: &mut Vec<u8>, bound: Option<u128>) -> Result<(), AllocError>
     ensures { OnOk result (text.new.items ≡ text.old.items ++ search_bound_text bound) }
 {
     match bound {
-        Some(bound) => {
-            text.extend_from_slice(b", bound ")?;
-            write_grains(bound, COST_SCALE, text)
-        }
+        Some(bound) => push_amount(text, b", bound ", bound),
         None => Ok(()),
     }
 }
