@@ -1,16 +1,16 @@
 //! Numbers read as prices of places and rates of cuts.
 
-ghost use Rattle.std.specs.Prelude.{◌≡◌, ◌<◌, ◌≤◌, ◌*◌, ◌+◌, ◌++◌, length, replicate, slice_index, IfOk, nat_lt, if◌then◌else◌};
+ghost use Rattle.std.specs.Prelude.{◌≡◌, ◌<◌, ◌≤◌, ◌*◌, ◌+◌, ◌++◌, length, replicate, IfOk, nat_lt, if◌then◌else◌};
 ghost use Rattle.plan_base.specs.declared.limits.TheConstants.{MAX_PRICED_LOAD};
 ghost use Rattle.plan_base.specs.Arcs.{link_at};
-ghost use Rattle.plan_base.specs.Places.{places, link_of_place, there_of, back_of};
+ghost use Rattle.plan_base.specs.Places.{places, link_of_place};
 ghost use Rattle.proof_tree.specs.declared.limits.TheConstants.{MAX_CUTS};
 ghost use Rattle.proof_tree.specs.RatedEvidence.{rates_in};
 ghost use Rattle.arc_restrict.specs.Prices.{AreWithinLimit};
 ghost use Rattle.cut_table.specs.Crossings.{rates_on, AreNumbered};
 
 use crate::crossing::Crossing;
-use plan_base::{Instance, LinkId, LinkPrices, Prices};
+use plan_base::{Instance, Prices};
 use std::alloc::AllocError;
 
 /// The rates of cuts, which stand behind the prices of places.
@@ -33,28 +33,6 @@ pub fn with_no_rates(prices: Prices, rates: usize) -> Result<Prices, AllocError>
     let count = numbers.len().checked_add(rates).ok_or(AllocError)?;
     numbers.resize(count, 0)?;
     Ok(Prices::from_vec(numbers))
-}
-
-/// The prices of the places of a link.
-pub fn prices_of_link(inst: &Instance, numbers: &[u128], link: LinkId) -> LinkPrices
-    requires numbers { places inst.now ≤ length numbers.now }
-    requires link { link.0 < length inst.now.links }
-    ensures there { result.there ≡ there_of inst.now (slice_index numbers.now) link.0 }
-    ensures back { result.back ≡ back_of inst.now (slice_index numbers.now) link.0 }
-{
-    inst.lawful();
-    let number = link.0 as usize;
-    if inst.orient().is_two_way() {
-        LinkPrices {
-            there: numbers[2 * number],
-            back: numbers[2 * number + 1],
-        }
-    } else {
-        LinkPrices {
-            there: numbers[number],
-            back: 0,
-        }
-    }
 }
 
 /// The rates of the cuts of a row together, in thousandths of a cost grain per counted grain.

@@ -16,7 +16,7 @@ ghost use Rattle.cut_table.specs.LinkValues.{IsNumbersValue, AreFirstNumbersLoad
 ghost use Rattle.cut_table.specs.Crossings.{crossings_on, crossings_there, crossings_back, used, AreNumbered};
 
 use crate::crossing::{Crossing, crossing_rows};
-use crate::numbers::{least_price, prices_of_link, rates_of, rates_on, with_no_rates};
+use crate::numbers::{least_price, rates_of, rates_on, with_no_rates};
 use crate::rated_rows::{RatedRows, empty_rows, put_used};
 use link_steps::{LinkRanges, LinkValue, Ranges, StepTable, tally};
 use plan_base::{Instance, Items, LinkId, LinkPrices, Prices};
@@ -272,7 +272,7 @@ impl CutTable {
         ensures back { result.back ≡ back_of self.now.problem (slice_index numbers.now) link.0 }
         ensures one_way { is_two_way self.now.problem.orient ≡ false → result.back ≡ 0 }
     {
-        prices_of_link(self.instance(), numbers.as_slice(), link)
+        LinkPrices::of_link(self.instance(), numbers.as_slice(), link)
     }
 
     /// Puts the cuts that the places of a link cross and whose rate is above 0, each with its rate, over what rows have.

@@ -1,7 +1,7 @@
 //! What the columns and the values put on the places.
 
 ghost use Rattle.std.specs.Prelude.{ℕ, ◌≡◌, ◌<◌, ◌≤◌, ◌+◌, false, length, slice_index, if◌then◌else◌};
-ghost use Rattle.plan_base.specs.declared.limits.TheConstants.{MAX_TOTAL_LOAD};
+ghost use Rattle.plan_base.specs.declared.limits.TheConstants.{MAX_PLACES};
 ghost use Rattle.plan_base.specs.Facts.{total_load};
 ghost use Rattle.plan_base.specs.Places.{is_two_way, places, there_of, back_of};
 ghost use Rattle.plan_base.specs.Paths.{uses_place};
@@ -13,22 +13,7 @@ ghost use Rattle.master_step.specs.Choosing.{allowed_of, AreWithinLimit, HasColu
 use crate::source::Source;
 use cut_table::CutTable;
 use link_steps::Ranges;
-use plan_base::limits::MAX_PLACES;
-use plan_base::{ArcId, DemandId, Instance, LinkId, Prices};
-
-/// Adds the load to each place of the path.
-fn add_load(inst: &Instance, loads: &mut [u128], arcs: &[ArcId], load: u128)
-    requires size { length loads.old ≡ MAX_PLACES }
-    requires once { HasPlacesOnce inst.now MAX_PLACES arcs.now }
-    requires load { load ≤ MAX_TOTAL_LOAD }
-    requires loads { (q : ℕ) → q < MAX_PLACES → slice_index loads.old q ≤ MAX_TOTAL_LOAD }
-    ensures { (q : ℕ) → q < MAX_PLACES → slice_index loads.new q
-        ≡ slice_index loads.old q + (if uses_place inst.now q arcs.now then load else 0) }
-{
-    for arc in arcs {
-        loads[inst.place(*arc) as usize] += load;
-    }
-}
+use plan_base::{DemandId, Instance, LinkId, Prices, add_load};
 
 /// Writes what the least columns put on each place, in load grains.
 pub fn fill_column_loads(inst: &Instance, prices: &Prices, source: &Source<'_>, loads: &mut [u128])

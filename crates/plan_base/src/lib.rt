@@ -7,6 +7,7 @@
 //! designs, prices and bounds is left to the crates above.
 #![tactic(auto)]
 
+mod both;
 mod build_fault;
 mod check;
 mod design_fault;
@@ -28,7 +29,7 @@ pub use check::{capacity_with, check_design, module_cost_with};
 pub use design_fault::DesignFault;
 pub use ids::{ArcId, BranchId, DemandId, LinkId, NodeId};
 pub use instance::Instance;
-pub use loads::{LinkLoads, loads_of};
+pub use loads::{LinkLoads, add_load, loads_of};
 pub use parts::{CountLaw, Demand, Link, Module, Orient, Parts};
 pub use path::{Design, Path};
 pub use prices::{LinkPrices, Prices};

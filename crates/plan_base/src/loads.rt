@@ -8,13 +8,19 @@ ghost use Rattle.plan_base.specs.Places.{there_of, back_of};
 ghost use Rattle.plan_base.specs.Designs.{path_at, load_at, need, carried};
 ghost use Rattle.plan_base.specs.Walks.{HasPlacesOnce};
 
+use crate::both::both_of;
 use crate::ids::{ArcId, DemandId, LinkId};
 use crate::instance::Instance;
 use crate::limits::{MAX_PLACES, MAX_TOTAL_LOAD};
 use crate::path::Design;
 
-/// Adds the load to each place of the path.
-fn add_load(inst: &Instance, loads: &mut [u128; MAX_PLACES], arcs: &[ArcId], load: u128)
+/// Adds a load to each place of a path, in load grains. Takes no memory.
+///
+/// - Takes: one load for each place that an instance may have, none above the greatest total load, and a load of at most
+///   that; a path that has no place twice.
+/// - Time: linear in the arcs.
+pub fn add_load(inst: &Instance, loads: &mut [u128], arcs: &[ArcId], load: u128)
+    requires size { length loads.old ≡ MAX_PLACES }
     requires once { HasPlacesOnce inst.now MAX_PLACES arcs.now }
     requires load { load ≤ MAX_TOTAL_LOAD }
     requires loads { (q : ℕ) → q < MAX_PLACES → slice_index loads.old q ≤ MAX_TOTAL_LOAD }
@@ -66,19 +72,9 @@ impl LinkLoads {
         ensures there { result.there ≡ there_of inst.now (slice_index loads.now) link.0 }
         ensures back { result.back ≡ back_of inst.now (slice_index loads.now) link.0 }
     {
-        inst.lawful();
-        let number = link.0 as usize;
-        if inst.orient().is_two_way() {
-            LinkLoads {
-                there: loads[2 * number],
-                back: loads[2 * number + 1],
-            }
-        } else {
-            LinkLoads {
-                there: loads[number],
-                back: 0,
-            }
-        }
+        let _places = inst.places();
+        let (there, back) = both_of(inst, loads, link);
+        LinkLoads { there, back }
     }
 
     /// The larger one: the capacity that the link needs.

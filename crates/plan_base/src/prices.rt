@@ -4,6 +4,7 @@ ghost use Rattle.std.specs.Prelude.{◌≡◌, ◌<◌, ◌≤◌, ◌↔◌, le
 ghost use Rattle.plan_base.specs.Facts.{price_limit};
 ghost use Rattle.plan_base.specs.Places.{places, there_of, back_of};
 
+use crate::both::both_of;
 use crate::ids::LinkId;
 use crate::instance::Instance;
 use std::alloc::AllocError;
@@ -24,6 +25,22 @@ pub struct LinkPrices {
     pub there: u128,
     /// That of its other place, the one of its arc back, and 0 where it has one place.
     pub back: u128,
+}
+
+impl LinkPrices {
+    /// The prices of a link's places, from those of all places, behind which other numbers may stand. Takes no memory.
+    ///
+    /// - Rule: docs/DEFINITIONS.md, "Places".
+    /// - Time: constant.
+    pub fn of_link(inst: &Instance, numbers: &[u128], link: LinkId) -> LinkPrices
+        requires numbers { places inst.now ≤ length numbers.now }
+        requires link { link.0 < length inst.now.links }
+        ensures there { result.there ≡ there_of inst.now (slice_index numbers.now) link.0 }
+        ensures back { result.back ≡ back_of inst.now (slice_index numbers.now) link.0 }
+    {
+        let (there, back) = both_of(inst, numbers, link);
+        LinkPrices { there, back }
+    }
 }
 
 impl Model for Prices {
@@ -104,19 +121,7 @@ impl Prices {
         ensures there { result.there ≡ there_of inst.now (slice_index self.now) link.0 }
         ensures back { result.back ≡ back_of inst.now (slice_index self.now) link.0 }
     {
-        inst.lawful();
-        let number = link.0 as usize;
-        if inst.orient().is_two_way() {
-            LinkPrices {
-                there: self.numerators[2 * number],
-                back: self.numerators[2 * number + 1],
-            }
-        } else {
-            LinkPrices {
-                there: self.numerators[number],
-                back: 0,
-            }
-        }
+        LinkPrices::of_link(inst, self.as_slice(), link)
     }
 
     /// Whether there is one price for each place and none is above the price limit.
