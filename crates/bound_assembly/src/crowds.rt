@@ -4,35 +4,14 @@ ghost use Rattle.std.specs.Prelude.{◌≡◌, ◌<◌, ◌≤◌, ◌↔◌, fa
 ghost use Rattle.plan_base.specs.Facts.{is_useful};
 ghost use Rattle.plan_base.specs.Arcs.{link_at};
 ghost use Rattle.plan_base.specs.Places.{places, link_of_place};
-ghost use Rattle.proof_tree.specs.Evidence.{is_cut_short, room_at};
+ghost use Rattle.proof_tree.specs.Evidence.{is_cut_short};
 ghost use Rattle.bound_assembly.specs.Rounds.{left_in};
 ghost use Rattle.bound_assembly.specs.RoundBounds.{AreShort, AreFree, priced_room, IsRoundCrowd};
 
 use crate::totals::price_total;
 use link_steps::Ranges;
 use plan_base::{Instance, Prices};
-
-/// Whether the range of a place ends below the top load of its link.
-fn is_cut_short(inst: &Instance, ranges: &Ranges, place: u32) -> bool
-    requires ranges { length ranges.now ≡ places inst.now }
-    requires place { place < places inst.now }
-    ensures { result ≡ is_cut_short inst.now ranges.now place }
-{
-    ranges.at(place).most < inst.top_load(inst.link_of_place(place))
-}
-
-/// What a place carries at most where no module is added, in load grains.
-fn room_at(inst: &Instance, ranges: &Ranges, place: u32) -> u64
-    requires ranges { length ranges.now ≡ places inst.now }
-    requires place { place < places inst.now }
-    ensures { result ≡ room_at inst.now ranges.now place }
-{
-    if is_cut_short(inst, ranges, place) {
-        ranges.at(place).most
-    } else {
-        inst.link(inst.link_of_place(place)).pre
-    }
-}
+use proof_tree::{is_cut_short, room_at};
 
 /// Whether a price is 0, if the place's link has a module with capacity and its range ends at the top load.
 fn is_free(inst: &Instance, ranges: &Ranges, place: u32, price: u128) -> bool

@@ -10,7 +10,7 @@ use Rattle.plan_base.specs.declared.limits.TheConstants.{MAX_LINKS, MAX_PRICED_L
 use Rattle.plan_base.specs.Sums.{int_sum_below}
 use Rattle.plan_base.specs.Places.{there_of, back_of}
 use Rattle.link_steps.specs.declared.range.LoadRange.{LoadRange}
-use Rattle.link_steps.specs.Values.{ranges_of_link, IsLinkValue, HasValueTotal, IsValueTotal}
+use Rattle.link_steps.specs.Values.{ranges_of_link, IsLinkValue, IsValueTotal}
 
 -- the values with one at a place
 abbrev pub with_value : (ℕ → ℤ) → ℕ → ℤ → ℕ → ℤ
@@ -29,24 +29,24 @@ int_sum_below-same f g (suc n) h = ap (λ x. x +ℤ f n) (int_sum_below-same f g
 either_way : (x y : ℕ) → (x ≤ y) ⊎ (y < x)
 either_way x y = grind arith
 
--- the value of one link more
-has_next : (p : Parts) (ranges : List LoadRange) (prices : List ℕ) (place : ℕ) (total value : ℤ) → HasValueTotal p ranges prices place total
-    → IsLinkValue p place (ranges_of_link p ranges place) (there_of p (slice_index prices) place) (back_of p (slice_index prices) place) value → HasValueTotal p ranges prices (suc place) (total +ℤ value)
-has_next p ranges prices place total value has is =
-    record {
-      values = with_value has.values place value;
-      are_values = λ e below. elim (either_way place e) [
-        | inl last ↦ (let here : e ≡ place = omega arith in rw (here, with_value-here has.values place value) is)
-        | inr before ↦ rw (with_value-other has.values place value e (omega arith)) (has.are_values e before)
-      ];
-      is_sum = ap (λ x. x +ℤ with_value has.values place value place) (int_sum_below-same (with_value has.values place value) has.values place (λ i below. with_value-other has.values place value i (omega arith)) ∙ has.is_sum)
-          ∙ ap (λ x. total +ℤ x) (with_value-here has.values place value);
-    }
+-- with the value of one link more, the values of the links before have this sum
+pub values-next : (IsValue : ℕ → ℤ → Type 0) (values : ℕ → ℤ) (place : ℕ) (total value : ℤ) → ((e : ℕ) → e < place → IsValue e (values e)) → int_sum_below values place ≡ total → IsValue place value
+    → ((e : ℕ) → e < suc place → IsValue e (with_value values place value e)) × (int_sum_below (with_value values place value) (suc place) ≡ total +ℤ value)
+values-next IsValue values place total value are_values is_sum is = (
+  (λ e below. elim (either_way place e) [
+    | inl last ↦ (let here : e ≡ place = omega arith in rw (here, with_value-here values place value) is)
+    | inr before ↦ rw (with_value-other values place value e (omega arith)) (are_values e before)
+  ]),
+  ap (λ x. x +ℤ with_value values place value place) (int_sum_below-same (with_value values place value) values place (λ i below. with_value-other values place value i (omega arith)) ∙ is_sum)
+      ∙ ap (λ x. total +ℤ x) (with_value-here values place value),
+)
 
-down : (count : ℕ) (total value : ℤ) → (pos 0 -ℤ pos (count * (2 * MAX_PRICED_LOAD))) ≤ℤ total → (pos 0 -ℤ pos (2 * MAX_PRICED_LOAD)) ≤ℤ value → (pos 0 -ℤ pos (suc count * (2 * MAX_PRICED_LOAD))) ≤ℤ (total +ℤ value)
+-- a sum far below 0 for no more than its links is so with one value more
+pub down : (count : ℕ) (total value : ℤ) → (pos 0 -ℤ pos (count * (2 * MAX_PRICED_LOAD))) ≤ℤ total → (pos 0 -ℤ pos (2 * MAX_PRICED_LOAD)) ≤ℤ value → (pos 0 -ℤ pos (suc count * (2 * MAX_PRICED_LOAD))) ≤ℤ (total +ℤ value)
 down count total value before here = omega (arith, ints)
 
-up : (count : ℕ) (total value : ℤ) → total ≤ℤ pos (count * MAX_PRICED_LOAD) → value ≤ℤ pos MAX_PRICED_LOAD → (total +ℤ value) ≤ℤ pos (suc count * MAX_PRICED_LOAD)
+-- a sum far above 0 for no more than its links is so with one value more
+pub up : (count : ℕ) (total value : ℤ) → total ≤ℤ pos (count * MAX_PRICED_LOAD) → value ≤ℤ pos MAX_PRICED_LOAD → (total +ℤ value) ≤ℤ pos (suc count * MAX_PRICED_LOAD)
 up count total value before here = omega (arith, ints)
 
 -- the sum with the value of the next link is the value total of one link more
@@ -54,8 +54,9 @@ pub total_next : (p : Parts) (ranges : List LoadRange) (prices : List ℕ) (plac
     → IsLinkValue p place (ranges_of_link p ranges place) (there_of p (slice_index prices) place) (back_of p (slice_index prices) place) value
     → value ≤ℤ pos MAX_PRICED_LOAD → (pos 0 -ℤ pos (2 * MAX_PRICED_LOAD)) ≤ℤ value → IsValueTotal p ranges prices (place + 1) (total +ℤ value)
 total_next p ranges prices place total value before is not_above bounded =
+    let next = values-next (λ e x. IsLinkValue p e (ranges_of_link p ranges e) (there_of p (slice_index prices) e) (back_of p (slice_index prices) e) x) before.has.values place total value before.has.are_values before.has.is_sum is in
     rw add-one (record {
-      has = has_next p ranges prices place total value before.has is;
+      has = record { values = with_value before.has.values place value; are_values = next.0; is_sum = next.1 };
       not_above = up place total value before.not_above not_above;
       bounded = down place total value before.bounded bounded;
     })

@@ -8,12 +8,13 @@ use Rattle.plan_base.specs.Arcs.{link_at}
 use Rattle.plan_base.specs.Places.{is_two_way, places, link_of_place, there_of, back_of}
 use Rattle.link_steps.specs.declared.rated.Rated.{Rated}
 use Rattle.link_steps.specs.declared.range.LoadRange.{LoadRange}
+use Rattle.link_steps.specs.Ranges.{AreRanges}
 use Rattle.link_steps.specs.Tallies.{rate_total}
 use Rattle.link_steps.specs.Values.{ranges_of_link}
 use Rattle.link_steps.specs.WorthValues.{IsWorthValue}
 use Rattle.arc_restrict.specs.Prices.{AreWithinLimit}
 use Rattle.proof_tree.specs.declared.cuts.Cut.{Cut}
-use Rattle.proof_tree.specs.Cuts.{place_crosses, batch_of, least_count, cut_at}
+use Rattle.proof_tree.specs.Cuts.{place_crosses, batch_of, least_count, cut_at, AreCuts, AreRests}
 use Rattle.proof_tree.specs.Regions.{Region}
 use Rattle.proof_tree.specs.Bounds.{IsThousandthUp, AreLeastPrices, price_total}
 
@@ -53,6 +54,15 @@ pub record AreRatedPrices (p : Parts) (cuts : List Cut) (prices rates : List ℕ
   pub prices_within : AreWithinLimit p prices
   pub rates_within : AreWithinLimit p rates
   pub each : (q : ℕ) → q < places p → IsRatedPrice p cuts (slice_index prices q) rates q
+
+-- ranges, cuts with what crosses them beyond what they leave out, prices and rates fit the instance
+pub record FitRated (p : Parts) (ranges : List LoadRange) (cuts : List Cut) (rests prices rates : List ℕ) : Type 0 where
+  pub are_ranges : AreRanges p ranges
+  pub are_cuts : AreCuts p cuts
+  pub are_rests : AreRests p cuts rests
+  pub are_rated : AreRatedPrices p cuts prices rates
+  pub price_count : places p ≤ length prices
+  pub rate_count : length rates ≡ length cuts
 
 -- the value of a link, at one range and one price for each place and one rate for each cut
 abbrev pub IsRatedValue : Parts → List Cut → List LoadRange → List ℕ → List ℕ → ℕ → ℤ → Type 0

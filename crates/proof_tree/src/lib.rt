@@ -12,13 +12,17 @@ mod fitting;
 pub mod laws;
 pub mod limits;
 mod plan;
+mod rated_numbers;
 mod rates;
+mod rooms;
 mod shared;
 mod totals;
 mod tree;
 
 pub use cuts::{Cut, is_cut_list, is_new};
 pub use plan::{Plan, PlanStatus};
-pub use rates::{are_rated_prices, are_within_limit, put_rated, rests_of};
+pub use rated_numbers::RatedNumbers;
+pub use rates::{are_rated_prices, are_within_limit, rests_of};
+pub use rooms::{is_cut_short, room_at};
 pub use totals::{cut_total, rated_total};
 pub use tree::{Evidence, ShapeFault, Tree, TreeNode};

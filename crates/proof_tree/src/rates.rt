@@ -8,9 +8,10 @@ ghost use Rattle.plan_base.specs.Places.{places, link_of_place};
 ghost use Rattle.arc_restrict.specs.Prices.{AreWithinLimit};
 ghost use Rattle.proof_tree.specs.declared.limits.TheConstants.{MAX_CUTS};
 ghost use Rattle.proof_tree.specs.Cuts.{place_crosses, cut_at, AreRests};
-ghost use Rattle.proof_tree.specs.RatedBounds.{rated_on, crossing_rates, IsRatedPrice, AreRatedPrices};
+ghost use Rattle.proof_tree.specs.RatedBounds.{rated_on, crossing_rates, IsRatedPrice, AreRatedPrices, FitRated};
 
 use crate::cuts::Cut;
+use crate::rated_numbers::RatedNumbers;
 use link_steps::Rated;
 use plan_base::Instance;
 use std::alloc::{AllocError, Global};
@@ -32,29 +33,25 @@ pub fn rests_of(alloc: Global, inst: &Instance, cuts: &[Cut]) -> Result<Vec<u64>
 
 /// Puts the cuts that a place crosses, each with its rate, over what a list has.
 ///
-/// - Takes: what crosses each cut beyond what it leaves out, as `rests_of` gives it; a rate for each cut.
 /// - Errors: want of memory alone; the list then has the first of them.
 /// - Rule: docs/DEFINITIONS.md, "Cuts".
 /// - Time: linear in the cuts.
-pub fn put_rated(
-    inst: &Instance,
-    cuts: &[Cut],
-    rests: &[u64],
-    rates: &[u128],
+pub(crate) fn put_rated(
+    numbers: &RatedNumbers<'_>,
     place: u32,
     list: &mut Vec<Rated>,
 ) -> Result<(), AllocError>
-    requires place { place < places inst.now }
-    requires rests { AreRests inst.now cuts.now rests.now }
-    requires rates { length rates.now ≡ length cuts.now }
-    ensures { IfOk result (λ done. list.new.items ≡ rated_on inst.now cuts.now rates.now place) }
+    requires fit { FitRated numbers.now.table.now numbers.now.ranges.now numbers.now.cuts.now numbers.now.rests.now numbers.now.prices.now numbers.now.rates.now }
+    requires place { place < places numbers.now.table.now }
+    ensures { IfOk result (λ done. list.new.items ≡ rated_on numbers.now.table.now numbers.now.cuts.now numbers.now.rates.now place) }
 {
+    let inst = numbers.table.instance();
     list.clear();
-    for number in 0..cuts.len() {
-        let cut = &cuts[number];
+    for number in 0..numbers.cuts.len() {
+        let cut = &numbers.cuts[number];
         if cut.crosses(inst, place) {
-            let batch = cut.batch(inst, place, rests[number]);
-            let rate = rates[number];
+            let batch = cut.batch(inst, place, numbers.rests[number]);
+            let rate = numbers.rates[number];
             list.push(Rated { batch, rate })?;
         }
     }

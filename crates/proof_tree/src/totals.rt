@@ -2,161 +2,82 @@
 
 ghost use Rattle.std.specs.Prelude.{◌≡◌, ◌<◌, ◌≤◌, ◌*◌, length, slice_index, IfOk, ℤ, pos, ◌-ℤ◌, ◌≤ℤ◌};
 ghost use Rattle.plan_base.specs.declared.limits.TheConstants.{MAX_PRICED_LOAD};
-ghost use Rattle.plan_base.specs.Places.{places, there_of, back_of};
-ghost use Rattle.link_steps.specs.Ranges.{AreRanges};
 ghost use Rattle.arc_restrict.specs.Prices.{AreWithinLimit};
 ghost use Rattle.proof_tree.specs.declared.limits.TheConstants.{MAX_CUTS};
 ghost use Rattle.proof_tree.specs.Cuts.{least_count, cut_at, AreCuts, AreRests};
-ghost use Rattle.proof_tree.specs.RatedBounds.{rated_there, rated_back, cut_total, AreRatedPrices, IsRatedValue, IsRatedTotal};
+ghost use Rattle.proof_tree.specs.RatedBounds.{rated_there, rated_back, cut_total, FitRated, IsRatedValue, IsRatedTotal};
 
 use crate::cuts::Cut;
+use crate::rated_numbers::RatedNumbers;
 use crate::rates::put_rated;
-use link_steps::{Ranges, Rated, StepTable, tally};
-use plan_base::{Instance, LinkId};
+use link_steps::{Rated, tally};
+use plan_base::{Instance, LinkId, LinkPrices};
 use std::alloc::{AllocError, Global};
 
-/// The cuts that the first place of a link crosses, each with its rate, put over what a list has.
-fn put_there(
-    inst: &Instance,
-    cuts: &[Cut],
-    rests: &[u64],
-    rates: &[u128],
+/// Puts the cuts that the places of a link cross, each with its rate, over what two lists have: none for the second place
+/// where the link has one.
+fn put_rates(
+    numbers: &RatedNumbers<'_>,
     link: LinkId,
-    list: &mut Vec<Rated>,
+    there: &mut Vec<Rated>,
+    back: &mut Vec<Rated>,
 ) -> Result<(), AllocError>
-    requires link { link.0 < length inst.now.links }
-    requires rests { AreRests inst.now cuts.now rests.now }
-    requires rates { length rates.now ≡ length cuts.now }
-    ensures { IfOk result (λ done. list.new.items ≡ rated_there inst.now cuts.now rates.now link.0) }
+    requires fit { FitRated numbers.now.table.now numbers.now.ranges.now numbers.now.cuts.now numbers.now.rests.now numbers.now.prices.now numbers.now.rates.now }
+    requires link { link.0 < length numbers.now.table.now.links }
+    ensures there { IfOk result (λ done. there.new.items ≡ rated_there numbers.now.table.now numbers.now.cuts.now numbers.now.rates.now link.0) }
+    ensures back { IfOk result (λ done. back.new.items ≡ rated_back numbers.now.table.now numbers.now.cuts.now numbers.now.rates.now link.0) }
 {
+    let inst = numbers.table.instance();
     let _places = inst.places();
     if inst.orient().is_two_way() {
-        put_rated(inst, cuts, rests, rates, 2 * link.0, list)
+        put_rated(numbers, 2 * link.0, there)?;
+        put_rated(numbers, 2 * link.0 + 1, back)
     } else {
-        put_rated(inst, cuts, rests, rates, link.0, list)
+        back.clear();
+        put_rated(numbers, link.0, there)
     }
 }
 
-/// Those that its second place crosses, none where it has one place, put over what a list has.
-fn put_back(
-    inst: &Instance,
-    cuts: &[Cut],
-    rests: &[u64],
-    rates: &[u128],
-    link: LinkId,
-    list: &mut Vec<Rated>,
-) -> Result<(), AllocError>
-    requires link { link.0 < length inst.now.links }
-    requires rests { AreRests inst.now cuts.now rests.now }
-    requires rates { length rates.now ≡ length cuts.now }
-    ensures { IfOk result (λ done. list.new.items ≡ rated_back inst.now cuts.now rates.now link.0) }
-{
-    let _places = inst.places();
-    if inst.orient().is_two_way() {
-        put_rated(inst, cuts, rests, rates, 2 * link.0 + 1, list)
-    } else {
-        list.clear();
-        Ok(())
-    }
-}
-
-/// The price of the first place of a link.
-fn price_there(inst: &Instance, prices: &[u128], link: LinkId) -> u128
-    requires link { link.0 < length inst.now.links }
-    requires prices { places inst.now ≤ length prices.now }
-    ensures { result ≡ there_of inst.now (slice_index prices.now) link.0 }
-{
-    let _places = inst.places();
-    if inst.orient().is_two_way() {
-        prices[2 * link.0 as usize]
-    } else {
-        prices[link.0 as usize]
-    }
-}
-
-/// The price of its second place, 0 where it has one place.
-fn price_back(inst: &Instance, prices: &[u128], link: LinkId) -> u128
-    requires link { link.0 < length inst.now.links }
-    requires prices { places inst.now ≤ length prices.now }
-    ensures { result ≡ back_of inst.now (slice_index prices.now) link.0 }
-{
-    let _places = inst.places();
-    if inst.orient().is_two_way() {
-        prices[2 * link.0 as usize + 1]
-    } else {
-        0
-    }
-}
-
-/// The value of a link at these prices and rates, in thousandths of a cost grain. What the lists have is written over.
+/// The value of a link, in thousandths of a cost grain. What the lists have is written over.
 fn rated_value(
-    inst: &Instance,
-    table: &StepTable,
-    ranges: &Ranges,
-    cuts: &[Cut],
-    rests: &[u64],
-    prices: &[u128],
-    rates: &[u128],
+    numbers: &RatedNumbers<'_>,
     link: LinkId,
     there: &mut Vec<Rated>,
     back: &mut Vec<Rated>,
 ) -> Result<i128, AllocError>
-    requires table { table.now ≡ inst.now }
-    requires ranges { AreRanges inst.now ranges.now }
-    requires cuts { AreCuts inst.now cuts.now }
-    requires rests { AreRests inst.now cuts.now rests.now }
-    requires lawful { AreRatedPrices inst.now cuts.now prices.now rates.now }
-    requires prices { places inst.now ≤ length prices.now }
-    requires rates { length rates.now ≡ length cuts.now }
-    requires link { link.0 < length inst.now.links }
-    ensures value { IfOk result (λ value. IsRatedValue inst.now cuts.now ranges.now prices.now rates.now link.0 value) }
+    requires fit { FitRated numbers.now.table.now numbers.now.ranges.now numbers.now.cuts.now numbers.now.rests.now numbers.now.prices.now numbers.now.rates.now }
+    requires link { link.0 < length numbers.now.table.now.links }
+    ensures value { IfOk result (λ value. IsRatedValue numbers.now.table.now numbers.now.cuts.now numbers.now.ranges.now numbers.now.prices.now numbers.now.rates.now link.0 value) }
     ensures not_above { IfOk result (λ value. value ≤ℤ pos MAX_PRICED_LOAD) }
     ensures bounded { IfOk result (λ value. (pos 0 -ℤ pos (2 * MAX_PRICED_LOAD)) ≤ℤ value) }
 {
-    put_there(inst, cuts, rests, rates, link, there)?;
-    put_back(inst, cuts, rests, rates, link, back)?;
-    let ranged = ranges.of_link(inst, link);
-    let price = price_there(inst, prices, link);
-    let back_price = price_back(inst, prices, link);
-    let found = table.rated_value(link, ranged, price, there, back_price, back);
+    put_rates(numbers, link, there, back)?;
+    let table = numbers.table;
+    let inst = table.instance();
+    let ranges = numbers.ranges.of_link(inst, link);
+    let prices = LinkPrices::of_link(inst, numbers.prices, link);
+    let found = table.rated_value(link, ranges, prices.there, there, prices.back, back);
     Ok(found.value)
 }
 
 /// The sum of the values of all links at these prices and rates.
 ///
-/// - Takes: the instance's table; one range for each place; cuts of the instance with what crosses each of them; at least one
-///   price for each place and one rate for each cut, as they have to be.
+/// - Takes: numbers that fit their table: the cuts are cuts of the instance, the prices within the price limit, and each large
+///   enough for the rates that its place crosses.
 /// - Gives: thousandths of a cost grain.
 /// - Errors: want of memory alone.
 /// - Rule: docs/DEFINITIONS.md, "Link value".
 /// - Time: for each link one link value, and a look at each cut.
-pub fn rated_total(
-    alloc: Global,
-    inst: &Instance,
-    table: &StepTable,
-    ranges: &Ranges,
-    cuts: &[Cut],
-    rests: &[u64],
-    prices: &[u128],
-    rates: &[u128],
-) -> Result<i128, AllocError>
-    requires table { table.now ≡ inst.now }
-    requires ranges { AreRanges inst.now ranges.now }
-    requires cuts { AreCuts inst.now cuts.now }
-    requires rests { AreRests inst.now cuts.now rests.now }
-    requires lawful { AreRatedPrices inst.now cuts.now prices.now rates.now }
-    requires prices { places inst.now ≤ length prices.now }
-    requires rates { length rates.now ≡ length cuts.now }
-    ensures { IfOk result (λ total. IsRatedTotal inst.now cuts.now ranges.now prices.now rates.now (length inst.now.links) total) }
+pub fn rated_total(alloc: Global, numbers: &RatedNumbers<'_>) -> Result<i128, AllocError>
+    requires fit { FitRated numbers.now.table.now numbers.now.ranges.now numbers.now.cuts.now numbers.now.rests.now numbers.now.prices.now numbers.now.rates.now }
+    ensures { IfOk result (λ total. IsRatedTotal numbers.now.table.now numbers.now.cuts.now numbers.now.ranges.now numbers.now.prices.now numbers.now.rates.now (length numbers.now.table.now.links) total) }
 {
+    let inst = numbers.table.instance();
     let mut there = Vec::new(alloc);
     let mut back = Vec::new(alloc);
     let mut total = 0;
     for place in 0..inst.links() {
-        let link = LinkId(place);
-        let value = rated_value(
-            inst, table, ranges, cuts, rests, prices, rates, link, &mut there, &mut back,
-        )?;
+        let value = rated_value(numbers, LinkId(place), &mut there, &mut back)?;
         total += value;
     }
     Ok(total)
