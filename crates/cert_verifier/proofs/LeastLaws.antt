@@ -1,5 +1,5 @@
 -- The least bound of open leaves, as leaf after leaf is met; and with the stated cost.
-use Rattle.std.proofs.Common.{◌≡◌, ℕ, ◌⊎◌, inl, inr, List, [], ◌∷◌, ◌++◌, length, get_or, Option, Some, None, refl, sym, ap, subst, ◌∙◌, arith, length-append}
+use Rattle.std.proofs.Common.{◌≡◌, ℕ, ◌⊎◌, inl, inr, List, [], ◌∷◌, ◌++◌, length, get_or, Option, Some, None, refl, sym, ap, subst, ◌∙◌, arith, append-nil, length-append}
 use Rattle.std.specs.Prelude.{IfSome, IfNone, IsSomeAnd, Any, ℤ, pos, ◌≤ℤ◌}
 use Rattle.std.specs.Option.{option_map}
 use Rattle.std.proofs.lemmas.Int.{ints}
@@ -13,7 +13,8 @@ use Rattle.proof_tree.specs.declared.tree.Evidence.{Evidence}
 use Rattle.proof_tree.specs.declared.tree.Evidence.TheVariants.{Bound, Routed, Overfull, Cut, Far, Crowd, Open}
 use Rattle.proof_tree.specs.declared.plan.Plan.{Plan}
 use Rattle.proof_tree.specs.Regions.{Region}
-use Rattle.proof_tree.specs.Trees.{LeafAt, leaves_of}
+use Rattle.proof_tree.specs.declared.tree.TreeNode.{TreeNode}
+use Rattle.proof_tree.specs.Trees.{LeafAt, leaf_here, leaves_of}
 use Rattle.proof_tree.specs.Plans.{IsOpenBound, IsCandidate, stated_cost}
 use Rattle.proof_tree.specs.RatedEvidence.{rates_in}
 use Rattle.proof_tree.proofs.RatedUniqueness.{rated_bound-unique}
@@ -44,6 +45,13 @@ any-parts P xs y (k, x, within, read, holds) = elim (cases_lt k (length xs)) [
       let is : y ≡ x = sym (get_or-append_seam xs y [] x) ∙ ap (λ i. get_or (xs ++ y ∷ []) i x) (sym last) ∙ read in
       inr (subst P (sym is) holds)
 ]
+
+-- behind a record that is no leaf, and that is the one read, the least bound is what it was
+pub least_kept : (p : Parts) (cuts : List LoadCut) (g : Region) (leaves : List LeafAt) (read node : TreeNode) (before after : Option ℤ) → leaf_here g read ≡ [] → read ≡ node → after ≡ before
+    → IsLeastBoundIn p cuts leaves before → IsLeastBoundIn p cuts (leaves ++ leaf_here g node) after
+least_kept p cuts g leaves read node before after none same kept least =
+    subst (λ b. IsLeastBoundIn p cuts (leaves ++ leaf_here g node) b) (sym kept)
+    (subst (λ (ls : List LeafAt). IsLeastBoundIn p cuts ls before) (sym (ap (λ ls. leaves ++ ls) (sym (ap (leaf_here g) same) ∙ none) ∙ append-nil leaves)) least)
 
 -- the bounds of the leaves and of one more
 abbrev FromBoth : Parts → List LoadCut → List LeafAt → Option ℤ → ℤ → Type 0

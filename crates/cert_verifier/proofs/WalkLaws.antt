@@ -23,7 +23,7 @@ use Rattle.proof_tree.proofs.RangeLaws.{AreRanges-up_to, AreRanges-above, with_r
 use Rattle.verifier_paths.specs.Kept.{Marks, forbidden_by, without_forbidden, HasRows}
 use Rattle.verifier_paths.proofs.MarkLaws.{undo_forbid}
 use Rattle.cert_verifier.specs.declared.walk.Turn.{Turn}
-use Rattle.cert_verifier.specs.Walks.{region_of_marks, Splits, IsSplitWithin, child_of, left_after, IsTreePlace, StandsAt, AreLeft}
+use Rattle.cert_verifier.specs.Walks.{region_of_marks, Splits, IsSplitWithin, child_of, left_after, HasSplit, IsTreePlace, StandsAt, AreLeft}
 
 -- an arc that exists has a number below twice the count of links
 pub arc_within : (p : Parts) (a : ArcId) → IsTrue (is_arc p a) → a.0 < 2 * length p.links
@@ -73,7 +73,7 @@ pub place-ranges : (p : Parts) (nodes : List TreeNode) (turns : List Turn) (g : 
 place-ranges p nodes [] g gs h = h.1
 place-ranges p nodes (turn ∷ turns) g gs h =
     subst (λ (x : Region). AreRanges p x.ranges) (sym h.child)
-    (child-ranges p h.parent h.split turn.range turn.is_right h.left h.right h.splits h.children (place-ranges p nodes turns h.parent h.more h.above))
+    (let s = h.up in child-ranges p s.parent s.split turn.range turn.is_right s.left s.right s.splits s.children (place-ranges p nodes turns s.parent s.more s.above))
 
 -- where the walk stands, each place has a range with a load
 pub stands-ranges : (p : Parts) (nodes : List TreeNode) (turns : List Turn) (g : Region) → StandsAt p nodes turns g → AreRanges p g.ranges
@@ -87,7 +87,7 @@ some_same x y h = cc
 pub turn-within : (p : Parts) (nodes : List TreeNode) (turn : Turn) (turns : List Turn) (marks : Marks) (ranges : List LoadRange) (node : TreeNode) → slice_get nodes turn.split ≡ Some node → HasRows p marks
     → StandsAt p nodes (turn ∷ turns) (region_of_marks marks ranges) → IsSplitWithin marks.demands marks.arcs (length ranges) turn.range node
 turn-within p nodes turn turns marks ranges node is rows stands =
-    let h = stands.is_place in
+    let h = stands.is_place.up in
     let are : AreRanges p ranges = stands-ranges p nodes (turn ∷ turns) (region_of_marks marks ranges) stands in
     let within = subst (IsSplitWithin (length p.demands) (2 * length p.links) (places p) turn.range) (some_same _ _ (sym h.is_record ∙ is)) (splits-within p h.parent h.split turn.range h.splits) in
     subst (λ (n : ℕ). IsSplitWithin n marks.arcs (length ranges) turn.range node) (sym rows.demands)
@@ -97,51 +97,42 @@ turn-within p nodes turn turns marks ranges node is rows stands =
 -- the record that the last turn reads is the one at its place
 pub turn-read : (p : Parts) (nodes read : List TreeNode) (turn : Turn) (turns : List Turn) (g : Region) → StandsAt p nodes (turn ∷ turns) g → read ≡ nodes → (node : TreeNode) → node ≡ get_or read turn.split node → slice_get nodes turn.split ≡ Some node
 turn-read p nodes read turn turns g stands same node is =
-    let h = stands.is_place in
+    let h = stands.is_place.up in
     let there : get_or nodes turn.split node ≡ h.split = get_or_from_slice_get nodes turn.split h.split node h.is_record in
     let here : node ≡ get_or nodes turn.split node = is ∙ ap (λ ns. get_or ns turn.split node) same in
     h.is_record ∙ ap (λ (x : TreeNode). Some x) (sym (here ∙ there))
 
 -- up from the right child to its split
-pub leave_right : (p : Parts) (nodes : List TreeNode) (turn : Turn) (turns : List Turn) (g g_after : Region) (gs : List Region) (node : TreeNode) → slice_get nodes turn.split ≡ Some node → turn.is_right ≡ true
-    → ((parent left : Region) → Splits p parent node turn.range → children_at parent node ≡ left ∷ g ∷ [] → g_after ≡ parent)
-    → IsTreePlace p nodes (turn ∷ turns) g gs → IsTreePlace p nodes turns g_after gs
-leave_right p nodes turn turns g g_after gs node is right_one up h =
-    let same : h.split ≡ node = some_same _ _ (sym h.is_record ∙ is) in
-    let child : g ≡ h.right = h.child ∙ ap (λ b. child_of b h.left h.right) right_one in
-    let rest : gs ≡ h.more = h.rest ∙ ap (λ b. left_after b h.right h.more) right_one in
-    let children : children_at h.parent node ≡ h.left ∷ g ∷ [] = ap (children_at h.parent) (sym same) ∙ h.children ∙ ap (λ x. h.left ∷ x ∷ []) (sym child) in
-    let to_parent : g_after ≡ h.parent = up h.parent h.left (subst (λ n. Splits p h.parent n turn.range) same h.splits) children in
-    subst (λ x. IsTreePlace p nodes turns x gs) (sym to_parent) (subst (IsTreePlace p nodes turns h.parent) (sym rest) h.above)
+pub leave_right : (p : Parts) (nodes : List TreeNode) (turn : Turn) (turns turns_after : List Turn) (g g_after : Region) (gs : List Region) (node : TreeNode) → slice_get nodes turn.split ≡ Some node → turn.is_right ≡ true
+    → ((parent left : Region) → Splits p parent node turn.range → children_at parent node ≡ left ∷ g ∷ [] → g_after ≡ parent) → turns_after ≡ turns
+    → IsTreePlace p nodes (turn ∷ turns) g gs → IsTreePlace p nodes turns_after g_after gs
+leave_right p nodes turn turns turns_after g g_after gs node is right_one up turned h =
+    let s = h.up in
+    let same : s.split ≡ node = some_same _ _ (sym s.is_record ∙ is) in
+    let child : g ≡ s.right = h.child ∙ ap (λ b. child_of b s.left s.right) right_one in
+    let rest : gs ≡ s.more = h.rest ∙ ap (λ b. left_after b s.right s.more) right_one in
+    let children : children_at s.parent node ≡ s.left ∷ g ∷ [] = ap (children_at s.parent) (sym same) ∙ s.children ∙ ap (λ x. s.left ∷ x ∷ []) (sym child) in
+    let to_parent : g_after ≡ s.parent = up s.parent s.left (subst (λ n. Splits p s.parent n turn.range) same s.splits) children in
+    let there = subst (λ x. IsTreePlace p nodes turns x gs) (sym to_parent) (subst (IsTreePlace p nodes turns s.parent) (sym rest) s.above) in
+    subst (λ ts. IsTreePlace p nodes ts g_after gs) (sym turned) there
 
 -- the same turn, to the right child
 abbrev pub to_right : Turn → Turn
 to_right turn = record turn { is_right = true }
 
 -- from the left child into the right one
-pub leave_left : (p : Parts) (nodes : List TreeNode) (turn : Turn) (turns : List Turn) (g g_after : Region) (gs : List Region) (node : TreeNode) → slice_get nodes turn.split ≡ Some node → turn.is_right ≡ false
-    → ((parent right : Region) → Splits p parent node turn.range → children_at parent node ≡ g ∷ right ∷ [] → g_after ≡ right)
-    → IsTreePlace p nodes (turn ∷ turns) g gs → AreLeft p nodes (to_right turn ∷ turns) g_after gs
-leave_left p nodes turn turns g g_after gs node is left_one over h =
-    let same : h.split ≡ node = some_same _ _ (sym h.is_record ∙ is) in
-    let child : g ≡ h.left = h.child ∙ ap (λ b. child_of b h.left h.right) left_one in
-    let rest : gs ≡ h.right ∷ h.more = h.rest ∙ ap (λ b. left_after b h.right h.more) left_one in
-    let children : children_at h.parent node ≡ g ∷ h.right ∷ [] = ap (children_at h.parent) (sym same) ∙ h.children ∙ ap (λ x. x ∷ h.right ∷ []) (sym child) in
-    let to_other : g_after ≡ h.right = over h.parent h.right (subst (λ n. Splits p h.parent n turn.range) same h.splits) children in
-    let below : IsTreePlace p nodes (to_right turn ∷ turns) g_after h.more = record {
-      split = h.split;
-      parent = h.parent;
-      left = h.left;
-      right = h.right;
-      more = h.more;
-      is_record = h.is_record;
-      splits = h.splits;
-      children = h.children;
-      child = to_other;
-      rest = refl;
-      above = h.above;
-    } in
-    subst (AreLeft p nodes (to_right turn ∷ turns) g_after) (sym rest) (to_other, below)
+pub leave_left : (p : Parts) (nodes : List TreeNode) (turn : Turn) (turns turns_after : List Turn) (g g_after : Region) (gs : List Region) (node : TreeNode) → slice_get nodes turn.split ≡ Some node → turn.is_right ≡ false
+    → ((parent right : Region) → Splits p parent node turn.range → children_at parent node ≡ g ∷ right ∷ [] → g_after ≡ right) → turns_after ≡ to_right turn ∷ turns
+    → IsTreePlace p nodes (turn ∷ turns) g gs → AreLeft p nodes turns_after g_after gs
+leave_left p nodes turn turns turns_after g g_after gs node is left_one over turned h =
+    let s = h.up in
+    let same : s.split ≡ node = some_same _ _ (sym s.is_record ∙ is) in
+    let child : g ≡ s.left = h.child ∙ ap (λ b. child_of b s.left s.right) left_one in
+    let rest : gs ≡ s.right ∷ s.more = h.rest ∙ ap (λ b. left_after b s.right s.more) left_one in
+    let children : children_at s.parent node ≡ g ∷ s.right ∷ [] = ap (children_at s.parent) (sym same) ∙ s.children ∙ ap (λ x. x ∷ s.right ∷ []) (sym child) in
+    let to_other : g_after ≡ s.right = over s.parent s.right (subst (λ n. Splits p s.parent n turn.range) same s.splits) children in
+    let below : IsTreePlace p nodes (to_right turn ∷ turns) g_after s.more = record { up = s; child = to_other; rest = refl } in
+    subst (λ ts. AreLeft p nodes ts g_after gs) (sym turned) (subst (AreLeft p nodes (to_right turn ∷ turns) g_after) (sym rest) (to_other, below))
 
 -- where no turn is left, nothing is
 pub left_at_end : (p : Parts) (nodes : List TreeNode) (turns : List Turn) (g : Region) (gs : List Region) → turns ≡ [] → IsTreePlace p nodes turns g gs → AreLeft p nodes turns g gs
@@ -163,19 +154,9 @@ pub entered : (p : Parts) (nodes : List TreeNode) (index : ℕ) (turns turns_aft
 entered p nodes index turns turns_after g g_after left right gs node had found splits children to_left pushed place =
     let next : Turn = record { split = index; is_right = false; range = had } in
     let last : reverse turns_after ≡ next ∷ reverse turns = ap (λ (ts : List Turn). reverse ts) pushed ∙ reverse_push turns next in
-    let below : IsTreePlace p nodes (next ∷ reverse turns) g_after (right ∷ gs) = record {
-      split = node;
-      parent = g;
-      left = left;
-      right = right;
-      more = gs;
-      is_record = found;
-      splits = splits;
-      children = children;
-      child = to_left;
-      rest = refl;
-      above = place;
-    } in
+    let up : HasSplit p nodes index had (IsTreePlace p nodes (reverse turns)) =
+    record { split = node; parent = g; left = left; right = right; more = gs; is_record = found; splits = splits; children = children; above = place } in
+    let below : IsTreePlace p nodes (next ∷ reverse turns) g_after (right ∷ gs) = record { up = up; child = to_left; rest = refl } in
     subst (λ (cs : List Region). AreLeft p nodes (reverse turns_after) g_after (cs ++ gs)) (sym children)
     (to_left, subst (λ ts. IsTreePlace p nodes ts g_after (right ∷ gs)) (sym last) below)
 
@@ -189,39 +170,43 @@ pub region-is : (g : Region) (marks : Marks) (ranges : List LoadRange) → forbi
 region-is g marks ranges one other = ap₂ region one other
 
 -- what the right child forbids is undone
-pub up_arcs : (p : Parts) (parent left : Region) (id : DemandId) (at : NodeId) (l r : List ArcId) (marks after : Marks) (ranges : List LoadRange) → IsSplit p parent.forbidden id at l r → children_at parent (Split id at l r) ≡ left ∷ region_of_marks marks ranges ∷ []
-    → forbidden_by after ≡ without_forbidden (forbidden_by marks) id r → region_of_marks after ranges ≡ parent
-up_arcs p parent left id at l r marks after ranges split children is =
-    let same = both_same (with_arcs parent id l) (with_arcs parent id r) left (region_of_marks marks ranges) children in
+pub up_arcs : (p : Parts) (parent left : Region) (node : TreeNode) (had : LoadRange) (id : DemandId) (at : NodeId) (l r : List ArcId) (marks after : Marks) (ranges : List LoadRange) → node ≡ Split id at l r → Splits p parent node had
+    → children_at parent node ≡ left ∷ region_of_marks marks ranges ∷ [] → forbidden_by after ≡ without_forbidden (forbidden_by marks) id r → region_of_marks after ranges ≡ parent
+up_arcs p parent left node had id at l r marks after ranges read splits children is =
+    let split : IsSplit p parent.forbidden id at l r = subst (λ n. Splits p parent n had) read splits in
+    let same = both_same (with_arcs parent id l) (with_arcs parent id r) left (region_of_marks marks ranges) (sym (ap (children_at parent) read) ∙ children) in
     let had : forbidden_by marks ≡ with_forbidden parent.forbidden id r = ap (λ (g : Region). g.forbidden) (sym same.1) in
     let back : without_forbidden (forbidden_by marks) id r ≡ parent.forbidden = ap (λ (s : Forbidden). without_forbidden s id r) had ∙ undo_forbid parent.forbidden id r split.right_side.permitted in
     region-is parent after ranges (is ∙ back) (ap (λ (g : Region). g.ranges) (sym same.1))
 
 -- what the left child forbids is undone, and the right arcs are forbidden
-pub over_arcs : (p : Parts) (parent right : Region) (id : DemandId) (at : NodeId) (l r : List ArcId) (marks after : Marks) (ranges : List LoadRange) → IsSplit p parent.forbidden id at l r → children_at parent (Split id at l r) ≡ region_of_marks marks ranges ∷ right ∷ []
-    → forbidden_by after ≡ with_forbidden (without_forbidden (forbidden_by marks) id l) id r → region_of_marks after ranges ≡ right
-over_arcs p parent right id at l r marks after ranges split children is =
-    let same = both_same (with_arcs parent id l) (with_arcs parent id r) (region_of_marks marks ranges) right children in
+pub over_arcs : (p : Parts) (parent right : Region) (node : TreeNode) (had : LoadRange) (id : DemandId) (at : NodeId) (l r : List ArcId) (marks after : Marks) (ranges : List LoadRange) → node ≡ Split id at l r → Splits p parent node had
+    → children_at parent node ≡ region_of_marks marks ranges ∷ right ∷ [] → forbidden_by after ≡ with_forbidden (without_forbidden (forbidden_by marks) id l) id r → region_of_marks after ranges ≡ right
+over_arcs p parent right node had id at l r marks after ranges read splits children is =
+    let split : IsSplit p parent.forbidden id at l r = subst (λ n. Splits p parent n had) read splits in
+    let same = both_same (with_arcs parent id l) (with_arcs parent id r) (region_of_marks marks ranges) right (sym (ap (children_at parent) read) ∙ children) in
     let had : forbidden_by marks ≡ with_forbidden parent.forbidden id l = ap (λ (g : Region). g.forbidden) (sym same.0) in
     let back : without_forbidden (forbidden_by marks) id l ≡ parent.forbidden = ap (λ (s : Forbidden). without_forbidden s id l) had ∙ undo_forbid parent.forbidden id l split.left_side.permitted in
     region-is (with_arcs parent id r) after ranges (is ∙ ap (λ (s : Forbidden). with_forbidden s id r) back) (ap (λ (g : Region). g.ranges) (sym same.0)) ∙ same.1
 
 -- the place has the range again that it had
-pub up_loads : (parent left : Region) (place load : ℕ) (had : LoadRange) (marks : Marks) (ranges : List LoadRange) → had ≡ range_at parent.ranges place → children_at parent (Loads place load) ≡ left ∷ region_of_marks marks ranges ∷ []
-    → region_of_marks marks (with_range ranges place had) ≡ parent
-up_loads parent left place load had marks ranges is children =
-    let same = both_same (up_to parent place load) (above parent place load) left (region_of_marks marks ranges) children in
+pub up_loads : (p : Parts) (parent left : Region) (node : TreeNode) (place load : ℕ) (had : LoadRange) (marks : Marks) (ranges after : List LoadRange) → node ≡ Loads place load → Splits p parent node had
+    → children_at parent node ≡ left ∷ region_of_marks marks ranges ∷ [] → after ≡ with_range ranges place had → region_of_marks marks after ≡ parent
+up_loads p parent left node place load had marks ranges after read splits children set =
+    let split : Splits p parent (Loads place load) had = subst (λ n. Splits p parent n had) read splits in
+    let same = both_same (up_to parent place load) (above parent place load) left (region_of_marks marks ranges) (sym (ap (children_at parent) read) ∙ children) in
     let given : ranges ≡ with_range parent.ranges place (begins_at (range_at parent.ranges place) (load + 1)) = ap (λ (g : Region). g.ranges) (sym same.1) in
-    let back : with_range ranges place had ≡ parent.ranges = ap₂ (λ (rs : List LoadRange) (x : LoadRange). with_range rs place x) given is ∙ with_range-back parent.ranges place (begins_at (range_at parent.ranges place) (load + 1)) in
-    region-is parent marks (with_range ranges place had) (ap (λ (g : Region). g.forbidden) (sym same.1)) back
+    let back : with_range ranges place had ≡ parent.ranges = ap₂ (λ (rs : List LoadRange) (x : LoadRange). with_range rs place x) given split.1 ∙ with_range-back parent.ranges place (begins_at (range_at parent.ranges place) (load + 1)) in
+    region-is parent marks after (ap (λ (g : Region). g.forbidden) (sym same.1)) (set ∙ back)
 
 -- the place has the loads of the range that are above
-pub over_loads : (parent right : Region) (place load : ℕ) (had : LoadRange) (marks : Marks) (ranges : List LoadRange) → had ≡ range_at parent.ranges place → children_at parent (Loads place load) ≡ region_of_marks marks ranges ∷ right ∷ []
-    → region_of_marks marks (with_range ranges place (begins_at had (load + 1))) ≡ right
-over_loads parent right place load had marks ranges is children =
-    let same = both_same (up_to parent place load) (above parent place load) (region_of_marks marks ranges) right children in
+pub over_loads : (p : Parts) (parent right : Region) (node : TreeNode) (place load : ℕ) (had : LoadRange) (marks : Marks) (ranges after : List LoadRange) → node ≡ Loads place load → Splits p parent node had
+    → children_at parent node ≡ region_of_marks marks ranges ∷ right ∷ [] → after ≡ with_range ranges place (begins_at had (load + 1)) → region_of_marks marks after ≡ right
+over_loads p parent right node place load had marks ranges after read splits children set =
+    let split : Splits p parent (Loads place load) had = subst (λ n. Splits p parent n had) read splits in
+    let same = both_same (up_to parent place load) (above parent place load) (region_of_marks marks ranges) right (sym (ap (children_at parent) read) ∙ children) in
     let given : ranges ≡ with_range parent.ranges place (ends_at (range_at parent.ranges place) load) = ap (λ (g : Region). g.ranges) (sym same.0) in
     let next : with_range ranges place (begins_at had (load + 1)) ≡ with_range parent.ranges place (begins_at (range_at parent.ranges place) (load + 1)) =
-    ap₂ (λ (rs : List LoadRange) (x : LoadRange). with_range rs place (begins_at x (load + 1))) given is
+    ap₂ (λ (rs : List LoadRange) (x : LoadRange). with_range rs place (begins_at x (load + 1))) given split.1
     ∙ with_range-twice parent.ranges place (ends_at (range_at parent.ranges place) load) (begins_at (range_at parent.ranges place) (load + 1)) in
-    region-is (above parent place load) marks (with_range ranges place (begins_at had (load + 1))) (ap (λ (g : Region). g.forbidden) (sym same.0)) next ∙ same.1
+    region-is (above parent place load) marks after (ap (λ (g : Region). g.forbidden) (sym same.0)) (set ∙ next) ∙ same.1

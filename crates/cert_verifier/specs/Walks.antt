@@ -10,6 +10,7 @@ use Rattle.proof_tree.specs.Splits.{IsSplit}
 use Rattle.proof_tree.specs.Trees.{children_at}
 use Rattle.verifier_paths.specs.Kept.{Marks, forbidden_by}
 use Rattle.cert_verifier.specs.declared.walk.Turn.{Turn}
+use Rattle.cert_verifier.specs.declared.walk.Walk.{Walk}
 
 -- the region of these marks and these ranges
 abbrev pub region_of_marks : Marks → List LoadRange → Region
@@ -27,6 +28,13 @@ IsSplitWithin demands arcs places range (Split demand at left right) = (demand.0
 IsSplitWithin demands arcs places range (Loads place load) = (place < places) × (load < range.most)
 IsSplitWithin demands arcs places range (Leaf evidence) = ⊥
 
+-- the marks have the rows that they had, and the turns and the least bound are what they were
+pub record KeepsRest (old new : Walk) : Type 0 where
+  pub demands : new.forbidden.demands ≡ old.forbidden.demands
+  pub arcs : new.forbidden.arcs ≡ old.forbidden.arcs
+  pub turns : new.turns.items ≡ old.turns.items
+  pub least : new.least ≡ old.least
+
 -- the right child of a split, or the left one
 abbrev pub child_of : Bool → Region → Region → Region
 child_of true left right = right
@@ -37,19 +45,23 @@ abbrev pub left_after : Bool → Region → List Region → List Region
 left_after true right gs = gs
 left_after false right gs = right ∷ gs
 
--- the place is in this child of a split of the records, whose own region is one of which more is left
-pub record IsBelow (p : Parts) (nodes : List TreeNode) (turn : Turn) (upper : Region → List Region → Type 0) (g : Region) (gs : List Region) : Type 0 where
+-- a split of the records with the regions of its children, whose own region is one of which more is left
+pub record HasSplit (p : Parts) (nodes : List TreeNode) (index : ℕ) (range : LoadRange) (upper : Region → List Region → Type 0) : Type 0 where
   pub split : TreeNode
   pub parent : Region
   pub left : Region
   pub right : Region
   pub more : List Region
-  pub is_record : slice_get nodes turn.split ≡ Some split
-  pub splits : Splits p parent split turn.range
+  pub is_record : slice_get nodes index ≡ Some split
+  pub splits : Splits p parent split range
   pub children : children_at parent split ≡ left ∷ right ∷ []
-  pub child : g ≡ child_of turn.is_right left right
-  pub rest : gs ≡ left_after turn.is_right right more
   pub above : upper parent more
+
+-- the place is in this child of a split of the records
+pub record IsBelow (p : Parts) (nodes : List TreeNode) (turn : Turn) (upper : Region → List Region → Type 0) (g : Region) (gs : List Region) : Type 0 where
+  pub up : HasSplit p nodes turn.split turn.range upper
+  pub child : g ≡ child_of turn.is_right up.left up.right
+  pub rest : gs ≡ left_after turn.is_right up.right up.more
 
 -- below these turns, the last of them first, a place with this region leaves these regions to be answered
 abbrev pub IsTreePlace : Parts → List TreeNode → List Turn → Region → List Region → Type 0

@@ -6,7 +6,6 @@ ghost use Rattle.arc_restrict.specs.Prices.{AreWithinLimit};
 ghost use Rattle.proof_tree.specs.declared.limits.TheConstants.{MAX_CUTS};
 ghost use Rattle.proof_tree.specs.RatedBounds.{cut_total, IsRatedTotal};
 ghost use Rattle.proof_tree.specs.RatedEvidence.{rates_in, AreLawfulNumbers, IsBoundAt};
-ghost use Rattle.proof_tree.specs.Evidence.{is_cut_short, room_at};
 ghost use Rattle.verifier_paths.specs.declared.limits.TheConstants.{MAX_WAY_ARCS};
 ghost use Rattle.verifier_paths.specs.Kept.{forbidden_by};
 ghost use Rattle.verifier_paths.specs.OnlyPaths.{HavePaths};
@@ -18,7 +17,9 @@ use crate::leaves::Place;
 use link_steps::Ranges;
 use plan_base::limits::{MAX_LINKS, MAX_PRICED_LOAD};
 use plan_base::{DemandId, Instance, Prices};
-use proof_tree::{are_rated_prices, are_within_limit, cut_total, rated_total};
+use proof_tree::{
+    RatedNumbers, are_rated_prices, are_within_limit, cut_total, rated_total, room_at,
+};
 use std::alloc::{AllocError, Global};
 use verifier_paths::{Forbidden, prices_of_demands};
 
@@ -94,10 +95,17 @@ fn values_at(alloc: Global, at: &Place, numbers: &Prices) -> Result<i128, AllocE
     if cuts.is_empty() {
         return Ok(at.table.value_total(at.ranges, numbers));
     }
-    let list = numbers.as_slice();
-    let rates = rates_of(at.inst, list);
+    let prices = numbers.as_slice();
     rated_total(
-        alloc, at.inst, at.table, at.ranges, cuts, at.rests, list, rates,
+        alloc,
+        &RatedNumbers {
+            table: at.table,
+            ranges: at.ranges,
+            cuts,
+            rests: at.rests,
+            prices,
+            rates: rates_of(at.inst, prices),
+        },
     )
 }
 
@@ -152,28 +160,6 @@ pub(crate) fn is_enough(bound: i128, cost: u128, unit: u128) -> bool
         bound >= 0 || bound.unsigned_abs() < unit - cost
     } else {
         bound >= 0 && cost - unit < bound as u128
-    }
-}
-
-/// Whether the range of the place ends below the top load of its link.
-pub(crate) fn is_cut_short(inst: &Instance, ranges: &Ranges, place: u32) -> bool
-    requires count { length ranges.now ≡ places inst.now }
-    requires place { place < places inst.now }
-    ensures { result ≡ is_cut_short inst.now ranges.now place }
-{
-    ranges.at(place).most < inst.top_load(inst.link_of_place(place))
-}
-
-/// What the place carries at most where no module is added, in load grains.
-fn room_at(inst: &Instance, ranges: &Ranges, place: u32) -> u64
-    requires count { length ranges.now ≡ places inst.now }
-    requires place { place < places inst.now }
-    ensures { result ≡ room_at inst.now ranges.now place }
-{
-    if is_cut_short(inst, ranges, place) {
-        ranges.at(place).most
-    } else {
-        inst.link(inst.link_of_place(place)).pre
     }
 }
 

@@ -25,7 +25,7 @@ ghost use Rattle.cert_verifier.specs.Bounds.{AreForInstance, IsOpenLawful};
 ghost use Rattle.cert_verifier.specs.LeafRules.{HasLimit, AreFreeOnUseful, LeafFinds};
 ghost use Rattle.cert_verifier.specs.Walks.{region_of_marks};
 
-use crate::bounds::{are_lawful, bound_at, is_crowded, is_cut_short, is_enough, price_total};
+use crate::bounds::{are_lawful, bound_at, is_crowded, is_enough, price_total};
 use crate::rejected::Rejected;
 use link_steps::limits::MAX_STEPS;
 use link_steps::{LinkRanges, LoadRange, Ranges, StepTable};
@@ -33,7 +33,7 @@ use plan_base::limits::{MAX_PLACES, MAX_ROUTING_COST, MODULE_COST_BOUND};
 use plan_base::{
     ArcId, DemandId, Design, Instance, Items, LinkId, LinkLoads, NodeId, Path, Prices, loads_of,
 };
-use proof_tree::{Cut, Evidence, are_within_limit};
+use proof_tree::{Cut, Evidence, are_within_limit, is_cut_short};
 use std::alloc::{AllocError, Global};
 use verifier_paths::{Forbidden, OnlyPaths, fewest_arcs, only_paths};
 

@@ -19,7 +19,7 @@ ghost use Rattle.cert_verifier.specs.Told.{Tells};
 ghost use Rattle.cert_verifier.specs.Bounds.{HasRests, IsLowerOf, IsLeastBoundIn};
 ghost use Rattle.cert_verifier.specs.RecordRules.{RecordFinds, TreeFinds};
 ghost use Rattle.cert_verifier.specs.SplitRules.{SplitFinds, LoadsFind};
-ghost use Rattle.cert_verifier.specs.Walks.{region_of_marks, Splits, IsSplitWithin, IsTreePlace, StandsAt, AreLeft, IsAfter};
+ghost use Rattle.cert_verifier.specs.Walks.{region_of_marks, Splits, IsSplitWithin, KeepsRest, IsTreePlace, StandsAt, AreLeft, IsAfter};
 
 use crate::claims::{is_wrong_kind, stated_cost};
 use crate::leaves::{Place, check_leaf, open_bound};
@@ -111,10 +111,7 @@ impl Walk {
         ensures over { (p : AnyParts) (parent right : Region) → Splits p parent split.now range
             → children_at parent split.now ≡ region_of_marks self.old.forbidden self.old.ranges ∷ right ∷ []
             → region_of_marks self.new.forbidden self.new.ranges ≡ right }
-        ensures demands { self.new.forbidden.demands ≡ self.old.forbidden.demands }
-        ensures arcs { self.new.forbidden.arcs ≡ self.old.forbidden.arcs }
-        ensures turns { self.new.turns.items ≡ self.old.turns.items }
-        ensures least { self.new.least ≡ self.old.least }
+        ensures kept { KeepsRest self.old self.new }
     {
         match split {
             TreeNode::Split {
@@ -147,10 +144,7 @@ impl Walk {
         ensures up { (p : AnyParts) (parent left : Region) → Splits p parent split.now range
             → children_at parent split.now ≡ left ∷ region_of_marks self.old.forbidden self.old.ranges ∷ []
             → region_of_marks self.new.forbidden self.new.ranges ≡ parent }
-        ensures demands { self.new.forbidden.demands ≡ self.old.forbidden.demands }
-        ensures arcs { self.new.forbidden.arcs ≡ self.old.forbidden.arcs }
-        ensures turns { self.new.turns.items ≡ self.old.turns.items }
-        ensures least { self.new.least ≡ self.old.least }
+        ensures kept { KeepsRest self.old self.new }
     {
         match split {
             TreeNode::Split { demand, right, .. } => {

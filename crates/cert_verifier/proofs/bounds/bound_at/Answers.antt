@@ -3,7 +3,6 @@ use Rattle.std.specs.Prelude.{ℤ, pos, ◌+ℤ◌, ◌*ℤ◌, ◌≤ℤ◌}
 use Rattle.std.proofs.lemmas.Int.{to_z-of_z}
 use mir.Syntax.{w128}
 use mir.Val.{SFits, to_z, of_z}
-use Rattle.proof_tree.specs.RatedEvidence.{rates_in}
 use Rattle.verifier_paths.specs.Kept.{forbidden_by}
 use Rattle.cert_verifier.specs.Totals.{IsPriceTotal}
 use Rattle.cert_verifier.specs.Walks.{region_of_marks}
@@ -11,18 +10,10 @@ use Rattle.cert_verifier.proofs.BoundOfTotals.{sum-bounded, sum-not_above, total
 use Rattle.cert_verifier.proofs.bounds.bound_at.Goals as goal
 
 pub total_of-requires-clause-bounded : goal.total_of-requires-clause-bounded
-total_of-requires-clause-bounded c =
-    let at = c.args.at.now in
-    let values = c.in_ok-values-in-Some.values in
-    let fits : SFits w128 values = search rules in
-    rw (to_z-of_z w128 values fits) (sum-bounded at.inst.now at.cuts.now at.ranges.now c.args.numbers.now (rates_in at.inst.now c.args.numbers.now) values c.lawful.ensures.link_count c.in_ok-values-in-Some.ensures)
+total_of-requires-clause-bounded c = sum-bounded _ _ _ _ _ c.in_ok-values-in-Some.values (search rules) c.lawful.ensures.link_count c.in_ok-values-in-Some.ensures
 
 pub total_of-requires-clause-not_above : goal.total_of-requires-clause-not_above
-total_of-requires-clause-not_above c =
-    let at = c.args.at.now in
-    let values = c.in_ok-values-in-Some.values in
-    let fits : SFits w128 values = search rules in
-    rw (to_z-of_z w128 values fits) (sum-not_above at.inst.now at.cuts.now at.ranges.now c.args.numbers.now (rates_in at.inst.now c.args.numbers.now) values c.lawful.ensures.link_count c.in_ok-values-in-Some.ensures)
+total_of-requires-clause-not_above c = sum-not_above _ _ _ _ _ c.in_ok-values-in-Some.values (search rules) c.lawful.ensures.link_count c.in_ok-values-in-Some.ensures
 
 pub returns-in_ok-values-in-Some-clause-bound : goal.returns-in_ok-values-in-Some-clause-bound
 returns-in_ok-values-in-Some-clause-bound c =

@@ -17,5 +17,14 @@ returns-then-is_empty c =
     let is : IsValueTotal at.inst.now at.ranges.now c.args.numbers.now (length at.inst.now.links) values = rw c.requires.parts.0 at c.value_total.ensures in
     rw (to_z-of_z w128 values fits) (prices_total at.inst.now at.cuts.now at.ranges.now c.args.numbers.now values none is)
 
-pub rated_total-requires-clause-cuts : goal.rated_total-requires-clause-cuts
-rated_total-requires-clause-cuts c = rw c.as_slice-cuts.ensures.value c.requires.parts.2.is_list.are_cuts
+pub rated_total-requires : goal.rated_total-requires
+rated_total-requires c = record {
+  fit = rw c.requires.parts.0 (record {
+    are_ranges = c.requires.parts.1;
+    are_cuts = rw c.as_slice-cuts.ensures.value c.requires.parts.2.is_list.are_cuts;
+    are_rests = rw c.as_slice-cuts.ensures.value c.requires.parts.2.are_rests;
+    are_rated = search rules;
+    price_count = search rules;
+    rate_count = search rules;
+  });
+}

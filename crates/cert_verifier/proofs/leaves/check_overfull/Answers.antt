@@ -29,15 +29,13 @@ pub returns-then-not-are_in_range : goal.returns-then-not-are_in_range
 returns-then-not-are_in_range c = λ differs.
     let at = c.args.at.now in
     let only = rw c.in-Only.is at c.in_ok-only_paths.ensures.left in
-    let are_loads = loads_are at.inst.now c.in-Only.paths c.loads_of_paths-loads.result c.links.ensures.lawful c.loads_of_paths-loads.ensures.value in
     let fails : c.are_in_range.result ≡ false = search rules in
-    overfull_outside at.inst.now at.cuts.now at.cost (region_of_marks at.forbidden.now at.ranges.now) at.index c.args.link (bare_design c.in-Only.paths) _ (omega arith) only.1 are_loads (not_so c.are_in_range.result _ c.are_in_range.ensures fails)
+    overfull_outside at.inst.now at.cuts.now at.cost (region_of_marks at.forbidden.now at.ranges.now) at.index c.args.link (bare_design c.in-Only.paths) _ (omega arith) only.1 (loads_are _ _ _ c.links.ensures.lawful c.loads_of_paths-loads.ensures.value) (not_so c.are_in_range.result _ c.are_in_range.ensures fails)
 
 pub returns-else-not-are_in_range : goal.returns-else-not-are_in_range
 returns-else-not-are_in_range c = λ differs.
     let at = c.args.at.now in
     let only = rw c.in-Only.is at c.in_ok-only_paths.ensures.left in
-    let are_loads = loads_are at.inst.now c.in-Only.paths c.loads_of_paths-loads.result c.links.ensures.lawful c.loads_of_paths-loads.ensures.value in
     let holds : c.are_in_range.result ≡ true = search rules in
-    overfull_decided at.inst.now at.cuts.now at.cost (region_of_marks at.forbidden.now at.ranges.now) at.index c.args.link (bare_design c.in-Only.paths) _ c.cannot_carry.result _ (omega arith) only.1 are_loads (c.are_in_range.ensures.0 holds) c.cannot_carry.ensures
+    overfull_decided at.inst.now at.cuts.now at.cost (region_of_marks at.forbidden.now at.ranges.now) at.index c.args.link (bare_design c.in-Only.paths) _ c.cannot_carry.result _ (omega arith) only.1 (loads_are _ _ _ c.links.ensures.lawful c.loads_of_paths-loads.ensures.value) (c.are_in_range.ensures.0 holds) c.cannot_carry.ensures
     c.holds_or.ensures.ok c.holds_or.ensures.broken

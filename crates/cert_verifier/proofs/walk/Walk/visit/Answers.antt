@@ -1,17 +1,18 @@
-use Rattle.std.proofs.Common.{◌++◌, List, Some, None, refl, reverse, sym, ap, subst, ◌∙◌, append-nil}
+use Rattle.std.proofs.Common.{◌++◌, List, Some, None, refl, reverse, sym, ap, subst, ◌∙◌}
 use Rattle.link_steps.specs.Ranges.{no_range, range_at}
 use Rattle.plan_base.specs.declared.ids.ArcId.{ArcId}
 use Rattle.arc_restrict.specs.Restrictions.{with_forbidden}
 use Rattle.proof_tree.specs.declared.tree.TreeNode.{TreeNode}
 use Rattle.proof_tree.specs.declared.tree.TreeNode.TheVariants.{Split, Loads}
 use Rattle.proof_tree.specs.Regions.{with_arcs, up_to, above}
-use Rattle.proof_tree.specs.Trees.{LeafAt, children_at, leaf_here}
+use Rattle.proof_tree.specs.Trees.{children_at, leaf_here}
 use Rattle.verifier_paths.specs.Kept.{Marks, forbidden_by}
 use Rattle.cert_verifier.specs.Bounds.{IsLeastBoundIn}
 use Rattle.cert_verifier.specs.SplitRules.{SplitFinds}
 use Rattle.cert_verifier.specs.RecordRules.{RecordFinds}
 use Rattle.cert_verifier.specs.Walks.{region_of_marks, AreLeft}
 use Rattle.cert_verifier.proofs.SplitLaws.{split_found_none, loads_found_none}
+use Rattle.cert_verifier.proofs.LeastLaws.{least_kept}
 use Rattle.cert_verifier.proofs.WalkLaws.{record-is, region-is, entered, stands-ranges}
 use Rattle.cert_verifier.proofs.walk.Walk.visit.Goals as goal
 
@@ -57,12 +58,8 @@ returns-in_ok-visit_split-in-Split-clause-left c = λ node gs found place.
 
 pub returns-in_ok-visit_split-in-Split-clause-least : goal.returns-in_ok-visit_split-in-Split-clause-least
 returns-in_ok-visit_split-in-Split-clause-least c = λ node leaves found least.
-    let p = c.args.against.now.inst.now in
-    let g = region_of_marks c.args.self.now.forbidden c.args.self.now.ranges in
     let same = sym c.in-Split.is ∙ record-is c.args.against.now.plan.now.tree c.nodes.result.now c.args.index c.index-nodes-index.result c.nodes.ensures.value c.index-nodes-index.is node found in
-    subst (λ n. IsLeastBoundIn p c.args.against.now.plan.now.cuts (leaves ++ leaf_here g n) c.visit_split.new.self.least) same
-    (subst (λ b. IsLeastBoundIn p c.args.against.now.plan.now.cuts (leaves ++ leaf_here g (Split c.in-Split.demand c.in-Split.node c.in-Split.left c.in-Split.right)) b) (sym c.visit_split.ensures.least)
-    (subst (λ (ls : List LeafAt). IsLeastBoundIn p c.args.against.now.plan.now.cuts ls c.args.self.now.least) (sym (append-nil leaves)) least))
+    least_kept _ _ _ leaves _ node _ _ refl same c.visit_split.ensures.least least
 
 pub returns-in_ok-visit_loads-in-Loads-clause-found : goal.returns-in_ok-visit_loads-in-Loads-clause-found
 returns-in_ok-visit_loads-in-Loads-clause-found c = λ node found other.
@@ -84,9 +81,5 @@ returns-in_ok-visit_loads-in-Loads-clause-left c = λ node gs found place.
 
 pub returns-in_ok-visit_loads-in-Loads-clause-least : goal.returns-in_ok-visit_loads-in-Loads-clause-least
 returns-in_ok-visit_loads-in-Loads-clause-least c = λ node leaves found least.
-    let p = c.args.against.now.inst.now in
-    let g = region_of_marks c.args.self.now.forbidden c.args.self.now.ranges in
     let same = sym c.in-Loads.is ∙ record-is c.args.against.now.plan.now.tree c.nodes.result.now c.args.index c.index-nodes-index.result c.nodes.ensures.value c.index-nodes-index.is node found in
-    subst (λ n. IsLeastBoundIn p c.args.against.now.plan.now.cuts (leaves ++ leaf_here g n) c.visit_loads.new.self.least) same
-    (subst (λ b. IsLeastBoundIn p c.args.against.now.plan.now.cuts (leaves ++ leaf_here g (Loads c.in-Loads.place c.in-Loads.load)) b) (sym c.visit_loads.ensures.least)
-    (subst (λ (ls : List LeafAt). IsLeastBoundIn p c.args.against.now.plan.now.cuts ls c.args.self.now.least) (sym (append-nil leaves)) least))
+    least_kept _ _ _ leaves _ node _ _ refl same c.visit_loads.ensures.least least
