@@ -40,7 +40,7 @@ spelt-begun : (text : List ℕ) (plan : Plan) → SpellsPlan text plan → IsBeg
 spelt-begun text plan s = record {
   states = stated_by s.form plan;
   more = [];
-  draft = spelled_draft s.form plan s.spellable s.fields s.told s.cuts_told s.lines;
+  draft = spelled_draft text plan s;
   begins = plan_drafted s.form plan s.spellable s.fields s.asked ∙ sym (plan_text_lines s.form plan s.spellable s.fields) ∙ ap lines_of (sym s.is_text) ∙ sym (append-nil (lines_of text));
 }
 

@@ -40,7 +40,6 @@ use Rattle.cert_format.specs.Grammar.{
   lines_with,
   plan_lines,
   plan_text,
-  CanTell,
   HasCutFields,
   HasRecordFields,
   HasDesignFields,
@@ -52,7 +51,7 @@ use Rattle.cert_format.specs.Drafts.{IsGrown, Stated, AreListed, IsDraft, has_co
 use Rattle.cert_format.specs.Bodies.{fixed_of, number_row, cost_allowed, cost_of, bound_of, load_cut_row}
 use Rattle.cert_format.specs.Reading.{LineReader, ◌>>=◌, bind, done, one, many, head, design_of, design, bound, load_cuts, list_count, front_with, entries_of, opening, lists, records, tree, tree_with, ground_with, stated_on, before_end, last_line, ending, whole_plan, read_as, plan_of}
 use Rattle.plan_words.proofs.Cutting.{text_of_lines, lines_of_text}
-use Rattle.cert_format.proofs.BodyLaws.{IsCost, fixed_takes, fixed_again, number_row_takes, number_row_again, cost_takes, cost_again, bound_takes, bound_again}
+use Rattle.cert_format.proofs.BodyLaws.{IsCost, sizes_at, fixed_takes, fixed_again, number_row_takes, number_row_again, cost_takes, cost_again, bound_takes, bound_again}
 use Rattle.cert_format.proofs.CutLaws.{GoodCut, good_cuts, cut_takes, cut_again, cut_numbers_small}
 use Rattle.cert_format.proofs.ListLaws.{AreReady, good_listed, lists_ready, lists_told}
 use Rattle.cert_format.proofs.ReadingLaws.{
@@ -93,7 +92,7 @@ use Rattle.cert_format.proofs.Lacking.{plan_lacks}
 -- a cost, or none, that the status allows, and a design of it that fits
 pub record IsDesignRead (h : Head) (o : Option (ℕ × Design)) : Type 0 where
   pub cost : IsCost h.status (cost_in o)
-  pub design_in : IsDesignIn h.demands h.links o
+  pub design_in : IsDesignIn h.sizes.demands h.sizes.links o
 
 lines-of-design : (o : Option (ℕ × Design)) → cost_line (cost_in o) ∷ after_cost o ≡ design_lines o
 unfolding design_lines
@@ -104,10 +103,10 @@ lines-of-design (Some d) = refl
 pub design_takes : (h : Head) (ls : List Line) (o : Option (ℕ × Design)) (rest : List Line) → design h ls ≡ read_one o rest → IsDesignRead h o × (ls ≡ map whole (design_lines o) ++ rest)
 unfolding design
 design_takes h ls o rest e =
-    let (cost, us, e1, f1) = taken (one (cost_of h.status)) (design_of h.demands h.links) ls o rest e in
+    let (cost, us, e1, f1) = taken (one (cost_of h.status)) (design_of h.sizes.demands h.sizes.links) ls o rest e in
     let (body, line, read) = one_line (cost_of h.status) ls cost us e1 in
     let c = cost_takes h.status body cost read in
-    let d = design_of_takes h.demands h.links cost us o rest f1 in (
+    let d = design_of_takes h.sizes.demands h.sizes.links cost us o rest f1 in (
       record { cost = subst (IsCost h.status) (sym d.0) c.0; design_in = d.1 },
       line ∙ ap (λ b. whole b ∷ us) (c.1 ∙ ap cost_line (sym d.0)) ∙ ap (λ us. whole (cost_line (cost_in o)) ∷ us) d.2 ∙ ap (λ bs. map whole bs ++ rest) (lines-of-design o),
     )
@@ -116,10 +115,10 @@ design_takes h ls o rest e =
 pub design_again : (h : Head) (o : Option (ℕ × Design)) (rest : List Line) → IsDesignRead h o → design h (map whole (design_lines o) ++ rest) ≡ Ok (o, rest)
 unfolding design
 design_again h o rest d =
-    ap (λ bs. bind (one (cost_of h.status)) (design_of h.demands h.links) (map whole bs ++ rest)) (sym (lines-of-design o))
-    ∙ and_then (one (cost_of h.status)) (design_of h.demands h.links) (whole (cost_line (cost_in o)) ∷ (map whole (after_cost o) ++ rest)) (cost_in o) (map whole (after_cost o) ++ rest) (Ok (o, rest))
+    ap (λ bs. bind (one (cost_of h.status)) (design_of h.sizes.demands h.sizes.links) (map whole bs ++ rest)) (sym (lines-of-design o))
+    ∙ and_then (one (cost_of h.status)) (design_of h.sizes.demands h.sizes.links) (whole (cost_line (cost_in o)) ∷ (map whole (after_cost o) ++ rest)) (cost_in o) (map whole (after_cost o) ++ rest) (Ok (o, rest))
     (one_again (cost_of h.status) (cost_line (cost_in o)) (cost_in o) (map whole (after_cost o) ++ rest) (cost_again h.status (cost_in o) d.cost))
-    (design_of_again h.demands h.links o rest d.design_in)
+    (design_of_again h.sizes.demands h.sizes.links o rest d.design_in)
 
 -- ---- the bound
 
@@ -280,7 +279,7 @@ front4 h d b cuts = bind (list_count h.form) λ stated. done (front_with h d b c
 
 -- reads what stands before the price lists from the cuts on
 abbrev pub front3 : Head → Option (ℕ × Design) → Option ℤ → LineReader Front
-front3 h d b = bind (load_cuts h.form h.nodes) λ cuts. front4 h d b cuts
+front3 h d b = bind (load_cuts h.form h.sizes.nodes) λ cuts. front4 h d b cuts
 
 -- reads what stands before the price lists from the bound on
 abbrev pub front2 : Head → Option (ℕ × Design) → LineReader Front
@@ -295,7 +294,7 @@ pub record IsFront (f : Front) : Type 0 where
   pub head_is : IsHead f.0
   pub design_is : IsDesignRead f.0 f.1
   pub bound_is : IsBoundRead f.0.status f.2
-  pub cuts_are : AreCutsRead f.0.form f.0.nodes f.3
+  pub cuts_are : AreCutsRead f.0.form f.0.sizes.nodes f.3
   pub count_is : IsListCount f.0.form f.4
 
 -- whole lines of the front, with lines behind
@@ -309,13 +308,13 @@ front_takes ls f rest e =
     let (h, us, e1, f1) = taken head (λ h. front1 h) ls f rest e in
     let (d, vs, e2, f2) = taken (design h) (λ d. front2 h d) us f rest f1 in
     let (b, ws, e3, f3) = taken (bound h.status) (λ b. front3 h d b) vs f rest f2 in
-    let (cuts, ys, e4, f4) = taken (load_cuts h.form h.nodes) (λ cuts. front4 h d b cuts) ws f rest f3 in
+    let (cuts, ys, e4, f4) = taken (load_cuts h.form h.sizes.nodes) (λ cuts. front4 h d b cuts) ws f rest f3 in
     let (n, zs, e5, f5) = taken (list_count h.form) (λ stated. done (front_with h d b cuts stated)) ys f rest f4 in
     let p = done_parts (front_with h d b cuts n) f zs rest f5 in
     let hh = head_takes ls h us e1 in
     let dd = design_takes h us d vs e2 in
     let bb = bound_read_takes h.status vs b ws e3 in
-    let cs = cuts-takes h.form h.nodes ws cuts ys e4 in
+    let cs = cuts-takes h.form h.sizes.nodes ws cuts ys e4 in
     let nn = list-count-takes h.form ys n zs e5 in
     subst (λ (f : Front). IsFront f × (ls ≡ front_text f rest)) p.0 (
       record { head_is = hh.0; design_is = dd.0; bound_is = bb.0; cuts_are = cs.0; count_is = nn.0 },
@@ -335,7 +334,7 @@ front_again f rest g =
     and_then head (λ h. front1 h) (map whole (lines_of_head h) ++ us) h us o (head_again h us g.head_is)
     (and_then (design h) (λ d. front2 h d) us f.1 vs o (design_again h f.1 vs g.design_is)
     (and_then (bound h.status) (λ b. front3 h f.1 b) vs f.2 ws o (bound_read_again h.status f.2 ws g.bound_is)
-    (and_then (load_cuts h.form h.nodes) (λ cuts. front4 h f.1 f.2 cuts) ws f.3 ys o (cuts-again h.form h.nodes f.3 ys g.head_is.told.sizes.nodes g.cuts_are)
+    (and_then (load_cuts h.form h.sizes.nodes) (λ cuts. front4 h f.1 f.2 cuts) ws f.3 ys o (cuts-again h.form h.sizes.nodes f.3 ys g.head_is.told.sizes.nodes g.cuts_are)
     (and_then (list_count h.form) (λ stated. done (front_with h f.1 f.2 f.3 stated)) ys f.4 rest o (list-count-again h.form f.4 rest g.count_is)
     (done_is (front_with h f.1 f.2 f.3 f.4) rest)))))
 
@@ -487,21 +486,21 @@ seconds nodes links (n ∷ ns) h k = ((h.0, k.0), seconds nodes links ns h.1 k.1
 pub draft_from : (f : Front) (found : List (List ℕ)) (t : ℕ × List TreeNode) → AreParts f found t → IsDraft (stated_on f found t)
 draft_from f found t g =
     let h : Head = f.0 in
-    let each = firsts h.nodes (entries_on f) t.1 g.tree_is.each in
-    let cuts = both-of (λ (cut : LoadCut). length cut.nodes ≡ h.nodes) HasCutFields f.3 g.front_is.cuts_are.each in
+    let each = firsts h.sizes.nodes (entries_on f) t.1 g.tree_is.each in
+    let cuts = both-of (λ (cut : LoadCut). length cut.nodes ≡ h.sizes.nodes) HasCutFields f.3 g.front_is.cuts_are.each in
     record {
       sizes = record { nodes = g.front_is.head_is.told.sizes.nodes; links = g.front_is.head_is.told.sizes.links; demands = g.front_is.head_is.told.sizes.demands; some_budget = g.front_is.head_is.some_budget; budget = g.front_is.head_is.budget };
       told = g.front_is.head_is.told.told;
       status = status-fits h.status f.1 f.2 g.front_is.design_is.cost.allowed g.front_is.bound_is;
-      design = design-fits h.demands h.links f.1 g.front_is.design_is.design_in;
+      design = design-fits h.sizes.demands h.sizes.links f.1 g.front_is.design_is.design_in;
       fields = record {
         examined_within = g.front_is.head_is.examined;
-        design_fields = design-fields h.demands h.links f.1 g.front_is.design_is.design_in g.front_is.design_is.cost.small;
+        design_fields = design-fields h.sizes.demands h.sizes.links f.1 g.front_is.design_is.design_in g.front_is.design_is.cost.small;
         bound_field = bound-field h.status f.2 g.front_is.bound_is;
         cut_fields = cuts.1;
         record_fields = each.1;
       };
-      cuts = record { few = g.front_is.cuts_are.few; each = All-from_recursion (λ (cut : LoadCut). length cut.nodes ≡ h.nodes) f.3 cuts.0 };
+      cuts = record { few = g.front_is.cuts_are.few; each = All-from_recursion (λ (cut : LoadCut). length cut.nodes ≡ h.sizes.nodes) f.3 cuts.0 };
       cuts_told = g.front_is.cuts_are.told;
       listed = g.listed;
       some = g.tree_is.some;
@@ -514,7 +513,7 @@ draft_from f found t g =
 
 -- what the first five lines of a draft tell
 abbrev pub head_of : Stated → Head
-head_of s = record { form = s.form; nodes = s.plan.nodes; links = s.plan.links; demands = s.plan.demands; both = s.plan.both; status = s.plan.status; budget = s.plan.budget; examined = s.plan.examined }
+head_of s = record { form = s.form; sizes = sizes_at s.plan.nodes s.plan.links s.plan.demands s.plan.both; status = s.plan.status; budget = s.plan.budget; examined = s.plan.examined }
 
 -- what stands before the price lists of a draft
 abbrev pub front_parts : Stated → Front
@@ -581,17 +580,6 @@ draft_short s g short = (let p = parts_from s g in parts_short (front_parts s) s
 
 -- ---- a whole plan
 
--- a plan, and its lines in one of the versions
-pub record IsToldBy (ls : List Line) (plan : Plan) : Type 0 where
-  pub spellable : IsSpellable plan
-  pub fields : HasFields plan
-  pub form : Form
-  pub told : CanTell form plan.both
-  pub cuts_told : TellsCuts form plan.cuts
-  pub has_lines : HasLines form plan.tree
-  pub asked : IsTrue (is_asked form plan.cuts plan.tree)
-  pub lines : ls ≡ map whole (plan_lines form plan)
-
 -- the lines of a whole text
 whole-lines : (s : Stated) → length s.lists ≡ s.stated → s.lists ≡ lists_in s.form s.plan.tree → length s.plan.tree ≡ s.count → front_of s ++ (stated_tree_lines s ++ whole end_line ∷ []) ≡ map whole (plan_lines s.form s.plan)
 whole-lines s long lists_are count =
@@ -601,9 +589,9 @@ whole-lines s long lists_are count =
     ∙ ap (λ n. map whole (front_lines s.form (length s.lists) s.lists s.plan ++ (tree_lines s.form s.lists n s.plan.tree ++ end_line ∷ []))) (sym count)
     ∙ ap (λ ls. map whole (lines_with s.form ls s.plan)) lists_are
 
--- lines that are read as a plan are those of a plan that can be spelt, in one of the versions
-pub whole_takes : (ls : List Line) (plan : Plan) → whole_plan ls ≡ Ok plan → IsToldBy ls plan
-unfolding whole_plan
+-- lines that are read as a plan are those of a text that spells it
+pub whole_takes : (ls : List Line) (plan : Plan) → whole_plan ls ≡ Ok plan → SpellsPlan (text_of ls) plan
+unfolding whole_plan plan_text
 whole_takes ls plan e =
     let (d, first, later) = bind_ok (before_end ls) ending plan e in
     let s : Stated = d.0 in
@@ -616,7 +604,7 @@ whole_takes ls plan e =
     let count : length s.plan.tree ≡ s.count = eqb-true (length s.plan.tree) s.count counts.0 in
     let entries : ℕ = numbers_in s.plan in
     let lists_are : s.lists ≡ lists_in s.form s.plan.tree = lists_told s.form entries s.stated s.lists s.plan.tree g.0.listed g.0.named (eqb-true (named_from s.form s.lists 0 s.plan.tree) (length s.lists) counts.1) in
-    subst (IsToldBy ls) same (record {
+    subst (SpellsPlan (text_of ls)) same (record {
       spellable = record {
         sizes = g.0.sizes;
         status = g.0.status;
@@ -629,9 +617,9 @@ whole_takes ls plan e =
       form = s.form;
       told = g.0.told;
       cuts_told = g.0.cuts_told;
-      has_lines = g.0.lines;
+      lines = g.0.lines;
       asked = subst IsTrue (sym met.1) refl;
-      lines = g.2 ∙ ap (λ us. front_of s ++ (stated_tree_lines s ++ us)) end ∙ whole-lines s g.1 lists_are count;
+      is_text = ap text_of (g.2 ∙ ap (λ us. front_of s ++ (stated_tree_lines s ++ us)) end ∙ whole-lines s g.1 lists_are count);
     })
   where
     when_err : (t : Bool) (r : Result Plan (List Line)) (us : List Line) (plan : Plan) → cond t r (Err us) ≡ Ok plan → (t ≡ true) × (r ≡ Ok plan)
@@ -656,24 +644,24 @@ plan_ready form plan s f =
     lists_ready form plan.nodes (numbers_in plan) plan.tree s.whole s.records.few
     (seconds plan.nodes (numbers_in plan) plan.tree (recursion_from_All (FitsRecord plan.nodes (numbers_in plan)) plan.tree s.records.each) f.record_fields)
 
--- what the text of a plan states is a draft, where the plan can be spelt and the version can tell it
-pub spelled_draft : (form : Form) (plan : Plan) → IsSpellable plan → HasFields plan → CanTell form plan.both → TellsCuts form plan.cuts → HasLines form plan.tree → IsDraft (stated_by form plan)
-spelled_draft form plan s f told cuts_told lines =
-    let r = plan_ready form plan s f in
+-- what a text that spells a plan states is a draft
+pub spelled_draft : (text : List ℕ) (plan : Plan) (s : SpellsPlan text plan) → IsDraft (stated_by s.form plan)
+spelled_draft text plan s =
+    let r = plan_ready s.form plan s.spellable s.fields in
     record {
-      sizes = s.sizes;
-      told = told;
-      status = s.status;
-      design = s.design;
-      fields = f;
-      cuts = s.cuts;
-      cuts_told = cuts_told;
+      sizes = s.spellable.sizes;
+      told = s.told;
+      status = s.spellable.status;
+      design = s.spellable.design;
+      fields = s.fields;
+      cuts = s.spellable.cuts;
+      cuts_told = s.cuts_told;
       listed = r.listed;
-      some = some plan.tree s.whole;
-      few = s.records.few;
-      grown = grown_whole plan.tree 1 (true-is (are_trees 1 plan.tree) s.whole);
-      records = recursion_from_All (FitsRecord plan.nodes (numbers_in plan)) plan.tree s.records.each;
-      lines = lines;
+      some = some plan.tree s.spellable.whole;
+      few = s.spellable.records.few;
+      grown = grown_whole plan.tree 1 (true-is (are_trees 1 plan.tree) s.spellable.whole);
+      records = recursion_from_All (FitsRecord plan.nodes (numbers_in plan)) plan.tree s.spellable.records.each;
+      lines = s.lines;
       named = r.named;
     }
   where
@@ -700,24 +688,22 @@ plan_drafted form plan s f asked =
     ∙ ap (λ b. front_of x ++ (stated_tree_lines x ++ cond b (whole end_line ∷ []) [])) (plan-complete form plan s f asked)
     ∙ whole-lines x refl refl refl
 
--- the lines of a plan that can be spelt, in a version that can tell it and is asked for, are read as it
-pub whole_again : (form : Form) (plan : Plan) → IsSpellable plan → HasFields plan → CanTell form plan.both → TellsCuts form plan.cuts → HasLines form plan.tree → IsTrue (is_asked form plan.cuts plan.tree) → whole_plan (map whole (plan_lines form plan)) ≡ Ok plan
+-- the lines of a text that spells a plan are read as it
+pub whole_again : (text : List ℕ) (plan : Plan) (s : SpellsPlan text plan) → whole_plan (map whole (plan_lines s.form plan)) ≡ Ok plan
 unfolding whole_plan
-whole_again form plan s f told cuts_told lines asked =
-    let x : Stated = stated_by form plan in
+whole_again text plan s =
+    let x : Stated = stated_by s.form plan in
     ap (λ ls. before_end ls >>= ending) (sym (whole-lines x refl refl refl))
-    ∙ ap (λ r. r >>= ending) (draft_again x (whole end_line ∷ []) (spelled_draft form plan s f told cuts_told lines) refl)
-    ∙ ap (λ t. cond t (last_line plan (one (fixed_of end_line) (whole end_line ∷ []))) (Err (whole end_line ∷ []))) (plan-complete form plan s f asked)
+    ∙ ap (λ r. r >>= ending) (draft_again x (whole end_line ∷ []) (spelled_draft text plan s) refl)
+    ∙ ap (λ t. cond t (last_line plan (one (fixed_of end_line) (whole end_line ∷ []))) (Err (whole end_line ∷ []))) (plan-complete s.form plan s.spellable s.fields s.asked)
     ∙ ap (last_line plan) (one_again (fixed_of end_line) end_line tt [] (fixed_again end_line))
 
 -- ---- texts
 
 -- a text that is read as a plan spells this plan
 pub spells_takes : (text : List ℕ) (plan : Plan) → plan_of text ≡ Ok plan → SpellsPlan text plan
-unfolding plan_of plan_text
-spells_takes text plan e =
-    let w = whole_takes (lines_of text) plan (read-ok (whole_plan (lines_of text)) plan e) in
-    record { spellable = w.spellable; fields = w.fields; form = w.form; told = w.told; cuts_told = w.cuts_told; lines = w.has_lines; asked = w.asked; is_text = sym (text_of_lines text) ∙ ap text_of w.lines }
+unfolding plan_of
+spells_takes text plan e = subst (λ (t : List ℕ). SpellsPlan t plan) (text_of_lines text) (whole_takes (lines_of text) plan (read-ok (whole_plan (lines_of text)) plan e))
   where
     read-ok : (r : Result Plan (List Line)) (plan : Plan) → read_as (length text) r ≡ Ok plan → r ≡ Ok plan
     read-ok (Ok p) plan e = (let same : p ≡ plan = cc in ap (λ (p : Plan). Ok p) same)
@@ -738,4 +724,4 @@ pub spells_again : (text : List ℕ) (plan : Plan) → SpellsPlan text plan → 
 unfolding plan_of
 spells_again text plan s =
     ap (λ ls. read_as (length text) (whole_plan ls)) (ap lines_of s.is_text ∙ plan_text_lines s.form plan s.spellable s.fields)
-    ∙ ap (read_as (length text)) (whole_again s.form plan s.spellable s.fields s.told s.cuts_told s.lines s.asked)
+    ∙ ap (read_as (length text)) (whole_again text plan s)

@@ -24,7 +24,7 @@ use Rattle.cert_format.specs.Grammar.{header_line, size_line, status_line, numbe
 use Rattle.cert_format.specs.Drafts.{IsGrown, left_open}
 use Rattle.cert_format.specs.Bodies.{form_of, number_row, size_row, status_of, path_of, modules_of, list_row}
 use Rattle.cert_format.specs.Reading.{LineReader, ◌>>=◌, bind, done, past_line, one, many, head, design_of, lists, record_on, records, head_with, design_with}
-use Rattle.cert_format.proofs.BodyLaws.{AreTold, sizes_at, form_takes, form_again, number_row_takes, number_row_again, size_takes, size_again, status_takes, status_again, path_takes, path_again, modules_takes, modules_again, list_takes, list_again}
+use Rattle.cert_format.proofs.BodyLaws.{AreTold, form_takes, form_again, number_row_takes, number_row_again, size_takes, size_again, status_takes, status_again, path_takes, path_again, modules_takes, modules_again, list_takes, list_again}
 use Rattle.cert_format.proofs.ListLaws.{AreGood}
 use Rattle.cert_format.proofs.ShownLaws.{record_in_takes, record_in_again}
 
@@ -115,14 +115,14 @@ many_again f Good print law (x ∷ xs) rest h =
 
 -- what the first five lines tell is within its limits, and the version can tell it
 pub record IsHead (h : Head) : Type 0 where
-  pub told : AreTold h.form (sizes_at h.nodes h.links h.demands h.both)
+  pub told : AreTold h.form h.sizes
   pub some_budget : 1 ≤ h.budget
   pub budget : h.budget ≤ MAX_BUDGET
   pub examined : h.examined < 2 ^ 32
 
 -- the five lines that begin a text which tells this
 abbrev pub lines_of_head : Head → List (List ℕ)
-lines_of_head h = header_line h.form ∷ size_line h.form h.nodes h.links h.demands h.both ∷ status_line h.status ∷ number_line (codes "BUDGET") h.budget ∷ number_line (codes "EXAMINED") h.examined ∷ []
+lines_of_head h = header_line h.form ∷ size_line h.form h.sizes.nodes h.sizes.links h.sizes.demands h.sizes.both ∷ status_line h.status ∷ number_line (codes "BUDGET") h.budget ∷ number_line (codes "EXAMINED") h.examined ∷ []
 
 -- the readers that follow one another there
 abbrev pub head4 : Form → Sizes → PlanStatus → ℕ → LineReader Head
@@ -178,14 +178,13 @@ head_again h rest g =
     let ls4 : List Line = whole (number_line (codes "EXAMINED") h.examined) ∷ ls5 in
     let ls3 : List Line = whole (number_line (codes "BUDGET") h.budget) ∷ ls4 in
     let ls2 : List Line = whole (status_line h.status) ∷ ls3 in
-    let ls1 : List Line = whole (size_line h.form h.nodes h.links h.demands h.both) ∷ ls2 in
-    let sizes : Sizes = sizes_at h.nodes h.links h.demands h.both in
+    let ls1 : List Line = whole (size_line h.form h.sizes.nodes h.sizes.links h.sizes.demands h.sizes.both) ∷ ls2 in
     and_then (one form_of) (λ form. head1 form) (whole (header_line h.form) ∷ ls1) h.form ls1 (Ok (h, rest)) (one_again form_of (header_line h.form) h.form ls1 (form_again h.form))
-    (and_then (one (size_row h.form)) (λ sizes. head2 h.form sizes) ls1 sizes ls2 (Ok (h, rest)) (one_again (size_row h.form) (size_line h.form h.nodes h.links h.demands h.both) sizes ls2 (size_again h.form h.nodes h.links h.demands h.both g.told))
-    (and_then (one status_of) (λ status. head3 h.form sizes status) ls2 h.status ls3 (Ok (h, rest)) (one_again status_of (status_line h.status) h.status ls3 (status_again h.status))
-    (and_then (one (number_row (codes "BUDGET") 1 MAX_BUDGET)) (λ budget. head4 h.form sizes h.status budget) ls3 h.budget ls4 (Ok (h, rest))
+    (and_then (one (size_row h.form)) (λ sizes. head2 h.form sizes) ls1 h.sizes ls2 (Ok (h, rest)) (one_again (size_row h.form) (size_line h.form h.sizes.nodes h.sizes.links h.sizes.demands h.sizes.both) h.sizes ls2 (size_again h.form h.sizes.nodes h.sizes.links h.sizes.demands h.sizes.both g.told))
+    (and_then (one status_of) (λ status. head3 h.form h.sizes status) ls2 h.status ls3 (Ok (h, rest)) (one_again status_of (status_line h.status) h.status ls3 (status_again h.status))
+    (and_then (one (number_row (codes "BUDGET") 1 MAX_BUDGET)) (λ budget. head4 h.form h.sizes h.status budget) ls3 h.budget ls4 (Ok (h, rest))
     (one_again (number_row (codes "BUDGET") 1 MAX_BUDGET) (number_line (codes "BUDGET") h.budget) h.budget ls4 (number_row_again (codes "BUDGET") 1 MAX_BUDGET h.budget (omega arith) g.some_budget g.budget))
-    (and_then (one (number_row (codes "EXAMINED") 0 (2 ^ 32 - 1))) (λ examined. done (head_with h.form sizes h.status h.budget examined)) ls4 h.examined ls5 (Ok (h, rest))
+    (and_then (one (number_row (codes "EXAMINED") 0 (2 ^ 32 - 1))) (λ examined. done (head_with h.form h.sizes h.status h.budget examined)) ls4 h.examined ls5 (Ok (h, rest))
     (one_again (number_row (codes "EXAMINED") 0 (2 ^ 32 - 1)) (number_line (codes "EXAMINED") h.examined) h.examined ls5 (number_row_again (codes "EXAMINED") 0 (2 ^ 32 - 1) h.examined (omega arith) (omega arith) (omega (arith, g.examined))))
     (done_is h rest)))))
 

@@ -14,7 +14,7 @@ use Rattle.cert_format.specs.declared.limits.TheConstants.{MAX_LISTS}
 use Rattle.cert_format.specs.declared.form.Form.{Form}
 use Rattle.cert_format.specs.declared.form.Form.TheVariants.{First, Second, Third}
 use Rattle.cert_format.specs.Versions.{has_line}
-use Rattle.cert_format.specs.Lists.{number_in, prices_in, record_prices, leaf_with_number, with_number, shown, width, named_behind, IsNext, Names, AreNamed, AreNew, listed, priced, with_listed_prices, meant, resolved}
+use Rattle.cert_format.specs.Lists.{number_in, record_prices, with_number, shown, width, named_behind, IsNext, Names, AreNamed, AreNew, listed, priced, with_listed_prices, meant, resolved}
 use Rattle.plan_words.specs.Words.{◌>>=◌}
 use Rattle.cert_format.specs.Grammar.{record_line, HasLeafFields, HasRecordFields}
 use Rattle.cert_format.specs.Bodies.{record_of, record_in}
@@ -54,37 +54,31 @@ listed-again : (lists : List (List ℕ)) (named : ℕ) (ps : List ℕ) → IsNex
 listed-again lists named ps next =
     ap (λ t. cond t (slice_get lists (number_in lists ps)) None) (le-leb (number_in lists ps) named next.in_order) ∙ list_numbered lists ps next.listed
 
--- a leaf, and the one with the number of its list in place of the prices
-record IsNumberedLeaf (lists : List (List ℕ)) (named nodes entries : ℕ) (e raw : Evidence) : Type 0 where
-  fits : FitsEvidence nodes entries e
-  fields : HasLeafFields e
-  next : IfSome (prices_in e) (IsNext lists named)
-  numbers : raw ≡ leaf_with_number lists e
-
-leaf-takes : (lists : List (List ℕ)) (named nodes entries : ℕ) (raw e : Evidence) → AreNew entries [] lists → priced lists named raw ≡ Some e → FitsEvidence nodes 1 raw → HasLeafFields raw → IsNumberedLeaf lists named nodes entries e raw
-leaf-takes lists named nodes entries (Bound ns) e new h fits fields =
-    let (ps, found, is) = map-some (listed lists named ns) (λ prices. Bound prices) e h in
-    let p = listed-takes entries lists named ns ps new found in
-    subst (λ (x : Evidence). IsNumberedLeaf lists named nodes entries x (Bound ns)) is (record { fits = p.count; fields = p.small; next = p.next; numbers = ap (λ ks. Bound ks) p.numbers })
-leaf-takes lists named nodes entries Routed e new h fits fields = (let is : Routed ≡ e = cc in subst (λ (x : Evidence). IsNumberedLeaf lists named nodes entries x Routed) is (record { fits = tt; fields = tt; next = tt; numbers = refl }))
-leaf-takes lists named nodes entries (Overfull link) e new h fits fields = (let is : Overfull link ≡ e = cc in subst (λ (x : Evidence). IsNumberedLeaf lists named nodes entries x (Overfull link)) is (record { fits = tt; fields = fields; next = tt; numbers = refl }))
-leaf-takes lists named nodes entries (Cut demand reached) e new h fits fields = (let is : Cut demand reached ≡ e = cc in subst (λ (x : Evidence). IsNumberedLeaf lists named nodes entries x (Cut demand reached)) is (record { fits = fits; fields = fields; next = tt; numbers = refl }))
-leaf-takes lists named nodes entries (Far demand) e new h fits fields = (let is : Far demand ≡ e = cc in subst (λ (x : Evidence). IsNumberedLeaf lists named nodes entries x (Far demand)) is (record { fits = tt; fields = fields; next = tt; numbers = refl }))
-leaf-takes lists named nodes entries (Crowd ns) e new h fits fields =
-    let (ps, found, is) = map-some (listed lists named ns) (λ prices. Crowd prices) e h in
-    let p = listed-takes entries lists named ns ps new found in
-    subst (λ (x : Evidence). IsNumberedLeaf lists named nodes entries x (Crowd ns)) is (record { fits = p.count; fields = p.small; next = p.next; numbers = ap (λ ks. Crowd ks) p.numbers })
-leaf-takes lists named nodes entries (Open ns) e new h fits fields =
-    let (ps, found, is) = map-some (listed lists named ns) (λ prices. Open prices) e h in
-    let p = listed-takes entries lists named ns ps new found in
-    subst (λ (x : Evidence). IsNumberedLeaf lists named nodes entries x (Open ns)) is (record { fits = p.count; fields = p.small; next = p.next; numbers = ap (λ ks. Open ks) p.numbers })
-
 -- a record, and the one with the number of its list in place of the prices
 record IsNumbered (lists : List (List ℕ)) (named nodes entries : ℕ) (node raw : TreeNode) : Type 0 where
   fits : FitsRecord nodes entries node
   fields : HasRecordFields node
   next : IfSome (record_prices node) (IsNext lists named)
   numbers : raw ≡ with_number lists node
+
+-- a leaf with prices in place of the number of their list
+leaf-takes : (lists : List (List ℕ)) (named nodes entries : ℕ) (raw e : Evidence) → AreNew entries [] lists → priced lists named raw ≡ Some e → FitsEvidence nodes 1 raw → HasLeafFields raw → IsNumbered lists named nodes entries (Leaf e) (Leaf raw)
+leaf-takes lists named nodes entries (Bound ns) e new h fits fields =
+    let (ps, found, is) = map-some (listed lists named ns) (λ prices. Bound prices) e h in
+    let p = listed-takes entries lists named ns ps new found in
+    subst (λ (x : Evidence). IsNumbered lists named nodes entries (Leaf x) (Leaf (Bound ns))) is (record { fits = p.count; fields = p.small; next = p.next; numbers = ap (λ ks. Leaf (Bound ks)) p.numbers })
+leaf-takes lists named nodes entries Routed e new h fits fields = (let is : Routed ≡ e = cc in subst (λ (x : Evidence). IsNumbered lists named nodes entries (Leaf x) (Leaf Routed)) is (record { fits = tt; fields = tt; next = tt; numbers = refl }))
+leaf-takes lists named nodes entries (Overfull link) e new h fits fields = (let is : Overfull link ≡ e = cc in subst (λ (x : Evidence). IsNumbered lists named nodes entries (Leaf x) (Leaf (Overfull link))) is (record { fits = tt; fields = fields; next = tt; numbers = refl }))
+leaf-takes lists named nodes entries (Cut demand reached) e new h fits fields = (let is : Cut demand reached ≡ e = cc in subst (λ (x : Evidence). IsNumbered lists named nodes entries (Leaf x) (Leaf (Cut demand reached))) is (record { fits = fits; fields = fields; next = tt; numbers = refl }))
+leaf-takes lists named nodes entries (Far demand) e new h fits fields = (let is : Far demand ≡ e = cc in subst (λ (x : Evidence). IsNumbered lists named nodes entries (Leaf x) (Leaf (Far demand))) is (record { fits = tt; fields = fields; next = tt; numbers = refl }))
+leaf-takes lists named nodes entries (Crowd ns) e new h fits fields =
+    let (ps, found, is) = map-some (listed lists named ns) (λ prices. Crowd prices) e h in
+    let p = listed-takes entries lists named ns ps new found in
+    subst (λ (x : Evidence). IsNumbered lists named nodes entries (Leaf x) (Leaf (Crowd ns))) is (record { fits = p.count; fields = p.small; next = p.next; numbers = ap (λ ks. Leaf (Crowd ks)) p.numbers })
+leaf-takes lists named nodes entries (Open ns) e new h fits fields =
+    let (ps, found, is) = map-some (listed lists named ns) (λ prices. Open prices) e h in
+    let p = listed-takes entries lists named ns ps new found in
+    subst (λ (x : Evidence). IsNumbered lists named nodes entries (Leaf x) (Leaf (Open ns))) is (record { fits = p.count; fields = p.small; next = p.next; numbers = ap (λ ks. Leaf (Open ks)) p.numbers })
 
 numbered-takes : (lists : List (List ℕ)) (named nodes entries : ℕ) (raw node : TreeNode) → AreNew entries [] lists → with_listed_prices lists named raw ≡ Some node → FitsRecord nodes 1 raw → HasRecordFields raw → IsNumbered lists named nodes entries node raw
 numbered-takes lists named nodes entries (Split demand at left right) node new e fits fields =
@@ -95,8 +89,7 @@ numbered-takes lists named nodes entries (Loads place load) node new e fits fiel
     subst (λ (x : TreeNode). IsNumbered lists named nodes entries x (Loads place load)) is (record { fits = tt; fields = fields; next = tt; numbers = refl })
 numbered-takes lists named nodes entries (Leaf raw) node new e fits fields =
     let (found, first, is) = map-some (priced lists named raw) (λ (x : Evidence). Leaf x) node e in
-    let l = leaf-takes lists named nodes entries raw found new first fits fields in
-    subst (λ (x : TreeNode). IsNumbered lists named nodes entries x (Leaf raw)) is (record { fits = l.fits; fields = l.fields; next = l.next; numbers = ap (λ (x : Evidence). Leaf x) l.numbers })
+    subst (λ (x : TreeNode). IsNumbered lists named nodes entries x (Leaf raw)) is (leaf-takes lists named nodes entries raw found new first fits fields)
 
 -- a record, and what stands for it in a text of this version
 record IsShownAs (form : Form) (lists : List (List ℕ)) (named nodes entries : ℕ) (node raw : TreeNode) : Type 0 where

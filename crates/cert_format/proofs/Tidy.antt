@@ -247,7 +247,7 @@ tidy_design_of demands links (Some cost) =
 
 tidy_design : (h : Head) → Tidy (design h)
 unfolding design
-tidy_design h = tidy_bind (one (cost_of h.status)) (design_of h.demands h.links) (tidy_cost h.status) (tidy_design_of h.demands h.links)
+tidy_design h = tidy_bind (one (cost_of h.status)) (design_of h.sizes.demands h.sizes.links) (tidy_cost h.status) (tidy_design_of h.sizes.demands h.sizes.links)
 
 tidy_bound : (s : PlanStatus) → Tidy (bound s)
 unfolding bound
@@ -284,7 +284,7 @@ tidy_opening =
     tidy_bind head (λ h. front1 h) tidy_head λ h.
     tidy_bind (design h) (λ d. front2 h d) (tidy_design h) λ d.
     tidy_bind (bound h.status) (λ b. front3 h d b) (tidy_bound h.status) λ b.
-    tidy_bind (load_cuts h.form h.nodes) (λ cuts. front4 h d b cuts) (tidy_cuts h.form h.nodes) λ cuts.
+    tidy_bind (load_cuts h.form h.sizes.nodes) (λ cuts. front4 h d b cuts) (tidy_cuts h.form h.sizes.nodes) λ cuts.
     tidy_bind (list_count h.form) (λ stated. done (front_with h d b cuts stated)) (tidy_count h.form) λ stated.
     tidy_done (front_with h d b cuts stated)
 

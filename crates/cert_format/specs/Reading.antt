@@ -59,8 +59,7 @@ many (suc n) f = bind (one f) (λ x. bind (many n f) (λ xs. done (x ∷ xs)))
 
 -- the parts of these lines
 abbrev pub head_with : Form → Sizes → PlanStatus → ℕ → ℕ → Head
-head_with form sizes status budget examined =
-    record { form = form; nodes = sizes.nodes; links = sizes.links; demands = sizes.demands; both = sizes.both; status = status; budget = budget; examined = examined }
+head_with form sizes status budget examined = record { form = form; sizes = sizes; status = status; budget = budget; examined = examined }
 
 -- the five lines that begin each text
 unfoldable pub head : LineReader Head
@@ -84,7 +83,7 @@ design_of demands links (Some cost) = bind (many demands path_of) λ paths.
 
 -- the cost, and the design that has it
 unfoldable pub design : Head → LineReader (Option (ℕ × Design))
-design h = bind (one (cost_of h.status)) (design_of h.demands h.links)
+design h = bind (one (cost_of h.status)) (design_of h.sizes.demands h.sizes.links)
 
 -- the bound of an undecided plan
 unfoldable pub bound : PlanStatus → LineReader (Option ℤ)
@@ -106,7 +105,7 @@ list_count Third = one (number_row (codes "PRICES") 0 MAX_LISTS)
 
 -- how many numbers a price list has: a price for each place, and behind these a rate for each cut
 abbrev pub entries_of : Head → List LoadCut → ℕ
-entries_of h cuts = places_in h.both h.links + length cuts
+entries_of h cuts = places_in h.sizes.both h.sizes.links + length cuts
 
 -- what stands before the price lists
 abbrev pub front_with : Head → Option (ℕ × Design) → Option ℤ → List LoadCut → ℕ → Head × Option (ℕ × Design) × Option ℤ × List LoadCut × ℕ
@@ -114,7 +113,7 @@ front_with h d b cuts stated = (h, d, b, cuts, stated)
 
 -- all lines before the price lists
 unfoldable pub opening : LineReader (Head × Option (ℕ × Design) × Option ℤ × List LoadCut × ℕ)
-opening = bind head λ h. bind (design h) λ d. bind (bound h.status) λ b. bind (load_cuts h.form h.nodes) λ cuts. bind (list_count h.form) λ stated. done (front_with h d b cuts stated)
+opening = bind head λ h. bind (design h) λ d. bind (bound h.status) λ b. bind (load_cuts h.form h.sizes.nodes) λ cuts. bind (list_count h.form) λ stated. done (front_with h d b cuts stated)
 
 -- reads so many price lists, each different from those before it
 unfoldable pub lists : ℕ → ℕ → List (List ℕ) → LineReader (List (List ℕ))
@@ -146,10 +145,10 @@ tree g = bind (one (number_row (codes "TREE") 1 MAX_RECORDS)) λ count.
 -- the plan of these parts
 abbrev pub plan_with : Head → Option (ℕ × Design) → Option ℤ → List LoadCut → List TreeNode → Plan
 plan_with h d b cuts nodes = record {
-  nodes = h.nodes;
-  links = h.links;
-  demands = h.demands;
-  both = h.both;
+  nodes = h.sizes.nodes;
+  links = h.sizes.links;
+  demands = h.sizes.demands;
+  both = h.sizes.both;
   status = h.status;
   budget = h.budget;
   examined = h.examined;
@@ -165,7 +164,7 @@ stated_with h d b cuts stated lists t = record { form = h.form; stated = stated;
 
 -- what the lines of a tree depend on
 abbrev pub ground_with : Head → List LoadCut → List (List ℕ) → Ground
-ground_with h cuts lists = record { form = h.form; lists = lists; nodes = h.nodes; entries = entries_of h cuts }
+ground_with h cuts lists = record { form = h.form; lists = lists; nodes = h.sizes.nodes; entries = entries_of h cuts }
 
 -- what is stated by all lines before the tree, and a tree
 abbrev pub stated_on : Head × Option (ℕ × Design) × Option ℤ × List LoadCut × ℕ → List (List ℕ) → ℕ × List TreeNode → Stated

@@ -3,9 +3,11 @@
 ghost use Rattle.std.specs.Prelude.{◌≡◌, Some, None, IfOk, option_and_then, option_map};
 ghost use Rattle.plan_words.specs.Words.{numbers_of};
 ghost use Rattle.cert_format.specs.Bodies.{cut_in, prices_of, priced_of, overfull_with, far_with, lone_number, leaf_of};
+ghost use Rattle.cert_format.specs.Lists.{width};
 
 use crate::bodies::{fixed, one_in};
 use crate::node_sets::node_set;
+use crate::numbering::Ground;
 use plan_base::{DemandId, Items, LinkId, Prices};
 use plan_words::{behind, numbers};
 use proof_tree::Evidence;
@@ -102,15 +104,14 @@ fn far(alloc: Global, bytes: &[u8]) -> Result<Option<Evidence>, AllocError>
     }
 }
 
-/// The evidence of a leaf, where so many numbers stand for prices.
+/// The evidence of a leaf, with the numbers that stand for prices.
 #[tactic(auto, unfolding(crate::specs::Bodies::leaf_of))]
 pub(crate) fn leaf(
     alloc: Global,
-    nodes: u32,
-    count: usize,
+    ground: &Ground,
     body: &[u8],
 ) -> Result<Option<Evidence>, AllocError>
-    ensures { IfOk result (λ found. found ≡ leaf_of nodes count body.now) }
+    ensures { IfOk result (λ found. found ≡ leaf_of ground.now.nodes (width ground.now.form ground.now.entries) body.now) }
 {
     if fixed(b"ROUTED", body).is_some() {
         return Ok(Some(Evidence::Routed));
@@ -119,10 +120,10 @@ pub(crate) fn leaf(
         return overfull(alloc, rest);
     }
     if let Some(rest) = behind(b"CUT", body) {
-        return cut(alloc, nodes, rest);
+        return cut(alloc, ground.nodes, rest);
     }
     if let Some(rest) = behind(b"FAR", body) {
         return far(alloc, rest);
     }
-    priced(alloc, count, body)
+    priced(alloc, ground.width(), body)
 }

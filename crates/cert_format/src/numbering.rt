@@ -2,7 +2,7 @@
 
 ghost use Rattle.std.specs.Prelude.{◌≡◌, ◌≤◌, ◌<◌, ◌+◌, ◌^◌, nat_eq, IfOk};
 ghost use Rattle.std.specs.Cmp.Lexicographic.{pointwise};
-ghost use Rattle.cert_format.specs.Lists.{prices_in, record_prices, lists_of, named_by, named_behind, listed, priced, with_listed_prices, meant, resolved};
+ghost use Rattle.cert_format.specs.Lists.{prices_in, record_prices, lists_of, named_by, named_behind, listed, priced, with_listed_prices, resolved, width};
 ghost use Rattle.plan_words.specs.Cuts.{found_now};
 
 use crate::form::{Form, has_line};
@@ -19,6 +19,18 @@ pub(crate) struct Ground {
     pub(crate) lists: Lists,
     pub(crate) nodes: u32,
     pub(crate) entries: usize,
+}
+
+impl Ground {
+    /// How many numbers stand for the prices of a record.
+    pub(crate) fn width(&self) -> usize
+        ensures { result ≡ width self.now.form self.now.entries }
+    {
+        match self.form {
+            Form::First => self.entries,
+            Form::Second | Form::Third => 1,
+        }
+    }
 }
 
 /// The prices of a leaf that is closed or open by prices.
@@ -156,25 +168,9 @@ fn with_listed_prices(
 {
     match node {
         TreeNode::Split { .. } | TreeNode::Loads { .. } => Ok(Some(node)),
-        TreeNode::Leaf(evidence) => match priced(alloc, lists, named, evidence)? {
-            Some(evidence) => Ok(Some(TreeNode::Leaf(evidence))),
-            None => Ok(None),
-        },
-    }
-}
-
-/// The record that is shown so, where so many lists are named before it.
-fn meant(
-    alloc: Global,
-    ground: &Ground,
-    named: u32,
-    node: TreeNode,
-) -> Result<Option<TreeNode>, AllocError>
-    ensures { IfOk result (λ found. found ≡ meant ground.now.form ground.now.lists named node) }
-{
-    match ground.form {
-        Form::First => Ok(Some(node)),
-        Form::Second | Form::Third => with_listed_prices(alloc, &ground.lists, named, node),
+        TreeNode::Leaf(evidence) => {
+            Ok(priced(alloc, lists, named, evidence)?.map(TreeNode::Leaf))
+        }
     }
 }
 
@@ -191,5 +187,8 @@ pub(crate) fn resolve(
     if !has_line(ground.form, &node) {
         return Ok(None);
     }
-    meant(alloc, ground, named, node)
+    match ground.form {
+        Form::First => Ok(Some(node)),
+        Form::Second | Form::Third => with_listed_prices(alloc, &ground.lists, named, node),
+    }
 }

@@ -32,10 +32,7 @@ use std::alloc::Global;
 #[derive(Clone, Copy)]
 pub(crate) struct Head {
     pub(crate) form: Form,
-    pub(crate) nodes: u32,
-    pub(crate) links: u32,
-    pub(crate) demands: u32,
-    pub(crate) both: bool,
+    pub(crate) sizes: Sizes,
     pub(crate) status: PlanStatus,
     pub(crate) budget: u32,
     pub(crate) examined: u32,
@@ -199,10 +196,7 @@ fn read_head(alloc: Global, text: &[u8]) -> Result<(Head, &[u8]), Stop>
     let (examined, text) = number_line(alloc, b"EXAMINED", 0, u32::MAX, text)?;
     let head = Head {
         form,
-        nodes: sizes.nodes,
-        links: sizes.links,
-        demands: sizes.demands,
-        both: sizes.both,
+        sizes,
         status,
         budget,
         examined,
@@ -277,7 +271,7 @@ fn read_design(
     ensures { Reads seen_value result (design head (lines_of text.now)) }
 {
     let (cost, text) = cost_line(alloc, head.status, text)?;
-    read_design_of(alloc, head.demands, head.links, cost, text)
+    read_design_of(alloc, head.sizes.demands, head.sizes.links, cost, text)
 }
 
 /// The bound of an undecided plan.
@@ -369,7 +363,7 @@ fn read_opening(alloc: Global, text: &[u8]) -> Result<(Opening, &[u8]), Stop>
     let (head, text) = read_head(alloc, text)?;
     let (design, text) = read_design(alloc, head, text)?;
     let (bound, text) = read_bound(alloc, head.status, text)?;
-    let (cuts, text) = read_load_cuts(alloc, head.form, head.nodes, text)?;
+    let (cuts, text) = read_load_cuts(alloc, head.form, head.sizes.nodes, text)?;
     let (stated, text) = read_list_count(alloc, head.form, text)?;
     Ok(((head, design, bound, cuts, stated), text))
 }
@@ -446,10 +440,10 @@ fn entries_of(head: Head, cuts: &[Cut]) -> usize
     requires { length cuts.now ≤ MAX_CUTS }
     ensures { result ≡ entries_of head cuts.now }
 {
-    if head.both {
-        2 * head.links as usize + cuts.len()
+    if head.sizes.both {
+        2 * head.sizes.links as usize + cuts.len()
     } else {
-        head.links as usize + cuts.len()
+        head.sizes.links as usize + cuts.len()
     }
 }
 
@@ -465,7 +459,7 @@ fn read_before_end(alloc: Global, text: &[u8]) -> Result<(Draft, &[u8]), Stop>
     let ground = Ground {
         form: head.form,
         lists,
-        nodes: head.nodes,
+        nodes: head.sizes.nodes,
         entries,
     };
     let (count, records, named, text) = read_tree(alloc, &ground, text)?;
@@ -508,10 +502,10 @@ impl Draft {
         }
         match Tree::from_nodes(self.records) {
             Ok(tree) => Some(Plan {
-                nodes: self.head.nodes,
-                links: self.head.links,
-                demands: self.head.demands,
-                both: self.head.both,
+                nodes: self.head.sizes.nodes,
+                links: self.head.sizes.links,
+                demands: self.head.sizes.demands,
+                both: self.head.sizes.both,
                 status: self.head.status,
                 budget: self.head.budget,
                 examined: self.head.examined,

@@ -8,7 +8,6 @@ ghost use Rattle.cert_format.specs.Answers.{side_view, sides_view};
 
 use crate::bodies::arcs;
 use crate::evidence::leaf;
-use crate::form::Form;
 use crate::numbering::{Ground, resolve};
 use plan_base::{ArcId, DemandId, Items, NodeId};
 use plan_words::{behind, numbers};
@@ -120,15 +119,10 @@ fn loads(alloc: Global, bytes: &[u8]) -> Result<Option<TreeNode>, AllocError>
     }
 }
 
-/// A record, where so many numbers stand for prices.
+/// A record, with the numbers that stand for prices.
 #[tactic(auto, unfolding(crate::specs::Bodies::record_of))]
-fn record(
-    alloc: Global,
-    nodes: u32,
-    count: usize,
-    body: &[u8],
-) -> Result<Option<TreeNode>, AllocError>
-    ensures { IfOk result (λ found. found ≡ record_of nodes count body.now) }
+fn record(alloc: Global, ground: &Ground, body: &[u8]) -> Result<Option<TreeNode>, AllocError>
+    ensures { IfOk result (λ found. found ≡ record_of ground.now.nodes (width ground.now.form ground.now.entries) body.now) }
 {
     if let Some(rest) = behind(b"SPLIT", body) {
         return split(alloc, rest);
@@ -136,19 +130,9 @@ fn record(
     if let Some(rest) = behind(b"LOADS", body) {
         return loads(alloc, rest);
     }
-    match leaf(alloc, nodes, count, body)? {
+    match leaf(alloc, ground, body)? {
         Some(evidence) => Ok(Some(TreeNode::Leaf(evidence))),
         None => Ok(None),
-    }
-}
-
-/// How many numbers stand for the prices of a record.
-fn width(form: Form, entries: usize) -> usize
-    ensures { result ≡ width form entries }
-{
-    match form {
-        Form::First => entries,
-        Form::Second | Form::Third => 1,
     }
 }
 
@@ -162,12 +146,7 @@ pub(crate) fn record_in(
 ) -> Result<Option<TreeNode>, AllocError>
     ensures { IfOk result (λ found. found ≡ record_in ground.now.form ground.now.lists named ground.now.nodes ground.now.entries body.now) }
 {
-    match record(
-        alloc,
-        ground.nodes,
-        width(ground.form, ground.entries),
-        body,
-    )? {
+    match record(alloc, ground, body)? {
         Some(node) => resolve(alloc, ground, named, node),
         None => Ok(None),
     }
