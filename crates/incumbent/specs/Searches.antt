@@ -7,7 +7,8 @@ use Rattle.plan_base.specs.Facts.{total_load}
 use Rattle.completions.specs.Links.{IsPriced}
 use Rattle.incumbent.specs.declared.cooling.TheConstants.{WORK, WIDE_NODES, MOST_SEARCHES, LEAST_SEARCHES, SEARCHES_A_DEMAND}
 use Rattle.incumbent.specs.declared.ration.DesignSearch.{DesignSearch}
-use Rattle.incumbent.specs.declared.ration.TheConstants.{DUE, EARLIER, PARTS, LATER_PARTS, MOST_SHARES, LATER_SHARES, MARGIN}
+use Rattle.incumbent.specs.declared.dealing.TheConstants.{EARLIER, PARTS, LATER_PARTS, MOST_SHARES, LATER_SHARES}
+use Rattle.incumbent.specs.declared.ration.TheConstants.{DUE, MARGIN}
 
 -- how many steps one search may take, nodes by nodes and arcs; on wide networks more, as their paths are longer
 abbrev pub search_work : Parts → ℕ
@@ -30,8 +31,8 @@ abbrev pub has_parts_left : ℕ → ℕ → Bool
 has_parts_left seats searches = if seats == 1 then false else (if nat_lt searches PARTS then true else not ((searches - PARTS) % LATER_PARTS == 0))
 
 -- how many equal shares of the searches for paths there are, of which the next search spends one: one seat spends all, of several a later part of the first search a fourth of its first part, and a part of another search a fourth of all
-abbrev pub shares_of : DesignSearch → ℕ
-shares_of s = if s.seats == 1 then 1 else (if nat_lt 0 s.place then LATER_PARTS else (if s.searches == 0 then min s.seats MOST_SHARES else LATER_SHARES * min s.seats MOST_SHARES))
+abbrev pub shares_of : ℕ → ℕ → ℕ → ℕ
+shares_of seats place searches = if seats == 1 then 1 else (if nat_lt 0 place then LATER_PARTS else (if searches == 0 then min seats MOST_SHARES else LATER_SHARES * min seats MOST_SHARES))
 
 -- the place of the search that a seat makes after one at this place, once it has made so many: all make their parts of the first one, and the others are dealt out in turn, each with all its parts
 abbrev pub next_place : ℕ → ℕ → ℕ → ℕ → ℕ

@@ -7,6 +7,7 @@
 #![tactic(auto)]
 
 mod cooling;
+mod dealing;
 mod draws;
 mod group;
 mod held;
@@ -15,6 +16,7 @@ mod laying;
 mod negotiating;
 mod ration;
 mod rounds;
+mod tolls;
 
 pub use completions::{complete, overfull_link};
 pub use improving::{improve, improve_seeded};

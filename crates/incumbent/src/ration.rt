@@ -1,12 +1,11 @@
 //! When better designs are searched for, and from where.
 
 ghost use Rattle.std.specs.Prelude.{◌≡◌, ◌<◌, ◌≤◌, ◌+◌, ◌-◌, ◌%◌, ◌^◌, ◌↔◌, min, length, slice_set, Some, IfOk, OnOk, OnErr, IfSome, IfNone, IsSomeAnd, IsTrue};
-ghost use Rattle.plan_base.specs.Arcs.{demand_at};
-ghost use Rattle.plan_base.specs.Paths.{IsSimplePath};
-ghost use Rattle.plan_base.specs.Designs.{cost_of, IsDesign, KeepsLimits, IsGoodDesign};
+ghost use Rattle.plan_base.specs.Designs.{path_at, cost_of, IsDesign, KeepsLimits, IsGoodDesign};
 ghost use Rattle.completions.specs.Completions.{with_paths, ArePaths, HasOverfull};
-ghost use Rattle.incumbent.specs.Searches.{IsDue, IsOpening, IsCheaper, IsWorth, due_of, has_parts_left, shares_of, next_place, HasSearched, HasWaited};
+ghost use Rattle.incumbent.specs.Searches.{IsDue, IsOpening, IsCheaper, IsWorth, HasSearched, HasWaited};
 
+use crate::dealing::{due_of, has_parts_left, place_after, shares_of};
 use crate::improving::improve_share;
 use crate::laying::lay_all;
 use crate::negotiating::negotiated;
@@ -19,25 +18,8 @@ use std::alloc::{AllocError, Global};
 /// How many nodes are examined when each search is due.
 const DUE: [u32; 7] = [0, 0, 4, 16, 64, 256, 1_024];
 
-/// Where several seats search, each search is due once so many times fewer nodes are examined: it takes as long as one
-/// worker's, and the others examine nodes meanwhile.
-const EARLIER: u32 = 2;
-
 /// How many seeds a seat has: one for each of its searches and their parts.
 const SEEDS: u32 = 64;
-
-/// How many parts of the first search each seat makes, where there are several seats.
-const PARTS: u32 = 2;
-
-/// The searches for paths of the first search are shared out to at most so many seats: each one more makes as many as
-/// these do.
-const MOST_SHARES: u32 = 8;
-
-/// A later part of the first search has so many times fewer searches for paths than its first part.
-const LATER_SHARES: u32 = 4;
-
-/// How many equal parts each search that is dealt out has, where there are several seats.
-const LATER_PARTS: u32 = 4;
 
 /// A search is spent on a dearer design than another one only where its cost, without one part in so many, is less.
 const MARGIN: u128 = 6;
@@ -79,40 +61,6 @@ pub struct DesignSearch {
     place: u32,
     /// The cheapest design that they gave, or that was learnt.
     best: Option<Design>,
-}
-
-/// Whether a search has parts left once a seat has made so many, of its parts and of others: one seat makes each whole.
-fn has_parts_left(seats: u32, searches: u32) -> bool
-    ensures { result ≡ has_parts_left seats searches }
-{
-    if seats == 1 {
-        return false;
-    }
-    if searches < PARTS {
-        return true;
-    }
-    (searches - PARTS) % LATER_PARTS != 0
-}
-
-/// How many nodes are examined when a search is due, of which one seat makes it at so many.
-fn due_of(seats: u32, due: u32) -> u32
-    ensures { result ≡ due_of seats due }
-{
-    if seats == 1 { due } else { due / EARLIER }
-}
-
-/// The place of the search that a seat makes after one at this place, once it has made so many: all seats make their
-/// parts of the first search, and the others are dealt out to them in turn, each with all its parts.
-fn place_after(seat: u32, seats: u32, searches: u32, place: u32) -> u32
-    ensures { result ≡ next_place seat seats searches place }
-{
-    if has_parts_left(seats, searches) {
-        return place;
-    }
-    if place == 0 {
-        return seat.saturating_add(1);
-    }
-    place.saturating_add(seats)
 }
 
 /// The cheapest design with these paths, where they keep the limits of their demands and the links can carry them.
@@ -168,21 +116,19 @@ fn laid(from: &Candidate, is_turn: bool) -> Result<Option<Design>, AllocError>
 
 /// The paths of a design, where that of a demand is another one.
 #[tactic(auto, using(demand_routing::proofs::ReroutingLaws::paths_set, crate::proofs::DesignLaws::paths_of_design))]
-fn exchanged(
-    alloc: Global,
-    inst: &Instance,
-    design: &Design,
-    demand: DemandId,
-    path: &Path,
-) -> Result<Items<Path>, AllocError>
-    requires design { IsDesign inst.now design.now }
-    requires demand { demand.0 < length inst.now.demands }
-    requires path { IsSimplePath inst.now (demand_at inst.now demand.0) path.now }
-    ensures paths { IfOk result (ArePaths inst.now) }
-    ensures set { IfOk result (λ paths. paths ≡ slice_set design.now.paths demand.0 path.now) }
+fn exchanged(from: &Candidate, design: &Design, demand: DemandId) -> Result<Items<Path>, AllocError>
+    requires design { IsDesign from.now.table.now design.now }
+    requires paths { ArePaths from.now.table.now from.now.paths.now }
+    requires demand { demand.0 < length from.now.table.now.demands }
+    ensures paths { IfOk result (ArePaths from.now.table.now) }
+    ensures set { IfOk result (λ paths. paths ≡ slice_set design.now.paths demand.0 (path_at (with_paths from.now.paths.now) demand.0)) }
 {
-    let mut paths = roomy_copies(alloc, inst, design.paths.as_slice())?;
-    set_path(&mut paths, demand, path)?;
+    let mut paths = roomy_copies(from.alloc, from.table.instance(), design.paths.as_slice())?;
+    set_path(
+        &mut paths,
+        demand,
+        &from.paths.as_slice()[demand.0 as usize],
+    )?;
     Ok(Items::from_vec(paths))
 }
 
@@ -198,13 +144,11 @@ fn completed_with(
     requires demand { demand.0 < length from.now.table.now.demands }
     ensures { IfOk result (λ found. IfSome found (IsGoodDesign from.now.table.now)) }
 {
-    let inst = from.table.instance();
     let place = demand.0 as usize;
-    let path = &from.paths.as_slice()[place];
-    if design.paths.as_slice()[place] == *path {
+    if design.paths.as_slice()[place] == from.paths.as_slice()[place] {
         return Ok(None);
     }
-    let paths = exchanged(from.alloc, inst, design, demand, path)?;
+    let paths = exchanged(from, design, demand)?;
     completed(&Candidate {
         paths: &paths,
         ..*from
@@ -310,24 +254,6 @@ impl DesignSearch {
             return self.seat == 1 && self.is_laying_turn();
         }
         self.place == 1
-    }
-
-    /// How many equal shares of the searches for paths that a network is worth there are: the next search spends one.
-    fn shares(&self) -> u32
-        ensures { result ≡ shares_of self.now }
-    {
-        if self.seats == 1 {
-            return 1;
-        }
-        if self.place > 0 {
-            return LATER_PARTS;
-        }
-        let shares = self.seats.min(MOST_SHARES);
-        if self.searches == 0 {
-            shares
-        } else {
-            LATER_SHARES * shares
-        }
     }
 
     /// A design to begin with: that of these paths and that of paths laid one by one, in this order or the other one.
@@ -476,7 +402,7 @@ impl DesignSearch {
         let Some(start) = self.start(&from)? else {
             return Ok(None);
         };
-        let shares = self.shares();
+        let shares = shares_of(self.seats, self.place, self.searches);
         self.searches = self.searches.saturating_add(1);
         self.place = place_after(self.seat, self.seats, self.searches, self.place);
         // No two searches share a seed, whichever seats they are of.
