@@ -5,9 +5,10 @@ ghost use Rattle.std.specs.Result.{is_err};
 ghost use Rattle.std.specs.Io.{ReadsAtMost};
 ghost use Rattle.std.specs.Io.KnownBytes.{ReadConsumes};
 ghost use Rattle.plan_io.specs.Causes.{HasCause, CountsUp};
-ghost use Rattle.plan_io.specs.FailList.{is_listed};
+ghost use Rattle.plan_io.specs.FailList.{is_listed, failing_in, next_in, faults_in};
+ghost use Rattle.plan_io.specs.Held.{texts_in, left_in, begins_in, taken_in};
 ghost use Rattle.plan_io.specs.Texts.{find_text};
-ghost use Rattle.plan_io.specs.MemShelf.{texts_of, text_left, failing_calls, next_call, fault_count, begin_count, taken_count, IsUnused, IsCalled};
+ghost use Rattle.plan_io.specs.MemShelf.{held_of, fails_of, IsUnused, IsCalled};
 
 use crate::fail_list::FailList;
 use crate::failed::Failed;
@@ -35,8 +36,8 @@ impl MemShelf {
         failing: &[u64],
     ) -> Result<MemShelf, AllocError>
         ensures texts { IfOk result
-            (λ shelf. texts_of shelf ≡ map (λ text. (text.0.now, text.1.now)) texts.now) }
-        ensures failing { IfOk result (λ shelf. failing_calls shelf ≡ failing.now) }
+            (λ shelf. texts_in (held_of shelf) ≡ map (λ text. (text.0.now, text.1.now)) texts.now) }
+        ensures failing { IfOk result (λ shelf. failing_in (fails_of shelf) ≡ failing.now) }
         ensures unused { IfOk result IsUnused }
     {
         Ok(MemShelf {
@@ -47,35 +48,35 @@ impl MemShelf {
 
     /// How many calls have failed.
     pub fn faults(&self) -> u64
-        ensures { result ≡ fault_count self.now }
+        ensures { result ≡ faults_in (fails_of self.now) }
     {
         self.fails.faults()
     }
 }
 
 impl Shelf for MemShelf {
-    ghost text = { λ shelf. find_text (texts_of shelf) };
+    ghost text = { λ shelf. find_text (texts_in (held_of shelf)) };
 
-    ghost left = { λ shelf. Some (text_left shelf) };
+    ghost left = { λ shelf. Some (left_in (held_of shelf)) };
 
-    ghost faults = { fault_count };
+    ghost faults = { λ shelf. faults_in (fails_of shelf) };
 
-    ghost begins = { begin_count };
+    ghost begins = { λ shelf. begins_in (held_of shelf) };
 
-    ghost taken = { taken_count };
+    ghost taken = { λ shelf. taken_in (held_of shelf) };
 
     fn begin(&mut self, name: &str) -> Result<(), Failed>
-        ensures texts { find_text (texts_of self.new) ≡ find_text (texts_of self.old) }
-        ensures begun { OnOk result (Some (text_left self.new) ≡ find_text (texts_of self.old) name.now) }
-        ensures begins { CountsUp (begin_count self.old) (begin_count self.new) }
-        ensures taken { taken_count self.new ≡ 0 }
-        ensures cause { HasCause (fault_count self.old) (fault_count self.new) result }
+        ensures texts { find_text (texts_in (held_of self.new)) ≡ find_text (texts_in (held_of self.old)) }
+        ensures begun { OnOk result (Some (left_in (held_of self.new)) ≡ find_text (texts_in (held_of self.old)) name.now) }
+        ensures begins { CountsUp (begins_in (held_of self.old)) (begins_in (held_of self.new)) }
+        ensures taken { taken_in (held_of self.new) ≡ 0 }
+        ensures cause { HasCause (faults_in (fails_of self.old)) (faults_in (fails_of self.new)) result }
 
         // It fails exactly where the list has its number or the name is not there.
-        ensures failed { is_err result ≡ (is_listed (next_call self.old) (failing_calls self.old)
-            || is_none (find_text (texts_of self.old) name.now)) }
+        ensures failed { is_err result ≡ (is_listed (next_in (fails_of self.old)) (failing_in (fails_of self.old))
+            || is_none (find_text (texts_in (held_of self.old)) name.now)) }
         // Where the list alone makes it fail, the text is begun all the same.
-        ensures left { text_left self.new ≡ unwrap_or (find_text (texts_of self.old) name.now) [] }
+        ensures left { left_in (held_of self.new) ≡ unwrap_or (find_text (texts_in (held_of self.old)) name.now) [] }
         ensures called { IsCalled self.old self.new (is_err result) }
     {
         let is_listed = self.fails.next_call();
@@ -87,18 +88,18 @@ impl Shelf for MemShelf {
     }
 
     fn read(&mut self, buf: &mut [u8]) -> Result<usize, Failed>
-        ensures texts { find_text (texts_of self.new) ≡ find_text (texts_of self.old) }
+        ensures texts { find_text (texts_in (held_of self.new)) ≡ find_text (texts_in (held_of self.old)) }
         ensures bound { ReadsAtMost result buf.new }
-        ensures bytes { ReadConsumes (Some (text_left self.old)) (Some (text_left self.new)) result buf.new }
-        ensures begins { begin_count self.new ≡ begin_count self.old }
+        ensures bytes { ReadConsumes (Some (left_in (held_of self.old))) (Some (left_in (held_of self.new))) result buf.new }
+        ensures begins { begins_in (held_of self.new) ≡ begins_in (held_of self.old) }
         ensures taken { MatchResult result
-            (λ n. taken_count self.new ≡ min (taken_count self.old + n) (2 ^ 63))
-            (λ _. taken_count self.new ≡ taken_count self.old) }
-        ensures cause { HasCause (fault_count self.old) (fault_count self.new) result }
+            (λ n. taken_in (held_of self.new) ≡ min (taken_in (held_of self.old) + n) (2 ^ 63))
+            (λ _. taken_in (held_of self.new) ≡ taken_in (held_of self.old)) }
+        ensures cause { HasCause (faults_in (fails_of self.old)) (faults_in (fails_of self.new)) result }
 
         // It fails exactly where the list has its number, and else reads what there is room for.
-        ensures failed { is_err result ≡ is_listed (next_call self.old) (failing_calls self.old) }
-        ensures count { IfOk result (λ n. n ≡ min (length (text_left self.old)) (length buf.new)) }
+        ensures failed { is_err result ≡ is_listed (next_in (fails_of self.old)) (failing_in (fails_of self.old)) }
+        ensures count { IfOk result (λ n. n ≡ min (length (left_in (held_of self.old))) (length buf.new)) }
         ensures called { IsCalled self.old self.new (is_err result) }
     {
         if self.fails.next_call() {

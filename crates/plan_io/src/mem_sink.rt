@@ -5,7 +5,7 @@ ghost use Rattle.std.specs.Result.{is_err};
 ghost use Rattle.std.specs.Io.{WritesAtMost};
 ghost use Rattle.std.specs.Io.KnownBytes.{WriteAppends};
 ghost use Rattle.plan_io.specs.Causes.{HasCause};
-ghost use Rattle.plan_io.specs.FailList.{is_listed};
+ghost use Rattle.plan_io.specs.FailList.{is_listed, failing_in, next_in, faults_in};
 
 use crate::fail_list::FailList;
 use crate::failed::Failed;
@@ -24,7 +24,7 @@ pub struct MemSink {
 }
 
 impl MemSink {
-    ghost use Rattle.plan_io.specs.MemSink.{bytes_of, greatest_len, failing_calls, fault_count, IsUnused};
+    ghost use Rattle.plan_io.specs.MemSink.{bytes_of, greatest_len, fails_of, IsUnused};
 
     /// An empty sink. It takes the room for its greatest length now, so that no write does.
     ///
@@ -32,7 +32,7 @@ impl MemSink {
     /// - Errors: want of memory.
     pub fn new(alloc: Global, greatest: usize, failing: &[u64]) -> Result<MemSink, AllocError>
         ensures greatest { IfOk result (λ sink. greatest_len sink ≡ greatest) }
-        ensures failing { IfOk result (λ sink. failing_calls sink ≡ failing.now) }
+        ensures failing { IfOk result (λ sink. failing_in (fails_of sink) ≡ failing.now) }
         ensures unused { IfOk result IsUnused }
     {
         Ok(MemSink {
@@ -51,7 +51,7 @@ impl MemSink {
 
     /// How many calls have failed.
     pub fn faults(&self) -> u64
-        ensures { result ≡ fault_count self.now }
+        ensures { result ≡ faults_in (fails_of self.now) }
     {
         self.fails.faults()
     }
@@ -59,21 +59,21 @@ impl MemSink {
 
 impl Sink for MemSink {
     ghost use Rattle.std.specs.Prelude.{Some};
-    ghost use Rattle.plan_io.specs.MemSink.{bytes_of, room_in, failing_calls, next_call, fault_count, IsCalled};
+    ghost use Rattle.plan_io.specs.MemSink.{bytes_of, room_in, fails_of, IsCalled};
 
     ghost contents = { λ sink. Some (bytes_of sink) };
 
-    ghost faults = { fault_count };
+    ghost faults = { λ sink. faults_in (fails_of sink) };
 
     fn write(&mut self, piece: &[u8]) -> Result<usize, Failed>
         ensures bound { WritesAtMost result piece.now }
         ensures bytes { WriteAppends (Some (bytes_of self.old)) (Some (bytes_of self.new)) result piece.now }
         ensures some { IfOk result (λ n. 0 < length piece.now → 0 < n) }
-        ensures cause { HasCause (fault_count self.old) (fault_count self.new) result }
+        ensures cause { HasCause (faults_in (fails_of self.old)) (faults_in (fails_of self.new)) result }
 
         // It fails exactly where the list has its number or nothing of the piece fits, and else
         // takes what fits.
-        ensures failed { is_err result ≡ (is_listed (next_call self.old) (failing_calls self.old)
+        ensures failed { is_err result ≡ (is_listed (next_in (fails_of self.old)) (failing_in (fails_of self.old))
             || (room_in self.old == 0 && nat_lt 0 (length piece.now))) }
         ensures count { IfOk result (λ n. n ≡ min (room_in self.old) (length piece.now)) }
         ensures called { IsCalled self.old self.new (is_err result) }
