@@ -13,7 +13,7 @@ use Rattle.proof_tree.specs.Plans.{is_open}
 use Rattle.proof_tree.specs.Spellings.{FitsEvidence}
 use Rattle.proof_tree.specs.declared.tree.Evidence.{Evidence}
 use Rattle.proof_tree.specs.declared.tree.Evidence.TheVariants as evidence
-use Rattle.pool_machine.specs.State.{Node, State, region_of, cutoff_of, examined_by, examined_in, divided_by_fate}
+use Rattle.pool_machine.specs.State.{Undone, Node, State, region_of, cutoff_of, examined_by, examined_in, divided_by_fate}
 use Rattle.pool_machine.specs.Closing.{closed_by, ClosesBy, by_crowd, by_bound, Closes}
 use Rattle.pool_machine.specs.Changes.{examined_with}
 use Rattle.pool_machine.specs.Readiness.{IsExamined}
@@ -34,19 +34,8 @@ pub closed-sound : (s : State) (id : BranchId) (node : Node) (found : Evidence) 
 closed-sound s id node found h is not_open has fits =
     let new : Node = closed_by found node in
     let k = node_at s id.0 node h is.is_node in
-    let sound : IsSoundNode s.problem s.cuts new = record {
-      first_prices = k.first_prices;
-      open_enough = k.open_enough;
-      ranges = k.ranges;
-      round = tt;
-      best = k.best;
-      no_best = k.no_best;
-      versions = tt;
-      version_count = k.version_count;
-      waiting = λ undone none. cc;
-      cut = tt;
-      crowd = tt;
-    } in
+    let waits : new.fate ≡ Undone → new.round ≡ None → node.completed ≡ 0 = λ undone none. cc in
+    let sound : IsSoundNode s.problem s.cuts new = assumption (k, waits) in
     replaced-sound s id.0 node new (suc s.examined) s.next_version s.accepted is.is_node h (record { limits = refl; first_prices = refl })
     tt sound (not_open, has, fits) (sym (ap divided_by_fate is.undone))
     (AreApart-set s.next_version s.nodes id.0 node new is.is_node (inr refl) h.apart)

@@ -5,15 +5,18 @@ use Rattle.std.proofs.lemmas.List.Sums.{sum_by-append, sum_by-cons}
 use Rattle.std.proofs.lemmas.Option.{slice_get_within}
 use Rattle.plan_base.specs.declared.ids.BranchId.{BranchId}
 use Rattle.plan_base.specs.declared.parts.Parts.{Parts}
+use Rattle.link_steps.specs.declared.range.LoadRange.{LoadRange}
 use Rattle.link_steps.specs.Ranges.{AreRanges}
+use Rattle.arc_restrict.specs.Restrictions.{Forbidden}
 use Rattle.proof_tree.specs.declared.cuts.Cut.{Cut}
 use Rattle.proof_tree.specs.Regions.{Region, whole}
 use Rattle.cut_table.specs.Numbers.{AreNumbers}
 use Rattle.proof_tree.proofs.RangeLaws.{AreRanges-up_to, AreRanges-above}
 use Rattle.branch_tree.specs.declared.node.Divider.TheVariants as divider
-use Rattle.pool_machine.specs.State.{Best, Limit, Divider, left_limit, right_limit, narrowed, Division, Fate, Undone, ClosedBy, DividedBy, Node, State, region_of, cutoff_of, examined_by, examined_in, left_in, divided_by_fate, divided_in, kept_by}
+use Rattle.pool_machine.specs.State.{Best, Limit, restriction_by, ranges_by, kept_prices, Divider, left_limit, right_limit, narrowed, Division, Fate, Undone, ClosedBy, DividedBy, Node, State, region_of, cutoff_of, examined_by, examined_in, left_in, divided_by_fate, divided_in, kept_by}
+use Rattle.pool_machine.specs.Changes.{waiting_with}
 use Rattle.pool_machine.specs.Dividing.{PartsBy, child_of, divided_by, Divides}
-use Rattle.pool_machine.specs.Depth.{AreAllEnds, depth_below}
+use Rattle.pool_machine.specs.Depth.{AreAllEnds, choices_of, points_of, depth_below}
 use Rattle.pool_machine.specs.Nodes.{IsSoundBest, IsOpenEnough, IsSoundNode, IsSoundDivider, HasSoundFate}
 use Rattle.pool_machine.specs.Counts.{IsShallow, weight_in, AreSoundCounts, versions_of}
 use Rattle.pool_machine.specs.Family.{badge_at, HasChildrenBy, IsFamily}
@@ -38,41 +41,32 @@ record IsLeft (p : Parts) (g child : Region) : Type 0 where
   less : (ends : ℕ → List ℕ) → AreAllEnds p ends → depth_below p ends child < depth_below p ends g
 
 module _ (p : Parts) (g : Region) (enough : IsOpenEnough p g.forbidden) (ranges : AreRanges p g.ranges) where
+  by_arcs : (r : Forbidden) → IsOpenEnough p r → choices_of p r < choices_of p g.forbidden → IsLeft p g (record g { forbidden = r })
+  by_arcs r arcs fewer = record { open_enough = arcs; ranges = ranges; less = λ ends are. omega (arith, fewer) }
+
+  by_load : (left : List LoadRange) → AreRanges p left → ((ends : ℕ → List ℕ) → AreAllEnds p ends → points_of p ends left < points_of p ends g.ranges) → IsLeft p g (record g { ranges = left })
+  by_load left are fewer = record { open_enough = enough; ranges = are; less = λ ends all. (let less = fewer ends all in omega (arith, less)) }
+
   left-on_left : (by : Divider) → PartsBy p g by → IsLeft p g (narrowed g (left_limit by))
-  left-on_left (divider.Arcs d) parts = record {
-    open_enough = IsOpenEnough-left p g.forbidden d parts enough;
-    ranges = ranges;
-    less = λ ends are. (let fewer = choices-left p g.forbidden d parts in omega (arith, fewer));
-  }
-  left-on_left (divider.Load d) parts = record {
-    open_enough = enough;
-    ranges = AreRanges-up_to p g d.place d.load parts.0.is_split ranges;
-    less = λ ends are. (let fewer = points-up_to p ends g d are ranges parts.0 in omega (arith, fewer));
-  }
+  left-on_left (divider.Arcs d) parts = by_arcs _ (IsOpenEnough-left p g.forbidden d parts enough) (choices-left p g.forbidden d parts)
+  left-on_left (divider.Load d) parts = by_load _ (AreRanges-up_to p g d.place d.load parts.0.is_split ranges) (λ ends are. points-up_to p ends g d are ranges parts.0)
 
   left-on_right : (by : Divider) → PartsBy p g by → IsLeft p g (narrowed g (right_limit by))
-  left-on_right (divider.Arcs d) parts = record {
-    open_enough = IsOpenEnough-right p g.forbidden d parts enough;
-    ranges = ranges;
-    less = λ ends are. (let fewer = choices-right p g.forbidden d parts in omega (arith, fewer));
-  }
-  left-on_right (divider.Load d) parts = record {
-    open_enough = enough;
-    ranges = AreRanges-above p g d.place d.load parts.0.is_split ranges;
-    less = λ ends are. (let fewer = points-above p ends g d are ranges parts.0 in omega (arith, fewer));
-  }
+  left-on_right (divider.Arcs d) parts = by_arcs _ (IsOpenEnough-right p g.forbidden d parts enough) (choices-right p g.forbidden d parts)
+  left-on_right (divider.Load d) parts = by_load _ (AreRanges-above p g d.place d.load parts.0.is_split ranges) (λ ends are. points-above p ends g d are ranges parts.0)
 
 -- the split is a sound one
 PartsBy-sound : (p : Parts) (g : Region) (by : Divider) → PartsBy p g by → IsSoundDivider p g by
 PartsBy-sound p g (divider.Arcs d) parts = (parts.is_split, PartsAt-parts p g.forbidden d parts, parts.left_ascends, parts.right_ascends)
 PartsBy-sound p g (divider.Load d) parts = parts.0
 
--- a child is sound where enough is left to it
-child_of-sound : (p : Parts) (cuts : List Cut) (node : Node) (more : Limit) → IsSoundNode p cuts node → IsLeft p (region_of p node) (region_of p (child_of node more)) → IsSoundNode p cuts (child_of node more)
-child_of-sound p cuts node more k left = record {
-  first_prices = kept_by-sound p cuts node node.best k.first_prices k.best;
-  open_enough = left.open_enough;
-  ranges = left.ranges;
+-- a node that waits is sound where its first prices are lawful and enough is left to it
+pub waiting-sound : (p : Parts) (cuts : List Cut) (limits : List Limit) (prices : List ℕ) → AreNumbers p cuts prices → IsOpenEnough p (restriction_by limits) → AreRanges p (ranges_by p limits)
+    → IsSoundNode p cuts (waiting_with limits prices)
+waiting-sound p cuts limits prices are enough left = record {
+  first_prices = are;
+  open_enough = enough;
+  ranges = left;
   round = tt;
   best = tt;
   no_best = λ none. refl;
@@ -82,6 +76,10 @@ child_of-sound p cuts node more k left = record {
   cut = tt;
   crowd = tt;
 }
+
+-- a child is sound where enough is left to it
+child_of-sound : (p : Parts) (cuts : List Cut) (node : Node) (more : Limit) → IsSoundNode p cuts node → IsLeft p (region_of p node) (region_of p (child_of node more)) → IsSoundNode p cuts (child_of node more)
+child_of-sound p cuts node more k left = waiting-sound p cuts (more ∷ node.limits) (kept_prices node) (kept_by-sound p cuts node node.best k.first_prices k.best) left.open_enough left.ranges
 
 -- two nodes that wait bring no badge
 badge_at-append : (nodes : List Node) (one other : Node) → one.round ≡ None → other.round ≡ None → (n : ℕ) (b : ℕ × ℕ) → badge_at (nodes ++ (one ∷ other ∷ [])) n ≡ Some b → badge_at nodes n ≡ Some b
@@ -211,19 +209,8 @@ Divides-sound s id left_child right_child t h e =
     let more = left ∷ right ∷ [] in
     let xs = set s.nodes id.0 new in
     let k = node_at s id.0 node h is.is_node in
-    let sound : IsSoundNode p s.cuts new = record {
-      first_prices = k.first_prices;
-      open_enough = k.open_enough;
-      ranges = k.ranges;
-      round = tt;
-      best = k.best;
-      no_best = k.no_best;
-      versions = tt;
-      version_count = k.version_count;
-      waiting = λ undone none. cc;
-      cut = k.cut;
-      crowd = k.crowd;
-    } in
+    let waits : new.fate ≡ Undone → new.round ≡ None → node.completed ≡ 0 = λ undone none. cc in
+    let sound : IsSoundNode p s.cuts new = assumption (k, waits) in
     let P = IsSoundNode p s.cuts in
     let F = HasSoundFate p s.cuts (cutoff_of s) in
     let g = region_of p node in

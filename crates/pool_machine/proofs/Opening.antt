@@ -37,9 +37,10 @@ module _ (s : State) (id : BranchId) (h : IsSound s) where
   -- a state stays sound when a node that waits gets a round of its first prices
   pub Opens-sound : (opened : Opened) (t : State) → Opens s id opened t → IsSound t
   Opens-sound opened t e =
-      let node = e.node in
-      let k = node_at s id.0 node h e.is_node in
-      let none : node.completed ≡ 0 = k.waiting e.undone e.no_round in
+      let may = e.may in
+      let node = may.node in
+      let k = node_at s id.0 node h may.is_node in
+      let none : node.completed ≡ 0 = k.waiting may.undone may.no_round in
       let demands = length s.problem.demands in
       let round : Round = empty_round s opened.slot node.first_prices in
       let all_left : left_of round ≡ demands = (let x : left_of round ≡ demands * 1 = sum_by-replicate gap_of demands None in omega arith) in
@@ -49,22 +50,22 @@ module _ (s : State) (id : BranchId) (h : IsSound s) where
         prices = k.first_prices;
         least = λ j found is. absurd (none_found demands j found is);
       } in
-      let taken : HasTaken s.problem s.cuts node round e.after = TakesRound-sound s.problem s.cuts node round e.undone k is_sound (λ zero_. refl) (omega arith) e.after e.takes in
-      let undone' : e.after.fate ≡ Undone = taken.fate ∙ e.undone in
+      let taken : HasTaken s.problem s.cuts node round e.after = TakesRound-sound s.problem s.cuts node round may.undone k is_sound (λ zero_. refl) (omega arith) e.after e.takes in
+      let undone' : e.after.fate ≡ Undone = taken.fate ∙ may.undone in
       subst IsSound (sym e.becomes)
-      (replaced-sound s id.0 node e.after s.examined (suc s.next_version) s.accepted e.is_node h taken.base
+      (replaced-sound s id.0 node e.after s.examined (suc s.next_version) s.accepted may.is_node h taken.base
       (no_children (set s.nodes id.0 e.after) id.0 e.after e.after.fate undone') taken.sound (undone_fate s.problem s.cuts (cutoff_of s) e.after undone') (ap divided_by_fate taken.fate)
-      (AreApart-new s.next_version opened.slot s.nodes id.0 node e.after e.is_node (ap badge_of taken.is_round)
+      (AreApart-new s.next_version opened.slot s.nodes id.0 node e.after may.is_node (ap badge_of taken.is_round)
       (λ n version ne x. let w = taken_by (slice_get s.nodes n) opened.slot version x in e.slot.free (n, w.0, w.1, w.2)) h.apart)
       (record {
         examined_is = ap (λ (f : Fate). s.examined + examined_by f) (sym taken.fate);
         within_budget = h.counts.within_budget;
         versions = (
-            let old : versions_of node ≡ 0 = rw (e.undone, e.no_round) refl in
+            let old : versions_of node ≡ 0 = rw (may.undone, may.no_round) refl in
             let now = taken.versions in omega arith
             );
         accepted_within = (
-            let old : left_in node ≡ 0 = ap left_in_round e.no_round in
+            let old : left_in node ≡ 0 = ap left_in_round may.no_round in
             let now : left_in e.after ≡ left_of round = ap left_in_round taken.is_round in
             omega arith
             );

@@ -26,19 +26,7 @@ Publishes-sound s t id seen prices slot version h e =
     let undone : node.fate ≡ Undone = in_round.0 in
     let some : 0 < node.completed = (rw is.is_round at (k.versions)).some_complete is.complete in
     let marked : Node = record node { crowd_tried = e.mark } in
-    let k' : IsSoundNode s.problem s.cuts marked = record {
-      first_prices = k.first_prices;
-      open_enough = k.open_enough;
-      ranges = k.ranges;
-      round = k.round;
-      best = k.best;
-      no_best = k.no_best;
-      versions = k.versions;
-      version_count = k.version_count;
-      waiting = k.waiting;
-      cut = k.cut;
-      crowd = k.crowd;
-    } in
+    let k' : IsSoundNode s.problem s.cuts marked = assumption k in
     let demands = length s.problem.demands in
     let round : Round = empty_round s old.slot prices in
     let all_left : left_of round ≡ demands = (let x : left_of round ≡ demands * 1 = sum_by-replicate gap_of demands None in omega arith) in

@@ -27,7 +27,7 @@ use Rattle.pool_machine.specs.declared.answers.ExamineFault.{ExamineFault}
 use Rattle.pool_machine.specs.declared.answers.ExamineFault.TheVariants as examine_fault
 use Rattle.pool_machine.specs.declared.answers.Better.{Better}
 use Rattle.pool_machine.specs.declared.answers.Better.TheVariants as better
-use Rattle.pool_machine.specs.State.{Undone, Node, State}
+use Rattle.pool_machine.specs.State.{Undone, Node, State, restriction_of}
 use Rattle.pool_machine.specs.Opening.{OpenStep}
 use Rattle.pool_machine.specs.Offering.{OfferStep}
 use Rattle.pool_machine.specs.Gathering.{GatherStep}
@@ -65,7 +65,7 @@ use Rattle.pool_machine.specs.Machine.{
   IsOpeningState,
   IsReachable,
 }
-use Rattle.pool_machine.specs.Nodes.{IsSoundNode, HasSoundFate}
+use Rattle.pool_machine.specs.Nodes.{IsOpenEnough, IsSoundNode, HasSoundFate}
 use Rattle.pool_machine.specs.Family.{badge_at, HasChildrenBy}
 use Rattle.pool_machine.specs.Counts.{IsShallow, weight_in}
 use Rattle.pool_machine.specs.Soundness.{IsSound}
@@ -82,7 +82,7 @@ use Rattle.pool_machine.proofs.Offering.{TakesCut-sound, Accepts-sound}
 use Rattle.pool_machine.proofs.Opening.{Opens-sound}
 use Rattle.pool_machine.proofs.ClosedNodes.{Closes-sound, ClosesByCut-sound, ClosesFar-sound, ClosesOverfull-sound}
 use Rattle.pool_machine.proofs.Bettering.{TakesBetter-sound, ClosesRouted-sound}
-use Rattle.pool_machine.proofs.Dividing.{Divides-sound}
+use Rattle.pool_machine.proofs.Dividing.{waiting-sound, Divides-sound}
 
 -- a refused event changes nothing
 unchanged-sound : (s t : State) → IsSound s → t ≡ s → IsSound t
@@ -96,45 +96,26 @@ module _ where
   OfferStep-sound : (s t : State) (offer : Offer) (answer : Offered) → IsSound s → OfferStep s offer answer t → IsSound t
   OfferStep-sound s t offer offered.CutTaken h e = TakesCut-sound s offer h t e
   OfferStep-sound s t offer (offered.Accepted left) h e = Accepts-sound s offer h left t e
-  OfferStep-sound s t offer (offered.Spent x) h e = unchanged-sound s t h e.1
-  OfferStep-sound s t offer (offered.Stale x) h e = unchanged-sound s t h e.1
-  OfferStep-sound s t offer (offered.NoDemand x) h e = unchanged-sound s t h e.1
-  OfferStep-sound s t offer offered.Already h e = unchanged-sound s t h e.1
-  OfferStep-sound s t offer (offered.Unfit x) h e = unchanged-sound s t h e.1
+  OfferStep-sound s t offer refusal h e = unchanged-sound s t h e.1
 
   GatherStep-sound : (s t : State) (id : BranchId) (version : ℕ) (answer : Result Gather AllocError) → IsSound s → GatherStep s id version answer t → IsSound t
   GatherStep-sound s t id version (Ok (gather.Taken brief)) h e = Gathers-sound s t id version brief h e
-  GatherStep-sound s t id version (Ok (gather.Spent x)) h e = unchanged-sound s t h e.1
-  GatherStep-sound s t id version (Ok (gather.Stale x)) h e = unchanged-sound s t h e.1
-  GatherStep-sound s t id version (Ok (gather.Incomplete x)) h e = unchanged-sound s t h e.1
+  GatherStep-sound s t id version (Ok refusal) h e = unchanged-sound s t h e.1
   GatherStep-sound s t id version (Err wanting) h e = elim e [ inl same ↦ unchanged-sound s t h same | inr front ↦ GathersFront-sound s t id version h front ]
 
   PublishStep-sound : (s t : State) (id : BranchId) (seen : ℕ) (prices : List ℕ) (answer : Publish) → IsSound s → PublishStep s id seen prices answer t → IsSound t
   PublishStep-sound s t id seen prices (publish.Published slot version) h e = Publishes-sound s t id seen prices slot version h e
   PublishStep-sound s t id seen prices (publish.NoGain x y) h e = unchanged-sound s t h e.unchanged
-  PublishStep-sound s t id seen prices (publish.Spent x) h e = unchanged-sound s t h e.1
-  PublishStep-sound s t id seen prices (publish.Stale x) h e = unchanged-sound s t h e.1
-  PublishStep-sound s t id seen prices publish.Settled h e = unchanged-sound s t h e.1
-  PublishStep-sound s t id seen prices (publish.Incomplete x) h e = unchanged-sound s t h e.1
-  PublishStep-sound s t id seen prices (publish.Rounds x) h e = unchanged-sound s t h e.1
-  PublishStep-sound s t id seen prices (publish.PriceCount x) h e = unchanged-sound s t h e.1
-  PublishStep-sound s t id seen prices (publish.OverPrice x) h e = unchanged-sound s t h e.1
-  PublishStep-sound s t id seen prices publish.Unlawful h e = unchanged-sound s t h e.1
-  PublishStep-sound s t id seen prices (publish.Ungathered x) h e = unchanged-sound s t h e.1
+  PublishStep-sound s t id seen prices refusal h e = unchanged-sound s t h e.1
 
   SettleStep-sound : (s t : State) (id : BranchId) (version : ℕ) (answer : Settle) → IsSound s → SettleStep s id version answer t → IsSound t
   SettleStep-sound s t id version settle.Done h e = Settles-sound s t id version h e
-  SettleStep-sound s t id version (settle.Spent x) h e = unchanged-sound s t h e.1
-  SettleStep-sound s t id version (settle.Stale x) h e = unchanged-sound s t h e.1
-  SettleStep-sound s t id version (settle.Incomplete x) h e = unchanged-sound s t h e.1
-  SettleStep-sound s t id version (settle.Ungathered x) h e = unchanged-sound s t h e.1
   SettleStep-sound s t id version (settle.Improves x y) h e = unchanged-sound s t h e.unchanged
+  SettleStep-sound s t id version refusal h e = unchanged-sound s t h e.1
 
   CloseStep-sound : (s t : State) (id : BranchId) (answer : Closing) → IsSound s → CloseStep s id answer t → IsSound t
   CloseStep-sound s t id closing.Closed h e = Closes-sound s id h t e
-  CloseStep-sound s t id (closing.Spent x) h e = unchanged-sound s t h e.1
-  CloseStep-sound s t id (closing.NotOpen x) h e = unchanged-sound s t h e.1
-  CloseStep-sound s t id (closing.Weak x y) h e = unchanged-sound s t h e.1
+  CloseStep-sound s t id refusal h e = unchanged-sound s t h e.1
 
   ExamineStep-sound : (s t : State) (id : BranchId) (answer : Result Examined ExamineFault) → IsSound s → ExamineStep s id answer t → IsSound t
   ExamineStep-sound s t id (Ok examined.Cut) h e = ClosesByCut-sound s id h t e
@@ -143,11 +124,7 @@ module _ where
   ExamineStep-sound s t id (Ok examined.Overfull) h e = ClosesOverfull-sound s id h t e
   ExamineStep-sound s t id (Ok examined.Routed) h e = ClosesRouted-sound s h id t e
   ExamineStep-sound s t id (Err examine_fault.OutOfMemory) h e = unchanged-sound s t h e
-  ExamineStep-sound s t id (Err (examine_fault.Spent x)) h e = unchanged-sound s t h e.1
-  ExamineStep-sound s t id (Err (examine_fault.NotOpen x)) h e = unchanged-sound s t h e.1
-  ExamineStep-sound s t id (Err examine_fault.Unpriced) h e = unchanged-sound s t h e.1
-  ExamineStep-sound s t id (Err (examine_fault.Closable x y)) h e = unchanged-sound s t h e.1
-  ExamineStep-sound s t id (Err (examine_fault.Unsettled x)) h e = unchanged-sound s t h e.1
+  ExamineStep-sound s t id (Err refusal) h e = unchanged-sound s t h e.1
 
   BetterStep-sound : (s t : State) (design : Design) (answer : Result Better DesignFault) → IsSound s → BetterStep s design answer t → IsSound t
   BetterStep-sound s t design (Ok (better.Taken cost)) h e = TakesBetter-sound s h design cost t e
@@ -200,18 +177,12 @@ Step-goes s t (Offering offer) (to_offering answer) e = by answer e
     by : (a : Offered) → OfferStep s offer a t → GoesTo s (to_offering a) t
     by offered.CutTaken x = goes_to s (to_offering offered.CutTaken) t _ x.becomes refl refl refl refl refl refl refl
     by (offered.Accepted left) x = subst (GoesTo s (to_offering (offered.Accepted left))) (sym x.becomes) (record { problem = refl; cuts = refl; budget = refl; accepted = omega arith; next_version = omega arith })
-    by (offered.Spent y) x = refused s (to_offering (offered.Spent y)) t x.1 refl refl
-    by (offered.Stale y) x = refused s (to_offering (offered.Stale y)) t x.1 refl refl
-    by (offered.NoDemand y) x = refused s (to_offering (offered.NoDemand y)) t x.1 refl refl
-    by offered.Already x = refused s (to_offering offered.Already) t x.1 refl refl
-    by (offered.Unfit y) x = refused s (to_offering (offered.Unfit y)) t x.1 refl refl
+    by refusal x = refused s (to_offering refusal) t x.1 refl refl
 Step-goes s t (Gathering id version) (to_gathering answer) e = by answer e
   where
     by : (a : Result Gather AllocError) → GatherStep s id version a t → GoesTo s (to_gathering a) t
     by (Ok (gather.Taken brief)) x = goes_to s (to_gathering (Ok (gather.Taken brief))) t _ x.becomes refl refl refl refl refl refl refl
-    by (Ok (gather.Spent y)) x = refused s (to_gathering (Ok (gather.Spent y))) t x.1 refl refl
-    by (Ok (gather.Stale y)) x = refused s (to_gathering (Ok (gather.Stale y))) t x.1 refl refl
-    by (Ok (gather.Incomplete y)) x = refused s (to_gathering (Ok (gather.Incomplete y))) t x.1 refl refl
+    by (Ok refusal) x = refused s (to_gathering (Ok refusal)) t x.1 refl refl
     by (Err wanting) x = elim x [
       | inl same ↦ refused s (to_gathering (Err wanting)) t same refl refl
       | inr front ↦ goes_to s (to_gathering (Err wanting)) t _ front.becomes refl refl refl refl refl refl refl
@@ -222,31 +193,18 @@ Step-goes s t (Publishing id seen prices) (to_publishing answer) e = by answer e
     by (publish.Published slot version) x =
         subst (GoesTo s (to_publishing (publish.Published slot version))) (sym x.becomes) (record { problem = refl; cuts = refl; budget = refl; accepted = omega arith; next_version = omega arith })
     by (publish.NoGain y z) x = refused s (to_publishing (publish.NoGain y z)) t x.unchanged refl refl
-    by (publish.Spent y) x = refused s (to_publishing (publish.Spent y)) t x.1 refl refl
-    by (publish.Stale y) x = refused s (to_publishing (publish.Stale y)) t x.1 refl refl
-    by publish.Settled x = refused s (to_publishing publish.Settled) t x.1 refl refl
-    by (publish.Incomplete y) x = refused s (to_publishing (publish.Incomplete y)) t x.1 refl refl
-    by (publish.Rounds y) x = refused s (to_publishing (publish.Rounds y)) t x.1 refl refl
-    by (publish.PriceCount y) x = refused s (to_publishing (publish.PriceCount y)) t x.1 refl refl
-    by (publish.OverPrice y) x = refused s (to_publishing (publish.OverPrice y)) t x.1 refl refl
-    by publish.Unlawful x = refused s (to_publishing publish.Unlawful) t x.1 refl refl
-    by (publish.Ungathered y) x = refused s (to_publishing (publish.Ungathered y)) t x.1 refl refl
+    by refusal x = refused s (to_publishing refusal) t x.1 refl refl
 Step-goes s t (Settling id version) (to_settling answer) e = by answer e
   where
     by : (a : Settle) → SettleStep s id version a t → GoesTo s (to_settling a) t
     by settle.Done x = goes_to s (to_settling settle.Done) t _ x.becomes refl refl refl refl refl refl refl
-    by (settle.Spent y) x = refused s (to_settling (settle.Spent y)) t x.1 refl refl
-    by (settle.Stale y) x = refused s (to_settling (settle.Stale y)) t x.1 refl refl
-    by (settle.Incomplete y) x = refused s (to_settling (settle.Incomplete y)) t x.1 refl refl
-    by (settle.Ungathered y) x = refused s (to_settling (settle.Ungathered y)) t x.1 refl refl
     by (settle.Improves y z) x = refused s (to_settling (settle.Improves y z)) t x.unchanged refl refl
+    by refusal x = refused s (to_settling refusal) t x.1 refl refl
 Step-goes s t (Closing_of id) (to_closing answer) e = by answer e
   where
     by : (a : Closing) → CloseStep s id a t → GoesTo s (to_closing a) t
     by closing.Closed x = goes_to s (to_closing closing.Closed) t _ x.becomes refl refl refl refl refl refl refl
-    by (closing.Spent y) x = refused s (to_closing (closing.Spent y)) t x.1 refl refl
-    by (closing.NotOpen y) x = refused s (to_closing (closing.NotOpen y)) t x.1 refl refl
-    by (closing.Weak y z) x = refused s (to_closing (closing.Weak y z)) t x.1 refl refl
+    by refusal x = refused s (to_closing refusal) t x.1 refl refl
 Step-goes s t (Examining id) (to_examining answer) e = by answer e
   where
     by : (a : Result Examined ExamineFault) → ExamineStep s id a t → GoesTo s (to_examining a) t
@@ -256,11 +214,7 @@ Step-goes s t (Examining id) (to_examining answer) e = by answer e
     by (Ok examined.Overfull) x = goes_to s (to_examining (Ok examined.Overfull)) t _ x.becomes refl refl refl refl refl refl refl
     by (Ok examined.Routed) x = goes_to s (to_examining (Ok examined.Routed)) t _ x.becomes refl refl refl refl refl refl refl
     by (Err examine_fault.OutOfMemory) x = refused s (to_examining (Err examine_fault.OutOfMemory)) t x refl refl
-    by (Err (examine_fault.Spent y)) x = refused s (to_examining (Err (examine_fault.Spent y))) t x.1 refl refl
-    by (Err (examine_fault.NotOpen y)) x = refused s (to_examining (Err (examine_fault.NotOpen y))) t x.1 refl refl
-    by (Err examine_fault.Unpriced) x = refused s (to_examining (Err examine_fault.Unpriced)) t x.1 refl refl
-    by (Err (examine_fault.Closable y z)) x = refused s (to_examining (Err (examine_fault.Closable y z))) t x.1 refl refl
-    by (Err (examine_fault.Unsettled y)) x = refused s (to_examining (Err (examine_fault.Unsettled y))) t x.1 refl refl
+    by (Err refusal) x = refused s (to_examining (Err refusal)) t x.1 refl refl
 Step-goes s t (Bettering design) (to_bettering answer) e = by answer e
   where
     by : (a : Result Better DesignFault) → BetterStep s design a t → GoesTo s (to_bettering a) t
@@ -324,22 +278,8 @@ only root undone (suc n) node is = let bad : ◌≡◌ {A = Option Node} None (S
 pub IsOpeningState-sound : (p : Parts) (cuts : List Cut) (budget : ℕ) (s : State) → IsOpeningState p cuts budget s → IsSound s
 IsOpeningState-sound p cuts budget s e =
     let root : Node = root_with e.prices in
-    let sound : IsSoundNode p cuts root = record {
-      first_prices = e.are_numbers;
-      open_enough = record {
-        at_target = λ k below a arc tail. refl;
-        elsewhere = λ k at below a leaves. (a, leaves, refl);
-      };
-      ranges = AreRanges-whole p;
-      round = tt;
-      best = tt;
-      no_best = λ none. refl;
-      versions = tt;
-      version_count = omega arith;
-      waiting = λ undone none. refl;
-      cut = tt;
-      crowd = tt;
-    } in
+    let enough : IsOpenEnough p (restriction_of root) = record { at_target = λ k below a arc tail. refl; elsewhere = λ k at below a leaves. (a, leaves, refl) } in
+    let sound = waiting-sound p cuts [] e.prices e.are_numbers enough (AreRanges-whole p) in
     subst IsSound (sym e.is_state) (record {
       lawful = e.lawful;
       cuts = e.are_cuts;

@@ -17,19 +17,7 @@ Settles-sound s t id version h e =
     let new : Node = record node { settled = true } in
     let k = All-at (IsSoundNode s.problem s.cuts) s.nodes id.0 node h.nodes is.is_node in
     let fate = All-at (HasSoundFate s.problem s.cuts (cutoff_of s)) s.nodes id.0 node h.fates is.is_node in
-    let sound : IsSoundNode s.problem s.cuts new = record {
-      first_prices = k.first_prices;
-      open_enough = k.open_enough;
-      ranges = k.ranges;
-      round = k.round;
-      best = k.best;
-      no_best = k.no_best;
-      versions = k.versions;
-      version_count = k.version_count;
-      waiting = k.waiting;
-      cut = k.cut;
-      crowd = k.crowd;
-    } in
+    let sound : IsSoundNode s.problem s.cuts new = assumption k in
     let undone = (rw is.is_round at (k.round)).0 in
     subst IsSound (sym e.becomes)
     (replaced-sound s id.0 node new s.examined s.next_version s.accepted is.is_node h (record { limits = refl; first_prices = refl })

@@ -1,5 +1,5 @@
 -- A sound node that takes a sound round is sound, whether the round is complete or not.
-use Rattle.std.proofs.Common.{◌≡◌, ℕ, zero, suc, ◌+◌, ◌<◌, inl, inr, Bool, true, false, List, length, Option, Some, None, refl, sym, ap, subst, arith, ℤ, ◌≤ℤ◌}
+use Rattle.std.proofs.Common.{◌≡◌, ℕ, zero, suc, ◌+◌, ◌<◌, ◌≤◌, inl, inr, Bool, true, false, List, length, Option, Some, None, refl, sym, ap, subst, arith, ℤ, ◌≤ℤ◌}
 use Rattle.std.specs.Prelude.{IfSome, int_lt}
 use Rattle.std.proofs.lemmas.Int.{ints}
 use Rattle.plan_base.specs.declared.parts.Parts.{Parts}
@@ -13,7 +13,7 @@ use Rattle.pool_machine.specs.declared.limits.TheConstants.{MAX_VERSIONS}
 use Rattle.proof_tree.proofs.RatedUniqueness.{rated_bound-unique}
 use Rattle.pool_machine.specs.State.{Round, Best, Fate, Undone, Node, restriction_of, region_of, left_of}
 use Rattle.pool_machine.specs.Changes.{better_of, KeepsCrowd, Completes, GoesOn, TakesRound}
-use Rattle.pool_machine.specs.Nodes.{IsSoundRound, IsSoundBest, IsSoundNode}
+use Rattle.pool_machine.specs.Nodes.{IsSoundRound, IsSoundBest, HasSoundVersions, IsSoundNode}
 use Rattle.pool_machine.specs.Counts.{versions_of, versions_by, versions_in_round}
 use Rattle.pool_machine.proofs.Frames.{SameBase}
 
@@ -76,65 +76,56 @@ KeepsCrowd-sound p cuts old prices crowd fits keeps h = elim keeps [
 
 module _ (p : Parts) (cuts : List Cut) (old : Node) (round : Round) (undone : old.fate ≡ Undone) (k : IsSoundNode p cuts old)
     (is_sound : IsSoundRound p cuts (restriction_of old) round) (first : old.completed ≡ 0 → round.prices ≡ old.first_prices) (room : old.completed < MAX_VERSIONS) where
+  -- the node has taken the round where what it then has of complete versions, and its crowd proof, are sound
+  with_round : (best : Option Best) (completed : ℕ) (crowd : Option (List ℕ)) → IfSome best (λ b. IsSoundBest p cuts (region_of p old) old.first_prices completed b) → (best ≡ None → completed ≡ 0)
+      → HasSoundVersions p cuts (region_of p old) old.first_prices completed best round → completed ≤ MAX_VERSIONS → IfSome crowd (IsSizedCrowd p cuts old)
+      → versions_in_round completed (left_of round) ≡ suc old.completed → HasTaken p cuts old round (record old { best = best; completed = completed; crowd = crowd; round = Some round })
+  with_round best completed crowd is_best no_best versions within is_crowd count = record {
+    sound = record {
+      first_prices = k.first_prices;
+      open_enough = k.open_enough;
+      ranges = k.ranges;
+      round = (undone, is_sound);
+      best = is_best;
+      no_best = no_best;
+      versions = versions;
+      version_count = within;
+      waiting = λ u none. cc;
+      cut = k.cut;
+      crowd = is_crowd;
+    };
+    base = record { limits = refl; first_prices = refl };
+    fate = refl;
+    is_round = refl;
+    cut = refl;
+    versions = versions-undone completed old.fate round (suc old.completed) undone count;
+  }
+
   Completes-sound : (new : Node) → Completes p cuts old round new → HasTaken p cuts old round new
   Completes-sound new e =
       let g = region_of p old in
       let better = better_of-sound p cuts g old.first_prices round.prices old.completed old.best e.bound k.best is_sound.prices e.is_bound
       (λ none. subst (λ (ps : List ℕ). IsBoundAt p cuts g ps e.bound) (first (k.no_best none)) e.is_bound) in
-      subst (HasTaken p cuts old round) (sym e.becomes) (record {
-        sound = record {
-          first_prices = k.first_prices;
-          open_enough = k.open_enough;
-          ranges = k.ranges;
-          round = (undone, is_sound);
-          best = better.sound;
-          no_best = λ none. cc;
-          versions = record {
-            complete_within = λ done b x. let same : b ≡ e.bound = rated_bound-unique p cuts g round.prices (rates_in p round.prices) b e.bound x e.is_bound in subst (λ (z : ℤ). z ≤ℤ (better_of old.best e.bound round.prices).bound) (sym same) better.above;
-            some_complete = λ done. omega arith;
-            first_round = λ none. absurd (omega arith);
-            room = λ left. absurd (let c = e.complete in omega arith);
-          };
-          version_count = omega arith;
-          waiting = λ u none. cc;
-          cut = k.cut;
-          crowd = KeepsCrowd-sound p cuts old round.prices e.crowd is_sound.prices.count e.is_crowd k.crowd;
-        };
-        base = record { limits = refl; first_prices = refl };
-        fate = refl;
-        is_round = refl;
-        cut = refl;
-        versions = versions-undone (suc old.completed) old.fate round (suc old.completed) undone (ap (versions_in_round (suc old.completed)) e.complete);
-      })
+      let versions : HasSoundVersions p cuts g old.first_prices (suc old.completed) (Some (better_of old.best e.bound round.prices)) round = record {
+        complete_within = λ done b x. let same : b ≡ e.bound = rated_bound-unique p cuts g round.prices (rates_in p round.prices) b e.bound x e.is_bound in subst (λ (z : ℤ). z ≤ℤ (better_of old.best e.bound round.prices).bound) (sym same) better.above;
+        some_complete = λ done. omega arith;
+        first_round = λ none. absurd (omega arith);
+        room = λ left. absurd (let c = e.complete in omega arith);
+      } in
+      subst (HasTaken p cuts old round) (sym e.becomes) (with_round (Some (better_of old.best e.bound round.prices)) (suc old.completed) e.crowd better.sound (λ none. cc) versions (omega arith)
+      (KeepsCrowd-sound p cuts old round.prices e.crowd is_sound.prices.count e.is_crowd k.crowd) (ap (versions_in_round (suc old.completed)) e.complete))
 
   GoesOn-sound : (new : Node) → GoesOn old round new → HasTaken p cuts old round new
   GoesOn-sound new e =
       let left : 0 < left_of round = e.incomplete in
-      subst (HasTaken p cuts old round) (sym e.becomes) (record {
-        sound = record {
-          first_prices = k.first_prices;
-          open_enough = k.open_enough;
-          ranges = k.ranges;
-          round = (undone, is_sound);
-          best = k.best;
-          no_best = k.no_best;
-          versions = record {
-            complete_within = λ done. absurd (omega arith);
-            some_complete = λ done. absurd (omega arith);
-            first_round = first;
-            room = λ l. room;
-          };
-          version_count = k.version_count;
-          waiting = λ u none. cc;
-          cut = k.cut;
-          crowd = k.crowd;
-        };
-        base = record { limits = refl; first_prices = refl };
-        fate = refl;
-        is_round = refl;
-        cut = refl;
-        versions = versions-undone old.completed old.fate round (suc old.completed) undone (versions_in_round-some old.completed (left_of round) left);
-      })
+      let versions : HasSoundVersions p cuts (region_of p old) old.first_prices old.completed old.best round = record {
+        complete_within = λ done. absurd (omega arith);
+        some_complete = λ done. absurd (omega arith);
+        first_round = first;
+        room = λ l. room;
+      } in
+      subst (HasTaken p cuts old round) (sym e.becomes)
+      (with_round old.best old.completed old.crowd k.best k.no_best versions k.version_count k.crowd (versions_in_round-some old.completed (left_of round) left))
 
   -- an open sound node with room that takes a sound round is sound, and keeps its base, its fate and its cut
   pub TakesRound-sound : (new : Node) → TakesRound p cuts old round new → HasTaken p cuts old round new

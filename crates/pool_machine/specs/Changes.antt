@@ -10,7 +10,7 @@ use Rattle.proof_tree.specs.Evidence.{ClosedByCrowd}
 use Rattle.proof_tree.specs.RatedEvidence.{IsBoundAt}
 use Rattle.pool_machine.specs.declared.answers.NodeState.{NodeState}
 use Rattle.pool_machine.specs.declared.answers.NodeState.TheVariants as state
-use Rattle.pool_machine.specs.State.{Round, Best, Node, State, region_of, left_of, round_of, Limit, Found, Undone}
+use Rattle.pool_machine.specs.State.{Round, Best, Node, State, region_of, left_of, state_of, round_of, Limit, Found, Undone}
 
 -- the state with this node at the number
 abbrev pub with_node : State → BranchId → Node → State
@@ -78,6 +78,19 @@ abbrev pub is_open_state : NodeState → Bool
 is_open_state state.Waiting = true
 is_open_state state.Active = true
 is_open_state _ = false
+
+-- the node of this number is one
+abbrev pub IsOpenLeaf : State → BranchId → Type 0
+IsOpenLeaf s id = is_open_state (state_of s id) ≡ true
+
+-- the node is an open leaf without a round
+abbrev pub is_waiting : NodeState → Bool
+is_waiting state.Waiting = true
+is_waiting _ = false
+
+-- the node of this number is one
+abbrev pub IsWaiting : State → BranchId → Type 0
+IsWaiting s id = is_waiting (state_of s id) ≡ true
 
 -- the version of the round, if there is one
 abbrev pub version_in : Option Round → Option ℕ

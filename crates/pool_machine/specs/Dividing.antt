@@ -9,7 +9,8 @@ use Rattle.plan_base.specs.Paths.{arc_at}
 use Rattle.arc_restrict.specs.Restrictions.{Forbidden, is_among, IsPermittedPath}
 use Rattle.link_steps.specs.declared.range.LoadRange.{LoadRange}
 use Rattle.link_steps.specs.Costs.{IsStepEnd}
-use Rattle.proof_tree.specs.Regions.{Region, IsLoadSplit}
+use Rattle.proof_tree.specs.Regions.{Region}
+pub use Rattle.proof_tree.specs.Regions.{IsLoadSplit}
 use Rattle.proof_tree.specs.Splits.{IsSplit}
 use Rattle.proof_tree.specs.Spellings.{IsAscending}
 use Rattle.pool_machine.specs.State.{Node, State, restriction_of, region_of, kept_prices, Limit, ArcSplit, LoadSplit, Divider, left_limit, right_limit, Division, DividedBy}

@@ -25,14 +25,15 @@ use Rattle.pool_machine.specs.declared.answers.ExamineFault.{ExamineFault}
 use Rattle.pool_machine.specs.declared.answers.Better.{Better}
 use Rattle.pool_machine.specs.State.{Node, State}
 use Rattle.pool_machine.specs.Changes.{waiting_with}
-use Rattle.pool_machine.specs.Opening.{OpenStep}
-use Rattle.pool_machine.specs.Offering.{OfferStep, accepted_by}
-use Rattle.pool_machine.specs.Gathering.{GatherStep}
-use Rattle.pool_machine.specs.Publishing.{PublishStep}
-use Rattle.pool_machine.specs.Settling.{SettleStep}
-use Rattle.pool_machine.specs.Closing.{CloseStep}
-use Rattle.pool_machine.specs.Examining.{ExamineStep}
-use Rattle.pool_machine.specs.Bettering.{BetterStep}
+pub use Rattle.pool_machine.specs.Opening.{OpenStep}
+use Rattle.pool_machine.specs.Offering.{accepted_by}
+pub use Rattle.pool_machine.specs.Offering.{OfferStep}
+pub use Rattle.pool_machine.specs.Gathering.{GatherStep}
+pub use Rattle.pool_machine.specs.Publishing.{PublishStep}
+pub use Rattle.pool_machine.specs.Settling.{SettleStep}
+pub use Rattle.pool_machine.specs.Closing.{CloseStep}
+pub use Rattle.pool_machine.specs.Examining.{ExamineStep}
+pub use Rattle.pool_machine.specs.Bettering.{BetterStep}
 
 -- a call on the pool
 pub data Event : Type 0 where
@@ -99,6 +100,21 @@ pub record IsCounted (s : State) (entries : List Entry) (t : State) : Type 0 whe
 abbrev pub root_with : List ℕ → Node
 root_with prices = waiting_with [] prices
 
+-- the state in which only a root is there, which waits with these prices
+abbrev pub opening_with : Parts → List Cut → ℕ → ℕ → List ℕ → State
+opening_with p cuts unit budget prices = record {
+  problem = p;
+  cuts = cuts;
+  unit = unit;
+  nodes = root_with prices ∷ [];
+  columns = no_columns p;
+  incumbent = None;
+  examined = 0;
+  budget = budget;
+  next_version = 1;
+  accepted = 0;
+}
+
 -- the root waits with the start prices and with rates of 0, and nothing else is there
 pub record IsOpeningState (p : Parts) (cuts : List Cut) (budget : ℕ) (s : State) : Type 0 where
   pub lawful : IsInstance p
@@ -108,18 +124,7 @@ pub record IsOpeningState (p : Parts) (cuts : List Cut) (budget : ℕ) (s : Stat
   pub prices : List ℕ
   pub are_start : AreStartNumbers p cuts prices
   pub are_numbers : AreNumbers p cuts prices
-  pub is_state : s ≡ record {
-    problem = p;
-    cuts = cuts;
-    unit = unit;
-    nodes = root_with prices ∷ [];
-    columns = no_columns p;
-    incumbent = None;
-    examined = 0;
-    budget = budget;
-    next_version = 1;
-    accepted = 0;
-  }
+  pub is_state : s ≡ opening_with p cuts unit budget prices
 
 -- some events lead to the state from the opening state of its own problem, cuts and budget
 pub record IsReachable (s : State) : Type 0 where

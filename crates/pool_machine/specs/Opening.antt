@@ -1,20 +1,14 @@
 -- Openings: a node that waits gets a round.
-use Rattle.std.specs.Prelude.{ℕ, suc, ◌≡◌, ◌<◌, Bool, true, false, not, List, length, replicate, Option, Some, None, slice_get, slice_set, nat_le, IsSomeAnd, Result, Ok, Err}
+use Rattle.std.specs.Prelude.{ℕ, suc, ◌≡◌, ◌<◌, not, List, length, replicate, Option, Some, None, slice_get, slice_set, nat_le, IsSomeAnd, Result, Ok, Err}
 use Rattle.plan_base.specs.declared.ids.BranchId.{BranchId}
 use Rattle.plan_base.specs.First.{◌or_else◌, when}
-use Rattle.pool_machine.specs.declared.answers.NodeState.{NodeState}
-use Rattle.pool_machine.specs.declared.answers.NodeState.TheVariants as state
 use Rattle.pool_machine.specs.declared.answers.Opened.{Opened}
 use Rattle.pool_machine.specs.declared.answers.RoundFault.{RoundFault}
 use Rattle.pool_machine.specs.declared.answers.RoundFault.TheVariants as round_fault
 use Rattle.pool_machine.specs.declared.limits.TheConstants.{MAX_ROUNDS}
 use Rattle.pool_machine.specs.State.{Round, Node, State, active_count, state_of, Undone}
 use Rattle.pool_machine.specs.Changes.{TakesRound, is_spent}
-
--- the node is an open leaf without a round
-abbrev pub is_waiting : NodeState → Bool
-is_waiting state.Waiting = true
-is_waiting _ = false
+pub use Rattle.pool_machine.specs.Changes.{is_waiting}
 
 -- why an opening is refused, the first cause first: spent, not waiting, no free slot
 unfoldable pub open_fault : State → BranchId → Option RoundFault
@@ -41,18 +35,22 @@ pub record IsLowestFreeSlot (s : State) (slot : ℕ) : Type 0 where
 abbrev pub empty_round : State → ℕ → List ℕ → Round
 empty_round s slot prices = record { slot = slot; version = s.next_version; prices = prices; found = replicate (length s.problem.demands) None }
 
--- the node has waited and gets a round of its first prices and the next version
-pub record Opens (old : State) (id : BranchId) (opened : Opened) (new : State) : Type 0 where
-  pub not_spent : old.examined < old.budget
+-- the node waits, and there is room for its round
+pub record MayOpen (s : State) (id : BranchId) : Type 0 where
+  pub not_spent : s.examined < s.budget
   pub node : Node
-  pub is_node : slice_get old.nodes id.0 ≡ Some node
+  pub is_node : slice_get s.nodes id.0 ≡ Some node
   pub undone : node.fate ≡ Undone
   pub no_round : node.round ≡ None
-  pub room : active_count old < MAX_ROUNDS
+  pub room : active_count s < MAX_ROUNDS
+
+-- the node has waited and gets a round of its first prices and the next version
+pub record Opens (old : State) (id : BranchId) (opened : Opened) (new : State) : Type 0 where
+  pub may : MayOpen old id
   pub slot : IsLowestFreeSlot old opened.slot
   pub version : opened.version ≡ old.next_version
   pub after : Node
-  pub takes : TakesRound old.problem old.cuts node (empty_round old opened.slot node.first_prices) after
+  pub takes : TakesRound old.problem old.cuts may.node (empty_round old opened.slot may.node.first_prices) after
   pub becomes : new ≡ record old { nodes = slice_set old.nodes id.0 after; next_version = suc old.next_version }
 
 -- an opening answers so and leads from old to new; a refused one changes nothing

@@ -18,7 +18,7 @@ pub use Rattle.pool_machine.specs.declared.tree.HeldCut.{HeldCut}
 pub use Rattle.branch_tree.specs.declared.node.Division.{Division}
 pub use Rattle.branch_tree.specs.declared.node.Fate.{Fate}
 pub use Rattle.branch_tree.specs.declared.node.Fate.TheVariants.{Undone, ClosedBy, DividedBy}
-pub use Rattle.branch_tree.specs.Branches.{restriction_by, ranges_by, region_by, narrowed, left_limit, right_limit}
+pub use Rattle.branch_tree.specs.Branches.{restriction_by, ranges_by, region_by, narrowed, left_limit, right_limit, IsLimitOf}
 pub use Rattle.pool_machine.specs.declared.tree.Incumbent.{Incumbent}
 
 -- the round of a node: which demands are priced under one version of prices, which are numbers: a price for each place, and

@@ -10,37 +10,22 @@ use branch_tree::Fate;
 
 fn is_shared<T: Send + Sync>(_value: &T) {}
 
-fn are_calls_shared(offer: &Offer, task: &Task) {
-    is_shared(offer);
-    is_shared(task);
+fn are_calls_shared(calls: &(Offer, Task)) {
+    is_shared(calls);
 }
 
-fn are_answers_shared(opened: &Opened, offered: &Offered, settle: &Settle, closing: &Closing) {
-    is_shared(opened);
-    is_shared(offered);
-    is_shared(settle);
-    is_shared(closing);
+fn are_round_answers_shared(answers: &(Opened, Offered, Gather, Publish, Settle)) {
+    is_shared(answers);
 }
 
-fn are_versions_shared(gather: &Gather, publish: &Publish) {
-    is_shared(gather);
-    is_shared(publish);
+fn are_node_answers_shared(answers: &(NodeState, Closing, Examined, Better)) {
+    is_shared(answers);
 }
 
-fn are_further_answers_shared(state: &NodeState, examined: &Examined, better: &Better) {
-    is_shared(state);
-    is_shared(examined);
-    is_shared(better);
+fn are_faults_shared(faults: &(RoundFault, ExamineFault)) {
+    is_shared(faults);
 }
 
-fn are_faults_shared(round: &RoundFault, examine: &ExamineFault) {
-    is_shared(round);
-    is_shared(examine);
-}
-
-fn are_pieces_shared(fate: &Fate, found: &Found, cut: &HeldCut, incumbent: &Incumbent) {
-    is_shared(fate);
-    is_shared(found);
-    is_shared(cut);
-    is_shared(incumbent);
+fn are_pieces_shared(pieces: &(Fate, Found, HeldCut, Incumbent)) {
+    is_shared(pieces);
 }
