@@ -268,53 +268,34 @@ closed-same s id node new found is undone closed = SameDivisions-set s.nodes id.
 
 OpenStep-same : (s t : State) (id : BranchId) (answer : Result Opened RoundFault) → OpenStep s id answer t → SameDivisions s.nodes t.nodes
 OpenStep-same s t id (Ok opened) e =
-    to_nodes s t _ e.becomes (SameDivisions-set s.nodes id.0 e.node e.after e.is_node (TakesRound-fate s.problem s.cuts e.node _ e.after e.takes))
+    to_nodes s t _ e.becomes (SameDivisions-set s.nodes id.0 e.may.node e.after e.may.is_node (TakesRound-fate s.problem s.cuts e.may.node _ e.after e.takes))
 OpenStep-same s t id (Err fault) e = unchanged-same s t e.1
 
 OfferStep-same : (s t : State) (offer : Offer) (answer : Offered) → OfferStep s offer answer t → SameDivisions s.nodes t.nodes
 OfferStep-same s t offer offered.CutTaken e = to_nodes s t _ e.becomes (SameDivisions-set s.nodes offer.node.0 e.node _ e.fits_round.is_node refl)
 OfferStep-same s t offer (offered.Accepted left) e =
     to_nodes s t _ e.becomes (SameDivisions-set s.nodes offer.node.0 e.node e.after e.fits_round.is_node (TakesRound-fate s.problem s.cuts e.node _ e.after e.takes))
-OfferStep-same s t offer (offered.Spent x) e = unchanged-same s t e.1
-OfferStep-same s t offer (offered.Stale x) e = unchanged-same s t e.1
-OfferStep-same s t offer (offered.NoDemand x) e = unchanged-same s t e.1
-OfferStep-same s t offer offered.Already e = unchanged-same s t e.1
-OfferStep-same s t offer (offered.Unfit x) e = unchanged-same s t e.1
+OfferStep-same s t offer refusal e = unchanged-same s t e.1
 
 GatherStep-same : (s t : State) (id : BranchId) (version : ℕ) (answer : Result Gather AllocError) → GatherStep s id version answer t → SameDivisions s.nodes t.nodes
 GatherStep-same s t id version (Ok (gather.Taken brief)) e = to_nodes s t _ e.becomes (SameDivisions-refl s.nodes)
-GatherStep-same s t id version (Ok (gather.Spent x)) e = unchanged-same s t e.1
-GatherStep-same s t id version (Ok (gather.Stale x)) e = unchanged-same s t e.1
-GatherStep-same s t id version (Ok (gather.Incomplete x)) e = unchanged-same s t e.1
+GatherStep-same s t id version (Ok refusal) e = unchanged-same s t e.1
 GatherStep-same s t id version (Err wanting) e = elim e [ inl same ↦ unchanged-same s t same | inr front ↦ to_nodes s t _ front.becomes (SameDivisions-refl s.nodes) ]
 
 PublishStep-same : (s t : State) (id : BranchId) (seen : ℕ) (prices : List ℕ) (answer : Publish) → PublishStep s id seen prices answer t → SameDivisions s.nodes t.nodes
 PublishStep-same s t id seen prices (publish.Published slot version) e =
     to_nodes s t _ e.becomes (SameDivisions-set s.nodes id.0 e.node e.after e.may.is_gathered.complete_round.is_node (TakesRound-fate s.problem s.cuts (record e.node { crowd_tried = e.mark }) _ e.after e.takes))
 PublishStep-same s t id seen prices (publish.NoGain x y) e = unchanged-same s t e.unchanged
-PublishStep-same s t id seen prices (publish.Spent x) e = unchanged-same s t e.1
-PublishStep-same s t id seen prices (publish.Stale x) e = unchanged-same s t e.1
-PublishStep-same s t id seen prices publish.Settled e = unchanged-same s t e.1
-PublishStep-same s t id seen prices (publish.Incomplete x) e = unchanged-same s t e.1
-PublishStep-same s t id seen prices (publish.Rounds x) e = unchanged-same s t e.1
-PublishStep-same s t id seen prices (publish.PriceCount x) e = unchanged-same s t e.1
-PublishStep-same s t id seen prices (publish.OverPrice x) e = unchanged-same s t e.1
-PublishStep-same s t id seen prices publish.Unlawful e = unchanged-same s t e.1
-PublishStep-same s t id seen prices (publish.Ungathered x) e = unchanged-same s t e.1
+PublishStep-same s t id seen prices refusal e = unchanged-same s t e.1
 
 SettleStep-same : (s t : State) (id : BranchId) (version : ℕ) (answer : Settle) → SettleStep s id version answer t → SameDivisions s.nodes t.nodes
 SettleStep-same s t id version settle.Done e = to_nodes s t _ e.becomes (SameDivisions-set s.nodes id.0 e.node _ e.is_gathered.complete_round.is_node refl)
-SettleStep-same s t id version (settle.Spent x) e = unchanged-same s t e.1
-SettleStep-same s t id version (settle.Stale x) e = unchanged-same s t e.1
-SettleStep-same s t id version (settle.Incomplete x) e = unchanged-same s t e.1
-SettleStep-same s t id version (settle.Ungathered x) e = unchanged-same s t e.1
 SettleStep-same s t id version (settle.Improves x y) e = unchanged-same s t e.unchanged
+SettleStep-same s t id version refusal e = unchanged-same s t e.1
 
 CloseStep-same : (s t : State) (id : BranchId) (answer : Closing) → CloseStep s id answer t → SameDivisions s.nodes t.nodes
 CloseStep-same s t id closing.Closed e = to_nodes s t _ e.becomes (closed-same s id e.node _ e.found e.is_node e.undone refl)
-CloseStep-same s t id (closing.Spent x) e = unchanged-same s t e.1
-CloseStep-same s t id (closing.NotOpen x) e = unchanged-same s t e.1
-CloseStep-same s t id (closing.Weak x y) e = unchanged-same s t e.1
+CloseStep-same s t id refusal e = unchanged-same s t e.1
 
 BetterStep-same : (s t : State) (design : Design) (answer : Result Better DesignFault) → BetterStep s design answer t → SameDivisions s.nodes t.nodes
 BetterStep-same s t design (Ok (better.Taken cost)) e = to_nodes s t _ e.becomes (SameDivisions-refl s.nodes)
@@ -340,11 +321,7 @@ ExamineStep-born s t id answer h born e = by answer e
     by (Ok examined.Overfull) x = kept (to_nodes s t _ x.becomes (closed-same s id x.node _ _ x.ready.open_node.is_node x.ready.open_node.undone refl))
     by (Ok examined.Routed) x = kept (to_nodes s t _ x.becomes (closed-same s id x.node _ _ x.ready.open_node.is_node x.ready.open_node.undone refl))
     by (Err examine_fault.OutOfMemory) x = kept (unchanged-same s t x)
-    by (Err (examine_fault.Spent y)) x = kept (unchanged-same s t x.1)
-    by (Err (examine_fault.NotOpen y)) x = kept (unchanged-same s t x.1)
-    by (Err examine_fault.Unpriced) x = kept (unchanged-same s t x.1)
-    by (Err (examine_fault.Closable y z)) x = kept (unchanged-same s t x.1)
-    by (Err (examine_fault.Unsettled y)) x = kept (unchanged-same s t x.1)
+    by (Err refusal) x = kept (unchanged-same s t x.1)
 
 Step-born : (s t : State) (event : Event) (answer : Answer) → IsSound s → AreBorn s.nodes → Step s event answer t → AreBorn t.nodes
 Step-born s t (Opening id) (to_opening answer) h born e = AreBorn-same s.nodes t.nodes (OpenStep-same s t id answer e) born

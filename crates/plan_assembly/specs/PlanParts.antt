@@ -17,13 +17,13 @@ use Rattle.branch_tree.specs.declared.node.Fate.{Fate}
 use Rattle.branch_tree.specs.declared.node.Fate.TheVariants.{Undone, ClosedBy, DividedBy}
 use Rattle.pool_machine.specs.State.{Node, State, region_of, cutoff_of, kept_prices}
 use Rattle.pool_machine.specs.declared.limits.TheConstants.{MAX_BUDGET}
-use Rattle.pool_machine.specs.Machine.{IsReachable}
+pub use Rattle.pool_machine.specs.Machine.{IsReachable}
 use Rattle.arc_restrict.specs.Rows.{forbids}
 use Rattle.proof_tree.specs.Regions.{Region}
 use Rattle.pool_nodes.specs.Records.{record_of}
 use Rattle.pool_nodes.specs.Grounds.{Kept, HasGrounds}
 use Rattle.pool_nodes.specs.declared.search_state.SearchState.{SearchState}
-use Rattle.pool_nodes.specs.SearchStates.{machine_state}
+pub use Rattle.pool_nodes.specs.SearchStates.{machine_state}
 
 -- what a plan is put together from shows a state that events lead to, with the table of its instance and its cuts and the
 -- regions of its open leaves

@@ -6,9 +6,7 @@ ghost use Rattle.arc_restrict.specs.Rows.{forbids};
 ghost use Rattle.path_pricing.specs.Priced.{ArePrices};
 ghost use Rattle.cut_table.specs.Numbers.{AreNumbers};
 ghost use Rattle.pool_machine.specs.State.{cutoff_of};
-ghost use Rattle.pool_machine.specs.Machine.{IsReachable};
-ghost use Rattle.pool_nodes.specs.SearchStates.{machine_state};
-ghost use Rattle.plan_assembly.specs.PlanParts.{region_in, IsAssembled, IsPriceOrNone, IsBoundOrNone, IsLeafBound, IsLeafBoundOrNone, IsLeastOrNone};
+ghost use Rattle.plan_assembly.specs.PlanParts.{machine_state, IsReachable, region_in, IsAssembled, IsPriceOrNone, IsBoundOrNone, IsLeafBound, IsLeafBoundOrNone, IsLeastOrNone};
 ghost use Rattle.plan_assembly.specs.LeafLows.{AreLows, IsLow, IsNeedless, IsLimitOrNone, IsBegun, IsLesserOver};
 
 use crate::lows::{lowest_leaf, lows_of};

@@ -2,11 +2,9 @@
 //! its parent keeps and forbids more.
 
 ghost use Rattle.std.specs.Prelude.{◌≡◌, ◌<◌, length, Some, IfOk, IfSome};
-ghost use Rattle.pool_machine.specs.Machine.{IsReachable};
 ghost use Rattle.pool_machine.specs.Changes.{bound_in};
 ghost use Rattle.pool_nodes.specs.Records.{children_by};
-ghost use Rattle.pool_nodes.specs.SearchStates.{machine_state};
-ghost use Rattle.plan_assembly.specs.PlanParts.{IsAssembled};
+ghost use Rattle.plan_assembly.specs.PlanParts.{machine_state, IsReachable, IsAssembled};
 ghost use Rattle.plan_assembly.specs.LeafLows.{AreLows, lows_with};
 
 use pool_nodes::{PoolNode, SearchState};

@@ -3,10 +3,8 @@
 ghost use Rattle.std.specs.Prelude.{◌≡◌, IfOk, true};
 ghost use Rattle.proof_tree.specs.Plans.{IsValidPlan};
 ghost use Rattle.proof_tree.specs.Spellings.{IsSpellable};
-ghost use Rattle.pool_machine.specs.Machine.{IsReachable};
 ghost use Rattle.pool_machine.specs.PlanOf.{status_of, is_done, stated_design, IsPlanOf, HasOpeningBound, PartsPaths};
-ghost use Rattle.pool_nodes.specs.SearchStates.{machine_state};
-ghost use Rattle.plan_assembly.specs.PlanParts.{IsAssembled, IsStatedBound};
+ghost use Rattle.plan_assembly.specs.PlanParts.{machine_state, IsReachable, IsAssembled, IsStatedBound};
 
 use crate::bounds::least_bound;
 use crate::records;

@@ -19,7 +19,7 @@ use Rattle.pool_machine.specs.Settling.{settle_fault, Settles, SettleStep}
 use Rattle.pool_machine.specs.Opening.{IsTaken}
 use Rattle.pool_machine.specs.Machine.{Settling, to_settling}
 use Rattle.pool_machine.specs.declared.limits.TheConstants.{MAX_BUDGET}
-use Rattle.pool_core.specs.Valuing.{IsToSettle}
+use Rattle.pool_core.specs.Valuing.{IsCompleteAt, IsToSettle}
 use Rattle.pool_reading.specs.Views.{IsTakenBy, HasPlaces, IsPool}
 use Rattle.pool_machine.proofs.Lists.{sum_by-set_at, slice_get-set_same, slice_get-set_other, slice_get-set_cases}
 use Rattle.pool_machine.proofs.Frames.{same_or_other, one_at}
@@ -67,11 +67,30 @@ pub option_map-none : {A B : Type 0} (f : A → B) (o : Option A) → option_map
 option_map-none f None h = refl
 option_map-none f (Some x) h = absurd (cc)
 
+-- where a call is neither spent nor stale, and no demand is left, the round of the version is complete
+pub complete_fault-none : {F : Type 0} (spent : ℕ → F) (stale : Option ℕ → F) (incomplete : DemandId → F) (s : State) (id : BranchId) (version : ℕ) → stale_fault spent stale s id version ≡ None
+    → option_map incomplete (first_gap (round_of s id)) ≡ None → IsCompleteAt s id version
+complete_fault-none spent stale incomplete s id version fresh full =
+    let is = stale_fault-none spent stale s id version fresh in
+    let v = is.has_version in
+    let at : round_of s id ≡ Some v.round = ap (option_and_then (λ (node : Node). node.round)) v.is_node ∙ v.is_round in
+    let complete = first_gap-none v.round (sym (ap first_gap at) ∙ option_map-none incomplete (first_gap (round_of s id)) full) in
+    record { node = v.node; round = v.round; is_complete = assumption (is, v, complete) }
+
 -- the node has a gathered round of the version
 pub record HasGathered (s : State) (id : BranchId) (version : ℕ) : Type 0 where
   pub node : Node
   pub round : Round
   pub is_gathered : IsGathered s id version node round
+
+-- and where each path is a column besides, it is gathered
+pub gathered_fault-none : {F : Type 0} (spent : ℕ → F) (stale : Option ℕ → F) (incomplete ungathered : DemandId → F) (s : State) (id : BranchId) (version : ℕ) → stale_fault spent stale s id version ≡ None
+    → option_map incomplete (first_gap (round_of s id)) ≡ None → option_map ungathered (first_ungathered s.columns (round_of s id)) ≡ None → HasGathered s id version
+gathered_fault-none spent stale incomplete ungathered s id version fresh full all =
+    let h = complete_fault-none spent stale incomplete s id version fresh full in
+    let at : round_of s id ≡ Some h.round = ap (option_and_then (λ (node : Node). node.round)) h.is_complete.is_node ∙ h.is_complete.is_round in
+    let gathered = sym (ap (first_ungathered s.columns) at) ∙ option_map-none ungathered (first_ungathered s.columns (round_of s id)) all in
+    record { node = h.node; round = h.round; is_gathered = record { complete_round = h.is_complete; gathered_all = gathered } }
 
 -- no fault: the round is gathered
 pub settle_fault-none : (s : State) (id : BranchId) (version : ℕ) → settle_fault s id version ≡ None → HasGathered s id version
@@ -79,25 +98,7 @@ unfolding settle_fault
 settle_fault-none s id version h =
     let one = or_else-none (stale_fault settle.Spent settle.Stale s id version) (option_map settle.Incomplete (first_gap (round_of s id)) or_else option_map settle.Ungathered (first_ungathered s.columns (round_of s id))) h in
     let two = or_else-none (option_map settle.Incomplete (first_gap (round_of s id))) (option_map settle.Ungathered (first_ungathered s.columns (round_of s id))) one.1 in
-    let is = stale_fault-none settle.Spent settle.Stale s id version one.0 in
-    let v = is.has_version in
-    let at : round_of s id ≡ Some v.round = ap (option_and_then (λ (node : Node). node.round)) v.is_node ∙ v.is_round in
-    let no_gap : first_gap (round_of s id) ≡ None = option_map-none settle.Incomplete (first_gap (round_of s id)) two.0 in
-    let all : first_ungathered s.columns (round_of s id) ≡ None = option_map-none settle.Ungathered (first_ungathered s.columns (round_of s id)) two.1 in
-    record {
-      node = v.node;
-      round = v.round;
-      is_gathered = record {
-        complete_round = record {
-          not_spent = is.not_spent;
-          is_node = v.is_node;
-          is_round = v.is_round;
-          is_version = v.is_version;
-          complete = first_gap-none v.round (sym (ap first_gap at) ∙ no_gap);
-        };
-        gathered_all = sym (ap (first_ungathered s.columns) at) ∙ all;
-      };
-    }
+    gathered_fault-none settle.Spent settle.Stale settle.Incomplete settle.Ungathered s id version one.0 two.0 two.1
 
 -- a refusal is none of the answers that are no refusals
 never : (a : Settle) → ((x : ℕ) → settle.Spent x ≡ a → ⊥) → ((x : Option ℕ) → settle.Stale x ≡ a → ⊥) → ((x : DemandId) → settle.Incomplete x ≡ a → ⊥) → ((x : DemandId) → settle.Ungathered x ≡ a → ⊥)

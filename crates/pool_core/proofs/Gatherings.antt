@@ -1,6 +1,6 @@
 -- A gathering: where it is not refused, and the pool when paths became columns.
 use Rattle.std.proofs.Common.{◌≡◌, ℕ, inr, Bool, true, false, not, List, length, Option, Some, None, slice_get, refl, sym, ap, ◌∙◌, arith}
-use Rattle.std.specs.Prelude.{Result, Ok, Err, IfOk, IsErr, IsSome, option_map, option_and_then}
+use Rattle.std.specs.Prelude.{Result, Ok, Err, IfOk, IsErr, IsSome, option_map}
 use Rattle.std.specs.declared.alloc.AllocError.{AllocError}
 use Rattle.plan_base.specs.declared.ids.BranchId.{BranchId}
 use Rattle.plan_base.specs.declared.ids.DemandId.{DemandId}
@@ -25,8 +25,7 @@ use Rattle.pool_reading.specs.Views.{IsKeptPool}
 use Rattle.pool_machine.proofs.Frames.{one_at}
 use Rattle.pool_reading.specs.Valuing.{ForRound}
 use Rattle.pool_core.specs.Valuing.{IsCompleteAt}
-use Rattle.pool_reading.proofs.Answering.{first_gap-none}
-use Rattle.pool_core.proofs.Answering.{stale_fault-none, option_map-none}
+use Rattle.pool_core.proofs.Answering.{complete_fault-none}
 use Rattle.pool_reading.proofs.TaskLaws.{HasRound}
 use Rattle.pool_core.proofs.TaskLaws.{has-some}
 use Rattle.pool_reading.proofs.Reading.{sound-round}
@@ -37,20 +36,7 @@ pub gather_fault-none : (s : State) (id : BranchId) (version : ℕ) → gather_f
 unfolding gather_fault
 gather_fault-none s id version h =
     let both = or_else-none (stale_fault gather.Spent gather.Stale s id version) (option_map gather.Incomplete (first_gap (round_of s id))) h in
-    let is = stale_fault-none gather.Spent gather.Stale s id version both.0 in
-    let v = is.has_version in
-    let at : round_of s id ≡ Some v.round = ap (option_and_then (λ (node : Node). node.round)) v.is_node ∙ v.is_round in
-    record {
-      node = v.node;
-      round = v.round;
-      is_complete = record {
-        not_spent = is.not_spent;
-        is_node = v.is_node;
-        is_round = v.is_round;
-        is_version = v.is_version;
-        complete = first_gap-none v.round (sym (ap first_gap at) ∙ option_map-none gather.Incomplete (first_gap (round_of s id)) both.1);
-      };
-    }
+    complete_fault-none gather.Spent gather.Stale gather.Incomplete s id version both.0 both.1
 
 never : (brief : Brief) (spent stale : Bool) (x : ℕ) (y : Option ℕ) (o : Option DemandId) → ((when spent (gather.Spent x) or_else when stale (gather.Stale y)) or_else option_map gather.Incomplete o) ≡ Some (gather.Taken brief) → ⊥
 never brief true stale x y o h = let e : Some (gather.Spent x) ≡ Some (gather.Taken brief) = h in let same : gather.Spent x ≡ gather.Taken brief = cc in cc

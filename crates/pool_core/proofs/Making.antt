@@ -15,7 +15,7 @@ use Rattle.cut_table.specs.Numbers.{CutProblem, AreNumbers, AreStartNumbers}
 use Rattle.column_pool.specs.Columns.{Columns, no_columns}
 use Rattle.pool_machine.specs.declared.limits.TheConstants.{MAX_ROUNDS, MAX_BUDGET}
 use Rattle.pool_machine.specs.State.{Round, Node, State, rounds_in, region_of}
-use Rattle.pool_machine.specs.Machine.{root_with, IsOpeningState}
+use Rattle.pool_machine.specs.Machine.{root_with, opening_with, IsOpeningState}
 use Rattle.pool_machine.specs.Opening.{IsTaken}
 use Rattle.pool_nodes.specs.Slots.{is_free}
 use Rattle.pool_reading.specs.Views.{AreFreePlaces, HasPlaces, IsKeptPool}
@@ -106,21 +106,6 @@ module _ (s : State) (prices : List ℕ) (nodes : s.nodes ≡ root_with prices �
           let same : root_with prices ≡ node = cc in
           (Some kept, refl, subst (λ (x : Node). IsGroundOf s.problem (region_of s.problem x) x.fate (Some kept)) same is_whole)
       at_root (suc n) node is = let bad : ◌≡◌ {A = Option Node} None (Some node) = is in absurd (cc)
-
--- the state before any event
-abbrev pub opening_with : Parts → List Cut → ℕ → ℕ → List ℕ → State
-opening_with p cuts unit budget prices = record {
-  problem = p;
-  cuts = cuts;
-  unit = unit;
-  nodes = root_with prices ∷ [];
-  columns = no_columns p;
-  incumbent = None;
-  examined = 0;
-  budget = budget;
-  next_version = 1;
-  accepted = 0;
-}
 
 module _ (p : Parts) (cuts : List Cut) (unit budget : ℕ) (prices : List ℕ) (lawful : IsInstance p) (are_cuts : IsCutList p cuts) (is_unit : IsUnit p unit) (start : AreStartNumbers p cuts prices) (numbers : AreNumbers p cuts prices) where
   -- the state before any event, of a lawful instance with its cuts, unit and start prices, is an opening state

@@ -26,7 +26,7 @@ use Rattle.pool_machine.specs.State.{Round, Node, State, restriction_of, left_of
 use Rattle.pool_machine.specs.Changes.{is_spent, version_in, is_version, has_cut, stale_fault, TakesRound, with_node}
 use Rattle.pool_machine.specs.Offering.{is_priced, unfit_in, offer_fault, FitsRound, TakesCut, Accepts, OfferStep, with_found}
 use Rattle.pool_machine.specs.Opening.{HasSlot, IsTaken}
-use Rattle.pool_machine.specs.Machine.{Offering, to_offering}
+use Rattle.pool_machine.specs.Machine.{Offering, to_offering, IsReachable}
 use Rattle.pool_machine.specs.Nodes.{IsSoundNode}
 use Rattle.pool_machine.specs.Soundness.{IsSound}
 use Rattle.pool_reading.specs.Views.{IsTakenBy, HasPlaces, IsPool, IsKeptPool}
@@ -112,6 +112,10 @@ offer_fault-none s offer sound h =
         fits = fits_at s.problem (slice_get s.nodes offer.node.0) v.node v.round offer.demand.0 offer.found v.is_node v.is_round three.1;
       };
     }
+
+-- the same where the fault is told of an equal state
+pub may-offer : (s now : State) (offer : Offer) → IsReachable s → s ≡ now → offer_fault now offer ≡ None → MayOffer s offer
+may-offer s now offer h is none = offer_fault-none s offer (IsReachable-sound s h) (subst (λ (t : State). offer_fault t offer ≡ None) (sym is) none)
 
 -- Refusals
 

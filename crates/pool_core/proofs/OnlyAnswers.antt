@@ -8,14 +8,13 @@ use Rattle.pool_machine.specs.declared.answers.Publish.{Publish}
 use Rattle.pool_machine.specs.declared.answers.Publish.TheVariants as publish
 use Rattle.branch_tree.specs.declared.node.Fate.{Fate}
 use Rattle.pool_machine.specs.State.{Round, Node, State, state_by, state_in, state_of}
-use Rattle.pool_machine.specs.Opening.{is_waiting}
+use Rattle.pool_machine.specs.Opening.{is_waiting, MayOpen}
 use Rattle.pool_machine.specs.Publishing.{publish_fault, Publishes, PublishStep}
 use Rattle.pool_machine.proofs.Frames.{one_at}
 use Rattle.pool_machine.proofs.OneAnswer.{slot-one, gains-not_no_gain}
 use Rattle.pool_core.specs.Valuing.{IsToPublish}
 use Rattle.pool_core.specs.declared.pool.following.Following.{Following}
 use Rattle.pool_core.specs.Foretold.{IsOpenAnswer, IsOnlyOpening, IsFollowing, IsPublishAnswer, IfPublished, IsOnlyPublishing}
-use Rattle.pool_core.proofs.OpenPool.{MayOpen}
 use Rattle.pool_core.proofs.Publishable.{publish_fault-refusal}
 
 -- Openings

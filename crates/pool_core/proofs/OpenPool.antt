@@ -11,12 +11,13 @@ use Rattle.plan_base.specs.First.{◌or_else◌, when}
 use Rattle.plan_base.proofs.Bools.{not-false}
 use Rattle.plan_base.proofs.FirstFault.{or_else-none, when-none}
 use Rattle.pool_machine.specs.declared.limits.TheConstants.{MAX_ROUNDS}
+use Rattle.pool_machine.specs.declared.answers.RoundFault.{RoundFault}
 use Rattle.pool_machine.specs.declared.answers.RoundFault.TheVariants as round_fault
 use Rattle.branch_tree.specs.declared.node.Fate.{Fate}
 use Rattle.branch_tree.specs.declared.node.Fate.TheVariants.{Undone, ClosedBy, DividedBy}
 use Rattle.pool_machine.specs.State.{Round, Node, State, restriction_of, rounds_by, rounds_in, active_count, state_by, state_in, state_of}
 use Rattle.pool_machine.specs.Changes.{is_spent, TakesRound}
-use Rattle.pool_machine.specs.Opening.{is_waiting, open_fault, HasSlot, IsTaken, IsLowestFreeSlot, empty_round, Opens}
+use Rattle.pool_machine.specs.Opening.{is_waiting, open_fault, HasSlot, IsTaken, IsLowestFreeSlot, empty_round, MayOpen, Opens}
 use Rattle.pool_machine.specs.Machine.{Opening, to_opening}
 use Rattle.pool_machine.specs.Nodes.{IsSoundRound, IsSoundNode}
 use Rattle.pool_nodes.specs.Slots.{is_free, IsFirstFree}
@@ -33,15 +34,6 @@ use Rattle.pool_nodes.proofs.Completing.{TakesRound-round, TakesRound-limits, Ta
 use Rattle.cut_table.specs.Numbers.{CutProblem}
 use Rattle.pool_nodes.specs.Grounds.{Kept}
 use Rattle.pool_nodes.specs.Rounds.{MayComplete}
-
--- the node waits, and there is room
-pub record MayOpen (s : State) (id : BranchId) : Type 0 where
-  pub not_spent : s.examined < s.budget
-  pub node : Node
-  pub is_node : slice_get s.nodes id.0 ≡ Some node
-  pub undone : node.fate ≡ Undone
-  pub no_round : node.round ≡ None
-  pub room : active_count s < MAX_ROUNDS
 
 waits-by : (fate : Fate) (round : Option Round) → is_waiting (state_by fate round) ≡ true → (fate ≡ Undone) × (round ≡ None)
 waits-by Undone None h = (refl, refl)
@@ -66,38 +58,58 @@ open_fault-none s id h =
     let few : nat_le MAX_ROUNDS (active_count s) ≡ false = when-none _ _ two.1 in
     record { not_spent = is_spent-false s (when-none _ _ one.0); node = w.0; is_node = w.1; undone = w.2; no_round = w.3; room = grind (arith, nat_tests) }
 
-module _ (s : State) (places : List Slot) (id : BranchId) (slot : ℕ) (h : IsPool s places) (may : MayOpen s id) (first : IsFirstFree places slot) where
+-- where the read pool tells of no fault, there is none
+pub unrefused : (s read now : State) (id : BranchId) (fault : Option RoundFault) → s ≡ now → read ≡ now → fault ≡ open_fault read id → fault ≡ None → open_fault s id ≡ None
+unrefused s read now id fault is is_read told none =
+    subst (λ (t : State). open_fault t id ≡ None) (sym is) (sym (told ∙ ap (λ (t : State). open_fault t id) is_read) ∙ none)
+
+-- and the node may be opened
+pub may-open : (s read now : State) (id : BranchId) (fault : Option RoundFault) → s ≡ now → read ≡ now → fault ≡ open_fault read id → fault ≡ None → MayOpen s id
+may-open s read now id fault is is_read told none = open_fault-none s id (unrefused s read now id fault is is_read told none)
+
+-- a node that may be opened, and the first free slot
+pub record IsOpening (s : State) (places : List Slot) (id : BranchId) (slot : ℕ) : Type 0 where
+  pub may : MayOpen s id
+  pub first : IsFirstFree places slot
+
+-- where the read pool tells of no fault and of the first free slot, both are there
+pub opening-told : (s read now : State) (id : BranchId) (fault : Option RoundFault) (places shown : List Slot) (slot : ℕ) → s ≡ now → read ≡ now → fault ≡ open_fault read id → fault ≡ None → shown ≡ places
+    → IsFirstFree shown slot → IsOpening s places id slot
+opening-told s read now id fault places shown slot is is_read told none same first =
+    record { may = may-open s read now id fault is is_read told none; first = subst (λ (xs : List Slot). IsFirstFree xs slot) same first }
+
+module _ (s : State) (places : List Slot) (id : BranchId) (slot : ℕ) (h : IsPool s places) (o : IsOpening s places id slot) where
   -- the round that a place is begun as
   abbrev begun_round : Round → List ℕ → Round
   begun_round place prices = record { slot = place.slot; version = s.next_version; prices = prices; found = replicate (length place.found) None }
 
   abbrev empty : Round
-  empty = empty_round s slot may.node.first_prices
+  empty = empty_round s slot o.may.node.first_prices
 
-  slot_is : first.place.slot ≡ slot
-  slot_is = h.has_places.slot_is slot first.place first.is_free
+  slot_is : o.first.place.slot ≡ slot
+  slot_is = h.has_places.slot_is slot o.first.place o.first.is_free
 
   -- the first free slot is below the greatest count of active rounds
   pub slot-within : slot < MAX_ROUNDS
-  slot-within = let w = slice_get_within places slot (Free first.place) first.is_free in let c = h.has_places.count in omega arith
+  slot-within = let w = slice_get_within places slot (Free o.first.place) o.first.is_free in let c = h.has_places.count in omega arith
 
   -- the first free place is the lowest free slot
   pub lowest-free : IsLowestFreeSlot s slot
   lowest-free = record {
     within = slot-within;
-    free = λ taken. h.has_places.free slot first.place first.is_free taken;
-    lowest = λ other below. let w = first.lower other below in let t = h.has_places.taken other w.0 w.1 in (w.0.0, t.0, t.1, t.2);
+    free = λ taken. h.has_places.free slot o.first.place o.first.is_free taken;
+    lowest = λ other below. let w = o.first.lower other below in let t = h.has_places.taken other w.0 w.1 in (w.0.0, t.0, t.1, t.2);
   }
 
-  is_empty : begun_round first.place may.node.first_prices ≡ empty
+  is_empty : begun_round o.first.place o.may.node.first_prices ≡ empty
   is_empty =
-      let make : ℕ → ℕ → Round = λ (a b : ℕ). record { slot = a; version = s.next_version; prices = may.node.first_prices; found = replicate b None } in
-      ap₂ make slot_is (h.has_places.demands slot first.place first.is_free)
+      let make : ℕ → ℕ → Round = λ (a b : ℕ). record { slot = a; version = s.next_version; prices = o.may.node.first_prices; found = replicate b None } in
+      ap₂ make slot_is (h.has_places.demands slot o.first.place o.first.is_free)
 
-  at_node : IsSoundNode s.problem s.cuts may.node
-  at_node = node_at s id.0 may.node (IsReachable-sound s h.reachable) may.is_node
+  at_node : IsSoundNode s.problem s.cuts o.may.node
+  at_node = node_at s id.0 o.may.node (IsReachable-sound s h.reachable) o.may.is_node
 
-  empty-sound : IsSoundRound s.problem s.cuts (restriction_of may.node) empty
+  empty-sound : IsSoundRound s.problem s.cuts (restriction_of o.may.node) empty
   empty-sound = record {
     slot = slot-within;
     count = length-replicate (length s.problem.demands) None;
@@ -105,8 +117,8 @@ module _ (s : State) (places : List Slot) (id : BranchId) (slot : ℕ) (h : IsPo
     least = λ j found is. absurd (none_found (length s.problem.demands) j found is);
   }
 
-  prices-fit : length may.node.first_prices ≡ length first.place.prices
-  prices-fit = at_node.first_prices.count ∙ sym (h.has_places.prices slot first.place first.is_free)
+  prices-fit : length o.may.node.first_prices ≡ length o.first.place.prices
+  prices-fit = at_node.first_prices.count ∙ sym (h.has_places.prices slot o.first.place o.first.is_free)
 
   -- the next version of a pool is at most 139282
   pub version-small : s.next_version ≤ 139282
@@ -114,35 +126,35 @@ module _ (s : State) (places : List Slot) (id : BranchId) (slot : ℕ) (h : IsPo
 
   -- the place that is read is free
   pub read-free : (read : Slot) → read ≡ get_or places slot read → ((place : Round) → read ≡ Free place → ⊥) → ⊥
-  read-free read at_place not_free = not_free first.place (at_place ∙ get_or_from_slice_get places slot (Free first.place) read first.is_free)
+  read-free read at_place not_free = not_free o.first.place (at_place ∙ get_or_from_slice_get places slot (Free o.first.place) read o.first.is_free)
 
   -- The node and the place as they are read, and the node when its round has begun
 
   module _ (item : Node) (place : Round) (read : Slot) (at_item : item ≡ get_or s.nodes id.0 item) (at_place : read ≡ get_or places slot read) (is : read ≡ Free place) where
-    item_is : item ≡ may.node
-    item_is = at_item ∙ get_or_from_slice_get s.nodes id.0 may.node item may.is_node
+    item_is : item ≡ o.may.node
+    item_is = at_item ∙ get_or_from_slice_get s.nodes id.0 o.may.node item o.may.is_node
 
-    place_is : place ≡ first.place
-    place_is = let same : Free place ≡ Free first.place = sym is ∙ (at_place ∙ get_or_from_slice_get places slot (Free first.place) read first.is_free) in cc
+    place_is : place ≡ o.first.place
+    place_is = let same : Free place ≡ Free o.first.place = sym is ∙ (at_place ∙ get_or_from_slice_get places slot (Free o.first.place) read o.first.is_free) in cc
 
     -- the read node has as many first prices as the free slot has room for
     pub place-fits : length item.first_prices ≡ length place.prices
     place-fits = ap (λ (x : Node). length x.first_prices) item_is ∙ (prices-fit ∙ sym (ap (λ (r : Round). length r.prices) place_is))
 
     module _ (mid : Node) (begun : mid ≡ record item { round = Some (begun_round place item.first_prices) }) where
-      mid_is : mid ≡ record may.node { round = Some empty }
+      mid_is : mid ≡ record o.may.node { round = Some empty }
       mid_is =
           let make : Node → Round → Node = λ x r. record x { round = Some r } in
-          begun ∙ (ap₂ (λ (x : Node) (r : Round). make x (begun_round r x.first_prices)) item_is place_is ∙ ap (make may.node) is_empty)
+          begun ∙ (ap₂ (λ (x : Node) (r : Round). make x (begun_round r x.first_prices)) item_is place_is ∙ ap (make o.may.node) is_empty)
 
       -- the node has the same limits once its round has begun
-      pub begun-limits : mid.limits ≡ may.node.limits
+      pub begun-limits : mid.limits ≡ o.may.node.limits
       begun-limits = ap (λ (x : Node). x.limits) mid_is
 
       -- the node whose round has begun is an open leaf with a sound round, which may become complete
       pub begun-ready : MayComplete s.problem s.cuts mid
       begun-ready = subst (MayComplete s.problem s.cuts) (sym mid_is) (record {
-        undone = may.undone;
+        undone = o.may.undone;
         price_count = at_node.first_prices.count;
         ranges = at_node.ranges;
         version_count = at_node.version_count;
@@ -150,24 +162,19 @@ module _ (s : State) (places : List Slot) (id : BranchId) (slot : ℕ) (h : IsPo
       })
 
       -- what the begun node becomes with its round is what the waiting node becomes with an empty round
-      pub begun-takes : (new : Node) → IfSome mid.round (λ r. TakesRound s.problem s.cuts mid r new) → TakesRound s.problem s.cuts may.node empty new
-      begun-takes new takes = TakesRound-from s.problem s.cuts may.node mid new empty mid_is takes
+      pub begun-takes : (new : Node) → IfSome mid.round (λ r. TakesRound s.problem s.cuts mid r new) → TakesRound s.problem s.cuts o.may.node empty new
+      begun-takes new takes = TakesRound-from s.problem s.cuts o.may.node mid new empty mid_is takes
 
   -- The state after
 
-  module _ (after : Node) (takes : TakesRound s.problem s.cuts may.node empty after) (version : ℕ) (version_is : version ≡ suc s.next_version) where
+  module _ (after : Node) (takes : TakesRound s.problem s.cuts o.may.node empty after) (version : ℕ) (version_is : version ≡ suc s.next_version) where
     abbrev next : State
     next = record s { nodes = set s.nodes id.0 after; next_version = version }
 
     -- the state in which the node has taken the empty round, and one more version is counted, is the event
     pub opens : Opens s id (record { slot = slot; version = s.next_version }) next
     opens = record {
-      not_spent = may.not_spent;
-      node = may.node;
-      is_node = may.is_node;
-      undone = may.undone;
-      no_round = may.no_round;
-      room = may.room;
+      may = o.may;
       slot = lowest-free;
       version = refl;
       after = after;
@@ -176,15 +183,15 @@ module _ (s : State) (places : List Slot) (id : BranchId) (slot : ℕ) (h : IsPo
     }
 
     after-round : after.round ≡ Some empty
-    after-round = TakesRound-round s.problem s.cuts may.node empty after takes
+    after-round = TakesRound-round s.problem s.cuts o.may.node empty after takes
 
     taken-there : (k n : ℕ) → IsTakenBy s k n → IsTakenBy next k n
     taken-there k n t = elim (same_or_other n id.0) [
       | inr ne ↦ (t.0, slice_get-set_other s.nodes id.0 n after ne ∙ t.1, t.2)
       | inl e ↦
           let at : slice_get s.nodes id.0 ≡ Some t.0 = subst (λ (i : ℕ). slice_get s.nodes i ≡ Some t.0) e t.1 in
-          let node : t.0 ≡ may.node = one_at s.nodes id.0 t.0 may.node at may.is_node in
-          let none : t.0.round ≡ None = ap (λ (x : Node). x.round) node ∙ may.no_round in
+          let node : t.0 ≡ o.may.node = one_at s.nodes id.0 t.0 o.may.node at o.may.is_node in
+          let none : t.0.round ≡ None = ap (λ (x : Node). x.round) node ∙ o.may.no_round in
           let bad : ⊥ = subst (λ (o : Option Round). IsSomeAnd o (λ r. r.slot ≡ k)) none t.2 in
           absurd bad
     ]
@@ -210,9 +217,9 @@ module _ (s : State) (places : List Slot) (id : BranchId) (slot : ℕ) (h : IsPo
         record {
           count = length-set places slot (Of id) ∙ p.count;
           total = (
-              let c = sum_by-set_at (λ (o : Slot). cond (is_free o) 1 0) places slot (Free first.place) (Of id) first.is_free in
-              let a = sum_by-set_at rounds_in s.nodes id.0 may.node after may.is_node in
-              let none : rounds_in may.node ≡ 0 = ap rounds_by may.no_round in
+              let c = sum_by-set_at (λ (o : Slot). cond (is_free o) 1 0) places slot (Free o.first.place) (Of id) o.first.is_free in
+              let a = sum_by-set_at rounds_in s.nodes id.0 o.may.node after o.may.is_node in
+              let none : rounds_in o.may.node ≡ 0 = ap rounds_by o.may.no_round in
               let one : rounds_in after ≡ 1 = ap rounds_by after-round in
               let t = p.total in
               omega arith
@@ -221,7 +228,7 @@ module _ (s : State) (places : List Slot) (id : BranchId) (slot : ℕ) (h : IsPo
             | inl w ↦
                 let same : n ≡ id = (let e : Of n ≡ Of id = w.1 in cc) in
                 subst (λ (b : BranchId). IsTakenBy next k b.0) (sym same)
-                (after, slice_get-set_same s.nodes id.0 may.node after may.is_node, subst (λ (i : ℕ). HasSlot i after) (sym w.0) has_slot)
+                (after, slice_get-set_same s.nodes id.0 o.may.node after o.may.is_node, subst (λ (i : ℕ). HasSlot i after) (sym w.0) has_slot)
             | inr w ↦ taken-there k n.0 (p.taken k n w.1)
           ];
           free = λ k place is t. let w = was_free k place is in p.free k place w.1 (taken-back k w.0 t);
@@ -242,14 +249,14 @@ module _ (s : State) (places : List Slot) (id : BranchId) (slot : ℕ) (h : IsPo
     pub opened-kept : (table : CutProblem) (grounds : List (Option Kept)) (item : Node) (left : Slot) → item ≡ get_or s.nodes id.0 item → left ≡ Of id → IsKeptPool s table grounds places
         → IsKeptPool next table grounds (set places slot left)
     opened-kept table grounds item left at_item none kept =
-        let same : item ≡ may.node = at_item ∙ get_or_from_slice_get s.nodes id.0 may.node item may.is_node in
+        let same : item ≡ o.may.node = at_item ∙ get_or_from_slice_get s.nodes id.0 o.may.node item o.may.is_node in
         record {
           pool = subst (λ (o : Slot). IsPool next (set places slot o)) (sym none) opened-IsPool;
           table_is = kept.table_is;
           cuts_are = kept.cuts_are;
-          has_grounds = HasGrounds-set s.problem s.nodes grounds id.0 item after (slice_get_within s.nodes id.0 may.node may.is_node) at_item
-              (TakesRound-limits s.problem s.cuts may.node empty after takes ∙ ap (λ (x : Node). x.limits) (sym same))
-              (TakesRound-fate s.problem s.cuts may.node empty after takes ∙ ap (λ (x : Node). x.fate) (sym same)) kept.has_grounds;
+          has_grounds = HasGrounds-set s.problem s.nodes grounds id.0 item after (slice_get_within s.nodes id.0 o.may.node o.may.is_node) at_item
+              (TakesRound-limits s.problem s.cuts o.may.node empty after takes ∙ ap (λ (x : Node). x.limits) (sym same))
+              (TakesRound-fate s.problem s.cuts o.may.node empty after takes ∙ ap (λ (x : Node). x.fate) (sym same)) kept.has_grounds;
         }
 
 -- where a node may be opened, some slot is free

@@ -1,6 +1,6 @@
 -- Prices that are not refused may follow those of the node's round; and a refusal is none of the answers that are no refusals.
 use Rattle.std.proofs.Common.{◌≡◌, ℕ, ◌+◌, ◌<◌, Bool, true, false, not, List, length, take, Option, Some, None, slice_get, refl, sym, ap, subst, ◌∙◌, arith}
-use Rattle.std.specs.Prelude.{⊤, option_map, option_and_then, nat_lt, nat_le, ◌==◌}
+use Rattle.std.specs.Prelude.{⊤, option_map, nat_lt, nat_le, ◌==◌}
 use Rattle.std.proofs.lemmas.Bool.{eqb-true}
 use Rattle.std.proofs.lemmas.Bool.Decides.{nat_tests}
 use Rattle.plan_base.specs.declared.ids.BranchId.{BranchId}
@@ -21,8 +21,7 @@ use Rattle.pool_machine.specs.Readiness.{completed_in, settled_in}
 use Rattle.pool_machine.specs.Gathering.{first_ungathered}
 use Rattle.pool_machine.specs.Publishing.{price_fault, unlawful_fault, publish_fault, MayFollow, PublishStep}
 use Rattle.pool_machine.proofs.RefusedNumbers.{first_in-at, unfaulted-lawful, unlawful_only}
-use Rattle.pool_reading.proofs.Answering.{first_gap-none}
-use Rattle.pool_core.proofs.Answering.{stale_fault-none, option_map-none}
+use Rattle.pool_core.proofs.Answering.{gathered_fault-none}
 
 -- the prices may follow those of the node's round
 pub record HasFollowing (s : State) (id : BranchId) (seen : ℕ) (prices : List ℕ) : Type 0 where
@@ -53,29 +52,23 @@ publish_fault-none s id seen prices h =
     let five = or_else-none e (f or_else g or_else i) four.1 in
     let six = or_else-none f (g or_else i) five.1 in
     let seven = or_else-none g i six.1 in
-    let is = stale_fault-none publish.Spent publish.Stale s id seen one.0 in
-    let v = is.has_version in
+    let has = gathered_fault-none publish.Spent publish.Stale publish.Incomplete publish.Ungathered s id seen one.0 three.0 seven.1 in
+    let is_node = has.is_gathered.complete_round.is_node in
     let count : length prices ≡ places s.problem + length s.cuts = eqb-true _ _ (not-false _ (when-none _ (publish.PriceCount width) five.0)) in
-    let at : round_of s id ≡ Some v.round = ap (option_and_then (λ (node : Node). node.round)) v.is_node ∙ v.is_round in
     record {
-      node = v.node;
-      round = v.round;
+      node = has.node;
+      round = has.round;
       may = record {
-        is_gathered = record {
-          complete_round = record {
-            not_spent = is.not_spent;
-            is_node = v.is_node;
-            is_round = v.is_round;
-            is_version = v.is_version;
-            complete = first_gap-none v.round (sym (ap first_gap at) ∙ option_map-none publish.Incomplete (first_gap (round_of s id)) three.0);
-          };
-          gathered_all = sym (ap (first_ungathered s.columns) at) ∙ option_map-none publish.Ungathered (first_ungathered s.columns (round_of s id)) seven.1;
-        };
-        not_settled = sym (ap settled_in v.is_node) ∙ when-none _ publish.Settled two.0;
-        room = not_reached MAX_VERSIONS v.node.completed (sym (ap (λ (o : Option Node). nat_le MAX_VERSIONS (completed_in o)) v.is_node) ∙ when-none _ (publish.Rounds (completed_in (slice_get s.nodes id.0))) four.0);
+        is_gathered = has.is_gathered;
+        not_settled = sym (ap settled_in is_node) ∙ when-none _ publish.Settled two.0;
+        room = not_reached MAX_VERSIONS has.node.completed (sym (ap (λ (o : Option Node). nat_le MAX_VERSIONS (completed_in o)) is_node) ∙ when-none _ (publish.Rounds (completed_in (slice_get s.nodes id.0))) four.0);
         are_numbers = record { count = count; lawful = unfaulted-lawful s.problem s.cuts prices (omega (arith, count)) six.0 seven.0 };
       };
     }
+
+-- where the read pool tells of no fault, there is none
+pub unrefused-prices : (read now : State) (id : BranchId) (seen : ℕ) (prices : List ℕ) (fault : Option Publish) → read ≡ now → fault ≡ publish_fault read id seen prices → fault ≡ None → publish_fault now id seen prices ≡ None
+unrefused-prices read now id seen prices fault is told none = sym (told ∙ ap (λ (s : State). publish_fault s id seen prices) is) ∙ none
 
 -- an answer that is no refusal
 abbrev NoRefusal : Publish → Type 0

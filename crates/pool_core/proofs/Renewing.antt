@@ -37,6 +37,10 @@ use Rattle.pool_core.proofs.OfferPool.{HasPlaces-slot}
 abbrev pub to_publish-of : (s : State) (id : BranchId) (seen : ℕ) (prices : List ℕ) (next : Following) → IsFollowing s id seen prices next → IsToPublish s id seen prices next.crowd_tried
 to_publish-of s id seen prices next will = record { node = will.node; round = will.round; may = will.may; gains = will.gains; is_mark = will.is_mark }
 
+-- the same in an equal state
+pub to_publish-at : (s now : State) (id : BranchId) (seen : ℕ) (prices : List ℕ) (next : Following) → s ≡ now → IsFollowing now id seen prices next → IsToPublish s id seen prices next.crowd_tried
+to_publish-at s now id seen prices next is will = to_publish-of s id seen prices next (subst (λ (x : State). IsFollowing x id seen prices next) (sym is) will)
+
 abbrev to_publish-round : (s : State) (id : BranchId) (seen : ℕ) (prices : List ℕ) (mark : Bool) → IsToPublish s id seen prices mark → HasRound s id
 to_publish-round s id seen prices mark to =
     let is = to.may.is_gathered.complete_round in
@@ -163,8 +167,7 @@ module _ (s : State) (places : List Slot) (id : BranchId) (seen : ℕ) (prices :
 
     has_places : HasPlaces next places
     has_places =
-        let p = HasPlaces-slot s id to.node after to.round empty is_node is_round (TakesRound-round s.problem s.cuts marked empty after takes) refl places s.accepted h.has_places in
-        record { count = p.count; total = p.total; taken = p.taken; free = p.free; slot_is = p.slot_is; demands = p.demands; prices = p.prices }
+        assumption (HasPlaces-slot s id to.node after to.round empty is_node is_round (TakesRound-round s.problem s.cuts marked empty after takes) refl places s.accepted h.has_places)
 
     -- the pool stays one, with the same slots, when the prices are published
     pub renewed-kept : (table : CutProblem) (grounds : List (Option Kept)) (item : Node) → item ≡ get_or s.nodes id.0 item → IsKeptPool s table grounds places → IsKeptPool next table grounds places

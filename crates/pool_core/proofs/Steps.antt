@@ -172,12 +172,13 @@ left-le round = let most = sum_by-le gap_of 1 round.found (λ k d within. gap-le
 
 opened-closer : (s t : State) (id : BranchId) (opened : Opened) → IsReachable s → Opens s id opened t → IsCloser s t id
 opened-closer s t id opened h e =
-    let round = empty_round s opened.slot e.node.first_prices in
-    let at : slice_get t.nodes id.0 ≡ Some e.after = ap (λ (x : State). slice_get x.nodes id.0) e.becomes ∙ slice_get-set_same s.nodes id.0 e.node e.after e.is_node in
-    let has : e.after.round ≡ Some round = takes-round s.problem s.cuts e.node round e.after e.takes in
-    let undone : e.after.fate ≡ Undone = TakesRound-fate s.problem s.cuts e.node round e.after e.takes ∙ e.undone in
-    let none : e.node.completed ≡ 0 = (node_at s id.0 e.node (IsReachable-sound s h) e.is_node).waiting e.undone e.no_round in
-    let versions = taken-versions s.problem s.cuts e.node round e.after e.takes (omega arith) in
+    let may = e.may in
+    let round = empty_round s opened.slot may.node.first_prices in
+    let at : slice_get t.nodes id.0 ≡ Some e.after = ap (λ (x : State). slice_get x.nodes id.0) e.becomes ∙ slice_get-set_same s.nodes id.0 may.node e.after may.is_node in
+    let has : e.after.round ≡ Some round = takes-round s.problem s.cuts may.node round e.after e.takes in
+    let undone : e.after.fate ≡ Undone = TakesRound-fate s.problem s.cuts may.node round e.after e.takes ∙ may.undone in
+    let none : may.node.completed ≡ 0 = (node_at s id.0 may.node (IsReachable-sound s h) may.is_node).waiting may.undone may.no_round in
+    let versions = taken-versions s.problem s.cuts may.node round e.after e.takes (omega arith) in
     let same : length t.problem.demands ≡ length s.problem.demands = ap (λ (x : State). length x.problem.demands) e.becomes in
     let most = left-le round in
     let long : length round.found ≡ length s.problem.demands = length-replicate (length s.problem.demands) None in
@@ -189,7 +190,7 @@ opened-closer s t id opened h e =
       examined = ap (λ (x : State). x.examined) e.becomes;
       next = next-active t id e.after round at undone has;
       fewer = fewer-versions (steps_left s id) (steps_left t id) (2 * MAX_VERSIONS + 1) (versions_left e.after.completed (left_of round)) (length s.problem.demands + 3) 0 (left_of round + cut_left e.after.cut + unsettled_left e.after.settled)
-          (steps-waiting s id e.node e.is_node e.no_round ∙ plus_zero _)
+          (steps-waiting s id may.node may.is_node may.no_round ∙ plus_zero _)
           (steps-round t id e.after round at has ∙ ap (λ (d : ℕ). versions_left e.after.completed (left_of round) * (d + 3) + (left_of round + cut_left e.after.cut + unsettled_left e.after.settled)) same)
           below short;
     }
@@ -233,6 +234,12 @@ module _ (s : State) (id : BranchId) (version : ℕ) (k : DemandId) (gap : IsGap
   gap-already = or-both_false _ _
       (ap (λ (o : Option Round). is_priced o k.0) (round_of-has s id gap-round) ∙ not_priced-at gap.1.round k.0 gap.1.not_priced)
       (ap has_cut gap.1.active.is_node ∙ ap (λ (o : Option HeldCut). is_some o) gap.1.no_cut)
+
+-- what fits as it is read fits as it is offered
+pub fits-told : (read now : State) (id : BranchId) (k : ℕ) (known found : Priced) → read ≡ now → found ≡ known → unfit_in read.problem (slice_get read.nodes id.0) k known ≡ None
+    → unfit_in now.problem (slice_get now.nodes id.0) k found ≡ None
+fits-told read now id k known found is same fits =
+    subst (λ (x : Priced). unfit_in now.problem (slice_get now.nodes id.0) k x ≡ None) (sym same) (subst (λ (t : State). unfit_in t.problem (slice_get t.nodes id.0) k known ≡ None) is fits)
 
 -- an offer of what fits is not refused
 pub none-offer_fault : (s : State) (offer : Offer) → IsReachable s → IsGap s offer.node offer.version offer.demand → unfit_in s.problem (slice_get s.nodes offer.node.0) offer.demand.0 offer.found ≡ None

@@ -7,13 +7,7 @@ pub mod Routes
 pub use Rattle.pool_reading.specs.Views
 pub use Rattle.pool_reading.specs.OpenBounds
 pub use Rattle.pool_machine.specs.State
-pub use Rattle.pool_machine.specs.Opening
-pub use Rattle.pool_machine.specs.Offering
-pub use Rattle.pool_machine.specs.Gathering
-pub use Rattle.pool_machine.specs.Publishing
-pub use Rattle.pool_machine.specs.Settling
-pub use Rattle.pool_machine.specs.Closing
-pub use Rattle.pool_machine.specs.Readiness
+pub use Rattle.pool_machine.specs.Changes
 pub use Rattle.pool_machine.specs.Machine
 pub use Rattle.pool_machine.specs.Soundness
 pub use Rattle.pool_machine.specs.PlanOf

@@ -1,8 +1,8 @@
 -- What may come of a node whose round is complete or gathered; no public contract cites it.
-use Rattle.std.specs.Prelude.{ℕ, ◌≡◌, ◌⊎◌, Bool, true, List, ℤ, ◌≤ℤ◌}
+use Rattle.std.specs.Prelude.{ℕ, ◌≡◌, ◌⊎◌, Bool, true, false, List, ℤ, ◌≤ℤ◌}
 use Rattle.plan_base.specs.declared.ids.BranchId.{BranchId}
 use Rattle.master_step.specs.Restricted.{IsRestrictedValue}
-use Rattle.master_step.specs.Outcomes.{HasStalled}
+use Rattle.master_step.specs.Outcomes.{IsGain, HasStalled}
 use Rattle.pool_machine.specs.State.{Round, Node, State, ranges_of}
 use Rattle.pool_machine.specs.Gathering.{columns_for, has_enough, IsCompleteRound, IsGathered}
 use Rattle.pool_machine.specs.Publishing.{MayFollow, IsBetterStep, IsCrowdStep, IsMark}
@@ -10,6 +10,10 @@ use Rattle.pool_machine.specs.Publishing.{MayFollow, IsBetterStep, IsCrowdStep, 
 -- it has had enough versions, or no step gains
 abbrev pub HasNoMore : State → Node → Round → Type 0
 HasNoMore s node round = (has_enough s node ≡ true) ⊎ HasStalled s.problem s.cuts (ranges_of s.problem node) (columns_for s node) round.prices
+
+-- a step gains, and it has not had enough versions: the restricted values before and after the step
+abbrev pub Improves : State → ℤ → ℤ → Node → Round → Type 0
+Improves s before after node round = (has_enough s node ≡ false) × IsGain s.problem s.cuts (ranges_of s.problem node) (columns_for s node) round.prices before after
 
 -- the node of the number may be settled
 pub record IsToSettle (s : State) (id : BranchId) (version : ℕ) : Type 0 where

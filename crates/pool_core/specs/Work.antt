@@ -7,8 +7,9 @@ use Rattle.pool_machine.specs.declared.tree.HeldCut.{HeldCut}
 use Rattle.pool_machine.specs.State.{Round, Node, State, left_of}
 use Rattle.column_pool.specs.declared.brief.Brief.{Brief}
 use Rattle.pool_machine.specs.Gathering.{IsGathered, IsBriefOf}
-use Rattle.pool_machine.specs.Tasks.{IsToPrice, LeadsTo}
-use Rattle.pool_reading.specs.Work.{is_next}
+use Rattle.pool_machine.specs.Tasks.{IsToPrice}
+pub use Rattle.pool_machine.specs.Tasks.{LeadsTo}
+pub use Rattle.pool_reading.specs.Work.{is_next}
 
 -- the demand is to be priced in the node's round of the version
 abbrev pub IsGap : State → BranchId → ℕ → DemandId → Type 0

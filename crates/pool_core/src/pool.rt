@@ -1,8 +1,6 @@
 //! The pool: each call is one event of the machine.
 
 ghost use Rattle.std.specs.Prelude.{◌≡◌};
-ghost use Rattle.pool_machine.specs.State.{State, state_of};
-ghost use Rattle.pool_machine.specs.Opening.{OpenStep};
 
 mod advancing;
 mod closing;
@@ -13,6 +11,7 @@ mod foretelling;
 mod gathering;
 mod making;
 mod offering;
+mod opening;
 mod planning;
 mod publishing;
 mod reading;
@@ -23,9 +22,7 @@ mod valuing;
 
 use leaf_work::KnownAbove;
 use master_step::Room;
-use plan_base::BranchId;
-use pool_machine::{NodeState, Opened, RoundFault};
-use pool_nodes::{SearchState, Slot, first_free};
+use pool_nodes::{SearchState, Slot};
 use pool_reading::{Claims, OpenLeaves, PoolView};
 use std::marker::Model;
 
@@ -78,42 +75,5 @@ impl Pool {
             claims: &self.claims,
             leaves: &self.leaves,
         }
-    }
-
-    /// What a node is now; `Unknown` where there is no node of this number.
-    pub fn state(&self, node: BranchId) -> NodeState
-        ensures { result ≡ state_of self.now node }
-    {
-        self.view().state(node)
-    }
-
-    /// Gives a node that waits a round of its first prices, in the lowest free slot. Without demands its version is
-    /// complete at once. Takes no memory.
-    ///
-    /// - Gives: the slot, and the version of the prices.
-    /// - Errors: in this order, `Spent` where the budget is spent; `NotOpen` where the node does not wait; `Crowded`
-    ///   where 64 rounds are active.
-    /// - Rule: docs/METHOD.md, "The search as a machine".
-    pub fn open_round(&mut self, node: BranchId) -> Result<Opened, RoundFault>
-        ensures event { OpenStep self.old node result self.new }
-    {
-        if let Some(fault) = self.view().open_refusal(node) {
-            return Err(fault);
-        }
-        let slot = first_free(self.places.as_slice());
-        let free = &mut self.places[slot];
-        let Slot::Free(place) = std::mem::replace(free, Slot::Of(node)) else {
-            unreachable!();
-        };
-        let version = self.state.next_version;
-        let opened = &mut self.state.nodes[node.0 as usize];
-        opened.begin(place, version);
-        let ranges = self.state.grounds[node.0 as usize].ranges().unwrap();
-        opened.complete(&*self.state.problem, &*self.state.table, &**ranges);
-        self.state.next_version = version + 1;
-        Ok(Opened {
-            slot: slot as u32,
-            version,
-        })
     }
 }

@@ -7,9 +7,6 @@ use crate::search_state::SearchState;
 
 fn is_shared<T: Send + Sync>(_value: &T) {}
 
-fn are_shared(node: &PoolNode, round: &PoolRound, ground: &Ground, state: &SearchState) {
-    is_shared(node);
-    is_shared(round);
-    is_shared(ground);
-    is_shared(state);
+fn are_shared(parts: &(PoolNode, PoolRound, Ground, SearchState)) {
+    is_shared(parts);
 }

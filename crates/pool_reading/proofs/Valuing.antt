@@ -1,6 +1,6 @@
 -- What is read of the pool's fields at a node with a gathered round.
 use Rattle.std.proofs.Common.{◌≡◌, ℕ, ◌≤◌, List, length, get_or, Option, Some, None, slice_get, refl, sym, ap, subst, ◌∙◌, arith}
-use Rattle.std.specs.Prelude.{IsSome, option_and_then}
+use Rattle.std.specs.Prelude.{IsSome, option_map, option_and_then}
 use Rattle.std.proofs.lemmas.Option.{get_or_from_slice_get}
 use Rattle.plan_base.specs.declared.ids.BranchId.{BranchId}
 use Rattle.plan_base.specs.declared.parts.Parts.{Parts}
@@ -21,7 +21,8 @@ use Rattle.pool_machine.proofs.Replacing.{node_at}
 use Rattle.pool_machine.proofs.GatheredRounds.{gathered-columns}
 use Rattle.pool_reading.specs.Valuing.{IsGatheredAt, ForRound}
 use Rattle.pool_reading.proofs.TaskLaws.{HasRound, has-round, round_of-has}
-use Rattle.pool_reading.proofs.Reading.{sound-round}
+use Rattle.pool_nodes.specs.Grounds.{Kept, HasGrounds}
+use Rattle.pool_reading.proofs.Reading.{sound-round, round-kept, plot-region}
 
 -- a node with a gathered round
 abbrev pub gathered-round : (s : State) (id : BranchId) → IsGatheredAt s id → HasRound s id
@@ -56,6 +57,19 @@ round-few s id round sound is =
     let l = sound.columns.count in
     let d = sound.lawful.demand_count in
     omega arith
+
+-- the region that is read of a node with a gathered round: what is forbidden there, and its ranges
+pub record IsRead (s : State) (id : BranchId) (at : IsGatheredAt s id) (rows : Rows) (ranges : List LoadRange) : Type 0 where
+  pub forbidden : forbids rows ≡ restriction_of at.node
+  pub ranges_are : ranges ≡ ranges_of s.problem at.node
+
+-- what is shown of the kept region of a node with a gathered round is read of it
+pub region-read : {A : Type 0} (f : A → Kept) (s : State) (id : BranchId) (grounds : List (Option Kept)) (item : Option Kept) (o : Option A) (x : A) (rows : Rows) (ranges : List LoadRange) → IsSound s
+    → HasGrounds s.problem s.nodes grounds → (at : IsGatheredAt s id) → item ≡ get_or grounds id.0 item → option_map f o ≡ item → o ≡ Some x → rows ≡ (f x).rows → ranges ≡ (f x).ranges → IsRead s id at rows ranges
+region-read f s id grounds item o x rows ranges sound keeps at read shown is is_rows are =
+    let w = round-kept s id grounds item sound keeps (gathered-round s id at) read in
+    let region = plot-region s.problem at.node item w o f x shown is in
+    record { forbidden = ap forbids is_rows ∙ region.forbidden; ranges_are = are ∙ region.ranges }
 
 -- What a valuing asks for, and what it tells, where the instance and the restriction are those of the pool
 

@@ -3,15 +3,3 @@ pub mod Examining
 pub mod Work
 pub mod Valuing
 pub mod OpenBounds
-pub use Rattle.pool_machine.specs.State
-pub use Rattle.pool_machine.specs.Opening
-pub use Rattle.pool_machine.specs.Offering
-pub use Rattle.pool_machine.specs.Gathering
-pub use Rattle.pool_machine.specs.Publishing
-pub use Rattle.pool_machine.specs.Settling
-pub use Rattle.pool_machine.specs.Closing
-pub use Rattle.pool_machine.specs.Bettering
-pub use Rattle.pool_machine.specs.Readiness
-pub use Rattle.pool_machine.specs.Machine
-pub use Rattle.pool_machine.specs.PlanOf
-pub use Rattle.pool_machine.specs.Tasks

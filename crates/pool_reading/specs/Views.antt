@@ -1,5 +1,5 @@
 -- How the pool's fields show a state, and what holds of them.
-use Rattle.std.specs.Prelude.{ℕ, ◌≡◌, ◌<◌, ◌≤◌, ◌+◌, List, length, count_by, Option, Some, None, option_map, slice_get}
+use Rattle.std.specs.Prelude.{ℕ, ◌≡◌, ◌<◌, ◌≤◌, ◌+◌, List, length, count_by, Option, Some, None, option_map, slice_get, IfSome}
 use Rattle.pool_machine.specs.declared.limits.TheConstants.{MAX_ROUNDS, MAX_BUDGET}
 use Rattle.plan_base.specs.declared.path.Design.{Design}
 use Rattle.plan_base.specs.Places.{places}
@@ -8,7 +8,8 @@ use Rattle.dual_versions.specs.declared.published.Published.{Published}
 use Rattle.plan_base.specs.declared.ids.BranchId.{BranchId}
 use Rattle.pool_nodes.specs.declared.reason.Reason.{Reason}
 use Rattle.pool_nodes.specs.Grounds.{Kept, HasGrounds}
-use Rattle.pool_machine.specs.State.{Round, Node, State, active_count}
+use Rattle.arc_restrict.specs.Rows.{Rows, forbids}
+use Rattle.pool_machine.specs.State.{Round, Node, State, restriction_of, active_count}
 use Rattle.pool_nodes.specs.Rounds.{evidence_for}
 use Rattle.pool_machine.specs.Opening.{HasSlot, IsTaken}
 use Rattle.pool_nodes.specs.declared.slot.Slot.{Slot}
@@ -57,6 +58,18 @@ pub record IsKeptPool (s : State) (table : CutProblem) (grounds : List (Option K
 pub record IsFittedPool (s : State) (table : CutProblem) (room : ℕ) (grounds : List (Option Kept)) (slots : List Slot) : Type 0 where
   pub kept : IsKeptPool s table grounds slots
   pub room_is : room ≡ places s.problem + length s.cuts
+
+-- one price for each place, and one rate for each cut
+abbrev pub HasWidthOf : State → List ℕ → Type 0
+HasWidthOf s prices = length prices ≡ places s.problem + length s.cuts
+
+-- the prices are the first ones of the node that is there
+abbrev pub AreFirstAt : State → BranchId → List ℕ → Type 0
+AreFirstAt s id prices = IfSome (slice_get s.nodes id.0) (λ x. prices ≡ x.first_prices)
+
+-- the rows forbid what is forbidden at the node that is there
+abbrev pub AreRowsAt : State → BranchId → Rows → Type 0
+AreRowsAt s id rows = IfSome (slice_get s.nodes id.0) (λ x. forbids rows ≡ restriction_of x)
 
 -- the best design so far, or none
 abbrev pub design_of : State → Option Design

@@ -1,11 +1,8 @@
 //! Closings by a bound or a crowd proof, and better designs.
 
-ghost use Rattle.std.specs.Prelude.{◌≡◌, ◌<◌, true, Some, IfSome, slice_get};
-ghost use Rattle.pool_machine.specs.State.{state_of};
-ghost use Rattle.pool_machine.specs.Closing.{CloseStep};
-ghost use Rattle.pool_machine.specs.Bettering.{BetterStep};
-ghost use Rattle.pool_machine.specs.Changes.{is_open_state};
-ghost use Rattle.pool_machine.specs.Machine.{IsReachable};
+ghost use Rattle.std.specs.Prelude.{◌≡◌, ◌<◌, Some, IfSome, slice_get};
+ghost use Rattle.pool_machine.specs.Changes.{IsOpenLeaf};
+ghost use Rattle.pool_machine.specs.Machine.{IsReachable, CloseStep, BetterStep};
 ghost use Rattle.pool_nodes.specs.Rounds.{HasReason};
 ghost use Rattle.pool_reading.specs.Views.{closed_at};
 
@@ -18,7 +15,7 @@ impl Pool {
     /// Closes an open leaf for a reason: the place of its round is free again, and its region is let go. Takes
     /// no memory.
     pub(crate) fn close(&mut self, node: BranchId, reason: Reason)
-        requires leaf { is_open_state (state_of self.old node) ≡ true }
+        requires leaf { IsOpenLeaf self.old node }
         requires not_spent { self.old.examined < self.old.budget }
         requires reason { IfSome (slice_get self.old.nodes node.0) (λ x. HasReason x reason) }
         requires event { IsReachable (closed_at self.old node reason (slice_get self.old.nodes node.0)) }

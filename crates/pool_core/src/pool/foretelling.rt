@@ -1,10 +1,9 @@
 //! What an opening or a publishing would answer now. Who asks has what the answer names ready before the call is made.
 
-ghost use Rattle.std.specs.Prelude.{◌≡◌, ◌<◌, ◌+◌, true, length, IfOk};
-ghost use Rattle.plan_base.specs.Places.{places};
+ghost use Rattle.std.specs.Prelude.{◌≡◌, ◌<◌, IfOk};
 ghost use Rattle.pool_machine.specs.declared.limits.TheConstants.{MAX_ROUNDS};
-ghost use Rattle.pool_machine.specs.State.{state_of};
-ghost use Rattle.pool_machine.specs.Opening.{is_waiting};
+ghost use Rattle.pool_machine.specs.Changes.{IsWaiting};
+ghost use Rattle.pool_reading.specs.Views.{HasWidthOf};
 ghost use Rattle.pool_core.specs.Foretold.{IsOpenAnswer, IsOnlyOpening, IsPublishAnswer, IfPublished, IsOnlyPublishing};
 
 use super::Pool;
@@ -18,7 +17,7 @@ impl Pool {
         ensures answer { IsOpenAnswer self.now node result }
         ensures only { IfOk result (IsOnlyOpening self.now node) }
         ensures slot { IfOk result (λ opened. opened.slot < MAX_ROUNDS) }
-        ensures waits { IfOk result (λ opened. is_waiting (state_of self.now node) ≡ true) }
+        ensures waits { IfOk result (λ opened. IsWaiting self.now node) }
     {
         if let Some(fault) = self.view().open_refusal(node) {
             return Err(fault);
@@ -38,7 +37,7 @@ impl Pool {
         ensures answer { IsPublishAnswer self.old node seen prices.now result }
         ensures only { IsOnlyPublishing self.old node seen prices.now result }
         ensures slot { IfPublished result (λ slot version. slot < MAX_ROUNDS) }
-        ensures count { IfPublished result (λ slot version. length prices.now ≡ places self.old.problem + length self.old.cuts) }
+        ensures count { IfPublished result (λ slot version. HasWidthOf self.old prices.now) }
     {
         match self.following(node, seen, prices) {
             Ok(next) => Publish::Published {

@@ -1,11 +1,11 @@
 //! Further versions of the prices of a node.
 
-ghost use Rattle.std.specs.Prelude.{◌≡◌, ◌<◌, ◌+◌, ◌↔◌, ◌||◌, IsTrue, IfOk, IfErr, length, int_lt};
-ghost use Rattle.plan_base.specs.Places.{places};
+ghost use Rattle.std.specs.Prelude.{◌≡◌, ◌<◌, ◌↔◌, ◌||◌, IsTrue, IfOk, IfErr, int_lt};
 ghost use Rattle.pool_machine.specs.declared.answers.Publish.TheVariants as publish;
 ghost use Rattle.cut_table.specs.Numbers.{AreNumbers};
 ghost use Rattle.pool_machine.specs.Publishing.{IsCrowding, PublishStep};
 ghost use Rattle.pool_machine.specs.declared.limits.TheConstants.{MAX_ROUNDS};
+ghost use Rattle.pool_reading.specs.Views.{HasWidthOf};
 ghost use Rattle.pool_reading.specs.Valuing.{IsGatheredAt, ForRound};
 ghost use Rattle.pool_core.specs.Valuing.{MayReplace, HasNoGain};
 ghost use Rattle.pool_core.specs.Foretold.{IsFollowing, IfPublished};
@@ -87,7 +87,7 @@ impl Pool {
         ensures refused { IfErr result (λ refusal. PublishStep self.old node seen prices.now refusal self.old) }
         ensures no_success { IfErr result (λ refusal. IfPublished refusal (λ slot version. ⊥)) }
         ensures slot { IfOk result (λ next. next.slot < MAX_ROUNDS) }
-        ensures count { IfOk result (λ next. length prices.now ≡ places self.old.problem + length self.old.cuts) }
+        ensures count { IfOk result (λ next. HasWidthOf self.old prices.now) }
     {
         if let Some(refusal) = self.view().publish_refusal(node, seen, prices) {
             return Err(refusal);

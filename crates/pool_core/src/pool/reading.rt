@@ -1,15 +1,12 @@
 //! What the pool tells without an event.
 
-ghost use Rattle.std.specs.Prelude.{◌≡◌, ◌↔◌, ◌+◌, true, IsSome, IfSome, IfOk, length, slice_get};
+ghost use Rattle.std.specs.Prelude.{◌≡◌, ◌↔◌, IsSome, IfSome, IfOk, slice_get};
 ghost use Rattle.std.specs.Arc.{arc_value};
-ghost use Rattle.plan_base.specs.Places.{places};
-ghost use Rattle.arc_restrict.specs.Rows.{forbids};
-ghost use Rattle.pool_machine.specs.State.{state_of, cutoff_of, restriction_of};
-ghost use Rattle.pool_machine.specs.Changes.{bound_in, is_open_state};
-ghost use Rattle.pool_machine.specs.Opening.{is_waiting};
+ghost use Rattle.pool_machine.specs.State.{state_of, cutoff_of};
+ghost use Rattle.pool_machine.specs.Changes.{bound_in, IsOpenLeaf, IsWaiting};
 ghost use Rattle.pool_machine.specs.Machine.{IsReachable};
 ghost use Rattle.pool_machine.specs.Soundness.{IsSound};
-ghost use Rattle.pool_reading.specs.Views.{IsPublishedAt, design_of};
+ghost use Rattle.pool_reading.specs.Views.{AreFirstAt, HasWidthOf, AreRowsAt, IsPublishedAt, design_of};
 ghost use Rattle.pool_reading.specs.OpenBounds.{open_bound_of};
 
 use super::Pool;
@@ -17,6 +14,7 @@ use arc_restrict::Restriction;
 use cut_table::CutTable;
 use dual_versions::Published;
 use plan_base::{BranchId, Design, Instance, Prices};
+use pool_machine::NodeState;
 use std::alloc::AllocError;
 use std::sync::Arc;
 
@@ -33,6 +31,13 @@ impl Pool {
         ensures { result ≡ self.now.budget }
     {
         self.state.budget
+    }
+
+    /// What a node is now; `Unknown` where there is no node of this number.
+    pub fn state(&self, node: BranchId) -> NodeState
+        ensures { result ≡ state_of self.now node }
+    {
+        self.view().state(node)
     }
 
     /// The greatest bound of a complete version of the node, in cost grains; None exactly where no version of it was
@@ -74,17 +79,17 @@ impl Pool {
     /// grain, and behind them one rate for each cut, in thousandths of a cost grain per counted grain; None exactly where
     /// the node does not wait.
     pub fn first_prices(&self, node: BranchId) -> Option<&Prices>
-        ensures waits { IsSome result ↔ (is_waiting (state_of self.now node) ≡ true) }
-        ensures value { IfSome result (λ prices. IfSome (slice_get self.now.nodes node.0) (λ x. prices.now ≡ x.first_prices)) }
-        ensures count { IfSome result (λ prices. length prices.now ≡ places self.now.problem + length self.now.cuts) }
+        ensures waits { IsSome result ↔ IsWaiting self.now node }
+        ensures value { IfSome result (λ prices. AreFirstAt self.now node prices.now) }
+        ensures count { IfSome result (λ prices. HasWidthOf self.now prices.now) }
     {
         self.view().first_prices(node)
     }
 
     /// What is forbidden at an open leaf; None exactly where the node is none.
     pub fn restriction(&self, node: BranchId) -> Option<&Arc<Restriction>>
-        ensures leaf { IsSome result ↔ (is_open_state (state_of self.now node) ≡ true) }
-        ensures value { IfSome result (λ rows. IfSome (slice_get self.now.nodes node.0) (λ x. forbids (arc_value rows.now) ≡ restriction_of x)) }
+        ensures leaf { IsSome result ↔ IsOpenLeaf self.now node }
+        ensures value { IfSome result (λ rows. AreRowsAt self.now node (arc_value rows.now)) }
     {
         self.view().restriction(node)
     }

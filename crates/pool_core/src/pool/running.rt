@@ -5,9 +5,7 @@ ghost use Rattle.pool_machine.specs.State.{left_of, round_of};
 ghost use Rattle.pool_machine.specs.Readiness.{examine_refusal};
 ghost use Rattle.pool_machine.specs.Machine.{IsReachable};
 ghost use Rattle.pool_machine.specs.PlanOf.{is_done};
-ghost use Rattle.pool_machine.specs.Tasks.{LeadsTo};
-ghost use Rattle.pool_reading.specs.Work.{is_next};
-ghost use Rattle.pool_core.specs.Work.{IsGap, IsCloser, KeepsNodes};
+ghost use Rattle.pool_core.specs.Work.{is_next, LeadsTo, IsGap, IsCloser, KeepsNodes};
 
 use super::Pool;
 use leaf_work::{Guide, KnownAbove, copy_of};

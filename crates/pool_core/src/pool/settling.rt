@@ -1,12 +1,9 @@
 //! Nodes of which no further version is published.
 
-ghost use Rattle.std.specs.Prelude.{◌≡◌, false, IfSome, IfNone};
-ghost use Rattle.pool_machine.specs.State.{ranges_of};
-ghost use Rattle.pool_machine.specs.Gathering.{columns_for, has_enough};
+ghost use Rattle.std.specs.Prelude.{◌≡◌, IfSome, IfNone};
 ghost use Rattle.pool_machine.specs.Settling.{Settles, SettleStep};
-ghost use Rattle.master_step.specs.Outcomes.{IsGain};
 ghost use Rattle.pool_reading.specs.Valuing.{IsGatheredAt, ForRound};
-ghost use Rattle.pool_core.specs.Valuing.{HasNoMore, IsToSettle};
+ghost use Rattle.pool_core.specs.Valuing.{Improves, HasNoMore, IsToSettle};
 
 use super::Pool;
 use plan_base::BranchId;
@@ -18,7 +15,7 @@ impl Pool {
     fn improvement(&mut self, node: BranchId) -> Option<(i128, i128)>
         requires { IsGatheredAt self.old node }
         ensures unchanged { self.new ≡ self.old }
-        ensures some { IfSome result (λ both. ForRound self.old node (λ x round. (has_enough self.old x ≡ false) × IsGain self.old.problem self.old.cuts (ranges_of self.old.problem x) (columns_for self.old x) round.prices both.0 both.1)) }
+        ensures some { IfSome result (λ both. ForRound self.old node (Improves self.old both.0 both.1)) }
         ensures none { IfNone result (ForRound self.old node (HasNoMore self.old)) }
     {
         // Whoever looks into the pool knows what its type keeps, which the proof needs.

@@ -5,10 +5,8 @@ ghost use Rattle.plan_base.specs.Places.{places};
 ghost use Rattle.plan_base.specs.Facts.{IsInstance, total_load};
 ghost use Rattle.link_steps.specs.Costs.{IsStepEnd};
 ghost use Rattle.link_steps.specs.Ranges.{AreRanges};
-ghost use Rattle.proof_tree.specs.Regions.{IsLoadSplit};
-ghost use Rattle.branch_tree.specs.Branches.{IsLimitOf};
-ghost use Rattle.pool_machine.specs.State.{ranges_of};
-ghost use Rattle.pool_machine.specs.Dividing.{PartsSteps};
+ghost use Rattle.pool_machine.specs.State.{ranges_of, IsLimitOf};
+ghost use Rattle.pool_machine.specs.Dividing.{PartsSteps, IsLoadSplit};
 ghost use Rattle.pool_reading.specs.Examining.{IsReadyAt, HasTwoPaths, HasGroundBelow, IsNodeBelow, IsChildAt, IsDivisionAt};
 
 use super::PoolView;

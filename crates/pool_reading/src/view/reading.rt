@@ -1,13 +1,10 @@
 //! What a pool tells of a node, of its best design and of a slot.
 
-ghost use Rattle.std.specs.Prelude.{◌≡◌, ◌↔◌, ◌+◌, true, IsSome, IfSome, IfOk, length, slice_get};
+ghost use Rattle.std.specs.Prelude.{◌≡◌, ◌↔◌, IsSome, IfSome, IfOk, slice_get};
 ghost use Rattle.std.specs.Arc.{arc_value};
-ghost use Rattle.plan_base.specs.Places.{places};
-ghost use Rattle.arc_restrict.specs.Rows.{forbids};
-ghost use Rattle.pool_machine.specs.State.{state_of, cutoff_of, restriction_of};
-ghost use Rattle.pool_machine.specs.Changes.{bound_in, is_open_state};
-ghost use Rattle.pool_machine.specs.Opening.{is_waiting};
-ghost use Rattle.pool_reading.specs.Views.{IsPublishedAt};
+ghost use Rattle.pool_machine.specs.State.{cutoff_of};
+ghost use Rattle.pool_machine.specs.Changes.{bound_in, IsOpenLeaf, IsWaiting};
+ghost use Rattle.pool_reading.specs.Views.{AreFirstAt, HasWidthOf, AreRowsAt, IsPublishedAt};
 
 use super::PoolView;
 use arc_restrict::Restriction;
@@ -40,9 +37,9 @@ impl<'a> PoolView<'a> {
     /// grain, and behind them one rate for each cut, in thousandths of a cost grain per counted grain; None exactly where
     /// the node does not wait.
     pub fn first_prices(&self, node: BranchId) -> Option<&'a Prices>
-        ensures waits { IsSome result ↔ (is_waiting (state_of self.now node) ≡ true) }
-        ensures value { IfSome result (λ prices. IfSome (slice_get self.now.nodes node.0) (λ x. prices.now ≡ x.first_prices)) }
-        ensures count { IfSome result (λ prices. length prices.now ≡ places self.now.problem + length self.now.cuts) }
+        ensures waits { IsSome result ↔ IsWaiting self.now node }
+        ensures value { IfSome result (λ prices. AreFirstAt self.now node prices.now) }
+        ensures count { IfSome result (λ prices. HasWidthOf self.now prices.now) }
     {
         // Whoever looks into the pool knows what its type keeps, which the proof needs.
         let _ = &self.state;
@@ -54,8 +51,8 @@ impl<'a> PoolView<'a> {
 
     /// What is forbidden at an open leaf; None exactly where the node is none.
     pub fn restriction(&self, node: BranchId) -> Option<&'a Arc<Restriction>>
-        ensures leaf { IsSome result ↔ (is_open_state (state_of self.now node) ≡ true) }
-        ensures value { IfSome result (λ rows. IfSome (slice_get self.now.nodes node.0) (λ x. forbids (arc_value rows.now) ≡ restriction_of x)) }
+        ensures leaf { IsSome result ↔ IsOpenLeaf self.now node }
+        ensures value { IfSome result (λ rows. AreRowsAt self.now node (arc_value rows.now)) }
     {
         match self.state.grounds.get(node.0 as usize) {
             Some(ground) => ground.rows(),

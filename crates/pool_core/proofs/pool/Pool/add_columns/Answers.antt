@@ -29,19 +29,14 @@ unwrap-round-requires c =
     let read = read-round c.self.inside.state.nodes.items c.args.node.0 c.index.result.now (has-within s c.args.node has) c.index.ensures in
     shown-some _ _ _ (c.round.ensures ∙ sym read) (has-some s c.args.node has)
 
-pub add_to-requires-clause-lists : goal.add_to-requires-clause-lists
-add_to-requires-clause-lists c =
+pub add_to-requires : goal.add_to-requires
+add_to-requires c =
     let s = the_view c.self.inside in
     let h : IsCompleteAt s c.args.node c.args.version = subst (λ (x : State). IsCompleteAt x c.args.node c.args.version) (sym c.self.view_is) c.requires in
     let read = read-round c.self.inside.state.nodes.items c.args.node.0 c.index.result.now (has-within s c.args.node (complete-round s c.args.node c.args.version h)) c.index.ensures in
-    round-lists s c.args.node c.unwrap-round.result.now (IsReachable-sound s c.self.invariant.kept.pool.reachable) (shown-value _ _ _ _ c.round.ensures c.unwrap-round.ensures ∙ sym read)
-
-pub add_to-requires-clause-few : goal.add_to-requires-clause-few
-add_to-requires-clause-few c =
-    let s = the_view c.self.inside in
-    let h : IsCompleteAt s c.args.node c.args.version = subst (λ (x : State). IsCompleteAt x c.args.node c.args.version) (sym c.self.view_is) c.requires in
-    let read = read-round c.self.inside.state.nodes.items c.args.node.0 c.index.result.now (has-within s c.args.node (complete-round s c.args.node c.args.version h)) c.index.ensures in
-    round-few s c.args.node c.unwrap-round.result.now (IsReachable-sound s c.self.invariant.kept.pool.reachable) (shown-value _ _ _ _ c.round.ensures c.unwrap-round.ensures ∙ sym read)
+    let sound : IsSound s = IsReachable-sound s c.self.invariant.kept.pool.reachable in
+    let is = shown-value _ _ _ _ c.round.ensures c.unwrap-round.ensures ∙ sym read in
+    record { lists = round-lists s c.args.node c.unwrap-round.result.now sound is; few = round-few s c.args.node c.unwrap-round.result.now sound is }
 
 pub invariant_of-self : goal.invariant_of-self
 invariant_of-self c =
@@ -59,24 +54,18 @@ invariant_of-self c =
       room_is = c.self.invariant.room_is;
     }
 
-pub returns-clause-added : goal.returns-clause-added
-returns-clause-added c =
+pub returns : goal.returns
+returns c =
     let s = the_view c.self.inside in
     let sound : IsSound s = IsReachable-sound s c.self.invariant.kept.pool.reachable in
     let h : IsCompleteAt s c.args.node c.args.version = subst (λ (x : State). IsCompleteAt x c.args.node c.args.version) (sym c.self.view_is) c.requires in
     let read = read-round c.self.inside.state.nodes.items c.args.node.0 c.index.result.now (has-within s c.args.node (complete-round s c.args.node c.args.version h)) c.index.ensures in
     let found = complete-found s c.args.node c.args.version h c.unwrap-round.result.now (shown-value _ _ _ _ c.round.ensures c.unwrap-round.ensures ∙ sym read) in
-    if_ok c.add_to.result _ _
-    (λ x is. subst (λ (u : State). ForRound u c.args.node (λ n round. with_columns (the_view c.self.inside) c.add_to.new.columns ≡ with_columns u (gathered u.columns round.found (length u.problem.demands)))) c.self.view_is
-    (added-at s c.args.node c.args.version h sound c.unwrap-round.result.now.found found c.add_to.new.columns is))
-    c.add_to.ensures.added
-
-pub returns-clause-front : goal.returns-clause-front
-returns-clause-front c =
-    let s = the_view c.self.inside in
-    let sound : IsSound s = IsReachable-sound s c.self.invariant.kept.pool.reachable in
-    let h : IsCompleteAt s c.args.node c.args.version = subst (λ (x : State). IsCompleteAt x c.args.node c.args.version) (sym c.self.view_is) c.requires in
-    let read = read-round c.self.inside.state.nodes.items c.args.node.0 c.index.result.now (has-within s c.args.node (complete-round s c.args.node c.args.version h)) c.index.ensures in
-    let found = complete-found s c.args.node c.args.version h c.unwrap-round.result.now (shown-value _ _ _ _ c.round.ensures c.unwrap-round.ensures ∙ sym read) in
-    λ bad. subst (λ (u : State). GathersFront u c.args.node c.args.version (with_columns (the_view c.self.inside) c.add_to.new.columns)) c.self.view_is
-    (front-added s c.args.node c.args.version h sound c.unwrap-round.result.now.found found c.add_to.new.columns (c.add_to.ensures.front bad))
+    record {
+      added = if_ok c.add_to.result _ _
+          (λ x is. subst (λ (u : State). ForRound u c.args.node (λ n round. with_columns (the_view c.self.inside) c.add_to.new.columns ≡ with_columns u (gathered u.columns round.found (length u.problem.demands)))) c.self.view_is
+          (added-at s c.args.node c.args.version h sound c.unwrap-round.result.now.found found c.add_to.new.columns is))
+          c.add_to.ensures.added;
+      front = λ bad. subst (λ (u : State). GathersFront u c.args.node c.args.version (with_columns (the_view c.self.inside) c.add_to.new.columns)) c.self.view_is
+          (front-added s c.args.node c.args.version h sound c.unwrap-round.result.now.found found c.add_to.new.columns (c.add_to.ensures.front bad));
+    }

@@ -4,16 +4,16 @@ use Rattle.pool_core.specs.contracts.pool.Pool.{the_view}
 use Rattle.plan_base.specs.Places.{places}
 use Rattle.column_pool.specs.Columns.{permitted_at}
 use Rattle.master_step.specs.Outcomes.{HasGain, HasStalled}
-use Rattle.pool_machine.specs.State.{State, restriction_of, ranges_of}
+use Rattle.pool_machine.specs.State.{State, ranges_of}
 use Rattle.pool_machine.specs.Gathering.{columns_for}
 use Rattle.cut_table.specs.Numbers.{CutProblem, AreNumbers}
 use Rattle.pool_machine.specs.Soundness.{IsSound}
 use Rattle.pool_machine.proofs.Runs.{IsReachable-sound}
 use Rattle.pool_reading.specs.Valuing.{IsGatheredAt, ForRound}
-use Rattle.pool_reading.proofs.Valuing.{gathered-round, ask-numbers, ask-ranges, ask-columns, ask-permitted, tell-round}
+use Rattle.pool_reading.proofs.Valuing.{gathered-round, region-read, ask-numbers, ask-ranges, ask-columns, ask-permitted, tell-round}
 use Rattle.pool_core.proofs.ReadTables.{as_read}
 use Rattle.pool_core.proofs.Valuing.{gathered-some, read-prices, round-price_list, some_then, none_then}
-use Rattle.pool_reading.proofs.Reading.{round-kept, plot-some, plot-region, read-round, ground-within, shown-some, has-within}
+use Rattle.pool_reading.proofs.Reading.{round-kept, plot-some, read-round, ground-within, shown-some, has-within}
 use Rattle.pool_core.proofs.pool.Pool.gain.Goals as goal
 
 pub index-requires : goal.index-requires
@@ -49,52 +49,38 @@ gain-requires c =
     let s = the_view c.self.inside in
     let sound : IsSound s = IsReachable-sound s c.self.invariant.kept.pool.reachable in
     let at : IsGatheredAt s c.args.node = subst (λ (x : State). IsGatheredAt x c.args.node) (sym c.self.view_is) c.requires in
-    let w = round-kept s c.args.node c.self.inside.state.grounds.items c.index.result.now sound c.self.invariant.kept.has_grounds (gathered-round s c.args.node at) c.index.ensures in
-    let is = plot-region s.problem at.node c.index.result.now w c.plot.result _ c.unwrap-plot.result c.plot.ensures c.unwrap-plot.ensures in
-    let forbidden : forbids c.deref-4.result.now ≡ restriction_of at.node = ap forbids (c.deref-4.ensures ∙ c.rows.ensures) ∙ is.forbidden in
-    let ranges : c.deref-3.result.now ≡ ranges_of s.problem at.node = c.deref-3.ensures ∙ (c.ranges-2.ensures ∙ is.ranges) in
+    let is = region-read _ s c.args.node _ _ _ _ _ _ sound c.self.invariant.kept.has_grounds at c.index.ensures c.plot.ensures c.unwrap-plot.ensures (c.deref-4.ensures ∙ c.rows.ensures) (c.deref-3.ensures ∙ c.ranges-2.ensures) in
     let is_prices = read-prices _ s c.args.node c.index-2.result.now _ _ c.prices.result.now at c.index-2.ensures c.round.ensures c.unwrap-round.ensures c.prices.ensures in
     let prices : AreNumbers s.problem s.cuts c.prices.result.now = subst (AreNumbers s.problem s.cuts) (sym is_prices) (round-price_list s c.args.node sound at) in
     record {
       table = ap (λ (t : CutProblem). t.problem) c.deref-2.ensures ∙ (c.self.invariant.kept.table_is ∙ sym c.deref.ensures);
-      are_ranges = ask-ranges s c.args.node sound at c.deref.result.now c.deref-4.result.now c.deref.ensures forbidden c.deref-3.result.now ranges;
-      numbers = ask-numbers s c.args.node sound at c.deref.result.now c.deref-4.result.now c.deref.ensures forbidden c.deref-2.result.now.cuts c.prices.result.now (ap (λ (t : CutProblem). t.cuts) c.deref-2.ensures) prices;
-      columns = ask-columns s c.args.node sound at c.deref.result.now c.deref-4.result.now c.deref.ensures forbidden;
-      permitted = ask-permitted s c.args.node sound at c.deref.result.now c.deref-4.result.now c.deref.ensures forbidden;
+      are_ranges = ask-ranges s c.args.node sound at c.deref.result.now c.deref-4.result.now c.deref.ensures is.forbidden c.deref-3.result.now is.ranges_are;
+      numbers = ask-numbers s c.args.node sound at c.deref.result.now c.deref-4.result.now c.deref.ensures is.forbidden c.deref-2.result.now.cuts c.prices.result.now (ap (λ (t : CutProblem). t.cuts) c.deref-2.ensures) prices;
+      columns = ask-columns s c.args.node sound at c.deref.result.now c.deref-4.result.now c.deref.ensures is.forbidden;
+      permitted = ask-permitted s c.args.node sound at c.deref.result.now c.deref-4.result.now c.deref.ensures is.forbidden;
       room = as_read (λ p cuts. c.self.inside.room ≡ places p + length cuts) _ _ _ _ c.deref.ensures c.deref-2.ensures c.self.invariant.room_is;
     }
 
 pub invariant_of-self : goal.invariant_of-self
 invariant_of-self c = record { kept = c.self.invariant.kept; room_is = c.gain.ensures.room ∙ c.self.invariant.room_is }
 
-pub returns-clause-some : goal.returns-clause-some
-returns-clause-some c =
+pub returns : goal.returns
+returns c =
     let s = the_view c.self.inside in
     let sound : IsSound s = IsReachable-sound s c.self.invariant.kept.pool.reachable in
     let at : IsGatheredAt s c.args.node = subst (λ (x : State). IsGatheredAt x c.args.node) (sym c.self.view_is) c.requires in
-    let w = round-kept s c.args.node c.self.inside.state.grounds.items c.index.result.now sound c.self.invariant.kept.has_grounds (gathered-round s c.args.node at) c.index.ensures in
-    let is = plot-region s.problem at.node c.index.result.now w c.plot.result _ c.unwrap-plot.result c.plot.ensures c.unwrap-plot.ensures in
-    let forbidden : forbids c.deref-4.result.now ≡ restriction_of at.node = ap forbids (c.deref-4.ensures ∙ c.rows.ensures) ∙ is.forbidden in
-    let ranges : c.deref-3.result.now ≡ ranges_of s.problem at.node = c.deref-3.ensures ∙ (c.ranges-2.ensures ∙ is.ranges) in
+    let is = region-read _ s c.args.node _ _ _ _ _ _ sound c.self.invariant.kept.has_grounds at c.index.ensures c.plot.ensures c.unwrap-plot.ensures (c.deref-4.ensures ∙ c.rows.ensures) (c.deref-3.ensures ∙ c.ranges-2.ensures) in
     let is_prices = read-prices _ s c.args.node c.index-2.result.now _ _ c.prices.result.now at c.index-2.ensures c.round.ensures c.unwrap-round.ensures c.prices.ensures in
-    some_then c.gain.result _ _
-    (λ new has. subst (λ (x : State). ForRound x c.args.node (λ n round. HasGain x.problem x.cuts (ranges_of x.problem n) (columns_for x n) round.prices new)) c.self.view_is
-    (tell-round s c.args.node sound at c.deref.result.now c.deref-4.result.now c.deref.ensures forbidden (λ p ranges choices prices. HasGain p s.cuts ranges choices prices new) c.deref-3.result.now c.prices.result.now ranges is_prices
-    (subst (λ (t : CutProblem). HasGain c.deref.result.now t.cuts c.deref-3.result.now (permitted_at (forbids c.deref-4.result.now) s.columns) c.prices.result.now new) c.deref-2.ensures has)))
-    c.gain.ensures.some
-
-pub returns-clause-none : goal.returns-clause-none
-returns-clause-none c =
-    let s = the_view c.self.inside in
-    let sound : IsSound s = IsReachable-sound s c.self.invariant.kept.pool.reachable in
-    let at : IsGatheredAt s c.args.node = subst (λ (x : State). IsGatheredAt x c.args.node) (sym c.self.view_is) c.requires in
-    let w = round-kept s c.args.node c.self.inside.state.grounds.items c.index.result.now sound c.self.invariant.kept.has_grounds (gathered-round s c.args.node at) c.index.ensures in
-    let is = plot-region s.problem at.node c.index.result.now w c.plot.result _ c.unwrap-plot.result c.plot.ensures c.unwrap-plot.ensures in
-    let forbidden : forbids c.deref-4.result.now ≡ restriction_of at.node = ap forbids (c.deref-4.ensures ∙ c.rows.ensures) ∙ is.forbidden in
-    let ranges : c.deref-3.result.now ≡ ranges_of s.problem at.node = c.deref-3.ensures ∙ (c.ranges-2.ensures ∙ is.ranges) in
-    let is_prices = read-prices _ s c.args.node c.index-2.result.now _ _ c.prices.result.now at c.index-2.ensures c.round.ensures c.unwrap-round.ensures c.prices.ensures in
-    none_then c.gain.result _ _
-    (λ stalled. subst (λ (x : State). ForRound x c.args.node (λ n round. HasStalled x.problem x.cuts (ranges_of x.problem n) (columns_for x n) round.prices)) c.self.view_is
-    (tell-round s c.args.node sound at c.deref.result.now c.deref-4.result.now c.deref.ensures forbidden (λ p ranges choices prices. HasStalled p s.cuts ranges choices prices) c.deref-3.result.now c.prices.result.now ranges is_prices
-    (subst (λ (t : CutProblem). HasStalled c.deref.result.now t.cuts c.deref-3.result.now (permitted_at (forbids c.deref-4.result.now) s.columns) c.prices.result.now) c.deref-2.ensures stalled)))
-    c.gain.ensures.none
+    record {
+      unchanged = search rules;
+      some = some_then c.gain.result _ _
+          (λ new has. subst (λ (x : State). ForRound x c.args.node (λ n round. HasGain x.problem x.cuts (ranges_of x.problem n) (columns_for x n) round.prices new)) c.self.view_is
+          (tell-round s c.args.node sound at c.deref.result.now c.deref-4.result.now c.deref.ensures is.forbidden (λ p ranges choices prices. HasGain p s.cuts ranges choices prices new) c.deref-3.result.now c.prices.result.now is.ranges_are is_prices
+          (subst (λ (t : CutProblem). HasGain c.deref.result.now t.cuts c.deref-3.result.now (permitted_at (forbids c.deref-4.result.now) s.columns) c.prices.result.now new) c.deref-2.ensures has)))
+          c.gain.ensures.some;
+      none = none_then c.gain.result _ _
+          (λ stalled. subst (λ (x : State). ForRound x c.args.node (λ n round. HasStalled x.problem x.cuts (ranges_of x.problem n) (columns_for x n) round.prices)) c.self.view_is
+          (tell-round s c.args.node sound at c.deref.result.now c.deref-4.result.now c.deref.ensures is.forbidden (λ p ranges choices prices. HasStalled p s.cuts ranges choices prices) c.deref-3.result.now c.prices.result.now is.ranges_are is_prices
+          (subst (λ (t : CutProblem). HasStalled c.deref.result.now t.cuts c.deref-3.result.now (permitted_at (forbids c.deref-4.result.now) s.columns) c.prices.result.now) c.deref-2.ensures stalled)))
+          c.gain.ensures.none;
+    }

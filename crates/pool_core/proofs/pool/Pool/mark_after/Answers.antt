@@ -1,20 +1,18 @@
-use Rattle.std.proofs.Common.{◌<◌, length, sym, ap, subst, ◌∙◌, rules}
+use Rattle.std.proofs.Common.{◌<◌, length, sym, subst, rules}
 use Rattle.std.proofs.lemmas.Int.{to_z-of_z}
 use mir.Syntax.{w128}
 use mir.Val.{SFits}
 use Rattle.pool_core.specs.contracts.pool.Pool.{the_view}
-use Rattle.pool_machine.specs.State.{State, Node, ranges_of, round_of}
+use Rattle.pool_machine.specs.State.{State, round_of}
 use Rattle.pool_machine.specs.Machine.{IsReachable}
 use Rattle.pool_machine.specs.Soundness.{IsSound}
 use Rattle.pool_machine.proofs.Runs.{IsReachable-sound}
-use Rattle.pool_reading.specs.Valuing.{IsGatheredAt, ForRound}
+use Rattle.pool_reading.specs.Valuing.{IsGatheredAt}
 use Rattle.pool_reading.proofs.Reading.{has-within}
-use Rattle.pool_reading.proofs.Valuing.{gathered-round, read-node}
+use Rattle.pool_reading.proofs.Valuing.{gathered-round}
 use Rattle.pool_core.proofs.Valuing.{gathered-some, read-price_list}
-use Rattle.pool_core.proofs.Crowdings.{value-at, greater-follows, crowd-follows, tried-no_gain, none-no_gain}
+use Rattle.pool_core.proofs.Crowdings.{measured, greater-follows, crowd-follows, tried-no_gain, none-no_gain}
 use Rattle.std.specs.Prelude.{IsSome}
-use Rattle.pool_machine.specs.Gathering.{columns_for}
-use Rattle.master_step.specs.Restricted.{IsRestrictedValue}
 use Rattle.cut_table.specs.Numbers.{AreNumbers}
 use Rattle.pool_core.proofs.pool.Pool.mark_after.Goals as goal
 
@@ -46,46 +44,26 @@ pub returns-then-is_less-clause-follows : goal.returns-then-is_less-clause-follo
 returns-then-is_less-clause-follows c =
     let old_fits : SFits w128 c.value-old.result = search rules in
     let new_fits : SFits w128 c.value-new.result = search rules in
-    greater-follows c.args.self.now c.args.node c.args.prices.now c.value-old.result c.value-new.result c.crowd_tried-tried.result c.is_crowding-crowding.result
-    (λ x round is_node is_round. c.crowd_tried-tried.ensures ∙ ap (λ (n : Node). n.crowd_tried) (read-node (the_view c.self.inside) c.args.self.now c.args.node c.index.result.now x c.self.view_is c.index.ensures is_node))
-    (value-at c.args.self.now c.args.node c.round_at.result.now c.prices.result.now c.value-old.result
-    (c.round_at.ensures ∙ ap (λ (s : State). round_of s c.args.node) c.view-view.ensures) c.prices.ensures
-    (subst (λ (s : State). ForRound s c.args.node (λ x round. IsRestrictedValue s.problem s.cuts (ranges_of s.problem x) (columns_for s x) c.prices.result.now c.value-old.result)) c.view-view.ensures c.value-old.ensures))
-    (subst (λ (s : State). ForRound s c.args.node (λ x round. IsRestrictedValue s.problem s.cuts (ranges_of s.problem x) (columns_for s x) c.args.prices.now c.value-new.result)) c.view-view.ensures c.value-new.ensures) c.is_crowding-crowding.ensures.value
-    c.either.result (rw (to_z-of_z w128 c.value-old.result old_fits, to_z-of_z w128 c.value-new.result new_fits) at (sym c.if-is_less.ensures)) c.either.ensures
+    let m = measured _ _ _ c.args.node _ _ _ c.args.prices.now c.value-old.result c.value-new.result _ _ c.self.view_is c.view-view.ensures c.index.ensures c.crowd_tried-tried.ensures c.round_at.ensures c.prices.ensures c.value-old.ensures c.value-new.ensures c.is_crowding-crowding.ensures.value in
+    greater-follows _ _ _ _ _ _ _ m c.either.result (rw (to_z-of_z w128 c.value-old.result old_fits, to_z-of_z w128 c.value-new.result new_fits) at (sym c.if-is_less.ensures)) c.either.ensures
 
 pub returns-then-tried-clause-no_gain : goal.returns-then-tried-clause-no_gain
 returns-then-tried-clause-no_gain c =
     let old_fits : SFits w128 c.value-old.result = search rules in
     let new_fits : SFits w128 c.value-new.result = search rules in
+    let m = measured _ _ _ c.args.node _ _ _ c.args.prices.now c.value-old.result c.value-new.result _ _ c.self.view_is c.view-view.ensures c.index.ensures c.crowd_tried-tried.ensures c.round_at.ensures c.prices.ensures c.value-old.ensures c.value-new.ensures c.is_crowding-crowding.ensures.value in
     rw (to_z-of_z w128 c.value-old.result old_fits, to_z-of_z w128 c.value-new.result new_fits)
-    (tried-no_gain c.args.self.now c.args.node c.args.prices.now c.value-old.result c.value-new.result c.crowd_tried-tried.result c.is_crowding-crowding.result
-    (λ x round is_node is_round. c.crowd_tried-tried.ensures ∙ ap (λ (n : Node). n.crowd_tried) (read-node (the_view c.self.inside) c.args.self.now c.args.node c.index.result.now x c.self.view_is c.index.ensures is_node))
-    (value-at c.args.self.now c.args.node c.round_at.result.now c.prices.result.now c.value-old.result
-    (c.round_at.ensures ∙ ap (λ (s : State). round_of s c.args.node) c.view-view.ensures) c.prices.ensures
-    (subst (λ (s : State). ForRound s c.args.node (λ x round. IsRestrictedValue s.problem s.cuts (ranges_of s.problem x) (columns_for s x) c.prices.result.now c.value-old.result)) c.view-view.ensures c.value-old.ensures))
-    (subst (λ (s : State). ForRound s c.args.node (λ x round. IsRestrictedValue s.problem s.cuts (ranges_of s.problem x) (columns_for s x) c.args.prices.now c.value-new.result)) c.view-view.ensures c.value-new.ensures) c.is_crowding-crowding.ensures.value
-    (rw (to_z-of_z w128 c.value-old.result old_fits, to_z-of_z w128 c.value-new.result new_fits) at (sym c.if-is_less.ensures)) c.if-tried.true)
+    (tried-no_gain _ _ _ _ _ _ _ m (rw (to_z-of_z w128 c.value-old.result old_fits, to_z-of_z w128 c.value-new.result new_fits) at (sym c.if-is_less.ensures)) c.if-tried.true)
 
 pub returns-then-crowding-clause-follows : goal.returns-then-crowding-clause-follows
 returns-then-crowding-clause-follows c =
-    crowd-follows c.args.self.now c.args.node c.args.prices.now c.value-old.result c.value-new.result c.crowd_tried-tried.result c.is_crowding-crowding.result
-    (λ x round is_node is_round. c.crowd_tried-tried.ensures ∙ ap (λ (n : Node). n.crowd_tried) (read-node (the_view c.self.inside) c.args.self.now c.args.node c.index.result.now x c.self.view_is c.index.ensures is_node))
-    (value-at c.args.self.now c.args.node c.round_at.result.now c.prices.result.now c.value-old.result
-    (c.round_at.ensures ∙ ap (λ (s : State). round_of s c.args.node) c.view-view.ensures) c.prices.ensures
-    (subst (λ (s : State). ForRound s c.args.node (λ x round. IsRestrictedValue s.problem s.cuts (ranges_of s.problem x) (columns_for s x) c.prices.result.now c.value-old.result)) c.view-view.ensures c.value-old.ensures))
-    (subst (λ (s : State). ForRound s c.args.node (λ x round. IsRestrictedValue s.problem s.cuts (ranges_of s.problem x) (columns_for s x) c.args.prices.now c.value-new.result)) c.view-view.ensures c.value-new.ensures) c.is_crowding-crowding.ensures.value
-    c.if-tried.false c.if-crowding.true
+    let m = measured _ _ _ c.args.node _ _ _ c.args.prices.now c.value-old.result c.value-new.result _ _ c.self.view_is c.view-view.ensures c.index.ensures c.crowd_tried-tried.ensures c.round_at.ensures c.prices.ensures c.value-old.ensures c.value-new.ensures c.is_crowding-crowding.ensures.value in
+    crowd-follows _ _ _ _ _ _ _ m c.if-tried.false c.if-crowding.true
 
 pub returns-clause-no_gain : goal.returns-clause-no_gain
 returns-clause-no_gain c =
     let old_fits : SFits w128 c.value-old.result = search rules in
     let new_fits : SFits w128 c.value-new.result = search rules in
+    let m = measured _ _ _ c.args.node _ _ _ c.args.prices.now c.value-old.result c.value-new.result _ _ c.self.view_is c.view-view.ensures c.index.ensures c.crowd_tried-tried.ensures c.round_at.ensures c.prices.ensures c.value-old.ensures c.value-new.ensures c.is_crowding-crowding.ensures.value in
     rw (to_z-of_z w128 c.value-old.result old_fits, to_z-of_z w128 c.value-new.result new_fits)
-    (none-no_gain c.args.self.now c.args.node c.args.prices.now c.value-old.result c.value-new.result c.crowd_tried-tried.result c.is_crowding-crowding.result
-    (λ x round is_node is_round. c.crowd_tried-tried.ensures ∙ ap (λ (n : Node). n.crowd_tried) (read-node (the_view c.self.inside) c.args.self.now c.args.node c.index.result.now x c.self.view_is c.index.ensures is_node))
-    (value-at c.args.self.now c.args.node c.round_at.result.now c.prices.result.now c.value-old.result
-    (c.round_at.ensures ∙ ap (λ (s : State). round_of s c.args.node) c.view-view.ensures) c.prices.ensures
-    (subst (λ (s : State). ForRound s c.args.node (λ x round. IsRestrictedValue s.problem s.cuts (ranges_of s.problem x) (columns_for s x) c.prices.result.now c.value-old.result)) c.view-view.ensures c.value-old.ensures))
-    (subst (λ (s : State). ForRound s c.args.node (λ x round. IsRestrictedValue s.problem s.cuts (ranges_of s.problem x) (columns_for s x) c.args.prices.now c.value-new.result)) c.view-view.ensures c.value-new.ensures) c.is_crowding-crowding.ensures.value
-    (rw (to_z-of_z w128 c.value-old.result old_fits, to_z-of_z w128 c.value-new.result new_fits) at (sym c.if-is_less.ensures)) c.if-crowding.false)
+    (none-no_gain _ _ _ _ _ _ _ m (rw (to_z-of_z w128 c.value-old.result old_fits, to_z-of_z w128 c.value-new.result new_fits) at (sym c.if-is_less.ensures)) c.if-crowding.false)

@@ -1,10 +1,7 @@
-use Rattle.std.proofs.Common.{◌≡◌, None, slice_get, refl, sym, subst, ◌∙◌, ◌<◌, length}
-use Rattle.std.specs.Arc.{arc_value}
-use Rattle.path_pricing.specs.declared.priced.Priced.{Priced}
+use Rattle.std.proofs.Common.{refl, sym, subst, ◌∙◌, ◌<◌, length}
 use Rattle.pool_machine.specs.declared.answers.Offer.{Offer}
-use Rattle.pool_machine.specs.Offering.{unfit_in}
 use Rattle.pool_machine.proofs.Leads.{LeadsTo-stays}
-use Rattle.pool_core.proofs.Steps.{gap-some, gap-within, none-offer_fault, priced-on, offered-leads}
+use Rattle.pool_core.proofs.Steps.{gap-some, gap-within, fits-told, none-offer_fault, priced-on, offered-leads}
 use Rattle.std.specs.Prelude.{IsSome}
 use Rattle.pool_machine.specs.State.{State, round_of}
 use Rattle.pool_core.proofs.pool.Pool.price.Goals as goal
@@ -27,21 +24,13 @@ returns-in_err-keep-clause-leads c = LeadsTo-stays c.args.self.now c.args.self.n
 
 pub take-answer-requires : goal.take-answer-requires
 take-answer-requires c =
-    let s = c.args.self.now in
-    let same : c.in_ok-found.found ≡ arc_value c.in_ok-known.known = c.in_ok-found.ensures ∙ c.deref.ensures in
-    let fits : unfit_in s.problem (slice_get s.nodes c.args.node.0) c.args.demand.0 c.in_ok-found.found ≡ None =
-    subst (λ (found : Priced). unfit_in s.problem (slice_get s.nodes c.args.node.0) c.args.demand.0 found ≡ None) (sym same)
-    (subst (λ (t : State). unfit_in t.problem (slice_get t.nodes c.args.node.0) c.args.demand.0 (arc_value c.in_ok-known.known) ≡ None) c.view.ensures c.in_ok-known.ensures) in
-    let offer : Offer = record { node = c.args.node; version = c.args.version; demand = c.args.demand; found = c.in_ok-found.found } in
-    none-offer_fault s offer c.requires.reachable c.requires.gap fits
+    let fits = fits-told _ _ c.args.node c.args.demand.0 _ _ c.view.ensures (c.in_ok-found.ensures ∙ c.deref.ensures) c.in_ok-known.ensures in
+    none-offer_fault c.args.self.now (record { node = c.args.node; version = c.args.version; demand = c.args.demand; found = c.in_ok-found.found }) c.requires.reachable c.requires.gap fits
 
 pub returns : goal.returns
 returns c =
     let s = c.args.self.now in
-    let same : c.in_ok-found.found ≡ arc_value c.in_ok-known.known = c.in_ok-found.ensures ∙ c.deref.ensures in
-    let fits : unfit_in s.problem (slice_get s.nodes c.args.node.0) c.args.demand.0 c.in_ok-found.found ≡ None =
-    subst (λ (found : Priced). unfit_in s.problem (slice_get s.nodes c.args.node.0) c.args.demand.0 found ≡ None) (sym same)
-    (subst (λ (t : State). unfit_in t.problem (slice_get t.nodes c.args.node.0) c.args.demand.0 (arc_value c.in_ok-known.known) ≡ None) c.view.ensures c.in_ok-known.ensures) in
+    let fits = fits-told _ _ c.args.node c.args.demand.0 _ _ c.view.ensures (c.in_ok-found.ensures ∙ c.deref.ensures) c.in_ok-known.ensures in
     let offer : Offer = record { node = c.args.node; version = c.args.version; demand = c.args.demand; found = c.in_ok-found.found } in
     record {
       leads = offered-leads s c.take-answer.new.self offer c.take-answer.result c.take-answer.ensures.event;

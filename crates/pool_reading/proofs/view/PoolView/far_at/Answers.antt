@@ -16,8 +16,7 @@ use Rattle.pool_reading.proofs.view.PoolView.far_at.Goals as goal
 pub index-ground-requires : goal.index-ground-requires
 index-ground-requires c =
     let s = machine_state c.self.inside.state.now in
-    let within : c.args.node.0 < length c.self.inside.state.now.grounds.items =
-    ready-ground-within s _ c.self.inside.state.now.grounds.items c.self.inside.places.now c.self.invariant c.args.node (subst (λ (s : State). IsReadyAt s c.args.node) (sym c.self.view_is) c.requires) in
+    let within : c.args.node.0 < length c.self.inside.state.now.grounds.items = ready-ground-within s _ _ _ c.self.invariant c.args.node (subst (λ (s : State). IsReadyAt s c.args.node) (sym c.self.view_is) c.requires) in
     search rules
 
 pub unreachable-requires : goal.unreachable-requires

@@ -23,22 +23,15 @@ unreachable-requires c =
     let g = ready-kept s _ c.self.inside.state.now.grounds.items c.self.inside.places.now c.self.invariant c.args.node (subst (λ (s : State). IsReadyAt s c.args.node) (sym c.self.view_is) c.requires.leaf) c.index-ground.result.now c.index-ground.ensures in
     some-none c.plot.result (plot-some _ _ c.index-ground.result.now g c.plot.result _ c.plot.ensures) c.in_default.is
 
-pub below-requires-clause-row : goal.below-requires-clause-row
-below-requires-clause-row c =
-    let s = machine_state c.self.inside.state.now in
-    let at : IsReadyAt s c.args.node = (subst (λ (x : State). IsReadyAt x c.args.node) (sym c.self.view_is) c.requires.leaf) in
-    let g = ready-kept s _ c.self.inside.state.now.grounds.items c.self.inside.places.now c.self.invariant c.args.node at c.index-ground.result.now c.index-ground.ensures in
-    let is : IsKeptRegion s.problem (region_of s.problem at.node) c.in-Some.plot.now = plot-region _ _ c.index-ground.result.now g c.plot.result _ c.in-Some.plot c.plot.ensures c.in-Some.is in
-    limit-row s.problem c.in-Some.plot.now.rows c.args.limit.now is.size (subst (λ (x : State). IsLimitOf x.problem c.args.limit.now) (sym c.self.view_is) c.requires.limit)
-
-pub below-requires-clause-range : goal.below-requires-clause-range
-below-requires-clause-range c =
+pub below-requires : goal.below-requires
+below-requires c =
     let s = machine_state c.self.inside.state.now in
     let at : IsReadyAt s c.args.node = (subst (λ (x : State). IsReadyAt x c.args.node) (sym c.self.view_is) c.requires.leaf) in
     let g = ready-kept s _ c.self.inside.state.now.grounds.items c.self.inside.places.now c.self.invariant c.args.node at c.index-ground.result.now c.index-ground.ensures in
     let is : IsKeptRegion s.problem (region_of s.problem at.node) c.in-Some.plot.now = plot-region _ _ c.index-ground.result.now g c.plot.result _ c.in-Some.plot c.plot.ensures c.in-Some.is in
     let are = ready-ranges s _ c.self.inside.state.now.grounds.items c.self.inside.places.now c.self.invariant c.args.node at in
-    limit-range s.problem c.in-Some.plot.now.ranges c.args.limit.now (ap length is.ranges ∙ are.count) (subst (λ (x : State). IsLimitOf x.problem c.args.limit.now) (sym c.self.view_is) c.requires.limit)
+    let limit = subst (λ (x : State). IsLimitOf x.problem c.args.limit.now) (sym c.self.view_is) c.requires.limit in
+    record { row = limit-row s.problem c.in-Some.plot.now.rows c.args.limit.now is.size limit; range = limit-range s.problem c.in-Some.plot.now.ranges c.args.limit.now (ap length is.ranges ∙ are.count) limit }
 
 pub returns : goal.returns
 returns c =

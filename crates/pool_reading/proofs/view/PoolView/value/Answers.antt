@@ -8,13 +8,13 @@ use Rattle.std.proofs.lemmas.Int.{to_z-of_z}
 use mir.Syntax.{w128}
 use mir.Val.{SFits}
 use Rattle.pool_nodes.specs.SearchStates.{machine_state}
-use Rattle.pool_machine.specs.State.{State, restriction_of, ranges_of}
+use Rattle.pool_machine.specs.State.{State, ranges_of}
 use Rattle.pool_machine.specs.Gathering.{columns_for}
 use Rattle.pool_machine.specs.Soundness.{IsSound}
 use Rattle.pool_machine.proofs.Runs.{IsReachable-sound}
 use Rattle.pool_reading.specs.Valuing.{IsGatheredAt, ForRound}
-use Rattle.pool_reading.proofs.Valuing.{gathered-round, ask-numbers, ask-ranges, ask-columns, ask-permitted, tell}
-use Rattle.pool_reading.proofs.Reading.{round-kept, plot-some, plot-region, ground-within}
+use Rattle.pool_reading.proofs.Valuing.{gathered-round, region-read, ask-numbers, ask-ranges, ask-columns, ask-permitted, tell}
+use Rattle.pool_reading.proofs.Reading.{round-kept, plot-some, ground-within}
 use Rattle.pool_reading.proofs.view.PoolView.value.Goals as goal
 
 pub index-requires : goal.index-requires
@@ -37,18 +37,16 @@ value-requires c =
     let sound : IsSound s = IsReachable-sound s c.self.invariant.pool.reachable in
     let at : IsGatheredAt s c.args.node = subst (λ (x : State). IsGatheredAt x c.args.node) (sym c.self.view_is) c.requires.gathered in
     let given : AreNumbers s.problem s.cuts c.args.prices.now = subst (λ (x : State). AreNumbers x.problem x.cuts c.args.prices.now) (sym c.self.view_is) c.requires.prices in
-    let w = round-kept s c.args.node c.self.inside.state.now.grounds.items c.index.result.now sound c.self.invariant.has_grounds (gathered-round s c.args.node at) c.index.ensures in
-    let is = plot-region s.problem at.node c.index.result.now w c.plot.result _ c.unwrap-plot.result c.plot.ensures c.unwrap-plot.ensures in
-    let forbidden : forbids c.deref-2.result.now ≡ restriction_of at.node = ap forbids (c.deref-2.ensures ∙ c.rows.ensures) ∙ is.forbidden in
-    let ranges : c.deref.result.now ≡ ranges_of s.problem at.node = c.deref.ensures ∙ (c.ranges-2.ensures ∙ is.ranges) in
+    let is = region-read _ s c.args.node c.self.inside.state.now.grounds.items c.index.result.now c.plot.result c.unwrap-plot.result _ _ sound c.self.invariant.has_grounds at c.index.ensures c.plot.ensures c.unwrap-plot.ensures
+    (c.deref-2.ensures ∙ c.rows.ensures) (c.deref.ensures ∙ c.ranges-2.ensures) in
     let is_p : c.problem.result.now ≡ s.problem = c.problem.ensures ∙ ap (λ (x : State). x.problem) (sym c.self.view_is) in
     let is_cuts : c.table.result.now.cuts ≡ s.cuts = c.table.ensures.cuts ∙ ap (λ (x : State). x.cuts) (sym c.self.view_is) in
     record {
       table = c.table.ensures.problem ∙ sym c.problem.ensures;
-      are_ranges = ask-ranges s c.args.node sound at c.problem.result.now c.deref-2.result.now is_p forbidden c.deref.result.now ranges;
-      numbers = ask-numbers s c.args.node sound at c.problem.result.now c.deref-2.result.now is_p forbidden c.table.result.now.cuts c.args.prices.now is_cuts given;
-      columns = ask-columns s c.args.node sound at c.problem.result.now c.deref-2.result.now is_p forbidden;
-      permitted = ask-permitted s c.args.node sound at c.problem.result.now c.deref-2.result.now is_p forbidden;
+      are_ranges = ask-ranges s c.args.node sound at c.problem.result.now c.deref-2.result.now is_p is.forbidden c.deref.result.now is.ranges_are;
+      numbers = ask-numbers s c.args.node sound at c.problem.result.now c.deref-2.result.now is_p is.forbidden c.table.result.now.cuts c.args.prices.now is_cuts given;
+      columns = ask-columns s c.args.node sound at c.problem.result.now c.deref-2.result.now is_p is.forbidden;
+      permitted = ask-permitted s c.args.node sound at c.problem.result.now c.deref-2.result.now is_p is.forbidden;
     }
 
 pub returns : goal.returns
@@ -56,10 +54,8 @@ returns c =
     let s = machine_state c.self.inside.state.now in
     let sound : IsSound s = IsReachable-sound s c.self.invariant.pool.reachable in
     let at : IsGatheredAt s c.args.node = subst (λ (x : State). IsGatheredAt x c.args.node) (sym c.self.view_is) c.requires.gathered in
-    let w = round-kept s c.args.node c.self.inside.state.now.grounds.items c.index.result.now sound c.self.invariant.has_grounds (gathered-round s c.args.node at) c.index.ensures in
-    let is = plot-region s.problem at.node c.index.result.now w c.plot.result _ c.unwrap-plot.result c.plot.ensures c.unwrap-plot.ensures in
-    let forbidden : forbids c.deref-2.result.now ≡ restriction_of at.node = ap forbids (c.deref-2.ensures ∙ c.rows.ensures) ∙ is.forbidden in
-    let ranges : c.deref.result.now ≡ ranges_of s.problem at.node = c.deref.ensures ∙ (c.ranges-2.ensures ∙ is.ranges) in
+    let is = region-read _ s c.args.node c.self.inside.state.now.grounds.items c.index.result.now c.plot.result c.unwrap-plot.result _ _ sound c.self.invariant.has_grounds at c.index.ensures c.plot.ensures c.unwrap-plot.ensures
+    (c.deref-2.ensures ∙ c.rows.ensures) (c.deref.ensures ∙ c.ranges-2.ensures) in
     let is_p : c.problem.result.now ≡ s.problem = c.problem.ensures ∙ ap (λ (x : State). x.problem) (sym c.self.view_is) in
     let is_cuts : c.table.result.now.cuts ≡ s.cuts = c.table.ensures.cuts ∙ ap (λ (x : State). x.cuts) (sym c.self.view_is) in
     let worth : IsRestrictedValue c.problem.result.now s.cuts c.deref.result.now (permitted_at (forbids c.deref-2.result.now) s.columns) c.args.prices.now c.value.result =
@@ -67,4 +63,4 @@ returns c =
     let fits : SFits w128 c.value.result = search rules in
     rw (to_z-of_z w128 c.value.result fits)
     (subst (λ (x : State). ForRound x c.args.node (λ n round. IsRestrictedValue x.problem x.cuts (ranges_of x.problem n) (columns_for x n) c.args.prices.now c.value.result)) c.self.view_is
-    (tell s c.args.node sound at c.problem.result.now c.deref-2.result.now is_p forbidden (λ p ranges choices prices. IsRestrictedValue p s.cuts ranges choices prices c.value.result) c.deref.result.now c.args.prices.now ranges worth))
+    (tell s c.args.node sound at c.problem.result.now c.deref-2.result.now is_p is.forbidden (λ p ranges choices prices. IsRestrictedValue p s.cuts ranges choices prices c.value.result) c.deref.result.now c.args.prices.now is.ranges_are worth))
